@@ -1,0 +1,5 @@
+pub mod RoundingLemmas
+pub mod WindowLemmas
+pub mod CodeLemmas
+pub mod CostLemmas
+pub mod CapacityLemmas

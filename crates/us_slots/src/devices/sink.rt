@@ -1,0 +1,101 @@
+ghost use Rattle.std.specs.Prelude.{◌≡◌, ◌||◌, ℕ, Bool, false, List, Option, is_err};
+ghost use Rattle.std.specs.Io.{WritesAtMost};
+ghost use Rattle.std.specs.Io.KnownBytes.{Keeps, WriteAppends};
+ghost use Rattle.us_slots.specs.Devices.{Device, is_stuck};
+
+use super::Failed;
+use std::io::Write;
+use std::marker::Model;
+
+/// A writer that says whether it failed.
+pub trait Sink {
+    // The bytes that the sink has taken, where it tells them.
+    ghost contents: { Self → Option (List ℕ) };
+
+    // Whether a write or a flush failed.
+    ghost failed: { Self → Bool };
+
+    /// Whether a write or a flush answered [`Failed`], or a write took 0 bytes of a piece that wasn't empty.
+    fn has_failed(&self) -> bool
+        ensures { result ≡ failed self.now };
+
+    /// Writes the first bytes of `buf` and answers how many.
+    /// After [`Failed`], which comes of every fault of the device and isn't tried again, nothing was written.
+    fn write(&mut self, buf: &[u8]) -> Result<usize, Failed>
+        ensures bound { WritesAtMost result buf.now }
+        ensures bytes { WriteAppends (contents self.old) (contents self.new) result buf.now }
+        ensures fails { failed self.new ≡ (failed self.old || is_stuck result buf.now) };
+
+    /// Passes on what the device holds back.
+    fn flush(&mut self) -> Result<(), Failed>
+        ensures bytes { Keeps (contents self.old) (contents self.new) }
+        ensures fails { failed self.new ≡ (failed self.old || is_err result) };
+}
+
+/// A [`Sink`] over a writer of std. An interrupted write or flush is a fault too.
+#[derive(Drop)]
+pub struct FromWrite<W: Write> {
+    inner: W,
+    failed: bool,
+}
+
+impl<W: Write> Model for FromWrite<W> {
+    ghost Value = { Device W };
+
+    ghost view = { λ d. record { inner = d.inner; failed = d.failed } };
+}
+
+impl<W: Write> FromWrite<W> {
+    /// A sink that hasn't failed.
+    pub fn new(inner: W) -> FromWrite<W>
+        ensures { result ≡ record { inner = inner; failed = false } }
+    {
+        FromWrite {
+            inner,
+            failed: false,
+        }
+    }
+
+    /// Gives the writer back.
+    pub fn into_inner(self) -> W
+        ensures { result ≡ self.inner }
+    {
+        let FromWrite { inner, failed: _ } = self;
+        inner
+    }
+}
+
+impl<W: Write> Sink for FromWrite<W> {
+    ghost contents = { λ d. W.contents d.inner };
+
+    ghost failed = { λ d. d.failed };
+
+    fn has_failed(&self) -> bool {
+        self.failed
+    }
+
+    fn write(&mut self, buf: &[u8]) -> Result<usize, Failed> {
+        match self.inner.write(buf) {
+            Ok(count) => {
+                if count == 0 && !buf.is_empty() {
+                    self.failed = true;
+                }
+                Ok(count)
+            }
+            Err(_) => {
+                self.failed = true;
+                Err(Failed)
+            }
+        }
+    }
+
+    fn flush(&mut self) -> Result<(), Failed> {
+        match self.inner.flush() {
+            Ok(()) => Ok(()),
+            Err(_) => {
+                self.failed = true;
+                Err(Failed)
+            }
+        }
+    }
+}

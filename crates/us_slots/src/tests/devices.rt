@@ -1,0 +1,163 @@
+use crate::{Failed, FromRead, FromWrite, NoMemory, Sink, Source};
+use std::alloc::{AllocError, AllocFailed, Global};
+use std::io::{self, ErrorKind, Read, Write};
+use std::test::Fail;
+
+/// A reader that gives one byte a call and then fails, and counts its calls.
+#[derive(Drop)]
+struct Faulty {
+    left: u8,
+    kind: ErrorKind,
+    calls: u32,
+}
+
+impl Read for Faulty {
+    fn read(&mut self, buf: &mut [u8]) -> io::Result<usize> {
+        self.calls = self.calls.saturating_add(1);
+        if self.left == 0 {
+            return Err(io::Error::from(self.kind));
+        }
+        if buf.is_empty() {
+            return Ok(0);
+        }
+        buf[0] = self.left;
+        self.left -= 1;
+        Ok(1)
+    }
+}
+
+/// A writer that takes one byte a call and fails where it holds `most`, and counts its flushes, which fail too then.
+#[derive(Drop)]
+struct Slow {
+    held: Vec<u8>,
+    most: usize,
+    kind: ErrorKind,
+    calls: u32,
+    flushes: u32,
+}
+
+impl Slow {
+    fn new(alloc: Global, most: usize, kind: ErrorKind) -> Slow {
+        Slow {
+            held: Vec::new(alloc),
+            most,
+            kind,
+            calls: 0,
+            flushes: 0,
+        }
+    }
+}
+
+impl Write for Slow {
+    fn write(&mut self, buf: &[u8]) -> io::Result<usize> {
+        self.calls = self.calls.saturating_add(1);
+        if self.held.len() >= self.most {
+            return Err(io::Error::from(self.kind));
+        }
+        let taken = buf.len().min(1);
+        self.held.extend_from_slice(&buf[..taken])?;
+        Ok(taken)
+    }
+
+    fn flush(&mut self) -> io::Result<()> {
+        self.flushes = self.flushes.saturating_add(1);
+        if self.held.len() >= self.most {
+            return Err(io::Error::from(self.kind));
+        }
+        Ok(())
+    }
+}
+
+#[test]
+fn reader_in_memory(rt: HostRuntime) {
+    let text = b"trace";
+    let mut source = FromRead::new(&text[..]);
+    let mut piece = [0; 4];
+    assert_eq!(rt; source.read(&mut piece), Ok(4));
+    assert_eq!(rt; piece, *b"trac");
+    assert_eq!(rt; source.read(&mut piece), Ok(1));
+    assert_eq!(rt; piece[0], b'e');
+    assert_eq!(rt; source.read(&mut piece), Ok(0));
+    assert!(rt; !source.has_failed());
+    assert_eq!(rt; source.into_inner().len(), 0);
+}
+
+#[test]
+fn reader_that_fails(rt: HostRuntime) {
+    for kind in [ErrorKind::Interrupted, ErrorKind::BrokenPipe] {
+        let mut source = FromRead::new(Faulty {
+            left: 1,
+            kind,
+            calls: 0,
+        });
+        let mut piece = [0; 4];
+        assert_eq!(rt; source.read(&mut piece), Ok(1));
+        assert!(rt; !source.has_failed());
+        assert_eq!(rt; source.read(&mut piece), Err(Failed));
+        assert!(rt; source.has_failed());
+        assert_eq!(rt; source.into_inner().calls, 2);
+    }
+}
+
+#[test]
+fn writer_in_memory(rt: HostRuntime) -> Result<(), Fail> {
+    let mut sink = FromWrite::new(Vec::new(rt.alloc()));
+    assert_eq!(rt; sink.write(b"maps"), Ok(4));
+    assert_eq!(rt; sink.write(b""), Ok(0));
+    assert_eq!(rt; sink.flush(), Ok(()));
+    assert!(rt; !sink.has_failed());
+    assert_eq!(rt; sink.into_inner().as_slice(), b"maps".as_slice());
+    Ok(())
+}
+
+#[test]
+fn writer_that_takes_one_byte(rt: HostRuntime) {
+    for kind in [ErrorKind::Interrupted, ErrorKind::StorageFull] {
+        let mut sink = FromWrite::new(Slow::new(rt.alloc(), 2, kind));
+        assert_eq!(rt; sink.write(b"map"), Ok(1));
+        assert_eq!(rt; sink.flush(), Ok(()));
+        assert_eq!(rt; sink.write(b"ap"), Ok(1));
+        assert!(rt; !sink.has_failed());
+        assert_eq!(rt; sink.write(b"p"), Err(Failed));
+        assert!(rt; sink.has_failed());
+        let slow = sink.into_inner();
+        assert_eq!(rt; slow.held.as_slice(), b"ma".as_slice());
+        assert_eq!(rt; (slow.calls, slow.flushes), (3, 1));
+    }
+}
+
+#[test]
+fn writer_that_does_not_flush(rt: HostRuntime) {
+    for kind in [ErrorKind::Interrupted, ErrorKind::StorageFull] {
+        let mut sink = FromWrite::new(Slow::new(rt.alloc(), 1, kind));
+        assert_eq!(rt; sink.write(b"m"), Ok(1));
+        assert_eq!(rt; sink.flush(), Err(Failed));
+        assert!(rt; sink.has_failed());
+        assert_eq!(rt; sink.into_inner().flushes, 1);
+    }
+}
+
+#[test]
+fn writer_that_takes_nothing(rt: HostRuntime) {
+    let mut full = [0u8; 1];
+    let mut sink = FromWrite::new(&mut full[..]);
+    assert_eq!(rt; sink.write(b""), Ok(0));
+    assert_eq!(rt; sink.write(b"m"), Ok(1));
+    assert!(rt; !sink.has_failed());
+    assert_eq!(rt; sink.write(b"a"), Ok(0));
+    assert!(rt; sink.has_failed());
+    assert_eq!(rt; sink.flush(), Ok(()));
+    assert!(rt; sink.has_failed());
+}
+
+#[test]
+fn want_of_memory(rt: HostRuntime) -> Result<(), Fail> {
+    let one = NoMemory::from(AllocError);
+    assert_eq!(rt; one, NoMemory::from(AllocFailed { value: 7u8 }));
+    assert_eq!(rt; format!(in rt.alloc(); "{one}")?.as_str(), "out of memory");
+    assert_eq!(rt;
+        format!(in rt.alloc(); "{}", Failed)?.as_str(),
+        "the device failed"
+    );
+    Ok(())
+}
