@@ -1,8 +1,8 @@
 -- How many bytes are sent for a burst's bytes, and how many bytes are sent as at most so many: each is the other's inverse.
-use Rattle.std.proofs.Common.{◌≡◌, ◌≢◌, ℕ, ◌+◌, ◌-◌, ◌*◌, ◌/◌, ◌%◌, ◌<◌, ◌≤◌, max, Bool, true, false, ◌==◌, if◌then◌else◌, arith, refl, ap, inl, inr}
+use Rattle.std.proofs.Common.{◌≡◌, ℕ, ◌+◌, ◌-◌, ◌*◌, ◌/◌, ◌%◌, ◌<◌, ◌≤◌, true, false, arith, refl, ap, inl, inr}
 use Rattle.std.specs.Int.{div_ceil}
 use Rattle.std.proofs.lemmas.Nat.{mul-le, mod_below, div-add-mod'}
-use Rattle.std.proofs.lemmas.Bool.{cases_lt, cases_Bool, eq-eqb}
+use Rattle.std.proofs.lemmas.Bool.{cases_lt, cases_Bool}
 use Rattle.us_slots.specs.Bursts.{BurstProfile, IsBurstProfile, codeword_of, shortened_codeword_of, coded_length}
 use Rattle.us_slots.specs.Capacities.{Carries}
 use Rattle.us_slots.proofs.RoundingLemmas.{ceil-fits, ceil-least, floor-fits, floor-most}
@@ -86,7 +86,7 @@ coded_length-shortened p bytes code short = grind arith
 -- Without a code as many bytes are carried as there is room for.
 pub plain_carries : (p : BurstProfile) (room : ℕ) → p.fec_t ≡ 0 → Carries p room room
 plain_carries p room plain = record {
-  sent = λ bytes h. rw (coded_length-plain p bytes plain) h;
+  fits = λ bytes h. rw (coded_length-plain p bytes plain) h;
   greatest = λ bytes h. rw (coded_length-plain p bytes plain) at h;
 }
 
@@ -96,14 +96,14 @@ fixed_carries p room lawful code fixed =
     let some : 0 < p.fec_k = omega (arith, lawful.least_fec_k) in
     let long : ℕ = codeword_of p in
     record {
-      sent = λ bytes h. rw (coded_length-fixed p bytes code fixed) (floor-fits room long (div_ceil bytes p.fec_k) (ceil-least bytes p.fec_k (room / long) some h));
+      fits = λ bytes h. rw (coded_length-fixed p bytes code fixed) (floor-fits room long (div_ceil bytes p.fec_k) (ceil-least bytes p.fec_k (room / long) some h));
       greatest = λ bytes h. ceil-fits bytes p.fec_k (room / long) some (floor-most room long (div_ceil bytes p.fec_k) (omega arith) (rw (coded_length-fixed p bytes code fixed) at h));
     }
 
 -- With a shortened last codeword so is what the rest of the room carries in one: nothing below 16 bytes and the parity.
 pub full_carries : (p : BurstProfile) (room : ℕ) → IsBurstProfile p → 0 < p.fec_t → p.shortened ≡ true → room % codeword_of p < 16 + 2 * p.fec_t → Carries p room (room / codeword_of p * p.fec_k)
 full_carries p room lawful code short little = record {
-  sent = λ bytes h. rw (coded_length-shortened p bytes code short) (shortened-sent p room 0 bytes lawful (omega (arith, lawful.least_fec_k)) (omega arith) (omega arith));
+  fits = λ bytes h. rw (coded_length-shortened p bytes code short) (shortened-sent p room 0 bytes lawful (omega (arith, lawful.least_fec_k)) (omega arith) (omega arith));
   greatest = λ bytes h.
       let most : (more : ℕ) → shortened_codeword_of p more ≤ room % codeword_of p → more ≤ 0 = λ more fits. grind arith in
       omega (arith, shortened-most p room 0 bytes lawful most (rw (coded_length-shortened p bytes code short) at h));
@@ -116,12 +116,12 @@ rest_carries p room lawful code short enough =
     let fits : shortened_codeword_of p rest ≤ room % codeword_of p = grind arith in
     let most : (more : ℕ) → shortened_codeword_of p more ≤ room % codeword_of p → more ≤ rest = λ more h. grind arith in
     record {
-      sent = λ bytes h. rw (coded_length-shortened p bytes code short) (shortened-sent p room rest bytes lawful (omega arith) fits h);
+      fits = λ bytes h. rw (coded_length-shortened p bytes code short) (shortened-sent p room rest bytes lawful (omega arith) fits h);
       greatest = λ bytes h. shortened-most p room rest bytes lawful most (rw (coded_length-shortened p bytes code short) at h);
     }
 
 -- For any room there is a number of bytes that it carries.
-pub carries : (p : BurstProfile) (room : ℕ) → IsBurstProfile p → (most : ℕ) × Carries p room most
+carries : (p : BurstProfile) (room : ℕ) → IsBurstProfile p → (most : ℕ) × Carries p room most
 carries p room lawful =
     elim (cases_lt 0 p.fec_t) [
       | inr plain ↦ (room, plain_carries p room (omega arith))
@@ -139,7 +139,7 @@ pub coded_length-mono : (p : BurstProfile) (a b : ℕ) → IsBurstProfile p → 
 coded_length-mono p a b lawful h =
     let room : (most : ℕ) × Carries p (coded_length p b) most = carries p (coded_length p b) lawful in
     let all : b ≤ room.0 = room.1.greatest b (omega arith) in
-    room.1.sent a (omega arith)
+    room.1.fits a (omega arith)
 
 -- Full codewords take as many bytes as they carry, and at most three times as many.
 codewords : (p : BurstProfile) (n : ℕ) → IsBurstProfile p → (n * p.fec_k ≤ n * codeword_of p) × (n * codeword_of p ≤ 3 * (n * p.fec_k))
@@ -169,5 +169,8 @@ coded_length-bounds p bytes lawful =
       ]
     ]
 
-pub coded_length_most : (p : BurstProfile) (bytes : ℕ) → IsBurstProfile p → coded_length p bytes ≤ 3 * bytes + 255
-coded_length_most p bytes lawful = (coded_length-bounds p bytes lawful).1
+pub coded_length-most : (p : BurstProfile) (bytes : ℕ) → IsBurstProfile p → coded_length p bytes ≤ 3 * bytes + 255
+coded_length-most p bytes lawful = (coded_length-bounds p bytes lawful).1
+
+-- what the proof of `bytes_within` rests on
+pub ruleset code_facts = (plain_carries, fixed_carries, full_carries, rest_carries)

@@ -1,8 +1,7 @@
 -- Division rounded up and division rounded down, each as the inverse of a product.
-use Rattle.std.proofs.Common.{◌≡◌, ℕ, ◌+◌, ◌*◌, ◌/◌, ◌%◌, ◌<◌, ◌≤◌, min, arith}
+use Rattle.std.proofs.Common.{ℕ, ◌*◌, ◌/◌, ◌<◌, ◌≤◌, arith}
 use Rattle.std.specs.Int.{div_ceil}
 use Rattle.std.proofs.lemmas.Nat.{mul-le, mod_below, div-add-mod'}
-use Rattle.std.proofs.lemmas.Bool.{cases_lt}
 
 -- x fits in as many times y as x / y, rounded up, and in more
 pub ceil-fits : (x y n : ℕ) → 0 < y → div_ceil x y ≤ n → x ≤ n * y

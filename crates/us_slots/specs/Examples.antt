@@ -1,66 +1,81 @@
 -- Small inputs, computed by the definitions alone.
-use Rattle.std.specs.Prelude.{◌≡◌, ℕ, Bool, true, false, refl}
-use Rattle.us_slots.specs.Times.{Timing, ticks_of, symbols_of, start_of}
-use Rattle.us_slots.specs.Bursts.{BurstProfile, coded_length, burst_cost, Bursts, grant_cost}
-use Rattle.us_slots.specs.Capacities.{greatest_upto, capacity_of}
+use Rattle.std.specs.Prelude.{◌≡◌, ℕ, ◌+◌, Bool, true, false, refl}
+use Rattle.us_slots.specs.Times.{Timing, minislot_ticks, symbols_per_minislot, start_of}
+use Rattle.us_slots.specs.UsageCodes.{short_data_grant, long_data_grant}
+use Rattle.us_slots.specs.Bursts.{BurstProfile, coded_length, burst_cost, ChannelBursts, grant_cost}
+use Rattle.us_slots.specs.Capacities.{greatest_up_to, capacity_of}
 
 -- minislots of 2 ticks at 5,120 ksym/s
-abbrev pub time : Timing
-time = record { minislot_log2 = 1; rate_log2 = 5 }
+abbrev pub base_time : Timing
+base_time = record { minislot_log2 = 1; rate_log2 = 5 }
 
-minislot_ticks : ticks_of time ≡ 2
-minislot_ticks = refl
+two_ticks : minislot_ticks base_time ≡ 2
+two_ticks = refl
 
-minislot_symbols : symbols_of time ≡ 64
-minislot_symbols = refl
+sixty_four_symbols : symbols_per_minislot base_time ≡ 64
+sixty_four_symbols = refl
 
--- minislot 152 starts after 1,900 microseconds
-minislot_start : start_of time 152 ≡ 7600
-minislot_start = refl
+-- minislots 152 and 216 start after 1,900 and 2,700 microseconds
+first_start : start_of base_time 152 ≡ 7600
+first_start = refl
 
--- 16QAM, a preamble of 24 symbols and a guard time of 8, and this code
-abbrev pub profile : ℕ → Bool → BurstProfile
-profile fec_t shortened =
+last_start : start_of base_time 216 ≡ 7600 + 3200
+last_start = refl
+
+-- 16QAM, a preamble of 24 symbols and a guard time of 8, with this T and codewords of 200 data bytes
+abbrev pub coded_profile : ℕ → Bool → BurstProfile
+coded_profile fec_t shortened =
     record { bits = 4; preamble = 24; guard = 8; fec_t = fec_t; fec_k = 200; shortened = shortened }
 
 -- without a code bytes are sent as they are
-uncoded : coded_length (profile 0 true) 201 ≡ 201
+no_codewords : coded_length (coded_profile 0 true) 201 ≡ 201
 unfolding coded_length
-uncoded = refl
+no_codewords = refl
 
 -- two codewords of 216 bytes
-fixed : coded_length (profile 8 false) 201 ≡ 432
+fixed_codewords : coded_length (coded_profile 8 false) 201 ≡ 432
 unfolding coded_length
-fixed = refl
+fixed_codewords = refl
 
 -- one of 216, and one of 16 bytes and 16 of parity
-shortened : coded_length (profile 8 true) 201 ≡ 248
+shortened_codewords : coded_length (coded_profile 8 true) 201 ≡ 248
 unfolding coded_length
-shortened = refl
+shortened_codewords = refl
+
+abbrev pub base_profile : BurstProfile
+base_profile = coded_profile 0 false
 
 -- 24 + 8 + 2,016 symbols
-full_minislots : burst_cost time (profile 0 false) 1008 ≡ 32
+full_minislots : burst_cost base_time base_profile 1008 ≡ 32
 unfolding burst_cost coded_length
 full_minislots = refl
 
 -- and two symbols more
-started_minislot : burst_cost time (profile 0 false) 1009 ≡ 33
+started_minislot : burst_cost base_time base_profile 1009 ≡ 33
 unfolding burst_cost coded_length
 started_minislot = refl
 
--- the base profile for every burst, and short data grants of at most 10 minislots
-abbrev pub bursts : Bursts
-bursts =
-    record { time = time; long = profile 0 false; short = profile 0 false; short_max = 10; unsolicited = profile 0 false }
+-- this profile for short data grants, of at most 10 minislots, and the base profile for all others
+abbrev pub bursts_with : BurstProfile → ChannelBursts
+bursts_with short =
+    record { time = base_time; long = base_profile; short = short; short_max = 10; unsolicited = base_profile }
 
-short_grant : grant_cost bursts 304 ≡ (10, 9)
+-- 640 symbols: at the short maximum, and short wins the tie
+short_grant : grant_cost (bursts_with base_profile) 304 ≡ (10, short_data_grant)
 unfolding burst_cost coded_length
 short_grant = refl
 
-long_grant : grant_cost bursts 308 ≡ (11, 10)
+-- 648 symbols: over the short maximum
+long_grant : grant_cost (bursts_with base_profile) 308 ≡ (11, long_data_grant)
 unfolding burst_cost coded_length
 long_grant = refl
 
-carried : capacity_of time (profile 0 false) 150 ≡ 4784
-unfolding capacity_of greatest_upto burst_cost coded_length
+-- 8 bytes as a QPSK burst with a shortened codeword of 16 bytes and 4 of parity: allowed, but dearer than a long one
+dear_short_grant : grant_cost (bursts_with (record { bits = 2; preamble = 16; guard = 8; fec_t = 2; fec_k = 16; shortened = true })) 8 ≡ (1, long_data_grant)
+unfolding burst_cost coded_length
+dear_short_grant = refl
+
+-- (9,600 - 32) symbols of 4 bits
+carried : capacity_of base_time base_profile 150 ≡ 4784
+unfolding capacity_of greatest_up_to burst_cost coded_length
 carried = refl

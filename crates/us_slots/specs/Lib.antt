@@ -1,7 +1,17 @@
+-- Read in this order: time, burst cost, small inputs computed, capacity; then the rest.
+-- In a definition `≡` is equals, `×` and, `⊎` or, `→` implies, `¬` not, and ℕ has the whole numbers from 0.
+
+-- ticks, minislots and symbols
 pub mod Times
-pub mod Windows
+-- interval usage codes (IUC)
 pub mod UsageCodes
+-- what a burst of some bytes costs
 pub mod Bursts
-pub mod Capacities
+-- the definitions at small inputs
 pub mod Examples
+-- what some minislots carry
+pub mod Capacities
+-- the jitter window
+pub mod Windows
+-- when a reader or a writer counts as failed
 pub mod Devices

@@ -1,6 +1,12 @@
--- Interval usage codes (IUC): what a modem may send in the minislots of a grant.
-use Rattle.std.specs.Prelude.{ℕ}
+-- Interval usage codes (IUC): what the minislots of a MAP element are for. Those that a schedule uses, by their
+-- names and numbers in the standard.
+use Rattle.std.specs.Prelude.{ℕ, ◌<◌}
 
+-- a code has four bits
+abbrev pub IsUsageCode : ℕ → Type 0
+IsUsageCode number = number < 16
+
+-- Request: any modem that is addressed may request there
 abbrev pub request : ℕ
 request = 1
 
@@ -10,6 +16,7 @@ initial_maintenance = 3
 abbrev pub station_maintenance : ℕ
 station_maintenance = 4
 
+-- Null: ends the list of elements
 abbrev pub null : ℕ
 null = 7
 

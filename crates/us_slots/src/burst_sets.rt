@@ -1,14 +1,14 @@
 ghost use Rattle.std.specs.Prelude.{◌≡◌, ◌≤◌, SomeIff};
-ghost use Rattle.us_slots.specs.Bursts.{Bursts, IsBursts};
+ghost use Rattle.us_slots.specs.Bursts.{ChannelBursts, IsChannelBursts};
 
 use crate::channel_times::ChannelTime;
 use crate::profiles::Profile;
 use std::marker::Model;
 
-/// Minislots (ours).
-const MOST_SHORT_MAX: u16 = 255;
+/// The greatest short maximum burst, in minislots (ours).
+const MAX_SHORT_MAX: u16 = 255;
 
-/// What the bursts of a channel cost: its time, and its profiles for data grants and for unsolicited grants.
+/// A channel's time and burst profiles: all that the cost of its bursts depends on.
 #[derive(Clone, Copy, Debug, PartialEq, Eq, Hash)]
 pub struct BurstSet {
     time: ChannelTime,
@@ -19,7 +19,7 @@ pub struct BurstSet {
 }
 
 impl Model for BurstSet {
-    ghost Value = { Bursts };
+    ghost Value = { ChannelBursts };
 
     ghost view = { λ b. record {
       time = b.time;
@@ -29,7 +29,7 @@ impl Model for BurstSet {
       unsolicited = b.unsolicited;
     } };
 
-    ghost invariant = { λ b. IsBursts (record {
+    ghost invariant = { λ b. IsChannelBursts (record {
       time = b.time;
       long = b.long;
       short = b.short;
@@ -47,7 +47,7 @@ impl Model for BurstSet {
 }
 
 impl BurstSet {
-    /// The bursts of a channel, with `short_max` minislots as the most of a short data grant: 1 to 255, else `None`.
+    /// The bursts of a channel. `short_max` is the most minislots of a short data grant, 1 to 255, else `None`.
     pub fn new(
         time: ChannelTime,
         long: Profile,
@@ -55,16 +55,16 @@ impl BurstSet {
         short_max: u16,
         unsolicited: Profile,
     ) -> Option<BurstSet>
-        ensures { let bursts : Bursts = record {
+        ensures { let bursts : ChannelBursts = record {
           time = time;
           long = long;
           short = short;
           short_max = short_max;
           unsolicited = unsolicited;
         } in
-            SomeIff result (IsBursts bursts) bursts }
+            SomeIff result (IsChannelBursts bursts) bursts }
     {
-        if (1..=MOST_SHORT_MAX).contains(&short_max) {
+        if (1..=MAX_SHORT_MAX).contains(&short_max) {
             Some(BurstSet {
                 time,
                 long,
@@ -80,7 +80,7 @@ impl BurstSet {
     /// The channel's time.
     pub fn time(&self) -> &ChannelTime
         ensures value { result.now ≡ self.now.time }
-        ensures in_range { IsBursts self.now }
+        ensures in_range { IsChannelBursts self.now }
     {
         &self.time
     }
@@ -88,7 +88,7 @@ impl BurstSet {
     /// The profile of long data grants, IUC 10.
     pub fn long(&self) -> &Profile
         ensures value { result.now ≡ self.now.long }
-        ensures in_range { IsBursts self.now }
+        ensures in_range { IsChannelBursts self.now }
     {
         &self.long
     }
@@ -96,7 +96,7 @@ impl BurstSet {
     /// The profile of short data grants, IUC 9.
     pub fn short(&self) -> &Profile
         ensures value { result.now ≡ self.now.short }
-        ensures in_range { IsBursts self.now }
+        ensures in_range { IsChannelBursts self.now }
     {
         &self.short
     }
@@ -104,7 +104,7 @@ impl BurstSet {
     /// The most minislots of a short data grant, 1 to 255.
     pub fn short_max(&self) -> u16
         ensures value { result ≡ self.now.short_max }
-        ensures in_range { IsBursts self.now }
+        ensures in_range { IsChannelBursts self.now }
     {
         self.short_max
     }
@@ -112,7 +112,7 @@ impl BurstSet {
     /// The profile of unsolicited grants, IUC 11.
     pub fn unsolicited(&self) -> &Profile
         ensures value { result.now ≡ self.now.unsolicited }
-        ensures in_range { IsBursts self.now }
+        ensures in_range { IsChannelBursts self.now }
     {
         &self.unsolicited
     }

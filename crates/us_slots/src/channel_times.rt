@@ -1,15 +1,15 @@
 ghost use Rattle.std.specs.Prelude.{◌≡◌, SomeIff};
-ghost use Rattle.us_slots.specs.Times.{Timing, IsTiming, ticks_of, symbols_of};
+ghost use Rattle.us_slots.specs.Times.{Timing, IsTiming, minislot_ticks, symbols_per_minislot};
 
 use std::marker::Model;
 
 /// The longest minislot is 2^7 ticks (ours).
-const MOST_MINISLOT_LOG2: u8 = 7;
+const MAX_MINISLOT_LOG2: u8 = 7;
 
 /// The highest symbol rate is 160 * 2^5 = 5,120 ksym/s (ours).
-const MOST_RATE_LOG2: u8 = 5;
+const MAX_RATE_LOG2: u8 = 5;
 
-/// How time goes on a channel: the length of its minislots and its symbol rate.
+/// A channel's time: the length of its minislots and its symbol rate.
 ///
 /// A tick is 6.25 microseconds, a minislot a power of two of them, and the symbol rate a power of two times
 /// 160 ksym/s, at which a tick holds one symbol.
@@ -35,7 +35,7 @@ impl ChannelTime {
         ensures { let time : Timing = record { minislot_log2 = minislot_log2; rate_log2 = rate_log2 } in
             SomeIff result (IsTiming time) time }
     {
-        if minislot_log2 <= MOST_MINISLOT_LOG2 && rate_log2 <= MOST_RATE_LOG2 {
+        if minislot_log2 <= MAX_MINISLOT_LOG2 && rate_log2 <= MAX_RATE_LOG2 {
             Some(ChannelTime {
                 minislot_log2,
                 rate_log2,
@@ -47,7 +47,7 @@ impl ChannelTime {
 
     /// The ticks of a minislot, 1 to 128.
     pub fn minislot_ticks(&self) -> u32
-        ensures value { result ≡ ticks_of self.now }
+        ensures value { result ≡ minislot_ticks self.now }
         ensures in_range { IsTiming self.now }
     {
         1 << self.minislot_log2
@@ -55,7 +55,7 @@ impl ChannelTime {
 
     /// The symbols of a minislot, 1 to 4,096.
     pub fn symbols_per_minislot(&self) -> u32
-        ensures value { result ≡ symbols_of self.now }
+        ensures value { result ≡ symbols_per_minislot self.now }
         ensures in_range { IsTiming self.now }
     {
         1 << (self.minislot_log2 + self.rate_log2)

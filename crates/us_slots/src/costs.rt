@@ -1,51 +1,53 @@
 ghost use Rattle.std.specs.Prelude.{◌≡◌, ℕ, ◌≤◌, ◌<◌};
-ghost use Rattle.us_slots.specs.Bursts.{coded_length, burst_cost};
 ghost use Rattle.us_slots.specs.Bursts;
+ghost use Rattle.us_slots.specs.Bursts.{coded_length, burst_cost};
 
 use crate::burst_sets::BurstSet;
 use crate::channel_times::ChannelTime;
 use crate::profiles::Profile;
 use crate::usage_codes::Iuc;
 
-/// The most bytes that a burst is asked to carry: 4,096 ticks at the highest symbol rate and 64QAM.
-pub const MOST_BYTES: u32 = 98_304;
+/// The most bytes of a burst (ours): what 4,096 ticks carry at the highest symbol rate and 64QAM.
+pub const MAX_BURST_BYTES: u32 = 98_304;
 
-/// The least data bytes that a shortened codeword is sent with (ours).
-pub(crate) const LEAST_SHORTENED: u32 = 16;
+/// The fewest data bytes that a shortened codeword is sent with (ours).
+pub(crate) const MIN_SHORTENED: u32 = 16;
 
-/// How many bytes are sent for `bytes` bytes of a burst.
+/// How many bytes are sent for `bytes` bytes of a burst, at most [`MAX_BURST_BYTES`].
 ///
 /// Without a code (`fec_t` 0) these are the bytes themselves. With a fixed last codeword each started `fec_k`
 /// bytes are sent as `fec_k + 2 * fec_t`. With a shortened one a last codeword of fewer bytes is sent as these,
 /// as 16 at least, and `2 * fec_t` bytes of parity.
 #[tactic(auto, unfolding(crate::specs::Bursts::coded_length))]
 pub fn coded_len(profile: &Profile, bytes: u32) -> u32
-    requires { bytes ≤ MOST_BYTES }
+    requires { bytes ≤ MAX_BURST_BYTES }
     ensures { result ≡ coded_length profile.now bytes }
 {
     let data = u32::from(profile.fec_k());
     let parity = 2 * u32::from(profile.fec_t());
+    let codeword = data + parity;
     if parity == 0 {
         return bytes;
     }
     if !profile.shortened() {
-        return bytes.div_ceil(data) * (data + parity);
+        return bytes.div_ceil(data) * codeword;
     }
     let last = match bytes % data {
         0 => 0,
-        rest => rest.max(LEAST_SHORTENED) + parity,
+        rest => rest.max(MIN_SHORTENED) + parity,
     };
-    bytes / data * (data + parity) + last
+    bytes / data * codeword + last
 }
 
-/// How many minislots a burst of `bytes` bytes takes: preamble, guard time and the coded bytes as symbols,
-/// rounded up to whole minislots. It never falls as bytes rise.
-#[tactic(auto, using(crate::proofs::CodeLemmas::coded_length_most, crate::proofs::CostLemmas::data_symbols_most, crate::proofs::CostLemmas::burst_cost_some, crate::proofs::CostLemmas::burst_cost_mono), unfolding(crate::specs::Bursts::burst_cost))]
+/// How many minislots a burst of `bytes` bytes, at most [`MAX_BURST_BYTES`], takes: preamble, guard time and the
+/// coded bytes as symbols, rounded up to whole minislots. It never falls as bytes rise.
+#[tactic(auto, using(crate::proofs::CostLemmas::cost_facts), unfolding(crate::specs::Bursts::burst_cost))]
 pub fn cost(time: &ChannelTime, profile: &Profile, bytes: u32) -> u32
-    requires { bytes ≤ MOST_BYTES }
+    requires { bytes ≤ MAX_BURST_BYTES }
     ensures value { result ≡ burst_cost time.now profile.now bytes }
-    ensures some { 0 < bytes → 0 < result }
-    ensures never_falls { (a b : ℕ) → a ≤ b → burst_cost time.now profile.now a ≤ burst_cost time.now profile.now b }
+    ensures positive { 0 < bytes → 0 < result }
+    ensures never_falls { (fewer more : ℕ) → fewer ≤ more →
+        burst_cost time.now profile.now fewer ≤ burst_cost time.now profile.now more }
 {
     let overhead = u32::from(profile.preamble()) + u32::from(profile.guard());
     let data_bits = 8 * coded_len(profile, bytes);
@@ -53,11 +55,13 @@ pub fn cost(time: &ChannelTime, profile: &Profile, bytes: u32) -> u32
     symbols.div_ceil(time.symbols_per_minislot())
 }
 
-/// The minislots and the IUC of a data grant of `bytes` bytes: short where that takes at most the short maximum
-/// and at most what a long one takes, else long.
+/// The minislots and the IUC of a data grant of `bytes` bytes, at most [`MAX_BURST_BYTES`]: short (IUC 9) where
+/// that takes at most the short maximum and at most what a long one takes, else long (IUC 10).
 pub fn grant_cost(set: &BurstSet, bytes: u32) -> (u32, Iuc)
-    requires { bytes ≤ MOST_BYTES }
-    ensures { result ≡ Bursts.grant_cost set.now bytes }
+    requires { bytes ≤ MAX_BURST_BYTES }
+    ensures value { result ≡ Bursts.grant_cost set.now bytes }
+    ensures positive { 0 < bytes → 0 < result.0 }
+    ensures within_long { result.0 ≤ burst_cost set.now.time set.now.long bytes }
 {
     let short = cost(set.time(), set.short(), bytes);
     let long = cost(set.time(), set.long(), bytes);

@@ -1,5 +1,7 @@
 //! Readers and writers as the crates above see them: by their bytes, where they tell them, and by whether they failed.
 
+ghost use Rattle.std.specs.Prelude.{Some, codes};
+
 mod sink;
 mod source;
 
@@ -13,6 +15,8 @@ use std::fmt;
 pub struct Failed;
 
 impl fmt::Display for Failed {
+    ghost output = { λ _. Some (codes "the device failed") };
+
     fn fmt<W: fmt::Write>(&self, f: &mut fmt::Formatter<W>) -> fmt::Result {
         f.write_str("the device failed")
     }

@@ -6,28 +6,40 @@
 //! cost(&time, &long, 1_008) // 32 minislots, of 24 + 8 + 2,016 symbols
 //! ```
 //!
-//! The definitions stand in `specs/`: `Times` and `Windows` for time, `Bursts` for cost, `Capacities`, `UsageCodes` and `Devices`.
+//! What these words mean stands in `specs/`, in the order of its `Lib.antt`.
 #![tactic(auto)]
 
-// Time: ticks, minislots and the window of an unsolicited grant.
+// Ticks, minislots and symbols.
 mod channel_times;
+
+// The minislots that a grant may start in.
 mod windows;
 
-// Bursts: what one is made of, what it costs, and what fits.
-mod burst_sets;
-mod capacities;
-mod costs;
+// Modulation, preamble, guard time and code of a burst.
 mod profiles;
+
+// What the minislots of a MAP element are for.
 mod usage_codes;
 
-// The outside: memory, readers and writers.
+// All that the cost of a channel's bursts depends on.
+mod burst_sets;
+
+// What a burst costs.
+mod costs;
+
+// What some minislots carry.
+mod capacities;
+
+// Readers and writers.
 mod devices;
+
+// Want of memory.
 mod memory;
 
 pub use burst_sets::BurstSet;
-pub use capacities::{MOST_TICKS, capacity};
+pub use capacities::{MAX_MAP_TICKS, capacity};
 pub use channel_times::ChannelTime;
-pub use costs::{MOST_BYTES, coded_len, cost, grant_cost};
+pub use costs::{MAX_BURST_BYTES, coded_len, cost, grant_cost};
 pub use devices::{Failed, FromRead, FromWrite, Sink, Source};
 pub use memory::NoMemory;
 pub use profiles::Profile;

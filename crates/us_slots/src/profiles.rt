@@ -3,29 +3,29 @@ ghost use Rattle.us_slots.specs.Bursts.{BurstProfile, IsBurstProfile};
 
 use std::marker::Model;
 
-/// Bits per symbol of QPSK, the least modulation (the standard's).
-const LEAST_BITS: u8 = 2;
+/// Bits per symbol of QPSK, the least modulation that is scheduled (ours).
+const MIN_BITS: u8 = 2;
 
-/// Bits per symbol of 64QAM, the greatest modulation that is scheduled (ours: the standard has 128QAM too).
-const MOST_BITS: u8 = 6;
+/// Bits per symbol of 64QAM, the greatest modulation that is scheduled (ours).
+const MAX_BITS: u8 = 6;
 
-/// Symbols (ours).
-const MOST_PREAMBLE: u16 = 1_024;
+/// The longest preamble, in symbols (ours).
+const MAX_PREAMBLE: u16 = 1_024;
 
-/// Symbols (ours).
-const MOST_GUARD: u16 = 255;
+/// The longest guard time, in symbols (ours).
+const MAX_GUARD: u16 = 255;
 
-/// Wrong bytes that a codeword corrects (ours).
-const MOST_FEC_T: u8 = 16;
+/// The most wrong bytes that a codeword corrects (ours).
+const MAX_FEC_T: u8 = 16;
 
-/// Data bytes of a full codeword (ours).
-const LEAST_FEC_K: u8 = 16;
+/// The fewest data bytes of a full codeword (ours).
+const MIN_FEC_K: u8 = 16;
 
-/// Data bytes of a full codeword (ours).
-const MOST_FEC_K: u8 = 253;
+/// The most data bytes of a full codeword (ours).
+const MAX_FEC_K: u8 = 253;
 
-/// Bytes of a full codeword with its parity (ours: the code's symbols are bytes).
-const MOST_CODEWORD: u16 = 255;
+/// The longest codeword with its parity, in bytes (ours): a Reed-Solomon code over bytes has no longer one.
+const MAX_CODEWORD: u16 = 255;
 
 /// A burst profile: modulation, preamble, guard time and code of one kind of burst.
 #[derive(Clone, Copy, Debug, PartialEq, Eq, Hash)]
@@ -72,14 +72,14 @@ impl Model for Profile {
 impl Profile {
     /// A profile of these fields, `None` out of range.
     ///
-    /// | Field | Range | Unit |
+    /// | Field | Range | Meaning |
     /// |---|---|---|
-    /// | `bits` | 2 to 6 | bits per symbol |
-    /// | `preamble` | 0 to 1,024 | symbols |
-    /// | `guard` | 0 to 255 | symbols |
-    /// | `fec_t` | 0 to 16, 0 is no code | bytes that a codeword corrects |
+    /// | `bits` | 2 to 6 | bits per symbol: QPSK 2, 8QAM 3, 16QAM 4, 32QAM 5, 64QAM 6 |
+    /// | `preamble` | 0 to 1,024 | symbols before the bytes |
+    /// | `guard` | 0 to 255 | symbols of silence at the end |
+    /// | `fec_t` | 0 to 16 | wrong bytes that a codeword corrects; 0 is no code |
     /// | `fec_k` | 16 to 253, `fec_k + 2 * fec_t` at most 255 | data bytes of a full codeword |
-    /// | `shortened` | the last codeword is shortened, not filled up | |
+    /// | `shortened` | true or false | whether the last codeword is shortened, else fixed |
     pub fn new(
         bits: u8,
         preamble: u16,
@@ -98,12 +98,12 @@ impl Profile {
         } in
             SomeIff result (IsBurstProfile profile) profile }
     {
-        if (LEAST_BITS..=MOST_BITS).contains(&bits)
-            && preamble <= MOST_PREAMBLE
-            && guard <= MOST_GUARD
-            && fec_t <= MOST_FEC_T
-            && (LEAST_FEC_K..=MOST_FEC_K).contains(&fec_k)
-            && u16::from(fec_k) + 2 * u16::from(fec_t) <= MOST_CODEWORD
+        if (MIN_BITS..=MAX_BITS).contains(&bits)
+            && preamble <= MAX_PREAMBLE
+            && guard <= MAX_GUARD
+            && fec_t <= MAX_FEC_T
+            && (MIN_FEC_K..=MAX_FEC_K).contains(&fec_k)
+            && u16::from(fec_k) + 2 * u16::from(fec_t) <= MAX_CODEWORD
         {
             Some(Profile {
                 bits,
@@ -158,7 +158,7 @@ impl Profile {
         self.fec_k
     }
 
-    /// Whether the last codeword is shortened, or else filled up.
+    /// Whether the last codeword is shortened, else fixed.
     pub fn shortened(&self) -> bool
         ensures value { result ≡ self.now.shortened }
         ensures in_range { IsBurstProfile self.now }

@@ -1,6 +1,7 @@
-//! What no clause says: the numbers of worked examples, the plain programs, and devices that refuse.
+//! What no clause says: worked numbers, the plain programs, and devices that refuse.
 
+mod base;
 mod bursts;
 mod devices;
-mod examples;
+mod plain;
 mod ranges;

@@ -1,10 +1,10 @@
-ghost use Rattle.std.specs.Prelude.{◌≡◌, ◌<◌, SomeIff};
+ghost use Rattle.std.specs.Prelude.{◌≡◌, ℕ, SomeIff};
 ghost use Rattle.us_slots.specs.UsageCodes as codes;
 
 use std::marker::Model;
 
-/// Interval usage codes are numbers of four bits (the standard's).
-const CODES: u8 = 16;
+/// How many interval usage codes there are: they have four bits (the standard's).
+const IUC_COUNT: u8 = 16;
 
 /// An interval usage code (IUC), 0 to 15: what may be sent in the minislots of a MAP element.
 #[derive(Clone, Copy, Debug, PartialEq, Eq, Hash)]
@@ -13,13 +13,11 @@ pub struct Iuc {
 }
 
 impl Model for Iuc {
-    ghost use Rattle.std.specs.Prelude.{ℕ, ◌<◌};
-
     ghost Value = { ℕ };
 
     ghost view = { λ i. i.number };
 
-    ghost invariant = { λ i. i.number < 16 };
+    ghost invariant = { λ i. codes.IsUsageCode i.number };
 
     ghost inverse = { λ n. record { number = n } };
 }
@@ -27,9 +25,9 @@ impl Model for Iuc {
 impl Iuc {
     /// The code of this number, `None` above 15.
     pub fn new(number: u8) -> Option<Iuc>
-        ensures { SomeIff result (number < 16) number }
+        ensures { SomeIff result (codes.IsUsageCode number) number }
     {
-        if number < CODES {
+        if number < IUC_COUNT {
             Some(Iuc { number })
         } else {
             None
@@ -39,14 +37,14 @@ impl Iuc {
     /// The code's number, 0 to 15.
     pub fn number(self) -> u8
         ensures value { result ≡ self }
-        ensures in_range { self < 16 }
+        ensures in_range { codes.IsUsageCode self }
     {
         self.number
     }
 }
 
-// The codes that a schedule uses, by their names in the standard. They are functions, since a clause
-// can say what a function answers, and not what a constant of a type is.
+// The codes that a schedule uses, by their names in the standard. They are functions: a clause can't name a
+// constant of a type with a model, so nothing would hold a constant to its number.
 impl Iuc {
     /// Request, IUC 1.
     pub fn request() -> Iuc
@@ -83,7 +81,7 @@ impl Iuc {
         Iuc { number: 9 }
     }
 
-    /// Advanced PHY Long Data Grant, IUC 10; after the Null, a data grant pending.
+    /// Advanced PHY Long Data Grant, IUC 10. An element of it after the Null is a data grant pending (ours).
     pub fn long_data_grant() -> Iuc
         ensures { result ≡ codes.long_data_grant }
     {

@@ -1,7 +1,7 @@
 ghost use Rattle.std.specs.Prelude.{◌≡◌, ◌||◌, ℕ, Bool, false, List, Option, is_err};
 ghost use Rattle.std.specs.Io.{WritesAtMost};
 ghost use Rattle.std.specs.Io.KnownBytes.{Keeps, WriteAppends};
-ghost use Rattle.us_slots.specs.Devices.{Device, is_stuck};
+ghost use Rattle.us_slots.specs.Devices.{Device, is_failed_write};
 
 use super::Failed;
 use std::io::Write;
@@ -20,11 +20,12 @@ pub trait Sink {
         ensures { result ≡ failed self.now };
 
     /// Writes the first bytes of `buf` and answers how many.
-    /// After [`Failed`], which comes of every fault of the device and isn't tried again, nothing was written.
+    /// After [`Failed`] nothing was written. Every fault of the device is one, an interrupted write too, and it
+    /// isn't tried again.
     fn write(&mut self, buf: &[u8]) -> Result<usize, Failed>
         ensures bound { WritesAtMost result buf.now }
         ensures bytes { WriteAppends (contents self.old) (contents self.new) result buf.now }
-        ensures fails { failed self.new ≡ (failed self.old || is_stuck result buf.now) };
+        ensures fails { failed self.new ≡ (failed self.old || is_failed_write result buf.now) };
 
     /// Passes on what the device holds back.
     fn flush(&mut self) -> Result<(), Failed>
@@ -32,7 +33,7 @@ pub trait Sink {
         ensures fails { failed self.new ≡ (failed self.old || is_err result) };
 }
 
-/// A [`Sink`] over a writer of std. An interrupted write or flush is a fault too.
+/// A [`Sink`] over a writer of std.
 #[derive(Drop)]
 pub struct FromWrite<W: Write> {
     inner: W,
@@ -76,12 +77,11 @@ impl<W: Write> Sink for FromWrite<W> {
 
     fn write(&mut self, buf: &[u8]) -> Result<usize, Failed> {
         match self.inner.write(buf) {
-            Ok(count) => {
-                if count == 0 && !buf.is_empty() {
-                    self.failed = true;
-                }
-                Ok(count)
+            Ok(0) if !buf.is_empty() => {
+                self.failed = true;
+                Ok(0)
             }
+            Ok(count) => Ok(count),
             Err(_) => {
                 self.failed = true;
                 Err(Failed)

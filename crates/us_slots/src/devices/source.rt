@@ -20,14 +20,15 @@ pub trait Source {
         ensures { result ≡ failed self.now };
 
     /// Reads into `buf` and answers how many bytes, 0 only at the end or where `buf` has no room.
-    /// After [`Failed`], which comes of every fault of the device and isn't tried again, nothing was read.
+    /// After [`Failed`] nothing was read. Every fault of the device is one, an interrupted read too, and it isn't
+    /// tried again.
     fn read(&mut self, buf: &mut [u8]) -> Result<usize, Failed>
         ensures bound { ReadsAtMost result buf.new }
         ensures bytes { ReadConsumes (remaining self.old) (remaining self.new) result buf.new }
         ensures fails { failed self.new ≡ (failed self.old || is_err result) };
 }
 
-/// A [`Source`] over a reader of std. An interrupted read is a fault too.
+/// A [`Source`] over a reader of std.
 #[derive(Drop)]
 pub struct FromRead<R: Read> {
     inner: R,

@@ -3,17 +3,17 @@ use std::alloc::{AllocError, AllocFailed, Global};
 use std::io::{self, ErrorKind, Read, Write};
 use std::test::Fail;
 
-/// A reader that gives one byte a call and then fails, and counts its calls.
+/// A reader that gives one byte a call. Where none is left, reads fail. It counts them.
 #[derive(Drop)]
-struct Faulty {
+struct FaultyReader {
     left: u8,
     kind: ErrorKind,
-    calls: u32,
+    reads: u32,
 }
 
-impl Read for Faulty {
+impl Read for FaultyReader {
     fn read(&mut self, buf: &mut [u8]) -> io::Result<usize> {
-        self.calls = self.calls.saturating_add(1);
+        self.reads = self.reads.saturating_add(1);
         if self.left == 0 {
             return Err(io::Error::from(self.kind));
         }
@@ -26,32 +26,32 @@ impl Read for Faulty {
     }
 }
 
-/// A writer that takes one byte a call and fails where it holds `most`, and counts its flushes, which fail too then.
+/// A writer that takes one byte a call. Where it holds `room` bytes, writes and flushes fail. It counts both.
 #[derive(Drop)]
-struct Slow {
+struct SlowWriter {
     held: Vec<u8>,
-    most: usize,
+    room: usize,
     kind: ErrorKind,
-    calls: u32,
+    writes: u32,
     flushes: u32,
 }
 
-impl Slow {
-    fn new(alloc: Global, most: usize, kind: ErrorKind) -> Slow {
-        Slow {
+impl SlowWriter {
+    fn new(alloc: Global, room: usize, kind: ErrorKind) -> SlowWriter {
+        SlowWriter {
             held: Vec::new(alloc),
-            most,
+            room,
             kind,
-            calls: 0,
+            writes: 0,
             flushes: 0,
         }
     }
 }
 
-impl Write for Slow {
+impl Write for SlowWriter {
     fn write(&mut self, buf: &[u8]) -> io::Result<usize> {
-        self.calls = self.calls.saturating_add(1);
-        if self.held.len() >= self.most {
+        self.writes = self.writes.saturating_add(1);
+        if self.held.len() >= self.room {
             return Err(io::Error::from(self.kind));
         }
         let taken = buf.len().min(1);
@@ -61,7 +61,7 @@ impl Write for Slow {
 
     fn flush(&mut self) -> io::Result<()> {
         self.flushes = self.flushes.saturating_add(1);
-        if self.held.len() >= self.most {
+        if self.held.len() >= self.room {
             return Err(io::Error::from(self.kind));
         }
         Ok(())
@@ -85,17 +85,17 @@ fn reader_in_memory(rt: HostRuntime) {
 #[test]
 fn reader_that_fails(rt: HostRuntime) {
     for kind in [ErrorKind::Interrupted, ErrorKind::BrokenPipe] {
-        let mut source = FromRead::new(Faulty {
+        let mut source = FromRead::new(FaultyReader {
             left: 1,
             kind,
-            calls: 0,
+            reads: 0,
         });
         let mut piece = [0; 4];
         assert_eq!(rt; source.read(&mut piece), Ok(1));
         assert!(rt; !source.has_failed());
         assert_eq!(rt; source.read(&mut piece), Err(Failed));
         assert!(rt; source.has_failed());
-        assert_eq!(rt; source.into_inner().calls, 2);
+        assert_eq!(rt; source.into_inner().reads, 2);
     }
 }
 
@@ -113,7 +113,7 @@ fn writer_in_memory(rt: HostRuntime) -> Result<(), Fail> {
 #[test]
 fn writer_that_takes_one_byte(rt: HostRuntime) {
     for kind in [ErrorKind::Interrupted, ErrorKind::StorageFull] {
-        let mut sink = FromWrite::new(Slow::new(rt.alloc(), 2, kind));
+        let mut sink = FromWrite::new(SlowWriter::new(rt.alloc(), 2, kind));
         assert_eq!(rt; sink.write(b"map"), Ok(1));
         assert_eq!(rt; sink.flush(), Ok(()));
         assert_eq!(rt; sink.write(b"ap"), Ok(1));
@@ -122,14 +122,14 @@ fn writer_that_takes_one_byte(rt: HostRuntime) {
         assert!(rt; sink.has_failed());
         let slow = sink.into_inner();
         assert_eq!(rt; slow.held.as_slice(), b"ma".as_slice());
-        assert_eq!(rt; (slow.calls, slow.flushes), (3, 1));
+        assert_eq!(rt; (slow.writes, slow.flushes), (3, 1));
     }
 }
 
 #[test]
 fn writer_that_does_not_flush(rt: HostRuntime) {
     for kind in [ErrorKind::Interrupted, ErrorKind::StorageFull] {
-        let mut sink = FromWrite::new(Slow::new(rt.alloc(), 1, kind));
+        let mut sink = FromWrite::new(SlowWriter::new(rt.alloc(), 1, kind));
         assert_eq!(rt; sink.write(b"m"), Ok(1));
         assert_eq!(rt; sink.flush(), Err(Failed));
         assert!(rt; sink.has_failed());

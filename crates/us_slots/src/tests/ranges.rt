@@ -1,4 +1,4 @@
-use super::examples::{base_profile, base_time};
+use super::base::{base_profile, base_time};
 use crate::{BurstSet, ChannelTime, Iuc, Profile};
 use std::test::Fail;
 
