@@ -15,7 +15,9 @@ abbrev pub room_of : Timing → BurstProfile → ℕ → ℕ
 room_of t p slots = (slots * symbols_per_minislot t - overhead_of p) * p.bits / 8
 
 -- Coded bytes within the room fit, where the overhead does,
-burst_cost-within : (t : Timing) (p : BurstProfile) (slots bytes : ℕ) → IsBurstProfile p → overhead_of p ≤ slots * symbols_per_minislot t → coded_length p bytes ≤ room_of t p slots → burst_cost t p bytes ≤ slots
+burst_cost-within : (t : Timing) (p : BurstProfile) (slots bytes : ℕ) → IsBurstProfile p →
+    overhead_of p ≤ slots * symbols_per_minislot t → coded_length p bytes ≤ room_of t p slots →
+    burst_cost t p bytes ≤ slots
 burst_cost-within t p slots bytes lawful overhead h =
     let symbols : ℕ = slots * symbols_per_minislot t - overhead_of p in
     let bits : coded_length p bytes * 8 ≤ symbols * p.bits = floor-fits (symbols * p.bits) 8 (coded_length p bytes) h in
@@ -23,7 +25,9 @@ burst_cost-within t p slots bytes lawful overhead h =
     burst_cost-least t p bytes slots (omega arith)
 
 -- and bytes that fit are coded within the room.
-within-burst_cost : (t : Timing) (p : BurstProfile) (slots bytes : ℕ) → IsBurstProfile p → burst_cost t p bytes ≤ slots → (overhead_of p ≤ slots * symbols_per_minislot t) × (coded_length p bytes ≤ room_of t p slots)
+within-burst_cost : (t : Timing) (p : BurstProfile) (slots bytes : ℕ) → IsBurstProfile p →
+    burst_cost t p bytes ≤ slots →
+    (overhead_of p ≤ slots * symbols_per_minislot t) × (coded_length p bytes ≤ room_of t p slots)
 within-burst_cost t p slots bytes lawful h =
     let symbols : ℕ = slots * symbols_per_minislot t - overhead_of p in
     let held : overhead_of p + data_symbols_of p bytes ≤ slots * symbols_per_minislot t = burst_cost-fits t p bytes slots h in
@@ -31,7 +35,8 @@ within-burst_cost t p slots bytes lawful h =
     (omega arith, floor-most (symbols * p.bits) 8 (coded_length p bytes) (omega arith) (omega arith))
 
 -- The greatest byte count that is sent within the room is the capacity.
-pub is_capacity : (t : Timing) (p : BurstProfile) (slots most : ℕ) → IsBurstProfile p → Carries p (room_of t p slots) most → IsCapacity (burst_cost t p) slots most
+pub is_capacity : (t : Timing) (p : BurstProfile) (slots most : ℕ) → IsBurstProfile p →
+    Carries p (room_of t p slots) most → IsCapacity (burst_cost t p) slots most
 is_capacity t p slots most lawful c = record {
   greatest = λ bytes h. c.greatest bytes (within-burst_cost t p slots bytes lawful h).1;
   fits = elim (cases_lt (slots * symbols_per_minislot t) (overhead_of p)) [
@@ -58,7 +63,8 @@ pub sent_most : (p : BurstProfile) (room most : ℕ) → IsBurstProfile p → Ca
 sent_most p room most lawful c = omega (arith, c.fits most (omega arith), (coded_length-bounds p most lawful).0)
 
 -- The greatest number that passes is found from any limit that is no less.
-greatest_up_to-is : (cost : ℕ → ℕ) (slots most limit : ℕ) → IsCapacity cost slots most → most ≤ limit → greatest_up_to (λ bytes. nat_le (cost bytes) slots) limit ≡ most
+greatest_up_to-is : (cost : ℕ → ℕ) (slots most limit : ℕ) → IsCapacity cost slots most → most ≤ limit →
+    greatest_up_to (λ bytes. nat_le (cost bytes) slots) limit ≡ most
 unfolding greatest_up_to
 greatest_up_to-is cost slots most zero is below = omega arith
 greatest_up_to-is cost slots most (suc limit) is below =
@@ -78,7 +84,8 @@ greatest_up_to-is cost slots most (suc limit) is below =
     ]
 
 -- The capacity is the greatest number that passes below the bits of all symbols.
-pub capacity_value : (t : Timing) (p : BurstProfile) (slots most : ℕ) → IsBurstProfile p → Carries p (room_of t p slots) most → most ≡ capacity_of t p slots
+pub capacity_value : (t : Timing) (p : BurstProfile) (slots most : ℕ) → IsBurstProfile p →
+    Carries p (room_of t p slots) most → most ≡ capacity_of t p slots
 unfolding capacity_of
 capacity_value t p slots most lawful c =
     let symbols : ℕ = slots * symbols_per_minislot t in
@@ -87,14 +94,16 @@ capacity_value t p slots most lawful c =
     sym (greatest_up_to-is (burst_cost t p) slots most (symbols * p.bits / 8) (is_capacity t p slots most lawful c) within)
 
 -- The minislots of a MAP have at most 131,072 symbols,
-pub symbols_most : (t : Timing) (slots symbols : ℕ) → IsTiming t → slots * minislot_ticks t ≤ 4096 → symbols ≡ symbols_per_minislot t → slots * symbols ≤ 131072
+pub symbols_most : (t : Timing) (slots symbols : ℕ) → IsTiming t → slots * minislot_ticks t ≤ 4096 →
+    symbols ≡ symbols_per_minislot t → slots * symbols ≤ 131072
 symbols_most t slots symbols timing short e =
     let rate : 2 ^ t.rate_log2 ≤ 2 ^ 5 = pow-le-pow_right (lit< tt) timing.highest_rate in
     let product : slots * minislot_ticks t * 2 ^ t.rate_log2 ≤ 4096 * 2 ^ 5 = mul-le (slots * minislot_ticks t) (2 ^ t.rate_log2) 4096 (2 ^ 5) short rate in
     rw (e, pow-add 2 t.minislot_log2 t.rate_log2) (omega arith)
 
 -- and so many symbols have room for at most 98,304 bytes.
-pub room_most : (symbols bits : ℕ) → symbols ≤ 131072 → bits ≤ 6 → (symbols * bits < 2 ^ 32) × (symbols * bits / 8 ≤ 98304)
+pub room_most : (symbols bits : ℕ) → symbols ≤ 131072 → bits ≤ 6 →
+    (symbols * bits < 2 ^ 32) × (symbols * bits / 8 ≤ 98304)
 room_most symbols bits few h =
     let product : symbols * bits ≤ 131072 * 6 = mul-le symbols bits 131072 6 few h in
     (omega arith, omega arith)

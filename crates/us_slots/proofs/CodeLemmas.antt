@@ -1,4 +1,5 @@
--- How many bytes are sent for a burst's bytes, and how many bytes are sent as at most so many: each is the other's inverse.
+-- How many bytes are sent for a burst's bytes, and how many bytes are sent as at most so many: each is the other's
+-- inverse.
 use Rattle.std.proofs.Common.{◌≡◌, ℕ, ◌+◌, ◌-◌, ◌*◌, ◌/◌, ◌%◌, ◌<◌, ◌≤◌, true, false, arith, refl, ap, inl, inr}
 use Rattle.std.specs.Int.{div_ceil}
 use Rattle.std.proofs.lemmas.Nat.{mul-le, mod_below, div-add-mod'}
@@ -14,15 +15,20 @@ one_more a b long h =
     omega arith
 
 -- a shortened codeword is no longer than a full one
-shortened-le : (p : BurstProfile) (bytes : ℕ) → IsBurstProfile p → bytes < p.fec_k → shortened_codeword_of p bytes ≤ codeword_of p
+shortened-le : (p : BurstProfile) (bytes : ℕ) → IsBurstProfile p → bytes < p.fec_k →
+    shortened_codeword_of p bytes ≤ codeword_of p
 shortened-le p bytes lawful h = grind (arith, lawful.least_fec_k)
 
 -- more bytes are a longer shortened codeword
-shortened-mono : (p : BurstProfile) (fewer more : ℕ) → fewer ≤ more → shortened_codeword_of p fewer ≤ shortened_codeword_of p more
+shortened-mono : (p : BurstProfile) (fewer more : ℕ) → fewer ≤ more →
+    shortened_codeword_of p fewer ≤ shortened_codeword_of p more
 shortened-mono p fewer more h = grind arith
 
--- of the codewords that fit, each full, and a rest whose shortened codeword fits behind them: so many bytes are sent as at most `room`
-pub shortened-sent : (p : BurstProfile) (room rest bytes : ℕ) → IsBurstProfile p → rest < p.fec_k → shortened_codeword_of p rest ≤ room % codeword_of p → bytes ≤ room / codeword_of p * p.fec_k + rest → bytes / p.fec_k * codeword_of p + shortened_codeword_of p (bytes % p.fec_k) ≤ room
+-- of the codewords that fit, each full, and a rest whose shortened codeword fits behind them: so many bytes are
+-- sent as at most `room`
+pub shortened-sent : (p : BurstProfile) (room rest bytes : ℕ) → IsBurstProfile p → rest < p.fec_k →
+    shortened_codeword_of p rest ≤ room % codeword_of p → bytes ≤ room / codeword_of p * p.fec_k + rest →
+    bytes / p.fec_k * codeword_of p + shortened_codeword_of p (bytes % p.fec_k) ≤ room
 shortened-sent p room rest bytes lawful small fits h =
     let k : ℕ = p.fec_k in
     let long : ℕ = codeword_of p in
@@ -47,7 +53,10 @@ shortened-sent p room rest bytes lawful small fits h =
     ]
 
 -- no more bytes than those are sent as at most `room`, where no more of the rest's shortened codeword fit
-pub shortened-most : (p : BurstProfile) (room rest bytes : ℕ) → IsBurstProfile p → ((more : ℕ) → shortened_codeword_of p more ≤ room % codeword_of p → more ≤ rest) → bytes / p.fec_k * codeword_of p + shortened_codeword_of p (bytes % p.fec_k) ≤ room → bytes ≤ room / codeword_of p * p.fec_k + rest
+pub shortened-most : (p : BurstProfile) (room rest bytes : ℕ) → IsBurstProfile p →
+    ((more : ℕ) → shortened_codeword_of p more ≤ room % codeword_of p → more ≤ rest) →
+    bytes / p.fec_k * codeword_of p + shortened_codeword_of p (bytes % p.fec_k) ≤ room →
+    bytes ≤ room / codeword_of p * p.fec_k + rest
 shortened-most p room rest bytes lawful most h =
     let k : ℕ = p.fec_k in
     let long : ℕ = codeword_of p in
@@ -75,11 +84,13 @@ pub coded_length-plain : (p : BurstProfile) (bytes : ℕ) → p.fec_t ≡ 0 → 
 unfolding coded_length
 coded_length-plain p bytes e = rw e refl
 
-pub coded_length-fixed : (p : BurstProfile) (bytes : ℕ) → 0 < p.fec_t → p.shortened ≡ false → coded_length p bytes ≡ div_ceil bytes p.fec_k * codeword_of p
+pub coded_length-fixed : (p : BurstProfile) (bytes : ℕ) → 0 < p.fec_t → p.shortened ≡ false →
+    coded_length p bytes ≡ div_ceil bytes p.fec_k * codeword_of p
 unfolding coded_length
 coded_length-fixed p bytes code fixed = grind arith
 
-pub coded_length-shortened : (p : BurstProfile) (bytes : ℕ) → 0 < p.fec_t → p.shortened ≡ true → coded_length p bytes ≡ bytes / p.fec_k * codeword_of p + shortened_codeword_of p (bytes % p.fec_k)
+pub coded_length-shortened : (p : BurstProfile) (bytes : ℕ) → 0 < p.fec_t → p.shortened ≡ true →
+    coded_length p bytes ≡ bytes / p.fec_k * codeword_of p + shortened_codeword_of p (bytes % p.fec_k)
 unfolding coded_length
 coded_length-shortened p bytes code short = grind arith
 
@@ -91,7 +102,8 @@ plain_carries p room plain = record {
 }
 
 -- With a fixed last codeword the full codewords that fit are carried.
-pub fixed_carries : (p : BurstProfile) (room : ℕ) → IsBurstProfile p → 0 < p.fec_t → p.shortened ≡ false → Carries p room (room / codeword_of p * p.fec_k)
+pub fixed_carries : (p : BurstProfile) (room : ℕ) → IsBurstProfile p → 0 < p.fec_t → p.shortened ≡ false →
+    Carries p room (room / codeword_of p * p.fec_k)
 fixed_carries p room lawful code fixed =
     let some : 0 < p.fec_k = omega (arith, lawful.least_fec_k) in
     let long : ℕ = codeword_of p in
@@ -100,8 +112,10 @@ fixed_carries p room lawful code fixed =
       greatest = λ bytes h. ceil-fits bytes p.fec_k (room / long) some (floor-most room long (div_ceil bytes p.fec_k) (omega arith) (rw (coded_length-fixed p bytes code fixed) at h));
     }
 
--- With a shortened last codeword so is what the rest of the room carries in one: nothing below 16 bytes and the parity.
-pub full_carries : (p : BurstProfile) (room : ℕ) → IsBurstProfile p → 0 < p.fec_t → p.shortened ≡ true → room % codeword_of p < 16 + 2 * p.fec_t → Carries p room (room / codeword_of p * p.fec_k)
+-- With a shortened last codeword so is what the rest of the room carries in one: nothing below 16 bytes and the
+-- parity.
+pub full_carries : (p : BurstProfile) (room : ℕ) → IsBurstProfile p → 0 < p.fec_t → p.shortened ≡ true →
+    room % codeword_of p < 16 + 2 * p.fec_t → Carries p room (room / codeword_of p * p.fec_k)
 full_carries p room lawful code short little = record {
   fits = λ bytes h. rw (coded_length-shortened p bytes code short) (shortened-sent p room 0 bytes lawful (omega (arith, lawful.least_fec_k)) (omega arith) (omega arith));
   greatest = λ bytes h.
@@ -109,7 +123,9 @@ full_carries p room lawful code short little = record {
       omega (arith, shortened-most p room 0 bytes lawful most (rw (coded_length-shortened p bytes code short) at h));
 }
 
-pub rest_carries : (p : BurstProfile) (room : ℕ) → IsBurstProfile p → 0 < p.fec_t → p.shortened ≡ true → 16 + 2 * p.fec_t ≤ room % codeword_of p → Carries p room (room / codeword_of p * p.fec_k + (room % codeword_of p - 2 * p.fec_t))
+pub rest_carries : (p : BurstProfile) (room : ℕ) → IsBurstProfile p → 0 < p.fec_t → p.shortened ≡ true →
+    16 + 2 * p.fec_t ≤ room % codeword_of p →
+    Carries p room (room / codeword_of p * p.fec_k + (room % codeword_of p - 2 * p.fec_t))
 rest_carries p room lawful code short enough =
     let within : room % codeword_of p < codeword_of p = mod_below room (codeword_of p) (omega (arith, lawful.least_fec_k)) in
     let rest : ℕ = room % codeword_of p - 2 * p.fec_t in
@@ -142,14 +158,16 @@ coded_length-mono p a b lawful h =
     room.1.fits a (omega arith)
 
 -- Full codewords take as many bytes as they carry, and at most three times as many.
-codewords : (p : BurstProfile) (n : ℕ) → IsBurstProfile p → (n * p.fec_k ≤ n * codeword_of p) × (n * codeword_of p ≤ 3 * (n * p.fec_k))
+codewords : (p : BurstProfile) (n : ℕ) → IsBurstProfile p →
+    (n * p.fec_k ≤ n * codeword_of p) × (n * codeword_of p ≤ 3 * (n * p.fec_k))
 codewords p n lawful =
     let least : n * p.fec_k ≤ n * codeword_of p = mul-le n p.fec_k n (codeword_of p) (omega arith) (omega arith) in
     let most : n * codeword_of p ≤ n * (3 * p.fec_k) = mul-le n (codeword_of p) n (3 * p.fec_k) (omega arith) (omega (arith, lawful.fec_t, lawful.least_fec_k)) in
     (least, omega arith)
 
 -- Bytes are sent as no fewer, and as at most three times as many and a codeword.
-pub coded_length-bounds : (p : BurstProfile) (bytes : ℕ) → IsBurstProfile p → (bytes ≤ coded_length p bytes) × (coded_length p bytes ≤ 3 * bytes + 255)
+pub coded_length-bounds : (p : BurstProfile) (bytes : ℕ) → IsBurstProfile p →
+    (bytes ≤ coded_length p bytes) × (coded_length p bytes ≤ 3 * bytes + 255)
 coded_length-bounds p bytes lawful =
     let some : 0 < p.fec_k = omega (arith, lawful.least_fec_k) in
     let parts : bytes / p.fec_k * p.fec_k + bytes % p.fec_k ≡ bytes = div-add-mod' bytes p.fec_k in

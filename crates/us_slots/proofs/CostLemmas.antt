@@ -17,24 +17,28 @@ abbrev pub data_symbols_of : BurstProfile → ℕ → ℕ
 data_symbols_of p bytes = div_ceil (8 * coded_length p bytes) p.bits
 
 -- A burst that costs at most n minislots has symbols for no more than n of them,
-pub burst_cost-fits : (t : Timing) (p : BurstProfile) (bytes n : ℕ) → burst_cost t p bytes ≤ n → overhead_of p + data_symbols_of p bytes ≤ n * symbols_per_minislot t
+pub burst_cost-fits : (t : Timing) (p : BurstProfile) (bytes n : ℕ) → burst_cost t p bytes ≤ n →
+    overhead_of p + data_symbols_of p bytes ≤ n * symbols_per_minislot t
 unfolding burst_cost
 burst_cost-fits t p bytes n h = ceil-fits (overhead_of p + data_symbols_of p bytes) (symbols_per_minislot t) n (pow_pos (t.minislot_log2 + t.rate_log2)) h
 
 -- and the other way round.
-pub burst_cost-least : (t : Timing) (p : BurstProfile) (bytes n : ℕ) → overhead_of p + data_symbols_of p bytes ≤ n * symbols_per_minislot t → burst_cost t p bytes ≤ n
+pub burst_cost-least : (t : Timing) (p : BurstProfile) (bytes n : ℕ) →
+    overhead_of p + data_symbols_of p bytes ≤ n * symbols_per_minislot t → burst_cost t p bytes ≤ n
 unfolding burst_cost
 burst_cost-least t p bytes n h = ceil-least (overhead_of p + data_symbols_of p bytes) (symbols_per_minislot t) n (pow_pos (t.minislot_log2 + t.rate_log2)) h
 
 -- More bytes take more symbols.
-data_symbols-mono : (p : BurstProfile) (a b : ℕ) → IsBurstProfile p → a ≤ b → data_symbols_of p a ≤ data_symbols_of p b
+data_symbols-mono : (p : BurstProfile) (a b : ℕ) → IsBurstProfile p → a ≤ b →
+    data_symbols_of p a ≤ data_symbols_of p b
 data_symbols-mono p a b lawful h =
     let some : 0 < p.bits = omega (arith, lawful.least_bits) in
     let held : 8 * coded_length p b ≤ data_symbols_of p b * p.bits = ceil-fits (8 * coded_length p b) p.bits (data_symbols_of p b) some (omega arith) in
     ceil-least (8 * coded_length p a) p.bits (data_symbols_of p b) some (omega (arith, coded_length-mono p a b lawful h))
 
 -- Coded bytes take no more symbols than they have bits.
-pub data_symbols-most : (p : BurstProfile) (bytes : ℕ) → IsBurstProfile p → div_ceil (8 * coded_length p bytes) p.bits ≤ 24 * bytes + 2040
+pub data_symbols-most : (p : BurstProfile) (bytes : ℕ) → IsBurstProfile p →
+    div_ceil (8 * coded_length p bytes) p.bits ≤ 24 * bytes + 2040
 data_symbols-most p bytes lawful =
     let bits : ℕ = 8 * coded_length p bytes in
     let some : 0 < p.bits = omega (arith, lawful.least_bits) in
@@ -43,13 +47,15 @@ data_symbols-most p bytes lawful =
     omega (arith, coded_length-bounds p bytes lawful)
 
 -- Cost never falls as bytes rise.
-pub burst_cost-mono : (t : Timing) (p : BurstProfile) (a b : ℕ) → IsBurstProfile p → a ≤ b → burst_cost t p a ≤ burst_cost t p b
+pub burst_cost-mono : (t : Timing) (p : BurstProfile) (a b : ℕ) → IsBurstProfile p → a ≤ b →
+    burst_cost t p a ≤ burst_cost t p b
 burst_cost-mono t p a b lawful h =
     let held : overhead_of p + data_symbols_of p b ≤ burst_cost t p b * symbols_per_minislot t = burst_cost-fits t p b (burst_cost t p b) (omega arith) in
     burst_cost-least t p a (burst_cost t p b) (omega (arith, data_symbols-mono p a b lawful h))
 
 -- A byte costs at least one minislot.
-pub burst_cost-some : (t : Timing) (p : BurstProfile) (bytes : ℕ) → IsBurstProfile p → 0 < bytes → 0 < burst_cost t p bytes
+pub burst_cost-some : (t : Timing) (p : BurstProfile) (bytes : ℕ) → IsBurstProfile p → 0 < bytes →
+    0 < burst_cost t p bytes
 burst_cost-some t p bytes lawful h =
     elim (cases_lt 0 (burst_cost t p bytes)) [
       | inl some ↦ some

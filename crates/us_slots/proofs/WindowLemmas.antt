@@ -10,7 +10,9 @@ use Rattle.us_slots.proofs.RoundingLemmas.{ceil-fits, ceil-least, floor-fits, fl
 starts : (t : Timing) (i long : ℕ) → long ≡ 25 * minislot_ticks t → start_of t i ≡ i * long
 starts t i long e = rw e (grind arith)
 
-pub window_ends : (t : Timing) (ideal jitter long first : ℕ) → long ≡ 25 * minislot_ticks t → first ≡ div_ceil ideal long → first ≤ (ideal + jitter) / long → AreEnds (StartsWithin t ideal jitter) (first, (ideal + jitter) / long)
+pub window_ends : (t : Timing) (ideal jitter long first : ℕ) → long ≡ 25 * minislot_ticks t →
+    first ≡ div_ceil ideal long → first ≤ (ideal + jitter) / long →
+    AreEnds (StartsWithin t ideal jitter) (first, (ideal + jitter) / long)
 window_ends t ideal jitter long first e f h =
     let some : 0 < long = omega (arith, pow_pos t.minislot_log2) in
     let last : ℕ = (ideal + jitter) / long in
@@ -25,7 +27,8 @@ window_ends t ideal jitter long first e f h =
       greatest = λ i within. floor-most (ideal + jitter) long i some (omega (arith, starts t i long e, within.1));
     }
 
-pub window_empty : (t : Timing) (ideal jitter long : ℕ) → long ≡ 25 * minislot_ticks t → (ideal + jitter) / long < div_ceil ideal long → (i : ℕ) → ¬ StartsWithin t ideal jitter i
+pub window_empty : (t : Timing) (ideal jitter long : ℕ) → long ≡ 25 * minislot_ticks t →
+    (ideal + jitter) / long < div_ceil ideal long → (i : ℕ) → ¬ StartsWithin t ideal jitter i
 window_empty t ideal jitter long e h i within =
     let some : 0 < long = omega (arith, pow_pos t.minislot_log2) in
     let up : div_ceil ideal long ≤ i = ceil-least ideal long i some (omega (arith, starts t i long e, within.0)) in

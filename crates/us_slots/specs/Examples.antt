@@ -70,8 +70,12 @@ long_grant : grant_cost (bursts_with base_profile) 308 ≡ (11, long_data_grant)
 unfolding burst_cost coded_length
 long_grant = refl
 
--- 8 bytes as a QPSK burst with a shortened codeword of 16 bytes and 4 of parity: allowed, but dearer than a long one
-dear_short_grant : grant_cost (bursts_with (record { bits = 2; preamble = 16; guard = 8; fec_t = 2; fec_k = 16; shortened = true })) 8 ≡ (1, long_data_grant)
+-- QPSK with shortened codewords of 16 bytes and 4 of parity
+abbrev pub robust_profile : BurstProfile
+robust_profile = record { bits = 2; preamble = 16; guard = 8; fec_t = 2; fec_k = 16; shortened = true }
+
+-- 8 bytes cost 2 minislots as a short grant: allowed, but dearer than a long one
+dear_short_grant : grant_cost (bursts_with robust_profile) 8 ≡ (1, long_data_grant)
 unfolding burst_cost coded_length
 dear_short_grant = refl
 

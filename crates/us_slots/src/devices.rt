@@ -1,4 +1,4 @@
-//! Readers and writers as the crates above see them: by their bytes, where they tell them, and by whether they failed.
+//! Readers and writers as the crates above see them: by their bytes, where they tell them, and whether they failed.
 
 ghost use Rattle.std.specs.Prelude.{Some, codes};
 
