@@ -1,4 +1,4 @@
-ghost use Rattle.std.specs.Prelude.{◌≡◌, ◌≤◌, SomeIff};
+ghost use Rattle.std.specs.Prelude.{◌≡◌, SomeIff};
 ghost use Rattle.us_slots.specs.Bursts.{ChannelBursts, IsChannelBursts};
 
 use crate::channel_times::ChannelTime;

@@ -69,6 +69,24 @@ impl Write for SlowWriter {
 }
 
 #[test]
+fn pieces_of_every_size(rt: HostRuntime) -> Result<(), Fail> {
+    let text = [b'm'; 5_000];
+    for size in [0usize, 1, 7, 4_096, 5_000] {
+        if size <= text.len() {
+            let mut source = FromRead::new(&text[..]);
+            let mut piece = [0u8; 5_000];
+            assert_eq!(rt; source.read(&mut piece[..size]), Ok(size), "read {size}");
+            assert!(rt; !source.has_failed(), "read {size}");
+            let mut sink = FromWrite::new(Vec::new(rt.alloc()));
+            assert_eq!(rt; sink.write(&text[..size]), Ok(size), "write {size}");
+            assert!(rt; !sink.has_failed(), "write {size}");
+            assert_eq!(rt; sink.into_inner().len(), size);
+        }
+    }
+    Ok(())
+}
+
+#[test]
 fn reader_in_memory(rt: HostRuntime) {
     let text = b"trace";
     let mut source = FromRead::new(&text[..]);

@@ -87,3 +87,15 @@ fn usage_codes(rt: HostRuntime) -> Result<(), Fail> {
     }
     Ok(())
 }
+
+#[test]
+fn clones(rt: HostRuntime) -> Result<(), Fail> {
+    let time = base_time().ok_or("time")?;
+    let profile = base_profile().ok_or("profile")?;
+    let set = BurstSet::new(time, profile, profile, 10, profile).ok_or("set")?;
+    assert_eq!(rt; time.clone()?, time);
+    assert_eq!(rt; profile.clone()?, profile);
+    assert_eq!(rt; set.clone()?, set);
+    assert_eq!(rt; Iuc::null().clone()?, Iuc::null());
+    Ok(())
+}
