@@ -1,0 +1,79 @@
+-- Elements and their words: each gives the other.
+use Rattle.std.proofs.Common.{◌≡◌, ℕ, zero, suc, ◌+◌, ◌*◌, ◌/◌, ◌%◌, ◌^◌, ◌<◌, List, [], ◌∷◌, ◌++◌, length, get_or, refl, ap, ◌∙◌, arith}
+use Rattle.std.specs.List.{AllByRecursion}
+use Rattle.std.specs.Int.{to_be_bytes, from_be_bytes, w32}
+use Rattle.std.proofs.lemmas.Nat.{be_bytes_4, from_be_bytes-to_be_bytes_4}
+use Rattle.us_codec.specs.Elements.{MapElement, IsMapElement, word_of, element_of}
+use Rattle.us_codec.specs.Bodies.{words}
+use Rattle.us_codec.specs.Faults.{elements_at}
+
+abbrev pub AreBytes : List ℕ → Type 0
+AreBytes bytes = (i : ℕ) → get_or bytes i 0 < 256
+
+word-of-element : (word : ℕ) → word_of (element_of word) ≡ word
+unfolding word_of element_of
+word-of-element word = omega arith
+
+word-fits : (e : MapElement) → IsMapElement e → word_of e < 2 ^ 32
+unfolding word_of
+word-fits e h = omega (arith, h.sid, h.iuc, h.offset)
+
+element-of-word : (e : MapElement) → IsMapElement e → element_of (word_of e) ≡ e
+unfolding word_of element_of
+element-of-word e h =
+    let sid : (e.sid * 2 ^ 18 + e.iuc * 2 ^ 14 + e.offset) / 2 ^ 18 ≡ e.sid = omega (arith, h.sid, h.iuc, h.offset) in
+    let iuc : (e.sid * 2 ^ 18 + e.iuc * 2 ^ 14 + e.offset) / 2 ^ 14 % 2 ^ 4 ≡ e.iuc = omega (arith, h.sid, h.iuc, h.offset) in
+    let offset : (e.sid * 2 ^ 18 + e.iuc * 2 ^ 14 + e.offset) % 2 ^ 14 ≡ e.offset = omega (arith, h.sid, h.iuc, h.offset) in
+    rw (sid, iuc, offset) refl
+
+are-four : (a b c d : ℕ) → a < 256 → b < 256 → c < 256 → d < 256 → AreBytes (a ∷ b ∷ c ∷ d ∷ [])
+are-four a b c d ha hb hc hd zero = ha
+are-four a b c d ha hb hc hd (suc zero) = hb
+are-four a b c d ha hb hc hd (suc (suc zero)) = hc
+are-four a b c d ha hb hc hd (suc (suc (suc zero))) = hd
+are-four a b c d ha hb hc hd (suc (suc (suc (suc i)))) = omega arith
+
+-- four bytes are those of the number that they spell
+pub four-bytes : (a b c d : ℕ) → a < 256 → b < 256 → c < 256 → d < 256 →
+    to_be_bytes w32 (from_be_bytes w32 (a ∷ b ∷ c ∷ d ∷ [])) ≡ a ∷ b ∷ c ∷ d ∷ []
+four-bytes a b c d ha hb hc hd = be_bytes_4 (a ∷ b ∷ c ∷ d ∷ []) (from_be_bytes w32 (a ∷ b ∷ c ∷ d ∷ [])) refl (are-four a b c d ha hb hc hd) refl
+
+pub words-of-elements : (bytes : List ℕ) (count : ℕ) → AreBytes bytes → length bytes ≡ 4 * count →
+    words (elements_at bytes) ≡ bytes
+unfolding words elements_at
+words-of-elements [] count h long = refl
+words-of-elements (a ∷ []) count h long = absurd (omega arith)
+words-of-elements (a ∷ b ∷ []) count h long = absurd (omega arith)
+words-of-elements (a ∷ b ∷ c ∷ []) count h long = absurd (omega arith)
+words-of-elements (a ∷ b ∷ c ∷ d ∷ rest) zero h long = absurd (omega arith)
+words-of-elements (a ∷ b ∷ c ∷ d ∷ rest) (suc count) h long =
+    let later : AreBytes rest = λ i. h (suc (suc (suc (suc i)))) in
+    let more : words (elements_at rest) ≡ rest = words-of-elements rest count later (omega arith) in
+    ap (λ word. to_be_bytes w32 word ++ words (elements_at rest)) (word-of-element (from_be_bytes w32 (a ∷ b ∷ c ∷ d ∷ []))) ∙
+    ap (λ four. four ++ words (elements_at rest)) (four-bytes a b c d (h 0) (h 1) (h 2) (h 3)) ∙
+    ap (λ later. a ∷ b ∷ c ∷ d ∷ later) more
+
+pub length-elements : (bytes : List ℕ) (count : ℕ) → length bytes ≡ 4 * count → length (elements_at bytes) ≡ count
+unfolding elements_at
+length-elements [] count long = omega arith
+length-elements (a ∷ []) count long = absurd (omega arith)
+length-elements (a ∷ b ∷ []) count long = absurd (omega arith)
+length-elements (a ∷ b ∷ c ∷ []) count long = absurd (omega arith)
+length-elements (a ∷ b ∷ c ∷ d ∷ rest) zero long = absurd (omega arith)
+length-elements (a ∷ b ∷ c ∷ d ∷ rest) (suc count) long =
+    let more : length (elements_at rest) ≡ count = length-elements rest count (omega arith) in
+    omega arith
+
+pub elements-of-words : (es : List MapElement) → AllByRecursion IsMapElement es → elements_at (words es) ≡ es
+unfolding words elements_at
+elements-of-words [] h = refl
+elements-of-words (e ∷ es) h =
+    let more : elements_at (words es) ≡ es = elements-of-words es h.1 in
+    ap (λ word. element_of word ∷ elements_at (words es)) (from_be_bytes-to_be_bytes_4 (word_of e) (word-fits e h.0)) ∙
+    ap (λ d. d ∷ elements_at (words es)) (element-of-word e h.0) ∙
+    ap (λ later. e ∷ later) more
+
+pub length-words : (es : List MapElement) → length (words es) ≡ 4 * length es
+unfolding words
+length-words [] = refl
+length-words (e ∷ es) = let more : length (words es) ≡ 4 * length es = length-words es in omega arith

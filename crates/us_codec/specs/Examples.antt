@@ -1,0 +1,102 @@
+-- Small inputs, computed by the definitions alone.
+use Rattle.std.specs.Prelude.{◌≡◌, ℕ, List, [], ◌∷◌, ◌++◌, Ok, Err, refl}
+use Rattle.us_codec.specs.declared.faults.MapFault.TheVariants.{Short, LengthMismatch, Reserved, NoNull, Order, AfterNull, Backoff, FirstOffset}
+use Rattle.us_codec.specs.Elements.{MapElement, word_of, element_of, null_at}
+use Rattle.us_codec.specs.Bodies.{MapHead, MapBody, body_of, words, front, spelling}
+use Rattle.us_codec.specs.Faults.{null_of, before_null, after_null, rises, is_rising, all_pending, are_pending, starts_at_zero, order_fault, list_fault, build_fault, head_at, elements_at, read_fault, decoded, built}
+use Rattle.us_codec.specs.MapsFiles.{piece, maps_file, places}
+
+-- channel 1 at minislot 0, with ranging backoff 2 to 6 and data backoff 3 to 8
+abbrev base_head : MapHead
+base_head = record { channel = 1; ucd_count = 0; alloc_start = 0; ack = 0; backoffs = 2 ∷ 6 ∷ 3 ∷ 8 ∷ [] }
+
+-- a broadcast request from this minislot on
+abbrev request_from : ℕ → MapElement
+request_from offset = record { sid = 16383; iuc = 1; offset = offset }
+
+-- 150 and 10 minislots of broadcast request
+abbrev base : MapBody
+base = body_of base_head (request_from 0 ∷ request_from 150 ∷ []) 160 []
+
+-- its front, with this Number of Elements, Reserved and first backoff
+abbrev front_of : ℕ → ℕ → ℕ → List ℕ
+front_of count reserved backoff =
+    1 ∷ 0 ∷ count ∷ reserved ∷ 0 ∷ 0 ∷ 0 ∷ 0 ∷ 0 ∷ 0 ∷ 0 ∷ 0 ∷ backoff ∷ 6 ∷ 3 ∷ 8 ∷ []
+
+abbrev request_bytes : List ℕ
+request_bytes = 255 ∷ 252 ∷ 64 ∷ 0 ∷ []
+
+abbrev later_bytes : List ℕ
+later_bytes = 255 ∷ 252 ∷ 64 ∷ 150 ∷ []
+
+abbrev null_bytes : List ℕ
+null_bytes = 0 ∷ 1 ∷ 192 ∷ 160 ∷ []
+
+spelled : spelling base ≡ front_of 3 0 2 ++ request_bytes ++ later_bytes ++ null_bytes
+unfolding spelling front words word_of
+spelled = refl
+
+-- and read
+read : decoded (front_of 3 0 2 ++ request_bytes ++ later_bytes ++ null_bytes) ≡ Ok base
+unfolding decoded read_fault list_fault order_fault head_at elements_at element_of null_of before_null after_null is_rising rises are_pending all_pending starts_at_zero
+read = refl
+
+-- fifteen zero bytes
+short : decoded (0 ∷ 0 ∷ 0 ∷ 0 ∷ 0 ∷ 0 ∷ 0 ∷ 0 ∷ 0 ∷ 0 ∷ 0 ∷ 0 ∷ 0 ∷ 0 ∷ 0 ∷ []) ≡ Err Short
+unfolding decoded read_fault list_fault order_fault head_at elements_at element_of null_of before_null after_null is_rising rises are_pending all_pending starts_at_zero
+short = refl
+
+-- the last byte cut off
+one_byte_less : decoded (front_of 3 0 2 ++ request_bytes ++ later_bytes ++ 0 ∷ 1 ∷ 192 ∷ []) ≡ Err LengthMismatch
+unfolding decoded read_fault list_fault order_fault head_at elements_at element_of null_of before_null after_null is_rising rises are_pending all_pending starts_at_zero
+one_byte_less = refl
+
+-- Reserved 1
+reserved_one : decoded (front_of 3 1 2 ++ request_bytes ++ later_bytes ++ null_bytes) ≡ Err Reserved
+unfolding decoded read_fault list_fault order_fault head_at elements_at element_of null_of before_null after_null is_rising rises are_pending all_pending starts_at_zero
+reserved_one = refl
+
+-- an element of IUC 3 for the Null
+no_null : decoded (front_of 3 0 2 ++ request_bytes ++ later_bytes ++ 0 ∷ 0 ∷ 192 ∷ 160 ∷ []) ≡ Err NoNull
+unfolding decoded read_fault list_fault order_fault head_at elements_at element_of null_of before_null after_null is_rising rises are_pending all_pending starts_at_zero
+no_null = refl
+
+-- two elements at offset 0
+same_offset : decoded (front_of 3 0 2 ++ request_bytes ++ request_bytes ++ null_bytes) ≡ Err Order
+unfolding decoded read_fault list_fault order_fault head_at elements_at element_of null_of before_null after_null is_rising rises are_pending all_pending starts_at_zero
+same_offset = refl
+
+-- a pending at offset 159
+early_pending : decoded (front_of 4 0 2 ++ request_bytes ++ later_bytes ++ null_bytes ++ 0 ∷ 6 ∷ 128 ∷ 159 ∷ []) ≡ Err AfterNull
+unfolding decoded read_fault list_fault order_fault head_at elements_at element_of null_of before_null after_null is_rising rises are_pending all_pending starts_at_zero
+early_pending = refl
+
+-- a backoff of 16
+backoff_sixteen : decoded (front_of 3 0 16 ++ request_bytes ++ later_bytes ++ null_bytes) ≡ Err Backoff
+unfolding decoded read_fault list_fault order_fault head_at elements_at element_of null_of before_null after_null is_rising rises are_pending all_pending starts_at_zero
+backoff_sixteen = refl
+
+-- a first element at offset 1
+late_first : decoded (front_of 3 0 2 ++ (255 ∷ 252 ∷ 64 ∷ 1 ∷ []) ++ later_bytes ++ null_bytes) ≡ Err FirstOffset
+unfolding decoded read_fault list_fault order_fault head_at elements_at element_of null_of before_null after_null is_rising rises are_pending all_pending starts_at_zero
+late_first = refl
+
+-- building: the Null is put, and may not be among the elements
+null_put : built base_head (request_from 0 ∷ request_from 150 ∷ []) 160 [] ≡ Ok base
+unfolding built build_fault order_fault null_of before_null after_null is_rising rises are_pending all_pending starts_at_zero
+null_put = refl
+
+null_twice : built base_head (request_from 0 ∷ null_at 150 ∷ []) 160 [] ≡ Err NoNull
+unfolding built build_fault null_of
+null_twice = refl
+
+-- a record of round 1 with two bytes for its body
+two_bytes : maps_file (record { round = 1; body = 7 ∷ 8 ∷ [] } ∷ []) ≡ 0 ∷ 0 ∷ 0 ∷ 1 ∷ 0 ∷ 2 ∷ 7 ∷ 8 ∷ []
+unfolding maps_file piece
+two_bytes = refl
+
+-- the places of its body and of an empty one behind it
+two_places : places 0 (record { round = 1; body = 7 ∷ 8 ∷ [] } ∷ record { round = 2; body = [] } ∷ []) ≡
+    record { round = 1; from = 6; to = 8 } ∷ record { round = 2; from = 14; to = 14 } ∷ []
+unfolding places
+two_places = refl

@@ -1,0 +1,48 @@
+-- Maps files (ours): records, one after another, each the round, the length of a body and the body.
+use Rattle.std.specs.Prelude.{◌≡◌, ℕ, ◌+◌, ◌^◌, ◌<◌, List, [], ◌∷◌, ◌++◌, length, flat_map}
+use Rattle.std.specs.List.{AllByRecursion}
+use Rattle.std.specs.Int.{to_be_bytes, w16, w32}
+use Rattle.us_codec.specs.declared.maps_files.Record.{Record}
+
+-- a record, whatever its body spells
+pub record Piece : Type 0 where
+  pub round : ℕ
+  pub body : List ℕ
+
+pub record IsPiece (p : Piece) : Type 0 where
+  pub round : p.round < 2 ^ 32
+  pub body : length p.body < 2 ^ 16
+
+-- its bytes
+unfoldable pub piece : Piece → List ℕ
+piece p = to_be_bytes w32 p.round ++ to_be_bytes w16 (length p.body) ++ p.body
+
+-- the bytes of a maps file
+unfoldable pub maps_file : List Piece → List ℕ
+maps_file ps = flat_map piece ps
+
+-- where the bodies of pieces stand, the first of which begins at `at`
+unfoldable pub places : ℕ → List Piece → List Record
+places at [] = []
+places at (p ∷ ps) =
+    record { round = p.round; from = at + 6; to = at + 6 + length p.body } ∷ places (at + 6 + length p.body) ps
+
+-- the grammar: these bytes are a maps file, with bodies at these places
+pub record IsMapsFile (bytes : List ℕ) (records : List Record) : Type 0 where
+  pub pieces : List Piece
+  pub each : AllByRecursion IsPiece pieces
+  pub spelled : bytes ≡ maps_file pieces
+  pub placed : records ≡ places 0 pieces
+
+-- these bytes end inside a record: one begins behind whole ones, and isn't all there
+pub record EndsInside (bytes : List ℕ) : Type 0 where
+  pub pieces : List Piece
+  pub each : AllByRecursion IsPiece pieces
+  pub last : Piece
+  pub lawful : IsPiece last
+  pub begun : List ℕ
+  pub missing : List ℕ
+  pub cut : piece last ≡ begun ++ missing
+  pub some : 0 < length begun
+  pub not_all : 0 < length missing
+  pub spelled : bytes ≡ maps_file pieces ++ begun

@@ -1,0 +1,125 @@
+ghost use Rattle.std.specs.Prelude.{◌≡◌, ℕ, ◌≤◌, Bool, SomeIff};
+ghost use Rattle.us_codec.specs.Elements.{MapElement, IsMapElement, word_of, element_of, null_at};
+ghost use Rattle.us_codec.specs.Faults.{ends_list, is_pending};
+
+use std::marker::Model;
+use us_slots::Iuc;
+
+/// The greatest SID and the greatest offset: they have 14 bits (the standard's).
+const MAX_14_BITS: u16 = 0x3fff;
+
+/// The greatest IUC: it has 4 bits (the standard's).
+const MAX_4_BITS: u32 = 15;
+
+/// The bytes of an element (the standard's).
+pub const ELEMENT_BYTES: usize = 4;
+
+/// An element of a MAP: to whom minislots are assigned, what for, and from where on. It ends where the next begins.
+#[derive(Clone, Copy, Debug, PartialEq, Eq, Hash)]
+pub struct Element {
+    sid: u16,
+    iuc: Iuc,
+    offset: u16,
+}
+
+impl Model for Element {
+    ghost Value = { MapElement };
+
+    ghost view = { λ e. record { sid = e.sid; iuc = e.iuc; offset = e.offset } };
+
+    ghost invariant = { λ e. IsMapElement (record { sid = e.sid; iuc = e.iuc; offset = e.offset }) };
+
+    ghost inverse = { λ e. record { sid = e.sid; iuc = e.iuc; offset = e.offset } };
+}
+
+impl Element {
+    /// The element of a SID, an IUC and an offset in minislots, `None` where the SID or the offset is above 16,383.
+    pub fn new(sid: u16, iuc: Iuc, offset: u16) -> Option<Element>
+        ensures { let element : MapElement = record { sid = sid; iuc = iuc; offset = offset } in
+            SomeIff result (IsMapElement element) element }
+    {
+        // Every IUC is in range, and a reader of it says so.
+        let _ = iuc.number();
+        if sid <= MAX_14_BITS && offset <= MAX_14_BITS {
+            Some(Element { sid, iuc, offset })
+        } else {
+            None
+        }
+    }
+
+    /// The SID, 0 to 16,383.
+    pub fn sid(self) -> u16
+        ensures value { result ≡ self.sid }
+        ensures in_range { IsMapElement self }
+    {
+        self.sid
+    }
+
+    /// The IUC.
+    pub fn iuc(self) -> Iuc
+        ensures value { result ≡ self.iuc }
+        ensures in_range { IsMapElement self }
+    {
+        self.iuc
+    }
+
+    /// The offset from the MAP's start, in minislots, 0 to 16,383.
+    pub fn offset(self) -> u16
+        ensures value { result ≡ self.offset }
+        ensures in_range { IsMapElement self }
+    {
+        self.offset
+    }
+
+    /// The Null at the MAP's length `len`, at most 16,383.
+    pub(crate) fn null_at(len: u16) -> Element
+        requires { len ≤ MAX_14_BITS }
+        ensures { result ≡ null_at len }
+    {
+        Element {
+            sid: 0,
+            iuc: Iuc::null(),
+            offset: len,
+        }
+    }
+
+    /// Whether the IUC is that of the Null.
+    pub(crate) fn ends_list(self) -> bool
+        ensures { result ≡ ends_list self }
+    {
+        self.iuc == Iuc::null()
+    }
+
+    /// Whether it is pending after a Null at `len`.
+    pub(crate) fn is_pending(self, len: u16) -> bool
+        ensures { result ≡ is_pending len self }
+    {
+        !self.ends_list() && self.offset == len
+    }
+
+    /// The 32 bits: SID, IUC and offset, most significant first.
+    #[tactic(auto, unfolding(crate::specs::Elements::word_of))]
+    pub(crate) fn word(self) -> u32
+        ensures value { result ≡ word_of self }
+        ensures in_range { IsMapElement self }
+    {
+        (u32::from(self.sid) << 18) + (u32::from(self.iuc.number()) << 14) + u32::from(self.offset)
+    }
+
+    /// The element of 32 bits.
+    #[tactic(auto, unfolding(crate::specs::Elements::element_of))]
+    pub(crate) fn of_word(word: u32) -> Element
+        ensures value { result ≡ element_of word }
+        ensures in_range { IsMapElement result }
+    {
+        let code = (word >> 14) & MAX_4_BITS;
+        let Some(iuc) = Iuc::new(code as u8) else {
+            unreachable!()
+        };
+        Element {
+            sid: (word >> 18) as u16,
+            iuc,
+            offset: (word & u32::from(MAX_14_BITS)) as u16,
+        }
+    }
+}

@@ -1,0 +1,53 @@
+ghost use Rattle.std.specs.Prelude.{◌≡◌, ℕ, ◌+◌, ◌≤◌, ◌++◌, length, take, drop};
+ghost use Rattle.us_codec.specs.Bodies.{MapBody, IsMapBody, head_of, front, spelling};
+
+use crate::elements::ELEMENT_BYTES;
+use crate::heads::{HEAD_BYTES, Head};
+use crate::maps::{MAX_ELEMENTS, Map};
+
+/// The most bytes of a MAP body: 976 (ours, by its most elements).
+pub const MAX_BODY_BYTES: usize = HEAD_BYTES + ELEMENT_BYTES * MAX_ELEMENTS;
+
+/// Writes the one spelling of a MAP to the front of `out`, and answers its length in bytes. The rest of `out` stays.
+pub fn encode_into(map: &Map, out: &mut [u8; MAX_BODY_BYTES]) -> usize
+    ensures written { out.new ≡ spelling map.now ++ drop result out.old }
+    ensures length { result ≡ length (spelling map.now) }
+    ensures bound { result ≤ MAX_BODY_BYTES }
+    ensures grammar { IsMapBody map.now }
+
+    // The longest body, which is the buffer that this call asks for.
+    ensures limits { MAX_BODY_BYTES ≡ 976 }
+
+    // Two different MAPs have different spellings.
+    ensures one_spelling { (other : MapBody) → IsMapBody other →
+        spelling other ≡ spelling map.now → other ≡ map.now }
+{
+    let elements = map.elements();
+    put_front(out, map.head(), elements.len() as u8);
+    let mut at = HEAD_BYTES;
+    for element in elements {
+        put(out, at, &element.word().to_be_bytes());
+        at += ELEMENT_BYTES;
+    }
+    at
+}
+
+/// Puts the bytes of a head and of `count` elements to the front of `out`. Reserved is 0.
+#[tactic(auto, using(crate::proofs::PutLemmas::front_is))]
+fn put_front(out: &mut [u8], head: &Head, count: u8)
+    requires { HEAD_BYTES ≤ length out.old }
+    ensures { out.new ≡ front (head_of head.now) count ++ drop HEAD_BYTES out.old }
+{
+    put(out, 0, &[head.channel, head.ucd_count, count, 0]);
+    put(out, 4, &head.alloc_start.to_be_bytes());
+    put(out, 8, &head.ack.to_be_bytes());
+    put(out, 12, &head.backoffs);
+}
+
+/// Puts `bytes` into `out` from `at` on.
+fn put(out: &mut [u8], at: usize, bytes: &[u8])
+    requires { at + length bytes.now ≤ length out.old }
+    ensures { out.new ≡ take at out.old ++ bytes.now ++ drop (at + length bytes.now) out.old }
+{
+    out[at..at + bytes.len()].copy_from_slice(bytes);
+}
