@@ -5,20 +5,20 @@ use Rattle.std.proofs.lemmas.Bool.{cases_Bool}
 use Rattle.std.proofs.Math.Bool.{and-true, and_assoc}
 use Rattle.std.proofs.lemmas.List.Folds.{list_all-append}
 use Rattle.us_codec.specs.Elements.{MapElement, IsMapElement}
-use Rattle.us_codec.specs.Faults.{ends_list, null_of, before_null, after_null, is_pending, rises, is_rising, all_pending, are_pending}
+use Rattle.us_codec.specs.Faults.{ends_list, end_of, before_end, after_end, is_pending, rises, rises_to_end, are_pending_after, ends_in_pendings}
 use Rattle.us_codec.specs.Drafts.{is_above}
 use Rattle.us_codec.proofs.ListLemmas.{null-append, before-append, after-append}
 
-pub null-empty : (es : List MapElement) → es ≡ [] → null_of es ≡ None
-unfolding null_of
+pub null-empty : (es : List MapElement) → es ≡ [] → end_of es ≡ None
+unfolding end_of
 null-empty es e = rw e refl
 
-pub rising-empty : (es : List MapElement) → es ≡ [] → is_rising es ≡ true
-unfolding is_rising null_of before_null rises
+pub rising-empty : (es : List MapElement) → es ≡ [] → rises_to_end es ≡ true
+unfolding rises_to_end end_of before_end rises
 rising-empty es e = rw e refl
 
-pub pending-empty : (es : List MapElement) → es ≡ [] → are_pending es ≡ true
-unfolding are_pending null_of after_null all_pending
+pub pending-empty : (es : List MapElement) → es ≡ [] → ends_in_pendings es ≡ true
+unfolding ends_in_pendings end_of after_end are_pending_after
 pending-empty es e = rw e refl
 
 pub fields-empty : (es : List MapElement) → es ≡ [] → AllByRecursion IsMapElement es
@@ -42,16 +42,16 @@ rises-more (c ∷ d ∷ es) e =
     ap (λ last. rises (c ∷ d ∷ es) && is_above last e) same
 
 -- no element ends the list yet: all stand before the Null, and none after it
-before-open : (es : List MapElement) → null_of es ≡ None → before_null es ≡ es
-unfolding null_of before_null
+before-open : (es : List MapElement) → end_of es ≡ None → before_end es ≡ es
+unfolding end_of before_end
 before-open [] h = refl
 before-open (d ∷ es) h = elim (cases_Bool (ends_list d)) [
   | inl t ↦ let no : Some d ≡ None = rw t at h in cc
   | inr f ↦ rw f (ap (λ xs. d ∷ xs) (before-open es (rw f at h)))
 ]
 
-after-open : (es : List MapElement) → null_of es ≡ None → after_null es ≡ []
-unfolding null_of after_null
+after-open : (es : List MapElement) → end_of es ≡ None → after_end es ≡ []
+unfolding end_of after_end
 after-open [] h = refl
 after-open (d ∷ es) h = elim (cases_Bool (ends_list d)) [
   | inl t ↦ let no : Some d ≡ None = rw t at h in cc
@@ -59,70 +59,70 @@ after-open (d ∷ es) h = elim (cases_Bool (ends_list d)) [
 ]
 
 -- the first that ends the list is the last that came
-null-open : (es : List MapElement) (e : MapElement) → null_of es ≡ None →
-    null_of (es ++ e ∷ []) ≡ cond (ends_list e) (Some e) None
-unfolding null_of
+null-open : (es : List MapElement) (e : MapElement) → end_of es ≡ None →
+    end_of (es ++ e ∷ []) ≡ cond (ends_list e) (Some e) None
+unfolding end_of
 null-open [] e h = refl
 null-open (d ∷ es) e h = elim (cases_Bool (ends_list d)) [
   | inl t ↦ let no : Some d ≡ None = rw t at h in cc
   | inr f ↦ rw f (null-open es e (rw f at h))
 ]
 
-pub null-ends : (es : List MapElement) (e : MapElement) → null_of es ≡ None → ends_list e ≡ true →
-    null_of (es ++ e ∷ []) ≡ Some e
+pub null-ends : (es : List MapElement) (e : MapElement) → end_of es ≡ None → ends_list e ≡ true →
+    end_of (es ++ e ∷ []) ≡ Some e
 null-ends es e h t = null-open es e h ∙ ap (λ b. cond b (Some e) None) t
 
-pub null-goes-on : (es : List MapElement) (e : MapElement) → null_of es ≡ None → ends_list e ≡ false →
-    null_of (es ++ e ∷ []) ≡ None
+pub null-goes-on : (es : List MapElement) (e : MapElement) → end_of es ≡ None → ends_list e ≡ false →
+    end_of (es ++ e ∷ []) ≡ None
 null-goes-on es e h f = null-open es e h ∙ ap (λ b. cond b (Some e) None) f
 
-up_to-open : (es : List MapElement) (e : MapElement) → null_of es ≡ None →
-    (before_null (es ++ e ∷ []) ++ option_to_list (null_of (es ++ e ∷ []))) ≡ es ++ e ∷ []
-unfolding null_of before_null
+up_to-open : (es : List MapElement) (e : MapElement) → end_of es ≡ None →
+    (before_end (es ++ e ∷ []) ++ option_to_list (end_of (es ++ e ∷ []))) ≡ es ++ e ∷ []
+unfolding end_of before_end
 up_to-open [] e h = elim (cases_Bool (ends_list e)) [ inl t ↦ rw t refl | inr f ↦ rw f refl ]
 up_to-open (d ∷ es) e h = elim (cases_Bool (ends_list d)) [
   | inl t ↦ let no : Some d ≡ None = rw t at h in cc
   | inr f ↦ rw f (ap (λ xs. d ∷ xs) (up_to-open es e (rw f at h)))
 ]
 
-after-more-open : (es : List MapElement) (e : MapElement) → null_of es ≡ None → after_null (es ++ e ∷ []) ≡ []
-unfolding null_of after_null
+after-more-open : (es : List MapElement) (e : MapElement) → end_of es ≡ None → after_end (es ++ e ∷ []) ≡ []
+unfolding end_of after_end
 after-more-open [] e h = elim (cases_Bool (ends_list e)) [ inl t ↦ rw t refl | inr f ↦ rw f refl ]
 after-more-open (d ∷ es) e h = elim (cases_Bool (ends_list d)) [
   | inl t ↦ let no : Some d ≡ None = rw t at h in cc
   | inr f ↦ rw f (after-more-open es e (rw f at h))
 ]
 
-pub rising-open : (es : List MapElement) (e : MapElement) → null_of es ≡ None →
-    is_rising (es ++ e ∷ []) ≡ (is_rising es && is_above (slice_get es (length es - 1)) e)
-unfolding is_rising
+pub rising-open : (es : List MapElement) (e : MapElement) → end_of es ≡ None →
+    rises_to_end (es ++ e ∷ []) ≡ (rises_to_end es && is_above (slice_get es (length es - 1)) e)
+unfolding rises_to_end
 rising-open es e h =
-    let before : (before_null es ++ option_to_list (null_of es)) ≡ es = rw (h, before-open es h) (append-nil es) in
+    let before : (before_end es ++ option_to_list (end_of es)) ≡ es = rw (h, before-open es h) (append-nil es) in
     rw (before, up_to-open es e h) (rises-more es e)
 
-pub pending-open : (es : List MapElement) (e : MapElement) → null_of es ≡ None →
-    are_pending (es ++ e ∷ []) ≡ are_pending es
-unfolding are_pending all_pending
+pub pending-open : (es : List MapElement) (e : MapElement) → end_of es ≡ None →
+    ends_in_pendings (es ++ e ∷ []) ≡ ends_in_pendings es
+unfolding ends_in_pendings are_pending_after
 pending-open es e h = elim (cases_Bool (ends_list e)) [
   | inl t ↦ rw (h, null-open es e h, t, after-more-open es e h) refl
   | inr f ↦ rw (h, null-open es e h, f) refl
 ]
 
 -- an element ends the list: what comes is pending, or not
-pub null-closed : (es : List MapElement) (e null : MapElement) → null_of es ≡ Some null →
-    null_of (es ++ e ∷ []) ≡ Some null
+pub null-closed : (es : List MapElement) (e null : MapElement) → end_of es ≡ Some null →
+    end_of (es ++ e ∷ []) ≡ Some null
 null-closed es e null h = null-append es (e ∷ []) null h
 
-pub rising-closed : (es : List MapElement) (e null : MapElement) → null_of es ≡ Some null →
-    is_rising (es ++ e ∷ []) ≡ is_rising es
-unfolding is_rising
+pub rising-closed : (es : List MapElement) (e null : MapElement) → end_of es ≡ Some null →
+    rises_to_end (es ++ e ∷ []) ≡ rises_to_end es
+unfolding rises_to_end
 rising-closed es e null h = rw (h, null-closed es e null h, before-append es (e ∷ []) null h) refl
 
-pub pending-closed : (es : List MapElement) (e null : MapElement) → null_of es ≡ Some null →
-    are_pending (es ++ e ∷ []) ≡ (are_pending es && is_pending null.offset e)
-unfolding are_pending all_pending
+pub pending-closed : (es : List MapElement) (e null : MapElement) → end_of es ≡ Some null →
+    ends_in_pendings (es ++ e ∷ []) ≡ (ends_in_pendings es && is_pending null.offset e)
+unfolding ends_in_pendings are_pending_after
 pending-closed es e null h =
-    rw (h, null-closed es e null h, after-append es (e ∷ []) null h) (list_all-append (is_pending null.offset) (after_null es) (e ∷ []) ∙ ap (λ b. list_all (is_pending null.offset) (after_null es) && b) (and-true (is_pending null.offset e)))
+    rw (h, null-closed es e null h, after-append es (e ∷ []) null h) (list_all-append (is_pending null.offset) (after_end es) (e ∷ []) ∙ ap (λ b. list_all (is_pending null.offset) (after_end es) && b) (and-true (is_pending null.offset e)))
 
 pub fields-more : (es : List MapElement) (e : MapElement) → AllByRecursion IsMapElement es → IsMapElement e →
     AllByRecursion IsMapElement (es ++ e ∷ [])

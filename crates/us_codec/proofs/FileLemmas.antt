@@ -1,17 +1,18 @@
 -- Maps files: what bytes read as, front to back, and that no bytes read as two files.
-use Rattle.std.proofs.Common.{◌≡◌, ◌≢◌, ℕ, zero, suc, ◌+◌, ◌-◌, ◌^◌, ◌<◌, ◌≤◌, List, [], ◌∷◌, ◌++◌, length, take, drop, get_or, slice_index, replicate, append_assoc, append-nil, true, false, eqb, Result, Ok, Err, IfOk, IfErr, Vec, Global, refl, ap, sym, ◌∙◌, inl, inr, arith}
+use Rattle.std.proofs.Common.{◌≡◌, ◌≢◌, ℕ, zero, suc, ◌+◌, ◌-◌, ◌^◌, ◌<◌, ◌≤◌, List, [], ◌∷◌, ◌++◌, length, map, take, drop, slice_range, get_or, slice_index, replicate, append_assoc, append-nil, true, false, eqb, Result, Ok, Err, IfOk, IfErr, Vec, Global, refl, ap, sym, ◌∙◌, inl, inr, arith}
 use Rattle.std.specs.List.{All, AllByRecursion}
 use Rattle.std.specs.Int.{to_be_bytes, from_be_bytes, w16, w32}
 use Rattle.std.proofs.lemmas.Nat.{be_bytes_2, from_be_bytes-to_be_bytes_2, from_be_bytes-to_be_bytes_4}
 use Rattle.std.proofs.lemmas.List.{length-append, length-replicate, length-drop, drop_all, length-take, length-take-le, drop_at, take-append-drop, take_at, get_or-append-add, get_or_append_left}
 use Rattle.std.proofs.lemmas.List.Elements.{All-nil, All-cons}
-use Rattle.std.proofs.lemmas.Bool.{cases_lt, eq-eqb}
+use Rattle.std.proofs.Math.Seq.{drop-append-add}
+use Rattle.std.proofs.lemmas.Bool.{cases_lt, eq-eqb, eqb-true}
 use Rattle.std.proofs.lemmas.Grind.{flat_map-append}
 use Rattle.us_codec.specs.declared.faults.MapFault.{MapFault}
 use Rattle.us_codec.specs.declared.faults.MapFault.TheVariants.{NoMemory, RecordCut}
-use Rattle.us_codec.specs.Answers.{GivesList}
+use Rattle.us_codec.specs.Answers.{ListUnlessNoMemory}
 use Rattle.us_codec.specs.declared.maps_files.Record.{Record}
-use Rattle.us_codec.specs.MapsFiles.{Piece, IsPiece, piece, maps_file, places, IsMapsFile, EndsInside}
+use Rattle.us_codec.specs.MapsFiles.{Piece, IsPiece, record_bytes, maps_file, places, piece_at, IsMapsFile, EndsInside}
 use Rattle.us_codec.proofs.WordLemmas.{AreBytes, four-bytes}
 
 -- the length that the first six bytes state
@@ -47,8 +48,8 @@ drop-six a b c d e f later n =
 
 -- bytes begin with the record that they state, if they are long enough
 piece-found : (bytes : List ℕ) → AreBytes bytes → 6 + stated bytes ≤ length bytes →
-    bytes ≡ piece (first_piece bytes) ++ drop (6 + stated bytes) bytes
-unfolding piece
+    bytes ≡ record_bytes (first_piece bytes) ++ drop (6 + stated bytes) bytes
+unfolding record_bytes
 piece-found [] are long = absurd (omega arith)
 piece-found (a ∷ []) are long = absurd (omega arith)
 piece-found (a ∷ b ∷ []) are long = absurd (omega arith)
@@ -76,53 +77,58 @@ first-is-piece bytes are long =
       body = omega (arith, short, length-take (stated bytes) (drop 6 bytes));
     }
 
-length-piece : (p : Piece) → length (piece p) ≡ 6 + length p.body
-unfolding piece
+length-piece : (p : Piece) → length (record_bytes p) ≡ 6 + length p.body
+unfolding record_bytes
 length-piece p = omega arith
 
+-- behind its first six bytes stands its body
+body-behind : (p : Piece) (later : List ℕ) → drop 6 (record_bytes p ++ later) ≡ p.body ++ later
+unfolding record_bytes
+body-behind p later = refl
+
 -- and what a record begins is that record
-stated-again : (p : Piece) (later : List ℕ) → IsPiece p → stated (piece p ++ later) ≡ length p.body
-unfolding piece
+stated-again : (p : Piece) (later : List ℕ) → IsPiece p → stated (record_bytes p ++ later) ≡ length p.body
+unfolding record_bytes
 stated-again p later h = from_be_bytes-to_be_bytes_2 (length p.body) h.body
 
-piece-again : (p : Piece) (later : List ℕ) → IsPiece p → first_piece (piece p ++ later) ≡ p
-unfolding piece
+piece-again : (p : Piece) (later : List ℕ) → IsPiece p → first_piece (record_bytes p ++ later) ≡ p
+unfolding record_bytes
 piece-again p later h =
-    let n : stated (piece p ++ later) ≡ length p.body = stated-again p later h in
-    ap (λ round. record { round = round; body = take (stated (piece p ++ later)) (p.body ++ later) }) (from_be_bytes-to_be_bytes_4 p.round h.round) ∙
-    ap (λ body. record { round = p.round; body = body }) (take_at p.body later (stated (piece p ++ later)) (sym n))
+    let n : stated (record_bytes p ++ later) ≡ length p.body = stated-again p later h in
+    ap (λ round. record { round = round; body = take (stated (record_bytes p ++ later)) (p.body ++ later) }) (from_be_bytes-to_be_bytes_4 p.round h.round) ∙
+    ap (λ body. record { round = p.round; body = body }) (take_at p.body later (stated (record_bytes p ++ later)) (sym n))
 
 -- what stands behind it
 later-again : (p : Piece) (later : List ℕ) → IsPiece p →
-    drop (6 + stated (piece p ++ later)) (piece p ++ later) ≡ later
+    drop (6 + stated (record_bytes p ++ later)) (record_bytes p ++ later) ≡ later
 later-again p later h =
-    let long : length (piece p) ≡ 6 + length p.body = length-piece p in
-    drop_at (piece p) later (6 + stated (piece p ++ later)) (omega (arith, long, stated-again p later h))
+    let long : length (record_bytes p) ≡ 6 + length p.body = length-piece p in
+    drop_at (record_bytes p) later (6 + stated (record_bytes p ++ later)) (omega (arith, long, stated-again p later h))
 
 -- no record is whole: none begins, or one does and isn't all there
 abbrev IsPartial : List ℕ → Type 0
 IsPartial rest = length rest < 6 + stated rest
 
-whole-isn't-partial : (p : Piece) (later : List ℕ) → IsPiece p → IsPartial (piece p ++ later) → ⊥
+whole-isn't-partial : (p : Piece) (later : List ℕ) → IsPiece p → IsPartial (record_bytes p ++ later) → ⊥
 whole-isn't-partial p later h partial =
-    let long : length (piece p ++ later) ≡ length (piece p) + length later = length-append (piece p) later in
+    let long : length (record_bytes p ++ later) ≡ length (record_bytes p) + length later = length-append (record_bytes p) later in
     omega (arith, long, length-piece p, stated-again p later h)
 
 -- a cut record
-cut-partial : (last : Piece) (begun missing : List ℕ) → IsPiece last → piece last ≡ begun ++ missing → 0 < length missing →
+cut-partial : (last : Piece) (begun missing : List ℕ) → IsPiece last → record_bytes last ≡ begun ++ missing → 0 < length missing →
     IsPartial begun
 cut-partial last begun missing lawful cut some = elim (cases_lt (length begun) 6) [
   | inl short ↦ omega arith
   | inr long ↦
-      let high : slice_index begun 4 ≡ slice_index (piece last) 4 =
+      let high : slice_index begun 4 ≡ slice_index (record_bytes last) 4 =
       sym (get_or_append_left begun missing 0 4 (omega arith)) ∙ ap (λ bytes. slice_index bytes 4) (sym cut) in
-      let low : slice_index begun 5 ≡ slice_index (piece last) 5 =
+      let low : slice_index begun 5 ≡ slice_index (record_bytes last) 5 =
       sym (get_or_append_left begun missing 0 5 (omega arith)) ∙ ap (λ bytes. slice_index bytes 5) (sym cut) in
-      let same : stated begun ≡ stated (piece last) =
-      ap (λ a. from_be_bytes w16 (a ∷ slice_index begun 5 ∷ [])) high ∙ ap (λ b. from_be_bytes w16 (slice_index (piece last) 4 ∷ b ∷ [])) low in
-      let is : stated (piece last) ≡ length last.body =
-      ap (λ bytes. stated bytes) (sym (append-nil (piece last))) ∙ stated-again last [] lawful in
-      let whole : length (piece last) ≡ length begun + length missing =
+      let same : stated begun ≡ stated (record_bytes last) =
+      ap (λ a. from_be_bytes w16 (a ∷ slice_index begun 5 ∷ [])) high ∙ ap (λ b. from_be_bytes w16 (slice_index (record_bytes last) 4 ∷ b ∷ [])) low in
+      let is : stated (record_bytes last) ≡ length last.body =
+      ap (λ bytes. stated bytes) (sym (append-nil (record_bytes last))) ∙ stated-again last [] lawful in
+      let whole : length (record_bytes last) ≡ length begun + length missing =
       ap (λ bytes. length bytes) cut ∙ length-append begun missing in
       omega (arith, whole, same, is, length-piece last, some)
 ]
@@ -133,16 +139,16 @@ one-reading : (ps qs : List Piece) (r s : List ℕ) → AllByRecursion IsPiece p
 unfolding maps_file
 one-reading [] [] r s hp hq hr hs e = (refl, e)
 one-reading [] (q ∷ qs) r s hp hq hr hs e =
-    let is : r ≡ piece q ++ (maps_file qs ++ s) = e ∙ append_assoc (piece q) (maps_file qs) s in
-    let partial : IsPartial (piece q ++ (maps_file qs ++ s)) = rw is at hr in
+    let is : r ≡ record_bytes q ++ (maps_file qs ++ s) = e ∙ append_assoc (record_bytes q) (maps_file qs) s in
+    let partial : IsPartial (record_bytes q ++ (maps_file qs ++ s)) = rw is at hr in
     absurd (whole-isn't-partial q (maps_file qs ++ s) hq.0 partial)
 one-reading (p ∷ ps) [] r s hp hq hr hs e =
-    let is : s ≡ piece p ++ (maps_file ps ++ r) = sym e ∙ append_assoc (piece p) (maps_file ps) r in
-    let partial : IsPartial (piece p ++ (maps_file ps ++ r)) = rw is at hs in
+    let is : s ≡ record_bytes p ++ (maps_file ps ++ r) = sym e ∙ append_assoc (record_bytes p) (maps_file ps) r in
+    let partial : IsPartial (record_bytes p ++ (maps_file ps ++ r)) = rw is at hs in
     absurd (whole-isn't-partial p (maps_file ps ++ r) hp.0 partial)
 one-reading (p ∷ ps) (q ∷ qs) r s hp hq hr hs e =
-    let start : piece p ++ (maps_file ps ++ r) ≡ piece q ++ (maps_file qs ++ s) =
-    sym (append_assoc (piece p) (maps_file ps) r) ∙ e ∙ append_assoc (piece q) (maps_file qs) s in
+    let start : record_bytes p ++ (maps_file ps ++ r) ≡ record_bytes q ++ (maps_file qs ++ s) =
+    sym (append_assoc (record_bytes p) (maps_file ps) r) ∙ e ∙ append_assoc (record_bytes q) (maps_file qs) s in
     let same : p ≡ q = sym (piece-again p (maps_file ps ++ r) hp.0) ∙ ap (λ bytes. first_piece bytes) start ∙ piece-again q (maps_file qs ++ s) hq.0 in
     let later : maps_file ps ++ r ≡ maps_file qs ++ s =
     sym (later-again p (maps_file ps ++ r) hp.0) ∙ ap (λ bytes. drop (6 + stated bytes) bytes) start ∙ later-again q (maps_file qs ++ s) hq.0 in
@@ -171,9 +177,9 @@ read-start bytes records none = record {
   long = omega arith;
 }
 
-file-more : (ps : List Piece) (p : Piece) → maps_file (ps ++ p ∷ []) ≡ maps_file ps ++ piece p
+file-more : (ps : List Piece) (p : Piece) → maps_file (ps ++ p ∷ []) ≡ maps_file ps ++ record_bytes p
 unfolding maps_file
-file-more ps p = flat_map-append piece ps (p ∷ []) ∙ ap (λ later. maps_file ps ++ later) (append-nil (piece p))
+file-more ps p = flat_map-append record_bytes ps (p ∷ []) ∙ ap (λ later. maps_file ps ++ later) (append-nil (record_bytes p))
 
 each-more : (ps : List Piece) (p : Piece) → AllByRecursion IsPiece ps → IsPiece p → AllByRecursion IsPiece (ps ++ p ∷ [])
 each-more [] p h k = (k, tt)
@@ -191,8 +197,8 @@ places-more at [] p =
 places-more at (q ∷ qs) p =
     let next : ℕ = at + 6 + length q.body in
     let more : places next (qs ++ p ∷ []) ≡ places next qs ++ place-of (next + length (maps_file qs)) p ∷ [] = places-more next qs p in
-    let whole : length (piece q ++ maps_file qs) ≡ length (piece q) + length (maps_file qs) = length-append (piece q) (maps_file qs) in
-    let there : next + length (maps_file qs) ≡ at + length (piece q ++ maps_file qs) = omega (arith, whole, length-piece q) in
+    let whole : length (record_bytes q ++ maps_file qs) ≡ length (record_bytes q) + length (maps_file qs) = length-append (record_bytes q) (maps_file qs) in
+    let there : next + length (maps_file qs) ≡ at + length (record_bytes q ++ maps_file qs) = omega (arith, whole, length-piece q) in
     ap (λ later. place-of at q ∷ later) more ∙ ap (λ n. place-of at q ∷ (places next qs ++ place-of n p ∷ [])) there
 
 -- the rest of bytes are bytes
@@ -214,19 +220,19 @@ unfolding place-of
 read-step bytes rest after at round from to records are r long is is-round is-from is-to =
     let p : Piece = first_piece rest in
     let rest-bytes : AreBytes rest = rest-are bytes (maps_file r.pieces) rest are r.whole in
-    let begins : rest ≡ piece p ++ after = piece-found rest rest-bytes long ∙ ap (λ later. piece p ++ later) (sym is) in
-    let parts : length rest ≡ length (piece p) + length after = ap (λ bs. length bs) begins ∙ length-append (piece p) after in
+    let begins : rest ≡ record_bytes p ++ after = piece-found rest rest-bytes long ∙ ap (λ later. record_bytes p ++ later) (sym is) in
+    let parts : length rest ≡ length (record_bytes p) + length after = ap (λ bs. length bs) begins ∙ length-append (record_bytes p) after in
     let six : length (drop 6 rest) ≡ length rest - 6 = length-drop 6 rest in
     let body : length p.body ≡ stated rest = length-take-le (stated rest) (drop 6 rest) (omega arith) in
     let whole : bytes ≡ maps_file (r.pieces ++ p ∷ []) ++ after =
-    r.whole ∙ ap (λ later. maps_file r.pieces ++ later) begins ∙ sym (append_assoc (maps_file r.pieces) (piece p) after) ∙
+    r.whole ∙ ap (λ later. maps_file r.pieces ++ later) begins ∙ sym (append_assoc (maps_file r.pieces) (record_bytes p) after) ∙
     ap (λ done. done ++ after) (sym (file-more r.pieces p)) in
     let at-0 : 0 + length (maps_file r.pieces) ≡ at = omega (arith, r.place) in
     let record-is : place-of (0 + length (maps_file r.pieces)) p ≡ record { round = round; from = from; to = to } =
     one-record (round_at rest) (0 + length (maps_file r.pieces) + 6) (0 + length (maps_file r.pieces) + 6 + length p.body) round from to
     (sym is-round) (omega (arith, at-0, is-from)) (omega (arith, at-0, body, is-from, is-to)) in
-    let done : length (maps_file (r.pieces ++ p ∷ [])) ≡ length (maps_file r.pieces) + length (piece p) =
-    ap (λ file. length file) (file-more r.pieces p) ∙ length-append (maps_file r.pieces) (piece p) in
+    let done : length (maps_file (r.pieces ++ p ∷ [])) ≡ length (maps_file r.pieces) + length (record_bytes p) =
+    ap (λ file. length file) (file-more r.pieces p) ∙ length-append (maps_file r.pieces) (record_bytes p) in
     record {
       pieces = r.pieces ++ p ∷ [];
       each = each-more r.pieces p r.each (first-is-piece rest rest-bytes long);
@@ -249,7 +255,7 @@ record Cut (rest : List ℕ) : Type 0 where
   last : Piece
   lawful : IsPiece last
   missing : List ℕ
-  cut : piece last ≡ rest ++ missing
+  cut : record_bytes last ≡ rest ++ missing
   not_all : 0 < length missing
 
 cut-found : (rest : List ℕ) → AreBytes rest → length rest < 6 + stated rest → Cut rest
@@ -261,23 +267,52 @@ cut-found rest are short =
     ap (λ a. from_be_bytes w16 (a ∷ slice_index padded 5 ∷ [])) (zeros-after rest n 4) ∙ ap (λ b. from_be_bytes w16 (slice_index rest 4 ∷ b ∷ [])) (zeros-after rest n 5) in
     let long : length padded ≡ length rest + n = length-append rest (replicate n 0) ∙ ap (λ k. length rest + k) (length-replicate n 0) in
     let nothing : drop (6 + stated padded) padded ≡ [] = drop_all (6 + stated padded) padded (omega (arith, long, same)) in
-    let found : padded ≡ piece (first_piece padded) ++ drop (6 + stated padded) padded = piece-found padded padded-are (omega (arith, long, same)) in
+    let found : padded ≡ record_bytes (first_piece padded) ++ drop (6 + stated padded) padded = piece-found padded padded-are (omega (arith, long, same)) in
     record {
       last = first_piece padded;
       lawful = first-is-piece padded padded-are (omega (arith, long, same));
       missing = replicate n 0;
-      cut = sym (found ∙ ap (λ later. piece (first_piece padded) ++ later) nothing ∙ append-nil (piece (first_piece padded)));
+      cut = sym (found ∙ ap (λ later. record_bytes (first_piece padded) ++ later) nothing ∙ append-nil (record_bytes (first_piece padded)));
       not_all = omega (arith, length-replicate {A = ℕ} n 0);
     }
 
+-- what stands at the places of records is what they have
+placed-found : (bytes front : List ℕ) (at : ℕ) (ps : List Piece) → at ≡ length front → bytes ≡ front ++ maps_file ps →
+    map (piece_at bytes) (places at ps) ≡ ps
+unfolding places maps_file
+placed-found bytes front at [] here is = refl
+placed-found bytes front at (p ∷ ps) here is =
+    let next : ℕ = at + 6 + length p.body in
+    let later : List ℕ = maps_file ps in
+    let joined : bytes ≡ (front ++ record_bytes p) ++ later = is ∙ sym (append_assoc front (record_bytes p) later) in
+    let there : next ≡ length (front ++ record_bytes p) = omega (arith, here, length-append front (record_bytes p), length-piece p) in
+    let begins : drop (at + 6) bytes ≡ p.body ++ later =
+    ap (λ n. drop (n + 6) bytes) here ∙ ap (λ bs. drop (length front + 6) bs) is ∙
+    drop-append-add front (record_bytes p ++ later) 6 ∙ body-behind p later in
+    let long : next - (at + 6) ≡ length p.body = omega arith in
+    let body : slice_range bytes (at + 6) next ≡ p.body =
+    ap (λ n. take n (drop (at + 6) bytes)) long ∙ ap (λ bs. take (length p.body) bs) begins ∙ take_at p.body later (length p.body) refl in
+    ap (λ b. record { round = p.round; body = b } ∷ map (piece_at bytes) (places next ps)) body ∙
+    ap (λ qs. p ∷ qs) (placed-found bytes (front ++ record_bytes p) next ps there joined)
+
+whole-of : (bytes rest : List ℕ) (at : ℕ) (records : List Record) (r : Read bytes rest at records) → rest ≡ [] →
+    bytes ≡ maps_file r.pieces
+whole-of bytes rest at records r is =
+    r.whole ∙ ap (λ later. maps_file r.pieces ++ later) is ∙ append-nil (maps_file r.pieces)
+
+empty-from : (xs : List ℕ) → true ≡ eqb (length xs) 0 → xs ≡ []
+empty-from [] h = refl
+empty-from (x ∷ xs) h = absurd (omega (arith, eqb-true (length (x ∷ xs)) 0 (sym h)))
+
 -- the file was read to its end
-pub whole-found : (bytes rest : List ℕ) (at : ℕ) (records : List Record) → Read bytes rest at records → rest ≡ [] →
-    IsMapsFile bytes records
-whole-found bytes rest at records r is = record {
+pub whole-found : (bytes rest : List ℕ) (at : ℕ) (records : List Record) → Read bytes rest at records →
+    true ≡ eqb (length rest) 0 → IsMapsFile bytes records
+whole-found bytes rest at records r ended = let is : rest ≡ [] = empty-from rest ended in record {
   pieces = r.pieces;
   each = r.each;
-  spelled = r.whole ∙ ap (λ later. maps_file r.pieces ++ later) is ∙ append-nil (maps_file r.pieces);
+  spelled = whole-of bytes rest at records r is;
   placed = r.are;
+  found = ap (λ records. map (piece_at bytes) records) r.are ∙ placed-found bytes [] 0 r.pieces refl (whole-of bytes rest at records r is);
 }
 
 positive : (n : ℕ) → false ≡ eqb n 0 → 0 < n
@@ -304,7 +339,7 @@ inside-found bytes rest at records are r empty short =
       spelled = r.whole;
     }
 
-pub ruleset reading = (read-start, read-step, whole-found)
+pub ruleset reading = (read-start, read-step)
 
 -- a whole file doesn't end inside a record
 not-both : (bytes : List ℕ) (pieces : List Piece) → AllByRecursion IsPiece pieces → bytes ≡ maps_file pieces → EndsInside bytes → ⊥
@@ -317,7 +352,7 @@ not-both bytes pieces each whole inside =
 
 pub only-is : (r : Result (Vec Record Global) MapFault) (bytes : List ℕ) (pieces : List Piece) →
     IfOk r (λ v. IsMapsFile bytes v.items) → IfErr r (λ fault. fault ≢ NoMemory → EndsInside bytes) →
-    AllByRecursion IsPiece pieces → bytes ≡ maps_file pieces → GivesList r (Ok (places 0 pieces))
+    AllByRecursion IsPiece pieces → bytes ≡ maps_file pieces → ListUnlessNoMemory r (Ok (places 0 pieces))
 only-is (Ok v) bytes pieces found inside each whole =
     let same : (pieces ≡ found.pieces) × ([] ≡ []) =
     one-reading pieces found.pieces [] [] each found.each (omega arith) (omega arith)
@@ -327,7 +362,7 @@ only-is (Err e) bytes pieces found inside each whole = λ known. absurd (not-bot
 
 pub cut-is : (r : Result (Vec Record Global) MapFault) (bytes : List ℕ) →
     IfOk r (λ v. IsMapsFile bytes v.items) → IfErr r (λ fault. fault ≢ NoMemory → fault ≡ RecordCut) →
-    EndsInside bytes → GivesList r (Err RecordCut)
+    EndsInside bytes → ListUnlessNoMemory r (Err RecordCut)
 cut-is (Ok v) bytes found fault inside = absurd (not-both bytes found.pieces found.each found.spelled inside)
 cut-is (Err e) bytes found fault inside = λ known. ap (λ f. Err f) (sym (fault known))
 
@@ -340,7 +375,7 @@ unfolding places maps_file
 places-within at total [] h = All-nil (Within total)
 places-within at total (p ∷ ps) h =
     let next : ℕ = at + 6 + length p.body in
-    let whole : length (piece p ++ maps_file ps) ≡ length (piece p) + length (maps_file ps) = length-append (piece p) (maps_file ps) in
+    let whole : length (record_bytes p ++ maps_file ps) ≡ length (record_bytes p) + length (maps_file ps) = length-append (record_bytes p) (maps_file ps) in
     All-cons (Within total) (record { round = p.round; from = at + 6; to = next }) (places next ps)
     (omega arith, omega (arith, whole, length-piece p, h))
     (places-within next total ps (omega (arith, whole, length-piece p, h)))

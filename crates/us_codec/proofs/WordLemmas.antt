@@ -1,10 +1,10 @@
--- Elements and their words: each gives the other.
+-- Elements and their element_bytes: each gives the other.
 use Rattle.std.proofs.Common.{◌≡◌, ℕ, zero, suc, ◌+◌, ◌*◌, ◌/◌, ◌%◌, ◌^◌, ◌<◌, List, [], ◌∷◌, ◌++◌, length, get_or, refl, ap, ◌∙◌, arith}
 use Rattle.std.specs.List.{AllByRecursion}
 use Rattle.std.specs.Int.{to_be_bytes, from_be_bytes, w32}
 use Rattle.std.proofs.lemmas.Nat.{be_bytes_4, from_be_bytes-to_be_bytes_4}
 use Rattle.us_codec.specs.Elements.{MapElement, IsMapElement, word_of, element_of}
-use Rattle.us_codec.specs.Bodies.{words}
+use Rattle.us_codec.specs.Bodies.{element_bytes}
 use Rattle.us_codec.specs.Faults.{elements_at}
 
 abbrev pub AreBytes : List ℕ → Type 0
@@ -39,8 +39,8 @@ pub four-bytes : (a b c d : ℕ) → a < 256 → b < 256 → c < 256 → d < 256
 four-bytes a b c d ha hb hc hd = be_bytes_4 (a ∷ b ∷ c ∷ d ∷ []) (from_be_bytes w32 (a ∷ b ∷ c ∷ d ∷ [])) refl (are-four a b c d ha hb hc hd) refl
 
 pub words-of-elements : (bytes : List ℕ) (count : ℕ) → AreBytes bytes → length bytes ≡ 4 * count →
-    words (elements_at bytes) ≡ bytes
-unfolding words elements_at
+    element_bytes (elements_at bytes) ≡ bytes
+unfolding element_bytes elements_at
 words-of-elements [] count h long = refl
 words-of-elements (a ∷ []) count h long = absurd (omega arith)
 words-of-elements (a ∷ b ∷ []) count h long = absurd (omega arith)
@@ -48,9 +48,9 @@ words-of-elements (a ∷ b ∷ c ∷ []) count h long = absurd (omega arith)
 words-of-elements (a ∷ b ∷ c ∷ d ∷ rest) zero h long = absurd (omega arith)
 words-of-elements (a ∷ b ∷ c ∷ d ∷ rest) (suc count) h long =
     let later : AreBytes rest = λ i. h (suc (suc (suc (suc i)))) in
-    let more : words (elements_at rest) ≡ rest = words-of-elements rest count later (omega arith) in
-    ap (λ word. to_be_bytes w32 word ++ words (elements_at rest)) (word-of-element (from_be_bytes w32 (a ∷ b ∷ c ∷ d ∷ []))) ∙
-    ap (λ four. four ++ words (elements_at rest)) (four-bytes a b c d (h 0) (h 1) (h 2) (h 3)) ∙
+    let more : element_bytes (elements_at rest) ≡ rest = words-of-elements rest count later (omega arith) in
+    ap (λ word. to_be_bytes w32 word ++ element_bytes (elements_at rest)) (word-of-element (from_be_bytes w32 (a ∷ b ∷ c ∷ d ∷ []))) ∙
+    ap (λ four. four ++ element_bytes (elements_at rest)) (four-bytes a b c d (h 0) (h 1) (h 2) (h 3)) ∙
     ap (λ later. a ∷ b ∷ c ∷ d ∷ later) more
 
 pub length-elements : (bytes : List ℕ) (count : ℕ) → length bytes ≡ 4 * count → length (elements_at bytes) ≡ count
@@ -64,16 +64,16 @@ length-elements (a ∷ b ∷ c ∷ d ∷ rest) (suc count) long =
     let more : length (elements_at rest) ≡ count = length-elements rest count (omega arith) in
     omega arith
 
-pub elements-of-words : (es : List MapElement) → AllByRecursion IsMapElement es → elements_at (words es) ≡ es
-unfolding words elements_at
-elements-of-words [] h = refl
-elements-of-words (e ∷ es) h =
-    let more : elements_at (words es) ≡ es = elements-of-words es h.1 in
-    ap (λ word. element_of word ∷ elements_at (words es)) (from_be_bytes-to_be_bytes_4 (word_of e) (word-fits e h.0)) ∙
-    ap (λ d. d ∷ elements_at (words es)) (element-of-word e h.0) ∙
+pub elements-of-element_bytes : (es : List MapElement) → AllByRecursion IsMapElement es → elements_at (element_bytes es) ≡ es
+unfolding element_bytes elements_at
+elements-of-element_bytes [] h = refl
+elements-of-element_bytes (e ∷ es) h =
+    let more : elements_at (element_bytes es) ≡ es = elements-of-element_bytes es h.1 in
+    ap (λ word. element_of word ∷ elements_at (element_bytes es)) (from_be_bytes-to_be_bytes_4 (word_of e) (word-fits e h.0)) ∙
+    ap (λ d. d ∷ elements_at (element_bytes es)) (element-of-word e h.0) ∙
     ap (λ later. e ∷ later) more
 
-pub length-words : (es : List MapElement) → length (words es) ≡ 4 * length es
-unfolding words
-length-words [] = refl
-length-words (e ∷ es) = let more : length (words es) ≡ 4 * length es = length-words es in omega arith
+pub length-element_bytes : (es : List MapElement) → length (element_bytes es) ≡ 4 * length es
+unfolding element_bytes
+length-element_bytes [] = refl
+length-element_bytes (e ∷ es) = let more : length (element_bytes es) ≡ 4 * length es = length-element_bytes es in omega arith

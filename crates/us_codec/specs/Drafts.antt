@@ -1,4 +1,4 @@
--- What a reader of elements, one by one, asks of the next one.
+-- What a draft, which takes elements one by one, asks of the next one.
 use Rattle.std.specs.Prelude.{Bool, true, nat_lt, Option, Some, None}
 use Rattle.us_codec.specs.Elements.{MapElement}
 

@@ -2,12 +2,13 @@
 use Rattle.std.specs.Prelude.{◌≡◌, ℕ, List, [], ◌∷◌, ◌++◌, Ok, Err, refl}
 use Rattle.us_codec.specs.declared.faults.MapFault.TheVariants.{Short, LengthMismatch, Reserved, NoNull, Order, AfterNull, Backoff, FirstOffset}
 use Rattle.us_codec.specs.Elements.{MapElement, word_of, element_of, null_at}
-use Rattle.us_codec.specs.Bodies.{MapHead, MapBody, body_of, words, front, spelling}
-use Rattle.us_codec.specs.Faults.{null_of, before_null, after_null, rises, is_rising, all_pending, are_pending, starts_at_zero, order_fault, list_fault, build_fault, head_at, elements_at, read_fault, decoded, built}
-use Rattle.us_codec.specs.MapsFiles.{piece, maps_file, places}
+use Rattle.us_codec.specs.declared.heads.Head.{Head}
+use Rattle.us_codec.specs.Bodies.{MapBody, body_of, element_bytes, front, spelling}
+use Rattle.us_codec.specs.Faults.{front_fault, end_of, before_end, after_end, rises, rises_to_end, are_pending_after, ends_in_pendings, starts_at_zero, parts_fault, list_fault, build_fault, head_at, elements_at, read_fault, decode_answer, build_answer}
+use Rattle.us_codec.specs.MapsFiles.{record_bytes, maps_file, places}
 
 -- channel 1 at minislot 0, with ranging backoff 2 to 6 and data backoff 3 to 8
-abbrev base_head : MapHead
+abbrev base_head : Head
 base_head = record { channel = 1; ucd_count = 0; alloc_start = 0; ack = 0; backoffs = 2 ∷ 6 ∷ 3 ∷ 8 ∷ [] }
 
 -- a broadcast request from this minislot on
@@ -33,66 +34,66 @@ abbrev null_bytes : List ℕ
 null_bytes = 0 ∷ 1 ∷ 192 ∷ 160 ∷ []
 
 spelled : spelling base ≡ front_of 3 0 2 ++ request_bytes ++ later_bytes ++ null_bytes
-unfolding spelling front words word_of
+unfolding spelling front element_bytes word_of
 spelled = refl
 
 -- and read
-read : decoded (front_of 3 0 2 ++ request_bytes ++ later_bytes ++ null_bytes) ≡ Ok base
-unfolding decoded read_fault list_fault order_fault head_at elements_at element_of null_of before_null after_null is_rising rises are_pending all_pending starts_at_zero
+read : decode_answer (front_of 3 0 2 ++ request_bytes ++ later_bytes ++ null_bytes) ≡ Ok base
+unfolding decode_answer read_fault front_fault list_fault parts_fault head_at elements_at element_of end_of before_end after_end rises_to_end rises ends_in_pendings are_pending_after starts_at_zero
 read = refl
 
 -- fifteen zero bytes
-short : decoded (0 ∷ 0 ∷ 0 ∷ 0 ∷ 0 ∷ 0 ∷ 0 ∷ 0 ∷ 0 ∷ 0 ∷ 0 ∷ 0 ∷ 0 ∷ 0 ∷ 0 ∷ []) ≡ Err Short
-unfolding decoded read_fault list_fault order_fault head_at elements_at element_of null_of before_null after_null is_rising rises are_pending all_pending starts_at_zero
+short : decode_answer (0 ∷ 0 ∷ 0 ∷ 0 ∷ 0 ∷ 0 ∷ 0 ∷ 0 ∷ 0 ∷ 0 ∷ 0 ∷ 0 ∷ 0 ∷ 0 ∷ 0 ∷ []) ≡ Err Short
+unfolding decode_answer read_fault front_fault list_fault parts_fault head_at elements_at element_of end_of before_end after_end rises_to_end rises ends_in_pendings are_pending_after starts_at_zero
 short = refl
 
 -- the last byte cut off
-one_byte_less : decoded (front_of 3 0 2 ++ request_bytes ++ later_bytes ++ 0 ∷ 1 ∷ 192 ∷ []) ≡ Err LengthMismatch
-unfolding decoded read_fault list_fault order_fault head_at elements_at element_of null_of before_null after_null is_rising rises are_pending all_pending starts_at_zero
+one_byte_less : decode_answer (front_of 3 0 2 ++ request_bytes ++ later_bytes ++ 0 ∷ 1 ∷ 192 ∷ []) ≡ Err LengthMismatch
+unfolding decode_answer read_fault front_fault list_fault parts_fault head_at elements_at element_of end_of before_end after_end rises_to_end rises ends_in_pendings are_pending_after starts_at_zero
 one_byte_less = refl
 
 -- Reserved 1
-reserved_one : decoded (front_of 3 1 2 ++ request_bytes ++ later_bytes ++ null_bytes) ≡ Err Reserved
-unfolding decoded read_fault list_fault order_fault head_at elements_at element_of null_of before_null after_null is_rising rises are_pending all_pending starts_at_zero
+reserved_one : decode_answer (front_of 3 1 2 ++ request_bytes ++ later_bytes ++ null_bytes) ≡ Err Reserved
+unfolding decode_answer read_fault front_fault list_fault parts_fault head_at elements_at element_of end_of before_end after_end rises_to_end rises ends_in_pendings are_pending_after starts_at_zero
 reserved_one = refl
 
 -- an element of IUC 3 for the Null
-no_null : decoded (front_of 3 0 2 ++ request_bytes ++ later_bytes ++ 0 ∷ 0 ∷ 192 ∷ 160 ∷ []) ≡ Err NoNull
-unfolding decoded read_fault list_fault order_fault head_at elements_at element_of null_of before_null after_null is_rising rises are_pending all_pending starts_at_zero
+no_null : decode_answer (front_of 3 0 2 ++ request_bytes ++ later_bytes ++ 0 ∷ 0 ∷ 192 ∷ 160 ∷ []) ≡ Err NoNull
+unfolding decode_answer read_fault front_fault list_fault parts_fault head_at elements_at element_of end_of before_end after_end rises_to_end rises ends_in_pendings are_pending_after starts_at_zero
 no_null = refl
 
 -- two elements at offset 0
-same_offset : decoded (front_of 3 0 2 ++ request_bytes ++ request_bytes ++ null_bytes) ≡ Err Order
-unfolding decoded read_fault list_fault order_fault head_at elements_at element_of null_of before_null after_null is_rising rises are_pending all_pending starts_at_zero
+same_offset : decode_answer (front_of 3 0 2 ++ request_bytes ++ request_bytes ++ null_bytes) ≡ Err Order
+unfolding decode_answer read_fault front_fault list_fault parts_fault head_at elements_at element_of end_of before_end after_end rises_to_end rises ends_in_pendings are_pending_after starts_at_zero
 same_offset = refl
 
 -- a pending at offset 159
-early_pending : decoded (front_of 4 0 2 ++ request_bytes ++ later_bytes ++ null_bytes ++ 0 ∷ 6 ∷ 128 ∷ 159 ∷ []) ≡ Err AfterNull
-unfolding decoded read_fault list_fault order_fault head_at elements_at element_of null_of before_null after_null is_rising rises are_pending all_pending starts_at_zero
+early_pending : decode_answer (front_of 4 0 2 ++ request_bytes ++ later_bytes ++ null_bytes ++ 0 ∷ 6 ∷ 128 ∷ 159 ∷ []) ≡ Err AfterNull
+unfolding decode_answer read_fault front_fault list_fault parts_fault head_at elements_at element_of end_of before_end after_end rises_to_end rises ends_in_pendings are_pending_after starts_at_zero
 early_pending = refl
 
 -- a backoff of 16
-backoff_sixteen : decoded (front_of 3 0 16 ++ request_bytes ++ later_bytes ++ null_bytes) ≡ Err Backoff
-unfolding decoded read_fault list_fault order_fault head_at elements_at element_of null_of before_null after_null is_rising rises are_pending all_pending starts_at_zero
+backoff_sixteen : decode_answer (front_of 3 0 16 ++ request_bytes ++ later_bytes ++ null_bytes) ≡ Err Backoff
+unfolding decode_answer read_fault front_fault list_fault parts_fault head_at elements_at element_of end_of before_end after_end rises_to_end rises ends_in_pendings are_pending_after starts_at_zero
 backoff_sixteen = refl
 
 -- a first element at offset 1
-late_first : decoded (front_of 3 0 2 ++ (255 ∷ 252 ∷ 64 ∷ 1 ∷ []) ++ later_bytes ++ null_bytes) ≡ Err FirstOffset
-unfolding decoded read_fault list_fault order_fault head_at elements_at element_of null_of before_null after_null is_rising rises are_pending all_pending starts_at_zero
+late_first : decode_answer (front_of 3 0 2 ++ (255 ∷ 252 ∷ 64 ∷ 1 ∷ []) ++ later_bytes ++ null_bytes) ≡ Err FirstOffset
+unfolding decode_answer read_fault front_fault list_fault parts_fault head_at elements_at element_of end_of before_end after_end rises_to_end rises ends_in_pendings are_pending_after starts_at_zero
 late_first = refl
 
 -- building: the Null is put, and may not be among the elements
-null_put : built base_head (request_from 0 ∷ request_from 150 ∷ []) 160 [] ≡ Ok base
-unfolding built build_fault order_fault null_of before_null after_null is_rising rises are_pending all_pending starts_at_zero
+null_put : build_answer base_head (request_from 0 ∷ request_from 150 ∷ []) 160 [] ≡ Ok base
+unfolding build_answer build_fault parts_fault end_of before_end after_end rises_to_end rises ends_in_pendings are_pending_after starts_at_zero
 null_put = refl
 
-null_twice : built base_head (request_from 0 ∷ null_at 150 ∷ []) 160 [] ≡ Err NoNull
-unfolding built build_fault null_of
+null_twice : build_answer base_head (request_from 0 ∷ null_at 150 ∷ []) 160 [] ≡ Err NoNull
+unfolding build_answer build_fault end_of
 null_twice = refl
 
 -- a record of round 1 with two bytes for its body
 two_bytes : maps_file (record { round = 1; body = 7 ∷ 8 ∷ [] } ∷ []) ≡ 0 ∷ 0 ∷ 0 ∷ 1 ∷ 0 ∷ 2 ∷ 7 ∷ 8 ∷ []
-unfolding maps_file piece
+unfolding maps_file record_bytes
 two_bytes = refl
 
 -- the places of its body and of an empty one behind it

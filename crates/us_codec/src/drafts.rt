@@ -1,14 +1,12 @@
-ghost use Rattle.std.specs.Prelude.{◌≡◌, List, [], ◌∷◌, ◌++◌, ◌-◌, ◌≤◌, length, slice_get, OnOk, OnErr, IfOk};
+ghost use Rattle.std.specs.Prelude.{◌≡◌, List, [], ◌∷◌, ◌++◌, ◌-◌, length, slice_get, OnOk, IfOk};
 ghost use Rattle.std.specs.List.{AllByRecursion};
 ghost use Rattle.us_codec.specs.Elements.{MapElement, IsMapElement};
-ghost use Rattle.us_codec.specs.Bodies.{MapBody, IsMapBody, head_of};
-ghost use Rattle.us_codec.specs.Faults.{null_of, is_rising, are_pending, starts_at_zero, list_fault, unless_fault};
+ghost use Rattle.us_codec.specs.Faults.{end_of, rises_to_end, ends_in_pendings, starts_at_zero, list_fault};
 ghost use Rattle.us_codec.specs.Drafts.{is_above};
 
 use crate::elements::Element;
 use crate::faults::MapFault;
 use crate::heads::Head;
-use crate::maps::{MAX_ELEMENTS, Map};
 use std::alloc::{AllocError, Global};
 use std::marker::Model;
 
@@ -16,11 +14,11 @@ use std::marker::Model;
 #[derive(Debug, Drop)]
 pub struct Draft {
     elements: Vec<Element>,
-    /// The first element that ends the list.
-    null: Option<Element>,
+    /// The first element of IUC 7, which ends the list.
+    end: Option<Element>,
     /// Whether offsets have risen strictly, up to that element.
     rising: bool,
-    /// Whether all that came after it are pending.
+    /// Whether all behind it may stand there.
     pending: bool,
 }
 
@@ -30,9 +28,9 @@ impl Model for Draft {
     ghost view = { λ d. d.elements.items };
 
     ghost invariant = { λ d.
-        (d.null ≡ null_of d.elements.items) ×
-        (d.rising ≡ is_rising d.elements.items) ×
-        (d.pending ≡ are_pending d.elements.items) ×
+        (d.end ≡ end_of d.elements.items) ×
+        (d.rising ≡ rises_to_end d.elements.items) ×
+        (d.pending ≡ ends_in_pendings d.elements.items) ×
         AllByRecursion IsMapElement d.elements.items };
 }
 
@@ -44,20 +42,82 @@ impl Draft {
     {
         Ok(Draft {
             elements: Vec::with_capacity(alloc, count)?,
-            null: None,
+            end: None,
             rising: true,
             pending: true,
         })
     }
 
-    /// The first element that ends the list.
-    pub fn null(&self) -> Option<Element>
-        ensures { result ≡ null_of self.now }
+    /// Takes the next element.
+    #[tactic(auto, using(crate::proofs::DraftLemmas::more))]
+    pub fn push(&mut self, element: Element) -> Result<(), AllocError>
+        ensures { OnOk result (self.new ≡ self.old ++ element ∷ []) }
     {
-        self.null
+        let rises = self.rises_to(element);
+        self.elements.push(element)?;
+        match self.end {
+            Some(end) => {
+                self.pending &= element.is_pending(end.offset());
+            }
+            None => {
+                self.rising &= rises;
+                if element.ends_list() {
+                    self.end = Some(element);
+                }
+            }
+        }
+        Ok(())
     }
 
-    /// Whether the offset of `element` is above that of the last one so far.
+    /// Takes these elements, one behind another.
+    pub fn extend(&mut self, elements: &[Element]) -> Result<(), AllocError>
+        ensures { OnOk result (self.new ≡ self.old ++ elements.now) }
+    {
+        for element in elements {
+            self.push(*element)?;
+        }
+        Ok(())
+    }
+
+    /// The element that ends the list, where there is one: the Null, or one of IUC 7 with another SID.
+    pub fn end(&self) -> Option<Element>
+        ensures { result ≡ end_of self.now }
+    {
+        self.end
+    }
+
+    /// The first fault of a body of this head and these elements, `Ok` where it has none.
+    #[tactic(auto, unfolding(crate::specs::Faults::list_fault, crate::specs::Faults::parts_fault))]
+    pub fn fault(&self, head: &Head) -> Result<(), MapFault>
+        ensures { result ≡ list_fault head.now self.now }
+    {
+        if !self.end.is_some_and(|end| end.sid() == 0) {
+            return Err(MapFault::NoNull);
+        }
+        if !self.rising {
+            return Err(MapFault::Order);
+        }
+        if !self.pending {
+            return Err(MapFault::AfterNull);
+        }
+        if !head.has_lawful_backoffs() {
+            return Err(MapFault::Backoff);
+        }
+        if !self.starts_at_zero() {
+            return Err(MapFault::FirstOffset);
+        }
+        Ok(())
+    }
+
+    /// The elements.
+    pub fn into_elements(self) -> Vec<Element>
+        ensures items { result.items ≡ self }
+        ensures fields { AllByRecursion IsMapElement self }
+    {
+        self.elements
+    }
+
+    /// Whether the offset of `element` is above that of the last one so far, or there is none.
     #[tactic(auto, unfolding(crate::specs::Drafts::is_above))]
     fn rises_to(&self, element: Element) -> bool
         ensures { result ≡ is_above (slice_get self.now (length self.now - 1)) element }
@@ -68,61 +128,7 @@ impl Draft {
         }
     }
 
-    /// Takes the next element.
-    #[tactic(auto, using(crate::proofs::DraftLemmas::more))]
-    pub fn push(&mut self, element: Element) -> Result<(), AllocError>
-        ensures ok { OnOk result (self.new ≡ self.old ++ element ∷ []) }
-    {
-        let rises = self.rises_to(element);
-        self.elements.push(element)?;
-        match self.null {
-            Some(null) => {
-                self.pending &= element.is_pending(null.offset());
-            }
-            None => {
-                self.rising &= rises;
-                if element.ends_list() {
-                    self.null = Some(element);
-                }
-            }
-        }
-        Ok(())
-    }
-
-    /// Takes these elements, one after another.
-    pub fn extend(&mut self, elements: &[Element]) -> Result<(), AllocError>
-        ensures ok { OnOk result (self.new ≡ self.old ++ elements.now) }
-    {
-        for element in elements {
-            self.push(*element)?;
-        }
-        Ok(())
-    }
-
-    /// The first fault of these elements below a head, `Ok` where there is none.
-    #[tactic(auto, unfolding(crate::specs::Faults::list_fault, crate::specs::Faults::order_fault))]
-    fn fault(&self, head: &Head) -> Result<(), MapFault>
-        ensures { result ≡ list_fault (head_of head.now) self.now }
-    {
-        if !self.null.is_some_and(|null| null.sid() == 0) {
-            return Err(MapFault::NoNull);
-        }
-        if !self.rising {
-            return Err(MapFault::Order);
-        }
-        if !self.pending {
-            return Err(MapFault::AfterNull);
-        }
-        if !head.has_small_backoffs() {
-            return Err(MapFault::Backoff);
-        }
-        if !self.starts_at_zero() {
-            return Err(MapFault::FirstOffset);
-        }
-        Ok(())
-    }
-
-    /// Whether the first offset, if there is one, is 0.
+    /// Whether the first offset is 0, or there is none.
     #[tactic(auto, unfolding(crate::specs::Faults::starts_at_zero))]
     fn starts_at_zero(&self) -> bool
         ensures { result ≡ starts_at_zero self.now }
@@ -131,17 +137,5 @@ impl Draft {
             Some(first) => first.offset() == 0,
             None => true,
         }
-    }
-
-    /// The MAP of a head and these elements, at most 240, or their first fault.
-    #[tactic(auto, using(crate::proofs::ListLemmas::lawful))]
-    pub fn finish(self, head: Head) -> Result<Map, MapFault>
-        requires { length self ≤ MAX_ELEMENTS }
-        ensures exact { let body : MapBody = record { head = head_of head; elements = self } in
-            result ≡ unless_fault (list_fault (head_of head) self) body }
-        ensures grammar { IfOk result (λ map. IsMapBody map) }
-    {
-        self.fault(&head)?;
-        Ok(Map::of_lawful(head, self.elements))
     }
 }

@@ -1,20 +1,30 @@
-ghost use Rattle.std.specs.Prelude.{◌≡◌, ℕ, ◌≤◌, Bool, SomeIff};
+ghost use Rattle.std.specs.Prelude.{◌≡◌, ◌≤◌, SomeIff};
 ghost use Rattle.us_codec.specs.Elements.{MapElement, IsMapElement, word_of, element_of, null_at};
 ghost use Rattle.us_codec.specs.Faults.{ends_list, is_pending};
 
 use std::marker::Model;
 use us_slots::Iuc;
 
-/// The greatest SID and the greatest offset: they have 14 bits (the standard's).
-const MAX_14_BITS: u16 = 0x3fff;
-
-/// The greatest IUC: it has 4 bits (the standard's).
-const MAX_4_BITS: u32 = 15;
-
 /// The bytes of an element (the standard's).
 pub const ELEMENT_BYTES: usize = 4;
 
-/// An element of a MAP: to whom minislots are assigned, what for, and from where on. It ends where the next begins.
+/// The greatest SID: it has 14 bits (the standard's).
+const MAX_SID: u16 = 0x3fff;
+
+/// The greatest offset: it has 14 bits (the standard's).
+pub const MAX_OFFSET: u16 = 0x3fff;
+
+/// The greatest IUC: it has 4 bits (the standard's).
+const MAX_IUC: u32 = 0xf;
+
+/// The place of the SID in an element's 32 bits, from the lowest (the standard's).
+const SID_SHIFT: u32 = 18;
+
+/// The place of the IUC in them (the standard's).
+const IUC_SHIFT: u32 = 14;
+
+/// An information element of a MAP: to whom minislots are assigned, what for, and from where on. It ends where the next
+/// one begins.
 #[derive(Clone, Copy, Debug, PartialEq, Eq, Hash)]
 pub struct Element {
     sid: u16,
@@ -38,9 +48,9 @@ impl Element {
         ensures { let element : MapElement = record { sid = sid; iuc = iuc; offset = offset } in
             SomeIff result (IsMapElement element) element }
     {
-        // Every IUC is in range, and a reader of it says so.
+        // Called for its clause `in_range` alone.
         let _ = iuc.number();
-        if sid <= MAX_14_BITS && offset <= MAX_14_BITS {
+        if sid <= MAX_SID && offset <= MAX_OFFSET {
             Some(Element { sid, iuc, offset })
         } else {
             None
@@ -73,7 +83,7 @@ impl Element {
 
     /// The Null at the MAP's length `len`, at most 16,383.
     pub(crate) fn null_at(len: u16) -> Element
-        requires { len ≤ MAX_14_BITS }
+        requires { len ≤ MAX_OFFSET }
         ensures { result ≡ null_at len }
     {
         Element {
@@ -90,7 +100,7 @@ impl Element {
         self.iuc == Iuc::null()
     }
 
-    /// Whether it is pending after a Null at `len`.
+    /// Whether it may stand behind a Null at `len`.
     pub(crate) fn is_pending(self, len: u16) -> bool
         ensures { result ≡ is_pending len self }
     {
@@ -100,26 +110,24 @@ impl Element {
     /// The 32 bits: SID, IUC and offset, most significant first.
     #[tactic(auto, unfolding(crate::specs::Elements::word_of))]
     pub(crate) fn word(self) -> u32
-        ensures value { result ≡ word_of self }
-        ensures in_range { IsMapElement self }
+        ensures { result ≡ word_of self }
     {
-        (u32::from(self.sid) << 18) + (u32::from(self.iuc.number()) << 14) + u32::from(self.offset)
+        let iuc = u32::from(self.iuc.number());
+        (u32::from(self.sid) << SID_SHIFT) + (iuc << IUC_SHIFT) + u32::from(self.offset)
     }
 
     /// The element of 32 bits.
     #[tactic(auto, unfolding(crate::specs::Elements::element_of))]
     pub(crate) fn of_word(word: u32) -> Element
-        ensures value { result ≡ element_of word }
-        ensures in_range { IsMapElement result }
+        ensures { result ≡ element_of word }
     {
-        let code = (word >> 14) & MAX_4_BITS;
-        let Some(iuc) = Iuc::new(code as u8) else {
+        let Some(iuc) = Iuc::new(((word >> IUC_SHIFT) & MAX_IUC) as u8) else {
             unreachable!()
         };
         Element {
-            sid: (word >> 18) as u16,
+            sid: (word >> SID_SHIFT) as u16,
             iuc,
-            offset: (word & u32::from(MAX_14_BITS)) as u16,
+            offset: (word & u32::from(MAX_OFFSET)) as u16,
         }
     }
 }

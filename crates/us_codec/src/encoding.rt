@@ -1,5 +1,5 @@
-ghost use Rattle.std.specs.Prelude.{◌≡◌, ℕ, ◌+◌, ◌≤◌, ◌++◌, length, take, drop};
-ghost use Rattle.us_codec.specs.Bodies.{MapBody, IsMapBody, head_of, front, spelling};
+ghost use Rattle.std.specs.Prelude.{◌≡◌, ◌+◌, ◌*◌, ◌≤◌, ◌++◌, length, take, drop};
+ghost use Rattle.us_codec.specs.Bodies.{MapBody, IsMapBody, front, spelling};
 
 use crate::elements::ELEMENT_BYTES;
 use crate::heads::{HEAD_BYTES, Head};
@@ -12,6 +12,7 @@ pub const MAX_BODY_BYTES: usize = HEAD_BYTES + ELEMENT_BYTES * MAX_ELEMENTS;
 pub fn encode_into(map: &Map, out: &mut [u8; MAX_BODY_BYTES]) -> usize
     ensures written { out.new ≡ spelling map.now ++ drop result out.old }
     ensures length { result ≡ length (spelling map.now) }
+    ensures size { result ≡ HEAD_BYTES + ELEMENT_BYTES * length map.now.elements }
     ensures bound { result ≤ MAX_BODY_BYTES }
     ensures grammar { IsMapBody map.now }
 
@@ -32,11 +33,10 @@ pub fn encode_into(map: &Map, out: &mut [u8; MAX_BODY_BYTES]) -> usize
     at
 }
 
-/// Puts the bytes of a head and of `count` elements to the front of `out`. Reserved is 0.
-#[tactic(auto, using(crate::proofs::PutLemmas::front_is))]
+/// Puts the sixteen bytes before `count` elements to the front of `out`. Reserved is 0.
 fn put_front(out: &mut [u8], head: &Head, count: u8)
     requires { HEAD_BYTES ≤ length out.old }
-    ensures { out.new ≡ front (head_of head.now) count ++ drop HEAD_BYTES out.old }
+    ensures { out.new ≡ front head.now count ++ drop HEAD_BYTES out.old }
 {
     put(out, 0, &[head.channel, head.ucd_count, count, 0]);
     put(out, 4, &head.alloc_start.to_be_bytes());

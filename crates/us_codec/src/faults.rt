@@ -1,8 +1,8 @@
 use std::alloc::{AllocError, AllocFailed};
 use thiserror::Error;
 
-/// Why bytes spell no MAP body, why parts make none, or why a file isn't one of records. Of several, the first in this
-/// order is answered.
+/// Why bytes are no MAP body, why parts make none, or why bytes are no maps file. Of several, the first in this order is
+/// answered; but memory may be wanting before a later check is made.
 #[derive(Clone, Copy, Debug, PartialEq, Eq, Hash, Error)]
 pub enum MapFault {
     /// M1: under 16 bytes.
@@ -17,19 +17,19 @@ pub enum MapFault {
     /// M4: over 240 elements, with the Null and the pendings.
     #[error("M4: over 240 elements")]
     TooManyElements,
-    /// M5: read, no element has IUC 7, or the first that has it has another SID than 0; built, an element has IUC 7.
+    /// M5: read, no element has IUC 7, or the first that has it has another SID than 0; build_answer, an element has IUC 7.
     #[error("M5: no Null, or one out of place")]
     NoNull,
     /// M6: the offsets up to the Null's don't rise strictly.
     #[error("M6: offsets do not rise up to the Null")]
     Order,
-    /// M7: an element after the Null has IUC 7 or another offset than the Null's.
-    #[error("M7: an element after the Null is no pending")]
+    /// M7: an element behind the Null has IUC 7 or another offset than the Null's.
+    #[error("M7: an element after the Null has its IUC or another offset")]
     AfterNull,
     /// M8: a backoff is over 15.
     #[error("M8: a backoff is over 15")]
     Backoff,
-    /// M9: the first element's offset isn't 0.
+    /// M9: the first offset isn't 0, be it the Null's.
     #[error("M9: the first offset is not 0")]
     FirstOffset,
     /// M10: want of memory.

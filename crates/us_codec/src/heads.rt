@@ -1,15 +1,15 @@
 ghost use Rattle.std.specs.Prelude.{◌≡◌, ◌≤◌, length};
 ghost use Rattle.std.specs.List.{list_all};
-ghost use Rattle.us_codec.specs.Bodies.{head_of};
 ghost use Rattle.us_codec.specs.Faults.{is_backoff, head_at};
 
 /// The bytes before the elements (the standard's).
 pub const HEAD_BYTES: usize = 16;
 
-/// The greatest backoff, as a power of two (the standard's).
+/// The greatest backoff, as an exponent of 2 (the standard's).
 const MAX_BACKOFF: u8 = 15;
 
-/// What stands before the elements of a MAP body (the standard's).
+/// What stands before the elements of a MAP body (the standard's), but for the Number of Elements and Reserved, which
+/// follow of the elements.
 #[derive(Clone, Copy, Debug, PartialEq, Eq, Hash)]
 pub struct Head {
     /// Upstream Channel ID.
@@ -20,16 +20,16 @@ pub struct Head {
     pub alloc_start: u32,
     /// Ack Time, in minislots.
     pub ack: u32,
-    /// Ranging Backoff Start and End, Data Backoff Start and End, as powers of two. A MAP has none above 15.
+    /// Ranging Backoff Start and End, Data Backoff Start and End, as exponents of 2. No MAP has one above 15.
     pub backoffs: [u8; 4],
 }
 
 impl Head {
-    /// The head that the first sixteen bytes of a body spell. What counts the elements, and Reserved, aren't in it.
+    /// The head that the first sixteen bytes of a body spell.
     #[tactic(auto, unfolding(crate::specs::Faults::head_at))]
     pub(crate) fn of_bytes(body: &[u8]) -> Head
         requires { HEAD_BYTES ≤ length body.now }
-        ensures { head_of result ≡ head_at body.now }
+        ensures { result ≡ head_at body.now }
     {
         Head {
             channel: body[0],
@@ -41,7 +41,7 @@ impl Head {
     }
 
     /// Whether no backoff is above 15.
-    pub(crate) fn has_small_backoffs(&self) -> bool
+    pub(crate) fn has_lawful_backoffs(&self) -> bool
         ensures { result ≡ list_all is_backoff self.now.backoffs }
     {
         self.backoffs.iter().all(|backoff| *backoff <= MAX_BACKOFF)

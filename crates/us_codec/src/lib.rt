@@ -1,24 +1,24 @@
 //! The bodies of version 1 MAPs, read from any bytes and written exactly, and the records of maps files.
 //!
 //! ```
-//! let element = Element::new(0x123, Iuc::long_data_grant(), 0)?; // a long data grant for SID 291, from minislot 0 on
-//! let map = Map::new(alloc, head, &[element], 160, &[])?; // the MAP of 160 minislots: its Null is put
+//! let grant = Element::new(291, Iuc::long_data_grant(), 0).ok_or("out of range")?; // from minislot 0 on
+//! let map = Map::new(alloc, head, &[grant], 160, &[])?; // the Null is put at 160, the length of the MAP
 //! let mut out = [0; MAX_BODY_BYTES];
 //! let length = encode_into(&map, &mut out);
-//! let same = decode(alloc, &out[..length])?; // the same map
+//! let same = decode(alloc, &out[..length])?;
 //! ```
 //!
 //! Whoever holds a [`Map`] holds a lawful body. What is lawful stands in `specs/`, in the order of its `Lib.antt`.
 #![tactic(auto)]
 
-// Every refusal of this crate, in order.
-mod faults;
+// To whom minislots are assigned, what for, and from where on.
+mod elements;
 
 // What stands before the elements of a body.
 mod heads;
 
-// To whom minislots are assigned, and for what.
-mod elements;
+// Every refusal of this crate, in order.
+mod faults;
 
 // Elements as they come, judged one by one.
 mod drafts;
@@ -26,11 +26,11 @@ mod drafts;
 // Bodies that keep the grammar.
 mod maps;
 
-// From bytes.
-mod decoding;
-
-// To bytes.
+// From a body to bytes.
 mod encoding;
+
+// From bytes to a body.
+mod decoding;
 
 // Files of bodies.
 mod maps_files;

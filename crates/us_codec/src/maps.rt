@@ -1,23 +1,25 @@
-ghost use Rattle.std.specs.Prelude.{◌≡◌, ◌++◌, ◌∷◌, ◌≤◌, Ok, IfOk};
-ghost use Rattle.us_codec.specs.Bodies.{MapBody, IsMapBody, head_of, body_of};
-ghost use Rattle.us_codec.specs.Faults.{built};
-ghost use Rattle.us_codec.specs.Answers.{Gives};
+ghost use Rattle.std.specs.Prelude.{◌≡◌, ◌+◌, ◌<◌, ◌≤◌, length, Ok, Err, IfOk};
+ghost use Rattle.us_codec.specs.declared.faults.MapFault.TheVariants.{TooManyElements};
+ghost use Rattle.us_codec.specs.Bodies.{MapBody, IsMapBody, body_of};
+ghost use Rattle.us_codec.specs.Faults.{list_fault, answer_unless, build_answer};
+ghost use Rattle.us_codec.specs.Answers.{UnlessNoMemory};
 
 use crate::drafts::Draft;
-use crate::elements::Element;
+use crate::elements::{Element, MAX_OFFSET};
 use crate::faults::MapFault;
 use crate::heads::Head;
 use std::alloc::Global;
 use std::marker::Model;
 
-/// The most elements of a MAP, with the Null and the pendings (ours; the standard's count has a byte).
+/// The most elements of a MAP, with the Null and the pendings (ours: the standard's count has a byte).
 pub const MAX_ELEMENTS: usize = 240;
 
-/// The greatest length of a MAP, in minislots: the Null's offset has 14 bits (the standard's).
-pub const MAX_LEN: u16 = 0x3fff;
+/// The greatest length of a MAP, in minislots: that of an offset, since the Null stands there (the standard's).
+pub const MAX_LEN: u16 = MAX_OFFSET;
 
-/// The body of a MAP, which keeps the grammar: at most [`MAX_ELEMENTS`] elements, the first at offset 0; those before
-/// the Null at offsets that rise strictly; the Null at the MAP's length; and the pendings at the same offset (ours).
+/// The body of a MAP, which keeps the grammar: at most [`MAX_ELEMENTS`] elements, the first at offset 0; those before the
+/// Null at offsets that rise strictly, up to its own; the Null, at the MAP's length; and the pendings at the same
+/// offset. No other element has the Null's IUC.
 #[derive(Debug, Drop)]
 pub struct Map {
     head: Head,
@@ -27,22 +29,15 @@ pub struct Map {
 impl Model for Map {
     ghost Value = { MapBody };
 
-    ghost view = { λ m. record { head = head_of m.head; elements = m.elements.items } };
+    ghost view = { λ m. record { head = m.head; elements = m.elements.items } };
 
-    ghost invariant = { λ m. IsMapBody (record { head = head_of m.head; elements = m.elements.items }) };
+    ghost invariant = { λ m. IsMapBody (record { head = m.head; elements = m.elements.items }) };
 }
 
 impl Map {
-    /// The MAP of a head and elements that keep the grammar.
-    pub(crate) fn of_lawful(head: Head, elements: Vec<Element>) -> Map
-        requires { let body : MapBody = record { head = head_of head; elements = elements.items } in IsMapBody body }
-        ensures { let body : MapBody = record { head = head_of head; elements = elements.items } in result ≡ body }
-    {
-        Map { head, elements }
-    }
-
     /// The MAP of a head, of the elements before its Null, which is put at the MAP's length `len` (at most 16,383
-    /// minislots), and of the pendings behind it, all of offset `len`; or the first fault of M4 to M10.
+    /// minislots), and of the pendings behind it, all of offset `len`; or the first fault of M4 to M10. M4 is looked at
+    /// before memory is taken; want of memory may come before the others.
     #[tactic(auto, using(crate::proofs::BodyLemmas::building))]
     pub fn new(
         alloc: Global,
@@ -52,21 +47,23 @@ impl Map {
         pendings: &[Element],
     ) -> Result<Map, MapFault>
         requires { len ≤ MAX_LEN }
-        ensures found { let body : MapBody = body_of (head_of head) elements.now len pendings.now in
+        ensures found { let body : MapBody = body_of head elements.now len pendings.now in
             IfOk result (λ map. IsMapBody map × (map ≡ body)) }
-        ensures only { let body : MapBody = body_of (head_of head) elements.now len pendings.now in
-            IsMapBody body → Gives result (Ok body) }
-        ensures exact { Gives result (built (head_of head) elements.now len pendings.now) }
+        ensures complete { let body : MapBody = body_of head elements.now len pendings.now in
+            IsMapBody body → UnlessNoMemory result (Ok body) }
+        ensures exact { UnlessNoMemory result (build_answer head elements.now len pendings.now) }
+        ensures early { MAX_ELEMENTS < length elements.now + 1 + length pendings.now →
+            result ≡ Err TooManyElements }
 
         // The limits that this crate's conditions and faults name.
         ensures limits { (MAX_LEN ≡ 16383) × (MAX_ELEMENTS ≡ 240) }
     {
-        Map::joined(alloc, head, elements, len, pendings)
+        Map::build(alloc, head, elements, len, pendings)
     }
 
-    /// The same without its laws: each element is judged as it is taken.
-    #[tactic(auto, unfolding(crate::specs::Faults::built, crate::specs::Faults::build_fault))]
-    fn joined(
+    /// The same: what `found` and `complete` say follows of this function's clauses alone.
+    #[tactic(auto, unfolding(crate::specs::Faults::build_answer, crate::specs::Faults::build_fault))]
+    fn build(
         alloc: Global,
         head: Head,
         elements: &[Element],
@@ -74,7 +71,9 @@ impl Map {
         pendings: &[Element],
     ) -> Result<Map, MapFault>
         requires { len ≤ MAX_LEN }
-        ensures exact { Gives result (built (head_of head) elements.now len pendings.now) }
+        ensures exact { UnlessNoMemory result (build_answer head elements.now len pendings.now) }
+        ensures early { MAX_ELEMENTS < length elements.now + 1 + length pendings.now →
+            result ≡ Err TooManyElements }
         ensures grammar { IfOk result (λ map. IsMapBody map) }
     {
         let count = elements.len() + 1 + pendings.len();
@@ -83,17 +82,30 @@ impl Map {
         }
         let mut draft = Draft::with_room(alloc, count)?;
         draft.extend(elements)?;
-        if draft.null().is_some() {
+        if draft.end().is_some() {
             return Err(MapFault::NoNull);
         }
         draft.push(Element::null_at(len))?;
         draft.extend(pendings)?;
-        draft.finish(head)
+        Map::of_draft(head, draft)
+    }
+
+    /// The MAP of a head and of at most 240 elements, or their first fault.
+    #[tactic(auto, using(crate::proofs::ListLemmas::lawful))]
+    pub(crate) fn of_draft(head: Head, draft: Draft) -> Result<Map, MapFault>
+        requires { length draft ≤ MAX_ELEMENTS }
+        ensures exact { let body : MapBody = record { head = head; elements = draft } in
+            result ≡ answer_unless (list_fault head draft) body }
+        ensures grammar { IfOk result (λ map. IsMapBody map) }
+    {
+        draft.fault(&head)?;
+        let elements = draft.into_elements();
+        Ok(Map { head, elements })
     }
 
     /// What stands before the elements.
     pub fn head(&self) -> &Head
-        ensures value { head_of result.now ≡ self.now.head }
+        ensures value { result.now ≡ self.now.head }
         ensures grammar { IsMapBody self.now }
     {
         &self.head

@@ -1,7 +1,7 @@
-ghost use Rattle.std.specs.Prelude.{◌≡◌, ◌≢◌, ◌≤◌, length, List, [], Ok, Err, IfOk, IfErr};
+ghost use Rattle.std.specs.Prelude.{◌≡◌, ◌≢◌, ◌≤◌, length, List, Ok, Err, IfOk, IfErr};
 ghost use Rattle.std.specs.List.{All, AllByRecursion};
 ghost use Rattle.us_codec.specs.MapsFiles.{Piece, IsPiece, maps_file, places, IsMapsFile, EndsInside};
-ghost use Rattle.us_codec.specs.Answers.{GivesList};
+ghost use Rattle.us_codec.specs.Answers.{ListUnlessNoMemory};
 ghost use Rattle.us_codec.specs.declared.faults.MapFault.TheVariants.{NoMemory, RecordCut};
 
 use crate::faults::MapFault;
@@ -10,33 +10,33 @@ use std::alloc::Global;
 /// The bytes of a record before its body: the round and the length (ours).
 const HEADER_BYTES: usize = 6;
 
-/// A record of a maps file: the round, and where in the file the body stands.
+/// A record of a maps file: the round, and where its body stands, in bytes from the start of the file.
 #[derive(Clone, Copy, Debug, PartialEq, Eq, Hash)]
 pub struct Record {
     /// The round of the MAP.
     pub round: u32,
-    /// The place of the body's first byte.
+    /// Where the body begins.
     pub from: usize,
-    /// The place behind its last byte.
+    /// Where it ends: the place behind its last byte, and [`Record::from`] if it has none.
     pub to: usize,
 }
 
-/// The records of a maps file in order, whatever their bodies spell, or M11 where the file ends inside a record, or M10.
-/// A file of no bytes has no records.
+/// The records of a maps file, in the file's order. Neither their rounds nor their bodies are judged, and a file of no
+/// bytes has none. The faults are M11, where the file ends inside a record, and M10, want of memory.
 pub fn records(alloc: Global, file: &[u8]) -> Result<Vec<Record>, MapFault>
     ensures found { IfOk result (λ records. IsMapsFile file.now records.items) }
     ensures within { IfOk result (λ records.
         All (λ r. (r.from ≤ r.to) × (r.to ≤ length file.now)) records.items) }
-    ensures only { (pieces : List Piece) → AllByRecursion IsPiece pieces → file.now ≡ maps_file pieces →
-        GivesList result (Ok (places 0 pieces)) }
+    ensures complete { (pieces : List Piece) → AllByRecursion IsPiece pieces → file.now ≡ maps_file pieces →
+        ListUnlessNoMemory result (Ok (places 0 pieces)) }
     ensures fault { IfErr result (λ fault. fault ≢ NoMemory → fault ≡ RecordCut) }
     ensures inside { IfErr result (λ fault. fault ≢ NoMemory → EndsInside file.now) }
-    ensures cut { EndsInside file.now → GivesList result (Err RecordCut) }
+    ensures cut { EndsInside file.now → ListUnlessNoMemory result (Err RecordCut) }
 {
     split(alloc, file)
 }
 
-/// The same by one reading from front to back.
+/// The same by one reading from front to back: what `complete` and `cut` say follows of this function's clauses alone.
 #[tactic(auto, using(crate::proofs::FileLemmas::reading))]
 fn split(alloc: Global, file: &[u8]) -> Result<Vec<Record>, MapFault>
     ensures found { IfOk result (λ records. IsMapsFile file.now records.items) }
@@ -51,11 +51,11 @@ fn split(alloc: Global, file: &[u8]) -> Result<Vec<Record>, MapFault>
             return Err(MapFault::RecordCut);
         }
         let round = u32::from_be_bytes([rest[0], rest[1], rest[2], rest[3]]);
-        let body = usize::from(u16::from_be_bytes([rest[4], rest[5]]));
-        if rest.len() < HEADER_BYTES + body {
+        let body_len = usize::from(u16::from_be_bytes([rest[4], rest[5]]));
+        if rest.len() < HEADER_BYTES + body_len {
             return Err(MapFault::RecordCut);
         }
-        let (record, later) = rest.split_at(HEADER_BYTES + body);
+        let (record, later) = rest.split_at(HEADER_BYTES + body_len);
         let from = at + HEADER_BYTES;
         at += record.len();
         found.push(Record {

@@ -15,7 +15,7 @@ fn faults_are_one_line(rt: HostRuntime) -> Result<(), Fail> {
         (MapFault::Order, "M6: offsets do not rise up to the Null"),
         (
             MapFault::AfterNull,
-            "M7: an element after the Null is no pending",
+            "M7: an element after the Null has its IUC or another offset",
         ),
         (MapFault::Backoff, "M8: a backoff is over 15"),
         (MapFault::FirstOffset, "M9: the first offset is not 0"),

@@ -1,5 +1,4 @@
 use Rattle.std.proofs.Common.{◌≡◌, length, refl, ap, arith}
-use Rattle.us_codec.specs.Bodies.{head_of}
 use Rattle.us_codec.proofs.PutLemmas.{front-put, element-put, all-put, length-spelling}
 use Rattle.us_codec.proofs.BodyLemmas.{one_body}
 use Rattle.us_codec.proofs.encoding.encode_into.Goals as goal
@@ -10,7 +9,7 @@ loop-element-init c =
     let es = c.elements-elements.result.now in
     let lawful = c.head.ensures.grammar in
     let is : es ≡ map.elements = c.elements-elements.ensures.value in (
-      front-put (head_of c.head.result.now) map.head (length es) c.args.out.now c.put_front.new.out c.head.ensures.value
+      front-put c.head.result.now map.head (length es) c.args.out.now c.put_front.new.out c.head.ensures.value
           c.put_front.ensures,
       refl,
       omega (arith, ap (λ all. length all) is, lawful.few),
@@ -23,7 +22,7 @@ loop-element-preserved c =
     let lawful = c.head.ensures.grammar in (
       element-put c.args.map.now.head c.elements-elements.result.now c.loop-element.element-index c.element-item.result c.word.result
           c.loop-element.at c.to_be_bytes.result c.args.out.now c.loop-element.out c.put.new.out
-          lawful.head.four c.loop-element-test.true inv.1 inv.0 c.element-item.is c.word.ensures.value c.to_be_bytes.ensures
+          lawful.head.four c.loop-element-test.true inv.1 inv.0 c.element-item.is c.word.ensures c.to_be_bytes.ensures
           c.put.ensures,
       omega (arith, inv.1),
       inv.2,
@@ -44,3 +43,8 @@ returns-clause-length c =
 
 pub returns-clause-one_spelling : goal.returns-clause-one_spelling
 returns-clause-one_spelling c = λ other lawful same. one_body other c.args.map.now lawful c.head.ensures.grammar same
+
+pub returns-clause-size : goal.returns-clause-size
+returns-clause-size c =
+    let inv = c.loop-element.invariant in
+    omega (arith, inv.1, ap (λ all. length all) inv.3, c.loop-element-test.false, c.loop-element.auto.element-index-end)

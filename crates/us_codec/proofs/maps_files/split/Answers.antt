@@ -1,6 +1,6 @@
 use Rattle.std.proofs.Common.{arith}
 use Rattle.us_codec.proofs.WordLemmas.{AreBytes}
-use Rattle.us_codec.proofs.FileLemmas.{inside-found}
+use Rattle.us_codec.proofs.FileLemmas.{inside-found, whole-found}
 use Rattle.us_codec.proofs.maps_files.split.Goals as goal
 
 pub returns-then-rest-lt-HEADER_BYTES-clause-inside :
@@ -10,8 +10,12 @@ returns-then-rest-lt-HEADER_BYTES-clause-inside c = λ known.
     inside-found c.args.file.now c.loop-rest.rest.now c.loop-rest.at c.loop-rest.found.items are c.loop-rest.invariant
     c.loop-rest-test.ensures (omega (arith, c.if-rest-lt-HEADER_BYTES.true))
 
-pub returns-then-rest-body-clause-inside : goal.returns-then-rest-body-clause-inside
-returns-then-rest-body-clause-inside c = λ known.
+pub returns-then-rest-body_len-clause-inside : goal.returns-then-rest-body_len-clause-inside
+returns-then-rest-body_len-clause-inside c = λ known.
     let are : AreBytes c.args.file.now = λ i. omega (arith, c.type_inv.file i) in
     inside-found c.args.file.now c.loop-rest.rest.now c.loop-rest.at c.loop-rest.found.items are c.loop-rest.invariant
-    c.loop-rest-test.ensures (omega (arith, c.if-rest-body.true, c.from-body.ensures, c.from_be_bytes.ensures))
+    c.loop-rest-test.ensures (omega (arith, c.if-rest-body_len.true, c.from-body_len.ensures, c.from_be_bytes.ensures))
+
+pub returns-clause-found : goal.returns-clause-found
+returns-clause-found c =
+    whole-found c.args.file.now c.loop-rest.rest.now c.loop-rest.at c.loop-rest.found.items c.loop-rest.invariant c.loop-rest-test.ensures
