@@ -35,7 +35,8 @@ body-found (b0 ∷ b1 ∷ b2 ∷ b3 ∷ b4 ∷ b5 ∷ b6 ∷ b7 ∷ b8 ∷ b9 �
 body-found (b0 ∷ b1 ∷ b2 ∷ b3 ∷ b4 ∷ b5 ∷ b6 ∷ b7 ∷ b8 ∷ b9 ∷ b10 ∷ b11 ∷ b12 ∷ b13 ∷ []) are long count reserved = absurd (omega arith)
 body-found (b0 ∷ b1 ∷ b2 ∷ b3 ∷ b4 ∷ b5 ∷ b6 ∷ b7 ∷ b8 ∷ b9 ∷ b10 ∷ b11 ∷ b12 ∷ b13 ∷ b14 ∷ []) are long count reserved = absurd (omega arith)
 body-found (b0 ∷ b1 ∷ b2 ∷ b3 ∷ b4 ∷ b5 ∷ b6 ∷ b7 ∷ b8 ∷ b9 ∷ b10 ∷ b11 ∷ b12 ∷ b13 ∷ b14 ∷ b15 ∷ rest) are long count reserved =
-    let later : AreBytes rest = λ i. are (suc (suc (suc (suc (suc (suc (suc (suc (suc (suc (suc (suc (suc (suc (suc (suc i)))))))))))))))) in
+    let later : AreBytes rest =
+    λ i. are (suc (suc (suc (suc (suc (suc (suc (suc (suc (suc (suc (suc (suc (suc (suc (suc i)))))))))))))))) in
     let whole : element_bytes (elements_at rest) ≡ rest = words-of-elements rest b2 later (omega arith) in
     let some : length (elements_at rest) ≡ b2 = length-elements rest b2 (omega arith) in
     let es : List MapElement = elements_at rest in
@@ -46,13 +47,17 @@ body-found (b0 ∷ b1 ∷ b2 ∷ b3 ∷ b4 ∷ b5 ∷ b6 ∷ b7 ∷ b8 ∷ b9 �
     sym (
     ap (λ n. put n 0 start ack (element_bytes es)) some ∙
     ap (λ n. put b2 n start ack (element_bytes es)) (sym reserved) ∙
-    ap (λ four. put b2 b3 four ack (element_bytes es)) (four-bytes b4 b5 b6 b7 (are 4) (are 5) (are 6) (are 7)) ∙
-    ap (λ four. put b2 b3 (b4 ∷ b5 ∷ b6 ∷ b7 ∷ []) four (element_bytes es)) (four-bytes b8 b9 b10 b11 (are 8) (are 9) (are 10) (are 11)) ∙
+    ap (λ four. put b2 b3 four ack (element_bytes es))
+    (four-bytes b4 b5 b6 b7 (are 4) (are 5) (are 6) (are 7)) ∙
+    ap (λ four. put b2 b3 (b4 ∷ b5 ∷ b6 ∷ b7 ∷ []) four (element_bytes es))
+    (four-bytes b8 b9 b10 b11 (are 8) (are 9) (are 10) (are 11)) ∙
     ap (λ later. put b2 b3 (b4 ∷ b5 ∷ b6 ∷ b7 ∷ []) (b8 ∷ b9 ∷ b10 ∷ b11 ∷ []) later) whole)
 
 abbrev four : Bool → Bool → Bool → Bool → Result (Unit {0}) MapFault
 four short counted free many =
-    cond short (Err Short) (cond (not counted) (Err LengthMismatch) (cond (not free) (Err Reserved) (cond many (Err TooManyElements) (Ok tt))))
+    cond short (Err Short)
+    (cond (not counted) (Err LengthMismatch)
+    (cond (not free) (Err Reserved) (cond many (Err TooManyElements) (Ok tt))))
 
 four-parts : (short counted free many : Bool) → four short counted free many ≡ Ok tt →
     (short ≡ false) × (counted ≡ true) × (free ≡ true) × (many ≡ false)
@@ -74,13 +79,16 @@ record Passed (bytes : List ℕ) : Type 0 where
   few : slice_index bytes 2 ≤ max_elements
   list : list_fault (head_at bytes) (elements_at (drop 16 bytes)) ≡ Ok tt
 
-front-passed : (bytes : List ℕ) → front_fault bytes ≡ Ok tt → list_fault (head_at bytes) (elements_at (drop 16 bytes)) ≡ Ok tt →
+front-passed : (bytes : List ℕ) → front_fault bytes ≡ Ok tt →
+    list_fault (head_at bytes) (elements_at (drop 16 bytes)) ≡ Ok tt →
     Passed bytes
 unfolding front_fault
 front-passed bytes front list =
-    let tests : (nat_lt (length bytes) 16 ≡ false) × (eqb (length bytes) (16 + 4 * slice_index bytes 2) ≡ true) ×
+    let tests : (nat_lt (length bytes) 16 ≡ false) × (eqb (length bytes)
+    (16 + 4 * slice_index bytes 2) ≡ true) ×
     (eqb (slice_index bytes 3) 0 ≡ true) × (nat_lt max_elements (slice_index bytes 2) ≡ false) =
-    four-parts (nat_lt (length bytes) 16) (eqb (length bytes) (16 + 4 * slice_index bytes 2)) (eqb (slice_index bytes 3) 0)
+    four-parts (nat_lt (length bytes) 16) (eqb (length bytes) (16 + 4 * slice_index bytes 2))
+    (eqb (slice_index bytes 3) 0)
     (nat_lt max_elements (slice_index bytes 2)) front in
     record {
       long = ltb-false (length bytes) 16 tests.0;
@@ -90,14 +98,16 @@ front-passed bytes front list =
       list = list;
     }
 
-both-parts : (first later : Result (Unit {0}) MapFault) → or_else_fault first later ≡ Ok tt → (first ≡ Ok tt) × (later ≡ Ok tt)
+both-parts : (first later : Result (Unit {0}) MapFault) → or_else_fault first later ≡ Ok tt →
+    (first ≡ Ok tt) × (later ≡ Ok tt)
 both-parts (Ok u) later h = (refl, h)
 both-parts (Err fault) later h = let no : Err fault ≡ Ok tt = h in cc
 
 passed-from : (bytes : List ℕ) → read_fault bytes ≡ Ok tt → Passed bytes
 unfolding read_fault
 passed-from bytes h =
-    let both : (front_fault bytes ≡ Ok tt) × (list_fault (head_at bytes) (elements_at (drop 16 bytes)) ≡ Ok tt) =
+    let both : (front_fault bytes ≡ Ok tt) × (list_fault (head_at bytes)
+    (elements_at (drop 16 bytes)) ≡ Ok tt) =
     both-parts (front_fault bytes) (list_fault (head_at bytes) (elements_at (drop 16 bytes))) h in
     front-passed bytes both.0 both.1
 
@@ -105,7 +115,8 @@ passed-to : (bytes : List ℕ) → Passed bytes → read_fault bytes ≡ Ok tt
 unfolding read_fault front_fault
 passed-to bytes p =
     let front : front_fault bytes ≡ Ok tt =
-    four-passed (nat_lt (length bytes) 16) (eqb (length bytes) (16 + 4 * slice_index bytes 2)) (eqb (slice_index bytes 3) 0)
+    four-passed (nat_lt (length bytes) 16) (eqb (length bytes) (16 + 4 * slice_index bytes 2))
+    (eqb (slice_index bytes 3) 0)
     (nat_lt max_elements (slice_index bytes 2))
     (le-ltb (length bytes) 16 p.long) (eq-eqb (length bytes) (16 + 4 * slice_index bytes 2) p.counted)
     (eq-eqb (slice_index bytes 3) 0 p.reserved) (le-ltb max_elements (slice_index bytes 2) p.few) in
@@ -116,7 +127,8 @@ unless-parts : {A : Type 0} (fault : Result (Unit {0}) MapFault) (x y : A) → a
 unless-parts (Ok u) x y h = let some : Ok x ≡ Ok y = h in let same : x ≡ y = cc in (refl, same)
 unless-parts (Err e) x y h = let no : Err e ≡ Ok y = h in cc
 
-decoded-found : (bytes : List ℕ) (m : MapBody) → AreBytes bytes → IsMapBody m → decode_answer bytes ≡ Ok m → SpellsMap bytes m
+decoded-found : (bytes : List ℕ) (m : MapBody) → AreBytes bytes → IsMapBody m → decode_answer bytes ≡ Ok m →
+    SpellsMap bytes m
 unfolding decode_answer
 decoded-found bytes m are lawful h =
     let body : MapBody = record { head = head_at bytes; elements = elements_at (drop 16 bytes) } in
@@ -137,13 +149,20 @@ record Reads (bytes : List ℕ) (m : MapBody) : Type 0 where
 
 abbrev body_at : ℕ → ℕ → ℕ → ℕ → List ℕ → List MapElement → MapBody
 body_at channel ucd_count start ack backoffs es = record {
-  head = record { channel = channel; ucd_count = ucd_count; alloc_start = start; ack = ack; backoffs = backoffs };
+  head = record {
+    channel = channel;
+    ucd_count = ucd_count;
+    alloc_start = start;
+    ack = ack;
+    backoffs = backoffs;
+  };
   elements = es;
 }
 
 reads-of : (channel ucd_count start ack : ℕ) (backoffs : List ℕ) (es : List MapElement) →
     start < 2 ^ 32 → ack < 2 ^ 32 → length backoffs ≡ 4 →
-    Reads (spelling (body_at channel ucd_count start ack backoffs es)) (body_at channel ucd_count start ack backoffs es)
+    Reads (spelling (body_at channel ucd_count start ack backoffs es))
+    (body_at channel ucd_count start ack backoffs es)
 unfolding spelling front head_at
 reads-of channel ucd_count start ack [] es h k four = absurd (omega arith)
 reads-of channel ucd_count start ack (b0 ∷ []) es h k four = absurd (omega arith)
@@ -155,9 +174,21 @@ reads-of channel ucd_count start ack (b0 ∷ b1 ∷ b2 ∷ b3 ∷ []) es h k fou
   count = refl;
   reserved = refl;
   head =
-      ap (λ n. record { channel = channel; ucd_count = ucd_count; alloc_start = n; ack = from_be_bytes w32 (to_be_bytes w32 ack); backoffs = b0 ∷ b1 ∷ b2 ∷ b3 ∷ [] })
+      ap (λ n. record {
+        channel = channel;
+        ucd_count = ucd_count;
+        alloc_start = n;
+        ack = from_be_bytes w32 (to_be_bytes w32 ack);
+        backoffs = b0 ∷ b1 ∷ b2 ∷ b3 ∷ [];
+      })
       (from_be_bytes-to_be_bytes_4 start h) ∙
-      ap (λ n. record { channel = channel; ucd_count = ucd_count; alloc_start = start; ack = n; backoffs = b0 ∷ b1 ∷ b2 ∷ b3 ∷ [] })
+      ap (λ n. record {
+        channel = channel;
+        ucd_count = ucd_count;
+        alloc_start = start;
+        ack = n;
+        backoffs = b0 ∷ b1 ∷ b2 ∷ b3 ∷ [];
+      })
       (from_be_bytes-to_be_bytes_4 ack k);
   later = refl;
 }
@@ -181,7 +212,8 @@ reads-again bytes m r lawful =
       few = omega (arith, r.count, lawful.few);
       list = list;
     }) in
-    unless-passed (read_fault bytes) (record { head = head_at bytes; elements = elements_at (drop 16 bytes) }) m passed
+    unless-passed (read_fault bytes)
+    (record { head = head_at bytes; elements = elements_at (drop 16 bytes) }) m passed
     (rw (r.head, es) refl)
 
 decoded-again : (m : MapBody) → IsMapBody m → decode_answer (spelling m) ≡ Ok m
@@ -197,10 +229,12 @@ pub decode-found : (r : Result MapBody MapFault) (bytes : List ℕ) → AreBytes
 decode-found (Ok m) bytes are lawful gives = decoded-found bytes m are lawful gives
 decode-found (Err fault) bytes are lawful gives = tt
 
-pub decode-only : (r : Result MapBody MapFault) (bytes : List ℕ) (m : MapBody) → UnlessNoMemory r (decode_answer bytes) →
+pub decode-only : (r : Result MapBody MapFault) (bytes : List ℕ) (m : MapBody) →
+    UnlessNoMemory r (decode_answer bytes) →
     SpellsMap bytes m → UnlessNoMemory r (Ok m)
 decode-only r bytes m gives spells =
-    let is : decode_answer bytes ≡ Ok m = ap (λ b. decode_answer b) spells.spelled ∙ decoded-again m spells.lawful in
+    let is : decode_answer bytes ≡ Ok m =
+    ap (λ b. decode_answer b) spells.spelled ∙ decoded-again m spells.lawful in
     rw is at gives
 
 pub ruleset decoding = (decode-found, decode-only)
@@ -219,7 +253,8 @@ gives-same (Err fault) wanted e = λ known. sym e
 
 built-same : (h : Head) (before : List MapElement) (len : ℕ) (after : List MapElement) →
     length before + 1 + length after ≤ 240 → is_some (end_of before) ≡ false →
-    answer_unless (list_fault h (before ++ null_at len ∷ after)) (record { head = h; elements = before ++ null_at len ∷ after }) ≡
+    answer_unless (list_fault h (before ++ null_at len ∷ after))
+    (record { head = h; elements = before ++ null_at len ∷ after }) ≡
     build_answer h before len after
 unfolding build_answer build_fault
 built-same h before len after few none =
@@ -228,23 +263,29 @@ built-same h before len after few none =
 -- a draft that took the elements before the Null, the Null and those after it
 pub joined-draft : (before after d0 d1 d2 d3 : List MapElement) (null : MapElement) →
     d0 ≡ [] → d1 ≡ d0 ++ before → d2 ≡ d1 ++ null ∷ [] → d3 ≡ d2 ++ after → d3 ≡ before ++ null ∷ after
-joined-draft before after d0 d1 d2 d3 null e0 e1 e2 e3 = rw (e3, e2, e1, e0) (append_assoc before (null ∷ []) after)
+joined-draft before after d0 d1 d2 d3 null e0 e1 e2 e3 = rw (e3, e2, e1, e0)
+    (append_assoc before (null ∷ []) after)
 
 -- its answer
-pub built-is : (r : Result MapBody MapFault) (h : Head) (before : List MapElement) (len : ℕ) (after items : List MapElement) →
-    items ≡ before ++ null_at len ∷ after → length before + 1 + length after ≤ 240 → is_some (end_of before) ≡ false →
+pub built-is : (r : Result MapBody MapFault) (h : Head) (before : List MapElement) (len : ℕ)
+    (after items : List MapElement) →
+    items ≡ before ++ null_at len ∷ after → length before + 1 + length after ≤ 240 →
+    is_some (end_of before) ≡ false →
     r ≡ answer_unless (list_fault h items) (record { head = h; elements = items }) →
     UnlessNoMemory r (build_answer h before len after)
 built-is r h before len after items is few none e =
     gives-same r (build_answer h before len after)
-    (e ∙ ap (λ es. answer_unless (list_fault h es) (record { head = h; elements = es })) is ∙ built-same h before len after few none)
+    (e ∙ ap (λ es. answer_unless (list_fault h es) (record { head = h; elements = es })) is ∙
+    built-same h before len after few none)
 
 -- What follows of the answers of `Map::new`.
 
-unless-refused : {A : Type 0} (fault : Result (Unit {0}) MapFault) (x y : A) → answer_unless fault x ≡ Ok y → y ≡ x
+unless-refused : {A : Type 0} (fault : Result (Unit {0}) MapFault) (x y : A) → answer_unless fault x ≡ Ok y →
+    y ≡ x
 unless-refused fault x y h = sym (unless-parts fault x y h).1
 
-pub built-found : (r : Result MapBody MapFault) (h : Head) (before : List MapElement) (len : ℕ) (after : List MapElement) →
+pub built-found : (r : Result MapBody MapFault) (h : Head) (before : List MapElement) (len : ℕ)
+    (after : List MapElement) →
     IfOk r (λ m. IsMapBody m) → UnlessNoMemory r (build_answer h before len after) →
     IfOk r (λ m. IsMapBody m × (m ≡ body_of h before len after))
 unfolding build_answer
@@ -255,15 +296,18 @@ built-found (Err fault) h before len after lawful gives = tt
 built-again : (h : Head) (before : List MapElement) (len : ℕ) (after : List MapElement) →
     IsMapBody (body_of h before len after) → build_answer h before len after ≡ Ok (body_of h before len after)
 built-again h before len after lawful =
-    let all : length (before ++ null_at len ∷ after) ≡ length before + length (null_at len ∷ after) = length-append before (null_at len ∷ after) in
+    let all : length (before ++ null_at len ∷ after) ≡ length before + length (null_at len ∷ after) =
+    length-append before (null_at len ∷ after) in
     let few : length before + 1 + length after ≤ 240 = omega (arith, lawful.few, all) in
     let passed : list_fault h (before ++ null_at len ∷ after) ≡ Ok tt =
     faultless h (before ++ null_at len ∷ after) lawful.head.backoffs lawful.list lawful.first in
     sym (built-same h before len after few (none-before before len after lawful.list)) ∙
     ap (λ fault. answer_unless fault (body_of h before len after)) passed
 
-pub built-only : (r : Result MapBody MapFault) (h : Head) (before : List MapElement) (len : ℕ) (after : List MapElement) →
-    UnlessNoMemory r (build_answer h before len after) → IsMapBody (body_of h before len after) → UnlessNoMemory r (Ok (body_of h before len after))
+pub built-only : (r : Result MapBody MapFault) (h : Head) (before : List MapElement) (len : ℕ)
+    (after : List MapElement) →
+    UnlessNoMemory r (build_answer h before len after) → IsMapBody (body_of h before len after) →
+    UnlessNoMemory r (Ok (body_of h before len after))
 built-only r h before len after gives lawful = rw (built-again h before len after lawful) at gives
 
 pub ruleset building = (built-found, built-only)

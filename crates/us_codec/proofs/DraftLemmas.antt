@@ -32,13 +32,16 @@ unfolding rises is_above
 rises-more [] e = refl
 rises-more (d ∷ []) e = and-true (nat_lt d.offset e.offset)
 rises-more (c ∷ d ∷ es) e =
-    let more : rises (d ∷ (es ++ e ∷ [])) ≡ (rises (d ∷ es) && is_above (slice_get (d ∷ es) (length (d ∷ es) - 1)) e) = rises-more (d ∷ es) e in
+    let more : rises (d ∷ (es ++ e ∷ [])) ≡ (rises (d ∷ es) && is_above (slice_get (d ∷ es)
+    (length (d ∷ es) - 1)) e) =
+    rises-more (d ∷ es) e in
     let one : length (d ∷ es) - 1 ≡ length es = omega arith in
     let two : length (c ∷ d ∷ es) - 1 ≡ suc (length es) = omega arith in
     let same : slice_get (d ∷ es) (length (d ∷ es) - 1) ≡ slice_get (c ∷ d ∷ es) (length (c ∷ d ∷ es) - 1) =
     ap (λ i. slice_get (d ∷ es) i) one ∙ sym (ap (λ i. slice_get (c ∷ d ∷ es) i) two) in
     ap (λ b. nat_lt c.offset d.offset && b) more ∙
-    sym (and_assoc (nat_lt c.offset d.offset) (rises (d ∷ es)) (is_above (slice_get (d ∷ es) (length (d ∷ es) - 1)) e)) ∙
+    sym (and_assoc (nat_lt c.offset d.offset) (rises (d ∷ es))
+    (is_above (slice_get (d ∷ es) (length (d ∷ es) - 1)) e)) ∙
     ap (λ last. rises (c ∷ d ∷ es) && is_above last e) same
 
 -- no element ends the list yet: all stand before the Null, and none after it
@@ -97,7 +100,8 @@ pub rising-open : (es : List MapElement) (e : MapElement) → end_of es ≡ None
     rises_to_end (es ++ e ∷ []) ≡ (rises_to_end es && is_above (slice_get es (length es - 1)) e)
 unfolding rises_to_end
 rising-open es e h =
-    let before : (before_end es ++ option_to_list (end_of es)) ≡ es = rw (h, before-open es h) (append-nil es) in
+    let before : (before_end es ++ option_to_list (end_of es)) ≡ es =
+    rw (h, before-open es h) (append-nil es) in
     rw (before, up_to-open es e h) (rises-more es e)
 
 pub pending-open : (es : List MapElement) (e : MapElement) → end_of es ≡ None →
@@ -122,7 +126,9 @@ pub pending-closed : (es : List MapElement) (e null : MapElement) → end_of es 
     ends_in_pendings (es ++ e ∷ []) ≡ (ends_in_pendings es && is_pending null.offset e)
 unfolding ends_in_pendings are_pending_after
 pending-closed es e null h =
-    rw (h, null-closed es e null h, after-append es (e ∷ []) null h) (list_all-append (is_pending null.offset) (after_end es) (e ∷ []) ∙ ap (λ b. list_all (is_pending null.offset) (after_end es) && b) (and-true (is_pending null.offset e)))
+    rw (h, null-closed es e null h, after-append es (e ∷ []) null h)
+    (list_all-append (is_pending null.offset) (after_end es) (e ∷ []) ∙
+    ap (λ b. list_all (is_pending null.offset) (after_end es) && b) (and-true (is_pending null.offset e)))
 
 pub fields-more : (es : List MapElement) (e : MapElement) → AllByRecursion IsMapElement es → IsMapElement e →
     AllByRecursion IsMapElement (es ++ e ∷ [])

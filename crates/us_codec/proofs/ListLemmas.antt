@@ -17,7 +17,8 @@ offsets es = map (λ e. e.offset) es
 
 -- Behind a list with a Null, nothing changes the Null.
 
-pub null-append : (xs ys : List MapElement) (null : MapElement) → end_of xs ≡ Some null → end_of (xs ++ ys) ≡ Some null
+pub null-append : (xs ys : List MapElement) (null : MapElement) → end_of xs ≡ Some null →
+    end_of (xs ++ ys) ≡ Some null
 unfolding end_of
 null-append [] ys null h = let no : None ≡ Some null = h in cc
 null-append (e ∷ es) ys null h = elim (cases_Bool (ends_list e)) [
@@ -76,21 +77,25 @@ unfolding rises
 rising-from [] h = tt
 rising-from (e ∷ []) h = tt
 rising-from (e ∷ f ∷ es) h =
-    let parts : (nat_lt e.offset f.offset ≡ true) × (rises (f ∷ es) ≡ true) = and_parts (nat_lt e.offset f.offset) (rises (f ∷ es)) h in
+    let parts : (nat_lt e.offset f.offset ≡ true) × (rises (f ∷ es) ≡ true) =
+    and_parts (nat_lt e.offset f.offset) (rises (f ∷ es)) h in
     (ltb-true e.offset f.offset parts.0, rising-from (f ∷ es) parts.1)
 
 pending-from : (len : ℕ) (es : List MapElement) → list_all (is_pending len) es ≡ true →
     AllByRecursion (λ e. (e.iuc ≢ codes.null) × (e.offset ≡ len)) es
 pending-from len [] h = tt
 pending-from len (e ∷ es) h =
-    let parts : (is_pending len e ≡ true) × (list_all (is_pending len) es ≡ true) = and_parts (is_pending len e) (list_all (is_pending len) es) h in
-    let both : (not (ends_list e) ≡ true) × (eqb e.offset len ≡ true) = and_parts (not (ends_list e)) (eqb e.offset len) parts.0 in
+    let parts : (is_pending len e ≡ true) × (list_all (is_pending len) es ≡ true) =
+    and_parts (is_pending len e) (list_all (is_pending len) es) h in
+    let both : (not (ends_list e) ≡ true) × (eqb e.offset len ≡ true) =
+    and_parts (not (ends_list e)) (eqb e.offset len) parts.0 in
     ((eqb-false e.iuc codes.null (not-true (ends_list e) both.0), eqb-true e.offset len both.1), pending-from len es parts.1)
 
 backoffs-from : (bs : List ℕ) → list_all is_backoff bs ≡ true → AllByRecursion (λ backoff. backoff ≤ 15) bs
 backoffs-from [] h = tt
 backoffs-from (b ∷ bs) h =
-    let parts : (is_backoff b ≡ true) × (list_all is_backoff bs ≡ true) = and_parts (is_backoff b) (list_all is_backoff bs) h in
+    let parts : (is_backoff b ≡ true) × (list_all is_backoff bs ≡ true) =
+    and_parts (is_backoff b) (list_all is_backoff bs) h in
     (leb-true b 15 parts.0, backoffs-from bs parts.1)
 
 zero-from : (es : List MapElement) → starts_at_zero es ≡ true → StartsAtZero es
@@ -130,10 +135,12 @@ rising-up-to : (es : List MapElement) (null : MapElement) → end_of es ≡ Some
 unfolding rises_to_end
 rising-up-to es null ends h =
     let tested : rises (before_end es ++ null ∷ []) ≡ true = rw ends at h in
-    let rising : IsRising (offsets (before_end es ++ null ∷ [])) = rising-from (before_end es ++ null ∷ []) tested in
+    let rising : IsRising (offsets (before_end es ++ null ∷ [])) =
+    rising-from (before_end es ++ null ∷ []) tested in
     rw (map-append (λ e. e.offset) (before_end es) (null ∷ [])) at rising
 
-pending-after : (es : List MapElement) (null : MapElement) → end_of es ≡ Some null → ends_in_pendings es ≡ true →
+pending-after : (es : List MapElement) (null : MapElement) → end_of es ≡ Some null →
+    ends_in_pendings es ≡ true →
     AllByRecursion (λ e. (e.iuc ≢ codes.null) × (e.offset ≡ null.offset)) (after_end es)
 unfolding ends_in_pendings are_pending_after
 pending-after es null ends h =
@@ -159,8 +166,10 @@ list-from es null ends zero rising pending =
 pub found : (h : Head) (es : List MapElement) → list_fault h es ≡ Ok tt → Found h es
 unfolding list_fault parts_fault
 found h es e =
-    let all : (is_null (end_of es) ≡ true) × (rises_to_end es ≡ true) × (ends_in_pendings es ≡ true) × (list_all is_backoff h.backoffs ≡ true) × (starts_at_zero es ≡ true) =
-    five-parts (is_null (end_of es)) (rises_to_end es) (ends_in_pendings es) (list_all is_backoff h.backoffs) (starts_at_zero es) e in
+    let all : (is_null (end_of es) ≡ true) × (rises_to_end es ≡ true) × (ends_in_pendings es ≡ true) ×
+    (list_all is_backoff h.backoffs ≡ true) × (starts_at_zero es ≡ true) =
+    five-parts (is_null (end_of es)) (rises_to_end es) (ends_in_pendings es) (list_all is_backoff h.backoffs)
+    (starts_at_zero es) e in
     let ends : (null : MapElement) × (end_of es ≡ Some null) × (null.sid ≡ 0) = null-from (end_of es) all.0 in
     record {
       list = list-from es ends.0 ends.1 ends.2 all.1 all.2;
@@ -231,12 +240,14 @@ rises-to (e ∷ []) h = refl
 rises-to (e ∷ f ∷ es) h =
     and_from (nat_lt e.offset f.offset) (rises (f ∷ es)) (lt-ltb e.offset f.offset h.0) (rises-to (f ∷ es) h.1)
 
-pending-to : (len : ℕ) (es : List MapElement) → AllByRecursion (λ e. (e.iuc ≢ codes.null) × (e.offset ≡ len)) es →
+pending-to : (len : ℕ) (es : List MapElement) →
+    AllByRecursion (λ e. (e.iuc ≢ codes.null) × (e.offset ≡ len)) es →
     list_all (is_pending len) es ≡ true
 pending-to len [] h = refl
 pending-to len (e ∷ es) h =
     and_from (is_pending len e) (list_all (is_pending len) es)
-    (and_from (not (ends_list e)) (eqb e.offset len) (not_from_false (ends_list e) (ne_eqb e.iuc codes.null h.0.0)) (eq-eqb e.offset len h.0.1))
+    (and_from (not (ends_list e)) (eqb e.offset len)
+    (not_from_false (ends_list e) (ne_eqb e.iuc codes.null h.0.0)) (eq-eqb e.offset len h.0.1))
     (pending-to len es h.1)
 
 backoffs-to : (bs : List ℕ) → AllByRecursion (λ backoff. backoff ≤ 15) bs → list_all is_backoff bs ≡ true
@@ -259,24 +270,32 @@ rising-joined before len after others rising =
     (rises-to (before ++ null_at len ∷ []) offsets-rise)
 
 pending-joined : (before : List MapElement) (len : ℕ) (after : List MapElement) → Others before →
-    AllByRecursion (λ e. (e.iuc ≢ codes.null) × (e.offset ≡ len)) after → ends_in_pendings (before ++ null_at len ∷ after) ≡ true
+    AllByRecursion (λ e. (e.iuc ≢ codes.null) × (e.offset ≡ len)) after →
+    ends_in_pendings (before ++ null_at len ∷ after) ≡ true
 unfolding ends_in_pendings are_pending_after
 pending-joined before len after others pending =
-    rw (null-joined before len after others, after-joined before len after others) (pending-to len after pending)
+    rw (null-joined before len after others, after-joined before len after others)
+    (pending-to len after pending)
 
 five-passed : (null rising pending small zero : Bool) →
-    null ≡ true → rising ≡ true → pending ≡ true → small ≡ true → zero ≡ true → five null rising pending small zero ≡ Ok tt
+    null ≡ true → rising ≡ true → pending ≡ true → small ≡ true → zero ≡ true →
+    five null rising pending small zero ≡ Ok tt
 five-passed null rising pending small zero a b c d e = rw (a, b, c, d, e) refl
 
 -- a lawful list has no fault
 pub faultless : (h : Head) (es : List MapElement) →
-    AllByRecursion (λ backoff. backoff ≤ 15) h.backoffs → IsElementList es → StartsAtZero es → list_fault h es ≡ Ok tt
+    AllByRecursion (λ backoff. backoff ≤ 15) h.backoffs → IsElementList es → StartsAtZero es →
+    list_fault h es ≡ Ok tt
 unfolding list_fault parts_fault
 faultless h es small list zero =
-    let null : is_null (end_of es) ≡ true = rw (list.joined, null-joined list.before list.len list.after list.others) refl in
-    let rising : rises_to_end es ≡ true = rw list.joined (rising-joined list.before list.len list.after list.others list.rising) in
-    let pending : ends_in_pendings es ≡ true = rw list.joined (pending-joined list.before list.len list.after list.others list.pending) in
-    five-passed (is_null (end_of es)) (rises_to_end es) (ends_in_pendings es) (list_all is_backoff h.backoffs) (starts_at_zero es)
+    let null : is_null (end_of es) ≡ true =
+    rw (list.joined, null-joined list.before list.len list.after list.others) refl in
+    let rising : rises_to_end es ≡ true =
+    rw list.joined (rising-joined list.before list.len list.after list.others list.rising) in
+    let pending : ends_in_pendings es ≡ true =
+    rw list.joined (pending-joined list.before list.len list.after list.others list.pending) in
+    five-passed (is_null (end_of es)) (rises_to_end es) (ends_in_pendings es) (list_all is_backoff h.backoffs)
+    (starts_at_zero es)
     null rising pending (backoffs-to h.backoffs small) (zero-to es zero)
 
 -- of a list that is joined of parts, the Null isn't looked for

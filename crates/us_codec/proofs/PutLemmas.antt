@@ -15,7 +15,8 @@ put-step : (old out new done bytes : List ℕ) (at next : ℕ) → out ≡ done 
     new ≡ (done ++ bytes) ++ drop next old
 put-step old out new done bytes at next is long behind put =
     let past : drop (at + length bytes) out ≡ drop next old =
-    ap (λ bs. drop (at + length bytes) bs) is ∙ drop-append-drop at old done (at + length bytes) (omega arith) long ∙
+    ap (λ bs. drop (at + length bytes) bs) is ∙
+    drop-append-drop at old done (at + length bytes) (omega arith) long ∙
     ap (λ n. drop n old) behind in
     let front : take at out ≡ done = ap (λ bs. take at bs) is ∙ take_at done (drop at old) at long in
     put ∙ ap (λ bs. bs ++ bytes ++ drop (at + length bytes) out) front ∙ ap (λ rest. done ++ bytes ++ rest) past
@@ -24,7 +25,8 @@ words-more : (es : List MapElement) (i : ℕ) (d : MapElement) → i < length es
     element_bytes (take (i + 1) es) ≡ element_bytes (take i es) ++ to_be_bytes w32 (word_of (get_or es i d))
 unfolding element_bytes
 words-more es i d h =
-    ap (λ more. element_bytes more) (take_more es i d h) ∙ flat_map-append (λ e. to_be_bytes w32 (word_of e)) (take i es) (get_or es i d ∷ [])
+    ap (λ more. element_bytes more) (take_more es i d h) ∙
+    flat_map-append (λ e. to_be_bytes w32 (word_of e)) (take i es) (get_or es i d ∷ [])
 
 length-front : (h : Head) (count : ℕ) → length h.backoffs ≡ 4 → length (front h count) ≡ 16
 unfolding front
@@ -32,9 +34,11 @@ length-front h count four = omega (arith, four)
 
 -- the four parts of the front were put
 pub front_is : (h : Head) (count : ℕ) (old one two three new a b c d : List ℕ) → length h.backoffs ≡ 4 →
-    a ≡ h.channel ∷ h.ucd_count ∷ count ∷ 0 ∷ [] → b ≡ to_be_bytes w32 h.alloc_start → c ≡ to_be_bytes w32 h.ack → d ≡ h.backoffs →
+    a ≡ h.channel ∷ h.ucd_count ∷ count ∷ 0 ∷ [] → b ≡ to_be_bytes w32 h.alloc_start →
+    c ≡ to_be_bytes w32 h.ack → d ≡ h.backoffs →
     one ≡ take 0 old ++ a ++ drop (0 + length a) old → two ≡ take 4 one ++ b ++ drop (4 + length b) one →
-    three ≡ take 8 two ++ c ++ drop (8 + length c) two → new ≡ take 12 three ++ d ++ drop (12 + length d) three →
+    three ≡ take 8 two ++ c ++ drop (8 + length c) two →
+    new ≡ take 12 three ++ d ++ drop (12 + length d) three →
     new ≡ front h count ++ drop 16 old
 unfolding front
 front_is h count old one two three new a b c d four is-a is-b is-c is-d put-a put-b put-c put-d =
@@ -43,7 +47,8 @@ front_is h count old one two three new a b c d four is-a is-b is-c is-d put-a pu
     let long-c : length c ≡ 4 = ap (λ bs. length bs) is-c in
     let long-d : length d ≡ 4 = ap (λ bs. length bs) is-d ∙ four in
     let first : one ≡ a ++ drop 4 old = put-step old old one [] a 0 4 refl refl (omega (arith, long-a)) put-a in
-    let second : two ≡ (a ++ b) ++ drop 8 old = put-step old one two a b 4 8 first long-a (omega (arith, long-b)) put-b in
+    let second : two ≡ (a ++ b) ++ drop 8 old =
+    put-step old one two a b 4 8 first long-a (omega (arith, long-b)) put-b in
     let long-ab : length (a ++ b) ≡ 8 = omega (arith, length-append a b, long-a, long-b) in
     let third : three ≡ (a ++ b ++ c) ++ drop 12 old =
     put-step old two three (a ++ b) c 8 12 second long-ab (omega (arith, long-c)) put-c in
@@ -61,7 +66,8 @@ front-put h m count old new same put =
     ap (λ done. done ++ drop 16 old) (sym (append-nil (front m count)))
 
 -- an element was put behind those before it
-pub element-put : (h : Head) (es : List MapElement) (i : ℕ) (d : MapElement) (word at : ℕ) (bytes old out new : List ℕ) →
+pub element-put : (h : Head) (es : List MapElement) (i : ℕ) (d : MapElement) (word at : ℕ)
+    (bytes old out new : List ℕ) →
     length h.backoffs ≡ 4 → i < length es → at ≡ 16 + 4 * i →
     out ≡ (front h (length es) ++ element_bytes (take i es)) ++ drop at old →
     d ≡ get_or es i d → word ≡ word_of d → bytes ≡ to_be_bytes w32 word →
@@ -74,7 +80,8 @@ element-put h es i d word at bytes old out new four below place written is-d is-
     let some : length (take i es) ≡ i = length-take-le i es (omega arith) in
     let whole : length done ≡ length (front h (length es)) + length (element_bytes (take i es)) =
     length-append (front h (length es)) (element_bytes (take i es)) in
-    let long : length done ≡ at = omega (arith, whole, length-front h (length es) four, length-element_bytes (take i es), some) in
+    let long : length done ≡ at =
+    omega (arith, whole, length-front h (length es) four, length-element_bytes (take i es), some) in
     put-step old out new done bytes at (at + 4) written long (omega (arith, ap (λ bs. length bs) is)) put ∙
     ap (λ b. (done ++ b) ++ drop (at + 4) old) is ∙
     ap (λ d. d ++ drop (at + 4) old)
@@ -82,14 +89,18 @@ element-put h es i d word at bytes old out new four below place written is-d is-
     ap (λ later. front h (length es) ++ later) (sym (words-more es i d below)))
 
 -- all elements were put
-pub all-put : (m : MapBody) (es : List MapElement) (i at : ℕ) (old out : List ℕ) → es ≡ m.elements → length es ≤ i →
-    out ≡ (front m.head (length es) ++ element_bytes (take i es)) ++ drop at old → out ≡ spelling m ++ drop at old
+pub all-put : (m : MapBody) (es : List MapElement) (i at : ℕ) (old out : List ℕ) → es ≡ m.elements →
+    length es ≤ i →
+    out ≡ (front m.head (length es) ++ element_bytes (take i es)) ++ drop at old →
+    out ≡ spelling m ++ drop at old
 unfolding spelling
 all-put m es i at old out is past written =
-    written ∙ ap (λ later. (front m.head (length es) ++ element_bytes later) ++ drop at old) (take_all i es past) ∙
+    written ∙ ap (λ later. (front m.head (length es) ++ element_bytes later) ++ drop at old)
+    (take_all i es past) ∙
     ap (λ all. (front m.head (length all) ++ element_bytes all) ++ drop at old) is
 
-pub length-spelling : (m : MapBody) → length m.head.backoffs ≡ 4 → length (spelling m) ≡ 16 + 4 * length m.elements
+pub length-spelling : (m : MapBody) → length m.head.backoffs ≡ 4 →
+    length (spelling m) ≡ 16 + 4 * length m.elements
 unfolding spelling
 length-spelling m four =
     let whole : length (front m.head (length m.elements) ++ element_bytes m.elements) ≡ length (front m.head (length m.elements)) + length (element_bytes m.elements) =

@@ -21,9 +21,12 @@ word-fits e h = omega (arith, h.sid, h.iuc, h.offset)
 element-of-word : (e : MapElement) → IsMapElement e → element_of (word_of e) ≡ e
 unfolding word_of element_of
 element-of-word e h =
-    let sid : (e.sid * 2 ^ 18 + e.iuc * 2 ^ 14 + e.offset) / 2 ^ 18 ≡ e.sid = omega (arith, h.sid, h.iuc, h.offset) in
-    let iuc : (e.sid * 2 ^ 18 + e.iuc * 2 ^ 14 + e.offset) / 2 ^ 14 % 2 ^ 4 ≡ e.iuc = omega (arith, h.sid, h.iuc, h.offset) in
-    let offset : (e.sid * 2 ^ 18 + e.iuc * 2 ^ 14 + e.offset) % 2 ^ 14 ≡ e.offset = omega (arith, h.sid, h.iuc, h.offset) in
+    let sid : (e.sid * 2 ^ 18 + e.iuc * 2 ^ 14 + e.offset) / 2 ^ 18 ≡ e.sid =
+    omega (arith, h.sid, h.iuc, h.offset) in
+    let iuc : (e.sid * 2 ^ 18 + e.iuc * 2 ^ 14 + e.offset) / 2 ^ 14 % 2 ^ 4 ≡ e.iuc =
+    omega (arith, h.sid, h.iuc, h.offset) in
+    let offset : (e.sid * 2 ^ 18 + e.iuc * 2 ^ 14 + e.offset) % 2 ^ 14 ≡ e.offset =
+    omega (arith, h.sid, h.iuc, h.offset) in
     rw (sid, iuc, offset) refl
 
 are-four : (a b c d : ℕ) → a < 256 → b < 256 → c < 256 → d < 256 → AreBytes (a ∷ b ∷ c ∷ d ∷ [])
@@ -36,7 +39,8 @@ are-four a b c d ha hb hc hd (suc (suc (suc (suc i)))) = omega arith
 -- four bytes are those of the number that they spell
 pub four-bytes : (a b c d : ℕ) → a < 256 → b < 256 → c < 256 → d < 256 →
     to_be_bytes w32 (from_be_bytes w32 (a ∷ b ∷ c ∷ d ∷ [])) ≡ a ∷ b ∷ c ∷ d ∷ []
-four-bytes a b c d ha hb hc hd = be_bytes_4 (a ∷ b ∷ c ∷ d ∷ []) (from_be_bytes w32 (a ∷ b ∷ c ∷ d ∷ [])) refl (are-four a b c d ha hb hc hd) refl
+four-bytes a b c d ha hb hc hd = be_bytes_4 (a ∷ b ∷ c ∷ d ∷ [])
+    (from_be_bytes w32 (a ∷ b ∷ c ∷ d ∷ [])) refl (are-four a b c d ha hb hc hd) refl
 
 pub words-of-elements : (bytes : List ℕ) (count : ℕ) → AreBytes bytes → length bytes ≡ 4 * count →
     element_bytes (elements_at bytes) ≡ bytes
@@ -49,11 +53,13 @@ words-of-elements (a ∷ b ∷ c ∷ d ∷ rest) zero h long = absurd (omega ari
 words-of-elements (a ∷ b ∷ c ∷ d ∷ rest) (suc count) h long =
     let later : AreBytes rest = λ i. h (suc (suc (suc (suc i)))) in
     let more : element_bytes (elements_at rest) ≡ rest = words-of-elements rest count later (omega arith) in
-    ap (λ word. to_be_bytes w32 word ++ element_bytes (elements_at rest)) (word-of-element (from_be_bytes w32 (a ∷ b ∷ c ∷ d ∷ []))) ∙
+    ap (λ word. to_be_bytes w32 word ++ element_bytes (elements_at rest))
+    (word-of-element (from_be_bytes w32 (a ∷ b ∷ c ∷ d ∷ []))) ∙
     ap (λ four. four ++ element_bytes (elements_at rest)) (four-bytes a b c d (h 0) (h 1) (h 2) (h 3)) ∙
     ap (λ later. a ∷ b ∷ c ∷ d ∷ later) more
 
-pub length-elements : (bytes : List ℕ) (count : ℕ) → length bytes ≡ 4 * count → length (elements_at bytes) ≡ count
+pub length-elements : (bytes : List ℕ) (count : ℕ) → length bytes ≡ 4 * count →
+    length (elements_at bytes) ≡ count
 unfolding elements_at
 length-elements [] count long = omega arith
 length-elements (a ∷ []) count long = absurd (omega arith)
@@ -64,12 +70,14 @@ length-elements (a ∷ b ∷ c ∷ d ∷ rest) (suc count) long =
     let more : length (elements_at rest) ≡ count = length-elements rest count (omega arith) in
     omega arith
 
-pub elements-of-element_bytes : (es : List MapElement) → AllByRecursion IsMapElement es → elements_at (element_bytes es) ≡ es
+pub elements-of-element_bytes : (es : List MapElement) → AllByRecursion IsMapElement es →
+    elements_at (element_bytes es) ≡ es
 unfolding element_bytes elements_at
 elements-of-element_bytes [] h = refl
 elements-of-element_bytes (e ∷ es) h =
     let more : elements_at (element_bytes es) ≡ es = elements-of-element_bytes es h.1 in
-    ap (λ word. element_of word ∷ elements_at (element_bytes es)) (from_be_bytes-to_be_bytes_4 (word_of e) (word-fits e h.0)) ∙
+    ap (λ word. element_of word ∷ elements_at (element_bytes es))
+    (from_be_bytes-to_be_bytes_4 (word_of e) (word-fits e h.0)) ∙
     ap (λ d. d ∷ elements_at (element_bytes es)) (element-of-word e h.0) ∙
     ap (λ later. e ∷ later) more
 

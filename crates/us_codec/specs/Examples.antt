@@ -1,6 +1,6 @@
 -- Small inputs, computed by the definitions alone.
-use Rattle.std.specs.Prelude.{◌≡◌, ℕ, List, [], ◌∷◌, ◌++◌, Ok, Err, refl}
-use Rattle.us_codec.specs.declared.faults.MapFault.TheVariants.{Short, LengthMismatch, Reserved, NoNull, Order, AfterNull, Backoff, FirstOffset}
+use Rattle.std.specs.Prelude.{◌≡◌, ℕ, List, [], ◌∷◌, ◌++◌, replicate, Ok, Err, refl}
+use Rattle.us_codec.specs.declared.faults.MapFault.TheVariants.{Short, LengthMismatch, Reserved, TooManyElements, NoNull, Order, AfterNull, Backoff, FirstOffset}
 use Rattle.us_codec.specs.Elements.{MapElement, word_of, element_of, null_at}
 use Rattle.us_codec.specs.declared.heads.Head.{Head}
 use Rattle.us_codec.specs.Bodies.{MapBody, body_of, element_bytes, front, spelling}
@@ -39,47 +39,67 @@ spelled = refl
 
 -- and read
 read : decode_answer (front_of 3 0 2 ++ request_bytes ++ later_bytes ++ null_bytes) ≡ Ok base
-unfolding decode_answer read_fault front_fault list_fault parts_fault head_at elements_at element_of end_of before_end after_end rises_to_end rises ends_in_pendings are_pending_after starts_at_zero
+unfolding decode_answer read_fault front_fault head_at elements_at element_of
+    list_fault parts_fault end_of before_end after_end rises_to_end rises ends_in_pendings are_pending_after starts_at_zero
 read = refl
+
+-- with a data grant pending of SID 1 behind its Null
+abbrev granted_later : MapBody
+granted_later =
+    body_of base_head (request_from 0 ∷ request_from 150 ∷ []) 160 (record { sid = 1; iuc = 10; offset = 160 } ∷ [])
+
+read_pending :
+    decode_answer (front_of 4 0 2 ++ request_bytes ++ later_bytes ++ null_bytes ++ 0 ∷ 6 ∷ 128 ∷ 160 ∷ []) ≡ Ok granted_later
+unfolding decode_answer read_fault front_fault head_at elements_at element_of
+    list_fault parts_fault end_of before_end after_end rises_to_end rises ends_in_pendings are_pending_after starts_at_zero
+read_pending = refl
 
 -- fifteen zero bytes
 short : decode_answer (0 ∷ 0 ∷ 0 ∷ 0 ∷ 0 ∷ 0 ∷ 0 ∷ 0 ∷ 0 ∷ 0 ∷ 0 ∷ 0 ∷ 0 ∷ 0 ∷ 0 ∷ []) ≡ Err Short
-unfolding decode_answer read_fault front_fault list_fault parts_fault head_at elements_at element_of end_of before_end after_end rises_to_end rises ends_in_pendings are_pending_after starts_at_zero
+unfolding decode_answer read_fault front_fault head_at elements_at element_of
+    list_fault parts_fault end_of before_end after_end rises_to_end rises ends_in_pendings are_pending_after starts_at_zero
 short = refl
 
 -- the last byte cut off
 one_byte_less : decode_answer (front_of 3 0 2 ++ request_bytes ++ later_bytes ++ 0 ∷ 1 ∷ 192 ∷ []) ≡ Err LengthMismatch
-unfolding decode_answer read_fault front_fault list_fault parts_fault head_at elements_at element_of end_of before_end after_end rises_to_end rises ends_in_pendings are_pending_after starts_at_zero
+unfolding decode_answer read_fault front_fault head_at elements_at element_of
+    list_fault parts_fault end_of before_end after_end rises_to_end rises ends_in_pendings are_pending_after starts_at_zero
 one_byte_less = refl
 
 -- Reserved 1
 reserved_one : decode_answer (front_of 3 1 2 ++ request_bytes ++ later_bytes ++ null_bytes) ≡ Err Reserved
-unfolding decode_answer read_fault front_fault list_fault parts_fault head_at elements_at element_of end_of before_end after_end rises_to_end rises ends_in_pendings are_pending_after starts_at_zero
+unfolding decode_answer read_fault front_fault head_at elements_at element_of
+    list_fault parts_fault end_of before_end after_end rises_to_end rises ends_in_pendings are_pending_after starts_at_zero
 reserved_one = refl
 
 -- an element of IUC 3 for the Null
 no_null : decode_answer (front_of 3 0 2 ++ request_bytes ++ later_bytes ++ 0 ∷ 0 ∷ 192 ∷ 160 ∷ []) ≡ Err NoNull
-unfolding decode_answer read_fault front_fault list_fault parts_fault head_at elements_at element_of end_of before_end after_end rises_to_end rises ends_in_pendings are_pending_after starts_at_zero
+unfolding decode_answer read_fault front_fault head_at elements_at element_of
+    list_fault parts_fault end_of before_end after_end rises_to_end rises ends_in_pendings are_pending_after starts_at_zero
 no_null = refl
 
 -- two elements at offset 0
 same_offset : decode_answer (front_of 3 0 2 ++ request_bytes ++ request_bytes ++ null_bytes) ≡ Err Order
-unfolding decode_answer read_fault front_fault list_fault parts_fault head_at elements_at element_of end_of before_end after_end rises_to_end rises ends_in_pendings are_pending_after starts_at_zero
+unfolding decode_answer read_fault front_fault head_at elements_at element_of
+    list_fault parts_fault end_of before_end after_end rises_to_end rises ends_in_pendings are_pending_after starts_at_zero
 same_offset = refl
 
 -- a pending at offset 159
 early_pending : decode_answer (front_of 4 0 2 ++ request_bytes ++ later_bytes ++ null_bytes ++ 0 ∷ 6 ∷ 128 ∷ 159 ∷ []) ≡ Err AfterNull
-unfolding decode_answer read_fault front_fault list_fault parts_fault head_at elements_at element_of end_of before_end after_end rises_to_end rises ends_in_pendings are_pending_after starts_at_zero
+unfolding decode_answer read_fault front_fault head_at elements_at element_of
+    list_fault parts_fault end_of before_end after_end rises_to_end rises ends_in_pendings are_pending_after starts_at_zero
 early_pending = refl
 
 -- a backoff of 16
 backoff_sixteen : decode_answer (front_of 3 0 16 ++ request_bytes ++ later_bytes ++ null_bytes) ≡ Err Backoff
-unfolding decode_answer read_fault front_fault list_fault parts_fault head_at elements_at element_of end_of before_end after_end rises_to_end rises ends_in_pendings are_pending_after starts_at_zero
+unfolding decode_answer read_fault front_fault head_at elements_at element_of
+    list_fault parts_fault end_of before_end after_end rises_to_end rises ends_in_pendings are_pending_after starts_at_zero
 backoff_sixteen = refl
 
 -- a first element at offset 1
 late_first : decode_answer (front_of 3 0 2 ++ (255 ∷ 252 ∷ 64 ∷ 1 ∷ []) ++ later_bytes ++ null_bytes) ≡ Err FirstOffset
-unfolding decode_answer read_fault front_fault list_fault parts_fault head_at elements_at element_of end_of before_end after_end rises_to_end rises ends_in_pendings are_pending_after starts_at_zero
+unfolding decode_answer read_fault front_fault head_at elements_at element_of
+    list_fault parts_fault end_of before_end after_end rises_to_end rises ends_in_pendings are_pending_after starts_at_zero
 late_first = refl
 
 -- building: the Null is put, and may not be among the elements
@@ -87,9 +107,14 @@ null_put : build_answer base_head (request_from 0 ∷ request_from 150 ∷ []) 1
 unfolding build_answer build_fault parts_fault end_of before_end after_end rises_to_end rises ends_in_pendings are_pending_after starts_at_zero
 null_put = refl
 
-null_twice : build_answer base_head (request_from 0 ∷ null_at 150 ∷ []) 160 [] ≡ Err NoNull
+null_among : build_answer base_head (request_from 0 ∷ null_at 150 ∷ []) 160 [] ≡ Err NoNull
 unfolding build_answer build_fault end_of
-null_twice = refl
+null_among = refl
+
+-- and with 240 elements before it there are too many
+one_too_many : build_answer base_head (replicate 240 (request_from 0)) 160 [] ≡ Err TooManyElements
+unfolding build_answer build_fault
+one_too_many = refl
 
 -- a record of round 1 with two bytes for its body
 two_bytes : maps_file (record { round = 1; body = 7 ∷ 8 ∷ [] } ∷ []) ≡ 0 ∷ 0 ∷ 0 ∷ 1 ∷ 0 ∷ 2 ∷ 7 ∷ 8 ∷ []
