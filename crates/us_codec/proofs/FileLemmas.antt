@@ -1,5 +1,5 @@
 -- Maps files: what bytes read as, front to back, and that no bytes read as two files.
-use Rattle.std.proofs.Common.{◌≡◌, ◌≢◌, ℕ, zero, suc, ◌+◌, ◌-◌, ◌^◌, ◌<◌, ◌≤◌, List, [], ◌∷◌, ◌++◌, length, map, take, drop, slice_range, get_or, slice_index, replicate, append_assoc, append-nil, true, false, eqb, Result, Ok, Err, IfOk, IfErr, Vec, Global, refl, ap, sym, ◌∙◌, inl, inr, arith}
+use Rattle.std.proofs.Common.{◌≡◌, ◌≢◌, ℕ, zero, suc, ◌+◌, ◌-◌, ◌^◌, ◌<◌, ◌≤◌, ◌⊎◌, List, [], ◌∷◌, ◌++◌, length, map, take, drop, slice_range, get_or, slice_index, replicate, append_assoc, append-nil, true, false, eqb, Result, Ok, Err, IfOk, IfErr, Vec, Global, refl, ap, sym, ◌∙◌, inl, inr, arith}
 use Rattle.std.specs.List.{All, AllByRecursion}
 use Rattle.std.specs.Int.{to_be_bytes, from_be_bytes, w16, w32}
 use Rattle.std.proofs.lemmas.Nat.{be_bytes_2, from_be_bytes-to_be_bytes_2, from_be_bytes-to_be_bytes_4}
@@ -384,6 +384,22 @@ inside-found bytes rest at records are r empty short =
       not_all = c.not_all;
       spelled = r.whole;
     }
+
+file-lengths : (ps : List Piece) → (length (maps_file ps) ≡ 0) ⊎ (6 ≤ length (maps_file ps))
+unfolding maps_file
+file-lengths [] = inl refl
+file-lengths (p ∷ ps) =
+    inr (omega (arith, length-append (record_bytes p) (maps_file ps), length-piece p))
+
+-- fewer bytes than a record has before its body are no maps file
+pub short-cut : (bytes rest : List ℕ) (at : ℕ) (records : List Record) → Read bytes rest at records →
+    true ≡ eqb (length rest) 0 → 0 < length bytes → length bytes < 6 → ⊥
+short-cut bytes rest at records r ended some short =
+    let none : length rest ≡ 0 = eqb-true (length rest) 0 (sym ended) in
+    elim (file-lengths r.pieces) [
+      | inl empty ↦ omega (arith, empty, none, r.place, r.long)
+      | inr long ↦ omega (arith, long, none, r.place, r.long)
+    ]
 
 pub ruleset reading = (read-start, read-step)
 

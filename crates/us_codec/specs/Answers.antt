@@ -1,4 +1,4 @@
--- Answers that are right unless memory runs out.
+-- Answers that are the wanted ones, but for want of memory, which may be answered in place of any of them.
 use Rattle.std.specs.Prelude.{◌≡◌, ◌≢◌, List, Result, Ok, Err}
 use Rattle.std.specs.Global.{Vec}
 use Rattle.us_codec.specs.declared.faults.MapFault.{MapFault}

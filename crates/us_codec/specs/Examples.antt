@@ -102,6 +102,77 @@ unfolding decode_answer read_fault front_fault head_at elements_at element_of
     list_fault parts_fault end_of before_end after_end rises_to_end rises ends_in_pendings are_pending_after starts_at_zero
 late_first = refl
 
+-- of two neighbouring faults the first: the length before Reserved
+mismatch_first :
+    decode_answer (front_of 4 1 2 ++ request_bytes ++ later_bytes ++ null_bytes) ≡ Err LengthMismatch
+unfolding decode_answer read_fault front_fault head_at elements_at element_of
+    list_fault parts_fault end_of before_end after_end rises_to_end rises ends_in_pendings are_pending_after starts_at_zero
+mismatch_first = refl
+
+-- Reserved before too many elements
+reserved_first :
+    decode_answer (front_of 241 1 2 ++ replicate 964 0) ≡ Err Reserved
+unfolding decode_answer read_fault front_fault head_at elements_at element_of
+    list_fault parts_fault end_of before_end after_end rises_to_end rises ends_in_pendings are_pending_after starts_at_zero
+reserved_first = refl
+
+-- too many elements before none that ends the list
+count_first :
+    decode_answer (front_of 241 0 2 ++ replicate 964 0) ≡ Err TooManyElements
+unfolding decode_answer read_fault front_fault head_at elements_at element_of
+    list_fault parts_fault end_of before_end after_end rises_to_end rises ends_in_pendings are_pending_after starts_at_zero
+count_first = refl
+
+-- no Null before falling offsets
+null_first :
+    decode_answer (front_of 3 0 2 ++ later_bytes ++ request_bytes ++ 0 ∷ 0 ∷ 192 ∷ 160 ∷ []) ≡ Err NoNull
+unfolding decode_answer read_fault front_fault head_at elements_at element_of
+    list_fault parts_fault end_of before_end after_end rises_to_end rises ends_in_pendings are_pending_after starts_at_zero
+null_first = refl
+
+-- falling offsets before a second Null
+order_first :
+    decode_answer (front_of 4 0 2 ++ later_bytes ++ request_bytes ++ null_bytes ++ null_bytes) ≡ Err Order
+unfolding decode_answer read_fault front_fault head_at elements_at element_of
+    list_fault parts_fault end_of before_end after_end rises_to_end rises ends_in_pendings are_pending_after starts_at_zero
+order_first = refl
+
+-- a second Null before a backoff
+pendings_first :
+    decode_answer (front_of 3 0 16 ++ request_bytes ++ null_bytes ++ null_bytes) ≡ Err AfterNull
+unfolding decode_answer read_fault front_fault head_at elements_at element_of
+    list_fault parts_fault end_of before_end after_end rises_to_end rises ends_in_pendings are_pending_after starts_at_zero
+pendings_first = refl
+
+-- a backoff before the first offset
+backoff_first :
+    decode_answer (front_of 2 0 16 ++ later_bytes ++ null_bytes) ≡ Err Backoff
+unfolding decode_answer read_fault front_fault head_at elements_at element_of
+    list_fault parts_fault end_of before_end after_end rises_to_end rises ends_in_pendings are_pending_after starts_at_zero
+backoff_first = refl
+
+-- an element of IUC 7 and SID 1 is no Null
+named_null :
+    decode_answer (front_of 3 0 2 ++ request_bytes ++ (0 ∷ 5 ∷ 192 ∷ 150 ∷ []) ++ null_bytes) ≡ Err NoNull
+unfolding decode_answer read_fault front_fault head_at elements_at element_of
+    list_fault parts_fault end_of before_end after_end rises_to_end rises ends_in_pendings are_pending_after starts_at_zero
+named_null = refl
+
+-- every field of a head has its own place
+abbrev marked : MapBody
+marked = body_of
+    (record { channel = 1; ucd_count = 2; alloc_start = 50595078; ack = 117967114; backoffs = 11 ∷ 12 ∷ 13 ∷ 14 ∷ [] }) [] 0 []
+
+marked_spelled : spelling marked ≡
+    1 ∷ 2 ∷ 1 ∷ 0 ∷ 3 ∷ 4 ∷ 5 ∷ 6 ∷ 7 ∷ 8 ∷ 9 ∷ 10 ∷ 11 ∷ 12 ∷ 13 ∷ 14 ∷ 0 ∷ 1 ∷ 192 ∷ 0 ∷ []
+unfolding spelling front element_bytes word_of
+marked_spelled = refl
+
+marked_read : decode_answer (spelling marked) ≡ Ok marked
+unfolding spelling front element_bytes word_of decode_answer read_fault front_fault head_at elements_at element_of
+    list_fault parts_fault end_of before_end after_end rises_to_end rises ends_in_pendings are_pending_after starts_at_zero
+marked_read = refl
+
 -- building: the Null is put, and may not be among the elements
 null_put : build_answer base_head (request_from 0 ∷ request_from 150 ∷ []) 160 [] ≡ Ok base
 unfolding build_answer build_fault parts_fault end_of before_end after_end rises_to_end rises ends_in_pendings are_pending_after starts_at_zero

@@ -8,7 +8,7 @@ pub mod Elements
 pub mod Bodies
 -- the first fault of bytes, or of the parts that a MAP is built of
 pub mod Faults
--- answers that are right unless memory runs out
+-- answers, but for want of memory
 pub mod Answers
 -- maps files: records, one behind another
 pub mod MapsFiles

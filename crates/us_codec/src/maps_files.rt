@@ -1,4 +1,4 @@
-ghost use Rattle.std.specs.Prelude.{◌≡◌, ◌≢◌, ◌≤◌, length, List, Ok, Err, IfOk, IfErr};
+ghost use Rattle.std.specs.Prelude.{◌≡◌, ◌≢◌, ◌<◌, ◌≤◌, length, List, Ok, Err, IsOk, IfOk, IfErr};
 ghost use Rattle.std.specs.List.{All, AllByRecursion};
 ghost use Rattle.us_codec.specs.MapsFiles.{Piece, IsPiece, maps_file, places, IsMapsFile, EndsInside};
 ghost use Rattle.us_codec.specs.Answers.{ListUnlessNoMemory};
@@ -32,6 +32,8 @@ pub fn records(alloc: Global, file: &[u8]) -> Result<Vec<Record>, MapFault>
     ensures fault { IfErr result (λ fault. fault ≢ NoMemory → fault ≡ RecordCut) }
     ensures inside { IfErr result (λ fault. fault ≢ NoMemory → EndsInside file.now) }
     ensures cut { EndsInside file.now → ListUnlessNoMemory result (Err RecordCut) }
+    ensures empty { length file.now ≡ 0 → IsOk result }
+    ensures short { 0 < length file.now → length file.now < 6 → result ≡ Err RecordCut }
 {
     split(alloc, file)
 }
@@ -42,6 +44,8 @@ fn split(alloc: Global, file: &[u8]) -> Result<Vec<Record>, MapFault>
     ensures found { IfOk result (λ records. IsMapsFile file.now records.items) }
     ensures fault { IfErr result (λ fault. fault ≢ NoMemory → fault ≡ RecordCut) }
     ensures inside { IfErr result (λ fault. fault ≢ NoMemory → EndsInside file.now) }
+    ensures empty { length file.now ≡ 0 → IsOk result }
+    ensures short { 0 < length file.now → length file.now < 6 → result ≡ Err RecordCut }
 {
     let mut found = Vec::new(alloc);
     let mut rest = file;

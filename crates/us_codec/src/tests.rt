@@ -8,3 +8,4 @@ mod memory;
 mod plain;
 mod reading;
 mod texts;
+mod values;

@@ -1,6 +1,6 @@
 use Rattle.std.proofs.Common.{arith}
 use Rattle.us_codec.proofs.WordLemmas.{AreBytes}
-use Rattle.us_codec.proofs.FileLemmas.{inside-found, whole-found}
+use Rattle.us_codec.proofs.FileLemmas.{inside-found, whole-found, short-cut}
 use Rattle.us_codec.proofs.maps_files.split.Goals as goal
 
 pub returns-then-rest-lt-HEADER_BYTES-clause-inside :
@@ -19,3 +19,8 @@ returns-then-rest-body_len-clause-inside c = λ known.
 pub returns-clause-found : goal.returns-clause-found
 returns-clause-found c =
     whole-found c.args.file.now c.loop-rest.rest.now c.loop-rest.at c.loop-rest.found.items c.loop-rest.invariant c.loop-rest-test.ensures
+
+pub returns-clause-short : goal.returns-clause-short
+returns-clause-short c = λ some short.
+    absurd (short-cut c.args.file.now c.loop-rest.rest.now c.loop-rest.at c.loop-rest.found.items c.loop-rest.invariant
+    c.loop-rest-test.ensures some short)
