@@ -49,114 +49,55 @@ granted_later =
     body_of base_head (request_from 0 ∷ request_from 150 ∷ []) 160 (record { sid = 1; iuc = 10; offset = 160 } ∷ [])
 
 read_pending :
-    decode_answer (front_of 4 0 2 ++ request_bytes ++ later_bytes ++ null_bytes ++ 0 ∷ 6 ∷ 128 ∷ 160 ∷ []) ≡ Ok granted_later
+    decode_answer (front_of 4 0 2 ++ request_bytes ++ later_bytes ++ null_bytes ++ 0 ∷ 6 ∷ 128 ∷ 160 ∷ []) ≡
+    Ok granted_later
 unfolding decode_answer read_fault front_fault head_at elements_at element_of
     list_fault parts_fault end_of before_end after_end rises_to_end rises ends_in_pendings are_pending_after starts_at_zero
 read_pending = refl
 
--- fifteen zero bytes
-short : decode_answer (0 ∷ 0 ∷ 0 ∷ 0 ∷ 0 ∷ 0 ∷ 0 ∷ 0 ∷ 0 ∷ 0 ∷ 0 ∷ 0 ∷ 0 ∷ 0 ∷ 0 ∷ []) ≡ Err Short
+-- faults
+faults :
+    -- fifteen zero bytes
+    (decode_answer (replicate 15 0) ≡ Err Short) ×
+    -- the last byte cut off
+    (decode_answer (front_of 3 0 2 ++ request_bytes ++ later_bytes ++ 0 ∷ 1 ∷ 192 ∷ []) ≡ Err LengthMismatch) ×
+    -- Reserved 1
+    (decode_answer (front_of 3 1 2 ++ request_bytes ++ later_bytes ++ null_bytes) ≡ Err Reserved) ×
+    -- 241 elements
+    (decode_answer (front_of 241 0 2 ++ replicate 964 0) ≡ Err TooManyElements) ×
+    -- an element of IUC 3 for the Null
+    (decode_answer (front_of 3 0 2 ++ request_bytes ++ later_bytes ++ 0 ∷ 0 ∷ 192 ∷ 160 ∷ []) ≡ Err NoNull) ×
+    -- one of IUC 7 and SID 1 before the Null
+    (decode_answer (front_of 3 0 2 ++ request_bytes ++ (0 ∷ 5 ∷ 192 ∷ 150 ∷ []) ++ null_bytes) ≡ Err NoNull) ×
+    -- two elements at offset 0
+    (decode_answer (front_of 3 0 2 ++ request_bytes ++ request_bytes ++ null_bytes) ≡ Err Order) ×
+    -- a pending at offset 159
+    (decode_answer (front_of 4 0 2 ++ request_bytes ++ later_bytes ++ null_bytes ++ 0 ∷ 6 ∷ 128 ∷ 159 ∷ []) ≡ Err AfterNull) ×
+    -- a backoff of 16
+    (decode_answer (front_of 3 0 16 ++ request_bytes ++ later_bytes ++ null_bytes) ≡ Err Backoff) ×
+    -- a first element at offset 1
+    (decode_answer (front_of 3 0 2 ++ (255 ∷ 252 ∷ 64 ∷ 1 ∷ []) ++ later_bytes ++ null_bytes) ≡ Err FirstOffset)
 unfolding decode_answer read_fault front_fault head_at elements_at element_of
     list_fault parts_fault end_of before_end after_end rises_to_end rises ends_in_pendings are_pending_after starts_at_zero
-short = refl
+faults = (refl, refl, refl, refl, refl, refl, refl, refl, refl, refl)
 
--- the last byte cut off
-one_byte_less : decode_answer (front_of 3 0 2 ++ request_bytes ++ later_bytes ++ 0 ∷ 1 ∷ 192 ∷ []) ≡ Err LengthMismatch
+-- of two faults the first
+first_of_two :
+    -- length and Reserved
+    (decode_answer (front_of 4 1 2 ++ request_bytes ++ later_bytes ++ null_bytes) ≡ Err LengthMismatch) ×
+    -- Reserved and 241 elements
+    (decode_answer (front_of 241 1 2 ++ replicate 964 0) ≡ Err Reserved) ×
+    -- no Null and falling offsets
+    (decode_answer (front_of 3 0 2 ++ later_bytes ++ request_bytes ++ 0 ∷ 0 ∷ 192 ∷ 160 ∷ []) ≡ Err NoNull) ×
+    -- falling offsets and a second Null
+    (decode_answer (front_of 4 0 2 ++ later_bytes ++ request_bytes ++ null_bytes ++ null_bytes) ≡ Err Order) ×
+    -- a second Null and a backoff of 16
+    (decode_answer (front_of 3 0 16 ++ request_bytes ++ null_bytes ++ null_bytes) ≡ Err AfterNull) ×
+    -- a backoff of 16 and a first offset of 150
+    (decode_answer (front_of 2 0 16 ++ later_bytes ++ null_bytes) ≡ Err Backoff)
 unfolding decode_answer read_fault front_fault head_at elements_at element_of
     list_fault parts_fault end_of before_end after_end rises_to_end rises ends_in_pendings are_pending_after starts_at_zero
-one_byte_less = refl
-
--- Reserved 1
-reserved_one : decode_answer (front_of 3 1 2 ++ request_bytes ++ later_bytes ++ null_bytes) ≡ Err Reserved
-unfolding decode_answer read_fault front_fault head_at elements_at element_of
-    list_fault parts_fault end_of before_end after_end rises_to_end rises ends_in_pendings are_pending_after starts_at_zero
-reserved_one = refl
-
--- an element of IUC 3 for the Null
-no_null : decode_answer (front_of 3 0 2 ++ request_bytes ++ later_bytes ++ 0 ∷ 0 ∷ 192 ∷ 160 ∷ []) ≡ Err NoNull
-unfolding decode_answer read_fault front_fault head_at elements_at element_of
-    list_fault parts_fault end_of before_end after_end rises_to_end rises ends_in_pendings are_pending_after starts_at_zero
-no_null = refl
-
--- two elements at offset 0
-same_offset : decode_answer (front_of 3 0 2 ++ request_bytes ++ request_bytes ++ null_bytes) ≡ Err Order
-unfolding decode_answer read_fault front_fault head_at elements_at element_of
-    list_fault parts_fault end_of before_end after_end rises_to_end rises ends_in_pendings are_pending_after starts_at_zero
-same_offset = refl
-
--- a pending at offset 159
-early_pending : decode_answer (front_of 4 0 2 ++ request_bytes ++ later_bytes ++ null_bytes ++ 0 ∷ 6 ∷ 128 ∷ 159 ∷ []) ≡ Err AfterNull
-unfolding decode_answer read_fault front_fault head_at elements_at element_of
-    list_fault parts_fault end_of before_end after_end rises_to_end rises ends_in_pendings are_pending_after starts_at_zero
-early_pending = refl
-
--- a backoff of 16
-backoff_sixteen : decode_answer (front_of 3 0 16 ++ request_bytes ++ later_bytes ++ null_bytes) ≡ Err Backoff
-unfolding decode_answer read_fault front_fault head_at elements_at element_of
-    list_fault parts_fault end_of before_end after_end rises_to_end rises ends_in_pendings are_pending_after starts_at_zero
-backoff_sixteen = refl
-
--- a first element at offset 1
-late_first : decode_answer (front_of 3 0 2 ++ (255 ∷ 252 ∷ 64 ∷ 1 ∷ []) ++ later_bytes ++ null_bytes) ≡ Err FirstOffset
-unfolding decode_answer read_fault front_fault head_at elements_at element_of
-    list_fault parts_fault end_of before_end after_end rises_to_end rises ends_in_pendings are_pending_after starts_at_zero
-late_first = refl
-
--- of two neighbouring faults the first: the length before Reserved
-mismatch_first :
-    decode_answer (front_of 4 1 2 ++ request_bytes ++ later_bytes ++ null_bytes) ≡ Err LengthMismatch
-unfolding decode_answer read_fault front_fault head_at elements_at element_of
-    list_fault parts_fault end_of before_end after_end rises_to_end rises ends_in_pendings are_pending_after starts_at_zero
-mismatch_first = refl
-
--- Reserved before too many elements
-reserved_first :
-    decode_answer (front_of 241 1 2 ++ replicate 964 0) ≡ Err Reserved
-unfolding decode_answer read_fault front_fault head_at elements_at element_of
-    list_fault parts_fault end_of before_end after_end rises_to_end rises ends_in_pendings are_pending_after starts_at_zero
-reserved_first = refl
-
--- too many elements before none that ends the list
-count_first :
-    decode_answer (front_of 241 0 2 ++ replicate 964 0) ≡ Err TooManyElements
-unfolding decode_answer read_fault front_fault head_at elements_at element_of
-    list_fault parts_fault end_of before_end after_end rises_to_end rises ends_in_pendings are_pending_after starts_at_zero
-count_first = refl
-
--- no Null before falling offsets
-null_first :
-    decode_answer (front_of 3 0 2 ++ later_bytes ++ request_bytes ++ 0 ∷ 0 ∷ 192 ∷ 160 ∷ []) ≡ Err NoNull
-unfolding decode_answer read_fault front_fault head_at elements_at element_of
-    list_fault parts_fault end_of before_end after_end rises_to_end rises ends_in_pendings are_pending_after starts_at_zero
-null_first = refl
-
--- falling offsets before a second Null
-order_first :
-    decode_answer (front_of 4 0 2 ++ later_bytes ++ request_bytes ++ null_bytes ++ null_bytes) ≡ Err Order
-unfolding decode_answer read_fault front_fault head_at elements_at element_of
-    list_fault parts_fault end_of before_end after_end rises_to_end rises ends_in_pendings are_pending_after starts_at_zero
-order_first = refl
-
--- a second Null before a backoff
-pendings_first :
-    decode_answer (front_of 3 0 16 ++ request_bytes ++ null_bytes ++ null_bytes) ≡ Err AfterNull
-unfolding decode_answer read_fault front_fault head_at elements_at element_of
-    list_fault parts_fault end_of before_end after_end rises_to_end rises ends_in_pendings are_pending_after starts_at_zero
-pendings_first = refl
-
--- a backoff before the first offset
-backoff_first :
-    decode_answer (front_of 2 0 16 ++ later_bytes ++ null_bytes) ≡ Err Backoff
-unfolding decode_answer read_fault front_fault head_at elements_at element_of
-    list_fault parts_fault end_of before_end after_end rises_to_end rises ends_in_pendings are_pending_after starts_at_zero
-backoff_first = refl
-
--- an element of IUC 7 and SID 1 is no Null
-named_null :
-    decode_answer (front_of 3 0 2 ++ request_bytes ++ (0 ∷ 5 ∷ 192 ∷ 150 ∷ []) ++ null_bytes) ≡ Err NoNull
-unfolding decode_answer read_fault front_fault head_at elements_at element_of
-    list_fault parts_fault end_of before_end after_end rises_to_end rises ends_in_pendings are_pending_after starts_at_zero
-named_null = refl
+first_of_two = (refl, refl, refl, refl, refl, refl)
 
 -- every field of a head has its own place
 abbrev marked : MapBody
@@ -175,7 +116,8 @@ marked_read = refl
 
 -- building: the Null is put, and may not be among the elements
 null_put : build_answer base_head (request_from 0 ∷ request_from 150 ∷ []) 160 [] ≡ Ok base
-unfolding build_answer build_fault parts_fault end_of before_end after_end rises_to_end rises ends_in_pendings are_pending_after starts_at_zero
+unfolding build_answer build_fault parts_fault end_of before_end after_end
+    rises_to_end rises ends_in_pendings are_pending_after starts_at_zero
 null_put = refl
 
 null_among : build_answer base_head (request_from 0 ∷ null_at 150 ∷ []) 160 [] ≡ Err NoNull

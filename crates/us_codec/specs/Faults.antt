@@ -1,5 +1,5 @@
--- The first fault of bytes that are read as a MAP body, and of the parts that one is build_answer of: tests of whole lists,
--- in the order of the faults (ours).
+-- The first fault of bytes that are read as a MAP body, and of the parts that one is built of (ours): tests of whole
+-- lists, in the order of the faults.
 use Rattle.std.specs.Prelude.{ℕ, ◌+◌, ◌*◌, List, [], ◌∷◌, ◌++◌, length, drop, slice_index, find, Bool, true, false, not, ◌&&◌, ◌==◌, nat_lt, nat_le, if◌then◌else◌, Option, Some, None, option_to_list, is_some, Result, Ok, Err}
 use Rattle.std.specs.List.{list_all}
 use Rattle.std.specs.Int.{from_be_bytes, w32}
@@ -81,7 +81,7 @@ parts_fault h es =
 unfoldable pub list_fault : Head → List MapElement → Result (Unit {0}) MapFault
 list_fault h es = if not (is_null (end_of es)) then Err NoNull else parts_fault h es
 
--- of the parts that a MAP of length `len` is build_answer of
+-- of the parts that a MAP of length `len` is built of
 unfoldable pub build_fault : Head → List MapElement → ℕ → List MapElement → Result (Unit {0}) MapFault
 build_fault h before len after =
     if nat_lt max_elements (length before + 1 + length after) then Err TooManyElements
@@ -90,13 +90,18 @@ build_fault h before len after =
 
 -- Bytes that are read as a body.
 
+-- the number of the four bytes from `at` on
+abbrev pub word_at : List ℕ → ℕ → ℕ
+word_at bytes at = from_be_bytes w32
+    (slice_index bytes at ∷ slice_index bytes (at + 1) ∷ slice_index bytes (at + 2) ∷ slice_index bytes (at + 3) ∷ [])
+
 -- the head that sixteen bytes spell
 unfoldable pub head_at : List ℕ → Head
 head_at bytes = record {
   channel = slice_index bytes 0;
   ucd_count = slice_index bytes 1;
-  alloc_start = from_be_bytes w32 (slice_index bytes 4 ∷ slice_index bytes 5 ∷ slice_index bytes 6 ∷ slice_index bytes 7 ∷ []);
-  ack = from_be_bytes w32 (slice_index bytes 8 ∷ slice_index bytes 9 ∷ slice_index bytes 10 ∷ slice_index bytes 11 ∷ []);
+  alloc_start = word_at bytes 4;
+  ack = word_at bytes 8;
   backoffs = slice_index bytes 12 ∷ slice_index bytes 13 ∷ slice_index bytes 14 ∷ slice_index bytes 15 ∷ [];
 }
 
@@ -138,7 +143,7 @@ unfoldable pub decode_answer : List ℕ → Result MapBody MapFault
 decode_answer bytes =
     answer_unless (read_fault bytes) (record { head = head_at bytes; elements = elements_at (drop 16 bytes) })
 
--- of the parts that a MAP of length `len` is build_answer of
+-- of the parts that a MAP of length `len` is built of
 unfoldable pub build_answer : Head → List MapElement → ℕ → List MapElement → Result MapBody MapFault
 build_answer h before len after =
     answer_unless (build_fault h before len after) (body_of h before len after)

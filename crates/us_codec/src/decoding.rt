@@ -11,8 +11,8 @@ use crate::heads::{HEAD_BYTES, Head};
 use crate::maps::{MAX_ELEMENTS, Map};
 use std::alloc::{AllocError, Global};
 
-/// The MAP whose body these bytes are, or their first fault of M1 to M10. M1 to M4 are looked at before memory is taken;
-/// want of memory may come before the others.
+/// The MAP whose body these bytes are, or their first fault of M1 to M10. M1 to M4 are looked at before memory is
+/// taken; want of memory may come before the others.
 #[tactic(auto, using(crate::proofs::BodyLemmas::decoding))]
 pub fn decode(alloc: Global, body: &[u8]) -> Result<Map, MapFault>
     ensures found { IfOk result (λ map. SpellsMap body.now map) }

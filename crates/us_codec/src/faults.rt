@@ -1,8 +1,8 @@
 use std::alloc::{AllocError, AllocFailed};
 use thiserror::Error;
 
-/// Why bytes are no MAP body, why parts make none, or why bytes are no maps file. Of several, the first in this order is
-/// answered; but memory may be wanting before a later check is made.
+/// Why bytes are no MAP body, why parts make none, or why bytes are no maps file. Of several, the first in this order
+/// is answered, and M10 last; but memory may be wanting before a later check is made.
 #[derive(Clone, Copy, Debug, PartialEq, Eq, Hash, Error)]
 pub enum MapFault {
     /// M1: under 16 bytes.
@@ -17,7 +17,8 @@ pub enum MapFault {
     /// M4: over 240 elements, with the Null and the pendings.
     #[error("M4: over 240 elements")]
     TooManyElements,
-    /// M5: read, no element has IUC 7, or the first that has it has another SID than 0; build_answer, an element has IUC 7.
+    /// M5: read, no element has IUC 7, or the first that has it has another SID than 0; built, an element before the
+    /// Null has IUC 7.
     #[error("M5: no Null, or one out of place")]
     NoNull,
     /// M6: the offsets up to the Null's don't rise strictly.

@@ -17,8 +17,8 @@ pub const MAX_ELEMENTS: usize = 240;
 /// The greatest length of a MAP, in minislots: that of an offset, since the Null stands there (the standard's).
 pub const MAX_LEN: u16 = MAX_OFFSET;
 
-/// The body of a MAP, which keeps the grammar: at most [`MAX_ELEMENTS`] elements, the first at offset 0; those before the
-/// Null at offsets that rise strictly, up to its own; the Null, at the MAP's length; and the pendings at the same
+/// The body of a MAP, which keeps the grammar: at most [`MAX_ELEMENTS`] elements, the first at offset 0; those before
+/// the Null at offsets that rise strictly, up to its own; the Null, at the MAP's length; and the pendings at the same
 /// offset. No other element has the Null's IUC.
 #[derive(Debug, Drop)]
 pub struct Map {
