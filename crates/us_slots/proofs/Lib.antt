@@ -3,3 +3,4 @@ pub mod WindowLemmas
 pub mod CodeLemmas
 pub mod CostLemmas
 pub mod CapacityLemmas
+pub mod DeviceLemmas

@@ -2,13 +2,17 @@
 
 ghost use Rattle.std.specs.Prelude.{Some, codes};
 
+mod reading;
 mod sink;
 mod source;
+mod writing;
 
+pub use reading::{ReadFault, read_all};
 pub use sink::{FromWrite, Sink};
 pub use source::{FromRead, Source};
 use std::error::Error;
 use std::fmt;
+pub use writing::write_all;
 
 /// A read, write or flush that the device refused.
 #[derive(Clone, Copy, Debug, PartialEq, Eq, Hash)]

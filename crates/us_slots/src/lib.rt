@@ -40,7 +40,7 @@ pub use burst_sets::BurstSet;
 pub use capacities::{MAX_MAP_TICKS, capacity};
 pub use channel_times::ChannelTime;
 pub use costs::{MAX_BURST_BYTES, coded_len, cost, grant_cost};
-pub use devices::{Failed, FromRead, FromWrite, Sink, Source};
+pub use devices::{Failed, FromRead, FromWrite, ReadFault, Sink, Source, read_all, write_all};
 pub use memory::NoMemory;
 pub use profiles::Profile;
 pub use usage_codes::Iuc;

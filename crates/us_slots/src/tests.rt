@@ -5,3 +5,4 @@ mod bursts;
 mod devices;
 mod plain;
 mod ranges;
+mod transfers;
