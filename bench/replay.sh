@@ -1,0 +1,22 @@
+#!/usr/bin/env bash
+# Times mapsim on 1,000,000 requests over 100,000 rounds of one channel, ten requests a round. A benchmark and no test:
+# it prints what GNU time measured (seconds, and the most memory in KB), and the summary.
+# usage: bench/replay.sh [PROGRAM], the program being crates/mapsim/out/mapsim where none is named
+set -eu
+top=$(cd "$(dirname "$0")/.." && pwd)
+program=${1:-$top/crates/mapsim/out/mapsim}
+work=$(mktemp -d)
+trap 'rm -rf "$work"' EXIT
+
+# rounds of 320 ticks: ten requests arrive in each, of 40 units of 4 bytes
+awk 'BEGIN {
+  print "tick,channel,sid,units"
+  for (row = 0; row < 1000000; row++) print int(row / 10) * 320 + row % 10, 1, 291, 40
+}' OFS=, > "$work/trace.csv"
+ls -l "$work/trace.csv" | awk '{ print "trace", $5, "bytes" }'
+
+measure="/usr/bin/time -f %e_s_%M_KB"
+[ -x /usr/bin/time ] || measure=time
+$measure "$program" replay --config "$top/examples/base.toml" --trace "$work/trace.csv" --rounds 100000 \
+  --maps "$work/maps" --report "$work/report"
+ls -l "$work/maps" "$work/report" | awk '{ print $9, $5, "bytes" }' | sed "s|$work/||"

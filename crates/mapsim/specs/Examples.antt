@@ -1,0 +1,1 @@
+-- The definitions at small inputs.

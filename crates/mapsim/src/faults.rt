@@ -1,0 +1,169 @@
+ghost use Rattle.std.specs.Prelude.{◌≡◌};
+ghost use Rattle.mapsim.specs.Statuses as statuses;
+
+use crate::fault_lines::{ConfigLine, MapLine, RunLine};
+use crate::statuses::Status;
+use std::alloc::{AllocError, AllocFailed};
+use std::fmt;
+use us_codec::MapFault;
+use us_flows::ConfigFault;
+use us_replay::RunFault;
+use us_requests::TraceFault;
+
+/// A file or stream of the program.
+#[derive(Clone, Copy, Debug, PartialEq, Eq, Hash)]
+pub enum Stream {
+    Config,
+    Trace,
+    Maps,
+    Report,
+    Input,
+    Output,
+}
+
+/// What ends the program early.
+#[derive(Debug, Drop)]
+pub enum Fault {
+    /// The words are refused, for the reason that this text gives to the user. It has all its line feeds.
+    Usage(String),
+    /// The input of `pipe` has no mark, or too many bytes.
+    Pipe,
+    /// The configuration has a fault.
+    Config(ConfigFault),
+    /// A replay ended early.
+    Run(RunFault),
+    /// The MAP in the record with this index, counted from 0, has a fault.
+    Map(MapFault, usize),
+    /// A file or stream failed.
+    Device(Stream),
+    /// Want of memory.
+    NoMemory,
+}
+
+impl Stream {
+    ghost use Rattle.mapsim.specs.Lines.{stream_word};
+
+    /// Its name in fault lines.
+    pub fn word(self) -> &'static str
+        ensures { result.now ≡ stream_word self }
+    {
+        match self {
+            Stream::Config => "config",
+            Stream::Trace => "trace",
+            Stream::Maps => "maps",
+            Stream::Report => "report",
+            Stream::Input => "input",
+            Stream::Output => "output",
+        }
+    }
+}
+
+impl Fault {
+    ghost use Rattle.mapsim.specs.Statuses.{status_of};
+
+    /// The status with which the program ends.
+    pub fn status(&self) -> Status
+        ensures { result ≡ status_of self.now }
+    {
+        match self {
+            Fault::Usage(_) => Status::Usage,
+            Fault::Pipe => Status::Refused,
+            Fault::Config(fault) => config_status(*fault),
+            Fault::Run(fault) => run_status(*fault),
+            Fault::Map(fault, _) => map_status(*fault),
+            Fault::Device(_) => Status::DeviceFailed,
+            Fault::NoMemory => Status::NoMemory,
+        }
+    }
+}
+
+fn config_status(fault: ConfigFault) -> Status
+    ensures { result ≡ statuses.config_status fault }
+{
+    match fault {
+        ConfigFault::NoMemory => Status::NoMemory,
+        _ => Status::Refused,
+    }
+}
+
+fn run_status(fault: RunFault) -> Status
+    ensures { result ≡ statuses.run_status fault }
+{
+    match fault {
+        RunFault::Rounds => Status::Refused,
+        RunFault::Trace(TraceFault::Read) => Status::DeviceFailed,
+        RunFault::Trace(TraceFault::NoMemory) => Status::NoMemory,
+        RunFault::Trace(_) => Status::Refused,
+        RunFault::WriteMaps(_) | RunFault::WriteReport(_) => Status::DeviceFailed,
+        RunFault::NoMemory(_) => Status::NoMemory,
+    }
+}
+
+fn map_status(fault: MapFault) -> Status
+    ensures { result ≡ statuses.map_status fault }
+{
+    match fault {
+        MapFault::NoMemory => Status::NoMemory,
+        _ => Status::Refused,
+    }
+}
+
+/// A line without its line feed, but for a usage fault.
+impl fmt::Display for Fault {
+    ghost use Rattle.std.specs.Prelude.{Some};
+    ghost use Rattle.mapsim.specs.Lines.{fault_line};
+
+    ghost output = { λ fault. Some (fault_line fault) };
+
+    fn fmt<W: fmt::Write>(&self, f: &mut fmt::Formatter<W>) -> fmt::Result {
+        match self {
+            Fault::Usage(text) => f.write_str(text.as_str()),
+            Fault::Pipe => f.write_str("fault pipe"),
+            Fault::Config(fault) => write!(f, "{}", ConfigLine(*fault)),
+            Fault::Run(fault) => write!(f, "{}", RunLine(*fault)),
+            Fault::Map(fault, record) => write!(f, "{}", MapLine(*fault, *record)),
+            Fault::Device(stream) => write!(f, "fault io {}", stream.word()),
+            Fault::NoMemory => f.write_str("fault memory"),
+        }
+    }
+}
+
+impl From<AllocError> for Fault {
+    ghost use Rattle.mapsim.specs.declared.faults.Fault.TheVariants.{NoMemory};
+
+    ghost from_gives = { λ _ fault. fault ≡ NoMemory };
+
+    fn from(_refused: AllocError) -> Fault {
+        Fault::NoMemory
+    }
+}
+
+impl<T: Drop> From<AllocFailed<T>> for Fault {
+    ghost use Rattle.mapsim.specs.declared.faults.Fault.TheVariants.{NoMemory};
+
+    ghost from_gives = { λ _ fault. fault ≡ NoMemory };
+
+    fn from(_refused: AllocFailed<T>) -> Fault {
+        Fault::NoMemory
+    }
+}
+
+impl From<ConfigFault> for Fault {
+    ghost use Rattle.mapsim.specs.declared.faults.Fault.TheVariants.{Config};
+
+    ghost from_gives = { λ config fault. fault ≡ Config config };
+
+    fn from(fault: ConfigFault) -> Fault {
+        Fault::Config(fault)
+    }
+}
+
+impl From<RunFault> for Fault {
+    ghost use Rattle.mapsim.specs.declared.faults.Fault.TheVariants.{Run};
+
+    ghost from_gives = { λ run fault. fault ≡ Run run };
+
+    fn from(fault: RunFault) -> Fault {
+        Fault::Run(fault)
+    }
+}

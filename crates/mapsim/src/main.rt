@@ -1,0 +1,67 @@
+//! `mapsim`: replays the requests of a trace with a configuration, from files into files or from standard input.
+//!
+//! `docs/FORMATS.md` has the words, the order, the fault lines and the statuses.
+#![tactic(auto)]
+
+// What the words ask for.
+mod orders;
+
+// The words.
+mod words;
+
+// What ends the program early.
+mod faults;
+
+// The lines that faults print.
+mod fault_lines;
+
+// How the program ends.
+mod statuses;
+
+// Bytes to standard output.
+mod printing;
+
+// The line between configuration and trace.
+mod marks;
+
+// MAPs as text.
+mod map_lines;
+
+// From files into files.
+mod replaying;
+
+// From standard input to standard output.
+mod piping;
+
+// The program as a function.
+mod programs;
+
+use faults::Fault;
+use programs::{end_by, run};
+use std::env;
+use std::io::ErrorKind;
+use std::process::ExitCode;
+
+#[cfg(test)]
+mod tests;
+
+fn main(rt: HostRuntime) -> ExitCode {
+    let status = match process_words(&rt) {
+        Ok(words) => run(&rt, words.as_slice(), rt.stdin(), rt.stdout(), rt.stderr()),
+        Err(fault) => end_by(&fault, rt.stderr()),
+    };
+    ExitCode::from(status.code())
+}
+
+/// The words of the process, its name first. One that isn't UTF-8 is a usage fault.
+fn process_words(rt: &HostRuntime) -> Result<Vec<String>, Fault> {
+    let alloc = rt.alloc();
+    match env::args(rt) {
+        Ok(words) => Ok(words.collect(alloc)?),
+        Err(error) if error.kind() == ErrorKind::OutOfMemory => Err(Fault::NoMemory),
+        Err(_) => Err(Fault::Usage(String::from_str(
+            alloc,
+            "error: invalid UTF-8 was detected in one or more arguments\n",
+        )?)),
+    }
+}

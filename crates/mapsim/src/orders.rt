@@ -1,0 +1,25 @@
+/// What the words ask for.
+#[derive(Debug, Drop)]
+pub enum Order<'a> {
+    /// A replay from files into files.
+    Replay(FileReplay<'a>),
+    /// A replay of standard input, for so many rounds.
+    Pipe { rounds: u32 },
+    /// Help: its text, with all line feeds.
+    Help(String),
+}
+
+/// A replay from files into files.
+#[derive(Clone, Copy, Debug)]
+pub struct FileReplay<'a> {
+    /// Path of the configuration.
+    pub config: &'a str,
+    /// Path of the trace.
+    pub trace: &'a str,
+    /// How many rounds are replayed.
+    pub rounds: u32,
+    /// Path of the maps file, which is made.
+    pub maps: &'a str,
+    /// Path of the report, which is made.
+    pub report: &'a str,
+}

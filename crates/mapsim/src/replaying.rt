@@ -1,0 +1,96 @@
+ghost use Rattle.std.specs.Prelude.{◌≡◌, ◌≢◌, ◌⊎◌, ◌↔◌, true, false, Err, IfErr};
+ghost use Rattle.mapsim.specs.declared.faults.Fault.TheVariants as fault;
+ghost use Rattle.mapsim.specs.declared.faults.Stream.TheVariants as stream;
+
+use crate::faults::{Fault, Stream};
+use crate::orders::FileReplay;
+use crate::printing::print;
+use std::alloc::Global;
+use std::io::{self, ErrorKind};
+use std::rt::Files;
+use std::{fmt, fs};
+use us_flows::{Config, ConfigFault};
+use us_replay::{RunFault, Summary, replay};
+use us_slots::{FromRead, FromWrite, ReadFault, Sink, read_all};
+
+/// The most bytes of a configuration.
+const MAX_CONFIG_BYTES: usize = 4_194_304;
+
+/// Replays a trace from files into files, and prints what it did.
+pub fn replay_files<R: Files, O: Sink>(
+    rt: &R,
+    alloc: Global,
+    order: &FileReplay<'_>,
+    output: &mut O,
+) -> Result<(), Fault>
+    requires { O.failed output.old ≡ false }
+    ensures { (O.failed output.new ≡ true) ↔ (result ≡ Err (fault.Device stream.Output)) }
+{
+    let config = read_config(rt, alloc, order.config)?;
+    if !config.rounds_fit(order.rounds) {
+        return Err(Fault::Run(RunFault::Rounds));
+    }
+    let mut trace = FromRead::new(opened(fs::open(rt, order.trace), Stream::Trace)?);
+    let mut maps = FromWrite::new(opened(fs::create(rt, order.maps), Stream::Maps)?);
+    let mut report = FromWrite::new(opened(fs::create(rt, order.report), Stream::Report)?);
+    let summary = replay(
+        alloc,
+        &config,
+        &mut trace,
+        order.rounds,
+        &mut maps,
+        &mut report,
+    )?;
+    let line = format!(in alloc; "{}\n", SummaryLine(summary))?;
+    print(output, line.as_str().as_bytes())
+}
+
+/// The configuration in a file.
+fn read_config<R: Files>(rt: &R, alloc: Global, path: &str) -> Result<Config, Fault>
+    ensures { IfErr result (λ f. f ≢ fault.Device stream.Output) }
+{
+    let mut file = FromRead::new(opened(fs::open(rt, path), Stream::Config)?);
+    match read_all(alloc, &mut file, MAX_CONFIG_BYTES) {
+        Ok(text) => Ok(Config::read(alloc, &text)?),
+        Err(ReadFault::TooLarge) => Err(Fault::Config(ConfigFault::Text)),
+        Err(ReadFault::Failed) => Err(Fault::Device(Stream::Config)),
+        Err(ReadFault::NoMemory) => Err(Fault::NoMemory),
+    }
+}
+
+/// A file that was opened or made, or the fault that says why not.
+fn opened<F>(answer: io::Result<F>, stream: Stream) -> Result<F, Fault>
+    ensures { IfErr result (λ f. (f ≡ fault.Device stream) ⊎ (f ≡ fault.NoMemory)) }
+{
+    match answer {
+        Ok(file) => Ok(file),
+        Err(error) if error.kind() == ErrorKind::OutOfMemory => Err(Fault::NoMemory),
+        Err(_) => Err(Fault::Device(stream)),
+    }
+}
+
+/// What a replay did, as a line without its line feed.
+#[derive(Clone, Copy, Debug)]
+struct SummaryLine(Summary);
+
+impl fmt::Display for SummaryLine {
+    ghost use Rattle.std.specs.Prelude.{Some};
+    ghost use Rattle.mapsim.specs.SummaryLines.{summary_line};
+
+    ghost output = { λ line. Some (summary_line line.0) };
+
+    fn fmt<W: fmt::Write>(&self, f: &mut fmt::Formatter<W>) -> fmt::Result {
+        let Summary {
+            rounds,
+            granted,
+            missed,
+            unknown,
+            not_requestable,
+            late,
+        } = self.0;
+        write!(
+            f,
+            "rounds {rounds} granted {granted} missed {missed} unknown {unknown} not_requestable {not_requestable} late {late}"
+        )
+    }
+}

@@ -1,0 +1,33 @@
+ghost use Rattle.std.specs.Prelude.{◌≡◌};
+
+/// How the program ends.
+#[derive(Clone, Copy, Debug, PartialEq, Eq, Hash)]
+pub enum Status {
+    /// It did what it was asked.
+    Done,
+    /// Its words are refused.
+    Usage,
+    /// What it read is refused.
+    Refused,
+    /// A file or stream failed.
+    DeviceFailed,
+    /// Memory was wanting.
+    NoMemory,
+}
+
+impl Status {
+    ghost use Rattle.mapsim.specs.Statuses.{code_of};
+
+    /// The exit status.
+    pub fn code(self) -> u8
+        ensures { result ≡ code_of self }
+    {
+        match self {
+            Status::Done => 0,
+            Status::Usage => 2,
+            Status::Refused => 3,
+            Status::DeviceFailed => 4,
+            Status::NoMemory => 5,
+        }
+    }
+}

@@ -1,0 +1,14 @@
+use Rattle.std.proofs.Common.{◌≡◌, ◌++◌, [], drop, length}
+use Rattle.toml.specs.View.{items_view}
+use Rattle.us_flows.specs.Checks.{in_turn, flow_fault}
+use Rattle.us_flows.specs.Reading.{all_of, flow_of}
+use Rattle.us_flows.proofs.flow_tables.flows_of.Given as goal
+
+-- what is found of all items is found of those that are left
+abbrev pub invariant-loop-value : goal.invariant-loop-value
+invariant-loop-value l =
+    (in_turn flow_of (flow_fault l.channels) l.flows.items (items_view (drop l.value-index l.items)) ≡
+    in_turn flow_of (flow_fault l.channels) [] (items_view l.items)) ×
+    (l.flows.items ++ all_of flow_of (items_view (drop l.value-index l.items)) ≡
+    all_of flow_of (items_view l.items)) ×
+    (length l.flows.items ≡ l.value-index)

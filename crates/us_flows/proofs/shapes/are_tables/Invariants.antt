@@ -1,0 +1,8 @@
+use Rattle.std.proofs.Common.{◌≡◌, drop}
+use Rattle.toml.specs.View.{items_view}
+use Rattle.us_flows.specs.Shapes.{all_items, is_table}
+use Rattle.us_flows.proofs.shapes.are_tables.Given as goal
+
+abbrev pub invariant-loop-value : goal.invariant-loop-value
+invariant-loop-value l = all_items is_table (items_view (drop l.value-index l.items)) ≡
+    all_items is_table (items_view l.items)

@@ -1,0 +1,60 @@
+-- SID clusters: which cluster a SID asks for, and in which order clusters have their turns.
+use Rattle.std.specs.Prelude.{ℕ, ◌+◌, List, [], ◌∷◌, length, zip, flat_map, filter, count_by, position, Bool, ◌==◌, nat_lt, ◌&&◌, ◌||◌, Option, option_map}
+use Rattle.std.specs.List.{list_any, range_with_len}
+use Rattle.us_flows.specs.Tables.{Tables, FlowTable}
+use Rattle.us_flows.specs.declared.found.Found.{Found}
+use Rattle.us_flows.specs.declared.found.Found.TheVariants as found
+
+-- a SID cluster (the standard's): its flow, its place among the flow's clusters, and its SIDs, one for each channel of
+-- the flow in order
+pub record Cluster : Type 0 where
+  pub flow : FlowTable
+  pub list : ℕ
+  pub sids : List ℕ
+
+-- the clusters of a flow, from its `list`-th on
+abbrev pub clusters_from : FlowTable → ℕ → List (List ℕ) → List Cluster
+clusters_from flow list [] = []
+clusters_from flow list (sids ∷ rest) =
+    record { flow = flow; list = list; sids = sids } ∷ clusters_from flow (list + 1) rest
+
+-- all clusters that make requests, in table order; the number of a cluster is its place here
+abbrev pub clusters_of : Tables → List Cluster
+clusters_of t = flat_map (λ flow. clusters_from flow 0 flow.clusters) t.flows
+
+-- whether a cluster has this SID on this channel
+abbrev pub has_sid : ℕ → ℕ → Cluster → Bool
+has_sid channel sid cluster = list_any (λ pair. (pair.0 == channel) && (pair.1 == sid))
+    (zip cluster.flow.channels cluster.sids)
+
+-- what a SID asks for on a channel
+unfoldable pub lookup : Tables → ℕ → ℕ → Option Found
+lookup t channel sid = option_map found.Cluster (position (has_sid channel sid) (clusters_of t))
+
+-- a turn of a round (ours): a cluster and its number
+pub record Turn : Type 0 where
+  pub number : ℕ
+  pub cluster : Cluster
+
+-- all clusters with their numbers, of which the first is `number`
+abbrev pub numbered : ℕ → List Cluster → List Turn
+numbered number [] = []
+numbered number (cluster ∷ rest) = record { number = number; cluster = cluster } ∷ numbered (number + 1) rest
+
+-- whether a turn goes before another: by priority falling, then by flow id rising, then by the place in the flow
+abbrev pub goes_before : Turn → Turn → Bool
+goes_before a b =
+    let f : FlowTable = a.cluster.flow in
+    let g : FlowTable = b.cluster.flow in
+    nat_lt g.priority f.priority || ((f.priority == g.priority)
+    && (nat_lt f.id g.id || ((f.id == g.id) && nat_lt a.cluster.list b.cluster.list)))
+
+-- turns in order: at each place stands the one that so many others go before
+abbrev pub in_order : List Turn → List Turn
+in_order turns =
+    flat_map (λ place. filter (λ turn. count_by (λ other. goes_before other turn) turns == place) turns)
+    (range_with_len 0 (length turns))
+
+-- the turns of each round
+unfoldable pub turns_of : Tables → List Turn
+turns_of t = in_order (numbered 0 (clusters_of t))

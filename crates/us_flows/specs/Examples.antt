@@ -1,0 +1,236 @@
+-- Small documents, computed by the definitions alone.
+use Rattle.std.specs.Prelude.{◌≡◌, ℕ, ◌+◌, pos, true, false, if◌then◌else◌, List, [], ◌∷◌, map, codes, Option, Some, None, refl}
+use Rattle.std.specs.Str.{bytes_eq}
+use Rattle.toml.specs.Data.{Data, integer, boolean, array, table, Items, no_items, item, Members, no_members, member}
+use Rattle.us_slots.specs.Bursts.{BurstProfile}
+use Rattle.us_flows.specs.declared.found.Found.TheVariants.{Cluster}
+use Rattle.us_flows.specs.declared.flows.SchedulingType.TheVariants.{BestEffort}
+use Rattle.us_flows.specs.declared.faults.Place.{Place}
+use Rattle.us_flows.specs.declared.faults.TableName.TheVariants as name
+use Rattle.us_flows.specs.declared.faults.ConfigFault.{ConfigFault}
+use Rattle.us_flows.specs.declared.faults.ConfigFault.TheVariants.{Missing, Range, UnknownChannel, ClusterLength, RoundNotMultiple, ReservesTooLong}
+use Rattle.us_flows.specs.Tables.{Tables, FlowTable, rounds_fit}
+use Rattle.us_flows.specs.Clusters.{lookup, turns_of}
+use Rattle.us_flows.specs.Keys.{top_keys, channel_keys, profile_keys, short_keys, flow_keys}
+use Rattle.us_flows.specs.Checks.{top, channel_lacks, channel_strays, channel_fault, flow_fault, first_fault}
+use Rattle.us_flows.specs.Reading.{tables_of}
+
+-- a table with another value of a key, or with one key more; and one without a key
+abbrev pub with_key : List ℕ → Data → Members → Members
+with_key key d no_members = member key d no_members
+with_key key d (member k e t) = if bytes_eq k key then member k d t else member k e (with_key key d t)
+
+abbrev pub without_key : List ℕ → Members → Members
+without_key key no_members = no_members
+without_key key (member k e t) = if bytes_eq k key then t else member k e (without_key key t)
+
+abbrev pub number : ℕ → Data
+number n = integer (pos n)
+
+abbrev pub numbers : List ℕ → Items
+numbers [] = no_items
+numbers (n ∷ ns) = item (number n) (numbers ns)
+
+abbrev pub tables : List Members → Items
+tables [] = no_items
+tables (t ∷ ts) = item (table t) (tables ts)
+
+-- the base configuration
+abbrev pub base_profile : Members
+base_profile =
+    member (codes "bits") (number 4) (member (codes "fec_k") (number 200) (member (codes "fec_t") (number 0)
+    (member (codes "guard") (number 8) (member (codes "preamble") (number 24)
+    (member (codes "shortened") (boolean false) no_members)))))
+
+abbrev pub base_short : Members
+base_short = with_key (codes "max_minislots") (number 10) base_profile
+
+abbrev pub base_channel : Members
+base_channel =
+    member (codes "id") (number 1) (member (codes "minislot_log2") (number 1) (member (codes "rate_log2") (number 5)
+    (member (codes "ucd_count") (number 0) (member (codes "ranging_backoff") (array (numbers (2 ∷ 6 ∷ [])))
+    (member (codes "data_backoff") (array (numbers (3 ∷ 8 ∷ []))) (member (codes "request_minislots") (number 2)
+    (member (codes "contention_minislots") (number 10) (member (codes "maintenance_minislots") (number 0)
+    (member (codes "maintenance_every") (number 1) (member (codes "station_minislots") (number 4)
+    (member (codes "long") (table base_profile) (member (codes "short") (table base_short)
+    (member (codes "unsolicited") (table base_profile) no_members)))))))))))))
+
+abbrev pub base_flow : Members
+base_flow =
+    member (codes "id") (number 1) (member (codes "type") (number 2)
+    (member (codes "channels") (array (numbers (1 ∷ [])))
+    (member (codes "clusters") (array (item (array (numbers (291 ∷ []))) no_items))
+    (member (codes "priority") (number 0) (member (codes "rate") (number 0)
+    (member (codes "burst") (number 3044) (member (codes "unit") (number 4)
+    (member (codes "headers") (boolean true) no_members))))))))
+
+abbrev pub document : List Members → List Members → Members
+document channels flows =
+    member (codes "round_ticks") (number 320) (member (codes "lead_ticks") (number 160)
+    (member (codes "channel") (array (tables channels)) (member (codes "flow") (array (tables flows)) no_members)))
+
+abbrev pub base : Members
+base = document (base_channel ∷ []) (base_flow ∷ [])
+
+-- it has no fault, and writes these tables
+no_fault : first_fault base ≡ None
+unfolding first_fault channel_fault channel_lacks channel_strays flow_fault
+    top_keys channel_keys profile_keys short_keys flow_keys
+no_fault = refl
+
+abbrev pub plain_profile : BurstProfile
+plain_profile = record { bits = 4; preamble = 24; guard = 8; fec_t = 0; fec_k = 200; shortened = false }
+
+abbrev pub base_tables : Tables
+base_tables = record {
+  round_ticks = 320;
+  lead_ticks = 160;
+  channels = record {
+    id = 1;
+    bursts = record {
+      time = record { minislot_log2 = 1; rate_log2 = 5 };
+      long = plain_profile;
+      short = plain_profile;
+      short_max = 10;
+      unsolicited = plain_profile;
+    };
+    ucd_count = 0;
+    ranging_backoff = 2 ∷ 6 ∷ [];
+    data_backoff = 3 ∷ 8 ∷ [];
+    request_minislots = 2;
+    contention_minislots = 10;
+    maintenance_minislots = 0;
+    maintenance_every = 1;
+    station_minislots = 4;
+  } ∷ [];
+  flows = record {
+    id = 1;
+    kind = BestEffort;
+    channels = 1 ∷ [];
+    clusters = (291 ∷ []) ∷ [];
+    priority = 0;
+    rate = 0;
+    burst = 3044;
+    unit = 4;
+    headers = true;
+  } ∷ [];
+}
+
+written : tables_of base ≡ base_tables
+written = refl
+
+-- the places of its channel and of its flow
+abbrev pub channel : Place
+channel = record { table = name.Channel; index = 0 }
+
+abbrev pub flow : Place
+flow = record { table = name.Flow; index = 0 }
+
+-- the first fault of the base configuration with another value in the top level, in its channel and in its flow
+abbrev pub top_with : List ℕ → Data → Option ConfigFault
+top_with key d = first_fault (with_key key d base)
+
+abbrev pub channel_with : List ℕ → Data → Option ConfigFault
+channel_with key d = first_fault (document (with_key key d base_channel ∷ []) (base_flow ∷ []))
+
+abbrev pub flow_with : List ℕ → Data → Option ConfigFault
+flow_with key d = first_fault (document (base_channel ∷ []) (with_key key d base_flow ∷ []))
+
+top_faults :
+    (first_fault (without_key (codes "lead_ticks") base) ≡ Some (Missing top)) ×
+    (top_with (codes "round_ticks") (number 4097) ≡ Some (Range top)) ×
+    (top_with (codes "round_ticks") (boolean true) ≡ Some (Range top)) ×
+    (top_with (codes "other") (number 1) ≡ Some (Range top)) ×
+    -- two channels, and two flows
+    (first_fault (document (base_channel ∷ base_channel ∷ []) []) ≡ Some (Range top)) ×
+    (first_fault (document (base_channel ∷ []) (base_flow ∷ base_flow ∷ [])) ≡ Some (Range top)) ×
+    -- a flow that is no table
+    (top_with (codes "flow") (array (numbers (7 ∷ []))) ≡ Some (Range top)) ×
+    -- no flow, by an empty list and by no key
+    (first_fault (document (base_channel ∷ []) []) ≡ None) ×
+    (first_fault (without_key (codes "flow") base) ≡ None)
+unfolding first_fault channel_fault channel_lacks channel_strays flow_fault
+    top_keys channel_keys profile_keys short_keys flow_keys
+top_faults = (refl, refl, refl, refl, refl, refl, refl, refl, refl)
+
+-- the base profile with this T and K
+abbrev pub codewords : ℕ → ℕ → Data
+codewords fec_t fec_k =
+    table (with_key (codes "fec_t") (number fec_t) (with_key (codes "fec_k") (number fec_k) base_profile))
+
+channel_faults :
+    (first_fault (document (without_key (codes "rate_log2") base_channel ∷ []) []) ≡ Some (Missing channel)) ×
+    (channel_with (codes "id") (number 256) ≡ Some (Range channel)) ×
+    (channel_with (codes "data_backoff") (array (numbers (3 ∷ []))) ≡ Some (Range channel)) ×
+    -- a short profile without its maximum, and a long one with it
+    (channel_with (codes "short") (table base_profile) ≡ Some (Missing channel)) ×
+    (channel_with (codes "long") (table base_short) ≡ Some (Range channel)) ×
+    -- a profile that is no table
+    (channel_with (codes "short") (number 1) ≡ Some (Range channel)) ×
+    -- codewords of 255 and of 257 bytes
+    (channel_with (codes "long") (codewords 1 253) ≡ None) ×
+    (channel_with (codes "long") (codewords 2 253) ≡ Some (Range channel)) ×
+    -- values beside the length of a round
+    (channel_with (codes "minislot_log2") (number 7) ≡ Some (RoundNotMultiple channel)) ×
+    (channel_with (codes "contention_minislots") (number 160) ≡ None) ×
+    (channel_with (codes "contention_minislots") (number 161) ≡ Some (ReservesTooLong channel))
+unfolding first_fault channel_fault channel_lacks channel_strays flow_fault
+    top_keys channel_keys profile_keys short_keys flow_keys
+channel_faults = (refl, refl, refl, refl, refl, refl, refl, refl, refl, refl, refl)
+
+-- a list of one list
+abbrev pub cluster : List ℕ → Data
+cluster sids = array (item (array (numbers sids)) no_items)
+
+-- the base flow without an id and with this type; and on channel 9, with no SID
+abbrev pub typed : ℕ → Members
+typed type_number = with_key (codes "type") (number type_number) (without_key (codes "id") base_flow)
+
+abbrev pub lost : Members
+lost = with_key (codes "clusters") (cluster []) (with_key (codes "channels") (array (numbers (9 ∷ []))) base_flow)
+
+flow_faults :
+    -- the type is looked at before a key that is missing
+    (first_fault (document (base_channel ∷ []) (typed 7 ∷ [])) ≡ Some (Range flow)) ×
+    (first_fault (document (base_channel ∷ []) (typed 2 ∷ [])) ≡ Some (Missing flow)) ×
+    (first_fault (document (base_channel ∷ []) (without_key (codes "type") base_flow ∷ [])) ≡ Some (Missing flow)) ×
+    (flow_with (codes "unit") (number 3) ≡ Some (Range flow)) ×
+    (flow_with (codes "channels") (array (numbers (9 ∷ []))) ≡ Some (UnknownChannel flow)) ×
+    (flow_with (codes "clusters") (cluster (291 ∷ 292 ∷ [])) ≡ Some (ClusterLength flow)) ×
+    (flow_with (codes "clusters") (cluster []) ≡ Some (ClusterLength flow)) ×
+    -- an unknown channel before the length of a cluster
+    (first_fault (document (base_channel ∷ []) (lost ∷ [])) ≡ Some (UnknownChannel flow))
+unfolding first_fault channel_fault channel_lacks channel_strays flow_fault
+    top_keys channel_keys profile_keys short_keys flow_keys
+flow_faults = (refl, refl, refl, refl, refl, refl, refl, refl)
+
+-- SIDs and runs
+found : (lookup base_tables 1 291 ≡ Some (Cluster 0)) × (lookup base_tables 2 291 ≡
+    None) × (lookup base_tables 1 292 ≡ None)
+unfolding lookup
+found = (refl, refl, refl)
+
+rounds : (rounds_fit base_tables 209715 ≡ true) × (rounds_fit base_tables 209716 ≡
+    false) × (rounds_fit base_tables 0 ≡ false)
+rounds = (refl, refl, refl)
+
+-- a flow of this id and priority with two clusters
+abbrev pub two_clusters : ℕ → ℕ → FlowTable
+two_clusters id priority = record {
+  id = id;
+  kind = BestEffort;
+  channels = 1 ∷ [];
+  clusters = (id ∷ []) ∷ ((id + 10) ∷ []) ∷ [];
+  priority = priority;
+  rate = 0;
+  burst = 3044;
+  unit = 1;
+  headers = true;
+}
+
+-- priority falling, then id rising, then the clusters of the flow in order
+three_flows : map (λ turn. turn.number)
+    (turns_of (record base_tables { flows = two_clusters 9 1 ∷ two_clusters 8 1 ∷ two_clusters 10 2 ∷ [] })) ≡
+    4 ∷ 5 ∷ 2 ∷ 3 ∷ 0 ∷ 1 ∷ []
+unfolding turns_of
+three_flows = refl

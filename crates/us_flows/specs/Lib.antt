@@ -1,0 +1,27 @@
+-- Read in this order: the tables; clusters and turns, which follow of them; what holds of all accepted tables; then how
+-- a document is judged: its keys, its values, the shape of a table, what is read, the faults in order, the answer.
+-- In a definition `≡` is equals, `×` and, `⊎` or, `→` implies, `∷` one item before a list, `++` one list behind
+-- another, and ℕ has the whole numbers from 0.
+
+-- the tables of a configuration, as values
+pub mod Tables
+-- SID clusters, which SID is whose, and the order of turns
+pub mod Clusters
+-- what holds of all tables that are accepted
+pub mod Lawful
+-- the keys of each table, and the rules of their values
+pub mod Keys
+-- values of a document, by their keys
+pub mod Documents
+-- the shape of one table
+pub mod Shapes
+-- the tables that a document writes
+pub mod Reading
+-- the faults of a document, in order
+pub mod Checks
+-- what is answered
+pub mod Answers
+-- the definitions at small inputs
+pub mod Examples
+-- how the table of a fault is named
+pub mod Places

@@ -1,0 +1,8 @@
+/// What a SID asks for on a channel.
+#[derive(Clone, Copy, Debug, PartialEq, Eq, Hash)]
+pub enum Found {
+    /// A SID cluster, by its number.
+    Cluster(u16),
+    /// A flow of unsolicited grants, which makes no requests. No configuration has one yet.
+    Unsolicited,
+}

@@ -1,0 +1,119 @@
+ghost use Rattle.std.specs.Prelude.{◌≡◌};
+ghost use Rattle.us_flows.specs.Keys.{keys_of, top_keys, channel_keys, profile_keys, short_keys, flow_keys};
+
+/// What the value of a key must be. Of two numbers the first is the least and the second the greatest.
+#[derive(Clone, Copy, Debug, PartialEq, Eq)]
+pub(crate) enum Rule {
+    /// A whole number.
+    Number(u32, u32),
+    /// The bytes of a unit: 1, 2, 4, 8 or 16.
+    Unit,
+    /// True or false.
+    Flag,
+    /// A list of so many whole numbers, and the range of each.
+    Numbers(u32, u32, u32, u32),
+    /// A list of so many lists of whole numbers, and the range of each number.
+    Lists(u32, u32, u32, u32),
+    /// A table.
+    Table,
+    /// A list of so many tables. Its key may be left out if the list may be empty.
+    Tables(u32, u32),
+}
+
+/// A key of a table, and the rule of its value.
+pub(crate) type Key = (&'static str, Rule);
+
+static TOP_KEYS: [Key; 4] = [
+    ("round_ticks", Rule::Number(1, 4_096)),
+    ("lead_ticks", Rule::Number(1, 65_536)),
+    ("channel", Rule::Tables(1, 1)),
+    ("flow", Rule::Tables(0, 1)),
+];
+
+static CHANNEL_KEYS: [Key; 14] = [
+    ("id", Rule::Number(1, 255)),
+    ("minislot_log2", Rule::Number(0, 7)),
+    ("rate_log2", Rule::Number(0, 5)),
+    ("ucd_count", Rule::Number(0, 255)),
+    ("ranging_backoff", Rule::Numbers(2, 2, 0, 15)),
+    ("data_backoff", Rule::Numbers(2, 2, 0, 15)),
+    ("request_minislots", Rule::Number(1, 64)),
+    ("contention_minislots", Rule::Number(0, 4_096)),
+    ("maintenance_minislots", Rule::Number(0, 4_096)),
+    ("maintenance_every", Rule::Number(1, 65_536)),
+    ("station_minislots", Rule::Number(1, 64)),
+    ("long", Rule::Table),
+    ("short", Rule::Table),
+    ("unsolicited", Rule::Table),
+];
+
+static PROFILE_KEYS: [Key; 6] = [
+    ("bits", Rule::Number(2, 6)),
+    ("preamble", Rule::Number(0, 1_024)),
+    ("guard", Rule::Number(0, 255)),
+    ("fec_t", Rule::Number(0, 16)),
+    ("fec_k", Rule::Number(16, 253)),
+    ("shortened", Rule::Flag),
+];
+
+static SHORT_KEYS: [Key; 7] = [
+    ("bits", Rule::Number(2, 6)),
+    ("preamble", Rule::Number(0, 1_024)),
+    ("guard", Rule::Number(0, 255)),
+    ("fec_t", Rule::Number(0, 16)),
+    ("fec_k", Rule::Number(16, 253)),
+    ("shortened", Rule::Flag),
+    ("max_minislots", Rule::Number(1, 255)),
+];
+
+static FLOW_KEYS: [Key; 9] = [
+    ("id", Rule::Number(1, 65_535)),
+    ("type", Rule::Number(2, 2)),
+    ("channels", Rule::Numbers(1, 1, 1, 255)),
+    ("clusters", Rule::Lists(1, 1, 1, 15_871)),
+    ("priority", Rule::Number(0, 7)),
+    ("rate", Rule::Number(0, 0)),
+    ("burst", Rule::Number(1, 16_777_216)),
+    ("unit", Rule::Unit),
+    ("headers", Rule::Flag),
+];
+
+/// The keys of the top level.
+#[tactic(auto, unfolding(crate::specs::Keys::top_keys))]
+pub(crate) fn top_keys() -> &'static [Key]
+    ensures { keys_of result.now ≡ top_keys }
+{
+    TOP_KEYS.as_slice()
+}
+
+/// The keys of a channel.
+#[tactic(auto, unfolding(crate::specs::Keys::channel_keys))]
+pub(crate) fn channel_keys() -> &'static [Key]
+    ensures { keys_of result.now ≡ channel_keys }
+{
+    CHANNEL_KEYS.as_slice()
+}
+
+/// The keys of a profile.
+#[tactic(auto, unfolding(crate::specs::Keys::profile_keys))]
+pub(crate) fn profile_keys() -> &'static [Key]
+    ensures { keys_of result.now ≡ profile_keys }
+{
+    PROFILE_KEYS.as_slice()
+}
+
+/// The keys of the profile of short data grants.
+#[tactic(auto, unfolding(crate::specs::Keys::short_keys))]
+pub(crate) fn short_keys() -> &'static [Key]
+    ensures { keys_of result.now ≡ short_keys }
+{
+    SHORT_KEYS.as_slice()
+}
+
+/// The keys of a flow.
+#[tactic(auto, unfolding(crate::specs::Keys::flow_keys))]
+pub(crate) fn flow_keys() -> &'static [Key]
+    ensures { keys_of result.now ≡ flow_keys }
+{
+    FLOW_KEYS.as_slice()
+}

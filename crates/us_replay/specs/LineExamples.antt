@@ -1,0 +1,27 @@
+-- Lines of the report, computed by the definitions alone.
+use Rattle.std.specs.Prelude.{◌≡◌, codes, Some, None, refl}
+use Rattle.std.specs.Fmt.{digits}
+use Rattle.us_replay.specs.declared.lines.Entry.TheVariants as entries
+use Rattle.us_replay.specs.declared.lines.Row.TheVariants as rows
+use Rattle.us_replay.specs.Lines.{text_of}
+
+granted : text_of (rows.Granted 1 1 entries.Requested 1 0 0 291 10 0 32 1000) ≡
+    codes "G,1,1,req,1,0,0,291,10,0,32,1000\n"
+unfolding digits
+granted = refl
+
+missed : text_of (rows.Missed 5 1 entries.Unsolicited 1 1 0) ≡ codes "M,5,1,ugs,1,1,0\n"
+unfolding digits
+missed = refl
+
+without_bucket : text_of (rows.Final 1 0 0 None) ≡ codes "F,1,0,0,-\n"
+unfolding digits
+without_bucket = refl
+
+with_bucket : text_of (rows.Final 1 0 7838 (Some 0)) ≡ codes "F,1,0,7838,0\n"
+unfolding digits
+with_bucket = refl
+
+counts : text_of (rows.Counts 0 0 0) ≡ codes "U,0,0,0\n"
+unfolding digits
+counts = refl

@@ -1,0 +1,171 @@
+-- Replays (ours): what a run writes, and what stands after it ended early.
+use Rattle.std.specs.Prelude.{◌≡◌, ℕ, ◌+◌, ◌≤◌, List, [], ◌∷◌, ◌++◌, length, map, flat_map, count_by, take, Bool, true, false, Option, None, Result, Ok, Err}
+use Rattle.std.specs.List.{range_with_len}
+use Rattle.std.specs.Io.KnownBytes.{Appends}
+use Rattle.us_flows.specs.Tables.{Tables, rounds_fit}
+use Rattle.us_flows.specs.Clusters.{clusters_of}
+use Rattle.us_requests.specs.declared.asks.Ask.{Ask}
+use Rattle.us_requests.specs.declared.asks.Counts.{Counts}
+use Rattle.us_requests.specs.Asks.{asks_at, counts_of, cut_of}
+use Rattle.us_requests.specs.Rows.{trace_fault, requests_of}
+use Rattle.us_requests.specs.Readings.{IsTextOf, Reads}
+use Rattle.us_replay.specs.declared.lines.Row.{Row}
+use Rattle.us_replay.specs.declared.lines.Row.TheVariants as rows
+use Rattle.us_replay.specs.declared.summaries.Summary.{Summary}
+use Rattle.us_replay.specs.declared.faults.RunFault.{RunFault}
+use Rattle.us_replay.specs.declared.faults.RunFault.TheVariants as fault
+use Rattle.us_replay.specs.Rounds.{State, RoundOut, opening, schedule, final}
+use Rattle.us_replay.specs.Outputs.{Given, given_by, records, round_lines, lines, final_rows, counts_row}
+
+-- What a run gives.
+
+-- the cuts of all rounds, where each round has these asks
+unfoldable pub cuts_of : Tables → ℕ → (ℕ → List Ask) → List (List ℕ)
+cuts_of t rounds asks = map (λ round. cut_of (length (clusters_of t)) (asks round)) (range_with_len 0 rounds)
+
+-- what each round gives, and the lines at the end of the report
+pub record Output : Type 0 where
+  pub given : List Given
+  pub last : List Row
+
+-- the output of the schedule from the opening on
+unfoldable pub output_of : Tables → ℕ → (ℕ → List Ask) → Counts → Output
+output_of t rounds asks counts =
+    let cuts : List (List ℕ) = cuts_of t rounds asks in
+    record {
+      given = map (given_by t) (schedule t (opening t) cuts);
+      last = final_rows t (final t (opening t) cuts) ++ counts_row counts ∷ [];
+    }
+
+-- the maps file
+abbrev pub maps_text : Output → List ℕ
+maps_text out = flat_map records out.given
+
+-- the report
+abbrev pub report_text : Output → List ℕ
+report_text out = flat_map round_lines out.given ++ lines out.last
+
+-- whether a line is of a grant, and whether of a missed occurrence
+abbrev pub is_granted : Row → Bool
+is_granted (rows.Granted round channel entry id i k sid iuc start slots credit) = true
+is_granted (rows.Missed round channel entry id i k) = false
+is_granted (rows.Final flow cluster outstanding units) = false
+is_granted (rows.Counts unknown not_requestable late) = false
+
+abbrev pub is_missed : Row → Bool
+is_missed (rows.Granted round channel entry id i k sid iuc start slots credit) = false
+is_missed (rows.Missed round channel entry id i k) = true
+is_missed (rows.Final flow cluster outstanding units) = false
+is_missed (rows.Counts unknown not_requestable late) = false
+
+-- the lines of all rounds
+abbrev pub rows_of : List Given → List Row
+rows_of given = flat_map (λ one. one.rows) given
+
+-- what a run did
+unfoldable pub summary_of : Output → Counts → Summary
+summary_of out counts = record {
+  rounds = length out.given;
+  granted = count_by is_granted (rows_of out.given);
+  missed = count_by is_missed (rows_of out.given);
+  unknown = counts.unknown;
+  not_requestable = counts.not_requestable;
+  late = counts.late;
+}
+
+-- Devices.
+
+-- the bytes that a writer had and has, where it tells them
+pub record Growth : Type 0 where
+  pub before : Option (List ℕ)
+  pub after : Option (List ℕ)
+
+-- where a writer tells its bytes, it took just these
+abbrev pub Took : Growth → List ℕ → Type 0
+Took g bytes = Appends g.before g.after bytes
+
+-- Runs that end early.
+
+-- `taken` bytes of a file have the parts of its first `done` rounds
+abbrev pub Holds : (Given → List ℕ) → List Given → ℕ → ℕ → Type 0
+Holds part given done taken = length (flat_map part (take done given)) ≤ taken
+
+-- each writer took the beginning of its text, both have the first `done` rounds, and no greater number
+pub record Stopped (out : Output) (to_maps to_report : Growth) (done : ℕ) : Type 0 where
+  pub maps_taken : ℕ
+  pub report_taken : ℕ
+  pub maps_short : maps_taken ≤ length (maps_text out)
+  pub report_short : report_taken ≤ length (report_text out)
+  pub maps_front : Took to_maps (take maps_taken (maps_text out))
+  pub report_front : Took to_report (take report_taken (report_text out))
+  pub rounds : done ≤ length out.given
+  pub maps_hold : Holds records out.given done maps_taken
+  pub report_hold : Holds round_lines out.given done report_taken
+  pub greatest : (more : ℕ) → more ≤ length out.given → Holds records out.given more maps_taken
+      → Holds round_lines out.given more report_taken → more ≤ done
+
+-- the run of a trace that was read: what stands by its answer
+abbrev pub Ran : Output → Counts → Growth → Growth → Result Summary RunFault → Type 0
+Ran out counts to_maps to_report (Ok summary) =
+    Took to_maps (maps_text out) × Took to_report (report_text out) × (summary ≡ summary_of out counts)
+Ran out counts to_maps to_report (Err (fault.WriteMaps done)) = Stopped out to_maps to_report done
+Ran out counts to_maps to_report (Err (fault.WriteReport done)) = Stopped out to_maps to_report done
+Ran out counts to_maps to_report (Err (fault.NoMemory done)) = Stopped out to_maps to_report done
+Ran out counts to_maps to_report (Err fault.Rounds) = ⊥
+Ran out counts to_maps to_report (Err (fault.Trace reason)) = ⊥
+
+-- Whole runs.
+
+-- the output for the requests that the text of a trace tells
+unfoldable pub output_for : Tables → ℕ → List ℕ → Output
+output_for t rounds text = output_of t rounds (asks_at t rounds (requests_of text)) (counts_of t rounds (requests_of text))
+
+-- what the source tells is the text of a trace without a fault, and the rounds were run for its requests
+abbrev pub RanText : Tables → ℕ → Option (List ℕ) → Growth → Growth → Result Summary RunFault → Type 0
+RanText t rounds told to_maps to_report result =
+    (text : List ℕ) × IsTextOf told text × (trace_fault text ≡ None)
+    × Ran (output_for t rounds text) (counts_of t rounds (requests_of text)) to_maps to_report result
+
+abbrev pub TookNothing : Growth → Growth → Type 0
+TookNothing to_maps to_report = Took to_maps [] × Took to_report []
+
+-- a replay: what stands by its answer. A number of rounds that doesn't fit is answered first, then a fault of the trace
+abbrev pub Replayed : Tables → ℕ → Option (List ℕ) → Growth → Growth → Result Summary RunFault → Type 0
+Replayed t rounds told to_maps to_report (Err fault.Rounds) =
+    (rounds_fit t rounds ≡ false) × TookNothing to_maps to_report
+Replayed t rounds told to_maps to_report (Err (fault.Trace reason)) =
+    (rounds_fit t rounds ≡ true) × Reads t rounds told (Err reason) × TookNothing to_maps to_report
+Replayed t rounds told to_maps to_report (Ok summary) =
+    (rounds_fit t rounds ≡ true) × RanText t rounds told to_maps to_report (Ok summary)
+Replayed t rounds told to_maps to_report (Err (fault.WriteMaps done)) =
+    (rounds_fit t rounds ≡ true) × RanText t rounds told to_maps to_report (Err (fault.WriteMaps done))
+Replayed t rounds told to_maps to_report (Err (fault.WriteReport done)) =
+    (rounds_fit t rounds ≡ true) × RanText t rounds told to_maps to_report (Err (fault.WriteReport done))
+Replayed t rounds told to_maps to_report (Err (fault.NoMemory done)) =
+    (rounds_fit t rounds ≡ true) × RanText t rounds told to_maps to_report (Err (fault.NoMemory done))
+
+-- which answers come before anything is written
+abbrev pub comes_before : {A : Type 0} → Result A RunFault → Bool
+comes_before (Ok done) = false
+comes_before (Err fault.Rounds) = true
+comes_before (Err (fault.Trace reason)) = true
+comes_before (Err (fault.WriteMaps done)) = false
+comes_before (Err (fault.WriteReport done)) = false
+comes_before (Err (fault.NoMemory done)) = false
+
+-- which answers blame the maps file's writer, and which the report's
+abbrev pub blames_maps : {A : Type 0} → Result A RunFault → Bool
+blames_maps (Ok done) = false
+blames_maps (Err (fault.WriteMaps done)) = true
+blames_maps (Err (fault.WriteReport done)) = false
+blames_maps (Err (fault.NoMemory done)) = false
+blames_maps (Err fault.Rounds) = false
+blames_maps (Err (fault.Trace reason)) = false
+
+abbrev pub blames_report : {A : Type 0} → Result A RunFault → Bool
+blames_report (Ok done) = false
+blames_report (Err (fault.WriteMaps done)) = false
+blames_report (Err (fault.WriteReport done)) = true
+blames_report (Err (fault.NoMemory done)) = false
+blames_report (Err fault.Rounds) = false
+blames_report (Err (fault.Trace reason)) = false

@@ -1,0 +1,34 @@
+use thiserror::Error;
+use us_requests::TraceFault;
+
+/// Why a replay ended early: the first fault that was met. RU2 is kept for the number of workers, to come.
+#[derive(Clone, Copy, Debug, PartialEq, Eq, Hash, Error)]
+pub enum RunFault {
+    /// RU1: no rounds, or together over 67,108,864 ticks. Nothing was read or written.
+    #[error("RU1: no rounds, or more than a run has ticks for")]
+    Rounds,
+    /// RU3: the trace has a fault. Nothing was written.
+    #[error("RU3: the trace is refused")]
+    Trace(TraceFault),
+    /// RU4: a write or flush of the maps file failed, after so many rounds. These are done: their records and their
+    /// lines were all taken, and there is no greater number of which that holds.
+    #[error("RU4: the maps file failed after {0} rounds")]
+    WriteMaps(u32),
+    /// RU5: a write or flush of the report failed, after so many rounds were done as in RU4.
+    #[error("RU5: the report failed after {0} rounds")]
+    WriteReport(u32),
+    /// RU6: want of memory, after so many rounds were done as in RU4.
+    #[error("RU6: out of memory after {0} rounds")]
+    NoMemory(u32),
+}
+
+impl From<TraceFault> for RunFault {
+    ghost use Rattle.std.specs.Prelude.{◌≡◌};
+    ghost use Rattle.us_replay.specs.declared.faults.RunFault.TheVariants.{Trace};
+
+    ghost from_gives = { λ reason fault. fault ≡ Trace reason };
+
+    fn from(reason: TraceFault) -> RunFault {
+        RunFault::Trace(reason)
+    }
+}

@@ -1,0 +1,59 @@
+//! Replays the requests of a trace: a configuration and a trace go in, a maps file and a report come out.
+//!
+//! ```
+//! let config = Config::read(alloc, text)?;
+//! let mut trace = FromRead::new(trace_file);
+//! let mut maps = FromWrite::new(maps_file);
+//! let mut report = FromWrite::new(report_file);
+//! let summary = replay(alloc, &config, &mut trace, 2, &mut maps, &mut report)?; // 2 rounds
+//! ```
+//!
+//! What these bytes are stands in `specs/`, in the order of its `Lib.antt`.
+#![tactic(auto)]
+
+// Who holds each minislot of a MAP.
+mod boards;
+
+// The reserves of a round.
+mod reserving;
+
+// Who may ask.
+mod seats;
+
+// How many bytes are planned.
+mod planning;
+
+// Where they are granted.
+mod placing;
+
+// From a board to a MAP.
+mod mapping;
+
+// The round, and the state between two rounds.
+mod rounds;
+
+// The lines of the report.
+mod lines;
+
+// The bytes of a round: its records and its lines.
+mod texts;
+
+// What the trace asks of a round.
+mod cuts;
+
+// Every refusal, in order.
+mod faults;
+
+// What a replay did.
+mod summaries;
+
+// The replay, round after round.
+mod replays;
+
+pub use faults::RunFault;
+pub use lines::{Entry, Row};
+pub use replays::replay;
+pub use summaries::Summary;
+
+#[cfg(test)]
+mod tests;

@@ -1,0 +1,96 @@
+ghost use Rattle.std.specs.Prelude.{◌≡◌, ◌↔◌, ℕ, ◌<◌, true, false, length};
+ghost use Rattle.std.specs.List.{AllByRecursion};
+ghost use Rattle.us_flows.specs.Tables.{rounds_fit};
+ghost use Rattle.us_flows.specs.Clusters.{clusters_of};
+ghost use Rattle.us_requests.specs.Traces.{asks_in};
+ghost use Rattle.us_replay.specs.Replays.{Growth, Output, Ran, Replayed, output_of, comes_before, blames_maps, blames_report};
+
+use crate::faults::RunFault;
+use crate::summaries::Summary;
+use progress::Progress;
+use sending::{flush, send};
+use std::alloc::Global;
+use us_flows::Config;
+use us_requests::{Trace, TraceFault};
+use us_slots::{Sink, Source};
+
+mod progress;
+mod sending;
+mod tallies;
+
+/// Replays the trace of `trace` with a configuration, for so many rounds: writes the maps file and the report.
+///
+/// The number of rounds is looked at first (RU1), and then the trace is read to its end (RU3). Each round writes its
+/// records and then its lines, the channels in table order; after the last one the F lines and the U line are
+/// written, and both writers are flushed, the maps file's first. The first fault ends the replay (RU4, RU5, RU6).
+pub fn replay<R: Source, W1: Sink, W2: Sink>(
+    alloc: Global,
+    config: &Config,
+    trace: &mut R,
+    rounds: u32,
+    maps: &mut W1,
+    report: &mut W2,
+) -> Result<Summary, RunFault>
+    requires trace_ready { R.failed trace.old ≡ false }
+    requires maps_ready { W1.failed maps.old ≡ false }
+    requires report_ready { W2.failed report.old ≡ false }
+    ensures replayed { let to_maps : Growth = record { before = W1.contents maps.old; after = W1.contents maps.new } in
+        let to_report : Growth = record { before = W2.contents report.old; after = W2.contents report.new } in
+        Replayed config.now rounds (R.remaining trace.old) to_maps to_report result }
+    ensures rounds { (result ≡ Err RunFault.Rounds) ↔ (rounds_fit config.now rounds ≡ false) }
+    ensures nothing_read { result ≡ Err RunFault.Rounds → trace.new ≡ trace.old }
+    ensures nothing_written { comes_before result ≡ true → (maps.new ≡ maps.old) × (report.new ≡ report.old) }
+    ensures trace_failed { (R.failed trace.new ≡ true) ↔ (result ≡ Err (RunFault.Trace TraceFault.Read)) }
+    ensures maps_failed { W1.failed maps.new ≡ blames_maps result }
+    ensures report_failed { W2.failed report.new ≡ blames_report result }
+{
+    if !config.rounds_fit(rounds) {
+        return Err(RunFault::Rounds);
+    }
+    let trace = Trace::read(alloc, trace, config, rounds)?;
+    run(alloc, config, &trace, maps, report)
+}
+
+/// Replays a trace that was read.
+fn run<W1: Sink, W2: Sink>(
+    alloc: Global,
+    config: &Config,
+    trace: &Trace,
+    maps: &mut W1,
+    report: &mut W2,
+) -> Result<Summary, RunFault>
+    requires fits { rounds_fit config.now trace.now.rounds ≡ true }
+    requires known { (round : ℕ) →
+        AllByRecursion (λ ask. ask.cluster < length (clusters_of config.now)) (asks_in trace.now round) }
+    requires maps_ready { W1.failed maps.old ≡ false }
+    requires report_ready { W2.failed report.old ≡ false }
+    ensures ran { let out : Output = output_of config.now trace.now.rounds (asks_in trace.now) trace.now.counts in
+        let to_maps : Growth = record { before = W1.contents maps.old; after = W1.contents maps.new } in
+        let to_report : Growth = record { before = W2.contents report.old; after = W2.contents report.new } in
+        Ran out trace.now.counts to_maps to_report result }
+    ensures maps_failed { W1.failed maps.new ≡ blames_maps result }
+    ensures report_failed { W2.failed report.new ≡ blames_report result }
+{
+    let rounds = trace.rounds();
+    let Ok(mut progress) = Progress::opening(alloc, config) else {
+        return Err(RunFault::NoMemory(0));
+    };
+    for done in 0..rounds {
+        let Ok(()) = progress.make_round(alloc, config, trace.asks(done)) else {
+            return Err(RunFault::NoMemory(done));
+        };
+        send(progress.to_maps(), progress.to_report(), done, maps, report)?;
+    }
+    let Ok(()) = progress.make_last(alloc, config, trace.counts()) else {
+        return Err(RunFault::NoMemory(rounds));
+    };
+    send(
+        progress.to_maps(),
+        progress.to_report(),
+        rounds,
+        maps,
+        report,
+    )?;
+    flush(rounds, maps, report)?;
+    Ok(progress.summary(rounds, trace.counts()))
+}

@@ -1,0 +1,60 @@
+ghost use Rattle.std.specs.Prelude.{◌≡◌, [], ◌∷◌, IfOk};
+ghost use Rattle.us_replay.specs.Outputs as spec;
+
+use crate::lines::Row;
+use std::alloc::Global;
+use std::marker::Model;
+use us_codec::Map;
+use us_slots::NoMemory;
+
+/// What a round gives: the MAP of each channel in table order, and its lines.
+#[derive(Debug, Drop)]
+pub(crate) struct Given {
+    round: u32,
+    maps: Vec<Map>,
+    rows: Vec<Row>,
+}
+
+impl Model for Given {
+    ghost Value = { spec.Given };
+
+    ghost view = { λ g. record { round = g.round; maps = g.maps.items; rows = g.rows.items } };
+}
+
+impl Given {
+    /// What a round of one channel gives.
+    pub(crate) fn new(
+        alloc: Global,
+        round: u32,
+        map: Map,
+        rows: Vec<Row>,
+    ) -> Result<Given, NoMemory>
+        ensures { let given : spec.Given = record { round = round; maps = map ∷ []; rows = rows.items } in
+            IfOk result (λ made. made ≡ given) }
+    {
+        let mut maps = Vec::new(alloc);
+        maps.push(map)?;
+        Ok(Given { round, maps, rows })
+    }
+
+    /// The number of the round.
+    pub(crate) fn round(&self) -> u32
+        ensures { result ≡ self.now.round }
+    {
+        self.round
+    }
+
+    /// The MAP of each channel, in table order.
+    pub(crate) fn maps(&self) -> &[Map]
+        ensures { result.now ≡ self.now.maps }
+    {
+        &self.maps
+    }
+
+    /// Its lines.
+    pub(crate) fn rows(&self) -> &[Row]
+        ensures { result.now ≡ self.now.rows }
+    {
+        &self.rows
+    }
+}

@@ -1,0 +1,48 @@
+ghost use Rattle.std.specs.Prelude.{◌≡◌, ℕ, List, [], ◌∷◌};
+ghost use Rattle.us_replay.specs.Seats.{SeatOf};
+
+use us_flows::{Config, Flow};
+
+/// The bytes of a segment header (the standard's).
+const HEADER_BYTES: u32 = 8;
+
+/// Who may ask in a run, which so far is at most one cluster on one channel.
+#[derive(Clone, Copy, Debug, PartialEq, Eq)]
+pub(crate) struct Seat {
+    /// The id of its flow.
+    pub flow: u16,
+    /// Its SID on the channel.
+    pub sid: u16,
+    /// The bytes of the header of each of its grants, 8 or 0.
+    pub header: u32,
+}
+
+impl Seat {
+    /// The seat of the one flow, if there is a flow.
+    pub(crate) fn of(config: &Config) -> Option<Seat>
+        ensures { SeatOf config.now result }
+    {
+        match config.flows() {
+            [] => None,
+            [flow, ..] => Some(Seat {
+                flow: flow.id(),
+                sid: first_sid(flow),
+                header: if flow.headers() { HEADER_BYTES } else { 0 },
+            }),
+        }
+    }
+}
+
+/// The SID of a flow's first cluster on its first channel.
+fn first_sid(flow: &Flow) -> u16
+    requires { (sids : List ℕ) × (sid : ℕ) × (flow.now.clusters ≡ sids ∷ []) × (sids ≡ sid ∷ []) }
+    ensures { flow.now.clusters ≡ (result ∷ []) ∷ [] }
+{
+    match flow.clusters() {
+        [sids, ..] => match sids.as_slice() {
+            [sid, ..] => *sid,
+            [] => unreachable!(),
+        },
+        [] => unreachable!(),
+    }
+}

@@ -1,0 +1,16 @@
+/// What a replay did.
+#[derive(Clone, Copy, Debug, PartialEq, Eq, Hash)]
+pub struct Summary {
+    /// Rounds that were scheduled.
+    pub rounds: u32,
+    /// G lines of the report: grants.
+    pub granted: u64,
+    /// M lines of the report: occurrences that were missed.
+    pub missed: u64,
+    /// Rows of the trace whose SID no flow has on their channel.
+    pub unknown: u32,
+    /// Rows of the trace whose flow is of a type that makes no requests.
+    pub not_requestable: u32,
+    /// Rows of the trace whose round isn't below the number of rounds.
+    pub late: u32,
+}

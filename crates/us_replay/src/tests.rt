@@ -1,0 +1,5 @@
+mod base;
+mod boards;
+mod devices;
+mod lines;
+mod replays;

@@ -1,0 +1,51 @@
+use std::alloc::Global;
+use us_flows::{Config, ConfigFault};
+
+/// The base configuration of the formats: one channel of 160 minislots, one best-effort flow with SID 291.
+const BASE: &str = "round_ticks = 320
+lead_ticks = 160
+
+[[channel]]
+id = 1
+minislot_log2 = 1
+rate_log2 = 5
+ucd_count = 0
+ranging_backoff = [2, 6]
+data_backoff = [3, 8]
+request_minislots = 2
+contention_minislots = 10
+maintenance_minislots = 0
+maintenance_every = 1
+station_minislots = 4
+long = { bits = 4, preamble = 24, guard = 8, fec_t = 0, fec_k = 200, shortened = false }
+short = { bits = 4, preamble = 24, guard = 8, fec_t = 0, fec_k = 200, shortened = false, max_minislots = 10 }
+unsolicited = { bits = 4, preamble = 24, guard = 8, fec_t = 0, fec_k = 200, shortened = false }
+
+[[flow]]
+id = 1
+type = 2
+channels = [1]
+clusters = [[291]]
+priority = 0
+rate = 0
+burst = 3044
+unit = 4
+headers = true
+";
+
+/// The trace of the stored run, which has 2 rounds.
+pub(super) const TRACE: &[u8] = b"tick,channel,sid,units\n0,1,291,250\n";
+
+/// Its maps file: a record of 34 bytes and one of 38.
+pub(super) const MAPS: &[u8] =
+    b"\x00\x00\x00\x00\x00\x1c\x01\x00\x03\x00\x00\x00\x00\x00\x00\x00\x00\x00\x02\x06\x03\x08\
+\xff\xfc\x40\x00\xff\xfc\x40\x96\x00\x01\xc0\xa0\
+\x00\x00\x00\x01\x00\x20\x01\x00\x04\x00\x00\x00\x00\xa0\x00\x00\x00\x50\x02\x06\x03\x08\
+\x04\x8e\x80\x00\xff\xfc\x40\x20\xff\xfc\x40\x96\x00\x01\xc0\xa0";
+
+/// Its report: no line of round 0, and one of round 1.
+pub(super) const REPORT: &[u8] = b"G,1,1,req,1,0,0,291,10,0,32,1000\nF,1,0,0,-\nU,0,0,0\n";
+
+pub(super) fn base(alloc: Global) -> Result<Config, ConfigFault> {
+    Config::read(alloc, BASE.as_bytes())
+}

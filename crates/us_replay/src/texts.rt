@@ -1,0 +1,54 @@
+ghost use Rattle.std.specs.Prelude.{◌≡◌, ◌^◌, ◌<◌, ◌++◌, length, OnOk};
+ghost use Rattle.us_codec.specs.Bodies.{spelling};
+ghost use Rattle.us_codec.specs.MapsFiles.{Piece, record_bytes};
+ghost use Rattle.us_replay.specs.Outputs.{records, lines};
+
+use crate::lines::{Row, push_line};
+use crate::rounds::Given;
+use us_codec::{MAX_BODY_BYTES, Map, encode_into};
+use us_slots::NoMemory;
+
+/// Adds the records of a round: one for each MAP, in table order.
+pub(crate) fn push_records(text: &mut Vec<u8>, given: &Given) -> Result<(), NoMemory>
+    ensures { OnOk result (text.new.items ≡ text.old.items ++ records given.now) }
+{
+    for map in given.maps() {
+        push_map(text, given.round(), map)?;
+    }
+    Ok(())
+}
+
+/// Adds the record of a MAP.
+#[tactic(auto, using(crate::proofs::TextLemmas::taken_front))]
+fn push_map(text: &mut Vec<u8>, round: u32, map: &Map) -> Result<(), NoMemory>
+    ensures { let piece : Piece = record { round = round; body = spelling map.now } in
+        OnOk result (text.new.items ≡ text.old.items ++ record_bytes piece) }
+{
+    let mut buffer = [0; MAX_BODY_BYTES];
+    let length = encode_into(map, &mut buffer);
+    push_record(text, round, &buffer[..length])
+}
+
+/// Adds a record: the round, the length of the body, the body.
+#[tactic(auto, using(crate::proofs::TextLemmas::piece_joined))]
+fn push_record(text: &mut Vec<u8>, round: u32, body: &[u8]) -> Result<(), NoMemory>
+    requires { length body.now < 2 ^ 16 }
+    ensures { let piece : Piece = record { round = round; body = body.now } in
+        OnOk result (text.new.items ≡ text.old.items ++ record_bytes piece) }
+{
+    text.extend_from_slice(&round.to_be_bytes())?;
+    text.extend_from_slice(&(body.len() as u16).to_be_bytes())?;
+    text.extend_from_slice(body)?;
+    Ok(())
+}
+
+/// Adds the lines of some rows.
+#[tactic(auto, unfolding(crate::specs::Outputs::lines))]
+pub(crate) fn push_lines(text: &mut Vec<u8>, rows: &[Row]) -> Result<(), NoMemory>
+    ensures { OnOk result (text.new.items ≡ text.old.items ++ lines rows.now) }
+{
+    for row in rows {
+        push_line(text, row)?;
+    }
+    Ok(())
+}

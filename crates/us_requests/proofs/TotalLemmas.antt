@@ -1,0 +1,196 @@
+-- The asks of sound requests: what they add up to, that none is late, and that each names a cluster that is there.
+use Rattle.std.proofs.Common.{◌≡◌, ℕ, zero, suc, ◌+◌, ◌*◌, ◌<◌, ◌≤◌, Bool, true, false, List, [], ◌∷◌, ◌++◌, length, Option, Some, None, refl, ap, ◌∙◌, inl, inr, arith}
+use Rattle.std.specs.Prelude.{sum_by, ◌==◌, ◌&&◌, nat_lt, if◌then◌else◌, slice_get, flat_map}
+use Rattle.std.specs.List.{cons_option, AllByRecursion, range_with_len}
+use Rattle.std.proofs.lemmas.Bool.{cases_eq, eq-eqb, ne_eqb, le-ltb, and_right}
+use Rattle.std.proofs.lemmas.List.Sums.{sum_by-cons, sum_by-le-sum_by}
+use Rattle.std.proofs.lemmas.Nat.{mul-le}
+use Rattle.us_flows.specs.Tables.{Tables, FlowTable}
+use Rattle.us_flows.specs.Clusters.{Cluster, clusters_of, clusters_from, lookup}
+use Rattle.us_flows.specs.Lawful.{AreTables, IsFlow}
+use Rattle.us_flows.specs.declared.found.Found.{Found}
+use Rattle.us_flows.specs.declared.found.Found.TheVariants as found
+use Rattle.us_requests.specs.declared.asks.Ask.{Ask}
+use Rattle.us_requests.specs.Asks.{Request, round_of_tick, unit_of, ask_of, ask_for, asks_at}
+use Rattle.us_requests.specs.Traces.{TraceAsks, asks_in, asked_before, max_asked}
+use Rattle.us_requests.specs.Readings.{AreRequests}
+use Rattle.us_requests.proofs.AskLemmas.{cluster-within}
+
+-- the ask of a request in a round
+abbrev ask_in : Tables → ℕ → ℕ → Request → Option Ask
+ask_in t rounds round q = if (round_of_tick t q.tick == round) && nat_lt round rounds then ask_of t q else None
+
+-- from the end of the run on there are none
+pub none-late : (t : Tables) (rounds : ℕ) (requests : List Request) (round : ℕ) → rounds ≤ round →
+    asks_at t rounds requests round ≡ []
+unfolding asks_at
+none-late t rounds [] round late = refl
+none-late t rounds (q ∷ rest) round late =
+    let no : ((round_of_tick t q.tick == round) && nat_lt round rounds) ≡ false =
+    and_right (round_of_tick t q.tick == round) (nat_lt round rounds) (le-ltb round rounds late) in
+    ap (λ b. cons_option (if b then ask_of t q else None) (asks_at t rounds rest round)) no ∙
+    none-late t rounds rest round late
+
+-- each names a cluster that is there
+abbrev IsKnown : Tables → Option Ask → Type 0
+IsKnown t None = Unit {0}
+IsKnown t (Some ask) = ask.cluster < length (clusters_of t)
+
+known-ask : (t : Tables) (q : Request) (o : Option Found) → lookup t q.channel q.sid ≡ o →
+    IsKnown t (ask_for t q.units o)
+known-ask t q None is = tt
+known-ask t q (Some found.Unsolicited) is = tt
+known-ask t q (Some (found.Cluster number)) is = cluster-within t q.channel q.sid number is
+
+known-in : (t : Tables) (b : Bool) (o : Option Ask) → IsKnown t o → IsKnown t (if b then o else None)
+known-in t true o is = is
+known-in t false o is = tt
+
+known-cons : (t : Tables) (o : Option Ask) (asks : List Ask) → IsKnown t o →
+    AllByRecursion (λ ask. ask.cluster < length (clusters_of t)) asks →
+    AllByRecursion (λ ask. ask.cluster < length (clusters_of t)) (cons_option o asks)
+known-cons t None asks first rest = rest
+known-cons t (Some ask) asks first rest = (first, rest)
+
+pub all-known : (t : Tables) (rounds : ℕ) (requests : List Request) (round : ℕ) →
+    AllByRecursion (λ ask. ask.cluster < length (clusters_of t)) (asks_at t rounds requests round)
+unfolding asks_at
+all-known t rounds [] round = tt
+all-known t rounds (q ∷ rest) round =
+    known-cons t (ask_in t rounds round q) (asks_at t rounds rest round)
+    (known-in t ((round_of_tick t q.tick == round) && nat_lt round rounds) (ask_of t q) (known-ask t q
+    (lookup t q.channel q.sid) refl))
+    (all-known t rounds rest round)
+
+-- a unit has at most 16 bytes
+abbrev IsSmall : Cluster → Type 0
+IsSmall cluster = cluster.flow.unit ≤ 16
+
+small-from : (flow : FlowTable) (list : ℕ) (sids : List (List ℕ)) (more : List Cluster) → flow.unit ≤ 16 →
+    AllByRecursion IsSmall more → AllByRecursion IsSmall (clusters_from flow list sids ++ more)
+small-from flow list [] more small rest = rest
+small-from flow list (first ∷ sids) more small rest = (small, small-from flow (list + 1) sids more small rest)
+
+small-all : (t : Tables) (flows : List FlowTable) → AllByRecursion (IsFlow t) flows →
+    AllByRecursion IsSmall (flat_map (λ flow. clusters_from flow 0 flow.clusters) flows)
+small-all t [] are = tt
+small-all t (flow ∷ flows) are =
+    small-from flow 0 flow.clusters (flat_map (λ flow. clusters_from flow 0 flow.clusters) flows) are.0.unit.1
+    (small-all t flows are.1)
+
+small-unit : (clusters : List Cluster) (number : ℕ) → AllByRecursion IsSmall clusters →
+    unit_of (slice_get clusters number) ≤ 16
+small-unit [] number are = omega arith
+small-unit (cluster ∷ rest) zero are = are.0
+small-unit (cluster ∷ rest) (suc number) are = small-unit rest number are.1
+
+-- the most bytes of an ask
+abbrev max_ask : ℕ
+max_ask = 1048560
+
+abbrev bytes_of : Option Ask → ℕ
+bytes_of None = 0
+bytes_of (Some ask) = ask.bytes
+
+small-ask : (t : Tables) (units : ℕ) (o : Option Found) → AreTables t → units ≤ 65535 →
+    bytes_of (ask_for t units o) ≤ max_ask
+small-ask t units None are small = omega arith
+small-ask t units (Some found.Unsolicited) are small = omega arith
+small-ask t units (Some (found.Cluster number)) are small =
+    let unit : unit_of (slice_get (clusters_of t) number) ≤ 16 = small-unit (clusters_of t) number
+    (small-all t t.flows are.flows) in
+    omega (arith, mul-le units (unit_of (slice_get (clusters_of t) number)) 65535 16 small unit)
+
+-- what a request adds to the sum of a round
+small-in : (a b : Bool) (o : Option Ask) → bytes_of o ≤ max_ask →
+    bytes_of (if a && b then o else None) ≤ (if a then max_ask else 0)
+small-in true true o small = small
+small-in true false o small = omega arith
+small-in false b o small = omega arith
+
+abbrev bytes_in : List Ask → ℕ
+bytes_in asks = sum_by (λ ask. ask.bytes) asks
+
+bytes-cons : (o : Option Ask) (asks : List Ask) → bytes_in (cons_option o asks) ≡ bytes_of o + bytes_in asks
+bytes-cons None asks = omega arith
+bytes-cons (Some ask) asks = sum_by-cons (λ ask. ask.bytes) ask asks
+
+-- sums over rounds
+sum-zero : (xs : List ℕ) → sum_by (λ x. 0) xs ≡ 0
+sum-zero [] = refl
+sum-zero (x ∷ xs) = omega (arith, sum_by-cons (λ x. 0) x xs, sum-zero xs)
+
+sum-plus : (f g : ℕ → ℕ) (xs : List ℕ) → sum_by (λ x. f x + g x) xs ≡ sum_by f xs + sum_by g xs
+sum-plus f g [] = refl
+sum-plus f g (x ∷ xs) = omega (
+  arith,
+  sum_by-cons (λ x. f x + g x) x xs,
+  sum_by-cons f x xs,
+  sum_by-cons g x xs,
+  sum-plus f g xs,
+)
+
+-- of one round alone
+abbrev only_at : ℕ → ℕ → ℕ
+only_at k x = if k == x then max_ask else 0
+
+sum-past : (k from n : ℕ) → k < from → sum_by (only_at k) (range_with_len from n) ≡ 0
+sum-past k from zero past = refl
+sum-past k from (suc n) past =
+    let no : only_at k from ≡ 0 = ap (λ b. if b then max_ask else 0) (ne_eqb k from (λ same. omega arith)) in
+    omega (arith, sum_by-cons (only_at k) from (range_with_len (from + 1) n), sum-past k (from + 1) n (omega arith), no)
+
+sum-one : (k from n : ℕ) → sum_by (only_at k) (range_with_len from n) ≤ max_ask
+sum-one k from zero = omega arith
+sum-one k from (suc n) = elim (cases_eq k from) [
+  | inl same ↦
+      let here : only_at k from ≡ max_ask = ap (λ b. if b then max_ask else 0) (eq-eqb k from same) in
+      omega (
+        arith,
+        sum_by-cons (only_at k) from (range_with_len (from + 1) n),
+        sum-past k (from + 1) n
+            (omega arith),
+        here,
+      )
+  | inr other ↦
+      let no : only_at k from ≡ 0 = ap (λ b. if b then max_ask else 0) (ne_eqb k from other) in
+      omega (arith, sum_by-cons (only_at k) from (range_with_len (from + 1) n), sum-one k (from + 1) n, no)
+]
+
+-- all asks together
+few-asked : (t : Tables) (rounds n : ℕ) (requests : List Request) → AreTables t →
+    AllByRecursion (λ q. q.units ≤ 65535) requests →
+    sum_by (λ round. bytes_in (asks_at t rounds requests round)) (range_with_len 0 n) ≤ max_ask * length requests
+unfolding asks_at
+few-asked t rounds n [] are small = omega (arith, sum-zero (range_with_len 0 n))
+few-asked t rounds n (q ∷ rest) are small =
+    let first : ℕ → ℕ = only_at (round_of_tick t q.tick) in
+    let others : ℕ → ℕ = λ round. bytes_in (asks_at t rounds rest round) in
+    let each : (round : ℕ) → bytes_in (asks_at t rounds (q ∷ rest) round) ≤ first round + others round =
+    λ round. omega (
+      arith,
+      bytes-cons (ask_in t rounds round q) (asks_at t rounds rest round),
+      small-in (round_of_tick t q.tick == round) (nat_lt round rounds) (ask_of t q)
+          (small-ask t q.units (lookup t q.channel q.sid) are small.0),
+    ) in
+    omega (
+      arith,
+      sum_by-le-sum_by (λ round. bytes_in (asks_at t rounds (q ∷ rest) round)) (λ round. first round + others round)
+          (range_with_len 0 n) each,
+      sum-plus first others (range_with_len 0 n),
+      sum-one (round_of_tick t q.tick) 0 n,
+      few-asked t rounds n rest are small.1,
+    )
+
+pub few-of : (t : Tables) (rounds : ℕ) (requests : List Request) (trace : TraceAsks) → AreTables t →
+    AreRequests requests →
+    ((round : ℕ) → asks_in trace round ≡ asks_at t rounds requests round) → (n : ℕ) → asked_before trace n ≤ max_asked
+few-of t rounds requests trace are sound asks n =
+    omega (
+      arith,
+      sum_by-le-sum_by (λ round. bytes_in (asks_in trace round)) (λ round. bytes_in
+          (asks_at t rounds requests round)) (range_with_len 0 n)
+          (λ round. omega (arith, ap (λ asks. bytes_in asks) (asks round))),
+      few-asked t rounds n requests are sound.small,
+      sound.few,
+    )

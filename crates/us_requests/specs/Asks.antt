@@ -1,0 +1,72 @@
+-- Requests: in which round one is served, and how many bytes it asks for.
+use Rattle.std.specs.Prelude.{ℕ, ◌+◌, ◌*◌, List, map, filter, filter_map, count_by, sum_by, Bool, true, false, not, ◌==◌, nat_lt, ◌&&◌, if◌then◌else◌, Option, Some, None, slice_get, is_none}
+use Rattle.std.specs.List.{range_with_len}
+use Rattle.std.specs.Int.{div_ceil}
+use Rattle.us_flows.specs.Tables.{Tables}
+use Rattle.us_flows.specs.Clusters.{Cluster, clusters_of, lookup}
+use Rattle.us_flows.specs.declared.found.Found.{Found}
+use Rattle.us_flows.specs.declared.found.Found.TheVariants as found
+use Rattle.us_requests.specs.declared.asks.Ask.{Ask}
+use Rattle.us_requests.specs.declared.asks.Counts.{Counts}
+
+-- a row of the trace: at a tick, on a channel, a SID asks for some units
+pub record Request : Type 0 where
+  pub tick : ℕ
+  pub channel : ℕ
+  pub sid : ℕ
+  pub units : ℕ
+
+-- the round of a request at a tick: the least that starts no earlier than the lead after it
+unfoldable pub round_of_tick : Tables → ℕ → ℕ
+round_of_tick t tick = div_ceil (tick + t.lead_ticks) t.round_ticks
+
+-- the bytes of a unit of a cluster's requests
+abbrev pub unit_of : Option Cluster → ℕ
+unit_of None = 0
+unit_of (Some cluster) = cluster.flow.unit
+
+-- what a SID's request of some units asks for, if it belongs to a cluster
+abbrev pub ask_for : Tables → ℕ → Option Found → Option Ask
+ask_for t units None = None
+ask_for t units (Some found.Unsolicited) = None
+ask_for t units (Some (found.Cluster number)) =
+    Some (record { cluster = number; bytes = units * unit_of (slice_get (clusters_of t) number) })
+
+abbrev pub ask_of : Tables → Request → Option Ask
+ask_of t q = ask_for t q.units (lookup t q.channel q.sid)
+
+-- the asks of a round in the order of the trace; none from the end of the run on
+unfoldable pub asks_at : Tables → ℕ → List Request → ℕ → List Ask
+asks_at t rounds requests round =
+    filter_map (λ q. if (round_of_tick t q.tick == round) && nat_lt round rounds then ask_of t q else None) requests
+
+-- how a row counts that is no ask: the first of these that holds
+abbrev pub is_unknown : Tables → Request → Bool
+is_unknown t q = is_none (lookup t q.channel q.sid)
+
+abbrev pub is_unsolicited : Option Found → Bool
+is_unsolicited None = false
+is_unsolicited (Some found.Unsolicited) = true
+is_unsolicited (Some (found.Cluster number)) = false
+
+abbrev pub is_not_requestable : Tables → Request → Bool
+is_not_requestable t q = is_unsolicited (lookup t q.channel q.sid)
+
+abbrev pub is_late : Tables → ℕ → Request → Bool
+is_late t rounds q =
+    not (is_unknown t q) && (not (is_not_requestable t q) && not (nat_lt (round_of_tick t q.tick) rounds))
+
+unfoldable pub counts_of : Tables → ℕ → List Request → Counts
+counts_of t rounds requests = record {
+  unknown = count_by (is_unknown t) requests;
+  not_requestable = count_by (is_not_requestable t) requests;
+  late = count_by (is_late t rounds) requests;
+}
+
+-- the bytes that some asks name of a cluster
+abbrev pub asked : List Ask → ℕ → ℕ
+asked asks cluster = sum_by (λ ask. ask.bytes) (filter (λ ask. ask.cluster == cluster) asks)
+
+-- the cut of a round: for each of so many clusters the bytes that its asks name
+unfoldable pub cut_of : ℕ → List Ask → List ℕ
+cut_of clusters asks = map (asked asks) (range_with_len 0 clusters)

@@ -1,0 +1,137 @@
+-- Small inputs, computed by the definitions alone.
+use Rattle.std.specs.Prelude.{◌≡◌, ℕ, true, false, List, [], ◌∷◌, codes, Some, None, refl}
+use Rattle.csv.specs.Machine.{next_record}
+use Rattle.csv.specs.Reading.{records_from, strip_bom}
+use Rattle.us_flows.specs.Tables.{Tables, FlowTable}
+use Rattle.us_flows.specs.Clusters.{lookup}
+use Rattle.us_flows.specs.declared.flows.SchedulingType.TheVariants.{BestEffort}
+use Rattle.us_requests.specs.declared.asks.Ask.{Ask}
+use Rattle.us_requests.specs.declared.faults.TraceFault.TheVariants.{Header, Fields, Number, TooLarge}
+use Rattle.us_requests.specs.Asks.{Request, round_of_tick, asks_at, counts_of, cut_of}
+use Rattle.us_requests.specs.Records.{Record}
+use Rattle.us_requests.specs.Rows.{is_header, number_from, are_numbers, row_checks, first_of, rows_fault, records_fault, trace_fault, requests_of}
+
+-- one cluster with a unit of 4 bytes, and two of a flow of two channels with a unit of 16
+abbrev narrow : FlowTable
+narrow = record {
+  id = 1;
+  kind = BestEffort;
+  channels = 1 ∷ [];
+  clusters = (291 ∷ []) ∷ [];
+  priority = 0;
+  rate = 0;
+  burst = 3044;
+  unit = 4;
+  headers = true;
+}
+
+abbrev wide : FlowTable
+wide = record {
+  id = 2;
+  kind = BestEffort;
+  channels = 2 ∷ 1 ∷ [];
+  clusters = (500 ∷ 501 ∷ []) ∷ (502 ∷ 503 ∷ []) ∷ [];
+  priority = 3;
+  rate = 0;
+  burst = 3044;
+  unit = 16;
+  headers = true;
+}
+
+-- rounds of 320 ticks and a lead of 160
+abbrev tables : Tables
+tables = record { round_ticks = 320; lead_ticks = 160; channels = []; flows = narrow ∷ wide ∷ [] }
+
+-- a request is served at least the lead later, in the round that starts next
+served :
+    (round_of_tick tables 0 ∷ round_of_tick tables 160 ∷ round_of_tick tables 161 ∷ round_of_tick tables 480 ∷ []) ≡
+    (1 ∷ 1 ∷ 2 ∷ 2 ∷ [])
+unfolding round_of_tick
+served = refl
+
+abbrev asks_for : ℕ → ℕ → ℕ → ℕ → Request
+asks_for tick channel sid units = record { tick = tick; channel = channel; sid = sid; units = units }
+
+abbrev requests : List Request
+requests =
+    asks_for 161 1 291 3 ∷ asks_for 0 1 291 10 ∷ asks_for 160 1 503 2 ∷ asks_for 0 1 999 10
+    ∷ asks_for 0 2 291 10 ∷ asks_for 1000000 2 500 10 ∷ asks_for 1000000 1 999 10 ∷ asks_for 1 2 500 0 ∷ []
+
+abbrev bytes_of : ℕ → ℕ → Ask
+bytes_of cluster bytes = record { cluster = cluster; bytes = bytes }
+
+-- in the order of the trace, each in bytes
+first_round : asks_at tables 3 requests 1 ≡ bytes_of 0 40 ∷ bytes_of 2 32 ∷ bytes_of 1 0 ∷ []
+unfolding asks_at round_of_tick lookup
+first_round = refl
+
+other_rounds : (asks_at tables 3 requests 0 ∷ asks_at tables 3 requests 2 ∷ asks_at tables 2 requests 2 ∷ []) ≡
+    [] ∷ (bytes_of 0 12 ∷ []) ∷ [] ∷ []
+unfolding asks_at round_of_tick lookup
+other_rounds = refl
+
+-- a row of a SID that no flow has is unknown and not late
+no_asks : counts_of tables 3 requests ≡ record { unknown = 3; not_requestable = 0; late = 1 }
+unfolding counts_of round_of_tick lookup
+no_asks = refl
+
+-- what each cluster asks for in a round
+cut : cut_of 3 (bytes_of 0 40 ∷ bytes_of 2 32 ∷ bytes_of 0 12 ∷ []) ≡ 52 ∷ 0 ∷ 32 ∷ []
+unfolding cut_of
+cut = refl
+
+-- records
+abbrev header : Record
+header = codes "tick" ∷ codes "channel" ∷ codes "sid" ∷ codes "units" ∷ []
+
+headers : (is_header header ∷ is_header (codes "tick" ∷ codes "channel" ∷ codes "sid" ∷ []) ∷
+    is_header (codes "tick" ∷ codes "channel" ∷ codes "units" ∷ codes "sid" ∷ []) ∷ []) ≡
+    true ∷ false ∷ false ∷ []
+unfolding is_header
+headers = refl
+
+abbrev row : List ℕ → List ℕ → Record
+row sid units = codes "0" ∷ codes "1" ∷ sid ∷ units ∷ []
+
+-- the greatest values, and one over; eleven digits; no digit; no four fields
+row_faults :
+    (first_of (row_checks 2 (codes "4294967295" ∷ codes "255" ∷ codes "16383" ∷ codes "65535" ∷ [])) ∷
+    first_of (row_checks 2 (row (codes "291") (codes "65536"))) ∷
+    first_of (row_checks 3 (row (codes "16384") (codes "1"))) ∷
+    first_of (row_checks 2 (row (codes "291") (codes "00000000001"))) ∷
+    first_of (row_checks 2 (row (codes "291") (codes "x"))) ∷
+    first_of (row_checks 2 (row (codes "291") [])) ∷
+    first_of (row_checks 4 (codes "x" ∷ codes "1" ∷ [])) ∷
+    first_of (row_checks 1000002 (codes "x" ∷ codes "1" ∷ [])) ∷ []) ≡
+    None ∷ Some (Number 2) ∷ Some (Number 3) ∷ Some (Number 2) ∷ Some (Number 2) ∷ Some (Number 2) ∷ Some (Fields 4) ∷
+    Some TooLarge ∷ []
+unfolding are_numbers number_from
+row_faults = refl
+
+-- the first faulty record decides
+first_faults :
+    (records_fault [] ∷ records_fault (header ∷ []) ∷ records_fault ((codes "x" ∷ []) ∷ row [] [] ∷ []) ∷
+    records_fault (header ∷ row (codes "1") (codes "1") ∷ row [] [] ∷ (codes "x" ∷ []) ∷ []) ∷ []) ≡
+    Some Header ∷ None ∷ Some Header ∷ Some (Number 3) ∷ []
+unfolding rows_fault is_header are_numbers number_from
+first_faults = refl
+
+-- texts
+abbrev sound : List ℕ
+sound = codes "tick,channel,sid,units\r\n\r\n161,1,291,3\n0,1,\"00291\",10"
+
+no_fault : trace_fault sound ≡ None
+unfolding trace_fault strip_bom records_from next_record rows_fault is_header are_numbers number_from
+no_fault = refl
+
+told : requests_of sound ≡ asks_for 161 1 291 3 ∷ asks_for 0 1 291 10 ∷ []
+unfolding requests_of strip_bom records_from next_record number_from
+told = refl
+
+text_faults :
+    (trace_fault [] ∷ trace_fault (codes "tick,channel,sid\n") ∷
+    trace_fault (codes "tick,channel,sid,units\n0,1,291") ∷
+    trace_fault (codes "tick,channel,sid,units\n0,1,291,1\n0,1,291,65536\n") ∷ []) ≡
+    Some Header ∷ Some Header ∷ Some (Fields 2) ∷ Some (Number 3) ∷ []
+unfolding trace_fault strip_bom records_from next_record rows_fault is_header are_numbers number_from
+text_faults = refl

@@ -1,0 +1,17 @@
+-- Read in this order: requests and what they ask; the text of a trace; what is known of a trace that was read.
+-- In a definition `≡` is equals, `×` and, `⊎` or, `∷` one item before a list, and ℕ has the whole numbers from 0.
+
+-- which requests are asks, in which round, and what a cluster asks for in a round
+pub mod Asks
+-- the records of a text, as `csv` splits it
+pub mod Records
+-- the first fault of the records of a text, and the requests that they tell
+pub mod Rows
+-- what a trace says, as its readers see it
+pub mod Traces
+-- what reading a trace answers
+pub mod Readings
+-- inside the crate: what becomes of a row, and what it adds
+pub mod Outcomes
+-- small inputs, computed
+pub mod Examples

@@ -1,0 +1,85 @@
+-- The text of a trace (ours): the first fault of its records, and the requests that they tell where there is none.
+use Rattle.std.specs.Prelude.{ℕ, ◌+◌, ◌-◌, ◌*◌, Bool, not, ◌==◌, nat_le, nat_lt, ◌&&◌, if◌then◌else◌, List, [], ◌∷◌, length, map, drop, slice_index_or, codes, Option, Some, None}
+use Rattle.std.specs.List.{list_all}
+use Rattle.std.specs.Str.{bytes_eq}
+use Rattle.us_requests.specs.declared.faults.TraceFault.{TraceFault}
+use Rattle.us_requests.specs.declared.faults.TraceFault.TheVariants as fault
+use Rattle.us_requests.specs.Asks.{Request}
+use Rattle.us_requests.specs.Records.{Record, records_of}
+
+-- the most records of a trace, with the header
+abbrev pub max_records : ℕ
+max_records = 1000001
+
+-- the field at a place of a record, counted from 0; no bytes where there is none
+abbrev pub field_in : Record → ℕ → List ℕ
+field_in fields place = slice_index_or fields place []
+
+unfoldable pub is_header : Record → Bool
+is_header fields = (length fields == 4) && (bytes_eq (field_in fields 0) (codes "tick")
+    && (bytes_eq (field_in fields 1) (codes "channel")
+    && (bytes_eq (field_in fields 2) (codes "sid") && bytes_eq (field_in fields 3) (codes "units"))))
+
+-- an ASCII digit
+abbrev pub is_digit : ℕ → Bool
+is_digit byte = nat_le 48 byte && nat_le byte 57
+
+-- the number that digits tell behind those that told `high`
+unfoldable pub number_from : ℕ → List ℕ → ℕ
+number_from high [] = high
+number_from high (digit ∷ rest) = number_from (10 * high + (digit - 48)) rest
+
+abbrev pub number_of : List ℕ → ℕ
+number_of field = number_from 0 field
+
+-- a field of 1 to 10 digits that tell a number up to the greatest
+abbrev pub is_number : ℕ → List ℕ → Bool
+is_number greatest field = (nat_le 1 (length field) && nat_le (length field) 10)
+    && (list_all is_digit field && nat_le (number_of field) greatest)
+
+-- the four fields of a request
+unfoldable pub are_numbers : Record → Bool
+are_numbers fields = is_number 4294967295 (field_in fields 0) && (is_number 255 (field_in fields 1)
+    && (is_number 16383 (field_in fields 2) && is_number 65535 (field_in fields 3)))
+
+abbrev pub request_of : Record → Request
+request_of fields = record {
+  tick = number_of (field_in fields 0);
+  channel = number_of (field_in fields 1);
+  sid = number_of (field_in fields 2);
+  units = number_of (field_in fields 3);
+}
+
+-- what is wrong with a record behind the header, in the order in which it is looked for; records count from 1
+abbrev pub row_checks : ℕ → Record → List (Bool × TraceFault)
+row_checks number fields =
+    (nat_lt max_records number, fault.TooLarge)
+    ∷ (not (length fields == 4), fault.Fields number)
+    ∷ (not (are_numbers fields), fault.Number number) ∷ []
+
+-- the fault of the first check that finds one
+abbrev pub first_of : List (Bool × TraceFault) → Option TraceFault
+first_of [] = None
+first_of (check ∷ more) = if check.0 then Some check.1 else first_of more
+
+abbrev pub or_else : Option TraceFault → Option TraceFault → Option TraceFault
+or_else None later = later
+or_else (Some fault) later = Some fault
+
+-- the first fault of records, the first of which has this number
+unfoldable pub rows_fault : ℕ → List Record → Option TraceFault
+rows_fault number [] = None
+rows_fault number (fields ∷ rest) = or_else (first_of (row_checks number fields)) (rows_fault (number + 1) rest)
+
+-- the first fault of all records, with the header
+abbrev pub records_fault : List Record → Option TraceFault
+records_fault [] = Some fault.Header
+records_fault (header ∷ rows) = if is_header header then rows_fault 2 rows else Some fault.Header
+
+-- the first fault of a text
+unfoldable pub trace_fault : List ℕ → Option TraceFault
+trace_fault text = records_fault (records_of text)
+
+-- the requests that a text tells: those of its records behind the header
+unfoldable pub requests_of : List ℕ → List Request
+requests_of text = map request_of (drop 1 (records_of text))

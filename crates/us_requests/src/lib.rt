@@ -1,0 +1,50 @@
+//! Traces of requests: which rows are asks, in which round, and what is outstanding of a SID cluster.
+//!
+//! ```
+//! let trace = Trace::read(alloc, &mut source, &config, 2)?;
+//! let mut state = ClusterState::new();
+//! for ask in trace.asks(1) {
+//!     state.add(u64::from(ask.bytes)); // of the cluster number `ask.cluster`
+//! }
+//! ```
+//!
+//! What a trace says stands in `specs/`, in the order of its `Lib.antt`.
+#![tactic(auto)]
+
+// What is outstanding of a cluster.
+mod cluster_states;
+
+// What a cluster asks for, and the counts of the rows that are no asks.
+mod asks;
+
+// Every refusal of this crate, in order.
+mod faults;
+
+// Rows as values.
+mod requests;
+
+// The records of a text.
+mod readers;
+
+// From a record to a request.
+mod rows;
+
+// From a text to all requests, or the first fault.
+mod texts;
+
+// What becomes of a request.
+mod outcomes;
+
+// The asks by round.
+mod filing;
+
+// The whole, and the bytes before it.
+mod traces;
+
+pub use asks::{Ask, Counts};
+pub use cluster_states::ClusterState;
+pub use faults::TraceFault;
+pub use traces::Trace;
+
+#[cfg(test)]
+mod tests;

@@ -1,0 +1,107 @@
+ghost use Rattle.std.specs.Prelude.{◌≡◌, ◌≤◌, true, length, Some, None, if◌then◌else◌, IfOk, IfErr, IfSome};
+ghost use Rattle.std.specs.List.{list_all};
+ghost use Rattle.csv.specs.Records.{fields_of};
+ghost use Rattle.us_requests.specs.Rows;
+ghost use Rattle.us_requests.specs.Rows.{max_records, field_in, is_digit, number_of, is_number, are_numbers, request_of, row_checks, first_of};
+
+use crate::faults::TraceFault;
+use crate::requests::Request;
+use csv::ByteRecord;
+
+/// The most digits of a field.
+const MAX_DIGITS: usize = 10;
+
+/// Whether a record is the header.
+#[tactic(auto, unfolding(crate::specs::Rows::is_header))]
+pub(crate) fn is_header(fields: &ByteRecord) -> bool
+    ensures { result ≡ Rows.is_header (fields_of fields.now) }
+{
+    fields.len() == 4
+        && field(fields, 0) == b"tick".as_slice()
+        && field(fields, 1) == b"channel".as_slice()
+        && field(fields, 2) == b"sid".as_slice()
+        && field(fields, 3) == b"units".as_slice()
+}
+
+/// The request that the record of this number tells.
+pub(crate) fn request_in(fields: &ByteRecord, number: u32) -> Result<Request, TraceFault>
+    requires { number ≤ max_records }
+    ensures fault { IfErr result (λ fault. first_of (row_checks number (fields_of fields.now)) ≡ Some fault) }
+    ensures none { IfOk result (λ _. first_of (row_checks number (fields_of fields.now)) ≡ None) }
+    ensures value { IfOk result (λ request. request ≡ request_of (fields_of fields.now)) }
+    ensures small { IfOk result (λ request. request.units ≤ 65535) }
+{
+    if fields.len() != 4 {
+        return Err(TraceFault::Fields(number));
+    }
+    match four_numbers(fields) {
+        Some(request) => Ok(request),
+        None => Err(TraceFault::Number(number)),
+    }
+}
+
+/// The request that four fields tell, if each is a number in its range.
+#[tactic(auto, unfolding(crate::specs::Rows::are_numbers))]
+fn four_numbers(fields: &ByteRecord) -> Option<Request>
+    ensures value { result ≡
+        if are_numbers (fields_of fields.now) then Some (request_of (fields_of fields.now)) else None }
+    ensures small { IfSome result (λ request. request.units ≤ 65535) }
+{
+    let tick = number_in(field(fields, 0), u32::MAX)?;
+    let channel = number_in(field(fields, 1), 255)?;
+    let sid = number_in(field(fields, 2), 16_383)?;
+    let units = number_in(field(fields, 3), 65_535)?;
+    Some(Request {
+        tick,
+        channel: channel as u8,
+        sid: sid as u16,
+        units: units as u16,
+    })
+}
+
+/// The bytes of a field, none where the record has no such field.
+#[tactic(auto, using(crate::proofs::RowLemmas::fielded))]
+fn field(fields: &ByteRecord, place: usize) -> &[u8]
+    ensures { result.now ≡ field_in (fields_of fields.now) place }
+{
+    match fields.get(place) {
+        Some(bytes) => bytes,
+        None => &[],
+    }
+}
+
+/// The number that a field of 1 to 10 digits tells, if it is at most `greatest`.
+fn number_in(field: &[u8], greatest: u32) -> Option<u32>
+    ensures value { result ≡ if is_number greatest field.now then Some (number_of field.now) else None }
+    ensures small { IfSome result (λ number. number ≤ greatest) }
+{
+    if field.is_empty() || field.len() > MAX_DIGITS || !are_digits(field) {
+        return None;
+    }
+    let number = decimal(field);
+    if number > u64::from(greatest) {
+        return None;
+    }
+    Some(number as u32)
+}
+
+/// Whether all bytes are ASCII digits.
+fn are_digits(field: &[u8]) -> bool
+    ensures { result ≡ list_all is_digit field.now }
+{
+    field.iter().all(|byte| *byte >= b'0' && *byte <= b'9')
+}
+
+/// The number that up to 10 digits tell.
+#[tactic(auto, unfolding(crate::specs::Rows::number_from))]
+fn decimal(field: &[u8]) -> u64
+    requires digits { list_all is_digit field.now ≡ true }
+    requires short { length field.now ≤ 10 }
+    ensures { result ≡ number_of field.now }
+{
+    let mut number = 0;
+    for digit in field {
+        number = 10 * number + u64::from(digit - b'0');
+    }
+    number
+}

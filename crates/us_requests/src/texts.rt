@@ -1,0 +1,62 @@
+ghost use Rattle.std.specs.Prelude.{◌≡◌, drop, map, IfOk, IfErr, OnOk};
+ghost use Rattle.us_requests.specs.Rows.{rows_fault, records_fault, trace_fault, requests_of, request_of};
+ghost use Rattle.us_requests.specs.Readings.{Tells, IsFirst};
+
+use crate::faults::TraceFault;
+use crate::readers::RecordReader;
+use crate::requests::Request;
+use crate::rows::{is_header, request_in};
+use csv::ByteRecord;
+use std::alloc::Global;
+
+/// The most records of a trace, with the header.
+const MAX_RECORDS: u32 = 1_000_001;
+
+/// The requests that the text of a trace tells, or its first fault.
+#[tactic(auto, unfolding(crate::specs::Rows::trace_fault, crate::specs::Rows::requests_of))]
+pub(crate) fn requests_in(alloc: Global, text: &[u8]) -> Result<Vec<Request>, TraceFault>
+    ensures { Tells (trace_fault text.now) (requests_of text.now) result }
+{
+    let mut reader = RecordReader::new(alloc, text);
+    let mut fields = ByteRecord::new(alloc);
+    read_header(&mut reader, &mut fields)?;
+    read_rows(alloc, &mut reader, &mut fields)
+}
+
+/// Reads the header, which is record 1.
+#[tactic(auto, using(crate::proofs::TextLemmas::headings))]
+fn read_header(reader: &mut RecordReader<'_>, fields: &mut ByteRecord) -> Result<(), TraceFault>
+    ensures left { OnOk result (reader.new ≡ drop 1 reader.old) }
+    ensures rows { OnOk result (records_fault reader.old ≡ rows_fault 2 reader.new) }
+    ensures fault { IfErr result (λ fault. IsFirst (records_fault reader.old) fault) }
+{
+    if !reader.read(fields)? {
+        return Err(TraceFault::Header);
+    }
+    if !is_header(fields) {
+        return Err(TraceFault::Header);
+    }
+    Ok(())
+}
+
+/// Reads the requests, which are the records from 2 on.
+#[tactic(auto, using(crate::proofs::TextLemmas::telling))]
+fn read_rows(
+    alloc: Global,
+    reader: &mut RecordReader<'_>,
+    fields: &mut ByteRecord,
+) -> Result<Vec<Request>, TraceFault>
+    ensures { Tells (rows_fault 2 reader.old) (map request_of reader.old) result }
+{
+    let mut requests = Vec::new(alloc);
+    for number in 2..MAX_RECORDS + 1 {
+        if !reader.read(fields)? {
+            return Ok(requests);
+        }
+        requests.push(request_in(fields, number)?)?;
+    }
+    if reader.read(fields)? {
+        return Err(TraceFault::TooLarge);
+    }
+    Ok(requests)
+}

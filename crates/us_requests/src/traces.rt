@@ -1,0 +1,143 @@
+ghost use Rattle.std.specs.Prelude.{◌≡◌, ◌↔◌, true, false, Err, map, IfOk, IfErr, length};
+ghost use Rattle.us_flows.specs.Tables.{rounds_fit};
+ghost use Rattle.us_flows.specs.Lawful.{AreTables};
+ghost use Rattle.us_requests.specs.Rows.{trace_fault, requests_of};
+ghost use Rattle.us_requests.specs.Traces.{TraceAsks, IsTrace, IsTraceOf, asks_in};
+ghost use Rattle.us_requests.specs.Readings.{AreRequests, Answers, Reads, max_bytes};
+ghost use Rattle.us_requests.specs.Outcomes.{units_of};
+ghost use Rattle.us_requests.specs.declared.faults.TraceFault.TheVariants as fault;
+
+use crate::asks::{Ask, Counts};
+use crate::faults::TraceFault;
+use crate::filing::Filed;
+use crate::outcomes::outcome_of;
+use crate::requests::Request;
+use crate::texts::requests_in;
+use std::alloc::{AllocError, Global};
+use std::marker::Model;
+use us_flows::Config;
+use us_slots::{Source, read_all};
+
+/// The most bytes of a trace.
+const MAX_BYTES: usize = 33_554_432;
+
+/// The requests of a trace as what clusters ask for, by round, and how many of its rows are no asks.
+#[derive(Debug, Drop)]
+pub struct Trace {
+    rounds: u32,
+    // of each round up to the last that has any
+    asks: Vec<Vec<Ask>>,
+    counts: Counts,
+}
+
+impl Model for Trace {
+    ghost Value = { TraceAsks };
+
+    ghost view = { λ t. record {
+      rounds = t.rounds;
+      by_round = map (λ asks. asks.items) t.asks.items;
+      counts = t.counts;
+    } };
+
+    ghost invariant = { λ t. IsTrace (record {
+      rounds = t.rounds;
+      by_round = map (λ asks. asks.items) t.asks.items;
+      counts = t.counts;
+    }) };
+}
+
+impl Trace {
+    /// Reads a trace for a run of so many rounds: first all bytes of `source`, then its records. The faults are TR1 to
+    /// TR6, in the order of [`TraceFault`].
+    pub fn read<R: Source>(
+        alloc: Global,
+        source: &mut R,
+        config: &Config,
+        rounds: u32,
+    ) -> Result<Trace, TraceFault>
+        requires fits { rounds_fit config.now rounds ≡ true }
+        requires ready { R.failed source.old ≡ false }
+        ensures read { Reads config.now rounds (R.remaining source.old) result }
+        ensures failed { (R.failed source.new ≡ true) ↔ (result ≡ Err fault.Read) }
+    {
+        let text = read_all(alloc, source, MAX_BYTES)?;
+        Trace::of_text(alloc, &text, config, rounds)
+    }
+
+    /// The asks of a round in the order of the trace; none from [`Trace::rounds`] on.
+    #[tactic(auto, using(crate::proofs::TraceLemmas::placed))]
+    pub fn asks(&self, round: u32) -> &[Ask]
+        ensures value { result.now ≡ asks_in self.now round }
+        ensures lawful { IsTrace self.now }
+    {
+        match self.asks.get(round as usize) {
+            Some(asks) => asks,
+            None => &[],
+        }
+    }
+
+    /// How many rows are no asks.
+    pub fn counts(&self) -> Counts
+        ensures value { result ≡ self.now.counts }
+        ensures lawful { IsTrace self.now }
+    {
+        self.counts
+    }
+
+    /// The rounds of the run.
+    pub fn rounds(&self) -> u32
+        ensures value { result ≡ self.now.rounds }
+        ensures lawful { IsTrace self.now }
+    {
+        self.rounds
+    }
+
+    /// The trace that a text tells.
+    fn of_text(
+        alloc: Global,
+        text: &[u8],
+        config: &Config,
+        rounds: u32,
+    ) -> Result<Trace, TraceFault>
+        ensures { Answers config.now rounds text.now result }
+    {
+        let requests = requests_in(alloc, text)?;
+        Ok(Trace::of_requests(alloc, &requests, config, rounds)?)
+    }
+
+    /// The trace of these requests.
+    #[tactic(auto, using(crate::proofs::FilingLemmas::steps))]
+    fn of_requests(
+        alloc: Global,
+        requests: &[Request],
+        config: &Config,
+        rounds: u32,
+    ) -> Result<Trace, AllocError>
+        requires { AreRequests requests.now }
+        ensures { IfOk result (λ trace. IsTraceOf config.now rounds requests.now trace) }
+    {
+        let units = units_of(alloc, config)?;
+        let mut filed = Filed::new(alloc);
+        for request in requests {
+            filed.add(alloc, outcome_of(config, &units, rounds, request))?;
+        }
+        let Filed { asks, counts } = filed;
+        Ok(Trace {
+            rounds,
+            asks,
+            counts,
+        })
+    }
+}
+
+/// The bytes of a unit of each cluster's requests, by the number of the cluster.
+fn units_of(alloc: Global, config: &Config) -> Result<Vec<u8>, AllocError>
+    ensures value { IfOk result (λ v. v.items ≡ units_of config.now) }
+    ensures lawful { AreTables config.now }
+{
+    let mut units = Vec::new(alloc);
+    for flow in config.flows() {
+        units.resize(units.len() + flow.clusters().len(), flow.unit())?;
+    }
+    Ok(units)
+}
