@@ -9,10 +9,10 @@ work=$(mktemp -d)
 trap 'rm -rf "$work"' EXIT
 
 # rounds of 320 ticks: ten requests arrive in each, of 40 units of 4 bytes
-awk 'BEGIN {
+awk -v OFS=, 'BEGIN {
   print "tick,channel,sid,units"
   for (row = 0; row < 1000000; row++) print int(row / 10) * 320 + row % 10, 1, 291, 40
-}' OFS=, > "$work/trace.csv"
+}' > "$work/trace.csv"
 ls -l "$work/trace.csv" | awk '{ print "trace", $5, "bytes" }'
 
 measure="/usr/bin/time -f %e_s_%M_KB"
