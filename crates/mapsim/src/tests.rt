@@ -7,4 +7,5 @@ mod limits;
 mod lines;
 mod memory;
 mod outputs;
+mod schedules;
 mod usage;
