@@ -49,3 +49,9 @@ pub(super) const REPORT: &[u8] = b"G,1,1,req,1,0,0,291,10,0,32,1000\nF,1,0,0,-\n
 pub(super) fn base(alloc: Global) -> Result<Config, ConfigFault> {
     Config::read(alloc, BASE.as_bytes())
 }
+
+/// The base configuration without its flow.
+pub(super) fn without_flows(alloc: Global) -> Result<Config, ConfigFault> {
+    let (before, _) = BASE.split_once("[[flow]]").unwrap_or(("", ""));
+    Config::read(alloc, before.as_bytes())
+}

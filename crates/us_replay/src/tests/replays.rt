@@ -1,4 +1,4 @@
-use super::base::{MAPS, REPORT, TRACE, base};
+use super::base::{MAPS, REPORT, TRACE, base, without_flows};
 use super::devices::{reader, short_writer, writer};
 use crate::{RunFault, Summary, replay};
 use std::test::Fail;
@@ -38,6 +38,31 @@ fn stored_run_in_pieces_of_every_size(rt: HostRuntime) -> Result<(), Fail> {
         assert_eq!(rt; report.held.as_slice(), REPORT, "pieces of {piece}");
         assert_eq!(rt; (maps.flushes, report.flushes), (1, 1), "pieces of {piece}");
     }
+    Ok(())
+}
+
+/// Without flows each MAP is open to all, as round 0 of the stored run is, and the report is its last line.
+#[test]
+fn no_flows_to_the_byte(rt: HostRuntime) -> Result<(), Fail> {
+    let config = without_flows(rt.alloc())?;
+    let mut maps = FromWrite::new(writer(rt.alloc(), 100));
+    let mut report = FromWrite::new(writer(rt.alloc(), 100));
+    let trace = b"tick,channel,sid,units\n".as_slice();
+    let summary = replay(
+        rt.alloc(),
+        &config,
+        &mut reader(trace, false),
+        1,
+        &mut maps,
+        &mut report,
+    );
+    assert!(rt; summary.is_ok());
+    let first = MAPS.get(..34).ok_or("no record")?;
+    assert_eq!(rt; maps.into_inner().held.as_slice(), first);
+    assert_eq!(rt;
+        report.into_inner().held.as_slice(),
+        b"U,0,0,0\n".as_slice()
+    );
     Ok(())
 }
 
