@@ -1,1 +1,4 @@
+pub mod DumpLemmas
 pub mod MarkLemmas
+pub mod PrintoutLemmas
+pub mod SummaryLemmas

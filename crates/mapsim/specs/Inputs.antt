@@ -1,10 +1,23 @@
--- Which faults the steps of a replay of standard input may have.
+-- Which faults the steps of the program may have.
 use Rattle.std.specs.Prelude.{ℕ, ⊤}
 use Rattle.us_replay.specs.declared.faults.RunFault.{RunFault}
 use Rattle.us_replay.specs.declared.faults.RunFault.TheVariants as run
 use Rattle.mapsim.specs.declared.faults.Stream.TheVariants as stream
 use Rattle.mapsim.specs.declared.faults.Fault.{Fault}
 use Rattle.mapsim.specs.declared.faults.Fault.TheVariants as fault
+
+-- a fault of the words
+abbrev pub IsWordsFault : Fault → Type 0
+IsWordsFault (fault.Usage text) = ⊤
+IsWordsFault fault.NoMemory = ⊤
+IsWordsFault _ = ⊥
+
+-- a fault of the file of the configuration
+abbrev pub IsConfigFault : Fault → Type 0
+IsConfigFault (fault.Config f) = ⊤
+IsConfigFault (fault.Device stream.Config) = ⊤
+IsConfigFault fault.NoMemory = ⊤
+IsConfigFault _ = ⊥
 
 -- a fault of the input as a whole, before the configuration is read
 abbrev pub IsInputFault : Fault → Type 0

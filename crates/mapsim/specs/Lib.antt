@@ -12,9 +12,13 @@ pub mod Statuses
 pub mod Marks
 -- the line of an element
 pub mod MapLines
+-- MAPs as text
+pub mod Dumps
+-- what is printed of standard input, and why it is refused
+pub mod Printouts
 -- the line of a replay
 pub mod SummaryLines
--- which faults a replay of standard input may have
+-- which faults the steps of the program may have
 pub mod Inputs
 -- the definitions at small inputs
 pub mod Examples

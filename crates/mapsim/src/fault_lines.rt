@@ -7,7 +7,7 @@ use us_flows::ConfigFault;
 use us_replay::RunFault;
 use us_requests::TraceFault;
 
-/// The line of a fault of the configuration, as the others without its line feed.
+/// The line of a fault of the configuration. All lines here are without their line feeds.
 #[derive(Clone, Copy, Debug)]
 pub struct ConfigLine(pub ConfigFault);
 

@@ -13,11 +13,17 @@ use us_requests::TraceFault;
 /// A file or stream of the program.
 #[derive(Clone, Copy, Debug, PartialEq, Eq, Hash)]
 pub enum Stream {
+    /// The file of the configuration.
     Config,
+    /// The file of the trace.
     Trace,
+    /// The maps file.
     Maps,
+    /// The file of the report.
     Report,
+    /// Standard input.
     Input,
+    /// Standard output.
     Output,
 }
 

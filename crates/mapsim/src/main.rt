@@ -41,13 +41,20 @@ use programs::{end_by, run};
 use std::env;
 use std::io::ErrorKind;
 use std::process::ExitCode;
+use us_slots::{FromRead, FromWrite};
 
 #[cfg(test)]
 mod tests;
 
 fn main(rt: HostRuntime) -> ExitCode {
     let status = match process_words(&rt) {
-        Ok(words) => run(&rt, words.as_slice(), rt.stdin(), rt.stdout(), rt.stderr()),
+        Ok(words) => run(
+            &rt,
+            words.as_slice(),
+            &mut FromRead::new(rt.stdin()),
+            &mut FromWrite::new(rt.stdout()),
+            rt.stderr(),
+        ),
         Err(fault) => end_by(&fault, rt.stderr()),
     };
     ExitCode::from(status.code())

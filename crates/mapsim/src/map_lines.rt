@@ -5,15 +5,18 @@ use std::alloc::{AllocError, Global};
 use std::fmt;
 use us_codec::{Element, Map};
 
-/// What is printed of an element.
+/// What is printed of an element of a MAP.
 #[derive(Clone, Copy, Debug)]
 pub struct ElementLine {
+    /// The round of the MAP.
     pub round: u32,
     /// Upstream Channel ID.
     pub channel: u8,
+    /// Its first minislot, from the start of the MAP.
     pub offset: u16,
-    /// Its length.
+    /// Minislots up to the next element, 0 where there is none.
     pub minislots: u16,
+    /// Whose it is.
     pub sid: u16,
     /// The number of the IUC.
     pub iuc: u8,

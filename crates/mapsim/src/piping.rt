@@ -1,6 +1,12 @@
-ghost use Rattle.std.specs.Prelude.{◌≡◌, ◌⊎◌, ◌↔◌, ◌<◌, ◌≤◌, ℕ, length, true, false, Err, IfOk, IfErr, IfSome, IsErrAnd};
+ghost use Rattle.std.specs.Prelude.{◌≡◌, ◌↔◌, ◌<◌, ◌≤◌, ℕ, List, length, slice_range, true, false};
+ghost use Rattle.std.specs.Prelude.{Err, IfOk, IfErr, IfSome, OnOk, IsErrAnd};
+ghost use Rattle.std.specs.Io.KnownBytes.{Appends};
+ghost use Rattle.us_codec.specs.Bodies.{MapBody, SpellsMap};
+ghost use Rattle.mapsim.specs.MapLines.{lines_of};
 ghost use Rattle.mapsim.specs.Marks.{IsMark};
 ghost use Rattle.mapsim.specs.Inputs.{IsInputFault, IsPrintFault, fault_in_memory};
+ghost use Rattle.mapsim.specs.Dumps.{IsDump};
+ghost use Rattle.mapsim.specs.Printouts.{Gives, IsEarly, Prints, Refuses, RefusesTrace, Replays, Stops};
 ghost use Rattle.mapsim.specs.declared.faults.Fault.TheVariants as fault;
 ghost use Rattle.mapsim.specs.declared.faults.Stream.TheVariants as stream;
 
@@ -9,13 +15,21 @@ use crate::map_lines::map_lines;
 use crate::marks::split_at_mark;
 use crate::printing::print;
 use std::alloc::Global;
-use us_codec::{MapFault, decode, records};
+use us_codec::{Record, decode, records};
 use us_flows::Config;
 use us_replay::{RunFault, replay};
 use us_slots::{FromRead, FromWrite, ReadFault, Sink, Source, read_all};
 
-/// The most bytes of the input.
+/// The most bytes of the input (ours).
 const MAX_INPUT_BYTES: usize = 37_748_740;
+
+/// What a replay in memory wrote.
+#[derive(Debug, Drop)]
+struct Texts {
+    /// The maps file.
+    maps: Vec<u8>,
+    report: Vec<u8>,
+}
 
 /// Replays the input in memory, for so many rounds, and prints each MAP's elements and the report.
 pub fn pipe<I: Source, O: Sink>(
@@ -26,32 +40,21 @@ pub fn pipe<I: Source, O: Sink>(
 ) -> Result<(), Fault>
     requires input_ready { I.failed input.old ≡ false }
     requires output_ready { O.failed output.old ≡ false }
+    ensures printed { OnOk result
+        (Prints rounds (I.remaining input.old) (O.contents output.old) (O.contents output.new)) }
+    ensures stopped { IfErr result (Stops rounds (I.remaining input.old)) }
+    ensures early { IsErrAnd result IsEarly → output.new ≡ output.old }
+    ensures unmarked { IfSome (I.remaining input.old) (λ text.
+        ((at : ℕ) → ¬ IsMark text at) → IsErrAnd result IsInputFault) }
 
     // Either stream is blamed exactly where it failed.
     ensures input { (I.failed input.new ≡ true) ↔ (result ≡ Err (fault.Device stream.Input)) }
     ensures output { (O.failed output.new ≡ true) ↔ (result ≡ Err (fault.Device stream.Output)) }
-
-    // The mark is wanting, or there are too many bytes, where the fault says so; and where no mark is, it does.
-    ensures refused { result ≡ Err fault.Pipe → IfSome (I.remaining input.old) (λ text.
-        (MAX_INPUT_BYTES < length text) ⊎ ((at : ℕ) → ¬ IsMark text at)) }
-    ensures unmarked { IfSome (I.remaining input.old) (λ text. ((at : ℕ) → ¬ IsMark text at) → IsErrAnd result IsInputFault) }
 {
     let text = read_input(alloc, input)?;
-    let (config, trace) = split_at_mark(&text).ok_or(Fault::Pipe)?;
-    let config = Config::read(alloc, config)?;
-    let mut maps = FromWrite::new(Vec::new(alloc));
-    let mut report = FromWrite::new(Vec::new(alloc));
-    let replayed = replay(
-        alloc,
-        &config,
-        &mut FromRead::new(trace),
-        rounds,
-        &mut maps,
-        &mut report,
-    );
-    replayed.map_err(in_memory)?;
-    print_maps(alloc, &maps.into_inner(), output)?;
-    print(output, &report.into_inner())
+    let texts = replay_text(alloc, rounds, &text)?;
+    print_maps(alloc, &texts.maps, output)?;
+    print(output, &texts.report)
 }
 
 /// The whole input.
@@ -71,6 +74,48 @@ fn read_input<I: Source>(alloc: Global, input: &mut I) -> Result<Vec<u8>, Fault>
     }
 }
 
+/// Replays a text: a configuration, the mark and a trace.
+#[tactic(auto, using(crate::proofs::PrintoutLemmas::replays, crate::proofs::PrintoutLemmas::refuses))]
+fn replay_text(alloc: Global, rounds: u32, text: &[u8]) -> Result<Texts, Fault>
+    ensures replayed { IfOk result (λ texts. Replays rounds text.now texts.maps.items texts.report.items) }
+    ensures refused { IfErr result (Refuses rounds text.now) }
+{
+    let Some((config, trace)) = split_at_mark(text) else {
+        return Err(Fault::Pipe);
+    };
+    let config = Config::read(alloc, config)?;
+    replay_trace(alloc, rounds, &config, trace)
+}
+
+/// Replays the text of a trace.
+#[tactic(auto, using(crate::proofs::PrintoutLemmas::gives, crate::proofs::PrintoutLemmas::refuses_trace))]
+fn replay_trace(
+    alloc: Global,
+    rounds: u32,
+    config: &Config,
+    trace: &[u8],
+) -> Result<Texts, Fault>
+    ensures given { IfOk result (λ texts. Gives config.now rounds trace.now texts.maps.items texts.report.items) }
+    ensures refused { IfErr result (RefusesTrace config.now rounds trace.now) }
+{
+    let mut maps = FromWrite::new(Vec::new(alloc));
+    let mut report = FromWrite::new(Vec::new(alloc));
+    match replay(
+        alloc,
+        config,
+        &mut FromRead::new(trace),
+        rounds,
+        &mut maps,
+        &mut report,
+    ) {
+        Ok(_) => Ok(Texts {
+            maps: maps.into_inner(),
+            report: report.into_inner(),
+        }),
+        Err(fault) => Err(in_memory(fault)),
+    }
+}
+
 /// The fault of a replay in memory, where a write that failed is want of memory.
 fn in_memory(fault: RunFault) -> Fault
     ensures { result ≡ fault_in_memory fault }
@@ -84,16 +129,42 @@ fn in_memory(fault: RunFault) -> Fault
 /// Prints the lines of each MAP of a maps file.
 fn print_maps<O: Sink>(alloc: Global, file: &[u8], output: &mut O) -> Result<(), Fault>
     requires { O.failed output.old ≡ false }
+    ensures printed { OnOk result ((dump : List ℕ) × IsDump file.now dump ×
+        Appends (O.contents output.old) (O.contents output.new) dump) }
     ensures failed { (O.failed output.new ≡ true) ↔ (result ≡ Err (fault.Device stream.Output)) }
     ensures fault { IfErr result IsPrintFault }
 {
-    let records = records(alloc, file).map_err(|fault| Fault::Map(fault, 0))?;
+    let records = match records(alloc, file) {
+        Ok(records) => records,
+        Err(fault) => return Err(Fault::Map(fault, 0)),
+    };
     for (index, record) in records.iter().enumerate() {
-        let map = decode(alloc, &file[record.from..record.to]).map_err(|fault| Fault::Map(
-            fault, index,
-        ))?;
-        let lines = map_lines(alloc, record.round, &map)?;
-        print(output, lines.as_str().as_bytes())?;
+        print_record(alloc, file, index, *record, output)?;
     }
     Ok(())
+}
+
+/// Prints the lines of the MAP in a record of a maps file, which has this index.
+fn print_record<O: Sink>(
+    alloc: Global,
+    file: &[u8],
+    index: usize,
+    record: Record,
+    output: &mut O,
+) -> Result<(), Fault>
+    requires ready { O.failed output.old ≡ false }
+    requires within { (record.from ≤ record.to) × (record.to ≤ length file.now) }
+    ensures printed { OnOk result ((map : MapBody) × SpellsMap (slice_range file.now record.from record.to) map ×
+        Appends (O.contents output.old) (O.contents output.new)
+        (lines_of record.round map.head.channel map.elements)) }
+    ensures failed { (O.failed output.new ≡ true) ↔ (result ≡ Err (fault.Device stream.Output)) }
+    ensures fault { IfErr result IsPrintFault }
+{
+    match decode(alloc, &file[record.from..record.to]) {
+        Ok(map) => {
+            let lines = map_lines(alloc, record.round, &map)?;
+            print(output, lines.as_str().as_bytes())
+        }
+        Err(fault) => Err(Fault::Map(fault, index)),
+    }
 }

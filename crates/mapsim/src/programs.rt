@@ -1,5 +1,8 @@
-ghost use Rattle.std.specs.Prelude.{◌≡◌};
+ghost use Rattle.std.specs.Prelude.{◌≡◌, ◌↔◌, ◌<◌, length, true, false, Err, OnOk, IfErr};
 ghost use Rattle.mapsim.specs.Statuses.{status_of};
+ghost use Rattle.mapsim.specs.Printouts.{Prints, Stops};
+ghost use Rattle.mapsim.specs.declared.faults.Fault.TheVariants as fault;
+ghost use Rattle.mapsim.specs.declared.faults.Stream.TheVariants as stream;
 
 use crate::faults::{Fault, Stream};
 use crate::orders::Order;
@@ -9,19 +12,32 @@ use crate::replaying::replay_files;
 use crate::statuses::Status;
 use crate::words::order_of;
 use std::convert::AsStr;
-use std::io::{Read, Write};
+use std::io::Write;
 use std::rt::Files;
-use us_slots::{FromRead, FromWrite, Sink};
+use us_slots::{Sink, Source};
 
 /// The program: it does what the words ask for (its name is the first), with `input` as its standard input and `output`
 /// and `errors` as its standard output and standard error, and answers how it ends.
-pub fn run<R, S, I, O, E>(rt: &R, words: &[S], input: I, output: O, errors: E) -> Status
+pub fn run<R, S, I, O, E>(
+    rt: &R,
+    words: &[S],
+    input: &mut I,
+    output: &mut O,
+    errors: E,
+) -> Status
 where
     R: Files + AllocGlobal,
     S: AsStr,
-    I: Read + Drop,
-    O: Write + Drop,
+    I: Source,
+    O: Sink,
     E: Write + Drop,
+    requires input_ready { I.failed input.old ≡ false }
+    requires output_ready { O.failed output.old ≡ false }
+    // Without words it prints what the input gives in two rounds.
+    ensures printed { result ≡ Status.Done → length words.now < 2 →
+        Prints 2 (I.remaining input.old) (O.contents output.old) (O.contents output.new) }
+    ensures input_failed { I.failed input.new ≡ true → result ≡ Status.DeviceFailed }
+    ensures output_failed { O.failed output.new ≡ true → result ≡ Status.DeviceFailed }
 {
     match obey(rt, words, input, output) {
         Ok(()) => Status::Done,
@@ -42,18 +58,24 @@ pub fn end_by<E: Write + Drop>(fault: &Fault, mut errors: E) -> Status
 }
 
 /// Does what the words ask for.
-fn obey<R, S, I, O>(rt: &R, words: &[S], input: I, output: O) -> Result<(), Fault>
+fn obey<R, S, I, O>(rt: &R, words: &[S], input: &mut I, output: &mut O) -> Result<(), Fault>
 where
     R: Files + AllocGlobal,
     S: AsStr,
-    I: Read + Drop,
-    O: Write + Drop,
+    I: Source,
+    O: Sink,
+    requires input_ready { I.failed input.old ≡ false }
+    requires output_ready { O.failed output.old ≡ false }
+    ensures printed { length words.now < 2 → OnOk result
+        (Prints 2 (I.remaining input.old) (O.contents output.old) (O.contents output.new)) }
+    ensures stopped { length words.now < 2 → IfErr result (Stops 2 (I.remaining input.old)) }
+    ensures input_failed { I.failed input.new ≡ true → result ≡ Err (fault.Device stream.Input) }
+    ensures output_failed { (O.failed output.new ≡ true) ↔ (result ≡ Err (fault.Device stream.Output)) }
 {
-    let mut output = FromWrite::new(output);
     match order_of(rt.alloc(), words)? {
-        Order::Help(text) => print(&mut output, text.as_str().as_bytes())?,
-        Order::Pipe { rounds } => pipe(rt.alloc(), rounds, &mut FromRead::new(input), &mut output)?,
-        Order::Replay(order) => replay_files(rt, rt.alloc(), &order, &mut output)?,
+        Order::Help(text) => print(output, text.as_str().as_bytes())?,
+        Order::Pipe { rounds } => pipe(rt.alloc(), rounds, input, output)?,
+        Order::Replay(order) => replay_files(rt, rt.alloc(), &order, output)?,
     }
     match output.flush() {
         Ok(()) => Ok(()),

@@ -1,4 +1,7 @@
-ghost use Rattle.std.specs.Prelude.{◌≡◌, ◌≢◌, ◌⊎◌, ◌↔◌, true, false, Err, IfErr};
+ghost use Rattle.std.specs.Prelude.{◌≡◌, ◌≢◌, ◌⊎◌, ◌↔◌, ℕ, List, [], ◌∷◌, ◌++◌, true, false, Err, IfErr, OnOk};
+ghost use Rattle.std.specs.Io.KnownBytes.{Appends};
+ghost use Rattle.mapsim.specs.Inputs.{IsConfigFault, IsPrintFault};
+ghost use Rattle.mapsim.specs.SummaryLines.{IsSummaryOf, summary_line};
 ghost use Rattle.mapsim.specs.declared.faults.Fault.TheVariants as fault;
 ghost use Rattle.mapsim.specs.declared.faults.Stream.TheVariants as stream;
 
@@ -9,12 +12,9 @@ use std::alloc::Global;
 use std::io::{self, ErrorKind};
 use std::rt::Files;
 use std::{fmt, fs};
-use us_flows::{Config, ConfigFault};
+use us_flows::{Config, ConfigFault, MAX_CONFIG_BYTES};
 use us_replay::{RunFault, Summary, replay};
 use us_slots::{FromRead, FromWrite, ReadFault, Sink, read_all};
-
-/// The most bytes of a configuration.
-const MAX_CONFIG_BYTES: usize = 4_194_304;
 
 /// Replays a trace from files into files, and prints what it did.
 pub fn replay_files<R: Files, O: Sink>(
@@ -24,7 +24,10 @@ pub fn replay_files<R: Files, O: Sink>(
     output: &mut O,
 ) -> Result<(), Fault>
     requires { O.failed output.old ≡ false }
-    ensures { (O.failed output.new ≡ true) ↔ (result ≡ Err (fault.Device stream.Output)) }
+    ensures printed { OnOk result ((line : List ℕ) × IsSummaryOf order.now.rounds line ×
+        Appends (O.contents output.old) (O.contents output.new) line) }
+    ensures input { IfErr result (λ f. f ≢ fault.Device stream.Input) }
+    ensures output { (O.failed output.new ≡ true) ↔ (result ≡ Err (fault.Device stream.Output)) }
 {
     let config = read_config(rt, alloc, order.config)?;
     if !config.rounds_fit(order.rounds) {
@@ -41,13 +44,24 @@ pub fn replay_files<R: Files, O: Sink>(
         &mut maps,
         &mut report,
     )?;
+    print_summary(alloc, summary, output)
+}
+
+/// Prints what a replay did.
+fn print_summary<O: Sink>(alloc: Global, summary: Summary, output: &mut O) -> Result<(), Fault>
+    requires { O.failed output.old ≡ false }
+    ensures printed { OnOk result
+        (Appends (O.contents output.old) (O.contents output.new) (summary_line summary ++ 10 ∷ [])) }
+    ensures output { (O.failed output.new ≡ true) ↔ (result ≡ Err (fault.Device stream.Output)) }
+    ensures fault { IfErr result IsPrintFault }
+{
     let line = format!(in alloc; "{}\n", SummaryLine(summary))?;
     print(output, line.as_str().as_bytes())
 }
 
 /// The configuration in a file.
 fn read_config<R: Files>(rt: &R, alloc: Global, path: &str) -> Result<Config, Fault>
-    ensures { IfErr result (λ f. f ≢ fault.Device stream.Output) }
+    ensures { IfErr result IsConfigFault }
 {
     let mut file = FromRead::new(opened(fs::open(rt, path), Stream::Config)?);
     match read_all(alloc, &mut file, MAX_CONFIG_BYTES) {
@@ -90,7 +104,8 @@ impl fmt::Display for SummaryLine {
         } = self.0;
         write!(
             f,
-            "rounds {rounds} granted {granted} missed {missed} unknown {unknown} not_requestable {not_requestable} late {late}"
+            "rounds {rounds} granted {granted} missed {missed} unknown {unknown} \
+             not_requestable {not_requestable} late {late}"
         )
     }
 }

@@ -1,4 +1,5 @@
-ghost use Rattle.std.specs.Prelude.{◌≡◌, ◌<◌, length, Ok};
+ghost use Rattle.std.specs.Prelude.{◌≡◌, ◌<◌, length, Ok, IfErr};
+ghost use Rattle.mapsim.specs.Inputs.{IsWordsFault};
 ghost use Rattle.mapsim.specs.declared.orders.Order.TheVariants as order;
 
 use crate::faults::Fault;
@@ -14,23 +15,39 @@ const DEFAULT_ROUNDS: u32 = 2;
 /// The same as a word.
 const DEFAULT_ROUNDS_WORD: &str = "2";
 
+/// What the help says behind the options.
+const AFTER_HELP: &str = "\
+Without words it does what `pipe` does.
+Status: 0 done, 2 usage, 3 what was read is refused, 4 a file or stream failed, 5 memory.";
+
 /// What these words ask for, the program's name first. The faults are a usage fault and want of memory.
 pub fn order_of<'a, S: AsStr>(alloc: Global, words: &'a [S]) -> Result<Order<'a>, Fault>
     ensures no_words { length words.now < 2 → result ≡ Ok (order.Pipe 2) }
+    ensures fault { IfErr result IsWordsFault }
 {
     if words.len() < 2 {
         return Ok(Order::Pipe {
             rounds: DEFAULT_ROUNDS,
         });
     }
-    match parse(alloc, words) {
-        Ok(order) => Ok(order),
-        Err(error) => answer(alloc, &error),
+    let given = match matches_of(alloc, words) {
+        Ok(given) => given,
+        Err(error) => return answer(alloc, &error),
+    };
+    match order_in(&given) {
+        Some(order) => Ok(order),
+        // Nobody comes here: clap has seen that each option is there.
+        None => Err(Fault::Usage(String::from_str(
+            alloc,
+            "error: an option is missing\n",
+        )?)),
     }
 }
 
 /// What clap says in place of matches: help, or why the words are refused.
-fn answer<'a>(alloc: Global, error: &Error) -> Result<Order<'a>, Fault> {
+fn answer<'a>(alloc: Global, error: &Error) -> Result<Order<'a>, Fault>
+    ensures { IfErr result IsWordsFault }
+{
     if error.kind() == ErrorKind::OutOfMemory {
         return Err(Fault::NoMemory);
     }
@@ -42,39 +59,31 @@ fn answer<'a>(alloc: Global, error: &Error) -> Result<Order<'a>, Fault> {
     }
 }
 
-fn parse<'a, S: AsStr>(alloc: Global, words: &'a [S]) -> Result<Order<'a>, Error> {
-    let matches = command(alloc)?.try_get_matches_from(words)?;
-    Ok(match matches.subcommand() {
-        Some((name, given)) if name == "replay" => Order::Replay(file_replay(given)),
-        Some((_, given)) => Order::Pipe {
-            rounds: rounds(given),
-        },
-        // clap lets no words pass without a subcommand.
-        None => Order::Pipe {
-            rounds: DEFAULT_ROUNDS,
-        },
-    })
+fn matches_of<'a, S: AsStr>(alloc: Global, words: &'a [S]) -> Result<ArgMatches<'a>, Error> {
+    command(alloc)?.try_get_matches_from(words)
 }
 
-/// The options of `replay`. clap has seen that each is there.
-fn file_replay<'a>(given: &ArgMatches<'a>) -> FileReplay<'a> {
-    FileReplay {
-        config: given.get_str("config").unwrap_or(""),
-        trace: given.get_str("trace").unwrap_or(""),
-        rounds: rounds(given),
-        maps: given.get_str("maps").unwrap_or(""),
-        report: given.get_str("report").unwrap_or(""),
+/// What the words that were matched ask for.
+fn order_in<'a>(given: &ArgMatches<'a>) -> Option<Order<'a>> {
+    let (name, options) = given.subcommand()?;
+    if name == "replay" {
+        return Some(Order::Replay(FileReplay {
+            config: options.get_str("config")?,
+            trace: options.get_str("trace")?,
+            rounds: options.get_one::<u32>("rounds")?,
+            maps: options.get_str("maps")?,
+            report: options.get_str("report")?,
+        }));
     }
-}
-
-/// The number of rounds. clap has seen that it is there, or has a default.
-fn rounds(given: &ArgMatches<'_>) -> u32 {
-    given.get_one::<u32>("rounds").unwrap_or(DEFAULT_ROUNDS)
+    Some(Order::Pipe {
+        rounds: options.get_one::<u32>("rounds")?,
+    })
 }
 
 fn command<'a>(alloc: Global) -> Result<Command<'a>, AllocError> {
     Command::new(alloc, "mapsim")
         .about("Replays the requests of a trace and writes the MAPs of each round")
+        .after_help(AFTER_HELP)
         .subcommand_required(true)
         .subcommand(replay_command(alloc)?)?
         .subcommand(pipe_command(alloc)?)

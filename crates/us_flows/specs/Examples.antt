@@ -171,12 +171,13 @@ channel_faults :
     (channel_with (codes "long") (codewords 1 253) ≡ None) ×
     (channel_with (codes "long") (codewords 2 253) ≡ Some (Range channel)) ×
     -- values beside the length of a round
+    (top_with (codes "round_ticks") (number 321) ≡ Some (RoundNotMultiple channel)) ×
     (channel_with (codes "minislot_log2") (number 7) ≡ Some (RoundNotMultiple channel)) ×
     (channel_with (codes "contention_minislots") (number 160) ≡ None) ×
     (channel_with (codes "contention_minislots") (number 161) ≡ Some (ReservesTooLong channel))
 unfolding first_fault channel_fault channel_lacks channel_strays flow_fault
     top_keys channel_keys profile_keys short_keys flow_keys
-channel_faults = (refl, refl, refl, refl, refl, refl, refl, refl, refl, refl, refl)
+channel_faults = (refl, refl, refl, refl, refl, refl, refl, refl, refl, refl, refl, refl)
 
 -- a list of one list
 abbrev pub cluster : List ℕ → Data
@@ -190,6 +191,7 @@ abbrev pub lost : Members
 lost = with_key (codes "clusters") (cluster []) (with_key (codes "channels") (array (numbers (9 ∷ []))) base_flow)
 
 flow_faults :
+    (flow_with (codes "type") (number 7) ≡ Some (Range flow)) ×
     -- the type is looked at before a key that is missing
     (first_fault (document (base_channel ∷ []) (typed 7 ∷ [])) ≡ Some (Range flow)) ×
     (first_fault (document (base_channel ∷ []) (typed 2 ∷ [])) ≡ Some (Missing flow)) ×
@@ -202,7 +204,7 @@ flow_faults :
     (first_fault (document (base_channel ∷ []) (lost ∷ [])) ≡ Some (UnknownChannel flow))
 unfolding first_fault channel_fault channel_lacks channel_strays flow_fault
     top_keys channel_keys profile_keys short_keys flow_keys
-flow_faults = (refl, refl, refl, refl, refl, refl, refl, refl)
+flow_faults = (refl, refl, refl, refl, refl, refl, refl, refl, refl)
 
 -- SIDs and runs
 found : (lookup base_tables 1 291 ≡ Some (Cluster 0)) × (lookup base_tables 2 291 ≡

@@ -24,7 +24,7 @@ use std::marker::Model;
 use toml::Table;
 
 /// The most bytes of a configuration (ours).
-const MAX_TEXT_BYTES: usize = 4_194_304;
+pub const MAX_CONFIG_BYTES: usize = 4_194_304;
 
 /// The most ticks of a run (ours).
 const MAX_RUN_TICKS: u64 = 67_108_864;
@@ -64,7 +64,7 @@ impl Config {
         ensures answer { Answers text.now result }
         ensures too_long { 4194304 < length text.now → result ≡ Err fault.Text }
     {
-        if text.len() > MAX_TEXT_BYTES {
+        if text.len() > MAX_CONFIG_BYTES {
             return Err(ConfigFault::Text);
         }
         match toml::table_from_slice(alloc, text) {

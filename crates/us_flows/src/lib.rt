@@ -41,7 +41,7 @@ mod channel_tables;
 mod flow_tables;
 
 pub use channels::Channel;
-pub use config::Config;
+pub use config::{Config, MAX_CONFIG_BYTES};
 pub use faults::{ConfigFault, Place, TableName};
 pub use flows::{Flow, SchedulingType};
 pub use found::Found;

@@ -2,6 +2,8 @@ use crate::programs::run;
 use crate::statuses::Status;
 use std::alloc::AllocError;
 use std::io::{self, ErrorKind, Read};
+use std::test::Fail;
+use us_slots::{FromRead, FromWrite};
 
 /// The base configuration.
 pub const CONFIG: &str = "\
@@ -75,7 +77,13 @@ pub fn run_on(rt: &HostRuntime, words: &[&str], input: &[u8]) -> Result<Outcome,
     all_words.extend_from_slice(words)?;
     let mut output = Vec::new(rt.alloc());
     let mut errors = Vec::new(rt.alloc());
-    let status = run(rt, all_words.as_slice(), input, &mut output, &mut errors);
+    let status = run(
+        rt,
+        all_words.as_slice(),
+        &mut FromRead::new(input),
+        &mut FromWrite::new(&mut output),
+        &mut errors,
+    );
     Ok(Outcome {
         status,
         output,
@@ -83,12 +91,10 @@ pub fn run_on(rt: &HostRuntime, words: &[&str], input: &[u8]) -> Result<Outcome,
     })
 }
 
-/// The base configuration with one text put in place of another.
-pub fn changed(rt: &HostRuntime, from: &str, to: &str) -> Result<String, AllocError> {
-    match CONFIG.split_once(from) {
-        Some((before, behind)) => format!(in rt.alloc(); "{before}{to}{behind}"),
-        None => format!(in rt.alloc(); "nothing to change"),
-    }
+/// The base configuration with one text put in place of another, which it has.
+pub fn changed(rt: &HostRuntime, from: &str, to: &str) -> Result<String, Fail> {
+    let (before, behind) = CONFIG.split_once(from).ok_or("nothing to change")?;
+    Ok(format!(in rt.alloc(); "{before}{to}{behind}")?)
 }
 
 /// What `pipe` reads.

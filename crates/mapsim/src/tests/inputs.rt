@@ -2,8 +2,9 @@ use super::base::{CONFIG, FailingReader, MAP_LINES, REPORT, TRACE, changed, pipe
 use crate::programs::run;
 use crate::statuses::Status;
 use std::test::Fail;
+use us_slots::{FromRead, FromWrite};
 
-/// The run without words, the same by its words, and the same of fewer rounds.
+/// The run without words, and the same by its words.
 #[test]
 fn stored_run(rt: HostRuntime) -> Result<(), Fail> {
     let input = piped(&rt, CONFIG, TRACE)?;
@@ -141,7 +142,13 @@ fn input_that_fails(rt: HostRuntime) -> Result<(), Fail> {
         };
         let mut output = Vec::new(rt.alloc());
         let mut errors = Vec::new(rt.alloc());
-        let status = run(&rt, &["mapsim"], input, &mut output, &mut errors);
+        let status = run(
+            &rt,
+            &["mapsim"],
+            &mut FromRead::new(input),
+            &mut FromWrite::new(&mut output),
+            &mut errors,
+        );
         assert_eq!(rt; status, Status::DeviceFailed, "{text}");
         assert_eq!(rt; errors.as_slice(), b"fault io input\n".as_slice(), "{text}");
         assert_eq!(rt; output.len(), 0, "{text}");

@@ -2,6 +2,7 @@ use super::base::{CONFIG, MAP_LINES, REPORT, TRACE};
 use crate::programs::run;
 use crate::statuses::Status;
 use std::test::Fail;
+use us_slots::{FromRead, FromWrite};
 
 /// No test of its own: run with `--fail-alloc`, where each allocation is refused in turn. A refused one is answered as
 /// want of memory, and never as another fault or a wrong report. Nothing here but the program takes memory.
@@ -21,7 +22,13 @@ fn refused_memory(rt: HostRuntime) -> Result<(), Fail> {
     let mut output = [0u8; 600];
     let mut errors = [0u8; 600];
     let text = input.get(..end).ok_or("input")?;
-    let status = run(&rt, &["mapsim"], text, &mut output[..], &mut errors[..]);
+    let status = run(
+        &rt,
+        &["mapsim"],
+        &mut FromRead::new(text),
+        &mut FromWrite::new(&mut output[..]),
+        &mut errors[..],
+    );
     if status == Status::NoMemory {
         assert!(rt; errors.starts_with(b"fault memory\n\0"));
     } else {

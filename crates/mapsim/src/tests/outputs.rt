@@ -3,6 +3,7 @@ use crate::programs::run;
 use crate::statuses::Status;
 use std::io::{self, ErrorKind, Write};
 use std::test::Fail;
+use us_slots::{FromRead, FromWrite};
 
 /// A writer with room for some bytes, behind which writes fail or take none. It can fail to flush.
 #[derive(Drop)]
@@ -54,7 +55,13 @@ fn output_that_fails(rt: HostRuntime) -> Result<(), Fail> {
             flushes,
         };
         let mut errors = Vec::new(rt.alloc());
-        let status = run(&rt, &["mapsim"], input.as_bytes(), &mut output, &mut errors);
+        let status = run(
+            &rt,
+            &["mapsim"],
+            &mut FromRead::new(input.as_bytes()),
+            &mut FromWrite::new(&mut output),
+            &mut errors,
+        );
         assert_eq!(rt; status, Status::DeviceFailed, "{room}");
         assert_eq!(rt;
             errors.as_slice(),
@@ -73,7 +80,13 @@ fn help_that_is_not_taken(rt: HostRuntime) {
     let mut room = [0u8; 10];
     let mut errors = Vec::new(rt.alloc());
     let words = ["mapsim", "help"];
-    let status = run(&rt, &words, b"".as_slice(), &mut room[..], &mut errors);
+    let status = run(
+        &rt,
+        &words,
+        &mut FromRead::new(b"".as_slice()),
+        &mut FromWrite::new(&mut room[..]),
+        &mut errors,
+    );
     assert_eq!(rt; status, Status::DeviceFailed);
     assert_eq!(rt; errors.as_slice(), b"fault io output\n".as_slice());
 }
@@ -85,7 +98,13 @@ fn errors_that_are_not_taken(rt: HostRuntime) {
         let mut room = [0u8; 3];
         let mut output = Vec::new(rt.alloc());
         let words = ["mapsim", word];
-        let status = run(&rt, &words, b"".as_slice(), &mut output, &mut room[..]);
+        let status = run(
+            &rt,
+            &words,
+            &mut FromRead::new(b"".as_slice()),
+            &mut FromWrite::new(&mut output),
+            &mut room[..],
+        );
         assert_eq!(rt; status, expected, "{word}");
     }
 }

@@ -38,6 +38,10 @@ fn words_that_are_refused(rt: HostRuntime) -> Result<(), Fail> {
             "error: invalid value '4294967296' for '--rounds <N>'",
         ),
         (
+            &["pipe", "--rounds", "1", "--rounds", "2"],
+            "error: the argument '--rounds <N>' cannot be used multiple times\n",
+        ),
+        (
             &["replay", "--rounds", "1"],
             "error: the following required arguments were not provided:\n",
         ),
