@@ -94,10 +94,13 @@ flow_rules place channels flow =
     (not (list_all (has_channel channels) flow.channels), fault.UnknownChannel place) ∷
     (not (list_all (λ sids. length sids == length flow.channels) flow.clusters), fault.ClusterLength place) ∷ []
 
+-- it stands behind these others
+abbrev pub flow_place : List FlowTable → Place
+flow_place earlier = record { table = name.Flow; index = length earlier }
+
 unfoldable pub flow_fault : List Channel → List FlowTable → Members → Option ConfigFault
 flow_fault channels earlier t =
-    let place : Place = record { table = name.Flow; index = length earlier } in
-    or_else (first_of (flow_shape place t)) (first_of (flow_rules place channels (flow_of t)))
+    or_else (first_of (flow_shape (flow_place earlier) t)) (first_of (flow_rules (flow_place earlier) channels (flow_of t)))
 
 -- the tables of a list in turn, each judged beside those before it
 module _ {A : Type 0} (of : Members → A) (fault_of : List A → Members → Option ConfigFault) where

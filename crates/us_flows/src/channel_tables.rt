@@ -1,4 +1,4 @@
-ghost use Rattle.std.specs.Prelude.{◌≡◌, ◌+◌, ◌*◌, ◌<◌, ◌^◌, nat_lt, codes, length, SomeIff, false};
+ghost use Rattle.std.specs.Prelude.{◌≡◌, ◌+◌, ◌*◌, ◌<◌, ◌^◌, nat_lt, codes, length, Some, SomeIff, IfErr, false};
 ghost use Rattle.toml.specs.View.{view, table_view, items_view};
 ghost use Rattle.us_slots.specs.Times.{IsTiming};
 ghost use Rattle.us_slots.specs.Bursts.{IsBurstProfile, IsChannelBursts};
@@ -46,8 +46,11 @@ pub(crate) fn channels_of(
 #[tactic(auto, unfolding(crate::specs::Checks::channel_fault))]
 fn channel_in(round_ticks: u32, earlier: &[Channel], table: &Table) -> Result<Channel, ConfigFault>
     requires { length earlier.now < 2 ^ 32 }
-    ensures { Judged result (channel_fault round_ticks earlier.now (table_view table.now))
+    ensures judged { Judged result (channel_fault round_ticks earlier.now (table_view table.now))
         (λ channel. channel ≡ Reading.channel_of (table_view table.now)) }
+    // No memory is taken here.
+    ensures fault { IfErr result (λ fault.
+        channel_fault round_ticks earlier.now (table_view table.now) ≡ Some fault) }
 {
     let place = Place {
         table: TableName::Channel,

@@ -1,4 +1,4 @@
-ghost use Rattle.std.specs.Prelude.{◌≡◌, ◌<◌, length, Err};
+ghost use Rattle.std.specs.Prelude.{◌≡◌, ◌<◌, length, Err, IfSome};
 ghost use Rattle.us_flows.specs.Tables;
 ghost use Rattle.us_flows.specs.Tables.{Tables};
 ghost use Rattle.us_flows.specs.Clusters;
@@ -9,6 +9,7 @@ ghost use Rattle.us_flows.specs.Checks.{first_of, top_checks, first_fault};
 ghost use Rattle.us_flows.specs.Reading;
 ghost use Rattle.us_flows.specs.Answers.{Answers, Judged};
 ghost use Rattle.toml.specs.View.{table_view};
+ghost use Rattle.toml.specs.Errors.{IsMemory};
 
 use crate::channel_tables::channels_of;
 use crate::channels::Channel;
@@ -69,13 +70,7 @@ impl Config {
         }
         match toml::table_from_slice(alloc, text) {
             Ok(document) => config_of(alloc, &document),
-            Err(error) => {
-                if error.is_memory() {
-                    Err(ConfigFault::NoMemory)
-                } else {
-                    Err(ConfigFault::Text)
-                }
-            }
+            Err(error) => Err(fault_of(&error)),
         }
     }
 
@@ -147,11 +142,25 @@ impl Config {
     }
 }
 
+/// The fault of a text that isn't read as a document.
+fn fault_of(error: &toml::de::Error) -> ConfigFault
+    ensures memory { IsMemory error.now → result ≡ fault.NoMemory }
+    ensures text { ¬ IsMemory error.now → result ≡ fault.Text }
+{
+    if error.is_memory() {
+        ConfigFault::NoMemory
+    } else {
+        ConfigFault::Text
+    }
+}
+
 /// The configuration of a document, or its first fault.
 #[tactic(auto, using(crate::proofs::TableLemmas::tables_are), unfolding(crate::specs::Checks::first_fault))]
 fn config_of(alloc: Global, document: &Table) -> Result<Config, ConfigFault>
-    ensures { Judged result (first_fault (table_view document.now))
+    ensures judged { Judged result (first_fault (table_view document.now))
         (λ config. config ≡ Reading.tables_of (table_view document.now)) }
+    // The top level is judged before memory is taken.
+    ensures early { IfSome (first_of (top_checks (table_view document.now))) (λ fault. result ≡ Err fault) }
 {
     if let Some(fault) = top_fault(document) {
         return Err(fault);

@@ -1,4 +1,4 @@
-ghost use Rattle.std.specs.Prelude.{◌≡◌, ◌==◌, ◌<◌, ◌^◌, length, map, IfOk, true, false};
+ghost use Rattle.std.specs.Prelude.{◌≡◌, ◌==◌, ◌<◌, ◌^◌, length, map, Err, IfOk, IfSome, true, false};
 ghost use Rattle.std.specs.List.{list_all};
 ghost use Rattle.toml.specs.View.{table_view, items_view};
 ghost use Rattle.us_flows.specs.Keys;
@@ -51,8 +51,11 @@ fn flow_in(
     table: &Table,
 ) -> Result<Flow, ConfigFault>
     requires { length earlier.now < 2 ^ 32 }
-    ensures { Judged result (flow_fault channels.now earlier.now (table_view table.now))
+    ensures judged { Judged result (flow_fault channels.now earlier.now (table_view table.now))
         (λ flow. flow ≡ Reading.flow_of (table_view table.now)) }
+    // The shape is judged before memory is taken.
+    ensures early { IfSome (first_of (flow_shape (Checks.flow_place earlier.now) (table_view table.now)))
+        (λ fault. result ≡ Err fault) }
 {
     let place = Place {
         table: TableName::Flow,

@@ -11,7 +11,7 @@ use Rattle.us_requests.specs.declared.asks.Counts.{Counts}
 use Rattle.us_replay.specs.declared.faults.RunFault.{RunFault}
 use Rattle.us_replay.specs.declared.faults.RunFault.TheVariants as fault
 use Rattle.us_replay.specs.Outputs.{Given, records, round_lines, lines}
-use Rattle.us_replay.specs.Replays.{Output, Growth, Took, Holds, Stopped, Ran, maps_text, report_text}
+use Rattle.us_replay.specs.Replays.{Output, Growth, Took, TookRounds, Holds, Stopped, Ran, maps_text, report_text}
 use Rattle.us_replay.specs.Progress.{Sent, Flushed}
 
 -- Lists.
@@ -145,31 +145,31 @@ passed-on (Err given) is = ap (λ r. Err r) is
 abbrev pub grown : Option (List ℕ) → Option (List ℕ) → Growth
 grown old new = record { before = old; after = new }
 
--- the writers took just the parts of k rounds
-pub record SoFar (out : Output) (k : ℕ) (to_maps to_report : Growth) : Type 0 where
-  pub rounds : k ≤ length out.given
-  pub maps : Took to_maps (flat_map records (take k out.given))
-  pub report : Took to_report (flat_map round_lines (take k out.given))
+pub so-far-at : (out : Output) (j k : ℕ) (to_maps to_report : Growth) → j ≡ k → TookRounds out j to_maps to_report →
+    TookRounds out k to_maps to_report
+so-far-at out j k to_maps to_report same so_far = subst (λ n. TookRounds out n to_maps to_report) same so_far
 
-pub so-far-at : (out : Output) (j k : ℕ) (to_maps to_report : Growth) → j ≡ k → SoFar out j to_maps to_report →
-    SoFar out k to_maps to_report
-so-far-at out j k to_maps to_report same so_far = subst (λ n. SoFar out n to_maps to_report) same so_far
-
-pub nothing-yet : (out : Output) (a d : Option (List ℕ)) → SoFar out 0 (grown a a) (grown d d)
+pub nothing-yet : (out : Output) (a d : Option (List ℕ)) → TookRounds out 0 (grown a a) (grown d d)
 nothing-yet out a d = record { rounds = omega arith; maps = appends_nothing a; report = appends_nothing d }
 
 -- a stop before anything of a round was written, where it has records
-pub stops-between : (out : Output) (k : ℕ) (to_maps to_report : Growth) → SoFar out k to_maps to_report →
+-- what stands there
+abbrev pub EndsBetween : Output → Growth → Growth → ℕ → Type 0
+EndsBetween out to_maps to_report k = TookRounds out k to_maps to_report × Stopped out to_maps to_report k
+
+pub stops-between : (out : Output) (k : ℕ) (to_maps to_report : Growth) → TookRounds out k to_maps to_report →
     ((next : Given) (rest : List Given) → drop k out.given ≡ next ∷ rest → 0 < length (records next)) →
-    Stopped out to_maps to_report k
-stops-between out k to_maps to_report so_far some =
-    stopped out k 0 0 to_maps to_report (record {
-      rounds = so_far.rounds;
-      maps = subst (Took to_maps) (sym (append-nil (flat_map records (take k out.given)))) so_far.maps;
-      maps_short = omega arith;
-      report = subst (Took to_report) (sym (append-nil (flat_map round_lines (take k out.given)))) so_far.report;
-      report_short = omega arith;
-    }) (λ next rest here. inl (some next rest here))
+    EndsBetween out to_maps to_report k
+stops-between out k to_maps to_report so_far some = (
+  so_far,
+  stopped out k 0 0 to_maps to_report (record {
+    rounds = so_far.rounds;
+    maps = subst (Took to_maps) (sym (append-nil (flat_map records (take k out.given)))) so_far.maps;
+    maps_short = omega arith;
+    report = subst (Took to_report) (sym (append-nil (flat_map round_lines (take k out.given)))) so_far.report;
+    report_short = omega arith;
+  }) (λ next rest here. inl (some next rest here)),
+)
 
 -- what is written of the round at a place, or of the end of the report
 pub record IsPart (out : Output) (k : ℕ) (maps report : List ℕ) : Type 0 where
@@ -182,7 +182,7 @@ pub record IsPart (out : Output) (k : ℕ) (maps report : List ℕ) : Type 0 whe
 
 -- a fault while it is written
 pub sent-stops : (out : Output) (counts : Counts) (k : ℕ) (a b c d e f : Option (List ℕ)) (maps report : List ℕ)
-    (reason : RunFault) → SoFar out k (grown a b) (grown d e) → IsPart out k maps report →
+    (reason : RunFault) → TookRounds out k (grown a b) (grown d e) → IsPart out k maps report →
     Sent maps report k (grown b c) (grown e f) (Err reason) → Ran out counts (grown a c) (grown d f) (Err reason)
 sent-stops out counts k a b c d e f maps report (fault.WriteMaps done) so_far part (is, (n, below, front), kept) =
     let before : List ℕ = flat_map records (take k out.given) in
@@ -257,8 +257,8 @@ last-part out k maps report texts = record {
 
 -- a round that was all taken
 pub sent-round : (out : Output) (k : ℕ) (a b c d e f : Option (List ℕ)) (maps report : List ℕ) →
-    SoFar out k (grown a b) (grown d e) → AreTexts out k maps report →
-    Took (grown b c) maps → Took (grown e f) report → SoFar out (k + 1) (grown a c) (grown d f)
+    TookRounds out k (grown a b) (grown d e) → AreTexts out k maps report →
+    Took (grown b c) maps → Took (grown e f) report → TookRounds out (k + 1) (grown a c) (grown d f)
 sent-round out k a b c d e f maps report so_far texts wrote_maps wrote_report = record {
   rounds = omega (arith, (next-of out.given k texts.round texts.rest texts.here).below);
   maps = subst (Appends a c) (sym (next-part records out.given k texts.round texts.rest texts.here))
@@ -276,7 +276,7 @@ abbrev pub TookAll : Output → Growth → Growth → Type 0
 TookAll out to_maps to_report = Took to_maps (maps_text out) × Took to_report (report_text out)
 
 pub sent-last : (out : Output) (k : ℕ) (a b c d e f : Option (List ℕ)) (maps report : List ℕ) →
-    SoFar out k (grown a b) (grown d e) → AreLast out k maps report →
+    TookRounds out k (grown a b) (grown d e) → AreLast out k maps report →
     Took (grown b c) maps → Took (grown e f) report → TookAll out (grown a c) (grown d f)
 sent-last out k a b c d e f maps report so_far texts wrote_maps wrote_report =
     let all : take k out.given ≡ out.given = take_all k out.given (ended k out.given texts.none) in (

@@ -104,13 +104,20 @@ pub record Stopped (out : Output) (to_maps to_report : Growth) (done : ℕ) : Ty
   pub greatest : (more : ℕ) → more ≤ length out.given → Holds records out.given more maps_taken
       → Holds round_lines out.given more report_taken → more ≤ done
 
--- the run of a trace that was read: what stands by its answer
+-- each writer took just the texts of the first `done` rounds
+pub record TookRounds (out : Output) (done : ℕ) (to_maps to_report : Growth) : Type 0 where
+  pub rounds : done ≤ length out.given
+  pub maps : Took to_maps (flat_map records (take done out.given))
+  pub report : Took to_report (flat_map round_lines (take done out.given))
+
+-- the run of a trace that was read: what stands by its answer. Memory is wanting between rounds alone
 abbrev pub Ran : Output → Counts → Growth → Growth → Result Summary RunFault → Type 0
 Ran out counts to_maps to_report (Ok summary) =
     Took to_maps (maps_text out) × Took to_report (report_text out) × (summary ≡ summary_of out counts)
 Ran out counts to_maps to_report (Err (fault.WriteMaps done)) = Stopped out to_maps to_report done
 Ran out counts to_maps to_report (Err (fault.WriteReport done)) = Stopped out to_maps to_report done
-Ran out counts to_maps to_report (Err (fault.NoMemory done)) = Stopped out to_maps to_report done
+Ran out counts to_maps to_report (Err (fault.NoMemory done)) =
+    TookRounds out done to_maps to_report × Stopped out to_maps to_report done
 Ran out counts to_maps to_report (Err fault.Rounds) = ⊥
 Ran out counts to_maps to_report (Err (fault.Trace reason)) = ⊥
 

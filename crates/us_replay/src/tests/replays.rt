@@ -85,10 +85,11 @@ fn maps_file_that_fails_at_each_byte(rt: HostRuntime) -> Result<(), Fail> {
             let done = if room < 34 { 0 } else { 1 };
             assert_eq!(rt; answer, Err(RunFault::WriteMaps(done)), "{room} {fails}");
             assert!(rt; maps.has_failed() && !report.has_failed(), "{room} {fails}");
-            let held = maps.into_inner().held;
-            assert_eq!(rt; held.len(), room, "{room} {fails}");
-            assert!(rt; MAPS.starts_with(&held), "{room} {fails}");
-            assert_eq!(rt; report.into_inner().held.len(), 0, "{room} {fails}");
+            let (maps, report) = (maps.into_inner(), report.into_inner());
+            assert_eq!(rt; maps.held.len(), room, "{room} {fails}");
+            assert!(rt; MAPS.starts_with(&maps.held), "{room} {fails}");
+            assert_eq!(rt; report.held.len(), 0, "{room} {fails}");
+            assert_eq!(rt; (maps.flushes, report.flushes), (0, 0), "{room} {fails}");
         }
     }
     Ok(())
@@ -113,10 +114,11 @@ fn report_that_fails_at_each_byte(rt: HostRuntime) -> Result<(), Fail> {
             let done = if room < ROUND_LINES { 1 } else { 2 };
             assert_eq!(rt; answer, Err(RunFault::WriteReport(done)), "{room} {fails}");
             assert!(rt; report.has_failed() && !maps.has_failed(), "{room} {fails}");
-            let held = report.into_inner().held;
-            assert_eq!(rt; held.len(), room, "{room} {fails}");
-            assert!(rt; REPORT.starts_with(&held), "{room} {fails}");
-            assert_eq!(rt; maps.into_inner().held.as_slice(), MAPS, "{room} {fails}");
+            let (maps, report) = (maps.into_inner(), report.into_inner());
+            assert_eq!(rt; report.held.len(), room, "{room} {fails}");
+            assert!(rt; REPORT.starts_with(&report.held), "{room} {fails}");
+            assert_eq!(rt; maps.held.as_slice(), MAPS, "{room} {fails}");
+            assert_eq!(rt; (maps.flushes, report.flushes), (0, 0), "{room} {fails}");
         }
     }
     Ok(())
@@ -212,7 +214,8 @@ fn numbers_of_rounds(rt: HostRuntime) -> Result<(), Fail> {
     Ok(())
 }
 
-/// Rows that are no asks, and bytes that stay outstanding: 250 units of 4 bytes in round 1, of 2 rounds.
+/// Rows that are no asks, and bytes that stay outstanding: 65,535 units of 4 bytes in round 1, of 2
+/// rounds.
 #[test]
 fn rows_that_count(rt: HostRuntime) -> Result<(), Fail> {
     let config = base(rt.alloc())?;

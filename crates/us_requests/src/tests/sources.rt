@@ -4,16 +4,19 @@ use std::io::{self, ErrorKind, Read};
 use std::test::Fail;
 use us_slots::{FromRead, Source};
 
-/// A reader that gives at most `piece` bytes a call. At the end of its text it answers 0 bytes or a fault.
+/// A reader that gives at most `piece` bytes a call. At the end of its text it answers 0 bytes or a fault. It counts its
+/// calls.
 #[derive(Drop)]
 struct PieceReader<'a> {
     left: &'a [u8],
     piece: usize,
     fails: bool,
+    reads: usize,
 }
 
 impl<'a> Read for PieceReader<'a> {
     fn read(&mut self, buf: &mut [u8]) -> io::Result<usize> {
+        self.reads = self.reads.saturating_add(1);
         let count = self.left.len().min(self.piece).min(buf.len());
         if count == 0 && self.fails {
             return Err(io::Error::from(ErrorKind::BrokenPipe));
@@ -37,6 +40,7 @@ fn pieces_of_every_size(rt: HostRuntime) -> Result<(), Fail> {
             left: TEXT,
             piece,
             fails: false,
+            reads: 0,
         });
         let trace = Trace::read(rt.alloc(), &mut source, &config, 3)?;
         let first = Ask {
@@ -50,6 +54,9 @@ fn pieces_of_every_size(rt: HostRuntime) -> Result<(), Fail> {
         assert_eq!(rt; trace.asks(1), [first].as_slice(), "pieces of {piece}");
         assert_eq!(rt; trace.asks(2), [second].as_slice(), "pieces of {piece}");
         assert!(rt; !source.has_failed(), "pieces of {piece}");
+        // and behind the end it isn't asked again
+        let reads = TEXT.len().div_ceil(piece) + 1;
+        assert_eq!(rt; source.into_inner().reads, reads, "pieces of {piece}");
     }
     Ok(())
 }
@@ -60,18 +67,20 @@ fn source_that_fails(rt: HostRuntime) -> Result<(), Fail> {
     if !config.rounds_fit(3) {
         return Err(Fail::from("three rounds"));
     }
-    // inside record 2, and behind a record that is none
-    for text in [&TEXT[..30], b"tick\n"] {
+    // inside record 2, and behind a record that is none; it isn't asked again
+    for (text, reads) in [(&TEXT[..30], 9), (b"tick\n", 3)] {
         let mut source = FromRead::new(PieceReader {
             left: text,
             piece: 4,
             fails: true,
+            reads: 0,
         });
         assert_eq!(rt;
             Trace::read(rt.alloc(), &mut source, &config, 3).err(),
             Some(TraceFault::Read)
         );
         assert!(rt; source.has_failed());
+        assert_eq!(rt; source.into_inner().reads, reads);
     }
     Ok(())
 }

@@ -2,9 +2,9 @@ use Rattle.std.proofs.Common.{◌≡◌, ◌+◌, ◌*◌, ◌<◌, ◌≤◌, �
 use Rattle.std.specs.List.{AllByRecursion}
 use Rattle.us_flows.specs.Tables.{Tables, max_run_ticks}
 use Rattle.us_requests.specs.Traces.{TraceAsks}
-use Rattle.us_replay.specs.Replays.{Output, Ran, Stopped}
+use Rattle.us_replay.specs.Replays.{Output, Ran}
 use Rattle.us_replay.specs.Progress.{Progress, after_round, after_last, summary_after}
-use Rattle.us_replay.proofs.ReplayStopLemmas.{passed-on, so-far-at, nothing-yet, stops-between, sent-stops, round-part, last-part, sent-round, sent-last, flush-stops, flushed-all}
+use Rattle.us_replay.proofs.ReplayStopLemmas.{passed-on, so-far-at, nothing-yet, EndsBetween, stops-between, sent-stops, round-part, last-part, sent-round, sent-last, flush-stops, flushed-all}
 use Rattle.us_replay.proofs.LoopLemmas.{Along, output, along-opening, along-next, texts-here, some-next, texts-last, length-given, summary-is, room-next, time-next}
 use Rattle.us_replay.proofs.replays.run.Goals as goal
 
@@ -114,7 +114,7 @@ returns-in_default-make_last-clause-ran g c =
     let v : TraceAsks = c.args.trace.now in
     let ended : c.loop-done.done ≡ c.rounds-rounds.result =
     omega (arith, c.loop-done-test.false, c.loop-done.invariant.2.within, c.rounds-rounds.ensures.value) in
-    subst (Stopped (output t v) _ _) ended
+    subst (EndsBetween (output t v) _ _) ended
     (stops-between (output t v) c.loop-done.done _ _ c.loop-done.invariant.3 (some-next t v c.loop-done.done c.loop-done.invariant.0))
 
 pub returns-in_err-send-2-clause-ran : goal.returns-in_err-send-2-clause-ran
