@@ -64,10 +64,13 @@ pub all-printed : (file : List ℕ) (records : List Record) (count : ℕ) (befor
     (text : List ℕ) × IsDump file text × Appends before after text
 all-printed file records count before after printed is all =
     let same : is.pieces ≡ map piece_of printed.maps =
-    sym is.found ∙ ap (map (piece_at file)) (sym (take_all count records all)) ∙ sym printed.stand in
-    (flat_map map_text printed.maps, record {
-      maps = printed.maps;
-      lawful = are-round-maps printed.maps (subst (AllByRecursion IsPiece) same is.each) printed.lawful;
-      spelled = is.spelled ∙ ap maps_file same;
-      lines = refl;
-    }, printed.took)
+    sym is.found ∙ ap (map (piece_at file)) (sym (take_all count records all)) ∙ sym printed.stand in (
+      flat_map map_text printed.maps,
+      record {
+        maps = printed.maps;
+        lawful = are-round-maps printed.maps (subst (AllByRecursion IsPiece) same is.each) printed.lawful;
+        spelled = is.spelled ∙ ap maps_file same;
+        lines = refl;
+      },
+      printed.took,
+    )

@@ -1,5 +1,5 @@
 -- A mark has three bytes of the text.
-use Rattle.std.proofs.Common.{◌≡◌, ℕ, ◌+◌, ◌-◌, ◌≤◌, List, length, length-drop, take, drop, ap, arith}
+use Rattle.std.proofs.Common.{◌≡◌, ℕ, ◌+◌, ◌≤◌, List, length, length-drop, take, drop, ap, arith}
 use Rattle.std.proofs.lemmas.List.{length-take}
 use Rattle.mapsim.specs.Marks.{IsMark}
 

@@ -74,12 +74,15 @@ prints rounds told items read maps file report piece before between after (Err e
 prints rounds None items read maps file report piece before between after (Ok x) one two replayed three dumped four took = tt
 prints rounds (Some text) items read maps file report piece before between after (Ok x) one two replayed three
     (dump, dumped, lines) four took =
-    subst (λ text. Prints rounds (Some text) before after) (two ∙ one)
-    (dump ++ report, record {
-      maps = maps;
-      report = report;
-      replayed = replayed;
-      dump = dump;
-      dumped = subst (λ file. IsDump file dump) three dumped;
-      whole = refl;
-    }, appends_join before between after dump report lines (subst (Appends between after) four took))
+    subst (λ text. Prints rounds (Some text) before after) (two ∙ one) (
+      dump ++ report,
+      record {
+        maps = maps;
+        report = report;
+        replayed = replayed;
+        dump = dump;
+        dumped = subst (λ file. IsDump file dump) three dumped;
+        whole = refl;
+      },
+      appends_join before between after dump report lines (subst (Appends between after) four took),
+    )

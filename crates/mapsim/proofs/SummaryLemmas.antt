@@ -1,5 +1,5 @@
 -- What is printed of a replay from files.
-use Rattle.std.proofs.Common.{◌≡◌, ℕ, List, [], ◌∷◌, ◌++◌, Option, Result, Ok, Err, OnOk, ap, ◌∙◌, refl}
+use Rattle.std.proofs.Common.{ℕ, List, [], ◌∷◌, ◌++◌, Option, Result, Ok, Err, OnOk, ap}
 use Rattle.std.specs.Io.KnownBytes.{Appends}
 use Rattle.us_flows.specs.Tables.{Tables}
 use Rattle.us_replay.specs.declared.summaries.Summary.{Summary}
@@ -14,11 +14,14 @@ pub summarized : {T E : Type 0} (t : Tables) (rounds : ℕ) (told : Option (List
     OnOk result ((line : List ℕ) × IsSummaryOf rounds line × Appends before after line)
 summarized t rounds told to_maps to_report summary before after (Err e) replayed printed = tt
 summarized t rounds told to_maps to_report summary before after (Ok x)
-    (fit, (text, is_text, sound, (maps, report, same))) printed =
-    (summary_line summary ++ 10 ∷ [], record {
-      tables = t;
-      trace = text;
-      fit = fit;
-      sound = sound;
-      line = ap (λ summary. summary_line summary ++ 10 ∷ []) same;
-    }, printed)
+    (fit, (text, is_text, sound, (maps, report, same))) printed = (
+      summary_line summary ++ 10 ∷ [],
+      record {
+        tables = t;
+        trace = text;
+        fit = fit;
+        sound = sound;
+        line = ap (λ summary. summary_line summary ++ 10 ∷ []) same;
+      },
+      printed,
+    )

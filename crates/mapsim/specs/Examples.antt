@@ -1,5 +1,5 @@
 -- Lines, statuses and marks, computed by the definitions alone.
-use Rattle.std.specs.Prelude.{◌≡◌, ℕ, zero, suc, ◌<◌, List, [], ◌∷◌, ◌++◌, map, flat_map, codes, refl}
+use Rattle.std.specs.Prelude.{◌≡◌, ℕ, zero, suc, ◌<◌, List, [], ◌∷◌, codes, refl}
 use Rattle.std.proofs.Common.{inl, inr, arith}
 use Rattle.std.specs.Fmt.{digits}
 use Rattle.us_codec.specs.Elements.{MapElement}

@@ -1,5 +1,5 @@
 -- The mark between the configuration and the trace (ours): a line of two percent signs and a line feed.
-use Rattle.std.specs.Prelude.{◌≡◌, ◌⊎◌, ℕ, ◌-◌, ◌+◌, ◌<◌, List, ◌∷◌, [], take, drop, slice_index, codes}
+use Rattle.std.specs.Prelude.{◌≡◌, ◌⊎◌, ℕ, ◌-◌, ◌+◌, ◌<◌, List, ◌∷◌, [], take, drop, slice_index}
 
 -- a line begins at this place of a text: at its start, or behind a line feed
 abbrev pub StartsLine : List ℕ → ℕ → Type 0

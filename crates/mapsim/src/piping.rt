@@ -89,12 +89,7 @@ fn replay_text(alloc: Global, rounds: u32, text: &[u8]) -> Result<Texts, Fault>
 
 /// Replays the text of a trace.
 #[tactic(auto, using(crate::proofs::PrintoutLemmas::gives, crate::proofs::PrintoutLemmas::refuses_trace))]
-fn replay_trace(
-    alloc: Global,
-    rounds: u32,
-    config: &Config,
-    trace: &[u8],
-) -> Result<Texts, Fault>
+fn replay_trace(alloc: Global, rounds: u32, config: &Config, trace: &[u8]) -> Result<Texts, Fault>
     ensures given { IfOk result (λ texts. Gives config.now rounds trace.now texts.maps.items texts.report.items) }
     ensures refused { IfErr result (RefusesTrace config.now rounds trace.now) }
 {

@@ -18,13 +18,7 @@ use us_slots::{Sink, Source};
 
 /// The program: it does what the words ask for (its name is the first), with `input` as its standard input and `output`
 /// and `errors` as its standard output and standard error, and answers how it ends.
-pub fn run<R, S, I, O, E>(
-    rt: &R,
-    words: &[S],
-    input: &mut I,
-    output: &mut O,
-    errors: E,
-) -> Status
+pub fn run<R, S, I, O, E>(rt: &R, words: &[S], input: &mut I, output: &mut O, errors: E) -> Status
 where
     R: Files + AllocGlobal,
     S: AsStr,

@@ -37,10 +37,7 @@ pub fn order_of<'a, S: AsStr>(alloc: Global, words: &'a [S]) -> Result<Order<'a>
     match order_in(&given) {
         Some(order) => Ok(order),
         // Nobody comes here: clap has seen that each option is there.
-        None => Err(Fault::Usage(String::from_str(
-            alloc,
-            "error: an option is missing\n",
-        )?)),
+        None => Err(Fault::Usage(String::from_str(alloc, "error: an option is missing\n")?)),
     }
 }
 

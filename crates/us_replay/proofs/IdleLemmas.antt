@@ -1,5 +1,5 @@
 -- Idle minislots: the searches for the earliest and for the longest, and their relations.
-use Rattle.std.proofs.Common.{◌≡◌, ℕ, zero, suc, ◌+◌, ◌-◌, ◌*◌, ◌⊎◌, ◌<◌, ◌≤◌, nat_le, List, [], ◌∷◌, ◌++◌, length, take, drop, get_or, Bool, true, false, cond, ◌&&◌, Option, Some, None, is_none, is_some, not, refl, ap, sym, ◌∙◌, inl, inr, arith}
+use Rattle.std.proofs.Common.{◌≡◌, ℕ, zero, suc, ◌+◌, ◌-◌, ◌⊎◌, ◌<◌, ◌≤◌, nat_le, List, [], ◌∷◌, length, take, drop, get_or, Bool, true, false, Option, Some, None, is_none, is_some, not, refl, ap, sym, ◌∙◌, inl, inr, arith}
 use Rattle.std.specs.List.{list_all}
 use Rattle.std.proofs.lemmas.Bool.{cases_Bool, cases_lt, and_parts, and_from, leb-true, le-leb}
 use Rattle.std.proofs.lemmas.List.{get_or-drop, get_or_default, get_or_past, length-drop}

@@ -1,5 +1,5 @@
 -- The loop over rounds: how progress and writers stand after each.
-use Rattle.std.proofs.Common.{◌≡◌, ℕ, zero, suc, ◌+◌, ◌*◌, ◌^◌, ◌<◌, ◌≤◌, Bool, true, List, [], ◌∷◌, ◌++◌, length, replicate, map, flat_map, take, drop, get_or, cond, nat_le, sum, sum_by, count_by, refl, ap, sym, subst, ◌∙◌, inl, inr, arith, length-append}
+use Rattle.std.proofs.Common.{◌≡◌, ℕ, zero, suc, ◌+◌, ◌*◌, ◌^◌, ◌<◌, ◌≤◌, Bool, true, List, [], ◌∷◌, ◌++◌, length, replicate, map, take, drop, cond, nat_le, sum, sum_by, count_by, refl, ap, sym, ◌∙◌, arith}
 use Rattle.std.specs.List.{AllByRecursion, range_with_len, zip}
 use Rattle.std.proofs.lemmas.Bool.{and_parts, leb-true}
 use Rattle.std.proofs.lemmas.Nat.{mul-le}
@@ -7,14 +7,14 @@ use Rattle.std.proofs.lemmas.List.{length-map, length-replicate, drop_more, drop
 use Rattle.std.proofs.lemmas.List.Sums.{sum_by-cons, sum_by-append, count_by-le-length}
 use Rattle.std.proofs.lemmas.List.FromFn.{length-map-range_with_len, get_or-map-range_with_len}
 use Rattle.us_flows.specs.Tables.{Tables, max_run_ticks, rounds_fit}
-use Rattle.us_flows.specs.Clusters.{Cluster, clusters_of}
+use Rattle.us_flows.specs.Clusters.{clusters_of}
 use Rattle.us_flows.specs.Lawful.{AreTables}
 use Rattle.us_requests.specs.declared.asks.Ask.{Ask}
 use Rattle.us_requests.specs.Asks.{cut_of}
 use Rattle.us_requests.specs.Traces.{TraceAsks, asks_in, asked_before, max_asked, IsTrace}
 use Rattle.us_replay.specs.declared.lines.Row.{Row}
 use Rattle.us_replay.specs.Rounds.{State, RoundOut, round_of, opening, schedule, final}
-use Rattle.us_replay.specs.Outputs.{Given, given_by, records, round_lines, lines, final_rows, counts_row}
+use Rattle.us_replay.specs.Outputs.{Given, given_by, records, lines, final_rows, counts_row}
 use Rattle.us_replay.specs.Replays.{Output, output_of, cuts_of, rows_of, is_granted, is_missed, summary_of}
 use Rattle.us_replay.specs.Progress.{Progress, after_round, after_last, summary_after}
 use Rattle.us_replay.proofs.LoopRoundLemmas.{After, after, added-below, sum-cut, few-rows, some-records}

@@ -1,7 +1,6 @@
 -- Rounds: what is outstanding was asked for, and what a round gives is never nothing and never much.
-use Rattle.std.proofs.Common.{◌≡◌, ℕ, zero, suc, ◌+◌, ◌-◌, ◌*◌, ◌<◌, ◌≤◌, Bool, true, false, cond, eqb, ◌==◌, nat_le, List, [], ◌∷◌, ◌++◌, length, map, filter, flat_map, sum, sum_by, count_by, Option, Some, None, option_map, refl, ap, sym, subst, ◌∙◌, inl, inr, arith, length-append}
+use Rattle.std.proofs.Common.{◌≡◌, ℕ, zero, suc, ◌+◌, ◌-◌, ◌*◌, ◌<◌, ◌≤◌, cond, eqb, ◌==◌, nat_le, List, [], ◌∷◌, length, map, filter, flat_map, sum, sum_by, Option, Some, None, refl, ap, sym, ◌∙◌, inl, inr, arith, length-append}
 use Rattle.std.specs.List.{AllByRecursion, range_with_len, zip}
-use Rattle.std.specs.Int.{to_be_bytes, w16, w32}
 use Rattle.std.proofs.lemmas.Bool.{cases_Bool, eqb-true, leb-false}
 use Rattle.std.proofs.lemmas.List.{length-map}
 use Rattle.std.proofs.lemmas.List.Concat.{length-flat_map}
@@ -12,7 +11,7 @@ use Rattle.us_codec.specs.MapsFiles.{Piece, record_bytes, maps_file}
 use Rattle.us_slots.specs.Bursts.{ChannelBursts}
 use Rattle.us_flows.specs.declared.channels.Channel.{Channel}
 use Rattle.us_flows.specs.Tables.{Tables, map_len}
-use Rattle.us_flows.specs.Clusters.{Turn, turns_of}
+use Rattle.us_flows.specs.Clusters.{turns_of}
 use Rattle.us_requests.specs.declared.asks.Ask.{Ask}
 use Rattle.us_requests.specs.Asks.{asked, cut_of}
 use Rattle.us_replay.specs.declared.placing.Placed.{Placed}

@@ -1,5 +1,5 @@
 -- A grant that an idle run carries fits where the run starts.
-use Rattle.std.proofs.Common.{◌≡◌, ℕ, zero, suc, ◌+◌, ◌-◌, ◌*◌, ◌⊎◌, ◌<◌, ◌≤◌, ◌==◌, nat_le, List, length, take, drop, Bool, true, false, ◌&&◌, Option, Some, None, is_none, refl, ap, sym, ◌∙◌, inl, inr, arith}
+use Rattle.std.proofs.Common.{◌≡◌, ℕ, zero, suc, ◌+◌, ◌-◌, ◌<◌, ◌≤◌, ◌==◌, nat_le, List, length, take, drop, true, false, ◌&&◌, Option, is_none, refl, sym, ◌∙◌, inl, inr, arith}
 use Rattle.std.specs.List.{list_all}
 use Rattle.std.proofs.lemmas.Bool.{cases_Bool, cases_lt, and_parts, and_from, leb-true, le-leb}
 use Rattle.us_slots.specs.Bursts.{ChannelBursts, IsChannelBursts, burst_cost, grant_cost}

@@ -1,8 +1,6 @@
 -- The run of a trace that was read is that of the requests that its text tells.
 use Rattle.std.proofs.Common.{◌≡◌, ℕ, true, List, Option, Result, Ok, Err, ap, subst, ◌∙◌}
 use Rattle.us_flows.specs.Tables.{Tables, rounds_fit}
-use Rattle.us_requests.specs.declared.asks.Ask.{Ask}
-use Rattle.us_requests.specs.declared.asks.Counts.{Counts}
 use Rattle.us_requests.specs.Asks.{Request, asks_at, counts_of}
 use Rattle.us_requests.specs.Traces.{TraceAsks, IsTraceOf, asks_in}
 use Rattle.us_requests.specs.Rows.{requests_of}

@@ -1,11 +1,11 @@
 -- Where the reserves go, minislots are idle.
-use Rattle.std.proofs.Common.{◌≡◌, ℕ, zero, suc, ◌+◌, ◌-◌, ◌*◌, ◌%◌, ◌<◌, ◌≤◌, ◌==◌, nat_le, List, [], ◌∷◌, ◌++◌, length, replicate, take, drop, Bool, true, false, ◌&&◌, Option, Some, None, is_none, refl, ap, sym, ◌∙◌, inl, inr, arith}
+use Rattle.std.proofs.Common.{◌≡◌, ℕ, zero, suc, ◌+◌, ◌-◌, ◌%◌, ◌<◌, ◌≤◌, ◌==◌, nat_le, List, length, replicate, take, drop, true, Option, Some, None, is_none, refl, ◌∙◌, inl, inr, arith}
 use Rattle.std.specs.List.{list_all}
 use Rattle.std.proofs.lemmas.Bool.{cases_Bool, and_from, le-leb}
 use Rattle.std.proofs.lemmas.List.{drop-replicate, length-replicate}
 use Rattle.std.proofs.lemmas.Slice.{drop-append-drop}
 use Rattle.us_flows.specs.declared.channels.Channel.{Channel}
-use Rattle.us_replay.specs.Boards.{Owner, Board, empty_board, is_idle_at, assign}
+use Rattle.us_replay.specs.Boards.{Owner, empty_board, is_idle_at, assign}
 use Rattle.us_replay.specs.Placements.{reserved, maintenance}
 use Rattle.us_replay.proofs.BoardLemmas.{length-middle}
 

@@ -1,6 +1,6 @@
 -- The round of one channel and of at most one turn.
-use Rattle.std.proofs.Common.{◌≡◌, ℕ, zero, suc, ◌+◌, ◌-◌, ◌*◌, ◌/◌, ◌<◌, ◌≤◌, ◌==◌, nat_lt, nat_le, List, [], ◌∷◌, ◌++◌, length, map, take, Bool, true, false, ◌&&◌, not, cond, min, Option, Some, None, refl, ap, sym, subst, ◌∙◌, inl, inr, arith}
-use Rattle.std.specs.Prelude.{Result, Ok, Err, IfOk, OnOk, zip, filter, filter_map, flat_map, sum, sum_by, slice_index, option_to_list, IfSome}
+use Rattle.std.proofs.Common.{◌≡◌, ℕ, zero, suc, ◌+◌, ◌-◌, ◌*◌, ◌/◌, ◌<◌, ◌≤◌, ◌==◌, nat_lt, nat_le, List, [], ◌∷◌, ◌++◌, length, map, take, Bool, true, false, ◌&&◌, cond, min, Option, Some, None, refl, ap, sym, subst, ◌∙◌, inl, inr, arith}
+use Rattle.std.specs.Prelude.{Result, Ok, Err, IfOk, OnOk, zip, filter, filter_map, flat_map, slice_index, option_to_list, IfSome}
 use Rattle.std.specs.List.{range_with_len, cons_option}
 use Rattle.std.proofs.Math.Nat.{mul-div_cancel}
 use Rattle.std.proofs.lemmas.Bool.{cases_Bool, cases_lt, cases_eq, eq-eqb, le-leb, lt-ltb, false_from_ne_true, ltb-true, leb-true, eqb-true}
@@ -9,14 +9,14 @@ use Rattle.us_flows.specs.declared.channels.Channel.{Channel}
 use Rattle.us_flows.specs.Tables.{Tables, FlowTable, map_len}
 use Rattle.us_flows.specs.Clusters.{Turn}
 use Rattle.us_replay.specs.Boards.{Board, free_count}
-use Rattle.us_replay.specs.Plans.{Budget, Planned, weight, weights, budget_of, header_bytes, divided, topped_up, plan_of}
+use Rattle.us_replay.specs.Plans.{Budget, weight, weights, budget_of, header_bytes, divided, topped_up, plan_of}
 use Rattle.us_replay.specs.Placements.{Claim, Grant, Build, reserves, claims, claim_on, place, place_all, granted, with_placed}
 use Rattle.us_replay.specs.declared.placing.Placed.{Placed}
 use Rattle.us_replay.specs.declared.seats.Seat.{Seat}
-use Rattle.us_replay.specs.Rounds.{State, ChannelRound, Step, credit_of, pendings, pending_on, first_sid_on, round_with, round_of}
+use Rattle.us_replay.specs.Rounds.{State, ChannelRound, credit_of, pendings, first_sid_on, round_with, round_of}
 use Rattle.us_replay.specs.Seats.{SeatOf, IsSeat, share_of, served, with_served, credit_in, credited, pending_of, rows_of}
 use Rattle.us_flows.specs.Clusters.{Cluster, clusters_of, numbered, turns_of}
-use Rattle.us_replay.specs.Outputs.{Given, given_by, map_of, rows_on}
+use Rattle.us_replay.specs.Outputs.{given_by, map_of, rows_on}
 use Rattle.us_replay.proofs.SeatLemmas.{itself, single}
 
 -- Division over one weight gives the lesser of both.

@@ -1,14 +1,13 @@
 -- The one seat, of the facts of all accepted tables.
-use Rattle.std.proofs.Common.{◌≡◌, ℕ, zero, suc, ◌+◌, ◌<◌, ◌≤◌, ◌==◌, nat_lt, nat_eq, List, [], ◌∷◌, ◌++◌, length, map, Bool, true, false, ◌&&◌, ◌||◌, cond, get_or, Option, Some, None, refl, ap, sym, ◌∙◌, inl, inr, arith}
-use Rattle.std.proofs.lemmas.Bool.{cases_Bool, false_from_ne_true, ltb-true, eqb-true, eq-eqb}
+use Rattle.std.proofs.Common.{◌≡◌, ℕ, ◌<◌, ◌≤◌, ◌==◌, nat_lt, List, [], ◌∷◌, length, Bool, true, false, ◌||◌, get_or, Some, None, refl, ap, sym, ◌∙◌, arith}
+use Rattle.std.proofs.lemmas.Bool.{false_from_ne_true, ltb-true, eqb-true, eq-eqb}
 use Rattle.us_flows.specs.declared.channels.Channel.{Channel}
 use Rattle.us_flows.specs.Tables.{Tables, FlowTable}
-use Rattle.us_flows.specs.Clusters.{Cluster, Turn, clusters_of, numbered, goes_before, in_order, turns_of}
+use Rattle.us_flows.specs.Clusters.{Turn, clusters_of, goes_before, in_order, turns_of}
 use Rattle.us_flows.specs.Lawful.{Between, AreTables, IsFlow}
 use Rattle.std.specs.List.{AllByRecursion, list_any}
 use Rattle.us_replay.specs.Plans.{header_bytes}
-use Rattle.us_replay.specs.declared.seats.Seat.{Seat}
-use Rattle.us_replay.specs.Seats.{IsSeat, SeatOf}
+use Rattle.us_replay.specs.Seats.{SeatOf}
 
 pub single : {A : Type 0} (xs : List A) → length xs ≡ 1 → (x : A) × (xs ≡ x ∷ [])
 single [] h = absurd (omega (arith, h))

@@ -1,5 +1,5 @@
 -- Small boards, computed by the definitions alone.
-use Rattle.std.specs.Prelude.{◌≡◌, ℕ, [], ◌∷◌, Bool, true, false, Option, Some, None, refl}
+use Rattle.std.specs.Prelude.{◌≡◌, ℕ, [], ◌∷◌, true, false, Option, Some, None, refl}
 use Rattle.us_replay.specs.Boards.{Owner, Board, Run, empty_board, is_idle_at, assign, free_count, first_of, earliest_fit, longest_up_to, longest_idle, runs_from, runs_of, changes}
 
 -- a broadcast request

@@ -1,12 +1,12 @@
 -- The outputs (ours): the MAP of each channel and round, the maps file, and the report.
-use Rattle.std.specs.Prelude.{ℕ, ◌+◌, ◌-◌, ◌*◌, ◌/◌, Bool, ◌==◌, nat_le, if◌then◌else◌, List, [], ◌∷◌, ◌++◌, length, map, filter, flat_map, slice_get, slice_index, Option, Some, None}
+use Rattle.std.specs.Prelude.{ℕ, ◌-◌, ◌*◌, ◌/◌, ◌==◌, nat_le, if◌then◌else◌, List, ◌++◌, length, map, filter, flat_map, slice_get, slice_index, Option, Some, None}
 use Rattle.std.specs.List.{range_with_len}
 use Rattle.us_slots.specs.Times.{minislot_ticks}
 use Rattle.us_slots.specs.UsageCodes as codes
 use Rattle.us_codec.specs.declared.heads.Head.{Head}
 use Rattle.us_codec.specs.Elements.{MapElement}
 use Rattle.us_codec.specs.Bodies.{MapBody, body_of, spelling}
-use Rattle.us_codec.specs.MapsFiles.{Piece, maps_file}
+use Rattle.us_codec.specs.MapsFiles.{maps_file}
 use Rattle.us_flows.specs.declared.channels.Channel.{Channel}
 use Rattle.us_flows.specs.Tables.{Tables, map_len}
 use Rattle.us_flows.specs.Clusters.{Turn, clusters_of, numbered}

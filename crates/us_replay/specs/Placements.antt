@@ -1,12 +1,12 @@
 -- Placing (ours): the reserves of a MAP, and where each share is granted on its channel.
-use Rattle.std.specs.Prelude.{ℕ, ◌+◌, ◌-◌, ◌%◌, Bool, ◌==◌, nat_lt, nat_le, ◌&&◌, if◌then◌else◌, List, [], ◌∷◌, ◌++◌, length, zip, filter_map, flat_map, Option, Some, None, option_map, option_and_then}
+use Rattle.std.specs.Prelude.{ℕ, ◌+◌, ◌-◌, ◌%◌, ◌==◌, nat_lt, nat_le, ◌&&◌, if◌then◌else◌, List, [], ◌∷◌, ◌++◌, length, zip, filter_map, Option, Some, None, option_map, option_and_then}
 use Rattle.std.specs.Option.{option_or}
 use Rattle.us_slots.specs.UsageCodes as codes
 use Rattle.us_slots.specs.Bursts.{ChannelBursts, grant_cost}
 use Rattle.us_slots.specs.Capacities.{capacity_of}
 use Rattle.us_flows.specs.declared.channels.Channel.{Channel}
 use Rattle.us_flows.specs.Clusters.{Turn}
-use Rattle.us_replay.specs.Boards.{max_assignments, Owner, Board, empty_board, assign, earliest_fit, longest_idle}
+use Rattle.us_replay.specs.Boards.{max_assignments, Board, empty_board, assign, earliest_fit, longest_idle}
 use Rattle.us_replay.specs.Plans.{Planned, header_bytes}
 use Rattle.us_replay.specs.declared.placing.Placed.{Placed}
 use Rattle.us_replay.specs.declared.placing.Spot.{Spot}

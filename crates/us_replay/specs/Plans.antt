@@ -1,5 +1,5 @@
 -- The plan of a round (ours): how many bytes each turn may send on each of its flow's channels.
-use Rattle.std.specs.Prelude.{ℕ, ◌+◌, ◌-◌, ◌*◌, ◌/◌, Bool, ◌==◌, nat_lt, nat_le, ◌&&◌, ◌||◌, not, if◌then◌else◌, List, [], ◌∷◌, map, zip, find, sum, slice_index, Option, Some, None}
+use Rattle.std.specs.Prelude.{ℕ, ◌+◌, ◌-◌, ◌*◌, ◌/◌, ◌==◌, nat_lt, nat_le, ◌&&◌, ◌||◌, not, if◌then◌else◌, List, [], ◌∷◌, map, zip, find, sum, slice_index, Option, Some, None}
 use Rattle.us_slots.specs.Bursts.{grant_cost}
 use Rattle.us_slots.specs.Capacities.{capacity_of}
 use Rattle.us_flows.specs.declared.channels.Channel.{Channel}

@@ -1,5 +1,5 @@
 -- Replays (ours): what a run writes, and what stands after it ended early.
-use Rattle.std.specs.Prelude.{◌≡◌, ℕ, ◌+◌, ◌≤◌, List, [], ◌∷◌, ◌++◌, length, map, flat_map, count_by, take, Bool, true, false, Option, None, Result, Ok, Err}
+use Rattle.std.specs.Prelude.{◌≡◌, ℕ, ◌≤◌, List, [], ◌∷◌, ◌++◌, length, map, flat_map, count_by, take, Bool, true, false, Option, None, Result, Ok, Err}
 use Rattle.std.specs.List.{range_with_len}
 use Rattle.std.specs.Io.KnownBytes.{Appends}
 use Rattle.us_flows.specs.Tables.{Tables, rounds_fit}
@@ -14,7 +14,7 @@ use Rattle.us_replay.specs.declared.lines.Row.TheVariants as rows
 use Rattle.us_replay.specs.declared.summaries.Summary.{Summary}
 use Rattle.us_replay.specs.declared.faults.RunFault.{RunFault}
 use Rattle.us_replay.specs.declared.faults.RunFault.TheVariants as fault
-use Rattle.us_replay.specs.Rounds.{State, RoundOut, opening, schedule, final}
+use Rattle.us_replay.specs.Rounds.{opening, schedule, final}
 use Rattle.us_replay.specs.Outputs.{Given, given_by, records, round_lines, lines, final_rows, counts_row}
 
 -- What a run gives.

@@ -1,11 +1,11 @@
 -- A round of a bonding group (ours), and the schedule, round after round.
-use Rattle.std.specs.Prelude.{ℕ, ◌+◌, ◌-◌, Bool, ◌==◌, nat_lt, ◌&&◌, if◌then◌else◌, List, [], ◌∷◌, length, replicate, map, filter, filter_map, flat_map, sum_by, sum, zip, take, slice_index, Option, Some, None}
+use Rattle.std.specs.Prelude.{ℕ, ◌+◌, ◌-◌, ◌==◌, nat_lt, ◌&&◌, if◌then◌else◌, List, [], ◌∷◌, length, replicate, map, filter, filter_map, sum_by, zip, take, slice_index, Option, Some, None}
 use Rattle.us_flows.specs.declared.channels.Channel.{Channel}
 use Rattle.us_flows.specs.Tables.{Tables, map_len}
 use Rattle.us_flows.specs.Clusters.{Turn, clusters_of, turns_of}
 use Rattle.us_replay.specs.Boards.{Board, free_count}
 use Rattle.us_replay.specs.Plans.{Budget, Planned, plan_of}
-use Rattle.us_replay.specs.Placements.{Grant, Build, reserves, claims, place_all}
+use Rattle.us_replay.specs.Placements.{Build, reserves, claims, place_all}
 
 -- what a round starts from: its number, and the outstanding bytes of each cluster
 pub record State : Type 0 where

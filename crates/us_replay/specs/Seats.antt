@@ -1,6 +1,6 @@
 -- So far a run has one channel, and at most one cluster that asks: what a round of these comes to. That this is the
 -- round of `Rounds` is proved.
-use Rattle.std.specs.Prelude.{◌≡◌, ℕ, ◌+◌, ◌-◌, ◌^◌, ◌<◌, nat_lt, ◌==◌, ◌&&◌, if◌then◌else◌, min, List, [], ◌∷◌, Option, Some, None}
+use Rattle.std.specs.Prelude.{◌≡◌, ℕ, ◌-◌, ◌^◌, ◌<◌, nat_lt, ◌==◌, ◌&&◌, if◌then◌else◌, min, List, [], ◌∷◌, Option, Some, None}
 use Rattle.us_flows.specs.declared.channels.Channel.{Channel}
 use Rattle.us_flows.specs.Tables.{Tables}
 use Rattle.us_flows.specs.Clusters.{Turn, clusters_of, numbered, turns_of}

@@ -1,4 +1,4 @@
-use Rattle.std.proofs.Common.{◌≡◌, ◌==◌, ◌∙◌, false, Bool, ◌-◌}
+use Rattle.std.proofs.Common.{◌≡◌, ◌==◌, ◌∙◌, false, ◌-◌}
 use Rattle.std.proofs.lemmas.Bool.{false_from_ne_true, eqb-true}
 use Rattle.us_slots.specs.Bursts.{burst_cost}
 use Rattle.us_slots.specs.Capacities.{IsCapacity}

@@ -1,8 +1,8 @@
-use Rattle.std.proofs.Common.{◌≡◌, ◌+◌, ◌*◌, ◌<◌, ◌≤◌, ℕ, List, Option, sum_by, sym, ap, subst, ◌∙◌, arith}
+use Rattle.std.proofs.Common.{◌≡◌, ◌+◌, ◌*◌, ◌<◌, ◌≤◌, ℕ, sum_by, sym, ap, subst, ◌∙◌, arith}
 use Rattle.std.specs.List.{AllByRecursion}
 use Rattle.us_flows.specs.Tables.{Tables, max_run_ticks}
 use Rattle.us_requests.specs.Traces.{TraceAsks}
-use Rattle.us_replay.specs.Replays.{Output, Ran}
+use Rattle.us_replay.specs.Replays.{Ran}
 use Rattle.us_replay.specs.Progress.{Progress, after_round, after_last, summary_after}
 use Rattle.us_replay.proofs.ReplayStopLemmas.{passed-on, so-far-at, nothing-yet, EndsBetween, stops-between, sent-stops, round-part, last-part, sent-round, sent-last, flush-stops, flushed-all}
 use Rattle.us_replay.proofs.LoopLemmas.{Along, output, along-opening, along-next, texts-here, some-next, texts-last, length-given, summary-is, room-next, time-next}

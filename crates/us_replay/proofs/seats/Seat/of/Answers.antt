@@ -1,4 +1,4 @@
-use Rattle.std.proofs.Common.{◌≡◌, refl, ap, sym, ◌∙◌, true, false, Bool, cond, ℕ}
+use Rattle.std.proofs.Common.{◌≡◌, refl, sym, ◌∙◌, cond}
 use Rattle.us_replay.proofs.SeatLemmas.{no_seat, without, flow_sids, seat_here}
 use Rattle.us_replay.proofs.seats.Seat.of.Goals as goal
 

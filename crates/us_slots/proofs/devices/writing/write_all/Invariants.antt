@@ -1,4 +1,4 @@
-use Rattle.std.proofs.Common.{length, take, ◌-◌, ◌≡◌, false, ℕ, ◌≤◌}
+use Rattle.std.proofs.Common.{length, take, ◌-◌, ◌≡◌, false, ◌≤◌}
 use Rattle.std.specs.Io.KnownBytes.{Appends}
 use Rattle.us_slots.proofs.devices.writing.write_all.Given as goal
 
