@@ -139,25 +139,25 @@ fn print_maps<O: Sink>(alloc: Global, file: &[u8], output: &mut O) -> Result<(),
     Ok(())
 }
 
-/// Prints the lines of the MAP in a record of a maps file, which has this index.
+/// Prints the lines of the MAP in a record of a maps file: the record with this index, by its place.
 fn print_record<O: Sink>(
     alloc: Global,
     file: &[u8],
     index: usize,
-    record: Record,
+    place: Record,
     output: &mut O,
 ) -> Result<(), Fault>
     requires ready { O.failed output.old ≡ false }
-    requires within { (record.from ≤ record.to) × (record.to ≤ length file.now) }
-    ensures printed { OnOk result ((map : MapBody) × SpellsMap (slice_range file.now record.from record.to) map ×
+    requires within { (place.from ≤ place.to) × (place.to ≤ length file.now) }
+    ensures printed { OnOk result ((map : MapBody) × SpellsMap (slice_range file.now place.from place.to) map ×
         Appends (O.contents output.old) (O.contents output.new)
-        (lines_of record.round map.head.channel map.elements)) }
+        (lines_of place.round map.head.channel map.elements)) }
     ensures failed { (O.failed output.new ≡ true) ↔ (result ≡ Err (fault.Device stream.Output)) }
     ensures fault { IfErr result IsPrintFault }
 {
-    match decode(alloc, &file[record.from..record.to]) {
+    match decode(alloc, &file[place.from..place.to]) {
         Ok(map) => {
-            let lines = map_lines(alloc, record.round, &map)?;
+            let lines = map_lines(alloc, place.round, &map)?;
             print(output, lines.as_str().as_bytes())
         }
         Err(fault) => Err(Fault::Map(fault, index)),
