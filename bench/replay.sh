@@ -1,6 +1,6 @@
 #!/usr/bin/env bash
 # Times mapsim on 1,000,000 requests over 100,000 rounds of one channel, ten requests a round. A benchmark and no test:
-# it prints what GNU time measured (seconds, and the most memory in KB), and the summary.
+# it prints what GNU time measured (seconds, and the most memory in KB), or the shell's own times, and the summary.
 # usage: bench/replay.sh [PROGRAM], the program being crates/mapsim/out/mapsim where none is named
 set -eu
 top=$(cd "$(dirname "$0")/.." && pwd)
@@ -15,8 +15,13 @@ awk -v OFS=, 'BEGIN {
 }' > "$work/trace.csv"
 ls -l "$work/trace.csv" | awk '{ print "trace", $5, "bytes" }'
 
-measure="/usr/bin/time -f %e_s_%M_KB"
-[ -x /usr/bin/time ] || measure=time
-$measure "$program" replay --config "$top/examples/base.toml" --trace "$work/trace.csv" --rounds 100000 \
-  --maps "$work/maps" --report "$work/report"
+replay() {
+  "$@" "$program" replay --config "$top/examples/base.toml" --trace "$work/trace.csv" --rounds 100000 \
+    --maps "$work/maps" --report "$work/report"
+}
+if [ -x /usr/bin/time ]; then
+  replay /usr/bin/time -f '%e s, %M KB'
+else
+  time replay env
+fi
 ls -l "$work/maps" "$work/report" | awk '{ print $9, $5, "bytes" }' | sed "s|$work/||"
