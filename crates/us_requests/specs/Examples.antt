@@ -93,7 +93,7 @@ headers = refl
 abbrev row : List ℕ → List ℕ → Record
 row sid units = codes "0" ∷ codes "1" ∷ sid ∷ units ∷ []
 
--- the greatest values, and one over; eleven digits; no digit; no four fields
+-- the greatest values, and one over; eleven digits; no digit; no four fields; the last record, and one more
 row_faults :
     (first_of (row_checks 2 (codes "4294967295" ∷ codes "255" ∷ codes "16383" ∷ codes "65535" ∷ [])) ∷
     first_of (row_checks 2 (row (codes "291") (codes "65536"))) ∷
@@ -102,9 +102,10 @@ row_faults :
     first_of (row_checks 2 (row (codes "291") (codes "x"))) ∷
     first_of (row_checks 2 (row (codes "291") [])) ∷
     first_of (row_checks 4 (codes "x" ∷ codes "1" ∷ [])) ∷
+    first_of (row_checks 1000001 (row (codes "291") (codes "1"))) ∷
     first_of (row_checks 1000002 (codes "x" ∷ codes "1" ∷ [])) ∷ []) ≡
     None ∷ Some (Number 2) ∷ Some (Number 3) ∷ Some (Number 2) ∷ Some (Number 2) ∷ Some (Number 2) ∷ Some (Fields 4) ∷
-    Some TooLarge ∷ []
+    None ∷ Some TooLarge ∷ []
 unfolding are_numbers number_from
 row_faults = refl
 
