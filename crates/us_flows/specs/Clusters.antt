@@ -1,7 +1,10 @@
--- SID clusters: which cluster a SID asks for, and in which order clusters have their turns.
-use Rattle.std.specs.Prelude.{ℕ, ◌+◌, List, [], ◌∷◌, length, zip, flat_map, filter, count_by, position, Bool, ◌==◌, nat_lt, ◌&&◌, ◌||◌, Option, option_map}
+-- SID clusters: which of them make requests, what a SID asks for, and in which order clusters have their turns.
+use Rattle.std.specs.Prelude.{ℕ, ◌+◌, List, [], ◌∷◌, length, zip, flat_map, filter, count_by, position, Bool, true, false, not, ◌==◌, nat_lt, ◌&&◌, ◌||◌, if◌then◌else◌, Option, Some, None, option_map}
 use Rattle.std.specs.List.{list_any, range_with_len}
+use Rattle.std.specs.Option.{option_or}
 use Rattle.us_flows.specs.Tables.{Tables, FlowTable}
+use Rattle.us_flows.specs.declared.flows.SchedulingType.{SchedulingType}
+use Rattle.us_flows.specs.declared.flows.SchedulingType.TheVariants.{BestEffort, NonRealTimePolling, RealTimePolling, UnsolicitedGrant}
 use Rattle.us_flows.specs.declared.found.Found.{Found}
 use Rattle.us_flows.specs.declared.found.Found.TheVariants as found
 
@@ -18,18 +21,46 @@ clusters_from flow list [] = []
 clusters_from flow list (sids ∷ rest) =
     record { flow = flow; list = list; sids = sids } ∷ clusters_from flow (list + 1) rest
 
--- all clusters that make requests, in table order; the number of a cluster is its place here
+-- whether flows of a scheduling type make requests: all but those with unsolicited grants
+abbrev pub makes_requests : SchedulingType → Bool
+makes_requests BestEffort = true
+makes_requests NonRealTimePolling = true
+makes_requests RealTimePolling = true
+makes_requests UnsolicitedGrant = false
+
+-- and whether they are polled, or have unsolicited grants, at intervals: all but best effort
+abbrev pub has_intervals : SchedulingType → Bool
+has_intervals BestEffort = false
+has_intervals NonRealTimePolling = true
+has_intervals RealTimePolling = true
+has_intervals UnsolicitedGrant = true
+
+-- the clusters of a flow that make requests
+abbrev pub requesting : FlowTable → List Cluster
+requesting flow = if makes_requests flow.kind then clusters_from flow 0 flow.clusters else []
+
+-- all of them in table order; the number of a cluster is its place here
 abbrev pub clusters_of : Tables → List Cluster
-clusters_of t = flat_map (λ flow. clusters_from flow 0 flow.clusters) t.flows
+clusters_of t = flat_map requesting t.flows
 
 -- whether a cluster has this SID on this channel
 abbrev pub has_sid : ℕ → ℕ → Cluster → Bool
 has_sid channel sid cluster = list_any (λ pair. (pair.0 == channel) && (pair.1 == sid))
     (zip cluster.flow.channels cluster.sids)
 
--- what a SID asks for on a channel
+-- whether a flow with unsolicited grants has this SID on this channel
+abbrev pub is_unsolicited : ℕ → ℕ → FlowTable → Bool
+is_unsolicited channel sid flow =
+    not (makes_requests flow.kind) && list_any (has_sid channel sid) (clusters_from flow 0 flow.clusters)
+
+-- what a SID asks for on a channel: the cluster that has it, by its number, or else an unsolicited grant
+abbrev pub found_among : List FlowTable → ℕ → ℕ → Option Found
+found_among flows channel sid =
+    option_or (option_map found.Cluster (position (has_sid channel sid) (flat_map requesting flows)))
+    (if list_any (is_unsolicited channel sid) flows then Some found.Unsolicited else None)
+
 unfoldable pub lookup : Tables → ℕ → ℕ → Option Found
-lookup t channel sid = option_map found.Cluster (position (has_sid channel sid) (clusters_of t))
+lookup t channel sid = found_among t.flows channel sid
 
 -- a turn of a round (ours): a cluster and its number
 pub record Turn : Type 0 where

@@ -1,18 +1,19 @@
 -- Small documents, computed by the definitions alone.
-use Rattle.std.specs.Prelude.{◌≡◌, ℕ, ◌+◌, pos, true, false, if◌then◌else◌, List, [], ◌∷◌, map, codes, Option, Some, None, refl}
+use Rattle.std.specs.Prelude.{◌≡◌, ℕ, ◌+◌, pos, true, false, if◌then◌else◌, List, [], ◌∷◌, map, codes, Option, Some, None, option_map, refl}
 use Rattle.std.specs.Str.{bytes_eq}
 use Rattle.toml.specs.Data.{Data, integer, boolean, array, table, Items, no_items, item, Members, no_members, member}
-use Rattle.us_slots.specs.Bursts.{BurstProfile}
-use Rattle.us_flows.specs.declared.found.Found.TheVariants.{Cluster}
-use Rattle.us_flows.specs.declared.flows.SchedulingType.TheVariants.{BestEffort}
+use Rattle.us_slots.specs.Bursts.{BurstProfile, burst_cost, coded_length}
+use Rattle.us_flows.specs.declared.found.Found.TheVariants.{Cluster, Unsolicited}
+use Rattle.us_flows.specs.declared.flows.SchedulingType.TheVariants.{BestEffort, NonRealTimePolling, RealTimePolling, UnsolicitedGrant}
 use Rattle.us_flows.specs.declared.faults.Place.{Place}
 use Rattle.us_flows.specs.declared.faults.TableName.TheVariants as name
 use Rattle.us_flows.specs.declared.faults.ConfigFault.{ConfigFault}
-use Rattle.us_flows.specs.declared.faults.ConfigFault.TheVariants.{Missing, Range, UnknownChannel, ClusterLength, RoundNotMultiple, ReservesTooLong}
+use Rattle.us_flows.specs.declared.faults.ConfigFault.TheVariants.{Missing, Range, UnknownChannel, DuplicateId, DuplicateSid, ClusterLength, RoundNotMultiple, ReservesTooLong, Jitter, GrantLongerThanMap, Headers}
 use Rattle.us_flows.specs.Tables.{Tables, FlowTable, rounds_fit}
 use Rattle.us_flows.specs.Clusters.{lookup, turns_of}
-use Rattle.us_flows.specs.Keys.{top_keys, channel_keys, profile_keys, short_keys, flow_keys}
-use Rattle.us_flows.specs.Checks.{top, channel_lacks, channel_strays, channel_fault, flow_fault, first_fault}
+use Rattle.us_flows.specs.Turns.{turn_at}
+use Rattle.us_flows.specs.Keys.{top_keys, channel_keys, profile_keys, short_keys, best_effort_keys, polling_keys, unsolicited_keys, station_keys}
+use Rattle.us_flows.specs.Checks.{top, channel_lacks, channel_strays, channel_fault, flow_fault, station_fault, first_fault}
 use Rattle.us_flows.specs.Reading.{tables_of}
 
 -- a table with another value of a key, or with one key more; and one without a key
@@ -64,18 +65,45 @@ base_flow =
     (member (codes "burst") (number 3044) (member (codes "unit") (number 4)
     (member (codes "headers") (boolean true) no_members))))))))
 
+-- a flow that is polled, one with unsolicited grants, and a station
+abbrev pub with_intervals : Members → Members
+with_intervals t =
+    with_key (codes "start_us") (number 0) (with_key (codes "interval_us") (number 2000)
+    (with_key (codes "jitter_us") (number 1000) t))
+
+abbrev pub polled_flow : Members
+polled_flow = with_intervals (with_key (codes "type") (number 4) base_flow)
+
+abbrev pub granted_flow : Members
+granted_flow =
+    with_intervals
+    (member (codes "id") (number 2) (member (codes "type") (number 6)
+    (member (codes "channels") (array (numbers (1 ∷ [])))
+    (member (codes "clusters") (array (item (array (numbers (300 ∷ []))) no_items))
+    (member (codes "grant_bytes") (number 200) (member (codes "grants_per_interval") (number 1) no_members))))))
+
+abbrev pub base_station : Members
+base_station =
+    with_intervals
+    (member (codes "id") (number 1) (member (codes "channel") (number 1) (member (codes "sid") (number 291) no_members)))
+
 abbrev pub document : List Members → List Members → Members
 document channels flows =
     member (codes "round_ticks") (number 320) (member (codes "lead_ticks") (number 160)
     (member (codes "channel") (array (tables channels)) (member (codes "flow") (array (tables flows)) no_members)))
+
+abbrev pub with_stations : List Members → Members
+with_stations stations =
+    with_key (codes "station") (array (tables stations)) (document (base_channel ∷ []) (base_flow ∷ granted_flow ∷ []))
 
 abbrev pub base : Members
 base = document (base_channel ∷ []) (base_flow ∷ [])
 
 -- it has no fault, and writes these tables
 no_fault : first_fault base ≡ None
-unfolding first_fault channel_fault channel_lacks channel_strays flow_fault
-    top_keys channel_keys profile_keys short_keys flow_keys
+unfolding first_fault channel_fault channel_lacks channel_strays flow_fault station_fault
+    top_keys channel_keys profile_keys short_keys best_effort_keys polling_keys unsolicited_keys station_keys
+    burst_cost coded_length
 no_fault = refl
 
 abbrev pub plain_profile : BurstProfile
@@ -113,7 +141,13 @@ base_tables = record {
     burst = 3044;
     unit = 4;
     headers = true;
+    start_us = 0;
+    interval_us = 0;
+    jitter_us = 0;
+    grant_bytes = 0;
+    grants_per_interval = 0;
   } ∷ [];
+  stations = [];
 }
 
 written : tables_of base ≡ base_tables
@@ -141,17 +175,17 @@ top_faults :
     (top_with (codes "round_ticks") (number 4097) ≡ Some (Range top)) ×
     (top_with (codes "round_ticks") (boolean true) ≡ Some (Range top)) ×
     (top_with (codes "other") (number 1) ≡ Some (Range top)) ×
-    -- two channels, and two flows
-    (first_fault (document (base_channel ∷ base_channel ∷ []) []) ≡ Some (Range top)) ×
-    (first_fault (document (base_channel ∷ []) (base_flow ∷ base_flow ∷ [])) ≡ Some (Range top)) ×
+    -- no channel
+    (first_fault (document [] []) ≡ Some (Range top)) ×
     -- a flow that is no table
     (top_with (codes "flow") (array (numbers (7 ∷ []))) ≡ Some (Range top)) ×
     -- no flow, by an empty list and by no key
     (first_fault (document (base_channel ∷ []) []) ≡ None) ×
     (first_fault (without_key (codes "flow") base) ≡ None)
-unfolding first_fault channel_fault channel_lacks channel_strays flow_fault
-    top_keys channel_keys profile_keys short_keys flow_keys
-top_faults = (refl, refl, refl, refl, refl, refl, refl, refl, refl)
+unfolding first_fault channel_fault channel_lacks channel_strays flow_fault station_fault
+    top_keys channel_keys profile_keys short_keys best_effort_keys polling_keys unsolicited_keys station_keys
+    burst_cost coded_length
+top_faults = (refl, refl, refl, refl, refl, refl, refl, refl)
 
 -- the base profile with this T and K
 abbrev pub codewords : ℕ → ℕ → Data
@@ -174,10 +208,14 @@ channel_faults :
     (top_with (codes "round_ticks") (number 321) ≡ Some (RoundNotMultiple channel)) ×
     (channel_with (codes "minislot_log2") (number 7) ≡ Some (RoundNotMultiple channel)) ×
     (channel_with (codes "contention_minislots") (number 160) ≡ None) ×
-    (channel_with (codes "contention_minislots") (number 161) ≡ Some (ReservesTooLong channel))
-unfolding first_fault channel_fault channel_lacks channel_strays flow_fault
-    top_keys channel_keys profile_keys short_keys flow_keys
-channel_faults = (refl, refl, refl, refl, refl, refl, refl, refl, refl, refl, refl, refl)
+    (channel_with (codes "contention_minislots") (number 161) ≡ Some (ReservesTooLong channel)) ×
+    -- an id that is there twice
+    (first_fault (document (base_channel ∷ base_channel ∷ []) []) ≡
+        Some (DuplicateId (record { table = name.Channel; index = 1 })))
+unfolding first_fault channel_fault channel_lacks channel_strays flow_fault station_fault
+    top_keys channel_keys profile_keys short_keys best_effort_keys polling_keys unsolicited_keys station_keys
+    burst_cost coded_length
+channel_faults = (refl, refl, refl, refl, refl, refl, refl, refl, refl, refl, refl, refl, refl)
 
 -- a list of one list
 abbrev pub cluster : List ℕ → Data
@@ -202,9 +240,101 @@ flow_faults :
     (flow_with (codes "clusters") (cluster []) ≡ Some (ClusterLength flow)) ×
     -- an unknown channel before the length of a cluster
     (first_fault (document (base_channel ∷ []) (lost ∷ [])) ≡ Some (UnknownChannel flow))
-unfolding first_fault channel_fault channel_lacks channel_strays flow_fault
-    top_keys channel_keys profile_keys short_keys flow_keys
+unfolding first_fault channel_fault channel_lacks channel_strays flow_fault station_fault
+    top_keys channel_keys profile_keys short_keys best_effort_keys polling_keys unsolicited_keys station_keys
+    burst_cost coded_length
 flow_faults = (refl, refl, refl, refl, refl, refl, refl, refl, refl)
+
+-- a second flow, behind the base flow
+abbrev pub second_with : Members → Option ConfigFault
+second_with flow = first_fault (document (base_channel ∷ []) (base_flow ∷ flow ∷ []))
+
+abbrev pub second : Place
+second = record { table = name.Flow; index = 1 }
+
+-- the flow with unsolicited grants, with another value
+abbrev pub granted_with : List ℕ → Data → Option ConfigFault
+granted_with key d = second_with (with_key key d granted_flow)
+
+-- a flow on two channels, of which the second doesn't exist; and one on the same channel twice
+abbrev pub on_channels : List ℕ → Members
+on_channels ids =
+    with_key (codes "channels") (array (numbers ids))
+    (with_key (codes "clusters") (cluster (400 ∷ 401 ∷ [])) (with_key (codes "id") (number 3) base_flow))
+
+-- a flow of two clusters
+abbrev pub two_lists : List ℕ → List ℕ → Members
+two_lists one other =
+    with_key (codes "clusters") (array (item (array (numbers one)) (item (array (numbers other)) no_items)))
+    (with_key (codes "id") (number 3) base_flow)
+
+flows_beside :
+    (second_with granted_flow ≡ None) ×
+    (second_with base_flow ≡ Some (DuplicateId second)) ×
+    (second_with (on_channels (1 ∷ 1 ∷ [])) ≡ Some (DuplicateId second)) ×
+    (second_with (on_channels (1 ∷ 2 ∷ [])) ≡ Some (UnknownChannel second)) ×
+    (granted_with (codes "clusters") (cluster (291 ∷ [])) ≡ Some (DuplicateSid second)) ×
+    (granted_with (codes "priority") (number 0) ≡ Some (Range second)) ×
+    (granted_with (codes "jitter_us") (number 2000) ≡ Some (Jitter second)) ×
+    (granted_with (codes "jitter_us") (number 1999) ≡ None) ×
+    -- two clusters with one SID; and a taken SID in a cluster of another length, which is found before it
+    (second_with (two_lists (400 ∷ []) (400 ∷ [])) ≡ Some (DuplicateSid second)) ×
+    (second_with (two_lists (291 ∷ []) (400 ∷ 401 ∷ [])) ≡ Some (ClusterLength second)) ×
+    -- the MAP has 160 minislots of 64 symbols: without preamble and guard time 10,208 symbols, and so 5,104 bytes
+    (granted_with (codes "grant_bytes") (number 5104) ≡ None) ×
+    (granted_with (codes "grant_bytes") (number 5105) ≡ Some (GrantLongerThanMap second))
+unfolding first_fault channel_fault channel_lacks channel_strays flow_fault station_fault
+    top_keys channel_keys profile_keys short_keys best_effort_keys polling_keys unsolicited_keys station_keys
+    burst_cost coded_length
+flows_beside = (refl, refl, refl, refl, refl, refl, refl, refl, refl, refl, refl, refl)
+
+-- a flow that is polled has a schedule, and one of best effort has none
+-- a round of one minislot, without a contention reserve
+abbrev pub short_round : List Members → List Members → Members
+short_round flows stations =
+    with_key (codes "round_ticks") (number 2) (with_key (codes "station") (array (tables stations))
+    (document (with_key (codes "contention_minislots") (number 0) base_channel ∷ []) flows))
+
+schedules :
+    (first_fault (document (base_channel ∷ []) (polled_flow ∷ [])) ≡ None) ×
+    (first_fault (document (base_channel ∷ []) (with_key (codes "type") (number 2) polled_flow ∷ [])) ≡ Some (Range flow)) ×
+    (first_fault (document (base_channel ∷ []) (with_key (codes "type") (number 3) base_flow ∷ [])) ≡ Some (Missing flow)) ×
+    -- a poll of 2 minislots, and maintenance of 4, in a MAP of one
+    (first_fault (short_round (polled_flow ∷ []) []) ≡ Some (GrantLongerThanMap flow)) ×
+    (first_fault (short_round (base_flow ∷ []) (base_station ∷ [])) ≡
+        Some (GrantLongerThanMap (record { table = name.Station; index = 0 })))
+unfolding first_fault channel_fault channel_lacks channel_strays flow_fault station_fault
+    top_keys channel_keys profile_keys short_keys best_effort_keys polling_keys unsolicited_keys station_keys
+    burst_cost coded_length
+schedules = (refl, refl, refl, refl, refl)
+
+-- without segment headers on two channels
+abbrev pub other_channel : Members
+other_channel = with_key (codes "id") (number 2) base_channel
+
+headers_wanted :
+    first_fault
+    (document (base_channel ∷ other_channel ∷ []) (with_key (codes "headers") (boolean false) (on_channels (2 ∷ 1 ∷ [])) ∷ []))
+    ≡ Some (Headers flow)
+unfolding first_fault channel_fault channel_lacks channel_strays flow_fault station_fault
+    top_keys channel_keys profile_keys short_keys best_effort_keys polling_keys unsolicited_keys station_keys
+    burst_cost coded_length
+headers_wanted = refl
+
+-- stations: one with a flow's SID, two of one id, one on no channel, and one whose jitter is its interval
+abbrev pub station : ℕ → Place
+station index = record { table = name.Station; index = index }
+
+station_faults :
+    (first_fault (with_stations (base_station ∷ [])) ≡ None) ×
+    (first_fault (with_stations (base_station ∷ base_station ∷ [])) ≡ Some (DuplicateId (station 1))) ×
+    (first_fault (with_stations (with_key (codes "channel") (number 9) base_station ∷ [])) ≡ Some (UnknownChannel (station 0))) ×
+    (first_fault (with_stations (with_key (codes "jitter_us") (number 2000) base_station ∷ [])) ≡ Some (Jitter (station 0))) ×
+    (first_fault (with_stations (without_key (codes "sid") base_station ∷ [])) ≡ Some (Missing (station 0)))
+unfolding first_fault channel_fault channel_lacks channel_strays flow_fault station_fault
+    top_keys channel_keys profile_keys short_keys best_effort_keys polling_keys unsolicited_keys station_keys
+    burst_cost coded_length
+station_faults = (refl, refl, refl, refl, refl)
 
 -- SIDs and runs
 found : (lookup base_tables 1 291 ≡ Some (Cluster 0)) × (lookup base_tables 2 291 ≡
@@ -228,11 +358,40 @@ two_clusters id priority = record {
   burst = 3044;
   unit = 1;
   headers = true;
+  start_us = 0;
+  interval_us = 0;
+  jitter_us = 0;
+  grant_bytes = 0;
+  grants_per_interval = 0;
 }
 
+-- one with unsolicited grants, whose cluster has no number and no turn
+abbrev pub granted : FlowTable
+granted = record (two_clusters 7 0) {
+  kind = UnsolicitedGrant;
+  clusters = (500 ∷ []) ∷ [];
+  interval_us = 2000;
+  grant_bytes = 200;
+  grants_per_interval = 1;
+}
+
+abbrev pub four_tables : Tables
+four_tables = record base_tables { flows = two_clusters 9 1 ∷ granted ∷ two_clusters 8 1 ∷ two_clusters 10 2 ∷ [] }
+
+found_among_four :
+    (lookup four_tables 1 19 ≡ Some (Cluster 1)) × (lookup four_tables 1 500 ≡ Some Unsolicited) ×
+    (lookup four_tables 1 8 ≡ Some (Cluster 2)) × (lookup four_tables 2 500 ≡ None)
+unfolding lookup
+found_among_four = (refl, refl, refl, refl)
+
 -- priority falling, then id rising, then the clusters of the flow in order
-three_flows : map (λ turn. turn.number)
-    (turns_of (record base_tables { flows = two_clusters 9 1 ∷ two_clusters 8 1 ∷ two_clusters 10 2 ∷ [] })) ≡
-    4 ∷ 5 ∷ 2 ∷ 3 ∷ 0 ∷ 1 ∷ []
+three_flows : map (λ turn. turn.number) (turns_of four_tables) ≡ 4 ∷ 5 ∷ 2 ∷ 3 ∷ 0 ∷ 1 ∷ []
 unfolding turns_of
 three_flows = refl
+
+-- the places of the first of these turns, and places where there is no cluster
+places :
+    (option_map (λ turn. turn.cluster.flow.id) (turn_at four_tables (record { flow = 3; list = 0; cluster = 4 })) ≡ Some 10) ×
+    (turn_at four_tables (record { flow = 3; list = 2; cluster = 4 }) ≡ None) ×
+    (turn_at four_tables (record { flow = 4; list = 0; cluster = 4 }) ≡ None)
+places = (refl, refl, refl)

@@ -1,8 +1,9 @@
 -- The keys of each table of a configuration, and the rule of each value: of two numbers the first is the least and the
--- second the greatest. So far there is one channel, at most one flow, and a flow has type 2, one channel, one cluster
--- and no limit of its rate.
+-- second the greatest.
 use Rattle.std.specs.Prelude.{ℕ, List, [], ◌∷◌, map, codes}
 use Rattle.std.specs.Borrow.{Bor}
+use Rattle.us_flows.specs.declared.flows.SchedulingType.{SchedulingType}
+use Rattle.us_flows.specs.declared.flows.SchedulingType.TheVariants.{BestEffort, NonRealTimePolling, RealTimePolling, UnsolicitedGrant}
 use Rattle.us_flows.specs.declared.keys.Rule.{Rule}
 use Rattle.us_flows.specs.declared.keys.Rule.TheVariants as rule
 
@@ -18,8 +19,9 @@ unfoldable pub top_keys : List Key
 top_keys =
     (codes "round_ticks", rule.Number 1 4096) ∷
     (codes "lead_ticks", rule.Number 1 65536) ∷
-    (codes "channel", rule.Tables 1 1) ∷
-    (codes "flow", rule.Tables 0 1) ∷ []
+    (codes "channel", rule.Tables 1 16) ∷
+    (codes "flow", rule.Tables 0 1024) ∷
+    (codes "station", rule.Tables 0 256) ∷ []
 
 unfoldable pub channel_keys : List Key
 channel_keys =
@@ -58,14 +60,60 @@ short_keys =
     (codes "shortened", rule.Flag) ∷
     (codes "max_minislots", rule.Number 1 255) ∷ []
 
-unfoldable pub flow_keys : List Key
-flow_keys =
+-- a flow of best effort
+unfoldable pub best_effort_keys : List Key
+best_effort_keys =
     (codes "id", rule.Number 1 65535) ∷
-    (codes "type", rule.Number 2 2) ∷
-    (codes "channels", rule.Numbers 1 1 1 255) ∷
-    (codes "clusters", rule.Lists 1 1 1 15871) ∷
+    (codes "type", rule.Type) ∷
+    (codes "channels", rule.Numbers 1 8 1 255) ∷
+    (codes "clusters", rule.Lists 1 2 1 15871) ∷
     (codes "priority", rule.Number 0 7) ∷
-    (codes "rate", rule.Number 0 0) ∷
+    (codes "rate", rule.Number 0 1000000000) ∷
     (codes "burst", rule.Number 1 16777216) ∷
     (codes "unit", rule.Unit) ∷
     (codes "headers", rule.Flag) ∷ []
+
+-- a flow that is polled
+unfoldable pub polling_keys : List Key
+polling_keys =
+    (codes "id", rule.Number 1 65535) ∷
+    (codes "type", rule.Type) ∷
+    (codes "channels", rule.Numbers 1 8 1 255) ∷
+    (codes "clusters", rule.Lists 1 2 1 15871) ∷
+    (codes "priority", rule.Number 0 7) ∷
+    (codes "rate", rule.Number 0 1000000000) ∷
+    (codes "burst", rule.Number 1 16777216) ∷
+    (codes "unit", rule.Unit) ∷
+    (codes "headers", rule.Flag) ∷
+    (codes "start_us", rule.Number 0 10000000) ∷
+    (codes "interval_us", rule.Number 100 10000000) ∷
+    (codes "jitter_us", rule.Number 0 10000000) ∷ []
+
+-- a flow with unsolicited grants
+unfoldable pub unsolicited_keys : List Key
+unsolicited_keys =
+    (codes "id", rule.Number 1 65535) ∷
+    (codes "type", rule.Type) ∷
+    (codes "channels", rule.Numbers 1 1 1 255) ∷
+    (codes "clusters", rule.Lists 1 1 1 15871) ∷
+    (codes "start_us", rule.Number 0 10000000) ∷
+    (codes "interval_us", rule.Number 100 10000000) ∷
+    (codes "jitter_us", rule.Number 0 10000000) ∷
+    (codes "grant_bytes", rule.Number 1 65535) ∷
+    (codes "grants_per_interval", rule.Number 1 127) ∷ []
+
+-- a flow has the keys of its type
+abbrev pub flow_keys : SchedulingType → List Key
+flow_keys BestEffort = best_effort_keys
+flow_keys NonRealTimePolling = polling_keys
+flow_keys RealTimePolling = polling_keys
+flow_keys UnsolicitedGrant = unsolicited_keys
+
+unfoldable pub station_keys : List Key
+station_keys =
+    (codes "id", rule.Number 1 65535) ∷
+    (codes "channel", rule.Number 1 255) ∷
+    (codes "sid", rule.Number 1 15871) ∷
+    (codes "start_us", rule.Number 0 10000000) ∷
+    (codes "interval_us", rule.Number 100 10000000) ∷
+    (codes "jitter_us", rule.Number 0 10000000) ∷ []

@@ -1,14 +1,22 @@
 -- What holds of all tables that are accepted: their ranges, and what one table has to do with another.
-use Rattle.std.specs.Prelude.{◌≡◌, ℕ, ◌+◌, ◌*◌, ◌≤◌, true, ◌==◌, List, length}
-use Rattle.std.specs.List.{AllByRecursion, list_any}
+use Rattle.std.specs.Prelude.{◌≡◌, ◌≢◌, ◌⊎◌, ℕ, ◌+◌, ◌*◌, ◌<◌, ◌≤◌, ⊤, true, false, List, [], ◌∷◌, length, map, flat_map, Option, Some, None}
+use Rattle.std.specs.List.{AllByRecursion}
 use Rattle.us_slots.specs.Times.{minislot_ticks}
-use Rattle.us_slots.specs.Bursts.{IsChannelBursts}
+use Rattle.us_slots.specs.Bursts.{IsChannelBursts, burst_cost}
 use Rattle.us_flows.specs.declared.channels.Channel.{Channel}
-use Rattle.us_flows.specs.Tables.{Tables, FlowTable, map_len}
+use Rattle.us_flows.specs.declared.stations.Station.{Station}
+use Rattle.us_flows.specs.declared.flows.SchedulingType.{SchedulingType}
+use Rattle.us_flows.specs.declared.flows.SchedulingType.TheVariants.{BestEffort, NonRealTimePolling, RealTimePolling, UnsolicitedGrant}
+use Rattle.us_flows.specs.Tables.{Tables, FlowTable, map_len, has_channel, channel_with, first_channel, sids_of}
 
 -- a number is from the least to the most one
 abbrev pub Between : ℕ → ℕ → ℕ → Type 0
 Between least most n = (least ≤ n) × (n ≤ most)
+
+-- no item stands in a list twice
+abbrev pub AreApart : {A : Type 0} → List A → Type 0
+AreApart [] = ⊤
+AreApart (x ∷ xs) = AllByRecursion (λ y. x ≢ y) xs × AreApart xs
 
 -- two exponents of 2, the start and the end of a backoff window
 pub record IsBackoff (b : List ℕ) : Type 0 where
@@ -19,36 +27,101 @@ pub record IsChannel (t : Tables) (c : Channel) : Type 0 where
   pub id : Between 1 255 c.id
   pub bursts : IsChannelBursts c.bursts
   pub ucd_count : c.ucd_count ≤ 255
-  pub ranging : IsBackoff c.ranging_backoff
+  pub ranging_backoff : IsBackoff c.ranging_backoff
   pub data_backoff : IsBackoff c.data_backoff
   pub request_minislots : Between 1 64 c.request_minislots
   pub maintenance_every : Between 1 65536 c.maintenance_every
   pub station_minislots : Between 1 64 c.station_minislots
-  -- a round is a whole number of minislots
+  -- a MAP has from 1 to 4,096 minislots, and a round is a whole number of them
+  pub len : Between 1 4096 (map_len t c)
   pub whole : map_len t c * minislot_ticks c.bursts.time ≡ t.round_ticks
   -- and both reserves together have room in it
   pub reserves : c.maintenance_minislots + c.contention_minislots ≤ map_len t c
 
-pub record IsFlow (t : Tables) (f : FlowTable) : Type 0 where
-  pub id : Between 1 65535 f.id
-  pub priority : f.priority ≤ 7
-  -- each of its channels is one of the table
-  pub channels : AllByRecursion (λ id. list_any (λ channel. channel.id == id) t.channels ≡ true) f.channels
-  -- a cluster has a SID for each channel, from 1 to 15,871
-  pub sids : AllByRecursion
-      (λ sids. (length sids ≡ length f.channels) × AllByRecursion (Between 1 15871) sids) f.clusters
-  pub burst : Between 1 16777216 f.burst
-  pub unit : Between 1 16 f.unit
-  -- so far: no bonding, one cluster, no limit of the rate
+-- there is such a channel, and so many minislots have room in its MAPs
+abbrev pub Fits : Tables → (Channel → ℕ) → Option Channel → Type 0
+Fits t slots None = ⊥
+Fits t slots (Some channel) = slots channel ≤ map_len t channel
+
+-- the bytes of a unit of a request
+abbrev pub IsUnit : ℕ → Type 0
+IsUnit n = (n ≡ 1) ⊎ ((n ≡ 2) ⊎ ((n ≡ 4) ⊎ ((n ≡ 8) ⊎ (n ≡ 16))))
+
+-- when intervals begin, how long they are, and the jitter, which is below that, in microseconds
+pub record IsSchedule (start_us interval_us jitter_us : ℕ) : Type 0 where
+  pub start : start_us ≤ 10000000
+  pub interval : Between 100 10000000 interval_us
+  pub jitter : jitter_us < interval_us
+
+-- a flow that makes requests; without segment headers it has one channel
+pub record IsRequesting (f : FlowTable) : Type 0 where
+  pub burst : 1 ≤ f.burst
+  pub unit : IsUnit f.unit
+  pub headers : f.headers ≡ false → length f.channels ≡ 1
+
+-- a flow that is polled; a request has room in a MAP of its first channel
+pub record IsPolled (t : Tables) (f : FlowTable) : Type 0 where
+  pub schedule : IsSchedule f.start_us f.interval_us f.jitter_us
+  pub poll : Fits t (λ channel. channel.request_minislots) (first_channel t.channels f)
+
+-- a flow with unsolicited grants, which has one SID on one channel; a grant has room in a MAP
+pub record IsUnsolicited (t : Tables) (f : FlowTable) : Type 0 where
+  pub schedule : IsSchedule f.start_us f.interval_us f.jitter_us
   pub one_channel : length f.channels ≡ 1
   pub one_cluster : length f.clusters ≡ 1
-  pub no_limit : f.rate ≡ 0
+  pub grant_bytes : 1 ≤ f.grant_bytes
+  pub grants : 1 ≤ f.grants_per_interval
+  pub grant : Fits t (λ channel. burst_cost channel.bursts.time channel.bursts.unsolicited f.grant_bytes)
+      (first_channel t.channels f)
+
+-- what a scheduling type asks of a flow
+abbrev pub IsScheduled : Tables → FlowTable → SchedulingType → Type 0
+IsScheduled t f BestEffort = IsRequesting f
+IsScheduled t f NonRealTimePolling = IsRequesting f × IsPolled t f
+IsScheduled t f RealTimePolling = IsRequesting f × IsPolled t f
+IsScheduled t f UnsolicitedGrant = IsUnsolicited t f
+
+pub record IsFlow (t : Tables) (f : FlowTable) : Type 0 where
+  pub id : Between 1 65535 f.id
+  -- each of its channels is one of the table, and is there once
+  pub some_channels : Between 1 8 (length f.channels)
+  pub channels : AllByRecursion (λ id. has_channel t.channels id ≡ true) f.channels
+  pub apart : AreApart f.channels
+  -- a cluster has a SID for each channel, from 1 to 15,871
+  pub some_clusters : Between 1 2 (length f.clusters)
+  pub sids : AllByRecursion
+      (λ sids. (length sids ≡ length f.channels) × AllByRecursion (Between 1 15871) sids) f.clusters
+  -- whatever its type is,
+  pub priority : f.priority ≤ 7
+  pub rate : f.rate ≤ 1000000000
+  pub burst : f.burst ≤ 16777216
+  pub unit : f.unit ≤ 16
+  pub start_us : f.start_us ≤ 10000000
+  pub interval_us : f.interval_us ≤ 10000000
+  pub jitter_us : f.jitter_us ≤ 10000000
+  pub grant_bytes : f.grant_bytes ≤ 65535
+  pub grants : f.grants_per_interval ≤ 127
+  -- and what its type asks of it
+  pub scheduled : IsScheduled t f f.kind
+
+pub record IsStation (t : Tables) (s : Station) : Type 0 where
+  pub id : Between 1 65535 s.id
+  pub channel : has_channel t.channels s.channel ≡ true
+  pub sid : Between 1 15871 s.sid
+  pub schedule : IsSchedule s.start_us s.interval_us s.jitter_us
+  pub maintenance : Fits t (λ channel. channel.station_minislots) (channel_with t.channels s.channel)
 
 pub record AreTables (t : Tables) : Type 0 where
   pub round_ticks : Between 1 4096 t.round_ticks
   pub lead_ticks : Between 1 65536 t.lead_ticks
   pub channels : AllByRecursion (IsChannel t) t.channels
   pub flows : AllByRecursion (IsFlow t) t.flows
-  -- so far: one channel, and at most one flow
-  pub one_channel : length t.channels ≡ 1
-  pub one_flow : length t.flows ≤ 1
+  pub stations : AllByRecursion (IsStation t) t.stations
+  pub some_channels : Between 1 16 (length t.channels)
+  pub few_flows : length t.flows ≤ 1024
+  pub few_stations : length t.stations ≤ 256
+  -- ids are apart, and on a channel no SID belongs to two clusters
+  pub channels_apart : AreApart (map (λ c. c.id) t.channels)
+  pub flows_apart : AreApart (map (λ f. f.id) t.flows)
+  pub stations_apart : AreApart (map (λ s. s.id) t.stations)
+  pub sids_apart : AreApart (flat_map sids_of t.flows)

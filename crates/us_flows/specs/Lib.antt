@@ -1,12 +1,14 @@
 -- Read in this order: the tables; clusters and turns, which follow of them; what holds of all accepted tables; then how
 -- a document is judged: its keys, its values, the shape of a table, what is read, the faults in order, the answer.
--- In a definition `≡` is equals, `×` and, `⊎` or, `→` implies, `∷` one item before a list, `++` one list behind
--- another, and ℕ has the whole numbers from 0.
+-- In a definition `≡` is equals, `≢` differs from, `≤` and `<` compare, `×` is and, `⊎` or, `→` implies, `∷` one item
+-- before a list, `++` one list behind another, and ℕ has the whole numbers from 0.
 
 -- the tables of a configuration, as values
 pub mod Tables
 -- SID clusters, which SID is whose, and the order of turns
 pub mod Clusters
+-- turns as places in the tables
+pub mod Turns
 -- what holds of all tables that are accepted
 pub mod Lawful
 -- the keys of each table, and the rules of their values
@@ -25,3 +27,6 @@ pub mod Answers
 pub mod Examples
 -- how the table of a fault is named
 pub mod Places
+-- inside the crate, and of no use to a reader of the promise: what an index of SIDs holds, and what turns are sorted by
+pub mod Listed
+pub mod Ranks

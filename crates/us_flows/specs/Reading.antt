@@ -1,10 +1,12 @@
 -- The tables that a document writes: what is read where nothing is amiss.
-use Rattle.std.specs.Prelude.{ℕ, codes, List, [], ◌∷◌}
+use Rattle.std.specs.Prelude.{ℕ, codes, ◌==◌, if◌then◌else◌, List, [], ◌∷◌}
 use Rattle.toml.specs.Data.{Items, no_items, item, Members}
 use Rattle.us_slots.specs.Times.{Timing}
 use Rattle.us_slots.specs.Bursts.{BurstProfile, ChannelBursts}
 use Rattle.us_flows.specs.declared.channels.Channel.{Channel}
-use Rattle.us_flows.specs.declared.flows.SchedulingType.TheVariants.{BestEffort}
+use Rattle.us_flows.specs.declared.stations.Station.{Station}
+use Rattle.us_flows.specs.declared.flows.SchedulingType.{SchedulingType}
+use Rattle.us_flows.specs.declared.flows.SchedulingType.TheVariants.{BestEffort, NonRealTimePolling, RealTimePolling, UnsolicitedGrant}
 use Rattle.us_flows.specs.Tables.{Tables, FlowTable}
 use Rattle.us_flows.specs.Documents.{number_at, flag_at, pair_at, items_at, table_at, table_of, numbers_of, lists_of}
 
@@ -46,10 +48,21 @@ channel_of t = record {
   station_minislots = number_at (codes "station_minislots") t;
 }
 
+-- the scheduling type with this number of the standard's
+abbrev pub kind_of : ℕ → SchedulingType
+kind_of number =
+    if number == 3 then NonRealTimePolling
+    else if number == 4 then RealTimePolling
+    else if number == 6 then UnsolicitedGrant
+    else BestEffort
+
+abbrev pub kind_at : Members → SchedulingType
+kind_at t = kind_of (number_at (codes "type") t)
+
 abbrev pub flow_of : Members → FlowTable
 flow_of t = record {
   id = number_at (codes "id") t;
-  kind = BestEffort;
+  kind = kind_at t;
   channels = numbers_of (items_at (codes "channels") t);
   clusters = lists_of (items_at (codes "clusters") t);
   priority = number_at (codes "priority") t;
@@ -57,6 +70,21 @@ flow_of t = record {
   burst = number_at (codes "burst") t;
   unit = number_at (codes "unit") t;
   headers = flag_at (codes "headers") t;
+  start_us = number_at (codes "start_us") t;
+  interval_us = number_at (codes "interval_us") t;
+  jitter_us = number_at (codes "jitter_us") t;
+  grant_bytes = number_at (codes "grant_bytes") t;
+  grants_per_interval = number_at (codes "grants_per_interval") t;
+}
+
+abbrev pub station_of : Members → Station
+station_of t = record {
+  id = number_at (codes "id") t;
+  channel = number_at (codes "channel") t;
+  sid = number_at (codes "sid") t;
+  start_us = number_at (codes "start_us") t;
+  interval_us = number_at (codes "interval_us") t;
+  jitter_us = number_at (codes "jitter_us") t;
 }
 
 -- each table of a list, read
@@ -73,10 +101,14 @@ channels_of doc = all_of channel_of (items_at (codes "channel") doc)
 abbrev pub flows_of : Members → List FlowTable
 flows_of doc = all_of flow_of (items_at (codes "flow") doc)
 
+abbrev pub stations_of : Members → List Station
+stations_of doc = all_of station_of (items_at (codes "station") doc)
+
 abbrev pub tables_of : Members → Tables
 tables_of doc = record {
   round_ticks = round_of doc;
   lead_ticks = number_at (codes "lead_ticks") doc;
   channels = channels_of doc;
   flows = flows_of doc;
+  stations = stations_of doc;
 }

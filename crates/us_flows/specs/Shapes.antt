@@ -14,6 +14,11 @@ abbrev pub is_number : ℕ → ℕ → Data → Bool
 is_number least most (integer (pos n)) = is_between least most n
 is_number least most _ = false
 
+-- 2, 3, 4 or 6, as the standard numbers scheduling types
+abbrev pub is_type : Data → Bool
+is_type (integer (pos n)) = n == 2 || (n == 3 || (n == 4 || n == 6))
+is_type _ = false
+
 -- 1, 2, 4, 8 or 16
 abbrev pub is_unit : Data → Bool
 is_unit (integer (pos n)) = n == 1 || (n == 2 || (n == 4 || (n == 8 || n == 16)))
@@ -49,6 +54,7 @@ is_number_list least most _ = false
 -- a value keeps a rule
 abbrev pub keeps : Rule → Data → Bool
 keeps (rule.Number least most) d = is_number least most d
+keeps rule.Type d = is_type d
 keeps rule.Unit d = is_unit d
 keeps rule.Flag d = is_flag d
 keeps (rule.Numbers fewest many least most) d = is_list fewest many (is_number least most) d
