@@ -1,15 +1,18 @@
--- A flow's table without a fault in its shape: all its values are in their ranges.
-use Rattle.std.proofs.Common.{◌≡◌, ℕ, ◌+◌, ◌≤◌, ◌<◌, ◌==◌, pos, negsuc, Bool, true, false, ◌||◌, List, length, get_or, drop, codes, refl, arith, inl, inr}
+-- A flow's table without a fault in its shape: all its values are in the ranges of its type.
+use Rattle.std.proofs.Common.{◌≡◌, ℕ, ◌+◌, ◌≤◌, ◌<◌, ◌==◌, pos, negsuc, Bool, true, false, ◌||◌, List, length, get_or, drop, codes, Option, Some, None, refl, sym, ◌∙◌, arith, inl, inr}
 use Rattle.std.proofs.lemmas.Bool.{and_parts, false≢true, cases_Bool, eqb-true}
 use Rattle.std.proofs.lemmas.List.{drop_more}
-use Rattle.toml.specs.Data.{Data, string, integer, float, boolean, datetime, array, table, Members}
+use Rattle.toml.specs.Data.{Data, string, integer, float, boolean, datetime, array, table, Members, get_member}
 use Rattle.toml.specs.declared.value.Value.{Value}
 use Rattle.toml.specs.View.{view, items_view}
-use Rattle.us_flows.specs.Keys.{flow_keys}
-use Rattle.us_flows.specs.Lawful.{Between}
-use Rattle.us_flows.specs.Documents.{number_of, number_at, items_of, items_at}
-use Rattle.us_flows.specs.Shapes.{is_number, is_unit, is_number_list, count, all_items, lacks, strays}
-use Rattle.us_flows.proofs.ShapeLemmas.{value_kept, number_in_range, number_between}
+use Rattle.us_flows.specs.declared.flows.SchedulingType.{SchedulingType}
+use Rattle.us_flows.specs.declared.flows.SchedulingType.TheVariants.{BestEffort, NonRealTimePolling, RealTimePolling, UnsolicitedGrant}
+use Rattle.us_flows.specs.Keys.{Key, best_effort_keys, polling_keys, unsolicited_keys, flow_keys}
+use Rattle.us_flows.specs.Lawful.{Between, IsUnit}
+use Rattle.us_flows.specs.Documents.{number_of, number_at, items_of, items_at, read_or}
+use Rattle.us_flows.specs.Reading.{kind_at}
+use Rattle.us_flows.specs.Shapes.{is_number, is_unit, is_number_list, count, all_items, allows, lacks, strays}
+use Rattle.us_flows.proofs.ShapeLemmas.{found_allowed, value_kept, number_in_range, number_between}
 use Rattle.us_flows.proofs.ChannelLemmas.{list_in_range}
 
 -- the next item of what is left of a list
@@ -44,22 +47,29 @@ pub first_list : (least most : ℕ) (values : List Value) (i : ℕ) (value d : V
 first_list least most values i value d within is h =
     numbers_within least most (view value) (next_item (is_number_list least most) values i value d within is h).0
 
-unit_number : (n : ℕ) → (n == 1 || (n == 2 || (n == 4 || (n == 8 || n == 16)))) ≡ true → Between 1 16 n
+unit_number : (n : ℕ) → (n == 1 || (n == 2 || (n == 4 || (n == 8 || n == 16)))) ≡ true → IsUnit n
 unit_number n h = elim (cases_Bool (n == 1)) [
-  | inl t ↦ let is = eqb-true n 1 t in (omega (arith, is), omega (arith, is))
+  | inl t ↦ inl (eqb-true n 1 t)
   | inr f ↦ elim (cases_Bool (n == 2)) [
-    | inl t ↦ let is = eqb-true n 2 t in (omega (arith, is), omega (arith, is))
+    | inl t ↦ inr (inl (eqb-true n 2 t))
     | inr g ↦ elim (cases_Bool (n == 4)) [
-      | inl t ↦ let is = eqb-true n 4 t in (omega (arith, is), omega (arith, is))
+      | inl t ↦ inr (inr (inl (eqb-true n 4 t)))
       | inr k ↦ elim (cases_Bool (n == 8)) [
-        | inl t ↦ let is = eqb-true n 8 t in (omega (arith, is), omega (arith, is))
-        | inr l ↦ let is = eqb-true n 16 (rw (f, g, k, l) at h) in (omega (arith, is), omega (arith, is))
+        | inl t ↦ inr (inr (inr (inl (eqb-true n 8 t))))
+        | inr l ↦ inr (inr (inr (inr (eqb-true n 16 (rw (f, g, k, l) at h)))))
       ]
     ]
   ]
 ]
 
-unit_between : (d : Data) → is_unit d ≡ true → Between 1 16 (number_of d)
+few_bytes : (n : ℕ) → IsUnit n → n ≤ 16
+few_bytes n (inl one) = omega (arith, one)
+few_bytes n (inr (inl two)) = omega (arith, two)
+few_bytes n (inr (inr (inl four))) = omega (arith, four)
+few_bytes n (inr (inr (inr (inl eight)))) = omega (arith, eight)
+few_bytes n (inr (inr (inr (inr sixteen)))) = omega (arith, sixteen)
+
+unit_between : (d : Data) → is_unit d ≡ true → IsUnit (number_of d)
 unit_between (integer (pos n)) h = unit_number n h
 unit_between (integer (negsuc n)) h = absurd (false≢true h)
 unit_between (string s) h = absurd (false≢true h)
@@ -69,31 +79,148 @@ unit_between (datetime x) h = absurd (false≢true h)
 unit_between (array ds) h = absurd (false≢true h)
 unit_between (table ms) h = absurd (false≢true h)
 
+-- The ranges that all types have. What a type has no key for is 0.
+absent : (keys : List Key) (t : Members) (k : List ℕ) → strays keys t ≡ false → ((d : Data) → allows keys k d ≡ false) →
+    number_at k t ≡ 0
+absent keys t k ranged unlisted = none (get_member k t) refl
+  where
+    none : (found : Option Data) → get_member k t ≡ found → read_or 0 number_of found ≡ 0
+    none None is = refl
+    none (Some d) is = absurd (false≢true (sym (unlisted d) ∙ found_allowed keys k d t ranged is))
+
 pub record FlowRanges (t : Members) : Type 0 where
   pub id : Between 1 65535 (number_at (codes "id") t)
-  pub channels : Between 1 1 (count (items_at (codes "channels") t))
+  pub channels : Between 1 8 (count (items_at (codes "channels") t))
   pub channel_ids : all_items (is_number 1 255) (items_at (codes "channels") t) ≡ true
-  pub clusters : Between 1 1 (count (items_at (codes "clusters") t))
+  pub clusters : Between 1 2 (count (items_at (codes "clusters") t))
   pub sids : all_items (is_number_list 1 15871) (items_at (codes "clusters") t) ≡ true
   pub priority : number_at (codes "priority") t ≤ 7
-  pub rate : number_at (codes "rate") t ≤ 0
-  pub burst : Between 1 16777216 (number_at (codes "burst") t)
-  pub unit : Between 1 16 (number_at (codes "unit") t)
+  pub rate : number_at (codes "rate") t ≤ 1000000000
+  pub burst : number_at (codes "burst") t ≤ 16777216
+  pub unit : number_at (codes "unit") t ≤ 16
+  pub start_us : number_at (codes "start_us") t ≤ 10000000
+  pub interval_us : number_at (codes "interval_us") t ≤ 10000000
+  pub jitter_us : number_at (codes "jitter_us") t ≤ 10000000
+  pub grant_bytes : number_at (codes "grant_bytes") t ≤ 65535
+  pub grants : number_at (codes "grants_per_interval") t ≤ 127
 
-pub flow_ranges : (t : Members) → lacks flow_keys t ≡ false → strays flow_keys t ≡ false → FlowRanges t
-unfolding flow_keys
-flow_ranges t w r =
-    let channels = list_in_range flow_keys t (codes "channels") 1 1 (is_number 1 255) w r refl (λ d. refl) in
-    let clusters = list_in_range flow_keys t (codes "clusters") 1 1 (is_number_list 1 15871) w r refl (λ d. refl) in
-    let unit = value_kept flow_keys (codes "unit") t w r refl in
-    record {
-      id = number_in_range flow_keys t (codes "id") 1 65535 w r refl (λ d. refl);
+-- and the least values of those that a type has keys for
+pub record RequestRanges (t : Members) : Type 0 where
+  pub burst : 1 ≤ number_at (codes "burst") t
+  pub unit : IsUnit (number_at (codes "unit") t)
+
+pub record GrantRanges (t : Members) : Type 0 where
+  pub channels : count (items_at (codes "channels") t) ≤ 1
+  pub clusters : count (items_at (codes "clusters") t) ≤ 1
+  pub interval_us : 100 ≤ number_at (codes "interval_us") t
+  pub grant_bytes : 1 ≤ number_at (codes "grant_bytes") t
+  pub grants : 1 ≤ number_at (codes "grants_per_interval") t
+
+best_effort_ranges : (t : Members) → lacks best_effort_keys t ≡ false → strays best_effort_keys t ≡ false →
+    FlowRanges t × RequestRanges t
+unfolding best_effort_keys
+best_effort_ranges t w r =
+    let channels = list_in_range best_effort_keys t (codes "channels") 1 8 (is_number 1 255) w r refl (λ d. refl) in
+    let clusters = list_in_range best_effort_keys t (codes "clusters") 1 2 (is_number_list 1 15871) w r refl (λ d. refl) in
+    let unit = value_kept best_effort_keys (codes "unit") t w r refl in
+    let units : IsUnit (number_at (codes "unit") t) = rw unit.1 (unit_between unit.0 unit.2) in
+    let burst = number_in_range best_effort_keys t (codes "burst") 1 16777216 w r refl (λ d. refl) in (
+      record {
+        id = number_in_range best_effort_keys t (codes "id") 1 65535 w r refl (λ d. refl);
+        channels = channels.0;
+        channel_ids = channels.1;
+        clusters = clusters.0;
+        sids = clusters.1;
+        priority = (number_in_range best_effort_keys t (codes "priority") 0 7 w r refl (λ d. refl)).1;
+        rate = (number_in_range best_effort_keys t (codes "rate") 0 1000000000 w r refl (λ d. refl)).1;
+        burst = burst.1;
+        unit = few_bytes (number_at (codes "unit") t) units;
+        start_us = omega (arith, absent best_effort_keys t (codes "start_us") r (λ d. refl));
+        interval_us = omega (arith, absent best_effort_keys t (codes "interval_us") r (λ d. refl));
+        jitter_us = omega (arith, absent best_effort_keys t (codes "jitter_us") r (λ d. refl));
+        grant_bytes = omega (arith, absent best_effort_keys t (codes "grant_bytes") r (λ d. refl));
+        grants = omega (arith, absent best_effort_keys t (codes "grants_per_interval") r (λ d. refl));
+      },
+      record { burst = burst.0; unit = units },
+    )
+
+polling_ranges : (t : Members) → lacks polling_keys t ≡ false → strays polling_keys t ≡ false →
+    FlowRanges t × RequestRanges t × (100 ≤ number_at (codes "interval_us") t)
+unfolding polling_keys
+polling_ranges t w r =
+    let channels = list_in_range polling_keys t (codes "channels") 1 8 (is_number 1 255) w r refl (λ d. refl) in
+    let clusters = list_in_range polling_keys t (codes "clusters") 1 2 (is_number_list 1 15871) w r refl (λ d. refl) in
+    let unit = value_kept polling_keys (codes "unit") t w r refl in
+    let units : IsUnit (number_at (codes "unit") t) = rw unit.1 (unit_between unit.0 unit.2) in
+    let burst = number_in_range polling_keys t (codes "burst") 1 16777216 w r refl (λ d. refl) in
+    let interval = number_in_range polling_keys t (codes "interval_us") 100 10000000 w r refl (λ d. refl) in
+    let ranges : FlowRanges t = record {
+      id = number_in_range polling_keys t (codes "id") 1 65535 w r refl (λ d. refl);
       channels = channels.0;
       channel_ids = channels.1;
       clusters = clusters.0;
       sids = clusters.1;
-      priority = (number_in_range flow_keys t (codes "priority") 0 7 w r refl (λ d. refl)).1;
-      rate = (number_in_range flow_keys t (codes "rate") 0 0 w r refl (λ d. refl)).1;
-      burst = number_in_range flow_keys t (codes "burst") 1 16777216 w r refl (λ d. refl);
-      unit = rw unit.1 (unit_between unit.0 unit.2);
-    }
+      priority = (number_in_range polling_keys t (codes "priority") 0 7 w r refl (λ d. refl)).1;
+      rate = (number_in_range polling_keys t (codes "rate") 0 1000000000 w r refl (λ d. refl)).1;
+      burst = burst.1;
+      unit = few_bytes (number_at (codes "unit") t) units;
+      start_us = (number_in_range polling_keys t (codes "start_us") 0 10000000 w r refl (λ d. refl)).1;
+      interval_us = interval.1;
+      jitter_us = (number_in_range polling_keys t (codes "jitter_us") 0 10000000 w r refl (λ d. refl)).1;
+      grant_bytes = omega (arith, absent polling_keys t (codes "grant_bytes") r (λ d. refl));
+      grants = omega (arith, absent polling_keys t (codes "grants_per_interval") r (λ d. refl));
+    } in
+    let requests : RequestRanges t = record { burst = burst.0; unit = units } in
+    (ranges, requests, interval.0)
+
+unsolicited_ranges : (t : Members) → lacks unsolicited_keys t ≡ false → strays unsolicited_keys t ≡ false →
+    FlowRanges t × GrantRanges t
+unfolding unsolicited_keys
+unsolicited_ranges t w r =
+    let channels = list_in_range unsolicited_keys t (codes "channels") 1 1 (is_number 1 255) w r refl (λ d. refl) in
+    let clusters = list_in_range unsolicited_keys t (codes "clusters") 1 1 (is_number_list 1 15871) w r refl (λ d. refl) in
+    let interval = number_in_range unsolicited_keys t (codes "interval_us") 100 10000000 w r refl (λ d. refl) in
+    let bytes = number_in_range unsolicited_keys t (codes "grant_bytes") 1 65535 w r refl (λ d. refl) in
+    let grants = number_in_range unsolicited_keys t (codes "grants_per_interval") 1 127 w r refl (λ d. refl) in (
+      record {
+        id = number_in_range unsolicited_keys t (codes "id") 1 65535 w r refl (λ d. refl);
+        channels = (channels.0.0, omega (arith, channels.0.1));
+        channel_ids = channels.1;
+        clusters = (clusters.0.0, omega (arith, clusters.0.1));
+        sids = clusters.1;
+        priority = omega (arith, absent unsolicited_keys t (codes "priority") r (λ d. refl));
+        rate = omega (arith, absent unsolicited_keys t (codes "rate") r (λ d. refl));
+        burst = omega (arith, absent unsolicited_keys t (codes "burst") r (λ d. refl));
+        unit = omega (arith, absent unsolicited_keys t (codes "unit") r (λ d. refl));
+        start_us = (number_in_range unsolicited_keys t (codes "start_us") 0 10000000 w r refl (λ d. refl)).1;
+        interval_us = interval.1;
+        jitter_us = (number_in_range unsolicited_keys t (codes "jitter_us") 0 10000000 w r refl (λ d. refl)).1;
+        grant_bytes = bytes.1;
+        grants = grants.1;
+      },
+      record {
+        channels = channels.0.1;
+        clusters = clusters.0.1;
+        interval_us = interval.0;
+        grant_bytes = bytes.0;
+        grants = grants.0;
+      },
+    )
+
+-- what a type asks of the values of its keys
+abbrev pub KindRanges : Members → SchedulingType → Type 0
+KindRanges t BestEffort = RequestRanges t
+KindRanges t NonRealTimePolling = RequestRanges t × (100 ≤ number_at (codes "interval_us") t)
+KindRanges t RealTimePolling = RequestRanges t × (100 ≤ number_at (codes "interval_us") t)
+KindRanges t UnsolicitedGrant = GrantRanges t
+
+pub kind_ranges : (t : Members) (kind : SchedulingType) → lacks (flow_keys kind) t ≡ false → strays (flow_keys kind) t ≡
+    false → FlowRanges t × KindRanges t kind
+kind_ranges t BestEffort w r = best_effort_ranges t w r
+kind_ranges t NonRealTimePolling w r = let all = polling_ranges t w r in (all.0, (all.1, all.2))
+kind_ranges t RealTimePolling w r = let all = polling_ranges t w r in (all.0, (all.1, all.2))
+kind_ranges t UnsolicitedGrant w r = unsolicited_ranges t w r
+
+pub flow_ranges : (t : Members) → lacks (flow_keys (kind_at t)) t ≡ false → strays (flow_keys (kind_at t)) t ≡ false →
+    FlowRanges t
+flow_ranges t w r = (kind_ranges t (kind_at t) w r).0

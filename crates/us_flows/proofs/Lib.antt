@@ -1,6 +1,16 @@
-pub mod ClusterLemmas
 pub mod DocumentLemmas
 pub mod ShapeLemmas
 pub mod ChannelLemmas
 pub mod FlowLemmas
+pub mod StationLemmas
+pub mod PairLemmas
+pub mod CheckLemmas
+pub mod ApartLemmas
+pub mod JudgedLemmas
 pub mod TableLemmas
+pub mod ListedLemmas
+pub mod SidLemmas
+pub mod IndexLemmas
+pub mod RankLemmas
+pub mod TurnLemmas
+pub mod OrderLemmas

@@ -1,65 +1,61 @@
 -- A document without a fault writes lawful tables.
-use Rattle.std.proofs.Common.{◌≡◌, ℕ, ◌+◌, ◌*◌, ◌/◌, ◌%◌, ◌≤◌, ◌==◌, Bool, true, false, not, List, [], ◌∷◌, ◌++◌, length, codes, Option, Some, None, refl, arith, inl, inr}
-use Rattle.std.specs.List.{AllByRecursion, list_all}
-use Rattle.std.proofs.lemmas.Bool.{and_parts, eqb-true, ltb-false, not-false, cases_Bool}
+use Rattle.std.proofs.Common.{◌≡◌, ℕ, zero, suc, ◌+◌, ◌*◌, ◌/◌, ◌%◌, ◌≤◌, ◌<◌, ◌==◌, nat_eq, nat_lt, nat_le, Bool, true, false, not, ◌&&◌, ◌||◌, List, [], ◌∷◌, ◌++◌, length, map, flat_map, codes, Option, Some, None, append_assoc, refl, sym, subst, ◌∙◌, ap, arith, inl, inr}
+use Rattle.std.specs.Prelude.{is_some, option_and_then, slice_get}
+use Rattle.std.specs.List.{AllByRecursion, list_all, list_any}
+use Rattle.std.proofs.lemmas.Bool.{cases_Bool, and_parts, or_parts, eqb-true, ltb-false, leb-false, not-false, false≢true}
+use Rattle.std.proofs.Math.Nat.{div-le_self}
 use Rattle.std.proofs.lemmas.Nat.{div-add-mod'}
+use Rattle.std.proofs.lemmas.List.{append-nil}
 use Rattle.toml.specs.Data.{Data, string, integer, float, boolean, datetime, array, table, Items, no_items, item, Members, get_member}
 use Rattle.us_slots.specs.Times.{minislot_ticks}
 use Rattle.us_flows.specs.declared.channels.Channel.{Channel}
+use Rattle.us_flows.specs.declared.stations.Station.{Station}
+use Rattle.us_flows.specs.declared.flows.SchedulingType.{SchedulingType}
+use Rattle.us_flows.specs.declared.flows.SchedulingType.TheVariants.{BestEffort, NonRealTimePolling, RealTimePolling, UnsolicitedGrant}
 use Rattle.us_flows.specs.declared.faults.Place.{Place}
 use Rattle.us_flows.specs.declared.faults.TableName.TheVariants as name
 use Rattle.us_flows.specs.declared.faults.ConfigFault.{ConfigFault}
-use Rattle.us_flows.specs.Tables.{Tables, FlowTable, map_len}
-use Rattle.us_flows.specs.Keys.{top_keys}
-use Rattle.us_flows.specs.Lawful.{Between, IsChannel, IsFlow, AreTables}
-use Rattle.us_flows.specs.Documents.{number_at, numbers_of, lists_of, items_of, items_at, read_or}
-use Rattle.us_flows.specs.Shapes.{is_number, is_number_list, is_table, count, all_items, lacks, strays}
-use Rattle.us_flows.specs.Checks.{Check, first_of, or_else, top_checks, channel_shape, channel_rules, channel_fault, has_channel, flow_shape, flow_rules, flow_fault, in_turn, channels_fault, flows_fault, first_fault}
-use Rattle.us_flows.specs.Reading.{channel_of, flow_of, all_of, round_of, channels_of, tables_of}
+use Rattle.us_flows.specs.Tables.{Tables, FlowTable, map_len, has_channel, channel_with, first_channel, sids_of}
+use Rattle.us_flows.specs.Clusters.{makes_requests, has_intervals}
+use Rattle.us_flows.specs.Keys.{Key, top_keys}
+use Rattle.us_flows.specs.Lawful.{Between, AreApart, Fits, IsSchedule, IsChannel, IsRequesting, IsPolled, IsUnsolicited, IsScheduled, IsFlow, IsStation, AreTables}
+use Rattle.us_flows.specs.Documents.{number_at, flag_at, numbers_of, lists_of, items_of, items_at, read_or}
+use Rattle.us_flows.specs.Shapes.{is_number, is_number_list, is_list, is_table, count, all_items, allows, lacks, strays}
+use Rattle.us_flows.specs.Checks.{first_of, or_else, top_checks, channel_shape, channel_rules, channel_fault, repeats, same_sid, is_taken, has_flow, flow_place, flow_shape, flow_names, grant_slots, is_too_long, flow_grants, flow_fault, station_shape, station_rules, station_fault, in_turn, channels_fault, flows_fault, stations_fault, first_fault}
+use Rattle.us_flows.specs.Reading.{channel_of, kind_at, flow_of, station_of, all_of, round_of, channels_of, flows_of, stations_of, tables_of}
+use Rattle.us_flows.proofs.CheckLemmas.{or_else_none, none_finds}
+use Rattle.us_flows.proofs.ApartLemmas.{keys_apart, ids_apart, sids_apart}
 use Rattle.us_flows.proofs.ShapeLemmas.{found_allowed, number_in_range, number_between}
 use Rattle.us_flows.proofs.ChannelLemmas.{list_items, list_in_range, channel_ranges}
-use Rattle.us_flows.proofs.FlowLemmas.{flow_ranges, numbers_within}
+use Rattle.us_flows.proofs.FlowLemmas.{FlowRanges, RequestRanges, GrantRanges, KindRanges, kind_ranges, numbers_within}
+use Rattle.us_flows.proofs.StationLemmas.{station_ranges}
 
--- no first fault: no check finds one
-
-or_else_none : (a b : Option ConfigFault) → or_else a b ≡ None → (a ≡ None) × (b ≡ None)
-or_else_none None b h = (refl, h)
-or_else_none (Some f) b h = let no : Some f ≡ None = h in cc
-
-abbrev pub NoneFinds : List Check → Type 0
-NoneFinds [] = Unit {0}
-NoneFinds (check ∷ checks) = (check.0 ≡ false) × NoneFinds checks
-
-none_finds : (checks : List Check) → first_of checks ≡ None → NoneFinds checks
-none_finds [] h = tt
-none_finds (check ∷ checks) h = elim (cases_Bool check.0) [
-  | inl t ↦ let no : Some check.1 ≡ None = rw t at h in cc
-  | inr f ↦ (f, none_finds checks (rw f at h))
-]
-
--- the top level
+-- The top level.
 
 pub record TopRanges (doc : Members) : Type 0 where
   pub round_ticks : Between 1 4096 (number_at (codes "round_ticks") doc)
   pub lead_ticks : Between 1 65536 (number_at (codes "lead_ticks") doc)
-  pub channels : Between 1 1 (count (items_at (codes "channel") doc))
-  pub flows : count (items_at (codes "flow") doc) ≤ 1
+  pub channels : Between 1 16 (count (items_at (codes "channel") doc))
+  pub flows : count (items_at (codes "flow") doc) ≤ 1024
+  pub stations : count (items_at (codes "station") doc) ≤ 256
 
-few_flows : (doc : Members) (found : Option Data) → get_member (codes "flow") doc ≡ found → strays top_keys doc ≡
-    false →
-    count (read_or no_items items_of found) ≤ 1
-unfolding top_keys
-few_flows doc None is r = omega arith
-few_flows doc (Some d) is r =
-    (list_items 0 1 is_table d (found_allowed top_keys (codes "flow") d doc r is)).0.1
+-- a list that may be left out
+few_items : (doc : Members) (k : List ℕ) (many : ℕ) → strays top_keys doc ≡ false →
+    ((d : Data) → allows top_keys k d ≡ is_list 0 many is_table d) → count (items_at k doc) ≤ many
+few_items doc k many ranged by_rule = few (get_member k doc) refl
+  where
+    few : (found : Option Data) → get_member k doc ≡ found → count (read_or no_items items_of found) ≤ many
+    few None is = omega arith
+    few (Some d) is = (list_items 0 many is_table d (sym (by_rule d) ∙ found_allowed top_keys k d doc ranged is)).0.1
 
 pub top_ranges : (doc : Members) → lacks top_keys doc ≡ false → strays top_keys doc ≡ false → TopRanges doc
 unfolding top_keys
 top_ranges doc w r = record {
   round_ticks = number_in_range top_keys doc (codes "round_ticks") 1 4096 w r refl (λ d. refl);
   lead_ticks = number_in_range top_keys doc (codes "lead_ticks") 1 65536 w r refl (λ d. refl);
-  channels = (list_in_range top_keys doc (codes "channel") 1 1 is_table w r refl (λ d. refl)).0;
-  flows = few_flows doc (get_member (codes "flow") doc) refl r;
+  channels = (list_in_range top_keys doc (codes "channel") 1 16 is_table w r refl (λ d. refl)).0;
+  flows = few_items doc (codes "flow") 1024 r (λ d. refl);
+  stations = few_items doc (codes "station") 256 r (λ d. refl);
 }
 
 pub top_is : (doc : Members) → first_of (top_checks doc) ≡ None → TopRanges doc
@@ -67,12 +63,13 @@ top_is doc h =
     let none = none_finds (top_checks doc) h in
     top_ranges doc none.0 none.1.0
 
--- lists of tables
+-- Lists of tables.
 
 length-all_of : {A : Type 0} (of : Members → A) (items : Items) → length (all_of of items) ≡ count items
 length-all_of of no_items = refl
 length-all_of of (item d ds) = omega (arith, length-all_of of ds)
 
+-- what holds of each table that has no fault holds of all
 all_in_turn : {A : Type 0} (of : Members → A) (fault_of : List A → Members → Option ConfigFault) (Is : A → Type 0) →
     ((earlier : List A) (t : Members) → fault_of earlier t ≡ None → Is (of t)) →
     (earlier : List A) (items : Items) → in_turn of fault_of earlier items ≡ None → AllByRecursion Is (all_of of items)
@@ -87,7 +84,24 @@ all_in_turn of fault_of Is each earlier (item (boolean b) rest) h = let no : Som
 all_in_turn of fault_of Is each earlier (item (datetime x) rest) h = let no : Some _ ≡ None = h in cc
 all_in_turn of fault_of Is each earlier (item (array ds) rest) h = let no : Some _ ≡ None = h in cc
 
--- a channel
+-- what each table that has no fault keeps, all of them keep
+kept_in_turn : {A : Type 0} (of : Members → A) (fault_of : List A → Members → Option ConfigFault) (Kept : List A → Type 0) →
+    ((earlier : List A) (t : Members) → fault_of earlier t ≡ None → Kept earlier → Kept (earlier ++ of t ∷ [])) →
+    (earlier : List A) (items : Items) → in_turn of fault_of earlier items ≡ None → Kept earlier →
+    Kept (earlier ++ all_of of items)
+kept_in_turn of fault_of Kept step earlier no_items h start = rw (append-nil earlier) start
+kept_in_turn of fault_of Kept step earlier (item (table t) rest) h start =
+    let parts = or_else_none (fault_of earlier t) (in_turn of fault_of (earlier ++ of t ∷ []) rest) h in
+    subst Kept (append_assoc earlier (of t ∷ []) (all_of of rest))
+    (kept_in_turn of fault_of Kept step (earlier ++ of t ∷ []) rest parts.1 (step earlier t parts.0 start))
+kept_in_turn of fault_of Kept step earlier (item (string s) rest) h start = let no : Some _ ≡ None = h in cc
+kept_in_turn of fault_of Kept step earlier (item (integer z) rest) h start = let no : Some _ ≡ None = h in cc
+kept_in_turn of fault_of Kept step earlier (item (float x) rest) h start = let no : Some _ ≡ None = h in cc
+kept_in_turn of fault_of Kept step earlier (item (boolean b) rest) h start = let no : Some _ ≡ None = h in cc
+kept_in_turn of fault_of Kept step earlier (item (datetime x) rest) h start = let no : Some _ ≡ None = h in cc
+kept_in_turn of fault_of Kept step earlier (item (array ds) rest) h start = let no : Some _ ≡ None = h in cc
+
+-- Channels.
 
 whole_round : (round ticks : ℕ) → not (round % ticks == 0) ≡ false → round / ticks * ticks ≡ round
 whole_round round ticks h =
@@ -95,30 +109,51 @@ whole_round round ticks h =
     let parts = div-add-mod' round ticks in
     omega (arith, none, parts)
 
-channel_is : (t : Tables) (earlier : List Channel) (m : Members) → channel_fault t.round_ticks earlier m ≡ None →
-    IsChannel t (channel_of m)
+-- a round of whole minislots has one at least, and no more than it has ticks
+some_minislots : (round ticks : ℕ) → Between 1 4096 round → round / ticks * ticks ≡ round → Between 1 4096 (round / ticks)
+some_minislots round ticks range whole =
+    (some (round / ticks) ticks whole, omega (arith, div-le_self round ticks, range.1))
+  where
+    some : (len ticks : ℕ) → len * ticks ≡ round → 1 ≤ len
+    some zero ticks h = absurd (omega (arith, h, range.0))
+    some (suc len) ticks h = omega arith
+
+channel_is : (t : Tables) → Between 1 4096 t.round_ticks → (earlier : List Channel) (m : Members) →
+    channel_fault t.round_ticks earlier m ≡ None → IsChannel t (channel_of m)
 unfolding channel_fault
-channel_is t earlier m h =
+channel_is t range earlier m h =
     let place : Place = record { table = name.Channel; index = length earlier } in
     let c : Channel = channel_of m in
-    let parts = or_else_none (first_of (channel_shape place m)) (first_of (channel_rules place t.round_ticks c)) h in
+    let parts = or_else_none (first_of (channel_shape place m)) (first_of (channel_rules place t.round_ticks earlier c)) h in
     let shape = none_finds (channel_shape place m) parts.0 in
-    let rules = none_finds (channel_rules place t.round_ticks c) parts.1 in
+    let rules = none_finds (channel_rules place t.round_ticks earlier c) parts.1 in
     let ranges = channel_ranges m shape.0 shape.1.0 in
+    let whole = whole_round t.round_ticks (minislot_ticks c.bursts.time) rules.1.0 in
     record {
       id = ranges.id;
       bursts = ranges.bursts;
       ucd_count = ranges.ucd_count;
-      ranging = ranges.ranging;
+      ranging_backoff = ranges.ranging;
       data_backoff = ranges.data_backoff;
       request_minislots = ranges.request_minislots;
       maintenance_every = ranges.maintenance_every;
       station_minislots = ranges.station_minislots;
-      whole = whole_round t.round_ticks (minislot_ticks c.bursts.time) rules.0;
-      reserves = ltb-false (map_len t c) (c.maintenance_minislots + c.contention_minislots) rules.1.0;
+      len = some_minislots t.round_ticks (minislot_ticks c.bursts.time) range whole;
+      whole = whole;
+      reserves = ltb-false (map_len t c) (c.maintenance_minislots + c.contention_minislots) rules.1.1.0;
     }
 
--- a flow
+channels_stay_apart : (round : ℕ) (earlier : List Channel) (m : Members) → channel_fault round earlier m ≡ None →
+    AreApart (map (λ c. c.id) earlier) → AreApart (map (λ c. c.id) (earlier ++ channel_of m ∷ []))
+unfolding channel_fault
+channels_stay_apart round earlier m h apart =
+    let place : Place = record { table = name.Channel; index = length earlier } in
+    let c : Channel = channel_of m in
+    let parts = or_else_none (first_of (channel_shape place m)) (first_of (channel_rules place round earlier c)) h in
+    let rules = none_finds (channel_rules place round earlier c) parts.1 in
+    keys_apart (λ c. c.id) earlier c apart rules.0
+
+-- Flows.
 
 length-numbers_of : (items : Items) → length (numbers_of items) ≡ count items
 length-numbers_of no_items = refl
@@ -154,63 +189,231 @@ all_pass passes (x ∷ xs) h =
     let parts = and_parts (passes x) (list_all passes xs) h in
     (parts.0, all_pass passes xs parts.1)
 
-flow_is : (t : Tables) (earlier : List FlowTable) (m : Members) → flow_fault t.channels earlier m ≡ None →
+fits : (t : Tables) (slots : Channel → ℕ) (o : Option Channel) → is_some o ≡ true → is_too_long t.round_ticks slots o ≡ false →
+    Fits t slots o
+fits t slots None some h = absurd (false≢true some)
+fits t slots (Some c) some h = ltb-false (map_len t c) (slots c) h
+
+-- the channel of an id that a channel has, and that of a flow's first id
+there : (channels : List Channel) (id : ℕ) → has_channel channels id ≡ true → is_some (channel_with channels id) ≡ true
+there [] id h = absurd (false≢true h)
+there (c ∷ channels) id h = elim (cases_Bool (c.id == id)) [
+  | inl t ↦ rw t refl
+  | inr f ↦ rw f (there channels id (rw f at h))
+]
+
+first_there : (channels : List Channel) (ids : List ℕ) → AllByRecursion (λ id. has_channel channels id ≡ true) ids →
+    1 ≤ length ids → is_some (option_and_then (channel_with channels) (slice_get ids 0)) ≡ true
+first_there channels [] all some = absurd (omega (arith, some))
+first_there channels (id ∷ ids) all some = there channels id all.0
+
+schedule : (start interval jitter : ℕ) → start ≤ 10000000 → 100 ≤ interval → interval ≤ 10000000 →
+    nat_le interval jitter ≡ false → IsSchedule start interval jitter
+schedule start interval jitter few least most below = record {
+  start = few;
+  interval = (least, most);
+  jitter = leb-false interval jitter below;
+}
+
+-- without segment headers a flow has one channel
+one_without : (headers : Bool) (n : ℕ) → (not headers && nat_lt 1 n) ≡ false → 1 ≤ n → headers ≡ false → n ≡ 1
+one_without true n h some without = absurd (false≢true (sym without))
+one_without false n h some without = omega (arith, ltb-false 1 n h, some)
+
+requesting_is : (m : Members) → RequestRanges m → 1 ≤ length (flow_of m).channels →
+    (not (flow_of m).headers && nat_lt 1 (length (flow_of m).channels)) ≡ false → IsRequesting (flow_of m)
+requesting_is m ranges some headers = record {
+  burst = ranges.burst;
+  unit = ranges.unit;
+  headers = one_without (flag_at (codes "headers") m) (length (flow_of m).channels) headers some;
+}
+
+polled_is : (t : Tables) (m : Members) → FlowRanges m → is_some (first_channel t.channels (flow_of m)) ≡ true →
+    100 ≤ number_at (codes "interval_us") m →
+    nat_le (flow_of m).interval_us (flow_of m).jitter_us ≡ false →
+    is_too_long t.round_ticks (λ c. c.request_minislots) (first_channel t.channels (flow_of m)) ≡ false →
+    IsPolled t (flow_of m)
+polled_is t m ranges first least jitter poll = record {
+  schedule = schedule (number_at (codes "start_us") m) (number_at (codes "interval_us") m) (number_at (codes "jitter_us") m)
+      ranges.start_us least ranges.interval_us jitter;
+  poll = fits t (λ c. c.request_minislots) (first_channel t.channels (flow_of m)) first poll;
+}
+
+scheduled_is : (t : Tables) (m : Members) (kind : SchedulingType) → FlowRanges m → KindRanges m kind →
+    1 ≤ length (flow_of m).channels → is_some (first_channel t.channels (flow_of m)) ≡ true →
+    (has_intervals kind && nat_le (flow_of m).interval_us (flow_of m).jitter_us) ≡ false →
+    is_too_long t.round_ticks (grant_slots (flow_of m) kind) (first_channel t.channels (flow_of m)) ≡ false →
+    (makes_requests kind && (not (flow_of m).headers && nat_lt 1 (length (flow_of m).channels))) ≡ false →
+    IsScheduled t (flow_of m) kind
+scheduled_is t m BestEffort ranges own some first jitter long headers = requesting_is m own some headers
+scheduled_is t m NonRealTimePolling ranges own some first jitter long headers =
+    (requesting_is m own.0 some headers, polled_is t m ranges first own.1 jitter long)
+scheduled_is t m RealTimePolling ranges own some first jitter long headers =
+    (requesting_is m own.0 some headers, polled_is t m ranges first own.1 jitter long)
+scheduled_is t m UnsolicitedGrant ranges own some first jitter long headers = record {
+  schedule = schedule (number_at (codes "start_us") m) (number_at (codes "interval_us") m) (number_at (codes "jitter_us") m)
+      ranges.start_us own.interval_us ranges.interval_us jitter;
+  one_channel = omega (arith, some, own.channels, length-numbers_of (items_at (codes "channels") m));
+  one_cluster = omega (arith, ranges.clusters.0, own.clusters, length-lists_of (items_at (codes "clusters") m));
+  grant_bytes = own.grant_bytes;
+  grants = own.grants;
+  grant = fits t (grant_slots (flow_of m) UnsolicitedGrant) (first_channel t.channels (flow_of m)) first long;
+}
+
+flow_is : (t : Tables) (earlier : List FlowTable) (m : Members) → flow_fault t.round_ticks t.channels earlier m ≡ None →
     IsFlow t (flow_of m)
 unfolding flow_fault
 flow_is t earlier m h =
-    let place : Place = record { table = name.Flow; index = length earlier } in
+    let place : Place = flow_place earlier in
     let f : FlowTable = flow_of m in
-    let parts = or_else_none (first_of (flow_shape place m)) (first_of (flow_rules place t.channels f)) h in
+    let names_fault : Option ConfigFault = first_of (flow_names place t.channels earlier f) in
+    let grants_fault : Option ConfigFault = first_of (flow_grants place t.round_ticks t.channels f) in
+    let parts = or_else_none (first_of (flow_shape place m)) (or_else names_fault grants_fault) h in
+    let rest = or_else_none names_fault grants_fault parts.1 in
     let shape = none_finds (flow_shape place m) parts.0 in
-    let rules = none_finds (flow_rules place t.channels f) parts.1 in
-    let ranges = flow_ranges m shape.1.1.0 shape.1.1.1.0 in
+    let names = none_finds (flow_names place t.channels earlier f) rest.0 in
+    let grants = none_finds (flow_grants place t.round_ticks t.channels f) rest.1 in
+    let both = kind_ranges m (kind_at m) shape.1.1.0 shape.1.1.1.0 in
+    let ranges : FlowRanges m = both.0 in
+    let ids = length-numbers_of (items_at (codes "channels") m) in
+    let lists = length-lists_of (items_at (codes "clusters") m) in
+    let known = all_pass (has_channel t.channels) f.channels (not-false (list_all (has_channel t.channels) f.channels) names.0) in
+    let some : 1 ≤ length f.channels = omega (arith, ids, ranges.channels.0) in
+    let twice = or_parts (has_flow earlier f.id) (repeats nat_eq f.channels) names.1.0 in
     record {
       id = ranges.id;
-      priority = ranges.priority;
-      channels = all_pass (has_channel t.channels) f.channels (not-false (list_all
-          (has_channel t.channels) f.channels) rules.0);
+      some_channels = (omega (arith, ids, ranges.channels.0), omega (arith, ids, ranges.channels.1));
+      channels = known;
+      apart = ids_apart f.channels twice.1;
+      some_clusters = (omega (arith, lists, ranges.clusters.0), omega (arith, lists, ranges.clusters.1));
       sids = all_clusters (length f.channels) (items_at (codes "clusters") m) ranges.sids
-          (not-false (list_all (λ sids. length sids == length f.channels) f.clusters) rules.1.0);
+          (not-false (list_all (λ sids. length sids == length f.channels) f.clusters) names.1.1.0);
+      priority = ranges.priority;
+      rate = ranges.rate;
       burst = ranges.burst;
       unit = ranges.unit;
-      one_channel = omega (
-        arith,
-        ranges.channels.0,
-        ranges.channels.1,
-        length-numbers_of (items_at (codes "channels") m),
-      );
-      one_cluster = omega (
-        arith,
-        ranges.clusters.0,
-        ranges.clusters.1,
-        length-lists_of (items_at (codes "clusters") m),
-      );
-      no_limit = omega (arith, ranges.rate);
+      grant_bytes = ranges.grant_bytes;
+      grants = ranges.grants;
+      start_us = ranges.start_us;
+      interval_us = ranges.interval_us;
+      jitter_us = ranges.jitter_us;
+      scheduled = scheduled_is t m (kind_at m) ranges both.1 some (first_there t.channels f.channels known some) grants.0
+          grants.1.0 grants.1.1.0;
     }
 
--- all together
+flows_stay_apart : (round : ℕ) (channels : List Channel) (earlier : List FlowTable) (m : Members) →
+    flow_fault round channels earlier m ≡ None →
+    AreApart (map (λ f. f.id) earlier) × AreApart (flat_map sids_of earlier) →
+    AreApart (map (λ f. f.id) (earlier ++ flow_of m ∷ [])) × AreApart (flat_map sids_of (earlier ++ flow_of m ∷ []))
+unfolding flow_fault
+flows_stay_apart round channels earlier m h apart =
+    let place : Place = flow_place earlier in
+    let f : FlowTable = flow_of m in
+    let names_fault : Option ConfigFault = first_of (flow_names place channels earlier f) in
+    let grants_fault : Option ConfigFault = first_of (flow_grants place round channels f) in
+    let parts = or_else_none (first_of (flow_shape place m)) (or_else names_fault grants_fault) h in
+    let rest = or_else_none names_fault grants_fault parts.1 in
+    let names = none_finds (flow_names place channels earlier f) rest.0 in
+    let ids = or_parts (has_flow earlier f.id) (repeats nat_eq f.channels) names.1.0 in
+    let sids = or_parts (list_any (is_taken earlier) (sids_of f)) (repeats same_sid (sids_of f)) names.1.1.1.0 in
+    (keys_apart (λ f. f.id) earlier f apart.0 ids.0, sids_apart earlier f apart.1 sids.0 sids.1)
+
+-- Stations.
+
+station_is : (t : Tables) (earlier : List Station) (m : Members) →
+    station_fault t.round_ticks t.channels earlier m ≡ None → IsStation t (station_of m)
+unfolding station_fault
+station_is t earlier m h =
+    let place : Place = record { table = name.Station; index = length earlier } in
+    let s : Station = station_of m in
+    let parts = or_else_none (first_of (station_shape place m)) (first_of (station_rules place t.round_ticks t.channels earlier s)) h in
+    let shape = none_finds (station_shape place m) parts.0 in
+    let rules = none_finds (station_rules place t.round_ticks t.channels earlier s) parts.1 in
+    let ranges = station_ranges m shape.0 shape.1.0 in
+    let known = not-false (has_channel t.channels s.channel) rules.0 in
+    record {
+      id = ranges.id;
+      channel = known;
+      sid = ranges.sid;
+      schedule = schedule s.start_us s.interval_us s.jitter_us ranges.start_us ranges.interval_us.0 ranges.interval_us.1
+          rules.1.1.0;
+      maintenance = fits t (λ c. c.station_minislots) (channel_with t.channels s.channel)
+          (there t.channels s.channel known) rules.1.1.1.0;
+    }
+
+stations_stay_apart : (round : ℕ) (channels : List Channel) (earlier : List Station) (m : Members) →
+    station_fault round channels earlier m ≡ None →
+    AreApart (map (λ s. s.id) earlier) → AreApart (map (λ s. s.id) (earlier ++ station_of m ∷ []))
+unfolding station_fault
+stations_stay_apart round channels earlier m h apart =
+    let place : Place = record { table = name.Station; index = length earlier } in
+    let s : Station = station_of m in
+    let parts = or_else_none (first_of (station_shape place m)) (first_of (station_rules place round channels earlier s)) h in
+    let rules = none_finds (station_rules place round channels earlier s) parts.1 in
+    keys_apart (λ s. s.id) earlier s apart rules.1.0
+
+-- All together.
 
 pub tables_are : (doc : Members) → first_fault doc ≡ None → AreTables (tables_of doc)
 unfolding first_fault
 tables_are doc h =
-    let channels = channels_fault (round_of doc) (items_at (codes "channel") doc) in
-    let flows = flows_fault (channels_of doc) (items_at (codes "flow") doc) in
-    let top = or_else_none (first_of (top_checks doc)) (or_else channels flows) h in
-    let rest = or_else_none channels flows top.1 in
+    let channel_items : Items = items_at (codes "channel") doc in
+    let flow_items : Items = items_at (codes "flow") doc in
+    let station_items : Items = items_at (codes "station") doc in
+    let channels = channels_fault (round_of doc) channel_items in
+    let flows = flows_fault (round_of doc) (channels_of doc) flow_items in
+    let stations = stations_fault (round_of doc) (channels_of doc) station_items in
+    let top = or_else_none (first_of (top_checks doc)) (or_else channels (or_else flows stations)) h in
+    let rest = or_else_none channels (or_else flows stations) top.1 in
+    let last = or_else_none flows stations rest.1 in
     let ranges = top_is doc top.0 in
     let t : Tables = tables_of doc in
+    let flows_apart = kept_in_turn flow_of (flow_fault (round_of doc) (channels_of doc))
+    (λ fs. AreApart (map (λ f. f.id) fs) × AreApart (flat_map sids_of fs)) (flows_stay_apart (round_of doc) (channels_of doc))
+    [] flow_items last.0 (tt, tt) in
     record {
       round_ticks = ranges.round_ticks;
       lead_ticks = ranges.lead_ticks;
-      channels = all_in_turn channel_of (channel_fault (round_of doc)) (IsChannel t) (channel_is t) [] (items_at
-          (codes "channel") doc) rest.0;
-      flows = all_in_turn flow_of (flow_fault (channels_of doc)) (IsFlow t) (flow_is t) [] (items_at
-          (codes "flow") doc) rest.1;
-      one_channel = omega (
-        arith,
-        ranges.channels.0,
-        ranges.channels.1,
-        length-all_of channel_of (items_at (codes "channel") doc),
+      channels = all_in_turn channel_of (channel_fault (round_of doc)) (IsChannel t) (channel_is t ranges.round_ticks) []
+          channel_items rest.0;
+      flows = all_in_turn flow_of (flow_fault (round_of doc) (channels_of doc)) (IsFlow t) (flow_is t) [] flow_items last.0;
+      stations = all_in_turn station_of (station_fault (round_of doc) (channels_of doc)) (IsStation t) (station_is t) []
+          station_items last.1;
+      some_channels = (
+        omega (arith, ranges.channels.0, length-all_of channel_of channel_items),
+        omega (arith, ranges.channels.1, length-all_of channel_of channel_items),
       );
-      one_flow = omega (arith, ranges.flows, length-all_of flow_of (items_at (codes "flow") doc));
+      few_flows = omega (arith, ranges.flows, length-all_of flow_of flow_items);
+      few_stations = omega (arith, ranges.stations, length-all_of station_of station_items);
+      channels_apart = kept_in_turn channel_of (channel_fault (round_of doc)) (λ cs. AreApart (map (λ c. c.id) cs))
+          (channels_stay_apart (round_of doc)) [] channel_items rest.0 tt;
+      flows_apart = flows_apart.0;
+      stations_apart = kept_in_turn station_of (station_fault (round_of doc) (channels_of doc))
+          (λ ss. AreApart (map (λ s. s.id) ss)) (stations_stay_apart (round_of doc) (channels_of doc)) [] station_items
+          last.1 tt;
+      sids_apart = flows_apart.1;
     }
+
+-- the same, of the lists as they are read one after another
+pub accepted : (doc : Members) (round lead : ℕ) (channels : List Channel) (flows : List FlowTable) (stations : List Station)
+    (channel_items flow_items station_items : Items) →
+    first_of (top_checks doc) ≡ None → round ≡ round_of doc → lead ≡ number_at (codes "lead_ticks") doc →
+    channel_items ≡ items_at (codes "channel") doc → flow_items ≡ items_at (codes "flow") doc →
+    station_items ≡ items_at (codes "station") doc →
+    channels_fault round channel_items ≡ None → channels ≡ all_of channel_of channel_items →
+    flows_fault round channels flow_items ≡ None → flows ≡ all_of flow_of flow_items →
+    stations_fault round channels station_items ≡ None → stations ≡ all_of station_of station_items →
+    let t : Tables = record { round_ticks = round; lead_ticks = lead; channels = channels; flows = flows; stations = stations } in
+    AreTables t
+unfolding first_fault
+accepted doc round lead channels flows stations channel_items flow_items station_items top round_is lead_is channels_at
+    flows_at stations_at no_channel channels_are no_flow flows_are no_station stations_are =
+    let read : channels ≡ channels_of doc = channels_are ∙ ap (all_of channel_of) channels_at in
+    let none : first_fault doc ≡ None = rw (
+      top,
+      rw (round_is, channels_at) at no_channel,
+      rw (round_is, read, flows_at) at no_flow,
+      rw (round_is, read, stations_at) at no_station,
+    ) refl in
+    let are = tables_are doc none in
+    rw (round_is, lead_is, read, flows_are, flows_at, stations_are, stations_at) are

@@ -1,7 +1,8 @@
-ghost use Rattle.std.specs.Prelude.{◌≡◌, ◌+◌, ◌*◌, ◌<◌, ◌^◌, nat_lt, codes, length, Some, SomeIff, IfErr, false};
+ghost use Rattle.std.specs.Prelude.{◌≡◌, ◌+◌, ◌*◌, ◌<◌, ◌^◌, nat_lt, codes, length, Some, SomeIff, IfOk, IfErr, IfNone, false};
 ghost use Rattle.toml.specs.View.{view, table_view, items_view};
 ghost use Rattle.us_slots.specs.Times.{IsTiming};
 ghost use Rattle.us_slots.specs.Bursts.{IsBurstProfile, IsChannelBursts};
+ghost use Rattle.us_flows.specs.Tables.{has_channel};
 ghost use Rattle.us_flows.specs.Keys.{keys_of};
 ghost use Rattle.us_flows.specs.Documents;
 ghost use Rattle.us_flows.specs.Checks;
@@ -13,6 +14,8 @@ use crate::channels::Channel;
 use crate::documents::{flag_at, items_at, number_at, number_in, table_at, value_at};
 use crate::faults::{ConfigFault, Place, TOP, TableName};
 use crate::keys::{Key, channel_keys, profile_keys, short_keys};
+use crate::limits::is_too_long;
+use crate::listed::Channels;
 use crate::shapes::{lacks, strays};
 use std::alloc::Global;
 use toml::{Table, Value};
@@ -26,12 +29,12 @@ pub(crate) fn channels_of(
     alloc: Global,
     round_ticks: u32,
     items: &[Value],
-) -> Result<Vec<Channel>, ConfigFault>
+) -> Result<Channels, ConfigFault>
     requires { length items.now < 2 ^ 32 }
     ensures { Judged result (channels_fault round_ticks (items_view items.now))
-        (λ channels. channels.items ≡ Reading.all_of Reading.channel_of (items_view items.now)) }
+        (λ channels. channels ≡ Reading.all_of Reading.channel_of (items_view items.now)) }
 {
-    let mut channels = Vec::new(alloc);
+    let mut channels = Channels::new(alloc);
     for value in items {
         let channel = match value.as_table() {
             Some(table) => channel_in(round_ticks, &channels, table)?,
@@ -44,13 +47,14 @@ pub(crate) fn channels_of(
 
 /// The channel of a table that stands behind these others, or its first fault.
 #[tactic(auto, unfolding(crate::specs::Checks::channel_fault))]
-fn channel_in(round_ticks: u32, earlier: &[Channel], table: &Table) -> Result<Channel, ConfigFault>
+fn channel_in(round_ticks: u32, earlier: &Channels, table: &Table) -> Result<Channel, ConfigFault>
     requires { length earlier.now < 2 ^ 32 }
     ensures judged { Judged result (channel_fault round_ticks earlier.now (table_view table.now))
         (λ channel. channel ≡ Reading.channel_of (table_view table.now)) }
     // No memory is taken here.
     ensures fault { IfErr result (λ fault.
         channel_fault round_ticks earlier.now (table_view table.now) ≡ Some fault) }
+    ensures other_id { IfOk result (λ channel. has_channel earlier.now channel.id ≡ false) }
 {
     let place = Place {
         table: TableName::Channel,
@@ -60,7 +64,7 @@ fn channel_in(round_ticks: u32, earlier: &[Channel], table: &Table) -> Result<Ch
         return Err(fault);
     }
     let channel = channel_of(table);
-    match rules_fault(place, round_ticks, &channel) {
+    match rules_fault(place, round_ticks, earlier, &channel) {
         Some(fault) => Err(fault),
         None => Ok(channel),
     }
@@ -205,17 +209,25 @@ fn profile_of(profile: &Table) -> Option<Profile>
     )
 }
 
-/// The first fault of a channel's values beside the length of a round.
-fn rules_fault(place: Place, round_ticks: u32, channel: &Channel) -> Option<ConfigFault>
-    ensures { result ≡ first_of (channel_rules place round_ticks channel.now) }
+/// The first fault of a channel's values beside the channels before it and the length of a round.
+fn rules_fault(
+    place: Place,
+    round_ticks: u32,
+    earlier: &Channels,
+    channel: &Channel,
+) -> Option<ConfigFault>
+    ensures value { result ≡ first_of (channel_rules place round_ticks earlier.now channel.now) }
+    ensures other_id { IfNone result (has_channel earlier.now channel.now.id ≡ false) }
 {
-    let minislot_ticks = channel.bursts.time().minislot_ticks();
-    if round_ticks % minislot_ticks != 0 {
+    if earlier.has(channel.id) {
+        return Some(ConfigFault::DuplicateId(place));
+    }
+    if round_ticks % channel.bursts.time().minislot_ticks() != 0 {
         return Some(ConfigFault::RoundNotMultiple(place));
     }
     let reserves = u32::from(channel.maintenance_minislots)
         + u32::from(channel.contention_minislots);
-    if reserves > round_ticks / minislot_ticks {
+    if is_too_long(round_ticks, channel, reserves) {
         return Some(ConfigFault::ReservesTooLong(place));
     }
     None

@@ -11,6 +11,8 @@ pub enum TableName {
     Channel,
     /// An item of `flow`.
     Flow,
+    /// An item of `station`.
+    Station,
 }
 
 /// Writes the word of a table in lower case.
@@ -25,6 +27,7 @@ impl fmt::Display for TableName {
             TableName::Top => write!(f, "top"),
             TableName::Channel => write!(f, "channel"),
             TableName::Flow => write!(f, "flow"),
+            TableName::Station => write!(f, "station"),
         }
     }
 }
@@ -57,7 +60,8 @@ impl fmt::Display for Place {
 }
 
 /// Why a text is no configuration. Of several faults the first is answered: C1; those of the top level, of each
-/// channel and of each flow, in this order of tables; C13 last, but memory may be wanting before a later check is made.
+/// channel, of each flow and of each station, in this order of tables and each table's by number, but a flow's type is
+/// looked at first, and C7 before C6; C13 last, but memory may be wanting before a later check is made.
 #[derive(Clone, Copy, Debug, PartialEq, Eq, Hash, Error)]
 pub enum ConfigFault {
     /// C1: over 4,194,304 bytes, or no TOML document.
@@ -72,6 +76,12 @@ pub enum ConfigFault {
     /// C4: a channel id that no channel has.
     #[error("C4: no channel has an id that is named in {0}")]
     UnknownChannel(Place),
+    /// C5: an id that an earlier table of the same list has; in a flow also a channel that is there twice.
+    #[error("C5: an id is there twice in {0}")]
+    DuplicateId(Place),
+    /// C6: a SID that an earlier flow, or an earlier cluster of this flow, has on the same channel.
+    #[error("C6: a SID of another cluster is on the same channel in {0}")]
+    DuplicateSid(Place),
     /// C7: a cluster whose length isn't that of the flow's channels.
     #[error("C7: a cluster has not one SID for each channel in {0}")]
     ClusterLength(Place),
@@ -81,6 +91,15 @@ pub enum ConfigFault {
     /// C9: both reserves of the channel together pass the length of its MAPs.
     #[error("C9: the reserves pass the length of the MAPs of {0}")]
     ReservesTooLong(Place),
+    /// C10: the jitter isn't below the interval.
+    #[error("C10: the jitter is not below the interval in {0}")]
+    Jitter(Place),
+    /// C11: an unsolicited grant, a poll or a station's maintenance that passes the length of the channel's MAPs.
+    #[error("C11: a grant passes the length of the MAPs in {0}")]
+    GrantLongerThanMap(Place),
+    /// C12: no segment headers, but more than one channel.
+    #[error("C12: segment headers are wanting on several channels in {0}")]
+    Headers(Place),
     /// C13: want of memory.
     #[error("C13: out of memory")]
     NoMemory,

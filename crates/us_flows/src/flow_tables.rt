@@ -1,43 +1,45 @@
-ghost use Rattle.std.specs.Prelude.{◌≡◌, ◌==◌, ◌<◌, ◌^◌, length, map, Err, IfOk, IfSome, true, false};
-ghost use Rattle.std.specs.List.{list_all};
+ghost use Rattle.std.specs.Prelude.{◌≡◌, ◌<◌, ◌≤◌, ◌^◌, length, map, Err, None, IfOk, IfSome, true, false};
 ghost use Rattle.toml.specs.View.{table_view, items_view};
-ghost use Rattle.us_flows.specs.Keys;
+ghost use Rattle.us_flows.specs.Keys.{flow_keys};
 ghost use Rattle.us_flows.specs.Documents;
 ghost use Rattle.us_flows.specs.Shapes;
 ghost use Rattle.us_flows.specs.Checks;
-ghost use Rattle.us_flows.specs.Checks.{first_of, flow_shape, flow_rules, flow_fault, flows_fault};
+ghost use Rattle.us_flows.specs.Checks.{first_of, flow_shape, flow_names, flow_fault, flows_fault};
 ghost use Rattle.us_flows.specs.Reading;
+ghost use Rattle.us_flows.specs.Reading.{kind_at};
 ghost use Rattle.us_flows.specs.Answers.{Judged};
 
-use crate::channels::Channel;
 use crate::documents::{flag_at, items_at, items_of, number_at, number_of, value_at};
 use crate::faults::{ConfigFault, Place, TOP, TableName};
+use crate::flow_grants::grants_fault;
+use crate::flow_names::{names_fault, sids_of};
 use crate::flows::{Flow, SchedulingType};
 use crate::keys::flow_keys;
-use crate::shapes::{is_number, lacks, strays};
+use crate::listed::{Channels, Flows};
+use crate::shapes::{is_type, lacks, strays};
 use std::alloc::{AllocError, Global};
 use toml::{Table, Value};
-
-/// The scheduling type of best effort (the standard's number).
-const BEST_EFFORT: u32 = 2;
 
 /// The flows of a list, or their first fault.
 pub(crate) fn flows_of(
     alloc: Global,
-    channels: &[Channel],
+    round_ticks: u32,
+    channels: &Channels,
     items: &[Value],
-) -> Result<Vec<Flow>, ConfigFault>
-    requires { length items.now < 2 ^ 32 }
-    ensures { Judged result (flows_fault channels.now (items_view items.now))
-        (λ flows. flows.items ≡ Reading.all_of Reading.flow_of (items_view items.now)) }
+) -> Result<Flows, ConfigFault>
+    requires { length items.now ≤ 1024 }
+    ensures { Judged result (flows_fault round_ticks channels.now (items_view items.now))
+        (λ flows. flows ≡ Reading.all_of Reading.flow_of (items_view items.now)) }
 {
-    let mut flows = Vec::new(alloc);
+    let mut flows = Flows::new(alloc);
     for value in items {
-        let flow = match value.as_table() {
-            Some(table) => flow_in(alloc, channels, &flows, table)?,
-            None => return Err(ConfigFault::Range(TOP)),
+        let Some(table) = value.as_table() else {
+            return Err(ConfigFault::Range(TOP));
         };
-        flows.push(flow)?;
+        match flow_in(alloc, round_ticks, channels, &flows, table) {
+            Ok(flow) => flows = flows.pushed(flow)?,
+            Err(fault) => return Err(fault),
+        }
     }
     Ok(flows)
 }
@@ -46,16 +48,21 @@ pub(crate) fn flows_of(
 #[tactic(auto, unfolding(crate::specs::Checks::flow_fault))]
 fn flow_in(
     alloc: Global,
-    channels: &[Channel],
-    earlier: &[Flow],
+    round_ticks: u32,
+    channels: &Channels,
+    earlier: &Flows,
     table: &Table,
 ) -> Result<Flow, ConfigFault>
     requires { length earlier.now < 2 ^ 32 }
-    ensures judged { Judged result (flow_fault channels.now earlier.now (table_view table.now))
+    ensures judged { Judged result (flow_fault round_ticks channels.now earlier.now (table_view table.now))
         (λ flow. flow ≡ Reading.flow_of (table_view table.now)) }
     // The shape is judged before memory is taken.
     ensures early { IfSome (first_of (flow_shape (Checks.flow_place earlier.now) (table_view table.now)))
         (λ fault. result ≡ Err fault) }
+    // Its names are apart from those of the flows before it, and it has few clusters.
+    ensures names { IfOk result (λ flow.
+        first_of (flow_names (Checks.flow_place earlier.now) channels.now earlier.now flow) ≡ None) }
+    ensures few { IfOk result (λ flow. length flow.clusters ≤ 2) }
 {
     let place = Place {
         table: TableName::Flow,
@@ -65,7 +72,11 @@ fn flow_in(
         return Err(fault);
     }
     let flow = flow_of(alloc, table)?;
-    match rules_fault(place, channels, &flow) {
+    let sids = sids_of(alloc, &flow)?;
+    if let Some(fault) = names_fault(place, channels, earlier, &flow, &sids) {
+        return Err(fault);
+    }
+    match grants_fault(place, round_ticks, channels, &flow) {
         Some(fault) => Err(fault),
         None => Ok(flow),
     }
@@ -77,33 +88,46 @@ fn shape_fault(place: Place, table: &Table) -> Option<ConfigFault>
 {
     match value_at(table, "type") {
         Some(kind) => {
-            if !is_number(kind, BEST_EFFORT, BEST_EFFORT) {
+            if !is_type(kind) {
                 return Some(ConfigFault::Range(place));
             }
         }
         None => return Some(ConfigFault::Missing(place)),
     }
-    if lacks(flow_keys(), table) {
+    let keys = flow_keys(kind_at(table));
+    if lacks(keys, table) {
         return Some(ConfigFault::Missing(place));
     }
-    if strays(flow_keys(), table) {
+    if strays(keys, table) {
         return Some(ConfigFault::Range(place));
     }
     None
 }
 
+/// The scheduling type of a flow's table.
+fn kind_at(table: &Table) -> SchedulingType
+    ensures { result ≡ Reading.kind_at (table_view table.now) }
+{
+    match number_at(table, "type") {
+        3 => SchedulingType::NonRealTimePolling,
+        4 => SchedulingType::RealTimePolling,
+        6 => SchedulingType::UnsolicitedGrant,
+        _ => SchedulingType::BestEffort,
+    }
+}
+
 /// The flow of a table whose shape has no fault.
 #[tactic(auto, using(crate::proofs::FlowLemmas::flow_ranges))]
 fn flow_of(alloc: Global, table: &Table) -> Result<Flow, AllocError>
-    requires whole { Shapes.lacks Keys.flow_keys (table_view table.now) ≡ false }
-    requires ranged { Shapes.strays Keys.flow_keys (table_view table.now) ≡ false }
+    requires whole { Shapes.lacks (flow_keys (kind_at (table_view table.now))) (table_view table.now) ≡ false }
+    requires ranged { Shapes.strays (flow_keys (kind_at (table_view table.now))) (table_view table.now) ≡ false }
     ensures { IfOk result (λ flow. flow ≡ Reading.flow_of (table_view table.now)) }
 {
     let channels = ids_of(alloc, items_at(table, "channels"))?;
     let clusters = clusters_of(alloc, items_at(table, "clusters"))?;
     Ok(Flow {
         id: number_at(table, "id") as u16,
-        kind: SchedulingType::BestEffort,
+        kind: kind_at(table),
         channels,
         clusters,
         priority: number_at(table, "priority") as u8,
@@ -111,6 +135,11 @@ fn flow_of(alloc: Global, table: &Table) -> Result<Flow, AllocError>
         burst: number_at(table, "burst") as u32,
         unit: number_at(table, "unit") as u8,
         headers: flag_at(table, "headers"),
+        start_us: number_at(table, "start_us") as u32,
+        interval_us: number_at(table, "interval_us") as u32,
+        jitter_us: number_at(table, "jitter_us") as u32,
+        grant_bytes: number_at(table, "grant_bytes") as u16,
+        grants_per_interval: number_at(table, "grants_per_interval") as u8,
     })
 }
 
@@ -127,9 +156,9 @@ fn ids_of(alloc: Global, items: &[Value]) -> Result<Vec<u8>, AllocError>
     Ok(ids)
 }
 
-/// The SIDs of a list.
+/// The SIDs of one cluster.
 #[tactic(auto, using(crate::proofs::FlowLemmas::first_number))]
-fn sids_of(alloc: Global, items: &[Value]) -> Result<Vec<u16>, AllocError>
+fn cluster_of(alloc: Global, items: &[Value]) -> Result<Vec<u16>, AllocError>
     requires { Shapes.all_items (Shapes.is_number 1 15871) (items_view items.now) ≡ true }
     ensures { IfOk result (λ sids. sids.items ≡ Documents.numbers_of (items_view items.now)) }
 {
@@ -149,46 +178,7 @@ fn clusters_of(alloc: Global, items: &[Value]) -> Result<Vec<Vec<u16>>, AllocErr
 {
     let mut clusters = Vec::new(alloc);
     for value in items {
-        clusters.push(sids_of(alloc, items_of(value))?)?;
+        clusters.push(cluster_of(alloc, items_of(value))?)?;
     }
     Ok(clusters)
-}
-
-/// The first fault of a flow's values beside the channels.
-fn rules_fault(place: Place, channels: &[Channel], flow: &Flow) -> Option<ConfigFault>
-    ensures { result ≡ first_of (flow_rules place channels.now flow.now) }
-{
-    if !have_channels(channels, flow.channels()) {
-        return Some(ConfigFault::UnknownChannel(place));
-    }
-    if !have_length(flow.clusters(), flow.channels().len()) {
-        return Some(ConfigFault::ClusterLength(place));
-    }
-    None
-}
-
-/// Whether the channels have all these ids.
-fn have_channels(channels: &[Channel], ids: &[u8]) -> bool
-    ensures { result ≡ list_all (Checks.has_channel channels.now) ids.now }
-{
-    ids.iter().all(|id| has_channel(channels, *id))
-}
-
-/// Whether a channel has this id.
-fn has_channel(channels: &[Channel], id: u8) -> bool
-    ensures { result ≡ Checks.has_channel channels.now id }
-{
-    channels.iter().any(|channel| channel.id == id)
-}
-
-/// Whether each cluster has so many SIDs.
-fn have_length(clusters: &[Vec<u16>], count: usize) -> bool
-    ensures { result ≡ list_all (λ sids. length sids == count) (map (λ sids. sids.items) clusters.now) }
-{
-    for sids in clusters {
-        if sids.len() != count {
-            return false;
-        }
-    }
-    true
 }

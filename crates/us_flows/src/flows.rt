@@ -1,6 +1,5 @@
 ghost use Rattle.std.specs.Prelude.{◌≡◌, map};
-ghost use Rattle.std.specs.List.{position_from};
-ghost use Rattle.us_flows.specs.Clusters.{Cluster, has_sid, clusters_from};
+ghost use Rattle.us_flows.specs.Clusters.{makes_requests, has_intervals};
 ghost use Rattle.us_flows.specs.Tables.{FlowTable};
 
 use std::marker::Model;
@@ -8,11 +7,33 @@ use std::marker::Model;
 /// How a service flow is scheduled (the standard's scheduling types).
 #[derive(Clone, Copy, Debug, PartialEq, Eq, Hash)]
 pub enum SchedulingType {
-    /// Type 2: requests alone, no grant without one.
+    /// Type 2: it makes requests, and has no grant without one.
     BestEffort,
+    /// Type 3: it makes requests, and is polled for them now and then.
+    NonRealTimePolling,
+    /// Type 4: it makes requests, and is polled for them in time for what it carries.
+    RealTimePolling,
+    /// Type 6: it has grants of one size at intervals, and makes no requests.
+    UnsolicitedGrant,
 }
 
-/// A service flow of the table.
+impl SchedulingType {
+    /// Whether its flows make requests: all but those with unsolicited grants.
+    pub fn makes_requests(self) -> bool
+        ensures value { result ≡ makes_requests self }
+    {
+        self != SchedulingType::UnsolicitedGrant
+    }
+
+    /// Whether its flows are polled, or have unsolicited grants, at intervals: all but those of best effort.
+    pub fn has_intervals(self) -> bool
+        ensures value { result ≡ has_intervals self }
+    {
+        self != SchedulingType::BestEffort
+    }
+}
+
+/// A service flow of the table. What its scheduling type has no key for is 0, or false.
 #[derive(Debug, Drop)]
 pub struct Flow {
     pub(crate) id: u16,
@@ -24,6 +45,11 @@ pub struct Flow {
     pub(crate) burst: u32,
     pub(crate) unit: u8,
     pub(crate) headers: bool,
+    pub(crate) start_us: u32,
+    pub(crate) interval_us: u32,
+    pub(crate) jitter_us: u32,
+    pub(crate) grant_bytes: u16,
+    pub(crate) grants_per_interval: u8,
 }
 
 impl Model for Flow {
@@ -39,6 +65,11 @@ impl Model for Flow {
       burst = f.burst;
       unit = f.unit;
       headers = f.headers;
+      start_us = f.start_us;
+      interval_us = f.interval_us;
+      jitter_us = f.jitter_us;
+      grant_bytes = f.grant_bytes;
+      grants_per_interval = f.grants_per_interval;
     } };
 }
 
@@ -71,7 +102,7 @@ impl Flow {
         &self.clusters
     }
 
-    /// The traffic priority, 0 to 7; a higher number goes first.
+    /// The traffic priority, 0 to 7; a higher number goes first. 0 for unsolicited grants.
     pub fn priority(&self) -> u8
         ensures value { result ≡ self.now.priority }
     {
@@ -85,14 +116,14 @@ impl Flow {
         self.rate
     }
 
-    /// The maximum burst in bytes, 1 to 16,777,216.
+    /// The maximum burst in bytes, 1 to 16,777,216; 0 for unsolicited grants.
     pub fn burst(&self) -> u32
         ensures value { result ≡ self.now.burst }
     {
         self.burst
     }
 
-    /// The bytes of a unit of a request, 1 to 16.
+    /// The bytes of a unit of a request: 1, 2, 4, 8 or 16; 0 for unsolicited grants.
     pub fn unit(&self) -> u8
         ensures value { result ≡ self.now.unit }
     {
@@ -105,29 +136,41 @@ impl Flow {
     {
         self.headers
     }
-}
 
-impl Flow {
-    /// The place, among the flow's clusters, of the first that has this SID on this channel.
-    pub(crate) fn cluster_with(&self, channel: u8, sid: u16) -> Option<usize>
-        ensures value { result ≡ position_from (has_sid channel sid) 0 (clusters_from self.now 0 self.now.clusters) }
+    /// When its first interval begins, in microseconds, 0 to 10,000,000; 0 for best effort.
+    ///
+    /// A flow that is polled has one poll in each interval, and one with unsolicited grants has so many of them.
+    pub fn start_us(&self) -> u32
+        ensures value { result ≡ self.now.start_us }
     {
-        for (list, sids) in self.clusters.iter().enumerate() {
-            if self.has_sid(sids, channel, sid) {
-                return Some(list);
-            }
-        }
-        None
+        self.start_us
     }
 
-    /// Whether a cluster of these SIDs, one for each channel of the flow, has this SID on this channel.
-    fn has_sid(&self, sids: &[u16], channel: u8, sid: u16) -> bool
-        ensures { let cluster : Cluster = record { flow = self.now; list = 0; sids = sids.now } in
-            result ≡ has_sid channel sid cluster }
+    /// How long each interval is, in microseconds, 100 to 10,000,000; 0 for best effort.
+    pub fn interval_us(&self) -> u32
+        ensures value { result ≡ self.now.interval_us }
     {
-        self.channels
-            .iter()
-            .zip(sids)
-            .any(|(id, own)| *id == channel && *own == sid)
+        self.interval_us
+    }
+
+    /// How late a poll or a grant may start in its interval, in microseconds, below the interval; 0 for best effort.
+    pub fn jitter_us(&self) -> u32
+        ensures value { result ≡ self.now.jitter_us }
+    {
+        self.jitter_us
+    }
+
+    /// The bytes of an unsolicited grant, 1 to 65,535; 0 for other types.
+    pub fn grant_bytes(&self) -> u16
+        ensures value { result ≡ self.now.grant_bytes }
+    {
+        self.grant_bytes
+    }
+
+    /// How many unsolicited grants an interval has, 1 to 127; 0 for other types.
+    pub fn grants_per_interval(&self) -> u8
+        ensures value { result ≡ self.now.grants_per_interval }
+    {
+        self.grants_per_interval
     }
 }

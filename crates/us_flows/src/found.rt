@@ -3,6 +3,6 @@
 pub enum Found {
     /// A SID cluster, by its number.
     Cluster(u16),
-    /// A flow of unsolicited grants, which makes no requests. No configuration has one yet.
+    /// A flow with unsolicited grants, which makes no requests.
     Unsolicited,
 }

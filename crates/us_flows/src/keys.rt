@@ -1,11 +1,15 @@
 ghost use Rattle.std.specs.Prelude.{◌≡◌};
-ghost use Rattle.us_flows.specs.Keys.{keys_of, top_keys, channel_keys, profile_keys, short_keys, flow_keys};
+ghost use Rattle.us_flows.specs.Keys.{keys_of, top_keys, channel_keys, profile_keys, short_keys, best_effort_keys, polling_keys, unsolicited_keys, flow_keys, station_keys};
+
+use crate::flows::SchedulingType;
 
 /// What the value of a key must be. Of two numbers the first is the least and the second the greatest.
 #[derive(Clone, Copy, Debug, PartialEq, Eq)]
 pub(crate) enum Rule {
     /// A whole number.
     Number(u32, u32),
+    /// A scheduling type: 2, 3, 4 or 6.
+    Type,
     /// The bytes of a unit: 1, 2, 4, 8 or 16.
     Unit,
     /// True or false.
@@ -23,11 +27,12 @@ pub(crate) enum Rule {
 /// A key of a table, and the rule of its value.
 pub(crate) type Key = (&'static str, Rule);
 
-static TOP_KEYS: [Key; 4] = [
+static TOP_KEYS: [Key; 5] = [
     ("round_ticks", Rule::Number(1, 4_096)),
     ("lead_ticks", Rule::Number(1, 65_536)),
-    ("channel", Rule::Tables(1, 1)),
-    ("flow", Rule::Tables(0, 1)),
+    ("channel", Rule::Tables(1, 16)),
+    ("flow", Rule::Tables(0, 1_024)),
+    ("station", Rule::Tables(0, 256)),
 ];
 
 static CHANNEL_KEYS: [Key; 14] = [
@@ -66,16 +71,52 @@ static SHORT_KEYS: [Key; 7] = [
     ("max_minislots", Rule::Number(1, 255)),
 ];
 
-static FLOW_KEYS: [Key; 9] = [
+static BEST_EFFORT_KEYS: [Key; 9] = [
     ("id", Rule::Number(1, 65_535)),
-    ("type", Rule::Number(2, 2)),
-    ("channels", Rule::Numbers(1, 1, 1, 255)),
-    ("clusters", Rule::Lists(1, 1, 1, 15_871)),
+    ("type", Rule::Type),
+    ("channels", Rule::Numbers(1, 8, 1, 255)),
+    ("clusters", Rule::Lists(1, 2, 1, 15_871)),
     ("priority", Rule::Number(0, 7)),
-    ("rate", Rule::Number(0, 0)),
+    ("rate", Rule::Number(0, 1_000_000_000)),
     ("burst", Rule::Number(1, 16_777_216)),
     ("unit", Rule::Unit),
     ("headers", Rule::Flag),
+];
+
+static POLLING_KEYS: [Key; 12] = [
+    ("id", Rule::Number(1, 65_535)),
+    ("type", Rule::Type),
+    ("channels", Rule::Numbers(1, 8, 1, 255)),
+    ("clusters", Rule::Lists(1, 2, 1, 15_871)),
+    ("priority", Rule::Number(0, 7)),
+    ("rate", Rule::Number(0, 1_000_000_000)),
+    ("burst", Rule::Number(1, 16_777_216)),
+    ("unit", Rule::Unit),
+    ("headers", Rule::Flag),
+    ("start_us", Rule::Number(0, 10_000_000)),
+    ("interval_us", Rule::Number(100, 10_000_000)),
+    ("jitter_us", Rule::Number(0, 10_000_000)),
+];
+
+static UNSOLICITED_KEYS: [Key; 9] = [
+    ("id", Rule::Number(1, 65_535)),
+    ("type", Rule::Type),
+    ("channels", Rule::Numbers(1, 1, 1, 255)),
+    ("clusters", Rule::Lists(1, 1, 1, 15_871)),
+    ("start_us", Rule::Number(0, 10_000_000)),
+    ("interval_us", Rule::Number(100, 10_000_000)),
+    ("jitter_us", Rule::Number(0, 10_000_000)),
+    ("grant_bytes", Rule::Number(1, 65_535)),
+    ("grants_per_interval", Rule::Number(1, 127)),
+];
+
+static STATION_KEYS: [Key; 6] = [
+    ("id", Rule::Number(1, 65_535)),
+    ("channel", Rule::Number(1, 255)),
+    ("sid", Rule::Number(1, 15_871)),
+    ("start_us", Rule::Number(0, 10_000_000)),
+    ("interval_us", Rule::Number(100, 10_000_000)),
+    ("jitter_us", Rule::Number(0, 10_000_000)),
 ];
 
 /// The keys of the top level.
@@ -110,10 +151,45 @@ pub(crate) fn short_keys() -> &'static [Key]
     SHORT_KEYS.as_slice()
 }
 
-/// The keys of a flow.
-#[tactic(auto, unfolding(crate::specs::Keys::flow_keys))]
-pub(crate) fn flow_keys() -> &'static [Key]
-    ensures { keys_of result.now ≡ flow_keys }
+/// The keys of a flow of this scheduling type.
+pub(crate) fn flow_keys(kind: SchedulingType) -> &'static [Key]
+    ensures { keys_of result.now ≡ flow_keys kind }
 {
-    FLOW_KEYS.as_slice()
+    match kind {
+        SchedulingType::BestEffort => best_effort_keys(),
+        SchedulingType::NonRealTimePolling | SchedulingType::RealTimePolling => polling_keys(),
+        SchedulingType::UnsolicitedGrant => unsolicited_keys(),
+    }
+}
+
+/// The keys of a flow of best effort.
+#[tactic(auto, unfolding(crate::specs::Keys::best_effort_keys))]
+fn best_effort_keys() -> &'static [Key]
+    ensures { keys_of result.now ≡ best_effort_keys }
+{
+    BEST_EFFORT_KEYS.as_slice()
+}
+
+/// The keys of a flow that is polled.
+#[tactic(auto, unfolding(crate::specs::Keys::polling_keys))]
+fn polling_keys() -> &'static [Key]
+    ensures { keys_of result.now ≡ polling_keys }
+{
+    POLLING_KEYS.as_slice()
+}
+
+/// The keys of a flow with unsolicited grants.
+#[tactic(auto, unfolding(crate::specs::Keys::unsolicited_keys))]
+fn unsolicited_keys() -> &'static [Key]
+    ensures { keys_of result.now ≡ unsolicited_keys }
+{
+    UNSOLICITED_KEYS.as_slice()
+}
+
+/// The keys of a station.
+#[tactic(auto, unfolding(crate::specs::Keys::station_keys))]
+pub(crate) fn station_keys() -> &'static [Key]
+    ensures { keys_of result.now ≡ station_keys }
+{
+    STATION_KEYS.as_slice()
 }

@@ -1,4 +1,4 @@
-//! The configuration: the upstream channels and the service flows, read from a TOML text without a fault.
+//! The configuration: the upstream channels, the service flows and the stations, read from a TOML text without a fault.
 //!
 //! ```
 //! let config = Config::read(alloc, text)?; // or the first fault, as C8 of channel 0
@@ -19,11 +19,23 @@ mod channels;
 // The service flows of the table.
 mod flows;
 
+// The stations of the table.
+mod stations;
+
 // What a SID asks for.
 mod found;
 
+// Whose turn it is in a round.
+mod turns;
+
+// Tables in their order, found by id.
+mod listed;
+
 // The configuration as a whole.
 mod config;
+
+// The configuration of a text, or its first fault.
+mod reading;
 
 // The keys of each table, and the rules of their values.
 mod keys;
@@ -34,17 +46,32 @@ mod documents;
 // The shape of one table: its keys and their values.
 mod shapes;
 
+// What has room in a MAP.
+mod limits;
+
 // Channels, read and judged.
 mod channel_tables;
 
-// Flows, read and judged.
+// Flows, read and judged: their tables,
 mod flow_tables;
 
+// their channels, ids and SIDs,
+mod flow_names;
+
+// and their grants.
+mod flow_grants;
+
+// Stations, read and judged.
+mod station_tables;
+
 pub use channels::Channel;
-pub use config::{Config, MAX_CONFIG_BYTES};
+pub use config::Config;
 pub use faults::{ConfigFault, Place, TableName};
 pub use flows::{Flow, SchedulingType};
 pub use found::Found;
+pub use reading::MAX_CONFIG_BYTES;
+pub use stations::Station;
+pub use turns::Turn;
 
 #[cfg(test)]
 mod tests;

@@ -59,6 +59,7 @@ fn keeps(rule: Rule, value: &Value) -> bool
 {
     match rule {
         Rule::Number(least, most) => is_number(value, least, most),
+        Rule::Type => is_type(value),
         Rule::Unit => is_unit(value),
         Rule::Flag => value.as_bool().is_some(),
         Rule::Numbers(fewest, many, least, most) => match value.as_array() {
@@ -78,11 +79,21 @@ fn keeps(rule: Rule, value: &Value) -> bool
 }
 
 /// Whether a value is a whole number in the range.
-pub(crate) fn is_number(value: &Value, least: u32, most: u32) -> bool
+fn is_number(value: &Value, least: u32, most: u32) -> bool
     ensures { result ≡ Shapes.is_number least most (view value.now) }
 {
     match value.as_integer() {
         Some(number) => i64::from(least) <= number && number <= i64::from(most),
+        None => false,
+    }
+}
+
+/// Whether a value is a scheduling type: 2, 3, 4 or 6.
+pub(crate) fn is_type(value: &Value) -> bool
+    ensures { result ≡ Shapes.is_type (view value.now) }
+{
+    match value.as_integer() {
+        Some(number) => matches!(number, 2 | 3 | 4 | 6),
         None => false,
     }
 }

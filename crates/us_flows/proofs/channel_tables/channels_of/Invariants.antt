@@ -7,8 +7,8 @@ use Rattle.us_flows.proofs.channel_tables.channels_of.Given as goal
 -- what is found of all items is found of those that are left
 abbrev pub invariant-loop-value : goal.invariant-loop-value
 invariant-loop-value l =
-    (in_turn channel_of (channel_fault l.round_ticks) l.channels.items (items_view (drop l.value-index l.items)) ≡
+    (in_turn channel_of (channel_fault l.round_ticks) l.channels (items_view (drop l.value-index l.items)) ≡
     in_turn channel_of (channel_fault l.round_ticks) [] (items_view l.items)) ×
-    (l.channels.items ++ all_of channel_of (items_view (drop l.value-index l.items)) ≡
+    (l.channels ++ all_of channel_of (items_view (drop l.value-index l.items)) ≡
     all_of channel_of (items_view l.items)) ×
-    (length l.channels.items ≡ l.value-index)
+    (length l.channels ≡ l.value-index)

@@ -7,8 +7,8 @@ use Rattle.us_flows.proofs.flow_tables.flows_of.Given as goal
 -- what is found of all items is found of those that are left
 abbrev pub invariant-loop-value : goal.invariant-loop-value
 invariant-loop-value l =
-    (in_turn flow_of (flow_fault l.channels) l.flows.items (items_view (drop l.value-index l.items)) ≡
-    in_turn flow_of (flow_fault l.channels) [] (items_view l.items)) ×
-    (l.flows.items ++ all_of flow_of (items_view (drop l.value-index l.items)) ≡
+    (in_turn flow_of (flow_fault l.round_ticks l.channels) l.flows (items_view (drop l.value-index l.items)) ≡
+    in_turn flow_of (flow_fault l.round_ticks l.channels) [] (items_view l.items)) ×
+    (l.flows ++ all_of flow_of (items_view (drop l.value-index l.items)) ≡
     all_of flow_of (items_view l.items)) ×
-    (length l.flows.items ≡ l.value-index)
+    (length l.flows ≡ l.value-index)

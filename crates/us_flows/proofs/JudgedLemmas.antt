@@ -1,0 +1,198 @@
+-- The answers to a flow's table: the first fault of a list of checks is its first fault, if no list before it finds one.
+use Rattle.std.proofs.Common.{◌≡◌, ℕ, ◌+◌, ◌≤◌, ◌<◌, Bool, List, [], ◌∷◌, ◌++◌, length, get_or, drop, append_assoc, codes, Option, Some, None, refl, sym, ◌∙◌, ap, arith, inl, inr}
+use Rattle.std.specs.Prelude.{Result, Err}
+use Rattle.std.proofs.lemmas.Bool.{cases_Bool}
+use Rattle.std.proofs.lemmas.List.{drop_more, length-append}
+use Rattle.toml.specs.Data.{Data, string, integer, float, boolean, datetime, array, table, as_table, Members, Items, no_items, item}
+use Rattle.toml.specs.declared.value.Value.{Value}
+use Rattle.toml.specs.View.{view, items_view}
+use Rattle.us_flows.specs.declared.channels.Channel.{Channel}
+use Rattle.us_flows.specs.declared.faults.Place.{Place}
+use Rattle.us_flows.specs.declared.faults.TableName.TheVariants as name
+use Rattle.us_flows.specs.declared.faults.ConfigFault.{ConfigFault}
+use Rattle.us_flows.specs.declared.faults.ConfigFault.TheVariants as fault
+use Rattle.us_flows.specs.Tables.{FlowTable}
+use Rattle.us_flows.specs.Documents.{lists_of, items_at}
+use Rattle.us_flows.specs.Shapes.{count}
+use Rattle.us_flows.specs.Reading.{kind_at, flow_of, all_of}
+use Rattle.us_flows.specs.Checks.{Check, first_of, or_else, top, in_turn, flows_fault, flow_place, flow_shape, flow_names, flow_grants, flow_fault}
+use Rattle.us_flows.specs.Answers.{Judged}
+use Rattle.us_flows.proofs.CheckLemmas.{none_finds}
+use Rattle.us_flows.proofs.FlowLemmas.{flow_ranges}
+
+-- no check finds that the text is no document
+abbrev pub IsJudged : ConfigFault → Type 0
+IsJudged fault.Text = ⊥
+IsJudged other = Unit {0}
+
+abbrev pub AreJudged : List Check → Type 0
+AreJudged [] = Unit {0}
+AreJudged (check ∷ checks) = IsJudged check.1 × AreJudged checks
+
+first_judged : (checks : List Check) (f : ConfigFault) → AreJudged checks → first_of checks ≡ Some f → IsJudged f
+first_judged [] f all h = let no : None ≡ Some f = h in cc
+first_judged (check ∷ checks) f all h = elim (cases_Bool check.0) [
+  | inl t ↦ let here : Some check.1 ≡ Some f = rw t at h in let same : check.1 ≡ f = cc in rw (← same) all.0
+  | inr later ↦ first_judged checks f all.1 (rw later at h)
+]
+
+judged : {A : Type 0} (f : ConfigFault) (first : Option ConfigFault) (Is : A → Type 0) → IsJudged f → first ≡ Some f →
+    Judged (Err f) first Is
+judged fault.Text first Is is h = absurd is
+judged (fault.Missing place) first Is is h = h
+judged (fault.Range place) first Is is h = h
+judged (fault.UnknownChannel place) first Is is h = h
+judged (fault.DuplicateId place) first Is is h = h
+judged (fault.DuplicateSid place) first Is is h = h
+judged (fault.ClusterLength place) first Is is h = h
+judged (fault.RoundNotMultiple place) first Is is h = h
+judged (fault.ReservesTooLong place) first Is is h = h
+judged (fault.Jitter place) first Is is h = h
+judged (fault.GrantLongerThanMap place) first Is is h = h
+judged (fault.Headers place) first Is is h = h
+judged fault.NoMemory first Is is h = tt
+
+-- the fault of a part is that of the whole
+carried : {A B : Type 0} (f : ConfigFault) (part whole : Option ConfigFault) (Is : A → Type 0) (Are : B → Type 0) →
+    (part ≡ Some f → whole ≡ Some f) → Judged (Err f) part Is → Judged (Err f) whole Are
+carried fault.Text part whole Is Are on h = absurd h
+carried (fault.Missing place) part whole Is Are on h = on h
+carried (fault.Range place) part whole Is Are on h = on h
+carried (fault.UnknownChannel place) part whole Is Are on h = on h
+carried (fault.DuplicateId place) part whole Is Are on h = on h
+carried (fault.DuplicateSid place) part whole Is Are on h = on h
+carried (fault.ClusterLength place) part whole Is Are on h = on h
+carried (fault.RoundNotMultiple place) part whole Is Are on h = on h
+carried (fault.ReservesTooLong place) part whole Is Are on h = on h
+carried (fault.Jitter place) part whole Is Are on h = on h
+carried (fault.GrantLongerThanMap place) part whole Is Are on h = on h
+carried (fault.Headers place) part whole Is Are on h = on h
+carried fault.NoMemory part whole Is Are on h = tt
+
+-- A flow.
+
+pub shape_judged : (round : ℕ) (channels : List Channel) (earlier : List FlowTable) (t : Members) (index : ℕ) (f : ConfigFault) →
+    index ≡ length earlier →
+    first_of (flow_shape (record { table = name.Flow; index = index }) t) ≡ Some f →
+    Judged (Err f) (flow_fault round channels earlier t) (λ flow. flow ≡ flow_of t)
+unfolding flow_fault
+shape_judged round channels earlier t index f here h =
+    let found : first_of (flow_shape (flow_place earlier) t) ≡ Some f = rw here at h in
+    judged f (flow_fault round channels earlier t) (λ flow. flow ≡ flow_of t)
+    (first_judged (flow_shape (flow_place earlier) t) f (tt, (tt, (tt, (tt, tt)))) found) (rw found refl)
+
+pub names_judged : (round : ℕ) (channels : List Channel) (earlier : List FlowTable) (t : Members) (index : ℕ) (flow : FlowTable) (f : ConfigFault) →
+    index ≡ length earlier → flow ≡ flow_of t →
+    first_of (flow_shape (record { table = name.Flow; index = index }) t) ≡ None →
+    first_of (flow_names (record { table = name.Flow; index = index }) channels earlier flow) ≡ Some f →
+    Judged (Err f) (flow_fault round channels earlier t) (λ flow. flow ≡ flow_of t)
+unfolding flow_fault
+names_judged round channels earlier t index flow f here is shape h =
+    let none : first_of (flow_shape (flow_place earlier) t) ≡ None = rw here at shape in
+    let found : first_of (flow_names (flow_place earlier) channels earlier (flow_of t)) ≡ Some f = rw (here, is) at h in
+    judged f (flow_fault round channels earlier t) (λ flow. flow ≡ flow_of t)
+    (first_judged (flow_names (flow_place earlier) channels earlier (flow_of t)) f (tt, (tt, (tt, (tt, tt)))) found)
+    (rw (none, found) refl)
+
+pub grants_judged : (round : ℕ) (channels : List Channel) (earlier : List FlowTable) (t : Members) (index : ℕ) (flow : FlowTable) (f : ConfigFault) →
+    index ≡ length earlier → flow ≡ flow_of t →
+    first_of (flow_shape (record { table = name.Flow; index = index }) t) ≡ None →
+    first_of (flow_names (record { table = name.Flow; index = index }) channels earlier flow) ≡ None →
+    first_of (flow_grants (record { table = name.Flow; index = index }) round channels flow) ≡ Some f →
+    Judged (Err f) (flow_fault round channels earlier t) (λ flow. flow ≡ flow_of t)
+unfolding flow_fault
+grants_judged round channels earlier t index flow f here is shape names h =
+    let none : first_of (flow_shape (flow_place earlier) t) ≡ None = rw here at shape in
+    let apart : first_of (flow_names (flow_place earlier) channels earlier (flow_of t)) ≡ None = rw (here, is) at names in
+    let found : first_of (flow_grants (flow_place earlier) round channels (flow_of t)) ≡ Some f = rw (here, is) at h in
+    judged f (flow_fault round channels earlier t) (λ flow. flow ≡ flow_of t)
+    (first_judged (flow_grants (flow_place earlier) round channels (flow_of t)) f (tt, (tt, (tt, tt))) found)
+    (rw (none, apart, found) refl)
+
+-- it has few clusters
+
+length-lists_of : (items : Items) → length (lists_of items) ≡ count items
+length-lists_of no_items = refl
+length-lists_of (item d ds) = omega (arith, length-lists_of ds)
+
+pub few_clusters : (t : Members) (place : Place) (flow : FlowTable) → flow ≡ flow_of t →
+    first_of (flow_shape place t) ≡ None → length flow.clusters ≤ 2
+few_clusters t place flow is h =
+    let shape = none_finds (flow_shape place t) h in
+    let ranges = flow_ranges t shape.1.1.0 shape.1.1.1.0 in
+    let lists : length flow.clusters ≡ length (flow_of t).clusters = ap (λ f. length f.clusters) is in
+    omega (arith, lists, length-lists_of (items_at (codes "clusters") t), ranges.clusters.1)
+
+-- A list of flows, of which the next one is read.
+
+-- what the next item of a list of values is
+next_data : (values : List Value) (i : ℕ) (value d : Value) → i < length values → value ≡ get_or values i d →
+    items_view (drop i values) ≡ item (view value) (items_view (drop (i + 1) values))
+next_data values i value d within is = rw (drop_more values i d within, is) refl
+
+is_table : (d : Data) (t : Members) → Some t ≡ as_table d → d ≡ table t
+is_table (table ms) t h = let same : Some t ≡ Some ms = h in let e : t ≡ ms = cc in ap table (sym e)
+is_table (string s) t h = let no : Some t ≡ None = h in cc
+is_table (integer z) t h = let no : Some t ≡ None = h in cc
+is_table (float x) t h = let no : Some t ≡ None = h in cc
+is_table (boolean b) t h = let no : Some t ≡ None = h in cc
+is_table (datetime x) t h = let no : Some t ≡ None = h in cc
+is_table (array ds) t h = let no : Some t ≡ None = h in cc
+
+no_table : {A : Type 0} (of : Members → A) (fault_of : List A → Members → Option ConfigFault) (earlier : List A) (d : Data) (rest : Items) →
+    None ≡ as_table d → in_turn of fault_of earlier (item d rest) ≡ Some (fault.Range top)
+no_table of fault_of earlier (table ms) rest h = let no : None ≡ Some ms = h in cc
+no_table of fault_of earlier (string s) rest h = refl
+no_table of fault_of earlier (integer z) rest h = refl
+no_table of fault_of earlier (float x) rest h = refl
+no_table of fault_of earlier (boolean b) rest h = refl
+no_table of fault_of earlier (datetime x) rest h = refl
+no_table of fault_of earlier (array ds) rest h = refl
+
+module _ (round : ℕ) (channels : List Channel) (values : List Value) (flows : List FlowTable) (i : ℕ) (value d : Value)
+    (within : i < length values) (is : value ≡ get_or values i d)
+    (left : in_turn flow_of (flow_fault round channels) flows (items_view (drop i values)) ≡ flows_fault round channels (items_view values)) where
+  -- an item that is no table
+  pub refused_item : None ≡ as_table (view value) → flows_fault round channels (items_view values) ≡ Some (fault.Range top)
+  refused_item none =
+      sym left ∙ ap (in_turn flow_of (flow_fault round channels) flows) (next_data values i value d within is) ∙
+      no_table flow_of (flow_fault round channels) flows (view value) (items_view (drop (i + 1) values)) none
+
+  -- what is found of all items, where the next is a table
+  at_table : (t : Members) → Some t ≡ as_table (view value) →
+      or_else (flow_fault round channels flows t)
+      (in_turn flow_of (flow_fault round channels) (flows ++ flow_of t ∷ []) (items_view (drop (i + 1) values)))
+      ≡ flows_fault round channels (items_view values)
+  at_table t some =
+      let here : items_view (drop i values) ≡ item (table t) (items_view (drop (i + 1) values)) =
+      next_data values i value d within is ∙ ap (λ x. item x (items_view (drop (i + 1) values))) (is_table (view value) t some) in
+      sym (ap (in_turn flow_of (flow_fault round channels) flows) here) ∙ left
+
+  -- a flow that is refused
+  pub refused_flow : (t : Members) (f : ConfigFault) (Is : List FlowTable → Type 0) → Some t ≡ as_table (view value) →
+      Judged (Err f) (flow_fault round channels flows t) (λ flow. flow ≡ flow_of t) →
+      Judged (Err f) (flows_fault round channels (items_view values)) Is
+  refused_flow t f Is some h =
+      carried f (flow_fault round channels flows t) (flows_fault round channels (items_view values))
+      (λ flow. flow ≡ flow_of t) Is (λ found. sym (at_table t some) ∙ rw found refl) h
+
+  -- a flow that is accepted
+  pub accepted_flow : (t : Members) (flow : FlowTable) (more : List FlowTable) → Some t ≡ as_table (view value) →
+      flow_fault round channels flows t ≡ None → flow ≡ flow_of t → more ≡ flows ++ flow ∷ [] →
+      flows ++ all_of flow_of (items_view (drop i values)) ≡ all_of flow_of (items_view values) → length flows ≡ i →
+      (in_turn flow_of (flow_fault round channels) more (items_view (drop (i + 1) values)) ≡ flows_fault round channels (items_view values)) ×
+      (more ++ all_of flow_of (items_view (drop (i + 1) values)) ≡ all_of flow_of (items_view values)) ×
+      (length more ≡ i + 1)
+  accepted_flow t flow more some none same all read count =
+      let added : more ≡ flows ++ flow_of t ∷ [] = all ∙ ap (λ f. flows ++ f ∷ []) same in
+      let here : items_view (drop i values) ≡ item (table t) (items_view (drop (i + 1) values)) =
+      next_data values i value d within is ∙ ap (λ x. item x (items_view (drop (i + 1) values))) (is_table (view value) t some) in
+      let found = rw none at (at_table t some) in
+      let lists : flows ++ flow_of t ∷ all_of flow_of (items_view (drop (i + 1) values)) ≡ all_of flow_of (items_view values) =
+      sym (ap (λ x. flows ++ all_of flow_of x) here) ∙ read in
+      let size = length-append flows (flow_of t ∷ []) in (
+        ap (λ fs. in_turn flow_of (flow_fault round channels) fs (items_view (drop (i + 1) values))) added ∙ found,
+        ap (λ fs. fs ++ all_of flow_of (items_view (drop (i + 1) values))) added ∙
+            append_assoc flows (flow_of t ∷ []) (all_of flow_of (items_view (drop (i + 1) values))) ∙ lists,
+        omega (arith, size, count, ap length added),
+      )

@@ -1,0 +1,177 @@
+ghost use Rattle.std.specs.Prelude.{◌≡◌, ◌≤◌, ◌<◌, ◌+◌, ◌*◌, ◌++◌, List, [], ◌∷◌, false};
+ghost use Rattle.std.specs.Prelude.{length, map, zip, flat_map, OnOk, IfOk};
+ghost use Rattle.std.specs.List.{list_any};
+ghost use Rattle.std.specs.Map.{values_of};
+ghost use Rattle.indexmap.specs.IndexMap.{insert_all};
+ghost use Rattle.us_flows.specs.Tables.{FlowTable, sids_of};
+ghost use Rattle.us_flows.specs.Clusters.{requesting, found_among};
+ghost use Rattle.us_flows.specs.Checks.{has_flow, is_taken, same_sid, repeats};
+ghost use Rattle.us_flows.specs.Listed.{AreIndexed, asks, asked_from};
+
+use crate::flows::{Flow, SchedulingType};
+use crate::found::Found;
+use indexmap::IndexMap;
+use std::alloc::{AllocError, Global};
+use std::marker::Model;
+
+/// Service flows in table order, found by id, with an index of what their SIDs ask for.
+#[derive(Debug, Drop)]
+pub(crate) struct Flows {
+    map: IndexMap<u16, Flow>,
+    /// What each SID asks for, by its channel and itself.
+    sids: IndexMap<(u8, u16), Found>,
+    /// How many SID clusters make requests.
+    clusters: u16,
+}
+
+impl Model for Flows {
+    ghost Value = { List FlowTable };
+
+    ghost view = { λ f. values_of f.map.entries };
+
+    ghost invariant = { λ f. AreIndexed f.map.entries f.sids.entries f.clusters };
+}
+
+impl Flows {
+    /// No flow.
+    pub(crate) fn new(alloc: Global) -> Flows
+        ensures { result ≡ [] }
+    {
+        Flows {
+            map: IndexMap::new(alloc),
+            sids: IndexMap::new(alloc),
+            clusters: 0,
+        }
+    }
+
+    /// Whether a flow has this id.
+    pub(crate) fn has(&self, id: u16) -> bool
+        ensures { result ≡ has_flow self.now id }
+    {
+        self.map.contains_key(&id)
+    }
+
+    /// Whether a flow has this SID on this channel.
+    pub(crate) fn has_sid(&self, channel: u8, sid: u16) -> bool
+        ensures { result ≡ is_taken self.now (channel, sid) }
+    {
+        self.sids.contains_key(&(channel, sid))
+    }
+
+    /// How many there are.
+    pub(crate) fn len(&self) -> usize
+        ensures { result ≡ length self.now }
+    {
+        self.map.len()
+    }
+
+    /// All of them in table order.
+    pub(crate) fn all(&self) -> &[Flow]
+        ensures { result.now ≡ self.now }
+    {
+        self.map.values().as_slice()
+    }
+
+    /// How many SID clusters make requests.
+    pub(crate) fn clusters(&self) -> usize
+        ensures value { result ≡ length (flat_map requesting self.now) }
+        ensures few { result ≤ 2 * length self.now }
+    {
+        self.clusters as usize
+    }
+
+    /// What a SID asks for on a channel.
+    pub(crate) fn lookup(&self, channel: u8, sid: u16) -> Option<Found>
+        ensures { result ≡ found_among self.now channel sid }
+    {
+        self.sids.get(&(channel, sid)).copied()
+    }
+
+    /// These flows with one more behind them. Where memory is wanting they are gone: an index of a part of a flow's
+    /// SIDs is of no use.
+    pub(crate) fn pushed(self, flow: Flow) -> Result<Flows, AllocError>
+        requires id { has_flow self flow.id ≡ false }
+        requires sids { list_any (is_taken self) (sids_of flow) ≡ false }
+        requires apart { repeats same_sid (sids_of flow) ≡ false }
+        requires few { length self < 1024 }
+        requires clusters { length flow.clusters ≤ 2 }
+        ensures { IfOk result (λ flows. flows ≡ self ++ flow ∷ []) }
+    {
+        let Flows {
+            mut map,
+            mut sids,
+            clusters,
+        } = self;
+        index_flow(&mut sids, &flow, clusters)?;
+        let more = requesting_clusters(&flow);
+        map.insert(flow.id, flow)?;
+        Ok(Flows {
+            map,
+            sids,
+            clusters: clusters + more,
+        })
+    }
+}
+
+/// How many clusters of a flow make requests.
+fn requesting_clusters(flow: &Flow) -> u16
+    requires { length flow.now.clusters ≤ 2 }
+    ensures value { result ≡ length (requesting flow.now) }
+    ensures few { result ≤ 2 }
+{
+    if flow.kind.makes_requests() {
+        flow.clusters().len() as u16
+    } else {
+        0
+    }
+}
+
+/// Puts the SIDs of a flow into the index, of which the first cluster has this number.
+fn index_flow(
+    sids: &mut IndexMap<(u8, u16), Found>,
+    flow: &Flow,
+    number: u16,
+) -> Result<(), AllocError>
+    requires { number + length flow.now.clusters ≤ 65535 }
+    ensures { OnOk result (sids.new.entries ≡ insert_all same_sid sids.old.entries
+        (asked_from (asks flow.now.kind) number flow.now.channels flow.now.clusters)) }
+{
+    let mut list = 0;
+    for cluster in &flow.clusters {
+        index_cluster(
+            sids,
+            &flow.channels,
+            cluster,
+            found_by(flow.kind, number + list),
+        )?;
+        list += 1;
+    }
+    Ok(())
+}
+
+/// Puts the SIDs of a cluster into the index, each on its channel.
+fn index_cluster(
+    sids: &mut IndexMap<(u8, u16), Found>,
+    channels: &[u8],
+    cluster: &[u16],
+    found: Found,
+) -> Result<(), AllocError>
+    ensures { OnOk result (sids.new.entries ≡ insert_all same_sid sids.old.entries
+        (map (λ sid. (sid, found)) (zip channels.now cluster.now))) }
+{
+    for (channel, sid) in channels.iter().zip(cluster) {
+        sids.insert((*channel, *sid), found)?;
+    }
+    Ok(())
+}
+
+/// What the SIDs of a cluster ask for, which has this number if it makes requests.
+fn found_by(kind: SchedulingType, number: u16) -> Found
+    ensures { result ≡ asks kind number }
+{
+    if kind.makes_requests() {
+        Found::Cluster(number)
+    } else {
+        Found::Unsolicited
+    }
+}

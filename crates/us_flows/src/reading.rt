@@ -1,0 +1,83 @@
+ghost use Rattle.std.specs.Prelude.{◌≡◌, ◌<◌, length, Err, IfSome};
+ghost use Rattle.us_flows.specs.declared.faults.ConfigFault.TheVariants as fault;
+ghost use Rattle.us_flows.specs.Checks.{first_of, top_checks, first_fault};
+ghost use Rattle.us_flows.specs.Reading;
+ghost use Rattle.us_flows.specs.Answers.{Answers, Judged};
+ghost use Rattle.toml.specs.View.{table_view};
+ghost use Rattle.toml.specs.Errors.{IsMemory};
+
+use crate::channel_tables::channels_of;
+use crate::config::Config;
+use crate::documents::{items_at, number_at};
+use crate::faults::{ConfigFault, TOP};
+use crate::flow_tables::flows_of;
+use crate::keys::top_keys;
+use crate::shapes::{lacks, strays};
+use crate::station_tables::stations_of;
+use std::alloc::Global;
+use toml::Table;
+
+/// The most bytes of a configuration (ours).
+pub const MAX_CONFIG_BYTES: usize = 4_194_304;
+
+impl Config {
+    /// Reads the configuration that a text writes. The answer is its first fault, or the tables.
+    ///
+    /// A text that is too long is C1 whatever memory there is; before anything else is answered, memory may be wanting.
+    pub fn read(alloc: Global, text: &[u8]) -> Result<Config, ConfigFault>
+        ensures answer { Answers text.now result }
+        ensures too_long { 4194304 < length text.now → result ≡ Err fault.Text }
+    {
+        if text.len() > MAX_CONFIG_BYTES {
+            return Err(ConfigFault::Text);
+        }
+        match toml::table_from_slice(alloc, text) {
+            Ok(document) => config_of(alloc, &document),
+            Err(error) => Err(fault_of(&error)),
+        }
+    }
+}
+
+/// The fault of a text that isn't read as a document.
+fn fault_of(error: &toml::de::Error) -> ConfigFault
+    ensures memory { IsMemory error.now → result ≡ fault.NoMemory }
+    ensures text { ¬ IsMemory error.now → result ≡ fault.Text }
+{
+    if error.is_memory() {
+        ConfigFault::NoMemory
+    } else {
+        ConfigFault::Text
+    }
+}
+
+/// The configuration of a document, or its first fault.
+#[tactic(auto, using(crate::proofs::TableLemmas::tables_are), unfolding(crate::specs::Checks::first_fault))]
+fn config_of(alloc: Global, document: &Table) -> Result<Config, ConfigFault>
+    ensures judged { Judged result (first_fault (table_view document.now))
+        (λ config. config ≡ Reading.tables_of (table_view document.now)) }
+    // The top level is judged before memory is taken.
+    ensures early { IfSome (first_of (top_checks (table_view document.now))) (λ fault. result ≡ Err fault) }
+{
+    if let Some(fault) = top_fault(document) {
+        return Err(fault);
+    }
+    let round_ticks = number_at(document, "round_ticks") as u32;
+    let lead_ticks = number_at(document, "lead_ticks") as u32;
+    let channels = channels_of(alloc, round_ticks, items_at(document, "channel"))?;
+    let flows = flows_of(alloc, round_ticks, &channels, items_at(document, "flow"))?;
+    let stations = stations_of(alloc, round_ticks, &channels, items_at(document, "station"))?;
+    Ok(Config::new(alloc, round_ticks, lead_ticks, channels, flows, stations)?)
+}
+
+/// The first fault of the top level.
+fn top_fault(document: &Table) -> Option<ConfigFault>
+    ensures { result ≡ first_of (top_checks (table_view document.now)) }
+{
+    if lacks(top_keys(), document) {
+        return Some(ConfigFault::Missing(TOP));
+    }
+    if strays(top_keys(), document) {
+        return Some(ConfigFault::Range(TOP));
+    }
+    None
+}
