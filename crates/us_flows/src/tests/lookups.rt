@@ -1,29 +1,62 @@
-use super::base::{BASE, changed, read};
-use crate::Found;
+use super::base::{BASE, BIG, changed, read};
+use crate::Config;
+use std::alloc::{AllocError, Global};
 use std::test::Fail;
 
+/// All that SIDs ask for on some channels, one of them in a line: the channel, the SID and the answer.
+fn found_in(alloc: Global, config: &Config) -> Result<String, AllocError> {
+    let mut lines = String::new(alloc);
+    for channel in [0, 1, 10, 20, 255] {
+        for sid in 0..=16_383 {
+            if let Some(found) = config.lookup(channel, sid) {
+                writeln!(lines, "{channel} {sid} {found:?}")?;
+            }
+        }
+    }
+    Ok(lines)
+}
+
+/// No SID is found but those of flows, each on its own channel; a station's SID asks for nothing.
 #[test]
-fn sid_of_the_cluster(rt: HostRuntime) -> Result<(), Fail> {
-    let config = read(rt.alloc(), BASE)?;
-    assert_eq!(rt; config.clusters(), 1);
-    assert_eq!(rt; config.lookup(1, 291), Some(Found::Cluster(0)));
-    assert_eq!(rt; config.lookup(2, 291), None);
-    assert_eq!(rt; config.lookup(1, 290), None);
-    assert_eq!(rt; config.lookup(0, 0), None);
+fn sids_of_flows(rt: HostRuntime) -> Result<(), Fail> {
+    let config = read(rt.alloc(), BIG)?;
+    assert_eq!(rt; config.clusters(), 5);
+    assert_eq!(rt; found_in(rt.alloc(), &config)?.as_str(), "\
+10 257 Cluster(0)
+10 273 Cluster(1)
+10 769 Cluster(3)
+10 785 Cluster(4)
+20 258 Cluster(0)
+20 274 Cluster(1)
+20 513 Cluster(2)
+20 1025 Unsolicited
+");
     Ok(())
 }
 
+/// One SID on both channels, in one flow and in two, and the least and the greatest SID.
 #[test]
-fn rounds_of_a_run(rt: HostRuntime) -> Result<(), Fail> {
-    let config = read(rt.alloc(), BASE)?;
-    assert_eq!(rt; config.rounds_fit(0), false);
-    assert_eq!(rt; config.rounds_fit(1), true);
-    assert_eq!(rt; config.rounds_fit(209_715), true);
-    assert_eq!(rt; config.rounds_fit(209_716), false);
-    assert_eq!(rt; config.rounds_fit(u32::MAX), false);
-    let text = changed(rt.alloc(), "round_ticks = 320", "round_ticks = 4096")?;
-    let longest = read(rt.alloc(), text.as_str())?;
-    assert_eq!(rt; longest.rounds_fit(16_384), true);
-    assert_eq!(rt; longest.rounds_fit(16_385), false);
+fn sids_on_two_channels(rt: HostRuntime) -> Result<(), Fail> {
+    let text = changed(
+        rt.alloc(),
+        BIG,
+        "clusters = [[257, 258], [273, 274]] -> clusters = [[257, 257], [1, 15871]] ; [[1025]] -> [[1]] ; \
+[[769], [785]] -> [[15871]]",
+    )?;
+    let config = read(rt.alloc(), text.as_str())?;
+    assert_eq!(rt; config.clusters(), 4);
+    assert_eq!(rt; found_in(rt.alloc(), &config)?.as_str(), "\
+10 1 Cluster(1)
+10 257 Cluster(0)
+10 15871 Cluster(3)
+20 1 Unsolicited
+20 257 Cluster(0)
+20 513 Cluster(2)
+20 15871 Cluster(1)
+");
+    let (no_flows, _) = BASE.split_once("[[flow]]").ok_or("no flow")?;
+    let empty = read(rt.alloc(), no_flows)?;
+    assert_eq!(rt; empty.clusters(), 0);
+    assert_eq!(rt; found_in(rt.alloc(), &empty)?.as_str(), "");
     Ok(())
 }

@@ -1,147 +1,120 @@
-use super::base::{BASE, CHANNEL, FLOW, TOP, changed, fault_of, other_answer};
-use crate::{Config, ConfigFault};
+use super::base::{BIG, others};
 use std::test::Fail;
 
-const NOT_WHOLE: &str = "\
-round_ticks = 320 -> round_ticks = 321
-round_ticks = 320 -> round_ticks = 1
-minislot_log2 = 1 -> minislot_log2 = 7";
+/// Two faults or more, of which the first in order is answered.
+const ORDER: &str = "\
+# no document before all else
+C1 | round_ticks = 640 -> round_ticks =
+C1 | jitter_us = 1000 -> jitter_us ; lead_ticks = 300 -> lead_ticks = 0 ; round_ticks = 640 -> ~
+# of the top level: a missing key, then values, keys and items
+C2 top 0 | round_ticks = 640 -> other = 640
+C2 top 0 | lead_ticks = 300 -> ~ ; round_ticks = 640 -> round_ticks = 0
+C2 top 0 | lead_ticks = 300 -> ~ ; [[station]] -> [station] ; ~[[station]] -> ~[other]
+# of a channel: a missing key, in a profile too, before a value
+C2 channel 0 | ucd_count = 7 -> ucd_count = 256 ; ranging_backoff = [2, 6] -> ~
+C2 channel 0 | ucd_count = 7 -> other = 7
+C2 channel 0 | ucd_count = 7 -> ucd_count = 256 ; max_minislots = 11 } -> shortest = 11 }
+C2 channel 0 | long = { -> long = 1 # { ; bits = 4, preamble = 24, guard = 10 -> bits = 4, guard = 10
+C2 channel 0 | long = { bits = 4 -> long = { bits = 7 ; station_minislots = 5 -> ~
+C2 channel 1 | bits = 6 -> bits = 7 ; fec_k = 80, shortened = false -> fec_k = 80
+C2 channel 1 | fec_t = 5, -> fec_u = 5,
+C2 channel 1 | id = 20~ -> id = 10~ ; ucd_count = 8 -> ~
+# a value before an id, a round and reserves
+C3 channel 1 | id = 20~ -> id = 10~ ; ucd_count = 8 -> ucd_count = 256
+C3 channel 1 | id = 20~ -> id = 10~ ; ucd_count = 8 -> ucd_count = 8~other = 1
+C3 channel 1 | id = 20~ -> id = 10~ ; bits = 3 -> bits = 7
+C3 channel 0 | round_ticks = 640 -> round_ticks = 641 ; station_minislots = 5 -> station_minislots = 0
+C3 channel 1 | round_ticks = 640 -> round_ticks = 642 ; fec_t = 5, fec_k = 203 -> fec_t = 16, fec_k = 253
+C3 channel 0 | contention_minislots = 10 -> contention_minislots = 4097
+C3 channel 0 | contention_minislots = 10 -> contention_minislots = 301 ; maintenance_every = 4 -> maintenance_every = 0
+# an id before a round, and a round before reserves
+C5 channel 1 | id = 20~ -> id = 10~ ; round_ticks = 640 -> round_ticks = 642
+C5 channel 1 | id = 20~ -> id = 10~ ; contention_minislots = 30 -> contention_minislots = 4096
+C8 channel 1 | round_ticks = 640 -> round_ticks = 642 ; contention_minislots = 30 -> contention_minislots = 4096
+C8 channel 0 | round_ticks = 640 -> round_ticks = 11
+# of a flow: its type before all else
+C3 flow 0 | id = 101~type = 2 -> type = 7
+C3 flow 0 | id = 101~type = 2 -> type = true~other = 1
+C3 flow 1 | type = 6~channels = [20] -> type = 5 #
+C2 flow 0 | type = 2 -> other = 2
+C2 flow 1 | id = 104~type = 6 -> id = 0
+C2 flow 2 | type = 3 -> ~ ; unit = 2 -> unit = 3
+# a missing key before a value
+C2 flow 0 | id = 101 -> other = 101
+C2 flow 0 | priority = 1 -> start_us = 1
+C2 flow 1 | grant_bytes = 232 -> priority = 0
+C2 flow 2 | id = 103 -> ~ ; jitter_us = 500 -> jitter_us = -1
+C2 flow 3 | clusters = [[769], [785]] -> ~ ; unit = 8 -> unit = 7
+C2 flow 0 | channels = [10, 20] -> channels = [30] ; headers = true -> ~
+C2 flow 1 | id = 104 -> id = 101 ; grants_per_interval = 2 -> ~
+# a value before channels, ids, clusters and SIDs
+C3 flow 0 | channels = [10, 20] -> channels = [10, 30] ; priority = 1 -> priority = 8
+C3 flow 0 | channels = [10, 20] -> channels = [30, 256]
+C3 flow 1 | channels = [20] -> channels = [30] ; grant_bytes = 232 -> grant_bytes = 232~other = 1
+C3 flow 0 | channels = [10, 20] -> channels = [10, 10] ; burst = 3044 -> burst = 0
+C3 flow 1 | id = 104 -> id = 101 ; start_us = 300 -> start_us = -1
+C3 flow 2 | clusters = [[513]] -> clusters = [[513, 0]]
+C3 flow 2 | clusters = [[513]] -> clusters = [[258]] ; unit = 2 -> unit = 3
+C3 flow 3 | clusters = [[769], [785]] -> clusters = [[], [], []]
+C3 flow 3 | jitter_us = 600 -> jitter_us = 10000001
+# a channel that isn't there before one that is there twice, and before an id
+C4 flow 0 | channels = [10, 20] -> channels = [30, 30]
+C4 flow 0 | channels = [10, 20] -> channels = [10, 10, 30]
+C4 flow 1 | channels = [20] -> channels = [30] ; id = 104 -> id = 101
+C4 flow 2 | channels = [20]~clusters = [[513]] -> channels = [30]~clusters = [[513, 514]]
+C4 flow 3 | channels = [10]~clusters = [[769], [785]] -> channels = [11]~clusters = [[785], [785]]
+C4 flow 1 | channels = [20] -> channels = [30] ; jitter_us = 800 -> jitter_us = 10000
+# a channel twice, or an id, before clusters and SIDs
+C5 flow 0 | channels = [10, 20]~clusters = [[257, 258], -> channels = [10, 10]~clusters = [[257],
+C5 flow 0 | channels = [10, 20]~clusters = [[257, 258], -> channels = [10, 10]~clusters = [[257, 257],
+C5 flow 1 | id = 104 -> id = 101 ; clusters = [[1025]] -> clusters = [[]]
+C5 flow 1 | id = 104 -> id = 101 ; clusters = [[1025]] -> clusters = [[258]]
+C5 flow 3 | id = 102 -> id = 104 ; jitter_us = 600 -> jitter_us = 30000
+# the length of a cluster before SIDs
+C7 flow 0 | clusters = [[257, 258], [273, 274]] -> clusters = [[257, 258], [257]]
+C7 flow 0 | clusters = [[257, 258], [273, 274]] -> clusters = [[257], [257, 274]]
+C7 flow 1 | clusters = [[1025]] -> clusters = [[258, 1025]]
+C7 flow 3 | clusters = [[769], [785]] -> clusters = [[257], []]
+C7 flow 2 | clusters = [[513]] -> clusters = [[]] ; jitter_us = 500 -> jitter_us = 20000
+# SIDs before jitter, grants and headers
+C6 flow 1 | clusters = [[1025]] -> clusters = [[258]] ; jitter_us = 800 -> jitter_us = 10000
+C6 flow 2 | clusters = [[513]] -> clusters = [[513], [513]] ; jitter_us = 500 -> jitter_us = 20000
+C6 flow 1 | clusters = [[1025]] -> clusters = [[258]] ; grant_bytes = 232 -> grant_bytes = 65535
+C6 flow 0 | clusters = [[257, 258], [273, 274]] -> clusters = [[257, 258], [273, 258]] ; true~ -> false~
+# jitter before grants and before headers
+C10 flow 1 | jitter_us = 800 -> jitter_us = 10000 ; grant_bytes = 232 -> grant_bytes = 65535
+C10 flow 2 | [20]~clusters = [[513]] -> [20, 10]~clusters = [[513, 514]] ; jitter_us = 500 -> jitter_us = 20000
+# of a station
+C2 station 0 | id = 201 -> other = 201
+C2 station 1 | sid = 900 -> ~ ; channel = 20 -> channel = 0
+C2 station 1 | id = 202 -> id = 201 ; jitter_us = 1000 -> ~
+C3 station 0 | channel = 10 -> channel = 30 ; sid = 257 -> sid = 0
+C3 station 1 | id = 202 -> id = 201 ; start_us = 500 -> start_us = -1
+C3 station 1 | jitter_us = 1000 -> jitter_us = 10000001
+C4 station 1 | id = 202~channel = 20 -> id = 201~channel = 30
+C4 station 0 | channel = 10 -> channel = 30 ; jitter_us = 900 -> jitter_us = 40000
+C5 station 1 | id = 202 -> id = 201 ; jitter_us = 1000 -> jitter_us = 50000
+# the top level before channels, these before flows, and these before stations
+C3 top 0 | lead_ticks = 300 -> lead_ticks = 0 ; ucd_count = 7 -> ~
+C3 top 0 | lead_ticks = 300 -> lead_ticks = 0 ; type = 2 -> ~
+C3 top 0 | lead_ticks = 300 -> lead_ticks = 300~other = 1 ; jitter_us = 900 -> jitter_us = 40000
+C9 channel 1 | contention_minislots = 30 -> contention_minislots = 121 ; type = 2 -> ~
+C5 channel 1 | id = 20~ -> id = 10~ ; sid = 257 -> ~
+C12 flow 0 | headers = true -> headers = false ; id = 201 -> ~
+C10 flow 3 | jitter_us = 600 -> jitter_us = 30000 ; sid = 257 -> sid = 0
+# an earlier table before a later one
+C9 channel 0 | contention_minislots = 10 -> contention_minislots = 301 ; rate_log2 = 4 -> ~
+C8 channel 0 | round_ticks = 640 -> round_ticks = 641 ; id = 20~ -> id = 10~
+C12 flow 0 | headers = true -> headers = false ; type = 6 -> ~
+C11 flow 1 | grant_bytes = 232 -> grant_bytes = 65535 ; priority = 6 -> ~
+C6 flow 1 | clusters = [[1025]] -> clusters = [[258]] ; clusters = [[513]] -> clusters = [[258, 1]]
+C7 flow 2 | clusters = [[513]] -> clusters = [[]] ; id = 102 -> id = 0
+C10 station 0 | jitter_us = 900 -> jitter_us = 40000 ; id = 202 -> ~
+C4 station 0 | channel = 10 -> channel = 30 ; sid = 900 -> sid = 0";
 
 #[test]
-fn round_of_no_whole_minislots(rt: HostRuntime) -> Result<(), Fail> {
-    let other = other_answer(
-        rt.alloc(),
-        NOT_WHOLE,
-        Some(ConfigFault::RoundNotMultiple(CHANNEL)),
-    )?;
-    assert_eq!(rt; other, None);
-    Ok(())
-}
-
-const TOO_LONG: &str = "\
-contention_minislots = 10 -> contention_minislots = 161
-maintenance_minislots = 0 -> maintenance_minislots = 151";
-
-#[test]
-fn reserves_too_long(rt: HostRuntime) -> Result<(), Fail> {
-    let other = other_answer(
-        rt.alloc(),
-        TOO_LONG,
-        Some(ConfigFault::ReservesTooLong(CHANNEL)),
-    )?;
-    assert_eq!(rt; other, None);
-    Ok(())
-}
-
-/// Also with a cluster of another length.
-const UNKNOWN: &str = "\
-channels = [1] -> channels = [9]
-channels = [1]~clusters = [[291]] -> channels = [9]~clusters = [[]]";
-
-#[test]
-fn unknown_channel(rt: HostRuntime) -> Result<(), Fail> {
-    let other = other_answer(rt.alloc(), UNKNOWN, Some(ConfigFault::UnknownChannel(FLOW)))?;
-    assert_eq!(rt; other, None);
-    Ok(())
-}
-
-const OTHER_LENGTH: &str = "\
-clusters = [[291]] -> clusters = [[291, 292]]
-clusters = [[291]] -> clusters = [[]]";
-
-#[test]
-fn cluster_of_another_length(rt: HostRuntime) -> Result<(), Fail> {
-    let other = other_answer(
-        rt.alloc(),
-        OTHER_LENGTH,
-        Some(ConfigFault::ClusterLength(FLOW)),
-    )?;
-    assert_eq!(rt; other, None);
-    Ok(())
-}
-
-/// A key that is missing from a channel or a profile, before a value out of its range and a key that isn't listed.
-const MISSING_FIRST: &str = "\
-~rate_log2 = 5 -> ~other = 1
-station_minislots = 4~long = { bits = 4, -> station_minislots = 0~long = {
-station_minislots = 4~long = { -> long = 1 # {";
-
-#[test]
-fn missing_before_range(rt: HostRuntime) -> Result<(), Fail> {
-    let top = fault_of(rt.alloc(), "lead_ticks = 160", "other = 1")?;
-    assert_eq!(rt; top, Some(ConfigFault::Missing(TOP)));
-    let other = other_answer(
-        rt.alloc(),
-        MISSING_FIRST,
-        Some(ConfigFault::Missing(CHANNEL)),
-    )?;
-    assert_eq!(rt; other, None);
-    Ok(())
-}
-
-/// A value out of its range, before what it has to do with others.
-const RANGE_FIRST: &str = "\
-contention_minislots = 10~maintenance_minislots = 0 -> contention_minislots = 4097~maintenance_minislots = 4096
-minislot_log2 = 1~rate_log2 = 5 -> minislot_log2 = 7~rate_log2 = 6";
-
-#[test]
-fn range_before_others(rt: HostRuntime) -> Result<(), Fail> {
-    let other = other_answer(rt.alloc(), RANGE_FIRST, Some(ConfigFault::Range(CHANNEL)))?;
-    assert_eq!(rt; other, None);
-    let flow = fault_of(
-        rt.alloc(),
-        "channels = [1]\nclusters = [[291]]",
-        "channels = [9]\nclusters = [[0, 1]]",
-    )?;
-    assert_eq!(rt; flow, Some(ConfigFault::Range(FLOW)));
-    Ok(())
-}
-
-/// A type that isn't there, before a value out of its range; and a right one beside no id and a key that isn't listed.
-const MISSING_IN_FLOW: &str = "\
-[[flow]]~id = 1~type = 2 -> [[flow]]~id = 0
-[[flow]]~id = 1 -> [[flow]]~other = 1
-priority = 0 -> other = 1";
-
-/// The type is looked at before all else.
-#[test]
-fn type_first(rt: HostRuntime) -> Result<(), Fail> {
-    let typed = fault_of(rt.alloc(), "id = 1\ntype = 2", "type = 7")?;
-    assert_eq!(rt; typed, Some(ConfigFault::Range(FLOW)));
-    let other = other_answer(
-        rt.alloc(),
-        MISSING_IN_FLOW,
-        Some(ConfigFault::Missing(FLOW)),
-    )?;
-    assert_eq!(rt; other, None);
-    Ok(())
-}
-
-/// An item of `flow` that is no table belongs to the top level.
-#[test]
-fn items_of_another_kind(rt: HostRuntime) -> Result<(), Fail> {
-    let (before, _) = BASE.split_once("[[flow]]").ok_or("flow")?;
-    let text = format!(in rt.alloc(); "flow = [7]\n{before}")?;
-    let fault = Config::read(rt.alloc(), text.as_bytes()).err();
-    assert_eq!(rt; fault, Some(ConfigFault::Range(TOP)));
-    let (head, tail) = text.as_str().split_once("lead_ticks = 160").ok_or("lead")?;
-    let shorter = format!(in rt.alloc(); "{head}{tail}")?;
-    let fault = Config::read(rt.alloc(), shorter.as_bytes()).err();
-    assert_eq!(rt; fault, Some(ConfigFault::Missing(TOP)));
-    Ok(())
-}
-
-/// The top level before the channel, and the channel before the flow.
-#[test]
-fn tables_in_turn(rt: HostRuntime) -> Result<(), Fail> {
-    let flow = changed(rt.alloc(), "type = 2", "type = 7")?;
-    let (head, tail) = flow.as_str().split_once("rate_log2 = 5").ok_or("rate")?;
-    let both = format!(in rt.alloc(); "{head}rate_log2 = 6{tail}")?;
-    let fault = Config::read(rt.alloc(), both.as_bytes()).err();
-    assert_eq!(rt; fault, Some(ConfigFault::Range(CHANNEL)));
-    let (head, tail) = both.as_str().split_once("lead_ticks = 160").ok_or("lead")?;
-    let all = format!(in rt.alloc(); "{head}lead_ticks = 0{tail}")?;
-    let fault = Config::read(rt.alloc(), all.as_bytes()).err();
-    assert_eq!(rt; fault, Some(ConfigFault::Range(TOP)));
+fn first_of_several(rt: HostRuntime) -> Result<(), Fail> {
+    let big = others(rt.alloc(), BIG, ORDER)?;
+    assert_eq!(rt; big.as_str(), "");
     Ok(())
 }

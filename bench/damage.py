@@ -1,0 +1,162 @@
+#!/usr/bin/env python3
+"""Makes damaged configurations, each as a line for the tests of crates/us_flows: the answer of the plain reader, and
+the changes of the configuration BIG that stands in those tests.
+
+Damage is a number near some limit or from another place, a value of another kind, a key dropped, added or doubled,
+a list with an item more or less, two values swapped, or a table copied; up to four of these at once. No damage is a
+document that is read in one version of TOML alone. Answers come in like shares, as far as there are such lines.
+
+usage: bench/damage.py SEED COUNT
+"""
+import json
+import random
+import re
+import sys
+from collections import Counter
+from pathlib import Path
+
+from plain_reader import answer
+
+TESTS = Path(__file__).parent.parent / "crates/us_flows/src/tests/base.rt"
+MOST_COLUMNS = 120
+LONGEST_LINE = 2 * MOST_COLUMNS
+# numbers near which something is accepted no more: limits of keys, reserves, grants, jitter, and of whole numbers
+LIMITS = [1, 2, 4, 6, 7, 15, 16, 64, 100, 127, 160, 223, 253, 255, 256, 320, 640, 1_024, 3_600, 4_096, 10_000, 15_871]
+LIMITS += [20_000, 40_000, 65_535, 65_536, 10_000_000, 16_777_216, 1_000_000_000, 2**32, 2**63]
+OTHER_KINDS = ["1.0", "'1'", "[1]", "{}", "true", "2000-01-01", "[[1]]", "[]"]
+KEYS = ["other", "priority", "start_us", "grant_bytes", "sid", "id", "max_minislots", "channel"]
+# a key of a table and its value: a list, or a word or number
+PAIR = re.compile(r"\b(\w+) = (\[.*\]|[\w.-]+)")
+
+
+def big():
+    """The configuration BIG of the tests."""
+    return re.search(r'BIG: &str = r#"(.*?)"#', TESTS.read_text(), re.DOTALL).group(1)
+
+
+def change(text, start, end, new):
+    """A change of text[start:end] to `new`, with words before it until it is the first place that reads so."""
+    place = start
+    while text.find(text[place:end]) < place:
+        place = max(text.rfind(blank, 0, place - 1) for blank in " \n") + 1
+    return text[place:end], text[place:start] + new
+
+
+def with_value(text, pair, value):
+    """A change of a key's value."""
+    return change(text, *pair.span(), f"{pair.group(1)} = {value}")
+
+
+def any_pair(chance, text, value=r"."):
+    """A key whose value begins so, anywhere."""
+    return chance.choice([pair for pair in PAIR.finditer(text) if re.match(value, pair.group(2))])
+
+
+def other_number(chance, text):
+    pair = any_pair(chance, text, r"\[*\d")
+    found = chance.choice(list(re.finditer(r"\d+", pair.group(2))))
+    near = chance.choice(LIMITS) + chance.choice([-1, 0, 0, 1])
+    elsewhere = int(chance.choice(re.findall(r"\b\d+\b", text)))
+    beside = int(found.group()) + chance.choice([-1, 1, 2**8, 2**16, 2**32])
+    number = chance.choice([near, elsewhere, elsewhere, beside])
+    return [with_value(text, pair, f"{pair.group(2)[: found.start()]}{number}{pair.group(2)[found.end() :]}")]
+
+
+def other_kind(chance, text):
+    return [with_value(text, any_pair(chance, text), chance.choice(OTHER_KINDS))]
+
+
+def flipped(chance, text):
+    pair = any_pair(chance, text, "true|false")
+    return [with_value(text, pair, "false" if pair.group(2) == "true" else "true")]
+
+
+def dropped(chance, text):
+    start, end = any_pair(chance, text).span()
+    if text.startswith(", ", end):
+        follower = text[end + 2 :].split(" ", 1)[0]
+        return [change(text, start, end + 2 + len(follower), follower)]
+    if text.startswith(" }", end):
+        return [change(text, text.rfind(",", 0, start), end + 2, " }")]
+    return [change(text, start, end, "# dropped")]
+
+
+def added(chance, text):
+    pair = any_pair(chance, text)
+    between = ", " if "{" in text[text.rfind("\n", 0, pair.start()) : pair.start()] else "\n"
+    return [change(text, *pair.span(), f"{pair.group()}{between}{chance.choice(KEYS)} = 1")]
+
+
+def other_count(chance, text):
+    """A list, or a list in it, with an item more or less."""
+    pair = any_pair(chance, text, r"\[")
+    whole = json.loads(pair.group(2))
+    items = chance.choice([whole, *(item for item in whole if type(item) is list)])
+    if items and chance.random() < 0.5:
+        items.pop(chance.randrange(len(items)))
+    else:
+        items.append(chance.choice([*items, chance.choice(LIMITS)]))
+    return [with_value(text, pair, json.dumps(whole))]
+
+
+def swapped(chance, text):
+    """The values of one key in two tables, swapped."""
+    one = any_pair(chance, text)
+    other = chance.choice([pair for pair in PAIR.finditer(text) if pair.group(1) == one.group(1)])
+    one, other = sorted([one, other], key=lambda pair: pair.start())
+    # the later one first, so that the earlier one stands where it stood
+    second = with_value(text, other, one.group(2))
+    return [second, with_value(text.replace(*second, 1), one, other.group(2))]
+
+
+def copied(chance, text):
+    """A flow or a station twice, the first time perhaps with another id."""
+    start = chance.choice([found.start() for found in re.finditer(r"\[\[(flow|station)\]\]", text)])
+    header, table = text[start:].split("\n\n", 1)[0].rstrip("\n").split("\n", 1)
+    table = re.sub(r"\d+", chance.choice(["77", r"\g<0>"]), table, count=1)
+    return [change(text, start, start + len(header), f"{header}\n{table}\n{header}")]
+
+
+# numbers are damaged as often as all else
+DAMAGES = [flipped, dropped, dropped, added, other_kind, other_count, other_count, swapped, copied]
+DAMAGES += len(DAMAGES) * [other_number]
+
+
+def damaged(chance, text):
+    """A text with some damage, and the changes that made it."""
+    changes = []
+    for _ in range(chance.choice([1, 1, 1, 2, 2, 3, 4])):
+        for old, new in chance.choice(DAMAGES)(chance, text):
+            if old != new:
+                text = text.replace(old, new, 1)
+                changes.append(f"{old} -> {new}".replace("\n", "~"))
+    return text, " ; ".join(changes)
+
+
+def wrapped(line):
+    """A line of the tests as lines of a Rust text, none of which is too long."""
+    rows = []
+    while len(line) > MOST_COLUMNS:
+        end = line.rfind(" ", 0, MOST_COLUMNS - 1) + 1
+        rows.append(line[:end] + "\\")
+        line = line[end:]
+    return "\n".join([*rows, line])
+
+
+def lines(seed, count):
+    """So many damaged configurations, of different answers."""
+    chance, base, counts, seen = random.Random(seed), big(), Counter(), set()
+    while len(seen) < count:
+        text, changes = damaged(chance, base)
+        found = answer(text.encode())
+        code = found.split(" ")[0]
+        line = f"{found} | {changes}"
+        if changes and counts[code] < count / 13 and len(line) <= LONGEST_LINE and changes not in seen:
+            counts[code] += 1
+            seen.add(changes)
+            yield line
+
+
+if __name__ == "__main__":
+    for damage in lines(int(sys.argv[1]), int(sys.argv[2])):
+        print(wrapped(damage))
