@@ -6,7 +6,7 @@ use Rattle.std.proofs.lemmas.Bool.{cases_eq, eq-eqb, ne_eqb, le-ltb, and_right}
 use Rattle.std.proofs.lemmas.List.Sums.{sum_by-cons, sum_by-le-sum_by}
 use Rattle.std.proofs.lemmas.Nat.{mul-le}
 use Rattle.us_flows.specs.Tables.{Tables, FlowTable}
-use Rattle.us_flows.specs.Clusters.{Cluster, clusters_of, clusters_from, lookup}
+use Rattle.us_flows.specs.Clusters.{Cluster, clusters_of, clusters_from, lookup, makes_requests, requesting}
 use Rattle.us_flows.specs.Lawful.{AreTables, IsFlow}
 use Rattle.us_flows.specs.declared.found.Found.{Found}
 use Rattle.us_flows.specs.declared.found.Found.TheVariants as found
@@ -71,12 +71,18 @@ small-from : (flow : FlowTable) (list : ℕ) (sids : List (List ℕ)) (more : Li
 small-from flow list [] more small rest = rest
 small-from flow list (first ∷ sids) more small rest = (small, small-from flow (list + 1) sids more small rest)
 
+-- whether or not a flow makes requests
+small-flow : (flow : FlowTable) (makes : Bool) (more : List Cluster) → flow.unit ≤ 16 →
+    AllByRecursion IsSmall more →
+    AllByRecursion IsSmall ((if makes then clusters_from flow 0 flow.clusters else []) ++ more)
+small-flow flow true more small rest = small-from flow 0 flow.clusters more small rest
+small-flow flow false more small rest = rest
+
 small-all : (t : Tables) (flows : List FlowTable) → AllByRecursion (IsFlow t) flows →
-    AllByRecursion IsSmall (flat_map (λ flow. clusters_from flow 0 flow.clusters) flows)
+    AllByRecursion IsSmall (flat_map requesting flows)
 small-all t [] are = tt
 small-all t (flow ∷ flows) are =
-    small-from flow 0 flow.clusters (flat_map (λ flow. clusters_from flow 0 flow.clusters) flows) are.0.unit.1
-    (small-all t flows are.1)
+    small-flow flow (makes_requests flow.kind) (flat_map requesting flows) are.0.unit (small-all t flows are.1)
 
 small-unit : (clusters : List Cluster) (number : ℕ) → AllByRecursion IsSmall clusters →
     unit_of (slice_get clusters number) ≤ 16

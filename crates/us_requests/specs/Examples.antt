@@ -4,7 +4,7 @@ use Rattle.csv.specs.Machine.{next_record}
 use Rattle.csv.specs.Reading.{records_from, strip_bom}
 use Rattle.us_flows.specs.Tables.{Tables, FlowTable}
 use Rattle.us_flows.specs.Clusters.{lookup}
-use Rattle.us_flows.specs.declared.flows.SchedulingType.TheVariants.{BestEffort}
+use Rattle.us_flows.specs.declared.flows.SchedulingType.TheVariants.{BestEffort, NonRealTimePolling, UnsolicitedGrant}
 use Rattle.us_requests.specs.declared.asks.Ask.{Ask}
 use Rattle.us_requests.specs.declared.faults.TraceFault.TheVariants.{Header, Fields, Number, TooLarge}
 use Rattle.us_requests.specs.Asks.{Request, round_of_tick, asks_at, counts_of, cut_of}
@@ -23,24 +23,25 @@ narrow = record {
   burst = 3044;
   unit = 4;
   headers = true;
+  start_us = 0;
+  interval_us = 0;
+  jitter_us = 0;
+  grant_bytes = 0;
+  grants_per_interval = 0;
 }
 
 abbrev wide : FlowTable
-wide = record {
+wide = record narrow {
   id = 2;
-  kind = BestEffort;
   channels = 2 ∷ 1 ∷ [];
   clusters = (500 ∷ 501 ∷ []) ∷ (502 ∷ 503 ∷ []) ∷ [];
   priority = 3;
-  rate = 0;
-  burst = 3044;
   unit = 16;
-  headers = true;
 }
 
 -- rounds of 320 ticks and a lead of 160
 abbrev tables : Tables
-tables = record { round_ticks = 320; lead_ticks = 160; channels = []; flows = narrow ∷ wide ∷ [] }
+tables = record { round_ticks = 320; lead_ticks = 160; channels = []; flows = narrow ∷ wide ∷ []; stations = [] }
 
 -- a request is served at least the lead later, in the round that starts next
 served :
@@ -74,6 +75,52 @@ other_rounds = refl
 no_asks : counts_of tables 3 requests ≡ record { unknown = 3; not_requestable = 0; late = 1 }
 unfolding counts_of round_of_tick lookup
 no_asks = refl
+
+-- a flow with unsolicited grants between two of two clusters each: its cluster makes no requests, and has no number
+abbrev granted : FlowTable
+granted = record {
+  id = 3;
+  kind = UnsolicitedGrant;
+  channels = 1 ∷ [];
+  clusters = (700 ∷ []) ∷ [];
+  priority = 0;
+  rate = 0;
+  burst = 0;
+  unit = 0;
+  headers = false;
+  start_us = 0;
+  interval_us = 20000;
+  jitter_us = 500;
+  grant_bytes = 64;
+  grants_per_interval = 1;
+}
+
+abbrev polled : FlowTable
+polled = record narrow {
+  id = 4;
+  kind = NonRealTimePolling;
+  clusters = (600 ∷ []) ∷ (601 ∷ []) ∷ [];
+  unit = 2;
+  interval_us = 10000;
+  jitter_us = 500;
+}
+
+abbrev more_tables : Tables
+more_tables = record tables { flows = wide ∷ granted ∷ polled ∷ [] }
+
+abbrev more_requests : List Request
+more_requests =
+    asks_for 0 1 601 3 ∷ asks_for 0 1 700 10 ∷ asks_for 0 1 503 1 ∷ asks_for 1000000 1 700 10 ∷ asks_for 0 1 600 5
+    ∷ asks_for 0 2 700 10 ∷ []
+
+more_asks : asks_at more_tables 3 more_requests 1 ≡ bytes_of 3 6 ∷ bytes_of 1 16 ∷ bytes_of 2 10 ∷ []
+unfolding asks_at round_of_tick lookup
+more_asks = refl
+
+-- a row of such a flow isn't late either; on another channel its SID is nobody's
+more_counts : counts_of more_tables 3 more_requests ≡ record { unknown = 1; not_requestable = 2; late = 0 }
+unfolding counts_of round_of_tick lookup
+more_counts = refl
 
 -- what each cluster asks for in a round
 cut : cut_of 3 (bytes_of 0 40 ∷ bytes_of 2 32 ∷ bytes_of 0 12 ∷ []) ≡ 52 ∷ 0 ∷ 32 ∷ []

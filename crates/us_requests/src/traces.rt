@@ -130,14 +130,17 @@ impl Trace {
     }
 }
 
-/// The bytes of a unit of each cluster's requests, by the number of the cluster.
+/// The bytes of a unit of each cluster's requests, by the number of the cluster. Clusters with unsolicited grants have
+/// neither.
 fn units_of(alloc: Global, config: &Config) -> Result<Vec<u8>, AllocError>
     ensures value { IfOk result (λ v. v.items ≡ units_of config.now) }
     ensures lawful { AreTables config.now }
 {
     let mut units = Vec::new(alloc);
     for flow in config.flows() {
-        units.resize(units.len() + flow.clusters().len(), flow.unit())?;
+        if flow.kind().makes_requests() {
+            units.resize(units.len() + flow.clusters().len(), flow.unit())?;
+        }
     }
     Ok(units)
 }

@@ -1,4 +1,4 @@
-use super::base::{base, read};
+use super::base::{base, read, read_for, with_more_flows};
 use crate::{Ask, Counts, Trace, TraceFault};
 use std::test::Fail;
 use us_slots::FromRead;
@@ -49,6 +49,40 @@ fn rows_that_are_no_asks(rt: HostRuntime) -> Result<(), Fail> {
         unknown: 3,
         not_requestable: 0,
         late: 2,
+    };
+    assert_eq!(rt; trace.counts(), counts);
+    Ok(())
+}
+
+/// Rows of every cluster of these flows, of SID 700 with its unsolicited grants, of no flow, and late ones.
+const MORE_ROWS: &[u8] = b"tick,channel,sid,units
+0,1,601,3
+0,1,700,10
+0,1,501,1
+1000000,1,700,10
+0,1,600,5
+0,1,291,1
+1000000,1,999,10
+1000000,1,601,10
+0,2,700,10
+0,1,500,2
+";
+
+/// A cluster with unsolicited grants makes no requests and has no number, and a row counts once: as of such a cluster
+/// or as unknown before as late.
+#[test]
+fn rows_of_more_flows(rt: HostRuntime) -> Result<(), Fail> {
+    let config = with_more_flows(rt.alloc())?;
+    let trace = read_for(rt.alloc(), &config, MORE_ROWS)??;
+    let mut asked = Vec::new(rt.alloc());
+    for (cluster, bytes) in [(4, 6), (2, 16), (3, 10), (0, 4), (1, 32)] {
+        asked.push(Ask { cluster, bytes })?;
+    }
+    assert_eq!(rt; trace.asks(1), asked.as_slice());
+    let counts = Counts {
+        unknown: 2,
+        not_requestable: 2,
+        late: 1,
     };
     assert_eq!(rt; trace.counts(), counts);
     Ok(())
