@@ -4,6 +4,7 @@ pub mod RunLemmas
 pub mod ReserveLemmas
 pub mod PlaceLemmas
 pub mod SeatLemmas
+pub mod ChannelLemmas
 pub mod MapLemmas
 pub mod RoundLemmas
 pub mod TextLemmas

@@ -16,7 +16,7 @@ use Rattle.us_replay.specs.declared.lines.Row.{Row}
 use Rattle.us_replay.specs.Rounds.{State, RoundOut, round_of, opening, schedule, final}
 use Rattle.us_replay.specs.Outputs.{Given, given_by, records, lines, final_rows, counts_row}
 use Rattle.us_replay.specs.Replays.{Output, output_of, cuts_of, rows_of, is_granted, is_missed, summary_of}
-use Rattle.us_replay.specs.Progress.{Progress, after_round, after_last, summary_after}
+use Rattle.us_replay.specs.Progress.{Progress, after_round, after_last, max_rows, summary_after}
 use Rattle.us_replay.proofs.LoopRoundLemmas.{After, after, added-below, sum-cut, few-rows, some-records}
 use Rattle.us_replay.proofs.ReplayStopLemmas.{next-of, next-part, AreTexts, AreLast}
 
@@ -39,8 +39,8 @@ pub record Along (t : Tables) (v : TraceAsks) (k : ℕ) (p : Progress) : Type 0 
   pub ends : final t p.state (drop k (cuts t v)) ≡ final t (opening t) (cuts t v)
   pub granted : p.granted ≡ count_by is_granted (rows_of (take k (output t v).given))
   pub missed : p.missed ≡ count_by is_missed (rows_of (take k (output t v).given))
-  pub few_granted : p.granted ≤ 100 * k
-  pub few_missed : p.missed ≤ 100 * k
+  pub few_granted : p.granted ≤ max_rows * k
+  pub few_missed : p.missed ≤ max_rows * k
 
 no-sum : (n : ℕ) → sum (replicate n 0) ≡ 0
 no-sum zero = refl
@@ -136,6 +136,11 @@ count-next passes given k here rest is =
     ap (count_by passes) (next-part (λ one. one.rows) given k here rest is) ∙
     sum_by-append (λ row. cond (passes row) 1 0) (rows_of (take k given)) here.rows
 
+-- a round has at most so many lines
+rows-room : (t : Tables) (state : State) (cut : List ℕ) → AreTables t →
+    length (given_by t (round_of t state cut).out).rows ≤ max_rows
+rows-room t state cut lawful = omega (arith, few-rows t state cut, lawful.some_channels.1)
+
 pub along-next : (t : Tables) (v : TraceAsks) (k : ℕ) (p : Progress) → AreTables t → Along t v k p → k < v.rounds →
     Along t v (k + 1) (after_round t p (asks_in v k))
 unfolding after_round final
@@ -146,7 +151,7 @@ along-next t v k p lawful along below =
     after t p.state p.clusters (asks_in v k) (along.wide ∙ sym along.clusters) in
     let now = next-out t v k p along below in
     let given = next-here t v k p along below in
-    let few = few-rows t p.state cut lawful.one_channel in
+    let few = rows-room t p.state cut lawful in
     record {
       within = omega (arith, below);
       round = omega (arith, next.round, along.round);
@@ -180,19 +185,20 @@ texts-here t v k p q asks maps report along below made are maps_are report_is =
 
 -- each round has records
 some-in : (t : Tables) (state : State) (cuts : List (List ℕ)) (k : ℕ) (next : Given) (rest : List Given) →
-    length t.channels ≡ 1 → drop k (map (given_by t) (schedule t state cuts)) ≡ next ∷ rest → 0 < length (records next)
+    1 ≤ length t.channels → drop k (map (given_by t) (schedule t state cuts)) ≡ next ∷ rest → 0 < length (records next)
 unfolding schedule
-some-in t state [] zero next rest one here = let no : [] ≡ next ∷ rest = here in cc
-some-in t state [] (suc k) next rest one here = let no : [] ≡ next ∷ rest = here in cc
-some-in t state (cut ∷ cuts) zero next rest one here =
+some-in t state [] zero next rest some here = let no : [] ≡ next ∷ rest = here in cc
+some-in t state [] (suc k) next rest some here = let no : [] ≡ next ∷ rest = here in cc
+some-in t state (cut ∷ cuts) zero next rest some here =
     let same : given_by t (round_of t state cut).out ≡ next = cc in
-    omega (arith, some-records t state cut one, ap (λ given. length (records given)) same)
-some-in t state (cut ∷ cuts) (suc k) next rest one here = some-in t (round_of t state cut).state cuts k next rest one here
+    omega (arith, some-records t state cut some, ap (λ given. length (records given)) same)
+some-in t state (cut ∷ cuts) (suc k) next rest some here =
+    some-in t (round_of t state cut).state cuts k next rest some here
 
 pub some-next : (t : Tables) (v : TraceAsks) (k : ℕ) → AreTables t → (next : Given) (rest : List Given) →
     drop k (output t v).given ≡ next ∷ rest → 0 < length (records next)
 unfolding output_of
-some-next t v k lawful next rest here = some-in t (opening t) (cuts t v) k next rest lawful.one_channel here
+some-next t v k lawful next rest here = some-in t (opening t) (cuts t v) k next rest lawful.some_channels.0 here
 
 -- All rounds.
 
@@ -263,9 +269,9 @@ pairs-room outstanding cut n asks is room =
 
 pub count-room : (t : Tables) (state : State) (cut : List ℕ) (given : Given) (rows : List Row) (counted : ℕ) →
     AreTables t → given ≡ given_by t (round_of t state cut).out → rows ≡ given.rows →
-    counted ≤ 100 * state.round → state.round < 2 ^ 32 → counted + length rows < 2 ^ 64
+    counted ≤ max_rows * state.round → state.round < 2 ^ 32 → counted + length rows < 2 ^ 64
 count-room t state cut given rows counted lawful is are few short =
-    omega (arith, few, short, few-rows t state cut lawful.one_channel, ap length are, ap (λ g. length g.rows) is)
+    omega (arith, few, short, rows-room t state cut lawful, ap length are, ap (λ g. length g.rows) is)
 
 pub made-round : (t : Tables) (p : Progress) (asks : List Ask) (clusters : ℕ) (cut : List ℕ) (given : Given)
     (state : State) (rows : List Row) (to_maps to_report : List ℕ) (granted missed : ℕ) →

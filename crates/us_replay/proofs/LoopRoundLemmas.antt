@@ -201,12 +201,12 @@ some-file round (body ∷ maps) h =
     omega (arith, length-append (record_bytes first) (flat_map record_bytes rest), length-record first)
 
 -- so its records have bytes
-pub some-records : (t : Tables) (state : State) (cut : List ℕ) → length t.channels ≡ 1 →
+pub some-records : (t : Tables) (state : State) (cut : List ℕ) → 1 ≤ length t.channels →
     0 < length (records (given_by t (round_of t state cut).out))
 unfolding records
-some-records t state cut one =
+some-records t state cut some =
     let given : Given = given_by t (round_of t state cut).out in
-    some-file given.round given.maps (omega (arith, length-maps t state cut, one))
+    some-file given.round given.maps (omega (arith, length-maps t state cut, some))
 
 -- Lines.
 
@@ -274,16 +274,16 @@ rows-of-parts round part_at plan (f ∷ fs) built =
     )
 
 -- so a round has few lines
-pub few-rows : (t : Tables) (state : State) (cut : List ℕ) → length t.channels ≡ 1 →
-    length (given_by t (round_of t state cut).out).rows ≤ 100
+pub few-rows : (t : Tables) (state : State) (cut : List ℕ) →
+    length (given_by t (round_of t state cut).out).rows ≤ 100 * length t.channels
 unfolding round_of round_with given_by
-few-rows t state cut one =
+few-rows t state cut =
     let now : List ℕ = added state.outstanding cut in
     let fs : List Filled = filled (map_len t) state.round t.channels in
     let plan : List Planned = plan_of now (budgets fs) (turns_of t) in
     let builds : List Build = map (build_on plan) fs in
     let part : Filled × Build → ChannelRound = part_of builds (left_from builds 0 now) (turns_of t) in
-    omega (arith, rows-of-parts state.round part plan fs (λ pair. refl), length-map t.channels (λ c. fill c), one)
+    omega (arith, rows-of-parts state.round part plan fs (λ pair. refl), length-map t.channels (λ c. fill c))
   where
     fill : Channel → Filled
     fill c = record { channel = c; board = reserves c (map_len t c) state.round }

@@ -1,6 +1,6 @@
 -- The run of a trace that was read is that of the requests that its text tells.
-use Rattle.std.proofs.Common.{◌≡◌, ℕ, true, List, Option, Result, Ok, Err, ap, subst, ◌∙◌}
-use Rattle.us_flows.specs.Tables.{Tables, rounds_fit}
+use Rattle.std.proofs.Common.{◌≡◌, ℕ, List, Option, Result, Ok, Err, ap, subst, ◌∙◌}
+use Rattle.us_flows.specs.Tables.{Tables}
 use Rattle.us_requests.specs.Asks.{Request, asks_at, counts_of}
 use Rattle.us_requests.specs.Traces.{TraceAsks, IsTraceOf, asks_in}
 use Rattle.us_requests.specs.Rows.{requests_of}
@@ -8,7 +8,7 @@ use Rattle.us_requests.specs.Readings.{Reads}
 use Rattle.us_replay.specs.declared.summaries.Summary.{Summary}
 use Rattle.us_replay.specs.declared.faults.RunFault.{RunFault}
 use Rattle.us_replay.specs.declared.faults.RunFault.TheVariants as fault
-use Rattle.us_replay.specs.Replays.{Growth, Ran, RanText, Replayed, output_of, output_for}
+use Rattle.us_replay.specs.Replays.{Growth, Ran, RanText, CanRun, Replayed, output_of, output_for}
 
 -- the same rounds, asks and counts have the same output
 output-same : (t : Tables) (rounds : ℕ) (requests : List Request) (v : TraceAsks) → IsTraceOf t rounds requests v →
@@ -35,16 +35,17 @@ ran-text t rounds told v to_maps to_report result (text, is_text, no_fault, is) 
 
 -- whatever `run` answers
 pub replayed : (t : Tables) (rounds : ℕ) (told : Option (List ℕ)) (v : TraceAsks) (to_maps to_report : Growth)
-    (result : Result Summary RunFault) → rounds_fit t rounds ≡ true → Reads t rounds told (Ok v) →
+    (result : Result Summary RunFault) → CanRun t rounds → Reads t rounds told (Ok v) →
     Ran (output_of t v.rounds (asks_in v) v.counts) v.counts to_maps to_report result →
     Replayed t rounds told to_maps to_report result
-replayed t rounds told v to_maps to_report (Ok summary) fits read ran =
-    (fits, ran-text t rounds told v to_maps to_report (Ok summary) read ran)
-replayed t rounds told v to_maps to_report (Err (fault.WriteMaps done)) fits read ran =
-    (fits, ran-text t rounds told v to_maps to_report (Err (fault.WriteMaps done)) read ran)
-replayed t rounds told v to_maps to_report (Err (fault.WriteReport done)) fits read ran =
-    (fits, ran-text t rounds told v to_maps to_report (Err (fault.WriteReport done)) read ran)
-replayed t rounds told v to_maps to_report (Err (fault.NoMemory done)) fits read ran =
-    (fits, ran-text t rounds told v to_maps to_report (Err (fault.NoMemory done)) read ran)
-replayed t rounds told v to_maps to_report (Err fault.Rounds) fits read ran = absurd ran
-replayed t rounds told v to_maps to_report (Err (fault.Trace reason)) fits read ran = absurd ran
+replayed t rounds told v to_maps to_report (Ok summary) can read ran =
+    (can, ran-text t rounds told v to_maps to_report (Ok summary) read ran)
+replayed t rounds told v to_maps to_report (Err (fault.WriteMaps done)) can read ran =
+    (can, ran-text t rounds told v to_maps to_report (Err (fault.WriteMaps done)) read ran)
+replayed t rounds told v to_maps to_report (Err (fault.WriteReport done)) can read ran =
+    (can, ran-text t rounds told v to_maps to_report (Err (fault.WriteReport done)) read ran)
+replayed t rounds told v to_maps to_report (Err (fault.NoMemory done)) can read ran =
+    (can, ran-text t rounds told v to_maps to_report (Err (fault.NoMemory done)) read ran)
+replayed t rounds told v to_maps to_report (Err fault.Rounds) can read ran = absurd ran
+replayed t rounds told v to_maps to_report (Err (fault.Trace reason)) can read ran = absurd ran
+replayed t rounds told v to_maps to_report (Err fault.NotServed) can read ran = absurd ran

@@ -211,6 +211,7 @@ sent-stops out counts k a b c d e f maps report (fault.WriteReport done) so_far 
 sent-stops out counts k a b c d e f maps report (fault.NoMemory done) so_far part never = absurd never
 sent-stops out counts k a b c d e f maps report fault.Rounds so_far part never = absurd never
 sent-stops out counts k a b c d e f maps report (fault.Trace reason) so_far part never = absurd never
+sent-stops out counts k a b c d e f maps report fault.NotServed so_far part never = absurd never
 
 -- the texts of the round at a place
 pub record AreTexts (out : Output) (k : ℕ) (maps report : List ℕ) : Type 0 where
@@ -324,3 +325,4 @@ flush-stops out counts k a b c d e f (fault.WriteReport done) all took (maps, re
 flush-stops out counts k a b c d e f (fault.NoMemory done) all took never = absurd never
 flush-stops out counts k a b c d e f fault.Rounds all took never = absurd never
 flush-stops out counts k a b c d e f (fault.Trace reason) all took never = absurd never
+flush-stops out counts k a b c d e f fault.NotServed all took never = absurd never

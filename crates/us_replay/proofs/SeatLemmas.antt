@@ -1,13 +1,15 @@
 -- The one seat, of the facts of all accepted tables.
-use Rattle.std.proofs.Common.{◌≡◌, ℕ, ◌<◌, ◌≤◌, ◌==◌, nat_lt, List, [], ◌∷◌, length, Bool, true, false, ◌||◌, get_or, Some, None, refl, ap, sym, ◌∙◌, arith}
-use Rattle.std.proofs.lemmas.Bool.{false_from_ne_true, ltb-true, eqb-true, eq-eqb}
-use Rattle.us_flows.specs.declared.channels.Channel.{Channel}
-use Rattle.us_flows.specs.Tables.{Tables, FlowTable}
+use Rattle.std.proofs.Common.{◌≡◌, ℕ, ◌<◌, ◌≤◌, ◌==◌, nat_lt, nat_le, List, [], ◌∷◌, length, Bool, true, false, ◌&&◌, get_or, Some, None, refl, ap, sym, ◌∙◌, arith}
+use Rattle.std.proofs.lemmas.Bool.{false_from_ne_true, ltb-true, leb-true, eqb-true, eq-eqb}
+use Rattle.us_flows.specs.declared.flows.SchedulingType.{SchedulingType}
+use Rattle.us_flows.specs.declared.flows.SchedulingType.TheVariants.{BestEffort, NonRealTimePolling, RealTimePolling, UnsolicitedGrant}
+use Rattle.us_flows.specs.Tables.{Tables, FlowTable, has_channel}
 use Rattle.us_flows.specs.Clusters.{Turn, clusters_of, goes_before, in_order, turns_of}
 use Rattle.us_flows.specs.Lawful.{Between, AreTables, IsFlow}
-use Rattle.std.specs.List.{AllByRecursion, list_any}
+use Rattle.std.specs.List.{AllByRecursion, list_all}
 use Rattle.us_replay.specs.Plans.{header_bytes}
 use Rattle.us_replay.specs.Seats.{SeatOf}
+use Rattle.us_replay.specs.Served.{is_best_effort, has_one_sid, is_served}
 
 pub single : {A : Type 0} (xs : List A) → length xs ≡ 1 → (x : A) × (xs ≡ x ∷ [])
 single [] h = absurd (omega (arith, h))
@@ -29,17 +31,9 @@ not_below n = false_from_ne_true (nat_lt n n) (λ is. let no : n < n = ltb-true 
 pub itself : (n : ℕ) → (n == n) ≡ true
 itself n = eq-eqb n n refl
 
-any_one : (b : Bool) → (b || false) ≡ true → b ≡ true
-any_one true h = refl
-any_one false h = h
-
--- the one channel is the one that is known by this id
-one_known : (channels : List Channel) (channel : Channel) (id : ℕ) → channels ≡ channel ∷ [] →
-    list_any (λ c. c.id == id) channels ≡ true → channel.id ≡ id
-one_known channels channel id only known = eqb-true channel.id id (any_one (channel.id == id) (rw only at known))
-
 -- the first item of a list that has one
-pub with_first : {A : Type 0} (xs : List A) (x : A) → 1 ≤ length xs → x ≡ get_or xs 0 x → (more : List A) × (xs ≡ x ∷ more)
+pub with_first : {A : Type 0} (xs : List A) (x : A) → 1 ≤ length xs → x ≡ get_or xs 0 x →
+    (more : List A) × (xs ≡ x ∷ more)
 with_first [] x some is = absurd (omega (arith, some))
 with_first (y ∷ ys) x some is = (ys, ap (λ item. item ∷ ys) (sym is))
 
@@ -60,32 +54,105 @@ one_in_order turn = rw (never_before turn) refl
 abbrev pub only_turn : FlowTable → List ℕ → Turn
 only_turn flow sids = record { number = 0; cluster = record { flow = flow; list = 0; sids = sids } }
 
-one_cluster : (t : Tables) (flow : FlowTable) (sids : List ℕ) → t.flows ≡ flow ∷ [] → flow.clusters ≡ sids ∷ [] →
-    clusters_of t ≡ record { flow = flow; list = 0; sids = sids } ∷ []
-one_cluster t flow sids flows clusters = rw (flows, clusters) refl
-
 pub no_seat : (t : Tables) → t.flows ≡ [] → SeatOf t None
 unfolding turns_of
 no_seat t none =
     let empty : clusters_of t ≡ [] = rw none refl in
     (empty, rw empty refl)
 
-pub seat_of_flow : (t : Tables) → AreTables t → (flow : FlowTable) (more : List FlowTable) → t.flows ≡ flow ∷ more →
-    (sid header : ℕ) → flow.clusters ≡ (sid ∷ []) ∷ [] → header_bytes flow ≡ header →
-    SeatOf t (Some (record { flow = flow.id; sid = sid; header = header }))
+-- a flow that is served has one channel and one cluster
+both : (a b : Bool) → (a && b) ≡ true → (a ≡ true) × (b ≡ true)
+both true true is = (refl, refl)
+both true false is = absurd (cc is)
+both false b is = absurd (cc is)
+
+record HasOne (flow : FlowTable) : Type 0 where
+  kind : flow.kind ≡ BestEffort
+  channel : length flow.channels ≡ 1
+  cluster : length flow.clusters ≡ 1
+
+best_effort : (kind : SchedulingType) → is_best_effort kind ≡ true → kind ≡ BestEffort
+best_effort BestEffort is = refl
+best_effort NonRealTimePolling is = absurd (cc is)
+best_effort RealTimePolling is = absurd (cc is)
+best_effort UnsolicitedGrant is = absurd (cc is)
+
+has_one : (flow : FlowTable) → has_one_sid flow ≡ true → HasOne flow
+has_one flow is =
+    let kind = both (is_best_effort flow.kind)
+    ((length flow.channels == 1) && ((length flow.clusters == 1) && (flow.rate == 0))) is in
+    let channel = both (length flow.channels == 1) ((length flow.clusters == 1) && (flow.rate == 0)) kind.1 in
+    let cluster = both (length flow.clusters == 1) (flow.rate == 0) channel.1 in
+    record {
+      kind = best_effort flow.kind kind.0;
+      channel = eqb-true (length flow.channels) 1 channel.0;
+      cluster = eqb-true (length flow.clusters) 1 cluster.0;
+    }
+
+-- the flows that are served: one alone
+one_served : (flow : FlowTable) (more : List FlowTable) →
+    (nat_le (length (flow ∷ more)) 1 && list_all has_one_sid (flow ∷ more)) ≡ true → (more ≡ []) × HasOne flow
+one_served flow more is =
+    let parts = both (nat_le (length (flow ∷ more)) 1) (list_all has_one_sid (flow ∷ more)) is in
+    let first = both (has_one_sid flow) (list_all has_one_sid more) parts.1 in
+    (at_most_one flow more (leb-true (length (flow ∷ more)) 1 parts.0), has_one flow first.0)
+
+one_flow : (t : Tables) (flow : FlowTable) (more : List FlowTable) → is_served t ≡ true → t.flows ≡ flow ∷ more →
+    (t.flows ≡ flow ∷ []) × HasOne flow
+unfolding is_served
+one_flow t flow more is flows =
+    let rest = (both (length t.stations == 0) (nat_le (length t.flows) 1 && list_all has_one_sid t.flows) is).1 in
+    let alone = one_served flow more (rw flows at rest) in
+    (flows ∙ ap (λ others. flow ∷ others) alone.0, alone.1)
+
+-- what is known of the one flow
+pub record IsOnlyFlow (t : Tables) (flow : FlowTable) : Type 0 where
+  pub flows : t.flows ≡ flow ∷ []
+  pub lawful : IsFlow t flow
+  pub kind : flow.kind ≡ BestEffort
+  pub one_channel : length flow.channels ≡ 1
+  pub one_cluster : length flow.clusters ≡ 1
+
+pub only_flow : (t : Tables) → AreTables t → is_served t ≡ true → (flow : FlowTable) → 1 ≤ length t.flows →
+    flow ≡ get_or t.flows 0 flow → IsOnlyFlow t flow
+only_flow t is served flow some here =
+    let first = with_first t.flows flow some here in
+    let one = one_flow t flow first.0 served first.1 in
+    record {
+      flows = one.0;
+      lawful = first_all (IsFlow t) t.flows [] flow one.0 is.flows;
+      kind = one.1.kind;
+      one_channel = one.1.channel;
+      one_cluster = one.1.cluster;
+    }
+
+-- its one cluster has one SID
+pub flow_sids : (t : Tables) (flow : FlowTable) → IsOnlyFlow t flow →
+    (sids : List ℕ) × (sid : ℕ) × (flow.clusters ≡ sids ∷ []) × (sids ≡ sid ∷ [])
+flow_sids t flow is =
+    let cluster = single flow.clusters is.one_cluster in
+    let sids : length cluster.0 ≡ length flow.channels =
+    (first_all (λ sids. (length sids ≡ length flow.channels) × AllByRecursion (Between 1 15871) sids)
+    flow.clusters [] cluster.0 cluster.1 is.lawful.sids).0 in
+    let sid = single cluster.0 (sids ∙ is.one_channel) in
+    (cluster.0, sid.0, cluster.1, sid.1)
+
+-- and is the one turn
+one_requesting : (t : Tables) (flow : FlowTable) (kind : SchedulingType) (clusters : List (List ℕ)) (sids : List ℕ) →
+    t.flows ≡ flow ∷ [] → flow.kind ≡ BestEffort → flow.clusters ≡ sids ∷ [] →
+    clusters_of t ≡ record { flow = flow; list = 0; sids = sids } ∷ []
+one_requesting t flow kind clusters sids flows is one = rw (flows, is, one) refl
+
+pub seat_here : (t : Tables) (flow : FlowTable) → IsOnlyFlow t flow → (channel sid header : ℕ) →
+    flow.channels ≡ channel ∷ [] → flow.clusters ≡ (sid ∷ []) ∷ [] → header_bytes flow ≡ header →
+    SeatOf t (Some (record { flow = flow.id; channel = channel; sid = sid; header = header }))
 unfolding turns_of
-seat_of_flow t is flow more flows sid header clusters bytes =
-    let few : length (flow ∷ more) ≤ 1 = rw flows at is.one_flow in
-    let alone : t.flows ≡ flow ∷ [] = flows ∙ ap (λ rest. flow ∷ rest) (at_most_one flow more few) in
-    let known : IsFlow t flow = first_all (IsFlow t) t.flows [] flow alone is.flows in
-    let channel = single t.channels is.one_channel in
-    let id = single flow.channels known.one_channel in
-    let exists : list_any (λ channel. channel.id == id.0) t.channels ≡ true =
-    first_all (λ id. list_any (λ channel. channel.id == id) t.channels ≡ true) flow.channels [] id.0 id.1 known.channels in
-    let equal : channel.0.id ≡ id.0 = one_known t.channels channel.0 id.0 channel.1 exists in
-    let found : clusters_of t ≡ record { flow = flow; list = 0; sids = sid ∷ [] } ∷ [] = one_cluster t flow (sid ∷ []) alone clusters in
-    let range : Between 1 15871 sid = (first_all (λ sids. (length sids ≡ length flow.channels) × AllByRecursion (Between 1 15871) sids)
-    flow.clusters [] (sid ∷ []) clusters known.sids).1.0 in (
+seat_here t flow is channel sid header channels clusters bytes =
+    let found : clusters_of t ≡ record { flow = flow; list = 0; sids = sid ∷ [] } ∷ [] =
+    one_requesting t flow flow.kind flow.clusters (sid ∷ []) is.flows is.kind clusters in
+    let range : Between 1 15871 sid =
+    (first_all (λ sids. (length sids ≡ length flow.channels) × AllByRecursion (Between 1 15871) sids)
+    flow.clusters [] (sid ∷ []) clusters is.lawful.sids).1.0 in (
       only_turn flow (sid ∷ []),
       record {
         turns = rw found (one_in_order (only_turn flow (sid ∷ [])));
@@ -93,29 +160,10 @@ seat_of_flow t is flow more flows sid header clusters bytes =
         number = refl;
         list = refl;
         flow = refl;
-        channel = channel.0;
-        channels = channel.1;
-        only = id.1 ∙ ap (λ i. i ∷ []) (sym equal);
+        channels = channels;
+        known = first_all (λ id. has_channel t.channels id ≡ true) flow.channels [] channel channels is.lawful.channels;
         sids = refl;
         header = bytes;
         bits = omega (arith, range.1);
       },
     )
-
-pub flow_sids : (t : Tables) → AreTables t → (flow : FlowTable) → 1 ≤ length t.flows → flow ≡ get_or t.flows 0 flow →
-    (sids : List ℕ) × (sid : ℕ) × (flow.clusters ≡ sids ∷ []) × (sids ≡ sid ∷ [])
-flow_sids t is flow some here =
-    let first = with_first t.flows flow some here in
-    let known : IsFlow t flow = first_all (IsFlow t) t.flows first.0 flow first.1 is.flows in
-    let cluster = single flow.clusters known.one_cluster in
-    let sids : length cluster.0 ≡ length flow.channels = (first_all (λ sids. (length sids ≡ length flow.channels) × AllByRecursion (Between 1 15871) sids)
-    flow.clusters [] cluster.0 cluster.1 known.sids).0 in
-    let sid = single cluster.0 (sids ∙ known.one_channel) in
-    (cluster.0, sid.0, cluster.1, sid.1)
-
-pub seat_here : (t : Tables) → AreTables t → (flow : FlowTable) → 1 ≤ length t.flows → flow ≡ get_or t.flows 0 flow →
-    (sid header : ℕ) → flow.clusters ≡ (sid ∷ []) ∷ [] → header_bytes flow ≡ header →
-    SeatOf t (Some (record { flow = flow.id; sid = sid; header = header }))
-seat_here t is flow some here sid header clusters bytes =
-    let first = with_first t.flows flow some here in
-    seat_of_flow t is flow first.0 first.1 sid header clusters bytes

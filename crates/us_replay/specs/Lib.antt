@@ -16,11 +16,13 @@ pub mod Lines
 pub mod Outputs
 -- what a replay writes, and what stands after one that ended early
 pub mod Replays
--- a round of one channel and of at most one cluster that asks, which is all so far
+-- a round of at most one cluster that asks, which is all so far
 pub mod Seats
 -- the definitions at small inputs
 pub mod BoardExamples
 pub mod RoundExamples
 pub mod LineExamples
+-- which configurations are served so far
+pub mod Served
 -- inside the crate, and of no use to a reader of the promise: what a replay keeps from one round to the next
 pub mod Progress

@@ -26,6 +26,10 @@ pub record Progress : Type 0 where
   pub granted : ℕ
   pub missed : ℕ
 
+-- the most lines of a round: of 16 channels with 100 assignments each
+abbrev pub max_rows : ℕ
+max_rows = 1600
+
 -- one more round was made, of these asks
 unfoldable pub after_round : Tables → Progress → List Ask → Progress
 after_round t p asks =
@@ -74,6 +78,7 @@ Sent maps report done to_maps to_report (Err (fault.WriteReport rounds)) =
 Sent maps report done to_maps to_report (Err (fault.NoMemory rounds)) = ⊥
 Sent maps report done to_maps to_report (Err fault.Rounds) = ⊥
 Sent maps report done to_maps to_report (Err (fault.Trace reason)) = ⊥
+Sent maps report done to_maps to_report (Err fault.NotServed) = ⊥
 
 -- a flush keeps what was taken, and a fault of it names these rounds
 abbrev pub Flushed : ℕ → Growth → Growth → Result (Unit {0}) RunFault → Type 0
@@ -85,3 +90,4 @@ Flushed done to_maps to_report (Err (fault.WriteReport rounds)) =
 Flushed done to_maps to_report (Err (fault.NoMemory rounds)) = ⊥
 Flushed done to_maps to_report (Err fault.Rounds) = ⊥
 Flushed done to_maps to_report (Err (fault.Trace reason)) = ⊥
+Flushed done to_maps to_report (Err fault.NotServed) = ⊥

@@ -1,5 +1,5 @@
 -- Rounds in the base configuration and near it, computed by the definitions alone. Words are in hexadecimal.
-use Rattle.std.specs.Prelude.{◌≡◌, ℕ, true, List, [], ◌∷◌, ◌++◌, length, replicate, map, flat_map, codes, Some, None, ⊤, refl}
+use Rattle.std.specs.Prelude.{◌≡◌, ℕ, true, false, List, [], ◌∷◌, ◌++◌, length, replicate, map, flat_map, codes, Some, None, ⊤, refl}
 use Rattle.std.specs.List.{range_with_len}
 use Rattle.std.specs.Int.{to_be_bytes, w16, w32}
 use Rattle.std.specs.Fmt.{digits}
@@ -10,11 +10,13 @@ use Rattle.us_codec.specs.Elements.{word_of}
 use Rattle.us_codec.specs.Bodies.{spelling, front, element_bytes}
 use Rattle.us_codec.specs.MapsFiles.{record_bytes, maps_file}
 use Rattle.us_flows.specs.declared.channels.Channel.{Channel}
-use Rattle.us_flows.specs.declared.flows.SchedulingType.TheVariants.{BestEffort}
+use Rattle.us_flows.specs.declared.flows.SchedulingType.TheVariants.{BestEffort, UnsolicitedGrant}
+use Rattle.us_flows.specs.declared.stations.Station.{Station}
 use Rattle.us_flows.specs.Tables.{FlowTable, Tables, map_len}
 use Rattle.us_flows.specs.Clusters.{Turn, clusters_of, lookup, numbered, turns_of}
 use Rattle.us_requests.specs.Asks.{Request, round_of_tick, asks_at, counts_of, cut_of}
 use Rattle.us_replay.specs.declared.placing.Placed.{Placed}
+use Rattle.us_replay.specs.Served.{is_served}
 use Rattle.us_replay.specs.Boards.{Owner, Board, empty_board, assign, first_of, longest_up_to, runs_from}
 use Rattle.us_replay.specs.Plans.{weights, divided, plan_of}
 use Rattle.us_replay.specs.Placements.{reserves, claims, spot, place, place_all}
@@ -59,10 +61,21 @@ flow_with id priority channels clusters = record {
   burst = 3044;
   unit = 4;
   headers = true;
+  start_us = 0;
+  interval_us = 0;
+  jitter_us = 0;
+  grant_bytes = 0;
+  grants_per_interval = 0;
 }
 
 abbrev tables : List Channel → List FlowTable → Tables
-tables channels flows = record { round_ticks = 320; lead_ticks = 160; channels = channels; flows = flows }
+tables channels flows = record {
+  round_ticks = 320;
+  lead_ticks = 160;
+  channels = channels;
+  flows = flows;
+  stations = [];
+}
 
 abbrev base_channel : Channel
 base_channel = channel_with 1 10 0 1
@@ -75,6 +88,33 @@ base = tables (base_channel ∷ []) (base_flow ∷ [])
 
 abbrev without_flows : Tables
 without_flows = tables (base_channel ∷ []) []
+
+-- Which configurations are served so far.
+
+abbrev station : Station
+station = record { id = 1; channel = 1; sid = 300; start_us = 0; interval_us = 10000; jitter_us = 100 }
+
+-- the base channel, and this flow in the place of the base flow
+abbrev with_flow : FlowTable → Tables
+with_flow flow = tables (base_channel ∷ []) (flow ∷ [])
+
+served :
+    (is_served base ≡ true) ×
+    (is_served without_flows ≡ true) ×
+    -- a channel that the flow doesn't have
+    (is_served (tables (base_channel ∷ channel_with 2 10 0 1 ∷ []) (base_flow ∷ [])) ≡ true)
+unfolding is_served
+served = (refl, refl, refl)
+
+not_served :
+    (is_served (record base { stations = station ∷ [] }) ≡ false) ×
+    (is_served (tables (base_channel ∷ []) (base_flow ∷ flow_with 2 0 (1 ∷ []) ((292 ∷ []) ∷ []) ∷ [])) ≡ false) ×
+    (is_served (with_flow (record base_flow { rate = 1 })) ≡ false) ×
+    (is_served (with_flow (flow_with 1 0 (1 ∷ 2 ∷ []) ((291 ∷ 292 ∷ []) ∷ []))) ≡ false) ×
+    (is_served (with_flow (flow_with 1 0 (1 ∷ []) ((291 ∷ []) ∷ (292 ∷ []) ∷ []))) ≡ false) ×
+    (is_served (with_flow (record base_flow { kind = UnsolicitedGrant })) ≡ false)
+unfolding is_served
+not_served = (refl, refl, refl, refl, refl, refl)
 
 -- Runs.
 
@@ -192,7 +232,30 @@ pending :
 unfolding all_steps
 pending = (refl, refl, refl)
 
--- Many clusters and channels, which no configuration has so far.
+-- two channels with so many minislots of contention, and the flow on the second
+abbrev on_second : ℕ → ℕ → Tables
+on_second one two =
+    tables (channel_with 1 one 0 1 ∷ channel_with 2 two 0 1 ∷ []) (flow_with 1 0 (2 ∷ []) ((291 ∷ []) ∷ []) ∷ [])
+
+-- each channel has its MAP, and the flow's alone has the grant
+second_channel :
+    (elements (on_second 10 11) 1 (1001 ∷ []) ≡
+    (0xfffc4000 ∷ 0xfffc4096 ∷ 0x0001c0a0 ∷ []) ∷
+    (0x048e8000 ∷ 0xfffc4021 ∷ 0xfffc4095 ∷ 0x0001c0a0 ∷ []) ∷ []) ×
+    (text (on_second 10 11) 1 (1001 ∷ []) ≡ codes "G,1,2,req,1,0,0,291,10,0,33,1001\n") ×
+    ((step (on_second 10 11) 1 (1001 ∷ [])).state.outstanding ≡ 0 ∷ [])
+unfolding all_steps
+second_channel = (refl, refl, refl)
+
+-- and the pending SID
+second_pending :
+    (elements (on_second 10 160) 1 (1001 ∷ []) ≡
+    (0xfffc4000 ∷ 0xfffc4096 ∷ 0x0001c0a0 ∷ []) ∷ (0xfffc4000 ∷ 0x0001c0a0 ∷ 0x048e80a0 ∷ []) ∷ []) ×
+    ((step (on_second 10 160) 1 (1001 ∷ [])).state.outstanding ≡ 1001 ∷ [])
+unfolding all_steps
+second_pending = (refl, refl)
+
+-- Many clusters, and flows with several channels, which aren't served so far.
 
 -- one flow of two clusters, and two of one
 abbrev three_flows : Tables

@@ -20,6 +20,11 @@ pub enum RunFault {
     /// RU6: want of memory, after so many rounds were done as in RU4.
     #[error("RU6: out of memory after {0} rounds")]
     NoMemory(u32),
+    /// RU7: a configuration that is not served yet: with a station, with more than one flow, or with a flow of another
+    /// type than 2 (best effort), of more than one channel or SID cluster, or with a rate above 0. This is looked at
+    /// before RU1; nothing was read or written.
+    #[error("RU7: the configuration is not served yet")]
+    NotServed,
 }
 
 impl From<TraceFault> for RunFault {

@@ -41,6 +41,9 @@ mod texts;
 // What the trace asks of a round.
 mod cuts;
 
+// Which configurations are served so far.
+mod served;
+
 // Every refusal, in order.
 mod faults;
 
@@ -53,6 +56,7 @@ mod replays;
 pub use faults::RunFault;
 pub use lines::{Entry, Row};
 pub use replays::replay;
+pub use served::is_served;
 pub use summaries::Summary;
 
 #[cfg(test)]

@@ -1,11 +1,13 @@
-ghost use Rattle.std.specs.Prelude.{◌≡◌, ◌↔◌, ℕ, ◌<◌, true, false, length};
+ghost use Rattle.std.specs.Prelude.{◌≡◌, ◌↔◌, ◌⊎◌, ℕ, ◌<◌, true, false, length};
 ghost use Rattle.std.specs.List.{AllByRecursion};
 ghost use Rattle.us_flows.specs.Tables.{rounds_fit};
 ghost use Rattle.us_flows.specs.Clusters.{clusters_of};
 ghost use Rattle.us_requests.specs.Traces.{asks_in};
+ghost use Rattle.us_replay.specs.Served.{is_served};
 ghost use Rattle.us_replay.specs.Replays.{Growth, Output, Ran, Replayed, output_of, comes_before, blames_maps, blames_report};
 
 use crate::faults::RunFault;
+use crate::served::is_served;
 use crate::summaries::Summary;
 use progress::Progress;
 use sending::{flush, send};
@@ -20,9 +22,10 @@ mod tallies;
 
 /// Replays the trace of `trace` with a configuration, for so many rounds: writes the maps file and the report.
 ///
-/// The number of rounds is looked at first (RU1), and then the trace is read to its end (RU3). Each round writes its
-/// records and then its lines, the channels in table order; after the last one the F lines and the U line are
-/// written, and both writers are flushed, the maps file's first. The first fault ends the replay (RU4, RU5, RU6).
+/// The configuration is looked at first (RU7) and then the number of rounds (RU1), and then the trace is read to its
+/// end (RU3). Each round writes its records and then its lines, the channels in table order; after the last one the F
+/// lines and the U line are written, and both writers are flushed, the maps file's first. The first fault ends the
+/// replay (RU4, RU5, RU6).
 pub fn replay<R: Source, W1: Sink, W2: Sink>(
     alloc: Global,
     config: &Config,
@@ -37,13 +40,19 @@ pub fn replay<R: Source, W1: Sink, W2: Sink>(
     ensures replayed { let to_maps : Growth = record { before = W1.contents maps.old; after = W1.contents maps.new } in
         let to_report : Growth = record { before = W2.contents report.old; after = W2.contents report.new } in
         Replayed config.now rounds (R.remaining trace.old) to_maps to_report result }
-    ensures rounds { (result ≡ Err RunFault.Rounds) ↔ (rounds_fit config.now rounds ≡ false) }
-    ensures nothing_read { result ≡ Err RunFault.Rounds → trace.new ≡ trace.old }
+    ensures served { (result ≡ Err RunFault.NotServed) ↔ (is_served config.now ≡ false) }
+    ensures rounds { (result ≡ Err RunFault.Rounds) ↔
+        ((is_served config.now ≡ true) × (rounds_fit config.now rounds ≡ false)) }
+    ensures nothing_read { ((result ≡ Err RunFault.NotServed) ⊎ (result ≡ Err RunFault.Rounds)) →
+        trace.new ≡ trace.old }
     ensures nothing_written { comes_before result ≡ true → (maps.new ≡ maps.old) × (report.new ≡ report.old) }
     ensures trace_failed { (R.failed trace.new ≡ true) ↔ (result ≡ Err (RunFault.Trace TraceFault.Read)) }
     ensures maps_failed { W1.failed maps.new ≡ blames_maps result }
     ensures report_failed { W2.failed report.new ≡ blames_report result }
 {
+    if !is_served(config) {
+        return Err(RunFault::NotServed);
+    }
     if !config.rounds_fit(rounds) {
         return Err(RunFault::Rounds);
     }
@@ -59,6 +68,7 @@ fn run<W1: Sink, W2: Sink>(
     maps: &mut W1,
     report: &mut W2,
 ) -> Result<Summary, RunFault>
+    requires served { is_served config.now ≡ true }
     requires fits { rounds_fit config.now trace.now.rounds ≡ true }
     requires known { (round : ℕ) →
         AllByRecursion (λ ask. ask.cluster < length (clusters_of config.now)) (asks_in trace.now round) }

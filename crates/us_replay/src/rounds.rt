@@ -1,13 +1,15 @@
-ghost use Rattle.std.specs.Prelude.{◌≡◌, ◌+◌, ◌*◌, ◌^◌, ◌<◌, ◌≤◌, [], ◌∷◌, length, zip, IfOk, IfSome, OnOk};
+ghost use Rattle.std.specs.Prelude.{◌≡◌, ◌+◌, ◌*◌, ◌^◌, ◌<◌, ◌≤◌, ◌==◌, true, length, position, zip, IfOk, IfSome, OnOk};
 ghost use Rattle.std.specs.List.{AllByRecursion};
 ghost use Rattle.us_slots.specs.Times.{minislot_ticks};
 ghost use Rattle.us_flows.specs.Tables;
-ghost use Rattle.us_flows.specs.Tables.{max_run_ticks};
+ghost use Rattle.us_flows.specs.Tables.{has_channel, max_run_ticks};
 ghost use Rattle.us_flows.specs.Clusters.{clusters_of};
-ghost use Rattle.us_flows.specs.Lawful.{IsChannel};
+ghost use Rattle.us_flows.specs.Lawful.{AreTables, IsChannel};
+ghost use Rattle.us_replay.specs.Placements.{with_placed};
 ghost use Rattle.us_replay.specs.Rounds as spec;
 ghost use Rattle.us_replay.specs.Seats;
-ghost use Rattle.us_replay.specs.Seats.{served, with_served};
+ghost use Rattle.us_replay.specs.Seats.{HaveLengths, AreGranted, served};
+ghost use Rattle.us_replay.specs.Served.{is_served};
 ghost use Rattle.us_replay.specs.Outputs.{given_by, final_rows};
 
 use crate::boards::Board;
@@ -18,6 +20,7 @@ use crate::planning::share;
 use crate::reserving::reserves;
 use crate::seats::Seat;
 use std::alloc::Global;
+use us_codec::Map;
 use us_flows::{Channel, Config};
 use us_slots::{MAX_MAP_TICKS, NoMemory};
 
@@ -35,6 +38,7 @@ pub(crate) fn round(
     state: &mut State,
     cut: &[u64],
 ) -> Result<Given, NoMemory>
+    requires served { is_served config.now ≡ true }
     requires clusters { length state.old.outstanding ≡ length (clusters_of config.now) }
     requires cut { length cut.now ≡ length (clusters_of config.now) }
     requires room { AllByRecursion (λ pair. pair.0 + pair.1 < 2 ^ 62) (zip state.old.outstanding cut.now) }
@@ -43,29 +47,31 @@ pub(crate) fn round(
         given ≡ given_by config.now (spec.round_of config.now state.old cut.now).out) }
     ensures state { OnOk result (state.new ≡ (spec.round_of config.now state.old cut.now).state) }
 {
-    let channel = only_channel(config);
     let seat = Seat::of(config);
     let round = state.round();
     state.take_in(cut);
-    let mut board = reserves(alloc, channel, map_len(config, channel), round)?;
-    let placed = serve(&mut board, channel, seat, state.first())?;
+    let mut boards = boards_of(alloc, config, round)?;
+    let placed = serve(config, &mut boards, seat, state.first())?;
     let credit = credit_in(placed);
     state.close(credit);
     let pending = pending_of(seat, state.first(), credit);
-    let rows = rows_of(alloc, round, channel, &seat, &placed)?;
-    let map = map_of(alloc, config, channel, round, &board, pending)?;
-    Given::new(alloc, round, map, rows)
+    let rows = rows_of(alloc, round, &seat, &placed)?;
+    let maps = maps_of(alloc, config, round, &boards, pending)?;
+    Ok(Given::new(round, maps, rows))
 }
 
-/// The channel of a run, which so far is one.
-fn only_channel(config: &Config) -> &Channel
-    ensures only { config.now.channels ≡ result.now ∷ [] }
-    ensures lawful { IsChannel config.now result.now }
+/// The boards of a round with their reserves, one for each channel.
+fn boards_of(alloc: Global, config: &Config, round: u32) -> Result<Vec<Board>, NoMemory>
+    ensures value { IfOk result (λ boards. boards.items ≡ Seats.boards_of config.now round) }
+    ensures lengths { IfOk result (λ boards. HaveLengths config.now boards.items) }
+    ensures lawful { AreTables config.now }
 {
-    match config.channels() {
-        [channel, ..] => channel,
-        [] => unreachable!(),
+    let channels = config.channels();
+    let mut boards = Vec::with_capacity(alloc, channels.len())?;
+    for channel in channels {
+        boards.push(reserves(alloc, channel, map_len(config, channel), round)?)?;
     }
+    Ok(boards)
 }
 
 /// The minislots of a channel's MAPs.
@@ -79,26 +85,55 @@ fn map_len(config: &Config, channel: &Channel) -> u32
     config.round_ticks() / channel.bursts.time().minislot_ticks()
 }
 
-/// Grants a seat what it has outstanding, or as much as fits; nobody is no seat.
+/// Grants a seat on the board of its channel what it has outstanding, or as much as fits; nobody is no seat.
 fn serve(
-    board: &mut Board,
-    channel: &Channel,
+    config: &Config,
+    boards: &mut [Board],
     seat: Option<Seat>,
     outstanding: u64,
 ) -> Result<Option<Placed>, NoMemory>
+    requires lengths { HaveLengths config.now boards.old }
+    requires known { IfSome seat (λ seat. has_channel config.now.channels seat.channel ≡ true) }
     requires bits { IfSome seat (λ seat. seat.sid < 2 ^ 14) }
-    requires ticks { length board.old.cells * minislot_ticks channel.now.bursts.time ≤ MAX_MAP_TICKS }
-    ensures placed { IfOk result (λ placed. placed ≡ served channel.now seat board.old outstanding) }
-    ensures board { OnOk result
-        (board.new ≡ with_served board.old seat (served channel.now seat board.old outstanding)) }
+    ensures granted { IfOk result (λ placed.
+        AreGranted config.now.channels seat outstanding boards.old boards.new placed) }
     ensures few { IfOk result (λ placed. Seats.credit_in placed ≤ outstanding) }
-    ensures inside { IfOk result (λ placed. IfSome placed (λ p. p.start < length board.old.cells)) }
-    ensures len { length board.new.cells ≡ length board.old.cells }
+    ensures lengths { OnOk result (HaveLengths config.now boards.new) }
 {
     let seat = match seat {
         Some(seat) => seat,
         None => return Ok(None),
     };
+    let channels = config.channels();
+    let place = match place_of(channels, seat.channel) {
+        Some(place) => place,
+        None => unreachable!(),
+    };
+    serve_on(&mut boards[place], &channels[place], seat, outstanding)
+}
+
+/// The place of the channel with this id, if there is one.
+fn place_of(channels: &[Channel], id: u8) -> Option<usize>
+    ensures { result ≡ position (λ channel. channel.id == id) channels.now }
+{
+    channels.iter().position(|channel| channel.id == id)
+}
+
+/// Grants a seat on this board, its channel's, what it has outstanding, or as much as fits.
+fn serve_on(
+    board: &mut Board,
+    channel: &Channel,
+    seat: Seat,
+    outstanding: u64,
+) -> Result<Option<Placed>, NoMemory>
+    requires bits { seat.sid < 2 ^ 14 }
+    requires ticks { length board.old.cells * minislot_ticks channel.now.bursts.time ≤ MAX_MAP_TICKS }
+    ensures placed { IfOk result (λ placed. placed ≡ served channel.now seat board.old outstanding) }
+    ensures board { IfOk result (λ placed. board.new ≡ with_placed board.old seat.sid placed) }
+    ensures few { IfOk result (λ placed. Seats.credit_in placed ≤ outstanding) }
+    ensures inside { IfOk result (λ placed. IfSome placed (λ p. p.start < length board.old.cells)) }
+    ensures len { length board.new.cells ≡ length board.old.cells }
+{
     let share = share(channel, seat.header, board.free_count(), outstanding);
     if share == 0 {
         return Ok(None);
@@ -116,12 +151,42 @@ fn credit_in(placed: Option<Placed>) -> u32
     }
 }
 
-/// The SID that is pending: of a seat that has bytes left and was credited nothing.
-fn pending_of(seat: Option<Seat>, left: u64, credit: u32) -> Option<u16>
+/// The seat, if it is pending: it has bytes left and was credited nothing.
+fn pending_of(seat: Option<Seat>, left: u64, credit: u32) -> Option<Seat>
     ensures { result ≡ Seats.pending_of seat left credit }
 {
+    if left > 0 && credit == 0 { seat } else { None }
+}
+
+/// The MAP of each board, with the seat that is pending.
+fn maps_of(
+    alloc: Global,
+    config: &Config,
+    round: u32,
+    boards: &[Board],
+    pending: Option<Seat>,
+) -> Result<Vec<Map>, NoMemory>
+    requires lengths { HaveLengths config.now boards.now }
+    requires time { (round + 1) * config.now.round_ticks ≤ max_run_ticks }
+    requires bits { IfSome pending (λ seat. seat.sid < 2 ^ 14) }
+    ensures { IfOk result (λ maps. maps.items ≡ Seats.maps_of config.now round boards.now pending) }
+{
+    let mut maps = Vec::with_capacity(alloc, boards.len())?;
+    for (channel, board) in config.channels().iter().zip(boards) {
+        let sid = sid_on(pending, channel.id);
+        maps.push(map_of(alloc, config, channel, round, board, sid)?)?;
+    }
+    Ok(maps)
+}
+
+/// The SID of a seat on the channel with this id.
+fn sid_on(seat: Option<Seat>, channel: u8) -> Option<u16>
+    requires { IfSome seat (λ seat. seat.sid < 2 ^ 14) }
+    ensures value { result ≡ Seats.sid_on seat channel }
+    ensures bits { IfSome result (λ sid. sid < 2 ^ 14) }
+{
     match seat {
-        Some(seat) if left > 0 && credit == 0 => Some(seat.sid),
+        Some(seat) if seat.channel == channel => Some(seat.sid),
         _ => None,
     }
 }
@@ -130,17 +195,16 @@ fn pending_of(seat: Option<Seat>, left: u64, credit: u32) -> Option<u16>
 fn rows_of(
     alloc: Global,
     round: u32,
-    channel: &Channel,
     seat: &Option<Seat>,
     placed: &Option<Placed>,
 ) -> Result<Vec<Row>, NoMemory>
-    ensures { IfOk result (λ rows. rows.items ≡ Seats.rows_of round channel.now seat.now placed.now) }
+    ensures { IfOk result (λ rows. rows.items ≡ Seats.rows_of round seat.now placed.now) }
 {
     let mut rows = Vec::new(alloc);
     if let (Some(seat), Some(placed)) = (seat, placed) {
         rows.push(Row::Granted {
             round: u64::from(round),
-            channel: u64::from(channel.id),
+            channel: u64::from(seat.channel),
             entry: Entry::Requested,
             id: u64::from(seat.flow),
             i: 0,
@@ -162,6 +226,7 @@ pub(crate) fn final_rows(
     config: &Config,
     state: &State,
 ) -> Result<Vec<Row>, NoMemory>
+    requires served { is_served config.now ≡ true }
     requires clusters { length state.now.outstanding ≡ length (clusters_of config.now) }
     ensures { IfOk result (λ rows. rows.items ≡ final_rows config.now state.now) }
 {

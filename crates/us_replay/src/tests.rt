@@ -5,3 +5,4 @@ mod boards;
 mod devices;
 mod lines;
 mod replays;
+mod served;

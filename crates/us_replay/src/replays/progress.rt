@@ -1,12 +1,13 @@
-ghost use Rattle.std.specs.Prelude.{◌≡◌, ◌+◌, ◌*◌, ◌^◌, ◌<◌, ◌≤◌, length, sum, sum_by, IfOk, OnOk};
+ghost use Rattle.std.specs.Prelude.{◌≡◌, ◌+◌, ◌*◌, ◌^◌, ◌<◌, ◌≤◌, true, length, sum, sum_by, IfOk, OnOk};
 ghost use Rattle.std.specs.List.{AllByRecursion};
 ghost use Rattle.us_flows.specs.Tables.{max_run_ticks};
 ghost use Rattle.us_flows.specs.Clusters.{clusters_of};
 ghost use Rattle.us_flows.specs.Lawful.{AreTables};
 ghost use Rattle.us_requests.specs.Traces.{max_asked};
+ghost use Rattle.us_replay.specs.Served.{is_served};
 ghost use Rattle.us_replay.specs.Rounds.{opening};
 ghost use Rattle.us_replay.specs.Progress as spec;
-ghost use Rattle.us_replay.specs.Progress.{after_round, after_last, summary_after};
+ghost use Rattle.us_replay.specs.Progress.{after_round, after_last, max_rows, summary_after};
 
 use super::tallies::Tally;
 use crate::cuts::cut_round;
@@ -74,14 +75,15 @@ impl Progress {
         asks: &[Ask],
     ) -> Result<(), NoMemory>
         requires lawful { AreTables config.now }
+        requires served { is_served config.now ≡ true }
         requires clusters { self.old.clusters ≡ length (clusters_of config.now) }
         requires wide { length self.old.state.outstanding ≡ length (clusters_of config.now) }
         requires known { AllByRecursion (λ ask. ask.cluster < length (clusters_of config.now)) asks.now }
         requires room { sum self.old.state.outstanding + sum_by (λ ask. ask.bytes) asks.now ≤ max_asked }
         requires time { (self.old.state.round + 1) * config.now.round_ticks ≤ max_run_ticks }
         requires rounds { self.old.state.round < 2 ^ 32 }
-        requires granted { self.old.granted ≤ 100 * self.old.state.round }
-        requires missed { self.old.missed ≤ 100 * self.old.state.round }
+        requires granted { self.old.granted ≤ max_rows * self.old.state.round }
+        requires missed { self.old.missed ≤ max_rows * self.old.state.round }
         ensures { OnOk result (self.new ≡ after_round config.now self.old asks.now) }
     {
         let cut = self.cut.as_mut_slice();
@@ -102,7 +104,8 @@ impl Progress {
         config: &Config,
         counts: Counts,
     ) -> Result<(), NoMemory>
-        requires { length self.old.state.outstanding ≡ length (clusters_of config.now) }
+        requires served { is_served config.now ≡ true }
+        requires wide { length self.old.state.outstanding ≡ length (clusters_of config.now) }
         ensures { OnOk result (self.new ≡ after_last config.now self.old counts) }
     {
         let mut rows = final_rows(alloc, config, &self.state)?;

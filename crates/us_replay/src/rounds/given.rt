@@ -1,11 +1,9 @@
-ghost use Rattle.std.specs.Prelude.{◌≡◌, [], ◌∷◌, IfOk};
+ghost use Rattle.std.specs.Prelude.{◌≡◌};
 ghost use Rattle.us_replay.specs.Outputs as spec;
 
 use crate::lines::Row;
-use std::alloc::Global;
 use std::marker::Model;
 use us_codec::Map;
-use us_slots::NoMemory;
 
 /// What a round gives: the MAP of each channel in table order, and its lines.
 #[derive(Debug, Drop)]
@@ -22,19 +20,11 @@ impl Model for Given {
 }
 
 impl Given {
-    /// What a round of one channel gives.
-    pub(crate) fn new(
-        alloc: Global,
-        round: u32,
-        map: Map,
-        rows: Vec<Row>,
-    ) -> Result<Given, NoMemory>
-        ensures { let given : spec.Given = record { round = round; maps = map ∷ []; rows = rows.items } in
-            IfOk result (λ made. made ≡ given) }
+    /// What a round gives of these MAPs and lines.
+    pub(crate) fn new(round: u32, maps: Vec<Map>, rows: Vec<Row>) -> Given
+        ensures { result ≡ record { round = round; maps = maps.items; rows = rows.items } }
     {
-        let mut maps = Vec::new(alloc);
-        maps.push(map)?;
-        Ok(Given { round, maps, rows })
+        Given { round, maps, rows }
     }
 
     /// The number of the round.

@@ -288,6 +288,10 @@ fn texts_of_run_faults(rt: HostRuntime) -> Result<(), Fail> {
             "RU5: the report failed after 7 rounds",
         ),
         (RunFault::NoMemory(1), "RU6: out of memory after 1 rounds"),
+        (
+            RunFault::NotServed,
+            "RU7: the configuration is not served yet",
+        ),
     ] {
         assert_eq!(rt; format!(in rt.alloc(); "{fault}")?.as_str(), text);
     }

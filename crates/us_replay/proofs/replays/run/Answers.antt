@@ -105,8 +105,8 @@ loop-done-preserved g c =
       c.in_ok-send.ensures.report_failed,
     )
 
-pub make_last-requires : goal.make_last-requires
-make_last-requires g c = c.loop-done.invariant.2.wide
+pub make_last-requires-clause-wide : goal.make_last-requires-clause-wide
+make_last-requires-clause-wide g c = c.loop-done.invariant.2.wide
 
 pub returns-in_default-make_last-clause-ran : goal.returns-in_default-make_last-clause-ran
 returns-in_default-make_last-clause-ran g c =

@@ -4,7 +4,7 @@ use Rattle.std.proofs.lemmas.Result.{on_ok_weaker}
 use Rattle.us_requests.specs.Asks.{cut_of}
 use Rattle.us_requests.specs.Traces.{max_asked}
 use Rattle.us_replay.specs.Outputs.{records, lines}
-use Rattle.us_replay.specs.Progress.{Progress, after_round}
+use Rattle.us_replay.specs.Progress.{Progress, after_round, max_rows}
 use Rattle.us_replay.proofs.LoopLemmas.{pairs-room, count-room, made-round}
 use Rattle.us_replay.proofs.replays.progress.Progress.make_round.Goals as goal
 
@@ -17,14 +17,14 @@ pub add-requires-clause-granted_room : goal.add-requires-clause-granted_room
 add-requires-clause-granted_room c =
     count-room c.args.config.now c.self.inside.state c.cut_round.new.cut c.in_ok-given.given c.rows.result.now
     c.self.inside.tally.granted c.requires.lawful c.in_ok-given.ensures.given c.rows.ensures
-    (subst (λ p. p.granted ≤ 100 * p.state.round) (sym c.self.view_is) c.requires.granted)
+    (subst (λ p. p.granted ≤ max_rows * p.state.round) (sym c.self.view_is) c.requires.granted)
     (subst (λ p. p.state.round < 4294967296) (sym c.self.view_is) c.requires.rounds)
 
 pub add-requires-clause-missed_room : goal.add-requires-clause-missed_room
 add-requires-clause-missed_room c =
     count-room c.args.config.now c.self.inside.state c.cut_round.new.cut c.in_ok-given.given c.rows.result.now
     c.self.inside.tally.missed c.requires.lawful c.in_ok-given.ensures.given c.rows.ensures
-    (subst (λ p. p.missed ≤ 100 * p.state.round) (sym c.self.view_is) c.requires.missed)
+    (subst (λ p. p.missed ≤ max_rows * p.state.round) (sym c.self.view_is) c.requires.missed)
     (subst (λ p. p.state.round < 4294967296) (sym c.self.view_is) c.requires.rounds)
 
 pub returns : goal.returns
