@@ -14,11 +14,12 @@ pub summarized : {T E : Type 0} (t : Tables) (rounds : ℕ) (told : Option (List
     OnOk result ((line : List ℕ) × IsSummaryOf rounds line × Appends before after line)
 summarized t rounds told to_maps to_report summary before after (Err e) replayed printed = tt
 summarized t rounds told to_maps to_report summary before after (Ok x)
-    (fit, (text, is_text, sound, (maps, report, same))) printed = (
+    ((served, fit), (text, is_text, sound, (maps, report, same))) printed = (
       summary_line summary ++ 10 ∷ [],
       record {
         tables = t;
         trace = text;
+        served = served;
         fit = fit;
         sound = sound;
         line = ap (λ summary. summary_line summary ++ 10 ∷ []) same;

@@ -20,9 +20,14 @@ config_line config.Text = codes "fault C1"
 config_line (config.Missing place) = codes "fault C2 " ++ place_text place
 config_line (config.Range place) = codes "fault C3 " ++ place_text place
 config_line (config.UnknownChannel place) = codes "fault C4 " ++ place_text place
+config_line (config.DuplicateId place) = codes "fault C5 " ++ place_text place
+config_line (config.DuplicateSid place) = codes "fault C6 " ++ place_text place
 config_line (config.ClusterLength place) = codes "fault C7 " ++ place_text place
 config_line (config.RoundNotMultiple place) = codes "fault C8 " ++ place_text place
 config_line (config.ReservesTooLong place) = codes "fault C9 " ++ place_text place
+config_line (config.Jitter place) = codes "fault C10 " ++ place_text place
+config_line (config.GrantLongerThanMap place) = codes "fault C11 " ++ place_text place
+config_line (config.Headers place) = codes "fault C12 " ++ place_text place
 config_line config.NoMemory = codes "fault memory"
 
 -- of a trace with its record
@@ -41,6 +46,7 @@ run_line (run.Trace f) = trace_line f
 run_line (run.WriteMaps rounds) = codes "fault RU4 " ++ decimal rounds
 run_line (run.WriteReport rounds) = codes "fault RU5 " ++ decimal rounds
 run_line (run.NoMemory rounds) = codes "fault memory"
+run_line run.NotServed = codes "fault RU7"
 
 abbrev pub stream_word : Stream → List ℕ
 stream_word stream.Config = codes "config"

@@ -32,9 +32,14 @@ impl fmt::Display for ConfigLine {
             ConfigFault::Missing(place) => write!(f, "fault C2 {place}"),
             ConfigFault::Range(place) => write!(f, "fault C3 {place}"),
             ConfigFault::UnknownChannel(place) => write!(f, "fault C4 {place}"),
+            ConfigFault::DuplicateId(place) => write!(f, "fault C5 {place}"),
+            ConfigFault::DuplicateSid(place) => write!(f, "fault C6 {place}"),
             ConfigFault::ClusterLength(place) => write!(f, "fault C7 {place}"),
             ConfigFault::RoundNotMultiple(place) => write!(f, "fault C8 {place}"),
             ConfigFault::ReservesTooLong(place) => write!(f, "fault C9 {place}"),
+            ConfigFault::Jitter(place) => write!(f, "fault C10 {place}"),
+            ConfigFault::GrantLongerThanMap(place) => write!(f, "fault C11 {place}"),
+            ConfigFault::Headers(place) => write!(f, "fault C12 {place}"),
             ConfigFault::NoMemory => f.write_str("fault memory"),
         }
     }
@@ -65,6 +70,7 @@ impl fmt::Display for RunLine {
             RunFault::WriteMaps(rounds) => write!(f, "fault RU4 {rounds}"),
             RunFault::WriteReport(rounds) => write!(f, "fault RU5 {rounds}"),
             RunFault::NoMemory(_) => f.write_str("fault memory"),
+            RunFault::NotServed => f.write_str("fault RU7"),
         }
     }
 }

@@ -13,7 +13,7 @@ use std::io::{self, ErrorKind};
 use std::rt::Files;
 use std::{fmt, fs};
 use us_flows::{Config, ConfigFault, MAX_CONFIG_BYTES};
-use us_replay::{RunFault, Summary, replay};
+use us_replay::{RunFault, Summary, is_served, replay};
 use us_slots::{FromRead, FromWrite, ReadFault, Sink, read_all};
 
 /// Replays a trace from files into files, and prints what it did.
@@ -30,6 +30,9 @@ pub fn replay_files<R: Files, O: Sink>(
     ensures output { (O.failed output.new ≡ true) ↔ (result ≡ Err (fault.Device stream.Output)) }
 {
     let config = read_config(rt, alloc, order.config)?;
+    if !is_served(&config) {
+        return Err(Fault::Run(RunFault::NotServed));
+    }
     if !config.rounds_fit(order.rounds) {
         return Err(Fault::Run(RunFault::Rounds));
     }

@@ -128,8 +128,11 @@ fn files_that_are_refused(rt: HostRuntime) -> Result<(), Fail> {
     let wrong = changed(&rt, "round_ticks = 320", "round_ticks = 321")?;
     folder.write(&rt, "wrong", wrong.as_str())?;
     folder.write(&rt, "fields", "tick,channel,sid,units\n0,1,291\n")?;
+    let limited = changed(&rt, "rate = 0", "rate = 1")?;
+    folder.write(&rt, "limited", limited.as_str())?;
     for (config, rounds, line) in [
         ("wrong", "0", "fault C8 channel 0\n"),
+        ("limited", "0", "fault RU7\n"),
         ("config", "0", "fault RU1\n"),
         ("config", "4294967295", "fault RU1\n"),
     ] {

@@ -89,6 +89,28 @@ fn faults_of_the_rounds(rt: HostRuntime) -> Result<(), Fail> {
     Ok(())
 }
 
+/// Configurations that aren't served yet, whatever the rounds and the trace are.
+#[test]
+fn configurations_that_are_not_served(rt: HostRuntime) -> Result<(), Fail> {
+    for (from, to, rounds) in [
+        ("rate = 0", "rate = 1", "2"),
+        ("rate = 0", "rate = 1", "0"),
+        ("[[291]]", "[[291], [292]]", "2"),
+    ] {
+        let config = changed(&rt, from, to)?;
+        let input = piped(&rt, config.as_str(), "no header")?;
+        let found = run_on(&rt, &["pipe", "--rounds", rounds], input.as_bytes())?;
+        assert_eq!(rt; found.status, Status::Refused, "{to} {rounds}");
+        assert_eq!(rt;
+            found.errors.as_slice(),
+            b"fault RU7\n".as_slice(),
+            "{to} {rounds}"
+        );
+        assert_eq!(rt; found.output.len(), 0, "{to} {rounds}");
+    }
+    Ok(())
+}
+
 /// What is no mark is looked for before the configuration is read.
 #[test]
 fn inputs_without_a_mark(rt: HostRuntime) -> Result<(), Fail> {

@@ -13,8 +13,17 @@ fn lines_of_faults(rt: HostRuntime) -> Result<(), Fail> {
         table: TableName::Top,
         index: 0,
     };
+    let station = Place {
+        table: TableName::Station,
+        index: 255,
+    };
     for (fault, line, status) in [
         (Fault::Config(ConfigFault::Range(top)), "fault C3 top 0", 3),
+        (
+            Fault::Config(ConfigFault::Jitter(station)),
+            "fault C10 station 255",
+            3,
+        ),
         (Fault::Config(ConfigFault::NoMemory), "fault memory", 5),
         (
             Fault::Run(RunFault::Trace(TraceFault::TooLarge)),
