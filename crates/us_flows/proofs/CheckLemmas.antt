@@ -1,5 +1,5 @@
 -- No first fault: no check finds one.
-use Rattle.std.proofs.Common.{◌≡◌, Bool, false, List, [], ◌∷◌, Option, Some, None, refl, inl, inr}
+use Rattle.std.proofs.Common.{◌≡◌, false, List, [], ◌∷◌, Option, Some, None, refl, inl, inr}
 use Rattle.std.proofs.lemmas.Bool.{cases_Bool}
 use Rattle.us_flows.specs.declared.faults.ConfigFault.{ConfigFault}
 use Rattle.us_flows.specs.Checks.{Check, first_of, or_else}

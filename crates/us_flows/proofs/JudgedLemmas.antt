@@ -1,6 +1,6 @@
 -- The answers to a flow's table: the first fault of a list of checks is its first fault, if no list before it finds one.
-use Rattle.std.proofs.Common.{◌≡◌, ℕ, ◌+◌, ◌≤◌, ◌<◌, Bool, List, [], ◌∷◌, ◌++◌, length, get_or, drop, append_assoc, codes, Option, Some, None, refl, sym, ◌∙◌, ap, arith, inl, inr}
-use Rattle.std.specs.Prelude.{Result, Err}
+use Rattle.std.proofs.Common.{◌≡◌, ℕ, ◌+◌, ◌≤◌, ◌<◌, List, [], ◌∷◌, ◌++◌, length, get_or, drop, append_assoc, codes, Option, Some, None, refl, sym, ◌∙◌, ap, arith, inl, inr}
+use Rattle.std.specs.Prelude.{Err}
 use Rattle.std.proofs.lemmas.Bool.{cases_Bool}
 use Rattle.std.proofs.lemmas.List.{drop_more, length-append}
 use Rattle.toml.specs.Data.{Data, string, integer, float, boolean, datetime, array, table, as_table, Members, Items, no_items, item}
@@ -14,7 +14,7 @@ use Rattle.us_flows.specs.declared.faults.ConfigFault.TheVariants as fault
 use Rattle.us_flows.specs.Tables.{FlowTable}
 use Rattle.us_flows.specs.Documents.{lists_of, items_at}
 use Rattle.us_flows.specs.Shapes.{count}
-use Rattle.us_flows.specs.Reading.{kind_at, flow_of, all_of}
+use Rattle.us_flows.specs.Reading.{flow_of, all_of}
 use Rattle.us_flows.specs.Checks.{Check, first_of, or_else, top, in_turn, flows_fault, flow_place, flow_shape, flow_names, flow_grants, flow_fault}
 use Rattle.us_flows.specs.Answers.{Judged}
 use Rattle.us_flows.proofs.CheckLemmas.{none_finds}

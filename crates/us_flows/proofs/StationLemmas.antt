@@ -1,5 +1,5 @@
 -- A station's table without a fault in its shape: all its values are in their ranges.
-use Rattle.std.proofs.Common.{◌≡◌, ℕ, ◌≤◌, false, codes, refl}
+use Rattle.std.proofs.Common.{◌≡◌, ◌≤◌, false, codes, refl}
 use Rattle.toml.specs.Data.{Members}
 use Rattle.us_flows.specs.Keys.{station_keys}
 use Rattle.us_flows.specs.Lawful.{Between}

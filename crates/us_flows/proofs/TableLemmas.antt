@@ -1,5 +1,5 @@
 -- A document without a fault writes lawful tables.
-use Rattle.std.proofs.Common.{◌≡◌, ℕ, zero, suc, ◌+◌, ◌*◌, ◌/◌, ◌%◌, ◌≤◌, ◌<◌, ◌==◌, nat_eq, nat_lt, nat_le, Bool, true, false, not, ◌&&◌, ◌||◌, List, [], ◌∷◌, ◌++◌, length, map, flat_map, codes, Option, Some, None, append_assoc, refl, sym, subst, ◌∙◌, ap, arith, inl, inr}
+use Rattle.std.proofs.Common.{◌≡◌, ℕ, zero, suc, ◌+◌, ◌*◌, ◌/◌, ◌%◌, ◌≤◌, ◌==◌, nat_eq, nat_lt, nat_le, Bool, true, false, not, ◌&&◌, List, [], ◌∷◌, ◌++◌, length, map, flat_map, codes, Option, Some, None, append_assoc, refl, sym, subst, ◌∙◌, ap, arith, inl, inr}
 use Rattle.std.specs.Prelude.{is_some, option_and_then, slice_get}
 use Rattle.std.specs.List.{AllByRecursion, list_all, list_any}
 use Rattle.std.proofs.lemmas.Bool.{cases_Bool, and_parts, or_parts, eqb-true, ltb-false, leb-false, not-false, false≢true}
@@ -17,17 +17,17 @@ use Rattle.us_flows.specs.declared.faults.TableName.TheVariants as name
 use Rattle.us_flows.specs.declared.faults.ConfigFault.{ConfigFault}
 use Rattle.us_flows.specs.Tables.{Tables, FlowTable, map_len, has_channel, channel_with, first_channel, sids_of}
 use Rattle.us_flows.specs.Clusters.{makes_requests, has_intervals}
-use Rattle.us_flows.specs.Keys.{Key, top_keys}
-use Rattle.us_flows.specs.Lawful.{Between, AreApart, Fits, IsSchedule, IsChannel, IsRequesting, IsPolled, IsUnsolicited, IsScheduled, IsFlow, IsStation, AreTables}
+use Rattle.us_flows.specs.Keys.{top_keys}
+use Rattle.us_flows.specs.Lawful.{Between, AreApart, Fits, IsSchedule, IsChannel, IsRequesting, IsPolled, IsScheduled, IsFlow, IsStation, AreTables}
 use Rattle.us_flows.specs.Documents.{number_at, flag_at, numbers_of, lists_of, items_of, items_at, read_or}
 use Rattle.us_flows.specs.Shapes.{is_number, is_number_list, is_list, is_table, count, all_items, allows, lacks, strays}
 use Rattle.us_flows.specs.Checks.{first_of, or_else, top_checks, channel_shape, channel_rules, channel_fault, repeats, same_sid, is_taken, has_flow, flow_place, flow_shape, flow_names, grant_slots, is_too_long, flow_grants, flow_fault, station_shape, station_rules, station_fault, in_turn, channels_fault, flows_fault, stations_fault, first_fault}
-use Rattle.us_flows.specs.Reading.{channel_of, kind_at, flow_of, station_of, all_of, round_of, channels_of, flows_of, stations_of, tables_of}
+use Rattle.us_flows.specs.Reading.{channel_of, kind_at, flow_of, station_of, all_of, round_of, channels_of, tables_of}
 use Rattle.us_flows.proofs.CheckLemmas.{or_else_none, none_finds}
 use Rattle.us_flows.proofs.ApartLemmas.{keys_apart, ids_apart, sids_apart}
 use Rattle.us_flows.proofs.ShapeLemmas.{found_allowed, number_in_range, number_between}
 use Rattle.us_flows.proofs.ChannelLemmas.{list_items, list_in_range, channel_ranges}
-use Rattle.us_flows.proofs.FlowLemmas.{FlowRanges, RequestRanges, GrantRanges, KindRanges, kind_ranges, numbers_within}
+use Rattle.us_flows.proofs.FlowLemmas.{FlowRanges, RequestRanges, KindRanges, kind_ranges, numbers_within}
 use Rattle.us_flows.proofs.StationLemmas.{station_ranges}
 
 -- The top level.

@@ -4,7 +4,7 @@ use Rattle.std.specs.Str.{bytes_eq}
 use Rattle.toml.specs.Data.{Data, integer, boolean, array, table, Items, no_items, item, Members, no_members, member}
 use Rattle.us_slots.specs.Bursts.{BurstProfile, burst_cost, coded_length}
 use Rattle.us_flows.specs.declared.found.Found.TheVariants.{Cluster, Unsolicited}
-use Rattle.us_flows.specs.declared.flows.SchedulingType.TheVariants.{BestEffort, NonRealTimePolling, RealTimePolling, UnsolicitedGrant}
+use Rattle.us_flows.specs.declared.flows.SchedulingType.TheVariants.{BestEffort, UnsolicitedGrant}
 use Rattle.us_flows.specs.declared.faults.Place.{Place}
 use Rattle.us_flows.specs.declared.faults.TableName.TheVariants as name
 use Rattle.us_flows.specs.declared.faults.ConfigFault.{ConfigFault}
@@ -211,7 +211,7 @@ channel_faults :
     (channel_with (codes "contention_minislots") (number 161) ≡ Some (ReservesTooLong channel)) ×
     -- an id that is there twice
     (first_fault (document (base_channel ∷ base_channel ∷ []) []) ≡
-        Some (DuplicateId (record { table = name.Channel; index = 1 })))
+    Some (DuplicateId (record { table = name.Channel; index = 1 })))
 unfolding first_fault channel_fault channel_lacks channel_strays flow_fault station_fault
     top_keys channel_keys profile_keys short_keys best_effort_keys polling_keys unsolicited_keys station_keys
     burst_cost coded_length
@@ -302,7 +302,7 @@ schedules :
     -- a poll of 2 minislots, and maintenance of 4, in a MAP of one
     (first_fault (short_round (polled_flow ∷ []) []) ≡ Some (GrantLongerThanMap flow)) ×
     (first_fault (short_round (base_flow ∷ []) (base_station ∷ [])) ≡
-        Some (GrantLongerThanMap (record { table = name.Station; index = 0 })))
+    Some (GrantLongerThanMap (record { table = name.Station; index = 0 })))
 unfolding first_fault channel_fault channel_lacks channel_strays flow_fault station_fault
     top_keys channel_keys profile_keys short_keys best_effort_keys polling_keys unsolicited_keys station_keys
     burst_cost coded_length

@@ -138,20 +138,34 @@ interval_us = 50000
 jitter_us = 1000
 "#;
 
-/// Of changes of a configuration, each a line `ANSWER | OLD -> NEW`, those that are answered otherwise, each with its
-/// own answer behind it. `~` is a line feed; several changes of one line are made in turn, with ` ; ` between them. A
-/// line that begins with `#` is a comment.
-pub fn others(alloc: Global, base: &str, lines: &str) -> Result<String, Fail> {
+/// Looks at changes of a configuration, each a line `ANSWER | OLD -> NEW`, and fails with those that are answered
+/// otherwise, each with its own answer behind it. `~` is a line feed, and several changes of one line are made in turn,
+/// with ` ; ` between them. A line that begins with `#` is a comment.
+pub fn check_answers(alloc: Global, base: &str, lines: &str) -> Result<(), Fail> {
+    same(others(alloc, base, lines)?, "")
+}
+
+/// The lines that are answered otherwise.
+fn others(alloc: Global, base: &str, lines: &str) -> Result<String, Fail> {
     let mut others = String::new(alloc);
     for line in lines.lines().filter(|line| !line.starts_with('#')) {
         let (expected, changes) = line.split_once(" | ").ok_or("a line without its answer")?;
         let text = changed(alloc, base, changes)?;
         let answer = answer_of(alloc, text.as_bytes())?;
         if answer.as_str() != expected {
-            others.push_str(format!(in alloc; "\n{line}: {answer}")?.as_str())?;
+            writeln!(others, "{line}: {answer}")?;
         }
     }
     Ok(others)
+}
+
+/// Fails with what was found, where it isn't what is expected. A test that asserts by this function is proved sooner.
+pub fn same(found: String, expected: &str) -> Result<(), Fail> {
+    if found.as_str() == expected {
+        Ok(())
+    } else {
+        Err(Fail::new(found))
+    }
 }
 
 /// A configuration with these changes, each at the first place that reads so; there has to be one.

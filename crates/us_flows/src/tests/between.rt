@@ -1,4 +1,4 @@
-use super::base::{BIG, changed, others};
+use super::base::{BIG, changed, check_answers};
 use std::test::Fail;
 
 /// What one table has to do with others.
@@ -69,7 +69,7 @@ C10 station 1 | jitter_us = 1000 -> jitter_us = 50001
 # several channels without segment headers
 C12 flow 0 | headers = true -> headers = false
 C12 flow 2 | channels = [20]~clusters = [[513]] -> channels = [20, 10]~clusters = [[513, 514]]
-C12 flow 3 | channels = [10]~clusters = [[769], [785]] -> channels = [10, 20]~clusters = [[769, 7]] ; true # -> false #";
+C12 flow 3 | [10]~clusters = [[769], [785]] -> [10, 20]~clusters = [[769, 770]] ; true # -> false #";
 
 /// What is accepted all the same.
 const ACCEPTED: &str = "\
@@ -186,14 +186,9 @@ C11 station 0 | station_minislots = 5 -> station_minislots = 6 ; sid = 900 -> si
 
 #[test]
 fn tables_beside_others(rt: HostRuntime) -> Result<(), Fail> {
-    let names = others(rt.alloc(), BIG, NAMES)?;
-    assert_eq!(rt; names.as_str(), "");
-    let accepted = others(rt.alloc(), BIG, ACCEPTED)?;
-    assert_eq!(rt; accepted.as_str(), "");
-    let lengths = others(rt.alloc(), BIG, LENGTHS)?;
-    assert_eq!(rt; lengths.as_str(), "");
+    check_answers(rt.alloc(), BIG, NAMES)?;
+    check_answers(rt.alloc(), BIG, ACCEPTED)?;
+    check_answers(rt.alloc(), BIG, LENGTHS)?;
     let short = changed(rt.alloc(), BIG, SHORTER)?;
-    let in_short_maps = others(rt.alloc(), short.as_str(), IN_SHORT_MAPS)?;
-    assert_eq!(rt; in_short_maps.as_str(), "");
-    Ok(())
+    check_answers(rt.alloc(), short.as_str(), IN_SHORT_MAPS)
 }

@@ -1,4 +1,4 @@
-use super::base::{BASE, BIG, changed, read};
+use super::base::{BASE, BIG, changed, read, same};
 use crate::Config;
 use std::alloc::{AllocError, Global};
 use std::test::Fail;
@@ -16,12 +16,20 @@ fn found_in(alloc: Global, config: &Config) -> Result<String, AllocError> {
     Ok(lines)
 }
 
+/// The clusters of a configuration, and all that its SIDs ask for.
+fn answers_of(alloc: Global, text: &str) -> Result<String, Fail> {
+    let config = read(alloc, text)?;
+    let found = found_in(alloc, &config)?;
+    Ok(format!(in alloc; "{} clusters\n{found}", config.clusters())?)
+}
+
 /// No SID is found but those of flows, each on its own channel; a station's SID asks for nothing.
 #[test]
 fn sids_of_flows(rt: HostRuntime) -> Result<(), Fail> {
-    let config = read(rt.alloc(), BIG)?;
-    assert_eq!(rt; config.clusters(), 5);
-    assert_eq!(rt; found_in(rt.alloc(), &config)?.as_str(), "\
+    same(
+        answers_of(rt.alloc(), BIG)?,
+        "\
+5 clusters
 10 257 Cluster(0)
 10 273 Cluster(1)
 10 769 Cluster(3)
@@ -30,22 +38,22 @@ fn sids_of_flows(rt: HostRuntime) -> Result<(), Fail> {
 20 274 Cluster(1)
 20 513 Cluster(2)
 20 1025 Unsolicited
-");
-    Ok(())
+",
+    )
 }
 
-/// One SID on both channels, in one flow and in two, and the least and the greatest SID.
+/// One SID on both channels, in one flow and in two, and the least and the greatest SID; and no flow at all.
 #[test]
 fn sids_on_two_channels(rt: HostRuntime) -> Result<(), Fail> {
     let text = changed(
         rt.alloc(),
         BIG,
-        "clusters = [[257, 258], [273, 274]] -> clusters = [[257, 257], [1, 15871]] ; [[1025]] -> [[1]] ; \
-[[769], [785]] -> [[15871]]",
+        "[[257, 258], [273, 274]] -> [[257, 257], [1, 15871]] ; [[1025]] -> [[1]] ; [[769], [785]] -> [[15871]]",
     )?;
-    let config = read(rt.alloc(), text.as_str())?;
-    assert_eq!(rt; config.clusters(), 4);
-    assert_eq!(rt; found_in(rt.alloc(), &config)?.as_str(), "\
+    same(
+        answers_of(rt.alloc(), text.as_str())?,
+        "\
+4 clusters
 10 1 Cluster(1)
 10 257 Cluster(0)
 10 15871 Cluster(3)
@@ -53,10 +61,8 @@ fn sids_on_two_channels(rt: HostRuntime) -> Result<(), Fail> {
 20 257 Cluster(0)
 20 513 Cluster(2)
 20 15871 Cluster(1)
-");
+",
+    )?;
     let (no_flows, _) = BASE.split_once("[[flow]]").ok_or("no flow")?;
-    let empty = read(rt.alloc(), no_flows)?;
-    assert_eq!(rt; empty.clusters(), 0);
-    assert_eq!(rt; found_in(rt.alloc(), &empty)?.as_str(), "");
-    Ok(())
+    same(answers_of(rt.alloc(), no_flows)?, "0 clusters\n")
 }

@@ -1,4 +1,4 @@
-use super::base::{BASE, answer_of, others};
+use super::base::{BASE, answer_of, check_answers, same};
 use crate::{ConfigFault, Place, TableName};
 use std::test::Fail;
 
@@ -46,7 +46,8 @@ C1 | ~lead_ticks -> ~\u{feff}lead_ticks";
 /// Another form of the same tables: inline flows, and profiles under headers and by dotted keys.
 const OTHER_FORM: &str = r#"
 flow = [
-    { id = 1, type = 2, channels = [1], clusters = [[291]], priority = 0, rate = 0, burst = 1, unit = 4, headers = true },
+    { id = 1, type = 2, channels = [1], clusters = [[291]], priority = 0, rate = 0, burst = 1, unit = 4,
+      headers = true },
     { id = 2, type = 6, channels = [1], clusters = [[292]], start_us = 0, interval_us = 100, jitter_us = 0,
       grant_bytes = 16, grants_per_interval = 1 },
 ]
@@ -137,27 +138,16 @@ C2 top 0 | lead_ticks = 160 -> channel = []";
 
 #[test]
 fn texts_and_forms(rt: HostRuntime) -> Result<(), Fail> {
-    let texts = others(rt.alloc(), BASE, TEXTS)?;
-    assert_eq!(rt; texts.as_str(), "");
-    let form = others(rt.alloc(), OTHER_FORM, OF_THE_OTHER_FORM)?;
-    assert_eq!(rt; form.as_str(), "");
+    check_answers(rt.alloc(), BASE, TEXTS)?;
+    check_answers(rt.alloc(), OTHER_FORM, OF_THE_OTHER_FORM)?;
     let (no_flows, _) = BASE.split_once("[[flow]]").ok_or("no flow")?;
-    let items = others(rt.alloc(), no_flows, ITEMS)?;
-    assert_eq!(rt; items.as_str(), "");
+    check_answers(rt.alloc(), no_flows, ITEMS)?;
     let (no_channels, _) = BASE.split_once("[[channel]]").ok_or("no channel")?;
-    let channels = others(rt.alloc(), no_channels, CHANNELS)?;
-    assert_eq!(rt; channels.as_str(), "");
+    check_answers(rt.alloc(), no_channels, CHANNELS)?;
     let ended_otherwise = BASE.replace(rt.alloc(), "\n", "\r\n")?;
-    assert_eq!(rt;
-        answer_of(rt.alloc(), ended_otherwise.as_bytes())?.as_str(),
-        "ok"
-    );
-    assert_eq!(rt; answer_of(rt.alloc(), b"")?.as_str(), "C2 top 0");
-    assert_eq!(rt;
-        answer_of(rt.alloc(), b"lead_ticks = 160 # \xff")?.as_str(),
-        "C1"
-    );
-    Ok(())
+    same(answer_of(rt.alloc(), ended_otherwise.as_bytes())?, "ok")?;
+    same(answer_of(rt.alloc(), b"")?, "C2 top 0")?;
+    same(answer_of(rt.alloc(), b"lead_ticks = 160 # \xff")?, "C1")
 }
 
 #[test]
@@ -185,7 +175,9 @@ fn faults_are_one_line(rt: HostRuntime) -> Result<(), Fail> {
     ] {
         writeln!(lines, "{fault}")?;
     }
-    let expected = "\
+    same(
+        lines,
+        "\
 C1: no TOML document of at most 4194304 bytes
 C2: a key is missing in top 0
 C3: a value is out of its range, or a key is unknown, in channel 0
@@ -199,7 +191,6 @@ C10: the jitter is not below the interval in station 255
 C11: a grant passes the length of the MAPs in station 255
 C12: segment headers are wanting on several channels in flow 0
 C13: out of memory
-";
-    assert_eq!(rt; lines.as_str(), expected);
-    Ok(())
+",
+    )
 }

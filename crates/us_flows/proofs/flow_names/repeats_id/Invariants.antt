@@ -1,5 +1,5 @@
 use Rattle.std.proofs.Common.{◌≡◌, drop, nat_eq}
-use Rattle.us_flows.specs.Checks.{repeats, same_sid}
+use Rattle.us_flows.specs.Checks.{repeats}
 use Rattle.us_flows.proofs.flow_names.repeats_id.Given as goal
 
 abbrev pub invariant-loop-place : goal.invariant-loop-place

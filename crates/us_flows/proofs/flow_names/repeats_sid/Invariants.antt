@@ -1,4 +1,4 @@
-use Rattle.std.proofs.Common.{◌≡◌, drop, nat_eq}
+use Rattle.std.proofs.Common.{◌≡◌, drop}
 use Rattle.us_flows.specs.Checks.{repeats, same_sid}
 use Rattle.us_flows.proofs.flow_names.repeats_sid.Given as goal
 

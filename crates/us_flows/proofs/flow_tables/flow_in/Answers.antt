@@ -1,6 +1,6 @@
 use Rattle.std.proofs.Common.{sym, ◌∙◌}
 use Rattle.toml.specs.View.{table_view}
-use Rattle.us_flows.proofs.JudgedLemmas.{shape_judged, names_judged, grants_judged, few_clusters}
+use Rattle.us_flows.proofs.JudgedLemmas.{shape_judged, grants_judged, few_clusters}
 use Rattle.us_flows.proofs.flow_tables.flow_in.Goals as goal
 
 pub returns-in-Some-clause-judged : goal.returns-in-Some-clause-judged

@@ -1,4 +1,3 @@
-use Rattle.std.proofs.Common.{sym, ◌∙◌}
 use Rattle.toml.specs.View.{table_view}
 use Rattle.us_flows.specs.Reading
 use Rattle.toml.specs.View.{items_view}
