@@ -3,7 +3,8 @@ ghost use Rattle.us_replay.specs.Served;
 
 use us_flows::{Config, Flow, SchedulingType};
 
-/// Whether a replay serves a configuration so far: any number of channels, no station, and at most one flow.
+/// Whether a replay serves a configuration so far: any number of channels, no station, and at most one flow, of best
+/// effort, with one SID on one channel and no limit of its rate.
 #[tactic(auto, unfolding(crate::specs::Served::is_served))]
 pub fn is_served(config: &Config) -> bool
     ensures { result ≡ Served.is_served config.now }

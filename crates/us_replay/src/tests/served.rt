@@ -112,7 +112,7 @@ fn configurations_that_are_not_served(rt: HostRuntime) -> Result<(), Fail> {
     Ok(())
 }
 
-/// A channel that the flow doesn't have is served: it has a MAP in each round.
+/// A channel that the flow doesn't have is served beside the flow's.
 #[test]
 fn channel_beside_that_of_the_flow(rt: HostRuntime) -> Result<(), Fail> {
     let config = changed(rt.alloc(), "type = 2", "type = 2", SECOND_CHANNEL)?;
