@@ -2,8 +2,10 @@
 pub mod RecordLemmas
 -- fields and numbers of a record
 pub mod RowLemmas
--- the lists of asks by round
-pub mod TraceLemmas
+-- the asks in the order of their rounds
+pub mod SpanLemmas
+-- what a sort keeps, and what a search finds
+pub mod SearchLemmas
 -- the text of a trace, record by record
 pub mod TextLemmas
 -- clusters, bytes and rounds of asks
@@ -12,5 +14,9 @@ pub mod AskLemmas
 pub mod FilingLemmas
 -- what the asks of a trace add up to
 pub mod TotalLemmas
+-- asks and rows add up alike, in any order
+pub mod CutLemmas
+-- the trace of filed rows
+pub mod TraceLemmas
 -- a source that was not read to its end
 pub mod ReadingLemmas

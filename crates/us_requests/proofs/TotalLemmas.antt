@@ -12,7 +12,7 @@ use Rattle.us_flows.specs.declared.found.Found.{Found}
 use Rattle.us_flows.specs.declared.found.Found.TheVariants as found
 use Rattle.us_requests.specs.declared.asks.Ask.{Ask}
 use Rattle.us_requests.specs.Asks.{Request, round_of_tick, unit_of, ask_of, ask_for, asks_at}
-use Rattle.us_requests.specs.Traces.{TraceAsks, asks_in, asked_before, max_asked}
+use Rattle.us_requests.specs.Traces.{TraceAsks, asks_in, asked_before, max_ask, max_asked}
 use Rattle.us_requests.specs.Readings.{AreRequests}
 use Rattle.us_requests.proofs.AskLemmas.{cluster-within}
 
@@ -90,10 +90,6 @@ small-unit [] number are = omega arith
 small-unit (cluster ∷ rest) zero are = are.0
 small-unit (cluster ∷ rest) (suc number) are = small-unit rest number are.1
 
--- the most bytes of an ask
-abbrev max_ask : ℕ
-max_ask = 1048560
-
 abbrev bytes_of : Option Ask → ℕ
 bytes_of None = 0
 bytes_of (Some ask) = ask.bytes
@@ -106,6 +102,23 @@ small-ask t units (Some (found.Cluster number)) are small =
     let unit : unit_of (slice_get (clusters_of t) number) ≤ 16 = small-unit (clusters_of t) number
     (small-all t t.flows are.flows) in
     omega (arith, mul-le units (unit_of (slice_get (clusters_of t) number)) 65535 16 small unit)
+
+-- so each ask of a round is small
+small-in-round : (t : Tables) (b : Bool) (o : Option Ask) (asks : List Ask) → bytes_of o ≤ max_ask →
+    AllByRecursion (λ ask. ask.bytes ≤ max_ask) asks →
+    AllByRecursion (λ ask. ask.bytes ≤ max_ask) (cons_option (if b then o else None) asks)
+small-in-round t true None asks small rest = rest
+small-in-round t true (Some ask) asks small rest = (small, rest)
+small-in-round t false o asks small rest = rest
+
+pub all-small : (t : Tables) (rounds : ℕ) (requests : List Request) (round : ℕ) → AreTables t →
+    AllByRecursion (λ q. q.units ≤ 65535) requests →
+    AllByRecursion (λ ask. ask.bytes ≤ max_ask) (asks_at t rounds requests round)
+unfolding asks_at
+all-small t rounds [] round are small = tt
+all-small t rounds (q ∷ rest) round are small =
+    small-in-round t ((round_of_tick t q.tick == round) && nat_lt round rounds) (ask_of t q) (asks_at t rounds rest round)
+    (small-ask t q.units (lookup t q.channel q.sid) are small.0) (all-small t rounds rest round are small.1)
 
 -- what a request adds to the sum of a round
 small-in : (a b : Bool) (o : Option Ask) → bytes_of o ≤ max_ask →

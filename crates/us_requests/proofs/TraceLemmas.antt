@@ -1,18 +1,51 @@
--- Traces: the asks of a round are those of the list at its place, and none behind the last list.
-use Rattle.std.proofs.Common.{◌≡◌, ℕ, zero, suc, ◌<◌, ◌≤◌, List, [], ◌∷◌, length, map, get_or, Vec, Global, refl, ap, sym, arith}
-use Rattle.us_requests.specs.declared.asks.Ask.{Ask}
-use Rattle.us_requests.specs.Traces.{nth_list}
+-- Traces: filed rows, ordered by round, are the trace of these rows.
+use Rattle.std.proofs.Common.{◌≡◌, ℕ, List, length, refl, ap, ◌∙◌, arith}
+use Rattle.us_flows.specs.Tables.{Tables}
+use Rattle.us_flows.specs.Clusters.{clusters_of}
+use Rattle.us_flows.specs.Lawful.{AreTables}
+use Rattle.us_requests.specs.declared.asks.Counts.{Counts}
+use Rattle.us_requests.specs.declared.placed.PlacedAsk.{PlacedAsk}
+use Rattle.us_requests.specs.Asks.{Request, asks_at}
+use Rattle.us_requests.specs.Cuts.{cut_of}
+use Rattle.us_requests.specs.Traces.{TraceAsks, IsTrace, IsTraceOf, of_round}
+use Rattle.us_requests.specs.Readings.{AreRequests}
+use Rattle.us_requests.specs.Outcomes.{IsFiled}
+use Rattle.us_requests.proofs.TotalLemmas.{few-of, none-late, all-known, all-small}
+use Rattle.us_requests.proofs.CutLemmas.{sums-are-cut}
 
-pub nth-at : (lists : List (Vec Ask Global)) (place : ℕ) (found : Vec Ask Global) → place < length lists →
-    found ≡ get_or lists place found → nth_list (map (λ v. v.items) lists) place ≡ found.items
-nth-at [] place found within at = absurd (omega arith)
-nth-at (v ∷ rest) zero found within at = ap (λ v. v.items) (sym at)
-nth-at (v ∷ rest) (suc place) found within at = nth-at rest place found (omega arith) at
+abbrev made : ℕ → List PlacedAsk → Counts → TraceAsks
+made rounds asks counts = record { rounds = rounds; asks = asks; counts = counts }
 
-pub nth-behind : (lists : List (Vec Ask Global)) (place : ℕ) → length lists ≤ place →
-    nth_list (map (λ v. v.items) lists) place ≡ []
-nth-behind [] place behind = refl
-nth-behind (v ∷ rest) zero behind = absurd (omega arith)
-nth-behind (v ∷ rest) (suc place) behind = nth-behind rest place (omega arith)
+-- ordered as they may be, the asks of each round are those of the rows
+in-round : (t : Tables) (rounds : ℕ) (requests : List Request) (filed asks : List PlacedAsk) (counts : Counts) →
+    IsFiled t rounds requests filed counts → ((round : ℕ) → of_round asks round ≡ of_round filed round) →
+    (round : ℕ) → of_round asks round ≡ asks_at t rounds requests round
+in-round t rounds requests filed asks counts is same round = same round ∙ is.asks round
 
-pub ruleset placed = (nth-at, nth-behind)
+pub lawful-trace : (t : Tables) (rounds : ℕ) (requests : List Request) (filed asks : List PlacedAsk) (counts : Counts) →
+    AreTables t → AreRequests requests → IsFiled t rounds requests filed counts →
+    ((round : ℕ) → of_round asks round ≡ of_round filed round) → length asks ≡ length filed →
+    IsTrace (made rounds asks counts)
+lawful-trace t rounds requests filed asks counts are sound is same count =
+    let all : (round : ℕ) → of_round asks round ≡ asks_at t rounds requests round =
+    in-round t rounds requests filed asks counts is same in
+    record {
+      few = omega (arith, count, is.few, sound.few);
+      small = λ round. rw (all round) (all-small t rounds requests round are sound.small);
+      none_late = λ round late. all round ∙ none-late t rounds requests round late;
+      asked = few-of t rounds requests (made rounds asks counts) are sound all;
+    }
+
+pub trace-of : (t : Tables) (rounds : ℕ) (requests : List Request) (filed asks : List PlacedAsk) (counts : Counts) →
+    IsFiled t rounds requests filed counts → ((round : ℕ) → of_round asks round ≡ of_round filed round) →
+    IsTraceOf t rounds requests (made rounds asks counts)
+trace-of t rounds requests filed asks counts is same =
+    let all : (round : ℕ) → of_round asks round ≡ asks_at t rounds requests round =
+    in-round t rounds requests filed asks counts is same in
+    record {
+      run = refl;
+      asks = all;
+      counts = is.counted;
+      known = λ round. rw (all round) (all-known t rounds requests round);
+      cut = λ round. ap (cut_of (length (clusters_of t))) (all round) ∙ sums-are-cut t rounds requests round;
+    }

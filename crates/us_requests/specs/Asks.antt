@@ -1,6 +1,5 @@
 -- Requests: in which round one is served, and how many bytes it asks for.
-use Rattle.std.specs.Prelude.{ℕ, ◌+◌, ◌*◌, List, map, filter, filter_map, count_by, sum_by, Bool, true, false, not, ◌==◌, nat_lt, ◌&&◌, if◌then◌else◌, Option, Some, None, slice_get, is_none}
-use Rattle.std.specs.List.{range_with_len}
+use Rattle.std.specs.Prelude.{ℕ, ◌+◌, ◌*◌, List, filter_map, count_by, Bool, true, false, not, ◌==◌, nat_lt, ◌&&◌, if◌then◌else◌, Option, Some, None, slice_get, is_none}
 use Rattle.std.specs.Int.{div_ceil}
 use Rattle.us_flows.specs.Tables.{Tables}
 use Rattle.us_flows.specs.Clusters.{Cluster, clusters_of, lookup}
@@ -62,11 +61,3 @@ counts_of t rounds requests = record {
   not_requestable = count_by (is_not_requestable t) requests;
   late = count_by (is_late t rounds) requests;
 }
-
--- the bytes that some asks name of a cluster
-abbrev pub asked : List Ask → ℕ → ℕ
-asked asks cluster = sum_by (λ ask. ask.bytes) (filter (λ ask. ask.cluster == cluster) asks)
-
--- the cut of a round: for each of so many clusters the bytes that its asks name
-unfoldable pub cut_of : ℕ → List Ask → List ℕ
-cut_of clusters asks = map (asked asks) (range_with_len 0 clusters)

@@ -7,7 +7,8 @@ use Rattle.us_flows.specs.Clusters.{lookup}
 use Rattle.us_flows.specs.declared.flows.SchedulingType.TheVariants.{BestEffort, NonRealTimePolling, UnsolicitedGrant}
 use Rattle.us_requests.specs.declared.asks.Ask.{Ask}
 use Rattle.us_requests.specs.declared.faults.TraceFault.TheVariants.{Header, Fields, Number, TooLarge}
-use Rattle.us_requests.specs.Asks.{Request, round_of_tick, asks_at, counts_of, cut_of}
+use Rattle.us_requests.specs.Asks.{Request, round_of_tick, asks_at, counts_of}
+use Rattle.us_requests.specs.Cuts.{cut, cut_at, cut_of}
 use Rattle.us_requests.specs.Records.{Record}
 use Rattle.us_requests.specs.Rows.{is_header, number_from, are_numbers, row_checks, first_of, rows_fault, records_fault, trace_fault, requests_of}
 
@@ -122,10 +123,23 @@ more_counts : counts_of more_tables 3 more_requests ≡ record { unknown = 1; no
 unfolding counts_of round_of_tick lookup
 more_counts = refl
 
--- what each cluster asks for in a round
-cut : cut_of 3 (bytes_of 0 40 ∷ bytes_of 2 32 ∷ bytes_of 0 12 ∷ []) ≡ 52 ∷ 0 ∷ 32 ∷ []
+-- the same by sums over the rows, for three clusters, in rounds 1 and 2, and behind the end
+cuts : (cut_at tables 3 requests 1 ∷ cut_at tables 3 requests 2 ∷ cut_at tables 2 requests 2 ∷ []) ≡
+    (40 ∷ 0 ∷ 32 ∷ []) ∷ (12 ∷ 0 ∷ 0 ∷ []) ∷ (0 ∷ 0 ∷ 0 ∷ []) ∷ []
+unfolding cut_at cut round_of_tick lookup
+cuts = refl
+
+-- two rows of one cluster in one round add up, in either order
+twice : (cut_at tables 3 (asks_for 0 1 291 10 ∷ asks_for 0 1 999 5 ∷ asks_for 160 1 291 3 ∷ []) 1 ∷
+    cut_at tables 3 (asks_for 160 1 291 3 ∷ asks_for 0 1 291 10 ∷ asks_for 0 1 999 5 ∷ []) 1 ∷ []) ≡
+    (52 ∷ 0 ∷ 0 ∷ []) ∷ (52 ∷ 0 ∷ 0 ∷ []) ∷ []
+unfolding cut_at cut round_of_tick lookup
+twice = refl
+
+-- the sums of some asks
+sums : cut_of 3 (bytes_of 0 40 ∷ bytes_of 2 32 ∷ bytes_of 0 12 ∷ []) ≡ 52 ∷ 0 ∷ 32 ∷ []
 unfolding cut_of
-cut = refl
+sums = refl
 
 -- records
 abbrev header : Record

@@ -3,6 +3,8 @@
 
 -- which requests are asks, in which round, and what a cluster asks for in a round
 pub mod Asks
+-- what each cluster asks for in a round: sums over the rows, in whatever order they stand
+pub mod Cuts
 -- the records of a text, as `csv` splits it
 pub mod Records
 -- the first fault of the records of a text, and the requests that they tell
@@ -13,5 +15,7 @@ pub mod Traces
 pub mod Readings
 -- inside the crate: what becomes of a row, and what it adds
 pub mod Outcomes
+-- inside the crate: asks in one list, and where those of a round stand
+pub mod Spans
 -- small inputs, computed
 pub mod Examples

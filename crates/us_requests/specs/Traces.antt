@@ -1,29 +1,36 @@
 -- Traces: what is known of a trace that was read.
-use Rattle.std.specs.Prelude.{◌≡◌, ℕ, zero, suc, ◌<◌, ◌≤◌, List, [], ◌∷◌, length, sum_by}
+use Rattle.std.specs.Prelude.{◌≡◌, ℕ, ◌<◌, ◌≤◌, List, [], length, map, filter, sum_by, ◌==◌}
 use Rattle.std.specs.List.{AllByRecursion, range_with_len}
 use Rattle.us_flows.specs.Tables.{Tables}
 use Rattle.us_flows.specs.Clusters.{clusters_of}
 use Rattle.us_requests.specs.declared.asks.Ask.{Ask}
 use Rattle.us_requests.specs.declared.asks.Counts.{Counts}
+use Rattle.us_requests.specs.declared.placed.PlacedAsk.{PlacedAsk}
 use Rattle.us_requests.specs.Asks.{Request, asks_at, counts_of}
+use Rattle.us_requests.specs.Cuts.{cut_at, cut_of}
 
--- a trace: the number of rounds, the asks of each round up to the last one that has any, and how many rows are no asks
+-- a trace: the number of rounds, its asks, each in its round, and how many rows are no asks
 pub record TraceAsks : Type 0 where
   pub rounds : ℕ
-  pub by_round : List (List Ask)
+  pub asks : List PlacedAsk
   pub counts : Counts
 
--- what stands at a place of a list of lists; behind its end nothing
-abbrev pub nth_list : List (List Ask) → ℕ → List Ask
-nth_list [] place = []
-nth_list (asks ∷ more) zero = asks
-nth_list (asks ∷ more) (suc place) = nth_list more place
+-- of some asks those of a round
+unfoldable pub of_round : List PlacedAsk → ℕ → List Ask
+of_round asks round = map (λ placed. placed.ask) (filter (λ placed. placed.round == round) asks)
 
--- the asks of a round
 abbrev pub asks_in : TraceAsks → ℕ → List Ask
-asks_in t round = nth_list t.by_round round
+asks_in t round = of_round t.asks round
 
--- the most bytes that all rows together ask for: a million rows of 65,535 units of 16 bytes
+-- the most asks of a trace
+abbrev pub max_asks : ℕ
+max_asks = 1000000
+
+-- the most bytes of an ask: 65,535 units of 16 bytes
+abbrev pub max_ask : ℕ
+max_ask = 1048560
+
+-- the most bytes that all asks together name
 abbrev pub max_asked : ℕ
 max_asked = 1048560000000
 
@@ -33,13 +40,16 @@ asked_before t rounds = sum_by (λ round. sum_by (λ ask. ask.bytes) (asks_in t 
 
 -- what holds of every trace
 pub record IsTrace (t : TraceAsks) : Type 0 where
-  pub few : (rounds : ℕ) → asked_before t rounds ≤ max_asked
+  pub few : length t.asks ≤ max_asks
+  pub small : (round : ℕ) → AllByRecursion (λ ask. ask.bytes ≤ max_ask) (asks_in t round)
   pub none_late : (round : ℕ) → t.rounds ≤ round → asks_in t round ≡ []
+  pub asked : (rounds : ℕ) → asked_before t rounds ≤ max_asked
 
 -- it is the trace of these requests, for so many rounds
 pub record IsTraceOf (tables : Tables) (rounds : ℕ) (requests : List Request) (t : TraceAsks) : Type 0 where
   pub run : t.rounds ≡ rounds
   pub asks : (round : ℕ) → asks_in t round ≡ asks_at tables rounds requests round
   pub counts : t.counts ≡ counts_of tables rounds requests
-  -- so each ask names a cluster that is there
+  -- so each ask names a cluster that is there, and the asks of a round add up to its cut
   pub known : (round : ℕ) → AllByRecursion (λ ask. ask.cluster < length (clusters_of tables)) (asks_in t round)
+  pub cut : (round : ℕ) → cut_of (length (clusters_of tables)) (asks_in t round) ≡ cut_at tables rounds requests round

@@ -35,11 +35,20 @@ mod texts;
 // What becomes of a request.
 mod outcomes;
 
-// The asks by round.
+// An ask in its round.
+mod placed;
+
+// Rows, filed as asks and counts.
 mod filing;
+
+// The asks in the order of their rounds, and where those of a round stand.
+mod by_round;
 
 // The whole, and the bytes before it.
 mod traces;
+
+// What holds of the definitions, whatever the trace.
+pub mod laws;
 
 pub use asks::{Ask, Counts};
 pub use cluster_states::ClusterState;

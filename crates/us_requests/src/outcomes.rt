@@ -3,6 +3,7 @@ ghost use Rattle.us_requests.specs.Asks.{round_of_tick};
 ghost use Rattle.us_requests.specs.Outcomes.{Becomes, units_of};
 
 use crate::asks::Ask;
+use crate::placed::PlacedAsk;
 use crate::requests::Request;
 use us_flows::{Config, Found};
 
@@ -15,8 +16,8 @@ pub(crate) enum Outcome {
     NotRequestable,
     /// Its round is behind the end of the run.
     Late,
-    /// It is an ask of this round.
-    Asked(u32, Ask),
+    /// It is this ask.
+    Asked(PlacedAsk),
 }
 
 /// What becomes of a row in a run of so many rounds, given the bytes of a unit of each cluster's requests.
@@ -35,7 +36,10 @@ pub(crate) fn outcome_of(config: &Config, units: &[u8], rounds: u32, request: &R
         return Outcome::Late;
     }
     let bytes = u32::from(request.units) * u32::from(units[usize::from(cluster)]);
-    Outcome::Asked(round as u32, Ask { cluster, bytes })
+    Outcome::Asked(PlacedAsk {
+        round: round as u32,
+        ask: Ask { cluster, bytes },
+    })
 }
 
 /// The round of a request at a tick, whether or not the run is as long.

@@ -1,13 +1,14 @@
-ghost use Rattle.std.specs.Prelude.{◌≡◌, ◌↔◌, true, false, Err, map, IfOk, IfErr, length};
+ghost use Rattle.std.specs.Prelude.{◌≡◌, ◌↔◌, true, false, Err, IfOk, IfErr, length};
 ghost use Rattle.us_flows.specs.Tables.{rounds_fit};
 ghost use Rattle.us_flows.specs.Lawful.{AreTables};
 ghost use Rattle.us_requests.specs.Rows.{trace_fault, requests_of};
 ghost use Rattle.us_requests.specs.Traces.{TraceAsks, IsTrace, IsTraceOf, asks_in};
 ghost use Rattle.us_requests.specs.Readings.{AreRequests, Answers, Reads, max_bytes};
-ghost use Rattle.us_requests.specs.Outcomes.{units_of};
+ghost use Rattle.us_requests.specs.Outcomes.{units_of, IsFiled};
 ghost use Rattle.us_requests.specs.declared.faults.TraceFault.TheVariants as fault;
 
 use crate::asks::{Ask, Counts};
+use crate::by_round::AsksByRound;
 use crate::faults::TraceFault;
 use crate::filing::Filed;
 use crate::outcomes::outcome_of;
@@ -25,25 +26,16 @@ const MAX_BYTES: usize = 33_554_432;
 #[derive(Debug, Drop)]
 pub struct Trace {
     rounds: u32,
-    // of each round up to the last that has any
-    asks: Vec<Vec<Ask>>,
+    asks: AsksByRound,
     counts: Counts,
 }
 
 impl Model for Trace {
     ghost Value = { TraceAsks };
 
-    ghost view = { λ t. record {
-      rounds = t.rounds;
-      by_round = map (λ asks. asks.items) t.asks.items;
-      counts = t.counts;
-    } };
+    ghost view = { λ t. record { rounds = t.rounds; asks = t.asks; counts = t.counts } };
 
-    ghost invariant = { λ t. IsTrace (record {
-      rounds = t.rounds;
-      by_round = map (λ asks. asks.items) t.asks.items;
-      counts = t.counts;
-    }) };
+    ghost invariant = { λ t. IsTrace (record { rounds = t.rounds; asks = t.asks; counts = t.counts }) };
 }
 
 impl Trace {
@@ -61,19 +53,15 @@ impl Trace {
         ensures failed { (R.failed source.new ≡ true) ↔ (result ≡ Err fault.Read) }
     {
         let text = read_all(alloc, source, MAX_BYTES)?;
-        Trace::of_text(alloc, &text, config, rounds)
+        Trace::of_text(alloc, text, config, rounds)
     }
 
     /// The asks of a round in the order of the trace; none from [`Trace::rounds`] on.
-    #[tactic(auto, using(crate::proofs::TraceLemmas::placed))]
     pub fn asks(&self, round: u32) -> &[Ask]
         ensures value { result.now ≡ asks_in self.now round }
         ensures lawful { IsTrace self.now }
     {
-        match self.asks.get(round as usize) {
-            Some(asks) => asks,
-            None => &[],
-        }
+        self.asks.of_round(round)
     }
 
     /// How many rows are no asks.
@@ -92,42 +80,45 @@ impl Trace {
         self.rounds
     }
 
-    /// The trace that a text tells.
+    /// The trace that a text tells. The text is given up once its records are read, and these once they are filed.
     fn of_text(
         alloc: Global,
-        text: &[u8],
+        text: Vec<u8>,
         config: &Config,
         rounds: u32,
     ) -> Result<Trace, TraceFault>
-        ensures { Answers config.now rounds text.now result }
+        ensures { Answers config.now rounds text.items result }
     {
-        let requests = requests_in(alloc, text)?;
-        Ok(Trace::of_requests(alloc, &requests, config, rounds)?)
-    }
-
-    /// The trace of these requests.
-    #[tactic(auto, using(crate::proofs::FilingLemmas::steps))]
-    fn of_requests(
-        alloc: Global,
-        requests: &[Request],
-        config: &Config,
-        rounds: u32,
-    ) -> Result<Trace, AllocError>
-        requires { AreRequests requests.now }
-        ensures { IfOk result (λ trace. IsTraceOf config.now rounds requests.now trace) }
-    {
-        let units = units_of(alloc, config)?;
-        let mut filed = Filed::new(alloc);
-        for request in requests {
-            filed.add(alloc, outcome_of(config, &units, rounds, request))?;
-        }
+        let requests = requests_in(alloc, &text)?;
+        drop(text);
+        let filed = file_all(alloc, &requests, config, rounds)?;
+        drop(requests);
         let Filed { asks, counts } = filed;
         Ok(Trace {
             rounds,
-            asks,
+            asks: AsksByRound::new(alloc, asks)?,
             counts,
         })
     }
+}
+
+/// Files the rows of a trace for a run of so many rounds.
+fn file_all(
+    alloc: Global,
+    requests: &[Request],
+    config: &Config,
+    rounds: u32,
+) -> Result<Filed, AllocError>
+    requires { AreRequests requests.now }
+    ensures filed { IfOk result (λ filed. IsFiled config.now rounds requests.now filed.asks.items filed.counts) }
+    ensures lawful { AreTables config.now }
+{
+    let units = units_of(alloc, config)?;
+    let mut filed = Filed::new(alloc);
+    for request in requests {
+        filed.add(outcome_of(config, &units, rounds, request))?;
+    }
+    Ok(filed)
 }
 
 /// The bytes of a unit of each cluster's requests, by the number of the cluster. Clusters with unsolicited grants have

@@ -1,6 +1,6 @@
 use Rattle.std.proofs.Common.{◌≤◌, drop}
 use Rattle.us_requests.proofs.FilingLemmas.{IsPartFiled}
-use Rattle.us_requests.proofs.traces.Trace.of_requests.Given as goal
+use Rattle.us_requests.proofs.traces.file_all.Given as goal
 
 abbrev pub invariant-loop-request : goal.invariant-loop-request
 invariant-loop-request l =

@@ -1,0 +1,120 @@
+-- Cuts: the sums of a round's asks are the sums over the rows, and rows in another order have the same.
+use Rattle.std.proofs.Common.{◌≡◌, ℕ, ◌+◌, ◌*◌, Bool, true, false, List, [], ◌∷◌, length, map, Option, Some, None, refl, ap, sym, ◌∙◌, inl, inr, arith}
+use Rattle.std.specs.Prelude.{sum_by, count_by, filter, ◌==◌, ◌&&◌, nat_lt, if◌then◌else◌, cond, slice_get}
+use Rattle.std.specs.List.{cons_option, range_with_len}
+use Rattle.std.specs.List.Sorted.{IsPermutation}
+use Rattle.std.proofs.lemmas.Bool.{cases_eq, eq-eqb, ne_eqb}
+use Rattle.std.proofs.lemmas.List.Sums.{sum_by-cons}
+use Rattle.std.proofs.lemmas.List.Sorted.{sum_by-IsPermutation}
+use Rattle.us_flows.specs.Tables.{Tables}
+use Rattle.us_flows.specs.Clusters.{clusters_of, lookup}
+use Rattle.us_flows.specs.declared.found.Found.{Found}
+use Rattle.us_flows.specs.declared.found.Found.TheVariants as found
+use Rattle.us_requests.specs.declared.asks.Ask.{Ask}
+use Rattle.us_requests.specs.Asks.{Request, round_of_tick, unit_of, ask_of, ask_for, asks_at, is_unknown, is_not_requestable, is_late, counts_of}
+use Rattle.us_requests.specs.Cuts.{is_cluster, is_ask, cut, cut_at, asked, cut_of, OrderIsNothing}
+
+-- a sum over those that pass a test is one over all, of nothing where they don't
+sum-kept : {A : Type 0} → (f : A → ℕ) (passes : Bool) (x : A) (xs : List A) →
+    sum_by f (cond passes (x ∷ xs) xs) ≡ (if passes then f x else 0) + sum_by f xs
+sum-kept f true x xs = sum_by-cons f x xs
+sum-kept f false x xs = omega arith
+
+sum-filtered : {A : Type 0} → (f : A → ℕ) (p : A → Bool) (xs : List A) →
+    sum_by f (filter p xs) ≡ sum_by (λ x. if p x then f x else 0) xs
+sum-filtered f p [] = refl
+sum-filtered f p (x ∷ xs) = omega (
+  arith,
+  sum-kept f (p x) x (filter p xs),
+  sum_by-cons (λ x. if p x then f x else 0) x xs,
+  sum-filtered f p xs,
+)
+
+-- what a row asks for of a cluster in a round
+abbrev bytes_at : Tables → ℕ → ℕ → ℕ → Request → ℕ
+bytes_at t rounds round cluster q =
+    if is_ask t rounds round cluster q then q.units * unit_of (slice_get (clusters_of t) cluster) else 0
+
+cut-sum : (t : Tables) (rounds : ℕ) (requests : List Request) (round cluster : ℕ) →
+    cut t rounds requests round cluster ≡ sum_by (bytes_at t rounds round cluster) requests
+unfolding cut
+cut-sum t rounds requests round cluster =
+    sum-filtered (λ q. q.units * unit_of (slice_get (clusters_of t) cluster)) (is_ask t rounds round cluster) requests
+
+-- the bytes of a cluster in an ask
+abbrev bytes_in : ℕ → Option Ask → ℕ
+bytes_in cluster None = 0
+bytes_in cluster (Some ask) = if ask.cluster == cluster then ask.bytes else 0
+
+asked-cons : (o : Option Ask) (asks : List Ask) (cluster : ℕ) →
+    asked (cons_option o asks) cluster ≡ bytes_in cluster o + asked asks cluster
+asked-cons None asks cluster = omega arith
+asked-cons (Some ask) asks cluster =
+    sum-kept (λ ask. ask.bytes) (ask.cluster == cluster) ask (filter (λ ask. ask.cluster == cluster) asks)
+
+-- a row's ask names what the row asks for
+ask-bytes : (t : Tables) (b : Bool) (units cluster : ℕ) (o : Option Found) →
+    bytes_in cluster (if b then ask_for t units o else None) ≡
+    (if is_cluster cluster o && b then units * unit_of (slice_get (clusters_of t) cluster) else 0)
+ask-bytes t true units cluster None = refl
+ask-bytes t false units cluster None = refl
+ask-bytes t true units cluster (Some found.Unsolicited) = refl
+ask-bytes t false units cluster (Some found.Unsolicited) = refl
+ask-bytes t true units cluster (Some (found.Cluster number)) = elim (cases_eq number cluster) [
+  | inl same ↦ rw (eq-eqb number cluster same) (ap (λ n. units * unit_of (slice_get (clusters_of t) n)) same)
+  | inr other ↦ rw (ne_eqb number cluster other) refl
+]
+ask-bytes t false units cluster (Some (found.Cluster number)) = elim (cases_eq number cluster) [
+  | inl same ↦ rw (eq-eqb number cluster same) refl
+  | inr other ↦ rw (ne_eqb number cluster other) refl
+]
+
+asked-sum : (t : Tables) (rounds : ℕ) (requests : List Request) (round cluster : ℕ) →
+    asked (asks_at t rounds requests round) cluster ≡ sum_by (bytes_at t rounds round cluster) requests
+unfolding asks_at
+asked-sum t rounds [] round cluster = refl
+asked-sum t rounds (q ∷ rest) round cluster =
+    let here : Bool = (round_of_tick t q.tick == round) && nat_lt round rounds in
+    omega (
+      arith,
+      asked-cons (if here then ask_of t q else None) (asks_at t rounds rest round) cluster,
+      ask-bytes t here q.units cluster (lookup t q.channel q.sid),
+      asked-sum t rounds rest round cluster,
+      sum_by-cons (bytes_at t rounds round cluster) q rest,
+    )
+
+-- the asks of a round add up to its cut
+pub sums-are-cut : (t : Tables) (rounds : ℕ) (requests : List Request) (round : ℕ) →
+    cut_of (length (clusters_of t)) (asks_at t rounds requests round) ≡ cut_at t rounds requests round
+unfolding cut_of cut_at
+sums-are-cut t rounds requests round =
+    let same : asked (asks_at t rounds requests round) ≡ cut t rounds requests round =
+    λ i cluster. (asked-sum t rounds requests round cluster ∙ sym (cut-sum t rounds requests round cluster)) i in
+    ap (λ f. map f (range_with_len 0 (length (clusters_of t)))) same
+
+-- rows in another order
+same-counts : (t : Tables) (rounds : ℕ) (rows others : List Request) → IsPermutation rows others →
+    counts_of t rounds others ≡ counts_of t rounds rows
+unfolding counts_of
+same-counts t rounds rows others order =
+    let u : count_by (is_unknown t) others ≡ count_by (is_unknown t) rows =
+    sum_by-IsPermutation (λ q. cond (is_unknown t q) 1 0) rows others order in
+    let n : count_by (is_not_requestable t) others ≡ count_by (is_not_requestable t) rows =
+    sum_by-IsPermutation (λ q. cond (is_not_requestable t q) 1 0) rows others order in
+    let l : count_by (is_late t rounds) others ≡ count_by (is_late t rounds) rows =
+    sum_by-IsPermutation (λ q. cond (is_late t rounds q) 1 0) rows others order in
+    rw (u, n, l) refl
+
+same-cut : (t : Tables) (rounds : ℕ) (rows others : List Request) (round : ℕ) → IsPermutation rows others →
+    cut_at t rounds others round ≡ cut_at t rounds rows round
+unfolding cut_at
+same-cut t rounds rows others round order =
+    let same : cut t rounds others round ≡ cut t rounds rows round =
+    λ i cluster. (cut-sum t rounds others round cluster ∙
+    sum_by-IsPermutation (bytes_at t rounds round cluster) rows others order ∙
+    sym (cut-sum t rounds rows round cluster)) i in
+    ap (λ f. map f (range_with_len 0 (length (clusters_of t)))) same
+
+pub any-order : OrderIsNothing
+any-order t rounds rows others order =
+    (λ round. same-cut t rounds rows others round order, same-counts t rounds rows others order)

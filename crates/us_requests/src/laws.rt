@@ -1,0 +1,8 @@
+//! Laws of the definitions of this crate, each as the contract of a function that does nothing.
+
+ghost use Rattle.us_requests.specs.Cuts.{OrderIsNothing};
+
+/// What clusters ask for in a round, and how rows are counted, depends on the rows of a trace and not on their order.
+pub fn order_is_nothing()
+    ensures { OrderIsNothing }
+{}
