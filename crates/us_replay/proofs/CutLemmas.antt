@@ -7,7 +7,7 @@ use Rattle.std.proofs.lemmas.List.Elements.{filter-append}
 use Rattle.std.proofs.lemmas.List.Sums.{sum_by-append, sum_by-cons, sum_by_more_le}
 use Rattle.std.proofs.lemmas.List.FromFn.{get_or-map-range_with_len}
 use Rattle.us_requests.specs.declared.asks.Ask.{Ask}
-use Rattle.us_requests.specs.Asks.{asked, cut_of}
+use Rattle.us_requests.specs.Cuts.{asked, cut_of}
 
 abbrev bytes_in : List Ask → ℕ
 bytes_in asks = sum_by (λ ask. ask.bytes) asks

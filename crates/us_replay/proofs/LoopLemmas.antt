@@ -10,23 +10,20 @@ use Rattle.us_flows.specs.Tables.{Tables, max_run_ticks, rounds_fit}
 use Rattle.us_flows.specs.Clusters.{clusters_of}
 use Rattle.us_flows.specs.Lawful.{AreTables}
 use Rattle.us_requests.specs.declared.asks.Ask.{Ask}
-use Rattle.us_requests.specs.Asks.{cut_of}
+use Rattle.us_requests.specs.Cuts.{cut_of}
 use Rattle.us_requests.specs.Traces.{TraceAsks, asks_in, asked_before, max_asked, IsTrace}
 use Rattle.us_replay.specs.declared.lines.Row.{Row}
 use Rattle.us_replay.specs.Rounds.{State, RoundOut, round_of, opening, schedule, final}
 use Rattle.us_replay.specs.Outputs.{Given, given_by, records, lines, final_rows, counts_row}
-use Rattle.us_replay.specs.Replays.{Output, output_of, cuts_of, rows_of, is_granted, is_missed, summary_of}
-use Rattle.us_replay.specs.Progress.{Progress, after_round, after_last, max_rows, summary_after}
+use Rattle.us_replay.specs.Replays.{Output, output_of, rows_of, is_granted, is_missed, summary_of}
+use Rattle.us_replay.specs.Progress.{Progress, cuts_in, after_round, after_last, max_rows, summary_after}
 use Rattle.us_replay.proofs.LoopRoundLemmas.{After, after, added-below, sum-cut, few-rows, some-records}
 use Rattle.us_replay.proofs.ReplayStopLemmas.{next-of, next-part, AreTexts, AreLast}
 
 -- The run of a trace.
 
-abbrev pub cuts : Tables → TraceAsks → List (List ℕ)
-cuts t v = cuts_of t v.rounds (asks_in v)
-
 abbrev pub output : Tables → TraceAsks → Output
-output t v = output_of t v.rounds (asks_in v) v.counts
+output t v = output_of t (cuts_in t v) v.counts
 
 -- how progress stands after k rounds
 pub record Along (t : Tables) (v : TraceAsks) (k : ℕ) (p : Progress) : Type 0 where
@@ -35,8 +32,8 @@ pub record Along (t : Tables) (v : TraceAsks) (k : ℕ) (p : Progress) : Type 0 
   pub wide : length p.state.outstanding ≡ length (clusters_of t)
   pub clusters : p.clusters ≡ length (clusters_of t)
   pub asked : sum p.state.outstanding ≤ asked_before v k
-  pub rest : schedule t p.state (drop k (cuts t v)) ≡ drop k (schedule t (opening t) (cuts t v))
-  pub ends : final t p.state (drop k (cuts t v)) ≡ final t (opening t) (cuts t v)
+  pub rest : schedule t p.state (drop k (cuts_in t v)) ≡ drop k (schedule t (opening t) (cuts_in t v))
+  pub ends : final t p.state (drop k (cuts_in t v)) ≡ final t (opening t) (cuts_in t v)
   pub granted : p.granted ≡ count_by is_granted (rows_of (take k (output t v).given))
   pub missed : p.missed ≡ count_by is_missed (rows_of (take k (output t v).given))
   pub few_granted : p.granted ≤ max_rows * k
@@ -54,8 +51,8 @@ along-opening t v p opened clusters granted missed = record {
   wide = ap (λ s. length s.outstanding) opened ∙ length-replicate (length (clusters_of t)) 0;
   clusters = clusters;
   asked = omega (arith, ap (λ s. sum s.outstanding) opened, no-sum (length (clusters_of t)));
-  rest = ap (λ s. schedule t s (cuts t v)) opened;
-  ends = ap (λ s. final t s (cuts t v)) opened;
+  rest = ap (λ s. schedule t s (cuts_in t v)) opened;
+  ends = ap (λ s. final t s (cuts_in t v)) opened;
   granted = granted;
   missed = missed;
   few_granted = omega (arith, granted);
@@ -65,12 +62,12 @@ along-opening t v p opened clusters granted missed = record {
 -- One round.
 
 next-cut : (t : Tables) (v : TraceAsks) (k : ℕ) → k < v.rounds →
-    drop k (cuts t v) ≡ cut_of (length (clusters_of t)) (asks_in v k) ∷ drop (k + 1) (cuts t v)
-unfolding cuts_of
+    drop k (cuts_in t v) ≡ cut_of (length (clusters_of t)) (asks_in v k) ∷ drop (k + 1) (cuts_in t v)
+unfolding cuts_in
 next-cut t v k below =
     let cut : ℕ → List ℕ = λ round. cut_of (length (clusters_of t)) (asks_in v round) in
-    drop_more (cuts t v) k [] (omega (arith, below, length-map-range_with_len cut 0 v.rounds)) ∙
-    ap (λ c. c ∷ drop (k + 1) (cuts t v)) (get_or-map-range_with_len cut 0 v.rounds k k [] below (omega arith))
+    drop_more (cuts_in t v) k [] (omega (arith, below, length-map-range_with_len cut 0 v.rounds)) ∙
+    ap (λ c. c ∷ drop (k + 1) (cuts_in t v)) (get_or-map-range_with_len cut 0 v.rounds k k [] below (omega arith))
 
 map-drop : {X Y : Type 0} (f : X → Y) (k : ℕ) (xs : List X) → drop k (map f xs) ≡ map f (drop k xs)
 map-drop f zero xs = refl
@@ -108,13 +105,13 @@ abbrev next_state : Tables → TraceAsks → ℕ → Progress → State
 next_state t v k p = (round_of t p.state (cut_of p.clusters (asks_in v k))).state
 
 next-cut-of : (t : Tables) (v : TraceAsks) (k : ℕ) (p : Progress) → Along t v k p → k < v.rounds →
-    drop k (cuts t v) ≡ cut_of p.clusters (asks_in v k) ∷ drop (k + 1) (cuts t v)
+    drop k (cuts_in t v) ≡ cut_of p.clusters (asks_in v k) ∷ drop (k + 1) (cuts_in t v)
 next-cut-of t v k p along below =
-    next-cut t v k below ∙ ap (λ n. cut_of n (asks_in v k) ∷ drop (k + 1) (cuts t v)) (sym along.clusters)
+    next-cut t v k below ∙ ap (λ n. cut_of n (asks_in v k) ∷ drop (k + 1) (cuts_in t v)) (sym along.clusters)
 
 next-out : (t : Tables) (v : TraceAsks) (k : ℕ) (p : Progress) → Along t v k p → k < v.rounds →
-    drop k (schedule t (opening t) (cuts t v)) ≡
-    (round_of t p.state (cut_of p.clusters (asks_in v k))).out ∷ schedule t (next_state t v k p) (drop (k + 1) (cuts t v))
+    drop k (schedule t (opening t) (cuts_in t v)) ≡
+    (round_of t p.state (cut_of p.clusters (asks_in v k))).out ∷ schedule t (next_state t v k p) (drop (k + 1) (cuts_in t v))
 unfolding schedule
 next-out t v k p along below = sym along.rest ∙ ap (schedule t p.state) (next-cut-of t v k p along below)
 
@@ -122,7 +119,7 @@ pub next-here : (t : Tables) (v : TraceAsks) (k : ℕ) (p : Progress) → Along 
     drop k (output t v).given ≡ next_given t v k p ∷ drop (k + 1) (output t v).given
 unfolding output_of
 next-here t v k p along below =
-    let outs : List RoundOut = schedule t (opening t) (cuts t v) in
+    let outs : List RoundOut = schedule t (opening t) (cuts_in t v) in
     let now = next-out t v k p along below in
     let later = next-of outs k _ _ now in
     map-drop (given_by t) k outs ∙ ap (map (given_by t)) now ∙
@@ -158,7 +155,7 @@ along-next t v k p lawful along below =
       wide = next.wide ∙ along.wide;
       clusters = along.clusters;
       asked = omega (arith, next.asked, along.asked, next-asked v k);
-      rest = sym (next-of (schedule t (opening t) (cuts t v)) k _ _ now).behind;
+      rest = sym (next-of (schedule t (opening t) (cuts_in t v)) k _ _ now).behind;
       ends = sym (ap (final t p.state) (next-cut-of t v k p along below)) ∙ along.ends;
       granted = ap (λ n. n + count_by is_granted here.rows) along.granted ∙
           sym (count-next is_granted (output t v).given k here _ given);
@@ -198,7 +195,7 @@ some-in t state (cut ∷ cuts) (suc k) next rest some here =
 pub some-next : (t : Tables) (v : TraceAsks) (k : ℕ) → AreTables t → (next : Given) (rest : List Given) →
     drop k (output t v).given ≡ next ∷ rest → 0 < length (records next)
 unfolding output_of
-some-next t v k lawful next rest here = some-in t (opening t) (cuts t v) k next rest lawful.some_channels.0 here
+some-next t v k lawful next rest here = some-in t (opening t) (cuts_in t v) k next rest lawful.some_channels.0 here
 
 -- All rounds.
 
@@ -207,14 +204,14 @@ unfolding schedule
 length-schedule t state [] = refl
 length-schedule t state (cut ∷ cuts) = omega (arith, length-schedule t (round_of t state cut).state cuts)
 
-length-cuts : (t : Tables) (v : TraceAsks) → length (cuts t v) ≡ v.rounds
-unfolding cuts_of
+length-cuts : (t : Tables) (v : TraceAsks) → length (cuts_in t v) ≡ v.rounds
+unfolding cuts_in
 length-cuts t v = length-map-range_with_len (λ round. cut_of (length (clusters_of t)) (asks_in v round)) 0 v.rounds
 
 pub length-given : (t : Tables) (v : TraceAsks) → length (output t v).given ≡ v.rounds
 unfolding output_of
 length-given t v =
-    length-map (schedule t (opening t) (cuts t v)) (given_by t) ∙ length-schedule t (opening t) (cuts t v) ∙ length-cuts t v
+    length-map (schedule t (opening t) (cuts_in t v)) (given_by t) ∙ length-schedule t (opening t) (cuts_in t v) ∙ length-cuts t v
 
 -- the end of the report, where all rounds were made
 pub texts-last : (t : Tables) (v : TraceAsks) (k : ℕ) (p q : Progress) (maps report : List ℕ) →
@@ -222,8 +219,8 @@ pub texts-last : (t : Tables) (v : TraceAsks) (k : ℕ) (p q : Progress) (maps r
     AreLast (output t v) k maps report
 unfolding after_last output_of final
 texts-last t v k p q maps report along all made maps_are report_is =
-    let none : drop k (cuts t v) ≡ [] = drop_all k (cuts t v) (omega (arith, all, length-cuts t v)) in
-    let ended : p.state ≡ final t (opening t) (cuts t v) = sym (ap (final t p.state) none) ∙ along.ends in
+    let none : drop k (cuts_in t v) ≡ [] = drop_all k (cuts_in t v) (omega (arith, all, length-cuts t v)) in
+    let ended : p.state ≡ final t (opening t) (cuts_in t v) = sym (ap (final t p.state) none) ∙ along.ends in
     record {
       none = drop_all k (output t v).given (omega (arith, all, length-given t v));
       maps_are = maps_are ∙ ap (λ p. p.to_maps) made;
@@ -249,7 +246,7 @@ summary-is t v k p q along all made =
 -- what is outstanding and what is asked for stay below all that is ever asked for
 pub room-next : (t : Tables) (v : TraceAsks) (k : ℕ) (p : Progress) → IsTrace v → Along t v k p →
     sum p.state.outstanding + sum_by (λ ask. ask.bytes) (asks_in v k) ≤ max_asked
-room-next t v k p lawful along = omega (arith, along.asked, next-asked v k, lawful.few (k + 1))
+room-next t v k p lawful along = omega (arith, along.asked, next-asked v k, lawful.asked (k + 1))
 
 -- the rounds of a run keep their ends
 pub time-next : (t : Tables) (rounds k : ℕ) → rounds_fit t rounds ≡ true → k < rounds →

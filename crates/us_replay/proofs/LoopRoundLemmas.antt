@@ -13,7 +13,7 @@ use Rattle.us_flows.specs.declared.channels.Channel.{Channel}
 use Rattle.us_flows.specs.Tables.{Tables, map_len}
 use Rattle.us_flows.specs.Clusters.{turns_of}
 use Rattle.us_requests.specs.declared.asks.Ask.{Ask}
-use Rattle.us_requests.specs.Asks.{asked, cut_of}
+use Rattle.us_requests.specs.Cuts.{asked, cut_of}
 use Rattle.us_replay.specs.declared.placing.Placed.{Placed}
 use Rattle.us_replay.specs.Placements.{reserves, Claim, Grant, Build, claims, granted, place_one, place_all, spot}
 use Rattle.us_replay.specs.Plans.{Planned, plan_of}

@@ -1,27 +1,38 @@
 -- The run of a trace that was read is that of the requests that its text tells.
-use Rattle.std.proofs.Common.{◌≡◌, ℕ, List, Option, Result, Ok, Err, ap, subst, ◌∙◌}
+use Rattle.std.proofs.Common.{◌≡◌, ℕ, List, length, map, Option, Result, Ok, Err, ap, subst, ◌∙◌}
+use Rattle.std.specs.List.{range_with_len}
 use Rattle.us_flows.specs.Tables.{Tables}
-use Rattle.us_requests.specs.Asks.{Request, asks_at, counts_of}
+use Rattle.us_flows.specs.Clusters.{clusters_of}
+use Rattle.us_requests.specs.Asks.{Request, counts_of}
+use Rattle.us_requests.specs.Cuts.{cut_at, cut_of}
 use Rattle.us_requests.specs.Traces.{TraceAsks, IsTraceOf, asks_in}
 use Rattle.us_requests.specs.Rows.{requests_of}
 use Rattle.us_requests.specs.Readings.{Reads}
 use Rattle.us_replay.specs.declared.summaries.Summary.{Summary}
 use Rattle.us_replay.specs.declared.faults.RunFault.{RunFault}
 use Rattle.us_replay.specs.declared.faults.RunFault.TheVariants as fault
-use Rattle.us_replay.specs.Replays.{Growth, Ran, RanText, CanRun, Replayed, output_of, output_for}
+use Rattle.us_replay.specs.Replays.{Growth, Ran, RanText, CanRun, Replayed, cuts_of, output_of, output_for}
+use Rattle.us_replay.specs.Progress.{cuts_in}
 
--- the same rounds, asks and counts have the same output
+-- the asks of each round add up to the cut of the rows
+cuts-same : (t : Tables) (rounds : ℕ) (requests : List Request) (v : TraceAsks) → IsTraceOf t rounds requests v →
+    cuts_in t v ≡ cuts_of t rounds requests
+unfolding cuts_in cuts_of
+cuts-same t rounds requests v is =
+    let asked : ℕ → List ℕ = λ round. cut_of (length (clusters_of t)) (asks_in v round) in
+    let cut : asked ≡ cut_at t rounds requests = λ i round. is.cut round i in
+    ap (λ n. map asked (range_with_len 0 n)) is.run ∙ ap (λ f. map f (range_with_len 0 rounds)) cut
+
+-- so the output is that of the rows
 output-same : (t : Tables) (rounds : ℕ) (requests : List Request) (v : TraceAsks) → IsTraceOf t rounds requests v →
-    output_of t v.rounds (asks_in v) v.counts ≡
-    output_of t rounds (asks_at t rounds requests) (counts_of t rounds requests)
+    output_of t (cuts_in t v) v.counts ≡ output_of t (cuts_of t rounds requests) (counts_of t rounds requests)
 output-same t rounds requests v is =
-    let asks : asks_in v ≡ asks_at t rounds requests = λ i round. is.asks round i in
-    ap (λ n. output_of t n (asks_in v) v.counts) is.run ∙ ap (λ f. output_of t rounds f v.counts) asks ∙
-    ap (output_of t rounds (asks_at t rounds requests)) is.counts
+    ap (λ cuts. output_of t cuts v.counts) (cuts-same t rounds requests v is) ∙
+    ap (output_of t (cuts_of t rounds requests)) is.counts
 
 pub ran-text : (t : Tables) (rounds : ℕ) (told : Option (List ℕ)) (v : TraceAsks) (to_maps to_report : Growth)
     (result : Result Summary RunFault) → Reads t rounds told (Ok v) →
-    Ran (output_of t v.rounds (asks_in v) v.counts) v.counts to_maps to_report result →
+    Ran (output_of t (cuts_in t v) v.counts) v.counts to_maps to_report result →
     RanText t rounds told to_maps to_report result
 unfolding output_for
 ran-text t rounds told v to_maps to_report result (text, is_text, no_fault, is) ran = (
@@ -30,13 +41,13 @@ ran-text t rounds told v to_maps to_report result (text, is_text, no_fault, is) 
   no_fault,
   subst (λ out. Ran out (counts_of t rounds (requests_of text)) to_maps to_report result)
       (output-same t rounds (requests_of text) v is)
-      (subst (λ counts. Ran (output_of t v.rounds (asks_in v) v.counts) counts to_maps to_report result) is.counts ran),
+      (subst (λ counts. Ran (output_of t (cuts_in t v) v.counts) counts to_maps to_report result) is.counts ran),
 )
 
 -- whatever `run` answers
 pub replayed : (t : Tables) (rounds : ℕ) (told : Option (List ℕ)) (v : TraceAsks) (to_maps to_report : Growth)
     (result : Result Summary RunFault) → CanRun t rounds → Reads t rounds told (Ok v) →
-    Ran (output_of t v.rounds (asks_in v) v.counts) v.counts to_maps to_report result →
+    Ran (output_of t (cuts_in t v) v.counts) v.counts to_maps to_report result →
     Replayed t rounds told to_maps to_report result
 replayed t rounds told v to_maps to_report (Ok summary) can read ran =
     (can, ran-text t rounds told v to_maps to_report (Ok summary) read ran)

@@ -1,17 +1,27 @@
--- A replay on its way: what is kept from one round to the next, and what one writing of texts leaves.
-use Rattle.std.specs.Prelude.{◌≡◌, ℕ, ◌+◌, List, [], ◌∷◌, ◌++◌, count_by, Result, Ok, Err}
+-- A replay on its way: the cuts of the trace that was read, what is kept from one round to the next, and what one writing
+-- of texts leaves.
+use Rattle.std.specs.Prelude.{◌≡◌, ℕ, ◌+◌, List, [], ◌∷◌, ◌++◌, length, map, count_by, Result, Ok, Err}
+use Rattle.std.specs.List.{range_with_len}
 use Rattle.std.specs.Io.KnownBytes.{Keeps}
 use Rattle.us_slots.specs.Devices.{AppendsFront}
 use Rattle.us_flows.specs.Tables.{Tables}
+use Rattle.us_flows.specs.Clusters.{clusters_of}
 use Rattle.us_requests.specs.declared.asks.Ask.{Ask}
 use Rattle.us_requests.specs.declared.asks.Counts.{Counts}
-use Rattle.us_requests.specs.Asks.{cut_of}
+use Rattle.us_requests.specs.Cuts.{cut_of}
+use Rattle.us_requests.specs.Traces.{TraceAsks, asks_in}
 use Rattle.us_replay.specs.declared.summaries.Summary.{Summary}
 use Rattle.us_replay.specs.declared.faults.RunFault.{RunFault}
 use Rattle.us_replay.specs.declared.faults.RunFault.TheVariants as fault
 use Rattle.us_replay.specs.Rounds.{State, Step, round_of}
 use Rattle.us_replay.specs.Outputs.{Given, given_by, records, round_lines, lines, final_rows, counts_row}
 use Rattle.us_replay.specs.Replays.{Growth, Took, is_granted, is_missed}
+
+-- Cuts.
+
+-- the cuts of all rounds of a trace that was read: what its asks add up to
+unfoldable pub cuts_in : Tables → TraceAsks → List (List ℕ)
+cuts_in t v = map (λ round. cut_of (length (clusters_of t)) (asks_in v round)) (range_with_len 0 v.rounds)
 
 -- Progress.
 

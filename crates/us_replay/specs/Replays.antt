@@ -3,10 +3,9 @@ use Rattle.std.specs.Prelude.{◌≡◌, ℕ, ◌≤◌, List, [], ◌∷◌, �
 use Rattle.std.specs.List.{range_with_len}
 use Rattle.std.specs.Io.KnownBytes.{Appends}
 use Rattle.us_flows.specs.Tables.{Tables, rounds_fit}
-use Rattle.us_flows.specs.Clusters.{clusters_of}
-use Rattle.us_requests.specs.declared.asks.Ask.{Ask}
 use Rattle.us_requests.specs.declared.asks.Counts.{Counts}
-use Rattle.us_requests.specs.Asks.{asks_at, counts_of, cut_of}
+use Rattle.us_requests.specs.Asks.{Request, counts_of}
+use Rattle.us_requests.specs.Cuts.{cut_at}
 use Rattle.us_requests.specs.Rows.{trace_fault, requests_of}
 use Rattle.us_requests.specs.Readings.{IsTextOf, Reads}
 use Rattle.us_replay.specs.declared.lines.Row.{Row}
@@ -20,23 +19,21 @@ use Rattle.us_replay.specs.Outputs.{Given, given_by, records, round_lines, lines
 
 -- What a run gives.
 
--- the cuts of all rounds, where each round has these asks
-unfoldable pub cuts_of : Tables → ℕ → (ℕ → List Ask) → List (List ℕ)
-cuts_of t rounds asks = map (λ round. cut_of (length (clusters_of t)) (asks round)) (range_with_len 0 rounds)
+-- the cuts of all rounds: what each cluster asks for by the rows of the trace
+unfoldable pub cuts_of : Tables → ℕ → List Request → List (List ℕ)
+cuts_of t rounds requests = map (cut_at t rounds requests) (range_with_len 0 rounds)
 
 -- what each round gives, and the lines at the end of the report
 pub record Output : Type 0 where
   pub given : List Given
   pub last : List Row
 
--- the output of the schedule from the opening on
-unfoldable pub output_of : Tables → ℕ → (ℕ → List Ask) → Counts → Output
-output_of t rounds asks counts =
-    let cuts : List (List ℕ) = cuts_of t rounds asks in
-    record {
-      given = map (given_by t) (schedule t (opening t) cuts);
-      last = final_rows t (final t (opening t) cuts) ++ counts_row counts ∷ [];
-    }
+-- the output of the schedule of these cuts, from the opening on
+unfoldable pub output_of : Tables → List (List ℕ) → Counts → Output
+output_of t cuts counts = record {
+  given = map (given_by t) (schedule t (opening t) cuts);
+  last = final_rows t (final t (opening t) cuts) ++ counts_row counts ∷ [];
+}
 
 -- the maps file
 abbrev pub maps_text : Output → List ℕ
@@ -127,7 +124,7 @@ Ran out counts to_maps to_report (Err fault.NotServed) = ⊥
 
 -- the output for the requests that the text of a trace tells
 unfoldable pub output_for : Tables → ℕ → List ℕ → Output
-output_for t rounds text = output_of t rounds (asks_at t rounds (requests_of text)) (counts_of t rounds (requests_of text))
+output_for t rounds text = output_of t (cuts_of t rounds (requests_of text)) (counts_of t rounds (requests_of text))
 
 -- what the source tells is the text of a trace without a fault, and the rounds were run for its requests
 abbrev pub RanText : Tables → ℕ → Option (List ℕ) → Growth → Growth → Result Summary RunFault → Type 0

@@ -14,7 +14,8 @@ use Rattle.us_flows.specs.declared.flows.SchedulingType.TheVariants.{BestEffort,
 use Rattle.us_flows.specs.declared.stations.Station.{Station}
 use Rattle.us_flows.specs.Tables.{FlowTable, Tables, map_len}
 use Rattle.us_flows.specs.Clusters.{Turn, clusters_of, lookup, numbered, turns_of}
-use Rattle.us_requests.specs.Asks.{Request, round_of_tick, asks_at, counts_of, cut_of}
+use Rattle.us_requests.specs.Asks.{Request, round_of_tick, counts_of}
+use Rattle.us_requests.specs.Cuts.{cut, cut_at}
 use Rattle.us_replay.specs.declared.placing.Placed.{Placed}
 use Rattle.us_replay.specs.Served.{is_served}
 use Rattle.us_replay.specs.Boards.{Owner, Board, empty_board, assign, first_of, longest_up_to, runs_from}
@@ -26,7 +27,7 @@ use Rattle.us_replay.specs.Replays.{Output, cuts_of, output_of, summary_of, maps
 
 -- what these computations unfold
 unfoldable all_steps : ⊤
-unfolding coded_length burst_cost greatest_up_to capacity_of turns_of lookup round_of_tick asks_at counts_of cut_of
+unfolding coded_length burst_cost greatest_up_to capacity_of turns_of lookup round_of_tick counts_of cut cut_at
     cuts_of first_of longest_up_to runs_from weights divided plan_of reserves claims spot place_all pendings
     round_with round_of schedule final elements_of head_of map_of rows_on final_rows given_by output_of summary_of
     lines digits word_of element_bytes front spelling record_bytes records maps_file
@@ -124,7 +125,7 @@ request tick sid units = record { tick = tick; channel = 1; sid = sid; units = u
 
 -- so many rounds for these requests
 abbrev run : Tables → ℕ → List Request → Output
-run t rounds requests = output_of t rounds (asks_at t rounds requests) (counts_of t rounds requests)
+run t rounds requests = output_of t (cuts_of t rounds requests) (counts_of t rounds requests)
 
 -- one round, and no flow
 quiet_run :

@@ -1,6 +1,6 @@
 ghost use Rattle.std.specs.Prelude.{◌≡◌, ◌<◌, ◌≤◌, length, sum_by};
 ghost use Rattle.std.specs.List.{AllByRecursion};
-ghost use Rattle.us_requests.specs.Asks.{cut_of};
+ghost use Rattle.us_requests.specs.Cuts.{cut_of};
 ghost use Rattle.us_requests.specs.Traces.{max_asked};
 
 use us_requests::Ask;

@@ -5,6 +5,7 @@ ghost use Rattle.us_flows.specs.Clusters.{clusters_of};
 ghost use Rattle.us_requests.specs.Traces.{asks_in};
 ghost use Rattle.us_replay.specs.Served.{is_served};
 ghost use Rattle.us_replay.specs.Replays.{Growth, Output, Ran, Replayed, output_of, comes_before, blames_maps, blames_report};
+ghost use Rattle.us_replay.specs.Progress.{cuts_in};
 
 use crate::faults::RunFault;
 use crate::served::is_served;
@@ -74,7 +75,7 @@ fn run<W1: Sink, W2: Sink>(
         AllByRecursion (λ ask. ask.cluster < length (clusters_of config.now)) (asks_in trace.now round) }
     requires maps_ready { W1.failed maps.old ≡ false }
     requires report_ready { W2.failed report.old ≡ false }
-    ensures ran { let out : Output = output_of config.now trace.now.rounds (asks_in trace.now) trace.now.counts in
+    ensures ran { let out : Output = output_of config.now (cuts_in config.now trace.now) trace.now.counts in
         let to_maps : Growth = record { before = W1.contents maps.old; after = W1.contents maps.new } in
         let to_report : Growth = record { before = W2.contents report.old; after = W2.contents report.new } in
         Ran out trace.now.counts to_maps to_report result }

@@ -1,5 +1,5 @@
 use Rattle.std.proofs.Common.{◌≡◌, length, take}
-use Rattle.us_requests.specs.Asks.{cut_of}
+use Rattle.us_requests.specs.Cuts.{cut_of}
 use Rattle.us_replay.proofs.cuts.cut_round.Given as goal
 
 abbrev pub invariant-loop-ask : goal.invariant-loop-ask

@@ -1,7 +1,7 @@
 use Rattle.std.proofs.Common.{◌+◌, ◌*◌, ◌<◌, ◌≤◌, ◌++◌, length, sum, sum_by, sym, ap, subst, ◌∙◌}
 use Rattle.std.specs.Vec.{with_items}
 use Rattle.std.proofs.lemmas.Result.{on_ok_weaker}
-use Rattle.us_requests.specs.Asks.{cut_of}
+use Rattle.us_requests.specs.Cuts.{cut_of}
 use Rattle.us_requests.specs.Traces.{max_asked}
 use Rattle.us_replay.specs.Outputs.{records, lines}
 use Rattle.us_replay.specs.Progress.{Progress, after_round, max_rows}
