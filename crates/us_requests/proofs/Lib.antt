@@ -10,7 +10,7 @@ pub mod SearchLemmas
 pub mod TextLemmas
 -- clusters, bytes and rounds of asks
 pub mod AskLemmas
--- rows, filed by round
+-- rows, filed as asks and counts
 pub mod FilingLemmas
 -- what the asks of a trace add up to
 pub mod TotalLemmas

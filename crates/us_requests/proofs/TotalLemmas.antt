@@ -5,6 +5,7 @@ use Rattle.std.specs.List.{cons_option, AllByRecursion, range_with_len}
 use Rattle.std.proofs.lemmas.Bool.{cases_eq, eq-eqb, ne_eqb, le-ltb, and_right}
 use Rattle.std.proofs.lemmas.List.Sums.{sum_by-cons, sum_by-le-sum_by}
 use Rattle.std.proofs.lemmas.Nat.{mul-le}
+use Rattle.std.proofs.Math.Nat.{mul-suc}
 use Rattle.us_flows.specs.Tables.{Tables, FlowTable}
 use Rattle.us_flows.specs.Clusters.{Cluster, clusters_of, clusters_from, lookup, makes_requests, requesting}
 use Rattle.us_flows.specs.Lawful.{AreTables, IsFlow}
@@ -12,7 +13,7 @@ use Rattle.us_flows.specs.declared.found.Found.{Found}
 use Rattle.us_flows.specs.declared.found.Found.TheVariants as found
 use Rattle.us_requests.specs.declared.asks.Ask.{Ask}
 use Rattle.us_requests.specs.Asks.{Request, round_of_tick, unit_of, ask_of, ask_for, asks_at}
-use Rattle.us_requests.specs.Traces.{TraceAsks, asks_in, asked_before, max_ask, max_asked}
+use Rattle.us_requests.specs.Traces.{TraceAsks, asks_in, asks_before, asked_before, max_asks, max_ask, max_asked}
 use Rattle.us_requests.specs.Readings.{AreRequests}
 use Rattle.us_requests.proofs.AskLemmas.{cluster-within}
 
@@ -90,9 +91,13 @@ small-unit [] number are = omega arith
 small-unit (cluster ∷ rest) zero are = are.0
 small-unit (cluster ∷ rest) (suc number) are = small-unit rest number are.1
 
+-- what an ask weighs, where there is one
+abbrev weigh : (Ask → ℕ) → Option Ask → ℕ
+weigh weight None = 0
+weigh weight (Some ask) = weight ask
+
 abbrev bytes_of : Option Ask → ℕ
-bytes_of None = 0
-bytes_of (Some ask) = ask.bytes
+bytes_of o = weigh (λ ask. ask.bytes) o
 
 small-ask : (t : Tables) (units : ℕ) (o : Option Found) → AreTables t → units ≤ 65535 →
     bytes_of (ask_for t units o) ≤ max_ask
@@ -120,19 +125,19 @@ all-small t rounds (q ∷ rest) round are small =
     small-in-round t ((round_of_tick t q.tick == round) && nat_lt round rounds) (ask_of t q) (asks_at t rounds rest round)
     (small-ask t q.units (lookup t q.channel q.sid) are small.0) (all-small t rounds rest round are small.1)
 
+-- Sums over all rounds, of any weight that asks have.
+
 -- what a request adds to the sum of a round
-small-in : (a b : Bool) (o : Option Ask) → bytes_of o ≤ max_ask →
-    bytes_of (if a && b then o else None) ≤ (if a then max_ask else 0)
-small-in true true o small = small
-small-in true false o small = omega arith
-small-in false b o small = omega arith
+light-in : (weight : Ask → ℕ) (most : ℕ) (a b : Bool) (o : Option Ask) → weigh weight o ≤ most →
+    weigh weight (if a && b then o else None) ≤ (if a then most else 0)
+light-in weight most true true o light = light
+light-in weight most true false o light = omega arith
+light-in weight most false b o light = omega arith
 
-abbrev bytes_in : List Ask → ℕ
-bytes_in asks = sum_by (λ ask. ask.bytes) asks
-
-bytes-cons : (o : Option Ask) (asks : List Ask) → bytes_in (cons_option o asks) ≡ bytes_of o + bytes_in asks
-bytes-cons None asks = omega arith
-bytes-cons (Some ask) asks = sum_by-cons (λ ask. ask.bytes) ask asks
+weigh-cons : (weight : Ask → ℕ) (o : Option Ask) (asks : List Ask) →
+    sum_by weight (cons_option o asks) ≡ weigh weight o + sum_by weight asks
+weigh-cons weight None asks = omega arith
+weigh-cons weight (Some ask) asks = sum_by-cons weight ask asks
 
 -- sums over rounds
 sum-zero : (xs : List ℕ) → sum_by (λ x. 0) xs ≡ 0
@@ -150,66 +155,104 @@ sum-plus f g (x ∷ xs) = omega (
 )
 
 -- of one round alone
-abbrev only_at : ℕ → ℕ → ℕ
-only_at k x = if k == x then max_ask else 0
+abbrev only_at : ℕ → ℕ → ℕ → ℕ
+only_at most k x = if k == x then most else 0
 
-sum-past : (k from n : ℕ) → k < from → sum_by (only_at k) (range_with_len from n) ≡ 0
-sum-past k from zero past = refl
-sum-past k from (suc n) past =
-    let no : only_at k from ≡ 0 = ap (λ b. if b then max_ask else 0) (ne_eqb k from (λ same. omega arith)) in
-    omega (arith, sum_by-cons (only_at k) from (range_with_len (from + 1) n), sum-past k (from + 1) n (omega arith), no)
+sum-past : (most k from n : ℕ) → k < from → sum_by (only_at most k) (range_with_len from n) ≡ 0
+sum-past most k from zero past = refl
+sum-past most k from (suc n) past =
+    let no : only_at most k from ≡ 0 = ap (λ b. if b then most else 0) (ne_eqb k from (λ same. omega arith)) in
+    omega (
+      arith,
+      sum_by-cons (only_at most k) from (range_with_len (from + 1) n),
+      sum-past most k (from + 1) n (omega arith),
+      no,
+    )
 
-sum-one : (k from n : ℕ) → sum_by (only_at k) (range_with_len from n) ≤ max_ask
-sum-one k from zero = omega arith
-sum-one k from (suc n) = elim (cases_eq k from) [
+sum-one : (most k from n : ℕ) → sum_by (only_at most k) (range_with_len from n) ≤ most
+sum-one most k from zero = omega arith
+sum-one most k from (suc n) = elim (cases_eq k from) [
   | inl same ↦
-      let here : only_at k from ≡ max_ask = ap (λ b. if b then max_ask else 0) (eq-eqb k from same) in
+      let here : only_at most k from ≡ most = ap (λ b. if b then most else 0) (eq-eqb k from same) in
       omega (
         arith,
-        sum_by-cons (only_at k) from (range_with_len (from + 1) n),
-        sum-past k (from + 1) n
-            (omega arith),
+        sum_by-cons (only_at most k) from (range_with_len (from + 1) n),
+        sum-past most k (from + 1) n (omega arith),
         here,
       )
   | inr other ↦
-      let no : only_at k from ≡ 0 = ap (λ b. if b then max_ask else 0) (ne_eqb k from other) in
-      omega (arith, sum_by-cons (only_at k) from (range_with_len (from + 1) n), sum-one k (from + 1) n, no)
+      let no : only_at most k from ≡ 0 = ap (λ b. if b then most else 0) (ne_eqb k from other) in
+      omega (arith, sum_by-cons (only_at most k) from (range_with_len (from + 1) n), sum-one most k (from + 1) n, no)
 ]
 
--- all asks together
-few-asked : (t : Tables) (rounds n : ℕ) (requests : List Request) → AreTables t →
+-- each request weighs so much at most, in one round
+few-weighed : (t : Tables) (rounds n : ℕ) (weight : Ask → ℕ) (most : ℕ) →
+    ((q : Request) → q.units ≤ 65535 → weigh weight (ask_of t q) ≤ most) → (requests : List Request) →
     AllByRecursion (λ q. q.units ≤ 65535) requests →
-    sum_by (λ round. bytes_in (asks_at t rounds requests round)) (range_with_len 0 n) ≤ max_ask * length requests
+    sum_by (λ round. sum_by weight (asks_at t rounds requests round)) (range_with_len 0 n) ≤ most * length requests
 unfolding asks_at
-few-asked t rounds n [] are small = omega (arith, sum-zero (range_with_len 0 n))
-few-asked t rounds n (q ∷ rest) are small =
-    let first : ℕ → ℕ = only_at (round_of_tick t q.tick) in
-    let others : ℕ → ℕ = λ round. bytes_in (asks_at t rounds rest round) in
-    let each : (round : ℕ) → bytes_in (asks_at t rounds (q ∷ rest) round) ≤ first round + others round =
+few-weighed t rounds n weight most light [] small = omega (arith, sum-zero (range_with_len 0 n))
+few-weighed t rounds n weight most light (q ∷ rest) small =
+    let first : ℕ → ℕ = only_at most (round_of_tick t q.tick) in
+    let others : ℕ → ℕ = λ round. sum_by weight (asks_at t rounds rest round) in
+    let each : (round : ℕ) → sum_by weight (asks_at t rounds (q ∷ rest) round) ≤ first round + others round =
     λ round. omega (
       arith,
-      bytes-cons (ask_in t rounds round q) (asks_at t rounds rest round),
-      small-in (round_of_tick t q.tick == round) (nat_lt round rounds) (ask_of t q)
-          (small-ask t q.units (lookup t q.channel q.sid) are small.0),
+      weigh-cons weight (ask_in t rounds round q) (asks_at t rounds rest round),
+      light-in weight most (round_of_tick t q.tick == round) (nat_lt round rounds) (ask_of t q) (light q small.0),
     ) in
     omega (
       arith,
-      sum_by-le-sum_by (λ round. bytes_in (asks_at t rounds (q ∷ rest) round)) (λ round. first round + others round)
+      sum_by-le-sum_by (λ round. sum_by weight (asks_at t rounds (q ∷ rest) round)) (λ round. first round + others round)
           (range_with_len 0 n) each,
       sum-plus first others (range_with_len 0 n),
-      sum-one (round_of_tick t q.tick) 0 n,
-      few-asked t rounds n rest are small.1,
+      sum-one most (round_of_tick t q.tick) 0 n,
+      few-weighed t rounds n weight most light rest small.1,
+      mul-suc most (length rest),
     )
 
-pub few-of : (t : Tables) (rounds : ℕ) (requests : List Request) (trace : TraceAsks) → AreTables t →
-    AreRequests requests →
-    ((round : ℕ) → asks_in trace round ≡ asks_at t rounds requests round) → (n : ℕ) → asked_before trace n ≤ max_asked
-few-of t rounds requests trace are sound asks n =
+-- of a trace's own asks, round by round
+weighed-of : (t : Tables) (rounds : ℕ) (requests : List Request) (trace : TraceAsks) (weight : Ask → ℕ) (most : ℕ) →
+    ((q : Request) → q.units ≤ 65535 → weigh weight (ask_of t q) ≤ most) → AreRequests requests →
+    ((round : ℕ) → asks_in trace round ≡ asks_at t rounds requests round) → (n : ℕ) →
+    sum_by (λ round. sum_by weight (asks_in trace round)) (range_with_len 0 n) ≤ most * length requests
+weighed-of t rounds requests trace weight most light sound asks n =
+    let same : asks_in trace ≡ asks_at t rounds requests = λ i round. asks round i in
     omega (
       arith,
-      sum_by-le-sum_by (λ round. bytes_in (asks_in trace round)) (λ round. bytes_in
-          (asks_at t rounds requests round)) (range_with_len 0 n)
-          (λ round. omega (arith, ap (λ asks. bytes_in asks) (asks round))),
-      few-asked t rounds n requests are sound.small,
+      ap (λ f. sum_by (λ round. sum_by weight (f round)) (range_with_len 0 n)) same,
+      few-weighed t rounds n weight most light requests sound.small,
+    )
+
+-- the bytes of all
+pub asked-of : (t : Tables) (rounds : ℕ) (requests : List Request) (trace : TraceAsks) → AreTables t →
+    AreRequests requests → ((round : ℕ) → asks_in trace round ≡ asks_at t rounds requests round) → (n : ℕ) →
+    asked_before trace n ≤ max_asked
+asked-of t rounds requests trace are sound asks n = omega (
+  arith,
+  weighed-of t rounds requests trace (λ ask. ask.bytes) max_ask
+      (λ q small. small-ask t q.units (lookup t q.channel q.sid) are small) sound asks n,
+  sound.few,
+)
+
+-- how many there are
+counted-one : (asks : List Ask) → sum_by (λ ask. 1) asks ≡ length asks
+counted-one [] = refl
+counted-one (ask ∷ asks) = omega (arith, sum_by-cons (λ ask. 1) ask asks, counted-one asks)
+
+weigh-one : (o : Option Ask) → weigh (λ ask. 1) o ≤ 1
+weigh-one None = omega arith
+weigh-one (Some ask) = omega arith
+
+pub few-of : (t : Tables) (rounds : ℕ) (requests : List Request) (trace : TraceAsks) → AreRequests requests →
+    ((round : ℕ) → asks_in trace round ≡ asks_at t rounds requests round) → (n : ℕ) → asks_before trace n ≤ max_asks
+few-of t rounds requests trace sound asks n =
+    let ones : ℕ → ℕ = λ round. sum_by (λ ask. 1) (asks_in trace round) in
+    let counts : ℕ → ℕ = λ round. length (asks_in trace round) in
+    let same : ones ≡ counts = λ i round. counted-one (asks_in trace round) i in
+    omega (
+      arith,
+      ap (λ f. sum_by f (range_with_len 0 n)) same,
+      weighed-of t rounds requests trace (λ ask. 1) 1 (λ q small. weigh-one (ask_of t q)) sound asks n,
       sound.few,
     )

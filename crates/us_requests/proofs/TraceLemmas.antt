@@ -1,5 +1,5 @@
 -- Traces: filed rows, ordered by round, are the trace of these rows.
-use Rattle.std.proofs.Common.{◌≡◌, ℕ, List, length, refl, ap, ◌∙◌, arith}
+use Rattle.std.proofs.Common.{◌≡◌, ℕ, List, length, refl, ap, ◌∙◌}
 use Rattle.us_flows.specs.Tables.{Tables}
 use Rattle.us_flows.specs.Clusters.{clusters_of}
 use Rattle.us_flows.specs.Lawful.{AreTables}
@@ -10,7 +10,7 @@ use Rattle.us_requests.specs.Cuts.{cut_of}
 use Rattle.us_requests.specs.Traces.{TraceAsks, IsTrace, IsTraceOf, of_round}
 use Rattle.us_requests.specs.Readings.{AreRequests}
 use Rattle.us_requests.specs.Outcomes.{IsFiled}
-use Rattle.us_requests.proofs.TotalLemmas.{few-of, none-late, all-known, all-small}
+use Rattle.us_requests.proofs.TotalLemmas.{few-of, asked-of, none-late, all-known, all-small}
 use Rattle.us_requests.proofs.CutLemmas.{sums-are-cut}
 
 abbrev made : ℕ → List PlacedAsk → Counts → TraceAsks
@@ -24,16 +24,16 @@ in-round t rounds requests filed asks counts is same round = same round ∙ is.a
 
 pub lawful-trace : (t : Tables) (rounds : ℕ) (requests : List Request) (filed asks : List PlacedAsk) (counts : Counts) →
     AreTables t → AreRequests requests → IsFiled t rounds requests filed counts →
-    ((round : ℕ) → of_round asks round ≡ of_round filed round) → length asks ≡ length filed →
+    ((round : ℕ) → of_round asks round ≡ of_round filed round) →
     IsTrace (made rounds asks counts)
-lawful-trace t rounds requests filed asks counts are sound is same count =
+lawful-trace t rounds requests filed asks counts are sound is same =
     let all : (round : ℕ) → of_round asks round ≡ asks_at t rounds requests round =
     in-round t rounds requests filed asks counts is same in
     record {
-      few = omega (arith, count, is.few, sound.few);
+      few = few-of t rounds requests (made rounds asks counts) sound all;
       small = λ round. rw (all round) (all-small t rounds requests round are sound.small);
       none_late = λ round late. all round ∙ none-late t rounds requests round late;
-      asked = few-of t rounds requests (made rounds asks counts) are sound all;
+      asked = asked-of t rounds requests (made rounds asks counts) are sound all;
     }
 
 pub trace-of : (t : Tables) (rounds : ℕ) (requests : List Request) (filed asks : List PlacedAsk) (counts : Counts) →

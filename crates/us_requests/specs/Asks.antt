@@ -1,5 +1,5 @@
 -- Requests: in which round one is served, and how many bytes it asks for.
-use Rattle.std.specs.Prelude.{ℕ, ◌+◌, ◌*◌, List, filter_map, count_by, Bool, true, false, not, ◌==◌, nat_lt, ◌&&◌, if◌then◌else◌, Option, Some, None, slice_get, is_none}
+use Rattle.std.specs.Prelude.{ℕ, ◌+◌, ◌*◌, ◌<◌, ◌≤◌, ◌↔◌, List, filter_map, count_by, Bool, true, false, not, ◌==◌, nat_lt, ◌&&◌, if◌then◌else◌, Option, Some, None, slice_get, is_none}
 use Rattle.std.specs.Int.{div_ceil}
 use Rattle.us_flows.specs.Tables.{Tables}
 use Rattle.us_flows.specs.Clusters.{Cluster, clusters_of, lookup}
@@ -18,6 +18,12 @@ pub record Request : Type 0 where
 -- the round of a request at a tick: the least that starts no earlier than the lead after it
 unfoldable pub round_of_tick : Tables → ℕ → ℕ
 round_of_tick t tick = div_ceil (tick + t.lead_ticks) t.round_ticks
+
+-- the law of rounds: no round before it starts as late, and each from it on does
+abbrev pub RoundIsLeast : Type 0
+RoundIsLeast =
+    (t : Tables) → 0 < t.round_ticks → (tick round : ℕ) →
+    (round_of_tick t tick ≤ round) ↔ (tick + t.lead_ticks ≤ round * t.round_ticks)
 
 -- the bytes of a unit of a cluster's requests
 abbrev pub unit_of : Option Cluster → ℕ

@@ -37,7 +37,7 @@ cut_at t rounds requests round = map (cut t rounds requests round) (range_with_l
 abbrev pub asked : List Ask → ℕ → ℕ
 asked asks cluster = sum_by (λ ask. ask.bytes) (filter (λ ask. ask.cluster == cluster) asks)
 
--- and of each of so many clusters
+-- the cut that some asks come to, for so many clusters
 unfoldable pub cut_of : ℕ → List Ask → List ℕ
 cut_of clusters asks = map (asked asks) (range_with_len 0 clusters)
 

@@ -51,6 +51,11 @@ served :
 unfolding round_of_tick
 served = refl
 
+-- the last tick doesn't wrap
+last_tick : round_of_tick tables 4294967295 ≡ 13421774
+unfolding round_of_tick
+last_tick = refl
+
 abbrev asks_for : ℕ → ℕ → ℕ → ℕ → Request
 asks_for tick channel sid units = record { tick = tick; channel = channel; sid = sid; units = units }
 
@@ -123,6 +128,16 @@ more_counts : counts_of more_tables 3 more_requests ≡ record { unknown = 1; no
 unfolding counts_of round_of_tick lookup
 more_counts = refl
 
+-- each count by one row; a row that would be late counts as unknown alone; late is the round of the end, and not before
+each_count :
+    (counts_of more_tables 2 (asks_for 0 1 999 10 ∷ asks_for 0 1 700 10 ∷ asks_for 1000000 1 600 10 ∷ [])
+    ∷ counts_of more_tables 2 (asks_for 1000000 1 999 10 ∷ [])
+    ∷ counts_of more_tables 2 (asks_for 161 1 600 1 ∷ []) ∷ counts_of more_tables 3 (asks_for 161 1 600 1 ∷ []) ∷ []) ≡
+    record { unknown = 1; not_requestable = 1; late = 1 } ∷ record { unknown = 1; not_requestable = 0; late = 0 }
+    ∷ record { unknown = 0; not_requestable = 0; late = 1 } ∷ record { unknown = 0; not_requestable = 0; late = 0 } ∷ []
+unfolding counts_of round_of_tick lookup
+each_count = refl
+
 -- the same by sums over the rows, for three clusters, in rounds 1 and 2, and behind the end
 cuts : (cut_at tables 3 requests 1 ∷ cut_at tables 3 requests 2 ∷ cut_at tables 2 requests 2 ∷ []) ≡
     (40 ∷ 0 ∷ 32 ∷ []) ∷ (12 ∷ 0 ∷ 0 ∷ []) ∷ (0 ∷ 0 ∷ 0 ∷ []) ∷ []
@@ -136,6 +151,16 @@ twice : (cut_at tables 3 (asks_for 0 1 291 10 ∷ asks_for 0 1 999 5 ∷ asks_fo
 unfolding cut_at cut round_of_tick lookup
 twice = refl
 
+-- a cluster that asks on both of its channels
+both_channels : cut_at tables 3 (asks_for 0 2 500 3 ∷ asks_for 0 1 501 5 ∷ []) 1 ≡ 0 ∷ 128 ∷ 0 ∷ []
+unfolding cut_at cut round_of_tick lookup
+both_channels = refl
+
+-- clusters before and behind a flow with unsolicited grants
+around_grants : cut_at more_tables 3 more_requests 1 ≡ 0 ∷ 16 ∷ 10 ∷ 6 ∷ []
+unfolding cut_at cut round_of_tick lookup
+around_grants = refl
+
 -- the sums of some asks
 sums : cut_of 3 (bytes_of 0 40 ∷ bytes_of 2 32 ∷ bytes_of 0 12 ∷ []) ≡ 52 ∷ 0 ∷ 32 ∷ []
 unfolding cut_of
@@ -146,8 +171,9 @@ abbrev header : Record
 header = codes "tick" ∷ codes "channel" ∷ codes "sid" ∷ codes "units" ∷ []
 
 headers : (is_header header ∷ is_header (codes "tick" ∷ codes "channel" ∷ codes "sid" ∷ []) ∷
-    is_header (codes "tick" ∷ codes "channel" ∷ codes "units" ∷ codes "sid" ∷ []) ∷ []) ≡
-    true ∷ false ∷ false ∷ []
+    is_header (codes "tick" ∷ codes "channel" ∷ codes "units" ∷ codes "sid" ∷ []) ∷
+    is_header (codes "tick" ∷ codes "channel" ∷ codes "sid" ∷ codes "units" ∷ codes "kind" ∷ []) ∷ []) ≡
+    true ∷ false ∷ false ∷ false ∷ []
 unfolding is_header
 headers = refl
 
@@ -163,9 +189,14 @@ row_faults :
     first_of (row_checks 2 (row (codes "291") (codes "x"))) ∷
     first_of (row_checks 2 (row (codes "291") [])) ∷
     first_of (row_checks 4 (codes "x" ∷ codes "1" ∷ [])) ∷
+    first_of (row_checks 2 (codes "0" ∷ codes "1" ∷ codes "291" ∷ codes "1" ∷ [] ∷ [])) ∷
+    first_of (row_checks 2 (codes "4294967296" ∷ codes "1" ∷ codes "291" ∷ codes "1" ∷ [])) ∷
+    first_of (row_checks 2 (codes "0" ∷ codes "256" ∷ codes "291" ∷ codes "1" ∷ [])) ∷
+    first_of (row_checks 2 header) ∷
     first_of (row_checks 1000001 (row (codes "291") (codes "1"))) ∷
     first_of (row_checks 1000002 (codes "x" ∷ codes "1" ∷ [])) ∷ []) ≡
     None ∷ Some (Number 2) ∷ Some (Number 3) ∷ Some (Number 2) ∷ Some (Number 2) ∷ Some (Number 2) ∷ Some (Fields 4) ∷
+    Some (Fields 2) ∷ Some (Number 2) ∷ Some (Number 2) ∷ Some (Number 2) ∷
     None ∷ Some TooLarge ∷ []
 unfolding are_numbers number_from
 row_faults = refl
@@ -192,8 +223,10 @@ told = refl
 
 text_faults :
     (trace_fault [] ∷ trace_fault (codes "tick,channel,sid\n") ∷
+    trace_fault (codes "tick,channel,sid,units\n") ∷ trace_fault (codes "\n\"tick\",channel,sid,units\n \n") ∷
+    trace_fault (239 ∷ 187 ∷ 191 ∷ codes "tick,channel,sid,units\r0,1,291,x") ∷
     trace_fault (codes "tick,channel,sid,units\n0,1,291") ∷
     trace_fault (codes "tick,channel,sid,units\n0,1,291,1\n0,1,291,65536\n") ∷ []) ≡
-    Some Header ∷ Some Header ∷ Some (Fields 2) ∷ Some (Number 3) ∷ []
+    Some Header ∷ Some Header ∷ None ∷ Some (Fields 2) ∷ Some (Number 2) ∷ Some (Fields 2) ∷ Some (Number 3) ∷ []
 unfolding trace_fault strip_bom records_from next_record rows_fault is_header are_numbers number_from
 text_faults = refl

@@ -1,7 +1,7 @@
 -- Read in this order: requests and what they ask; the text of a trace; what is known of a trace that was read.
 -- In a definition `≡` is equals, `×` and, `⊎` or, `∷` one item before a list, and ℕ has the whole numbers from 0.
 
--- which requests are asks, in which round, and what a cluster asks for in a round
+-- which requests are asks, and in which round
 pub mod Asks
 -- what each cluster asks for in a round: sums over the rows, in whatever order they stand
 pub mod Cuts

@@ -8,7 +8,7 @@ use Rattle.us_requests.specs.declared.asks.Counts.{Counts}
 use Rattle.us_requests.specs.declared.outcomes.Outcome.{Outcome}
 use Rattle.us_requests.specs.declared.outcomes.Outcome.TheVariants as outcome
 use Rattle.us_requests.specs.Asks.{Request, round_of_tick, unit_of, asks_at, counts_of}
-use Rattle.us_requests.specs.Traces.{of_round}
+use Rattle.us_requests.specs.Traces.{of_round, max_asks}
 
 -- the bytes of a unit of each cluster's requests
 abbrev pub units_of : Tables → List ℕ
@@ -41,9 +41,9 @@ counted (outcome.Asked placed) counts = counts
 
 -- each count can rise by one
 pub record HasRoom (counts : Counts) : Type 0 where
-  pub unknown : counts.unknown < 1000000
-  pub not_requestable : counts.not_requestable < 1000000
-  pub late : counts.late < 1000000
+  pub unknown : counts.unknown < max_asks
+  pub not_requestable : counts.not_requestable < max_asks
+  pub late : counts.late < max_asks
 
 -- rows, filed as asks and counts
 pub record IsFiled (t : Tables) (rounds : ℕ) (requests : List Request) (placed : List PlacedAsk) (counts : Counts)

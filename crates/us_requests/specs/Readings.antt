@@ -8,7 +8,7 @@ use Rattle.us_flows.specs.Tables.{Tables}
 use Rattle.us_requests.specs.declared.faults.TraceFault.{TraceFault}
 use Rattle.us_requests.specs.declared.faults.TraceFault.TheVariants as fault
 use Rattle.us_requests.specs.Asks.{Request}
-use Rattle.us_requests.specs.Traces.{TraceAsks, IsTraceOf}
+use Rattle.us_requests.specs.Traces.{TraceAsks, IsTraceOf, max_asks}
 use Rattle.us_requests.specs.Rows.{trace_fault, requests_of}
 
 -- the most bytes of a trace
@@ -44,7 +44,7 @@ of_read_fault read_fault.NoMemory = fault.NoMemory
 
 -- requests of a text without a fault: not too many, and each of a number of units that a row can tell
 pub record AreRequests (requests : List Request) : Type 0 where
-  pub few : length requests ≤ 1000000
+  pub few : length requests ≤ max_asks
   pub small : AllByRecursion (λ q. q.units ≤ 65535) requests
 
 -- a fault that may be answered where this is the first one of the text

@@ -1,5 +1,5 @@
 -- Traces: what is known of a trace that was read.
-use Rattle.std.specs.Prelude.{◌≡◌, ℕ, ◌<◌, ◌≤◌, List, [], length, map, filter, sum_by, ◌==◌}
+use Rattle.std.specs.Prelude.{◌≡◌, ℕ, ◌*◌, ◌<◌, ◌≤◌, List, [], length, map, filter, sum_by, ◌==◌}
 use Rattle.std.specs.List.{AllByRecursion, range_with_len}
 use Rattle.us_flows.specs.Tables.{Tables}
 use Rattle.us_flows.specs.Clusters.{clusters_of}
@@ -32,7 +32,11 @@ max_ask = 1048560
 
 -- the most bytes that all asks together name
 abbrev pub max_asked : ℕ
-max_asked = 1048560000000
+max_asked = max_asks * max_ask
+
+-- the asks of the first rounds
+abbrev pub asks_before : TraceAsks → ℕ → ℕ
+asks_before t rounds = sum_by (λ round. length (asks_in t round)) (range_with_len 0 rounds)
 
 -- the bytes that the first rounds ask for, of all clusters
 abbrev pub asked_before : TraceAsks → ℕ → ℕ
@@ -40,7 +44,7 @@ asked_before t rounds = sum_by (λ round. sum_by (λ ask. ask.bytes) (asks_in t 
 
 -- what holds of every trace
 pub record IsTrace (t : TraceAsks) : Type 0 where
-  pub few : length t.asks ≤ max_asks
+  pub few : (rounds : ℕ) → asks_before t rounds ≤ max_asks
   pub small : (round : ℕ) → AllByRecursion (λ ask. ask.bytes ≤ max_ask) (asks_in t round)
   pub none_late : (round : ℕ) → t.rounds ≤ round → asks_in t round ≡ []
   pub asked : (rounds : ℕ) → asked_before t rounds ≤ max_asked

@@ -1,6 +1,12 @@
 //! Laws of the definitions of this crate, each as the contract of a function that does nothing.
 
+ghost use Rattle.us_requests.specs.Asks.{RoundIsLeast};
 ghost use Rattle.us_requests.specs.Cuts.{OrderIsNothing};
+
+/// The round of a request is the least that starts no earlier than the lead after it.
+pub fn round_is_least()
+    ensures { RoundIsLeast }
+{}
 
 /// What clusters ask for in a round, and how rows are counted, depends on the rows of a trace and not on their order.
 pub fn order_is_nothing()

@@ -32,11 +32,11 @@ mod rows;
 // From a text to all requests, or the first fault.
 mod texts;
 
-// What becomes of a request.
-mod outcomes;
-
 // An ask in its round.
 mod placed;
+
+// What becomes of a request.
+mod outcomes;
 
 // Rows, filed as asks and counts.
 mod filing;
@@ -44,7 +44,7 @@ mod filing;
 // The asks in the order of their rounds, and where those of a round stand.
 mod by_round;
 
-// The whole, and the bytes before it.
+// A trace: from a source's bytes to the asks of each round.
 mod traces;
 
 // What holds of the definitions, whatever the trace.

@@ -1,4 +1,5 @@
 ghost use Rattle.std.specs.Prelude.{◌≡◌, ◌↔◌, true, false, Err, IfOk, IfErr, length};
+ghost use Rattle.us_slots.specs.Devices.{TookAtMost};
 ghost use Rattle.us_flows.specs.Tables.{rounds_fit};
 ghost use Rattle.us_flows.specs.Lawful.{AreTables};
 ghost use Rattle.us_requests.specs.Rows.{trace_fault, requests_of};
@@ -50,6 +51,8 @@ impl Trace {
         requires fits { rounds_fit config.now rounds ≡ true }
         requires ready { R.failed source.old ≡ false }
         ensures read { Reads config.now rounds (R.remaining source.old) result }
+        ensures taken { result ≡ Err fault.Read →
+            TookAtMost max_bytes (R.remaining source.old) (R.remaining source.new) }
         ensures failed { (R.failed source.new ≡ true) ↔ (result ≡ Err fault.Read) }
     {
         let text = read_all(alloc, source, MAX_BYTES)?;

@@ -1,6 +1,6 @@
 -- Devices: when a reader or a writer counts as failed.
-use Rattle.std.specs.Prelude.{ℕ, Bool, true, ◌==◌, ◌<◌, ◌&&◌, not, List, length, take, codes, Option, Result, Ok, Err}
-use Rattle.std.specs.Io.KnownBytes.{Appends}
+use Rattle.std.specs.Prelude.{ℕ, Bool, true, ◌==◌, ◌<◌, ◌≤◌, ◌&&◌, not, List, length, take, codes, Option, Result, Ok, Err}
+use Rattle.std.specs.Io.KnownBytes.{Appends, Consumes}
 use Rattle.us_slots.specs.declared.devices.reading.ReadFault.{ReadFault}
 use Rattle.us_slots.specs.declared.devices.reading.ReadFault.TheVariants as fault
 
@@ -17,6 +17,10 @@ is_failed_write (Err _) piece = true
 -- known bytes grow by fewer than all bytes of the piece, from its front
 abbrev pub AppendsFront : Option (List ℕ) → Option (List ℕ) → List ℕ → Type 0
 AppendsFront old new piece = (n : ℕ) × (n < length piece) × Appends old new (take n piece)
+
+-- known bytes were taken from the front, at most so many
+abbrev pub TookAtMost : ℕ → Option (List ℕ) → Option (List ℕ) → Type 0
+TookAtMost most old new = (front : List ℕ) × (length front ≤ most) × Consumes old new front
 
 -- what a fault of reading to the end says
 abbrev pub read_fault_text : ReadFault → List ℕ

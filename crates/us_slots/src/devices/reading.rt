@@ -1,4 +1,5 @@
 ghost use Rattle.std.specs.Prelude.{◌≡◌, ◌↔◌, ◌≤◌, ◌<◌, length, true, false, Err, IfOk, IfSome};
+ghost use Rattle.us_slots.specs.Devices.{TookAtMost};
 
 use super::{Failed, Source};
 use std::alloc::{AllocError, AllocFailed, Global};
@@ -69,12 +70,15 @@ impl<T: Drop> From<AllocFailed<T>> for ReadFault {
     }
 }
 
-/// All bytes of `source`, of which there are at most `most`. Reading stops where a byte past `most` is met.
+/// All bytes of `source`, of which there are at most `most`. Reading stops where a byte past `most` is met, so a read
+/// that fails comes before it.
 pub fn read_all<S: Source>(alloc: Global, source: &mut S, most: usize) -> Result<Vec<u8>, ReadFault>
     requires { S.failed source.old ≡ false }
     ensures value { IfOk result (λ v. IfSome (S.remaining source.old) (λ bytes. v.items ≡ bytes)) }
     ensures bound { IfOk result (λ v. length v.items ≤ most) }
     ensures large { result ≡ Err ReadFault.TooLarge → IfSome (S.remaining source.old) (λ bytes. most < length bytes) }
+    ensures taken { result ≡ Err ReadFault.Failed →
+        TookAtMost most (S.remaining source.old) (S.remaining source.new) }
     ensures failed { (S.failed source.new ≡ true) ↔ (result ≡ Err ReadFault.Failed) }
 {
     let mut bytes = Vec::new(alloc);

@@ -8,7 +8,6 @@ invariant_of-result c =
     let sound = rw (← c.deref-2.ensures.value) at c.in_ok-requests.ensures.2 in
     lawful-trace c.args.config.now c.args.rounds c.deref-2.result.now c.in_ok-filed.filed.asks.items c.in_ok-new.field-0
     c.in_ok-filed.filed.counts c.in_ok-filed.ensures.lawful sound c.in_ok-filed.ensures.filed c.in_ok-new.ensures.rounds
-    c.in_ok-new.ensures.count
 
 pub returns : goal.returns
 returns c =
