@@ -1,4 +1,4 @@
-ghost use Rattle.std.specs.Prelude.{◌≡◌, drop, map, IfOk, IfErr, OnOk};
+ghost use Rattle.std.specs.Prelude.{◌≡◌, drop, map, IfErr, OnOk};
 ghost use Rattle.us_requests.specs.Rows.{rows_fault, records_fault, trace_fault, requests_of, request_of};
 ghost use Rattle.us_requests.specs.Readings.{Tells, IsFirst};
 

@@ -1,9 +1,8 @@
-ghost use Rattle.std.specs.Prelude.{◌≡◌, ◌↔◌, true, false, Err, IfOk, IfErr, length};
+ghost use Rattle.std.specs.Prelude.{◌≡◌, ◌↔◌, true, false, Err, IfOk};
 ghost use Rattle.us_slots.specs.Devices.{TookAtMost};
 ghost use Rattle.us_flows.specs.Tables.{rounds_fit};
 ghost use Rattle.us_flows.specs.Lawful.{AreTables};
-ghost use Rattle.us_requests.specs.Rows.{trace_fault, requests_of};
-ghost use Rattle.us_requests.specs.Traces.{TraceAsks, IsTrace, IsTraceOf, asks_in};
+ghost use Rattle.us_requests.specs.Traces.{TraceAsks, IsTrace, asks_in};
 ghost use Rattle.us_requests.specs.Readings.{AreRequests, Answers, Reads, max_bytes};
 ghost use Rattle.us_requests.specs.Outcomes.{units_of, IsFiled};
 ghost use Rattle.us_requests.specs.declared.faults.TraceFault.TheVariants as fault;
