@@ -1,4 +1,4 @@
-ghost use Rattle.std.specs.Prelude.{◌≡◌, ◌↔◌, ◌+◌, ◌<◌, ◌≤◌, ℕ, length, IsTrue, IfSome, IfNone};
+ghost use Rattle.std.specs.Prelude.{◌↔◌, ◌+◌, ◌<◌, ◌≤◌, ℕ, length, IsTrue, IfSome, IfNone};
 ghost use Rattle.mapsim.specs.Marks.{IsMark, IsSplit};
 
 /// The line between the configuration and the trace, with its line feed.

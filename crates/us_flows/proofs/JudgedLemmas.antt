@@ -18,6 +18,7 @@ use Rattle.us_flows.specs.Reading.{flow_of, all_of}
 use Rattle.us_flows.specs.Checks.{Check, first_of, or_else, top, in_turn, flows_fault, flow_place, flow_shape, flow_names, flow_grants, flow_fault}
 use Rattle.us_flows.specs.Answers.{Judged}
 use Rattle.us_flows.proofs.CheckLemmas.{none_finds}
+use Rattle.us_flows.proofs.ShapeLemmas.{length-lists_of}
 use Rattle.us_flows.proofs.FlowLemmas.{flow_ranges}
 
 -- no check finds that the text is no document
@@ -110,10 +111,6 @@ grants_judged round channels earlier t index flow f here is shape names h =
     (rw (none, apart, found) refl)
 
 -- it has few clusters
-
-length-lists_of : (items : Items) → length (lists_of items) ≡ count items
-length-lists_of no_items = refl
-length-lists_of (item d ds) = omega (arith, length-lists_of ds)
 
 pub few_clusters : (t : Members) (place : Place) (flow : FlowTable) → flow ≡ flow_of t →
     first_of (flow_shape place t) ≡ None → length flow.clusters ≤ 2

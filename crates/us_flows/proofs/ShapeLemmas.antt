@@ -1,16 +1,26 @@
 -- What a table without a fault in its shape has at a key.
-use Rattle.std.proofs.Common.{◌≡◌, ℕ, pos, negsuc, Bool, true, false, not, ◌||◌, ◌&&◌, List, [], ◌∷◌, Option, Some, None, is_none, Ordering, Less, Equal, Greater, nat_cmp, is_eq, refl, ap, sym, ◌∙◌, inl, inr, nat_le}
+use Rattle.std.proofs.Common.{◌≡◌, ℕ, pos, negsuc, Bool, true, false, not, ◌||◌, ◌&&◌, List, [], ◌∷◌, length, Option, Some, None, is_none, Ordering, Less, Equal, Greater, nat_cmp, is_eq, refl, ap, sym, ◌∙◌, arith, inl, inr, nat_le}
 use Rattle.std.specs.Str.{bytes_eq}
 use Rattle.std.specs.Cmp.Lexicographic.{slice_cmp}
 use Rattle.std.specs.Ordering.{match_ordering}
 use Rattle.std.proofs.lemmas.Bool.{cases_Bool, or_parts, and_parts, leb-true, false≢true}
 use Rattle.std.proofs.lemmas.Map.Text.{is_eq-slice_cmp}
 use Rattle.std.proofs.lemmas.Slice.Eq.{bytes_eq-Decides}
-use Rattle.toml.specs.Data.{Data, string, integer, float, boolean, datetime, array, table, Members, no_members, member, get_member}
+use Rattle.toml.specs.Data.{Data, string, integer, float, boolean, datetime, array, table, Items, no_items, item, Members, no_members, member, get_member}
 use Rattle.us_flows.specs.Keys.{Key}
 use Rattle.us_flows.specs.Lawful.{Between}
-use Rattle.us_flows.specs.Documents.{number_of, number_at}
-use Rattle.us_flows.specs.Shapes.{is_number, allows, lacks, strays, is_optional}
+use Rattle.us_flows.specs.Documents.{number_of, number_at, numbers_of, lists_of}
+use Rattle.us_flows.specs.Shapes.{is_number, count, allows, lacks, strays, is_optional}
+
+-- Each item of a list is read as one number, or one list.
+
+pub length-numbers_of : (items : Items) → length (numbers_of items) ≡ count items
+length-numbers_of no_items = refl
+length-numbers_of (item d ds) = omega (arith, length-numbers_of ds)
+
+pub length-lists_of : (items : Items) → length (lists_of items) ≡ count items
+length-lists_of no_items = refl
+length-lists_of (item d ds) = omega (arith, length-lists_of ds)
 
 -- a member that is found stands under an equal key
 found_under : (keys : List Key) (k name : List ℕ) (d e : Data) (t : Members) (o : Ordering) → o ≡

@@ -25,7 +25,7 @@ use Rattle.us_flows.specs.Checks.{first_of, or_else, top_checks, channel_shape, 
 use Rattle.us_flows.specs.Reading.{channel_of, kind_at, flow_of, station_of, all_of, round_of, channels_of, tables_of}
 use Rattle.us_flows.proofs.CheckLemmas.{or_else_none, none_finds}
 use Rattle.us_flows.proofs.ApartLemmas.{keys_apart, ids_apart, sids_apart}
-use Rattle.us_flows.proofs.ShapeLemmas.{found_allowed, number_in_range, number_between}
+use Rattle.us_flows.proofs.ShapeLemmas.{length-numbers_of, length-lists_of, found_allowed, number_in_range, number_between}
 use Rattle.us_flows.proofs.ChannelLemmas.{list_items, list_in_range, channel_ranges}
 use Rattle.us_flows.proofs.FlowLemmas.{FlowRanges, RequestRanges, KindRanges, kind_ranges, numbers_within}
 use Rattle.us_flows.proofs.StationLemmas.{station_ranges}
@@ -154,14 +154,6 @@ channels_stay_apart round earlier m h apart =
     keys_apart (λ c. c.id) earlier c apart rules.0
 
 -- Flows.
-
-length-numbers_of : (items : Items) → length (numbers_of items) ≡ count items
-length-numbers_of no_items = refl
-length-numbers_of (item d ds) = omega (arith, length-numbers_of ds)
-
-length-lists_of : (items : Items) → length (lists_of items) ≡ count items
-length-lists_of no_items = refl
-length-lists_of (item d ds) = omega (arith, length-lists_of ds)
 
 all_between : (least most : ℕ) (items : Items) → all_items (is_number least most) items ≡ true →
     AllByRecursion (Between least most) (numbers_of items)

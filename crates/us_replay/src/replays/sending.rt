@@ -1,4 +1,4 @@
-ghost use Rattle.std.specs.Prelude.{◌≡◌, false, IfErr};
+ghost use Rattle.std.specs.Prelude.{◌≡◌, false};
 ghost use Rattle.us_replay.specs.Replays.{Growth, blames_maps, blames_report};
 ghost use Rattle.us_replay.specs.Progress.{Sent, Flushed};
 

@@ -1,6 +1,5 @@
 ghost use Rattle.std.specs.Prelude.{◌≡◌, ◌+◌, ◌^◌, ◌<◌, ◌≤◌, length, map, zip, slice_index, IfOk};
 ghost use Rattle.std.specs.List.{AllByRecursion};
-ghost use Rattle.us_flows.specs.Clusters.{clusters_of};
 ghost use Rattle.us_replay.specs.Rounds as spec;
 ghost use Rattle.us_replay.specs.Seats.{credited};
 
