@@ -1,6 +1,6 @@
 #!/usr/bin/env python3
-"""Makes damaged configurations, each as a line for the tests of crates/us_flows: the answer of the plain reader, and
-the changes of the configuration BIG that stands in those tests.
+"""Prints damaged configurations as stored cases of mapsim, crates/mapsim/cases/config_damage.toml: each is the changes of
+the configuration all_types of those cases, and the answer of the plain reader.
 
 Damage is a number near some limit or from another place, a value of another kind, a key dropped, added or doubled,
 a list with an item more or less, two values swapped, or a table copied; up to four of these at once. No damage is a
@@ -17,9 +17,15 @@ from pathlib import Path
 
 from plain_reader import answer
 
-TESTS = Path(__file__).parent.parent / "crates/us_flows/src/tests/base.rt"
-MOST_COLUMNS = 120
-LONGEST_LINE = 2 * MOST_COLUMNS
+CONFIG = Path(__file__).parent.parent / "crates/mapsim/cases/configs/all_types.toml"
+HEAD = """\
+# What a plain second reader, written apart from the program, answers to random damage.
+# Of a run of no rounds, which is refused behind the configuration: an accepted one gives RU1, or RU7 where it isn't
+# served yet.
+
+case = [
+    # of configs/all_types.toml"""
+LONGEST_LINE = 240
 # numbers near which something is accepted no more: limits of keys, reserves, grants, jitter, and of whole numbers
 LIMITS = [1, 2, 4, 6, 7, 15, 16, 64, 100, 127, 160, 223, 253, 255, 256, 320, 640, 1_024, 3_600, 4_096, 10_000, 15_871]
 LIMITS += [20_000, 40_000, 65_535, 65_536, 10_000_000, 16_777_216, 1_000_000_000, 2**32, 2**63]
@@ -27,11 +33,6 @@ OTHER_KINDS = ["1.0", "'1'", "[1]", "{}", "true", "2000-01-01", "[[1]]", "[]"]
 KEYS = ["other", "priority", "start_us", "grant_bytes", "sid", "id", "max_minislots", "channel"]
 # a key of a table and its value: a list, or a word or number
 PAIR = re.compile(r"\b(\w+) = (\[.*\]|[\w.-]+)")
-
-
-def big():
-    """The configuration BIG of the tests."""
-    return re.search(r'BIG: &str = r#"(.*?)"#', TESTS.read_text(), re.DOTALL).group(1)
 
 
 def change(text, start, end, new):
@@ -129,34 +130,49 @@ def damaged(chance, text):
         for old, new in chance.choice(DAMAGES)(chance, text):
             if old != new:
                 text = text.replace(old, new, 1)
-                changes.append(f"{old} -> {new}".replace("\n", "~"))
-    return text, " ; ".join(changes)
+                changes.append((old, new))
+    return text, changes
 
 
-def wrapped(line):
-    """A line of the tests as lines of a Rust text, none of which is too long."""
-    rows = []
-    while len(line) > MOST_COLUMNS:
-        end = line.rfind(" ", 0, MOST_COLUMNS - 1) + 1
-        rows.append(line[:end] + "\\")
-        line = line[end:]
-    return "\n".join([*rows, line])
+def unique(text, old, new):
+    """The change of the first place that reads so, with words beside it until it is the only one."""
+    at = text.index(old)
+    start, end = at, at + len(old)
+    while text.count(text[start:end]) > 1:
+        if start > 0:
+            start = max(text.rfind(blank, 0, start - 1) for blank in " \n") + 1
+        else:
+            end = min((place for blank in " \n" if (place := text.find(blank, end + 1)) >= 0), default=len(text))
+    return text[start:end], text[start:at] + new + text[at + len(old) : end]
 
 
-def lines(seed, count):
+def case(number, found, changes):
+    """The stored case of some changes, of which the plain reader found this."""
+    text, alone = CONFIG.read_text(), []
+    for old, new in changes:
+        alone.append(list(unique(text, old, new)))
+        text = text.replace(old, new, 1)
+    last = changes[-1][1].strip().split("\n")[-1]
+    error = 'error_starts = "fault RU"' if found == "ok" else f"error = {json.dumps(f'fault {found}' + chr(10))}"
+    return (
+        f"    {{ name = {json.dumps(f'{number}: {last}')}, words = [\"pipe\", \"--rounds\", \"0\"], config = \"all_types\", "
+        f'change = {json.dumps(alone)}, trace = "", {error}, status = 3 }},'
+    )
+
+
+def cases(seed, count):
     """So many damaged configurations, of different answers."""
-    chance, base, counts, seen = random.Random(seed), big(), Counter(), set()
+    chance, base, counts, seen = random.Random(seed), CONFIG.read_text(), Counter(), set()
     while len(seen) < count:
         text, changes = damaged(chance, base)
         found = answer(text.encode())
         code = found.split(" ")[0]
-        line = f"{found} | {changes}"
-        if changes and counts[code] < count / 13 and len(line) <= LONGEST_LINE and changes not in seen:
+        line = f"{found} | " + " ; ".join(f"{old} -> {new}" for old, new in changes)
+        if changes and counts[code] < count / 13 and len(line) <= LONGEST_LINE and line not in seen:
             counts[code] += 1
-            seen.add(changes)
-            yield line
+            seen.add(line)
+            yield case(len(seen), found, changes)
 
 
 if __name__ == "__main__":
-    for damage in lines(int(sys.argv[1]), int(sys.argv[2])):
-        print(wrapped(damage))
+    print(HEAD, *cases(int(sys.argv[1]), int(sys.argv[2])), "]", sep="\n")

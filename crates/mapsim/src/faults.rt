@@ -11,7 +11,7 @@ use us_replay::RunFault;
 use us_requests::TraceFault;
 
 /// A file or stream of the program.
-#[derive(Clone, Copy, Debug, PartialEq, Eq, Hash)]
+#[derive(Clone, Copy)]
 pub enum Stream {
     /// The file of the configuration.
     Config,
@@ -28,7 +28,7 @@ pub enum Stream {
 }
 
 /// What ends the program early.
-#[derive(Debug, Drop)]
+#[derive(Drop)]
 pub enum Fault {
     /// The words are refused, for the reason that this text gives to the user. It has all its line feeds.
     Usage(String),

@@ -6,7 +6,7 @@ use std::fmt;
 use us_codec::{Element, Map};
 
 /// What is printed of an element of a MAP.
-#[derive(Clone, Copy, Debug)]
+#[derive(Clone, Copy)]
 pub struct ElementLine {
     /// The round of the MAP.
     pub round: u32,

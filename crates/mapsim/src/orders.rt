@@ -1,5 +1,5 @@
 /// What the words ask for.
-#[derive(Debug, Drop)]
+#[derive(Drop)]
 pub enum Order<'a> {
     /// A replay from files into files.
     Replay(FileReplay<'a>),
@@ -10,7 +10,7 @@ pub enum Order<'a> {
 }
 
 /// A replay from files into files.
-#[derive(Clone, Copy, Debug)]
+#[derive(Clone, Copy)]
 pub struct FileReplay<'a> {
     /// Path of the configuration.
     pub config: &'a str,

@@ -24,7 +24,7 @@ use us_slots::{FromRead, FromWrite, ReadFault, Sink, Source, read_all};
 const MAX_INPUT_BYTES: usize = 37_748_740;
 
 /// What a replay in memory wrote.
-#[derive(Debug, Drop)]
+#[derive(Drop)]
 struct Texts {
     /// The maps file.
     maps: Vec<u8>,

@@ -1,4 +1,4 @@
-ghost use Rattle.std.specs.Prelude.{◌≡◌, ◌≢◌, ◌⊎◌, ◌↔◌, ℕ, List, [], ◌∷◌, ◌++◌, true, false, Err, IfErr, OnOk};
+ghost use Rattle.std.specs.Prelude.{◌≡◌, ◌≢◌, ◌⊎◌, ◌↔◌, ℕ, List, [], ◌∷◌, ◌++◌, true, false, Err, IfOk, IfErr, OnOk};
 ghost use Rattle.std.specs.Io.KnownBytes.{Appends};
 ghost use Rattle.mapsim.specs.Inputs.{IsConfigFault, IsPrintFault};
 ghost use Rattle.mapsim.specs.SummaryLines.{IsSummaryOf, summary_line};
@@ -30,7 +30,21 @@ pub fn replay_files<R: Files, O: Sink>(
     ensures output { (O.failed output.new ≡ true) ↔ (result ≡ Err (fault.Device stream.Output)) }
 {
     let config = read_config(rt, alloc, order.config)?;
-    if !is_served(&config) {
+    let summary = replay_trace(rt, alloc, &config, order)?;
+    print_summary(alloc, summary, output)
+}
+
+/// Replays a trace from a file into files.
+fn replay_trace<R: Files>(
+    rt: &R,
+    alloc: Global,
+    config: &Config,
+    order: &FileReplay<'_>,
+) -> Result<Summary, Fault>
+    ensures summary { IfOk result (λ summary. IsSummaryOf order.now.rounds (summary_line summary ++ 10 ∷ [])) }
+    ensures fault { IfErr result (λ f. (f ≢ fault.Device stream.Input) × (f ≢ fault.Device stream.Output)) }
+{
+    if !is_served(config) {
         return Err(Fault::Run(RunFault::NotServed));
     }
     if !config.rounds_fit(order.rounds) {
@@ -41,13 +55,13 @@ pub fn replay_files<R: Files, O: Sink>(
     let mut report = FromWrite::new(opened(fs::create(rt, order.report), Stream::Report)?);
     let summary = replay(
         alloc,
-        &config,
+        config,
         &mut trace,
         order.rounds,
         &mut maps,
         &mut report,
     )?;
-    print_summary(alloc, summary, output)
+    Ok(summary)
 }
 
 /// Prints what a replay did.
@@ -66,9 +80,17 @@ fn print_summary<O: Sink>(alloc: Global, summary: Summary, output: &mut O) -> Re
 fn read_config<R: Files>(rt: &R, alloc: Global, path: &str) -> Result<Config, Fault>
     ensures { IfErr result IsConfigFault }
 {
+    let text = config_text(rt, alloc, path)?;
+    Ok(Config::read(alloc, &text)?)
+}
+
+/// The text of a configuration in a file.
+fn config_text<R: Files>(rt: &R, alloc: Global, path: &str) -> Result<Vec<u8>, Fault>
+    ensures { IfErr result IsConfigFault }
+{
     let mut file = FromRead::new(opened(fs::open(rt, path), Stream::Config)?);
     match read_all(alloc, &mut file, MAX_CONFIG_BYTES) {
-        Ok(text) => Ok(Config::read(alloc, &text)?),
+        Ok(text) => Ok(text),
         Err(ReadFault::TooLarge) => Err(Fault::Config(ConfigFault::Text)),
         Err(ReadFault::Failed) => Err(Fault::Device(Stream::Config)),
         Err(ReadFault::NoMemory) => Err(Fault::NoMemory),
@@ -87,7 +109,7 @@ fn opened<F>(answer: io::Result<F>, stream: Stream) -> Result<F, Fault>
 }
 
 /// What a replay did, as a line without its line feed.
-#[derive(Clone, Copy, Debug)]
+#[derive(Clone, Copy)]
 struct SummaryLine(Summary);
 
 impl fmt::Display for SummaryLine {

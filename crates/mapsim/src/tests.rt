@@ -1,11 +1,7 @@
-//! What no clause says: whole runs, each fault line at its place in the order, and devices that refuse.
+//! What no clause says and no stored case can show: devices that fail, faults that no run meets, and memory that is
+//! refused. What the program does as a whole stands in the stored cases, `cases`.
 
 mod base;
-mod files;
-mod inputs;
-mod limits;
 mod lines;
 mod memory;
-mod outputs;
-mod schedules;
-mod usage;
+mod runs;

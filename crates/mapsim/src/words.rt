@@ -63,18 +63,22 @@ fn matches_of<'a, S: AsStr>(alloc: Global, words: &'a [S]) -> Result<ArgMatches<
 /// What the words that were matched ask for.
 fn order_in<'a>(given: &ArgMatches<'a>) -> Option<Order<'a>> {
     let (name, options) = given.subcommand()?;
+    let rounds = options.get_one::<u32>("rounds")?;
     if name == "replay" {
-        return Some(Order::Replay(FileReplay {
-            config: options.get_str("config")?,
-            trace: options.get_str("trace")?,
-            rounds: options.get_one::<u32>("rounds")?,
-            maps: options.get_str("maps")?,
-            report: options.get_str("report")?,
-        }));
+        file_replay(options, rounds)
+    } else {
+        Some(Order::Pipe { rounds })
     }
-    Some(Order::Pipe {
-        rounds: options.get_one::<u32>("rounds")?,
-    })
+}
+
+fn file_replay<'a>(options: &ArgMatches<'a>, rounds: u32) -> Option<Order<'a>> {
+    Some(Order::Replay(FileReplay {
+        config: options.get_str("config")?,
+        trace: options.get_str("trace")?,
+        rounds,
+        maps: options.get_str("maps")?,
+        report: options.get_str("report")?,
+    }))
 }
 
 fn command<'a>(alloc: Global) -> Result<Command<'a>, AllocError> {

@@ -176,3 +176,31 @@ channel_ranges t whole ranged =
       maintenance_every = number_in_range channel_keys t (codes "maintenance_every") 1 65536 w r refl (λ d. refl);
       station_minislots = number_in_range channel_keys t (codes "station_minislots") 1 64 w r refl (λ d. refl);
     }
+
+-- so that they fit the types of their fields
+pub record ChannelWidths (t : Members) : Type 0 where
+  pub id : number_at (codes "id") t ≤ 255
+  pub ucd_count : number_at (codes "ucd_count") t ≤ 255
+  pub ranging : IsBackoff (pair_at (codes "ranging_backoff") t)
+  pub data_backoff : IsBackoff (pair_at (codes "data_backoff") t)
+  pub request_minislots : number_at (codes "request_minislots") t ≤ 255
+  pub contention_minislots : number_at (codes "contention_minislots") t ≤ 65535
+  pub maintenance_minislots : number_at (codes "maintenance_minislots") t ≤ 65535
+  pub maintenance_every : number_at (codes "maintenance_every") t ≤ 4294967295
+  pub station_minislots : number_at (codes "station_minislots") t ≤ 255
+
+widths : (t : Members) → ChannelRanges t → ChannelWidths t
+widths t ranges = record {
+  id = ranges.id.1;
+  ucd_count = ranges.ucd_count;
+  ranging = ranges.ranging;
+  data_backoff = ranges.data_backoff;
+  request_minislots = omega (arith, ranges.request_minislots.1);
+  contention_minislots = omega (arith, ranges.contention_minislots);
+  maintenance_minislots = omega (arith, ranges.maintenance_minislots);
+  maintenance_every = omega (arith, ranges.maintenance_every.1);
+  station_minislots = omega (arith, ranges.station_minislots.1);
+}
+
+pub channel_widths : (t : Members) → channel_lacks t ≡ false → channel_strays t ≡ false → ChannelWidths t
+channel_widths t whole ranged = widths t (channel_ranges t whole ranged)

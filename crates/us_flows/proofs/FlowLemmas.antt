@@ -30,6 +30,10 @@ pub first_number : (least most : ℕ) (values : List Value) (i : ℕ) (value d :
 first_number least most values i value d within is h =
     (number_between least most (view value) (next_item (is_number least most) values i value d within is h).0).1
 
+pub first_sid : (values : List Value) (i : ℕ) (value d : Value) → i < length values → value ≡ get_or values i d →
+    all_items (is_number 1 15871) (items_view (drop i values)) ≡ true → number_of (view value) ≤ 65535
+first_sid values i value d within is h = omega (arith, first_number 1 15871 values i value d within is h)
+
 pub numbers_within : (least most : ℕ) (d : Data) → is_number_list least most d ≡ true →
     all_items (is_number least most) (items_of d) ≡ true
 numbers_within least most (array ds) h = h
@@ -224,3 +228,34 @@ kind_ranges t UnsolicitedGrant w r = unsolicited_ranges t w r
 pub flow_ranges : (t : Members) → lacks (flow_keys (kind_at t)) t ≡ false → strays (flow_keys (kind_at t)) t ≡ false →
     FlowRanges t
 flow_ranges t w r = (kind_ranges t (kind_at t) w r).0
+
+-- so that they fit the types of their fields
+pub record FlowWidths (t : Members) : Type 0 where
+  pub id : number_at (codes "id") t ≤ 65535
+  pub priority : number_at (codes "priority") t ≤ 255
+  pub rate : number_at (codes "rate") t ≤ 4294967295
+  pub burst : number_at (codes "burst") t ≤ 4294967295
+  pub unit : number_at (codes "unit") t ≤ 255
+  pub start_us : number_at (codes "start_us") t ≤ 4294967295
+  pub interval_us : number_at (codes "interval_us") t ≤ 4294967295
+  pub jitter_us : number_at (codes "jitter_us") t ≤ 4294967295
+  pub grant_bytes : number_at (codes "grant_bytes") t ≤ 65535
+  pub grants : number_at (codes "grants_per_interval") t ≤ 255
+
+widths : (t : Members) → FlowRanges t → FlowWidths t
+widths t ranges = record {
+  id = ranges.id.1;
+  priority = omega (arith, ranges.priority);
+  rate = omega (arith, ranges.rate);
+  burst = omega (arith, ranges.burst);
+  unit = omega (arith, ranges.unit);
+  start_us = omega (arith, ranges.start_us);
+  interval_us = omega (arith, ranges.interval_us);
+  jitter_us = omega (arith, ranges.jitter_us);
+  grant_bytes = ranges.grant_bytes;
+  grants = omega (arith, ranges.grants);
+}
+
+pub flow_widths : (t : Members) → lacks (flow_keys (kind_at t)) t ≡ false → strays (flow_keys (kind_at t)) t ≡ false →
+    FlowWidths t
+flow_widths t w r = widths t (flow_ranges t w r)

@@ -3,7 +3,7 @@ use Rattle.std.proofs.Common.{◌≡◌, ℕ, ◌+◌, ◌≤◌, ◌<◌, List,
 use Rattle.std.specs.Prelude.{Err}
 use Rattle.std.proofs.lemmas.Bool.{cases_Bool}
 use Rattle.std.proofs.lemmas.List.{drop_more, length-append}
-use Rattle.toml.specs.Data.{Data, string, integer, float, boolean, datetime, array, table, as_table, Members, Items, item}
+use Rattle.toml.specs.Data.{Data, string, integer, float, boolean, datetime, array, table, as_table, Members, Items, no_items, item}
 use Rattle.toml.specs.declared.value.Value.{Value}
 use Rattle.toml.specs.View.{view, items_view}
 use Rattle.us_flows.specs.declared.channels.Channel.{Channel}
@@ -12,10 +12,10 @@ use Rattle.us_flows.specs.declared.faults.TableName.TheVariants as name
 use Rattle.us_flows.specs.declared.faults.ConfigFault.{ConfigFault}
 use Rattle.us_flows.specs.declared.faults.ConfigFault.TheVariants as fault
 use Rattle.us_flows.specs.Tables.{FlowTable}
-use Rattle.us_flows.specs.Documents.{lists_of, items_at}
+use Rattle.us_flows.specs.Documents.{items_at}
 use Rattle.us_flows.specs.Shapes.{count}
 use Rattle.us_flows.specs.Reading.{flow_of, all_of}
-use Rattle.us_flows.specs.Checks.{Check, first_of, or_else, top, in_turn, flows_fault, flow_place, flow_shape, flow_names, flow_grants, flow_fault}
+use Rattle.us_flows.specs.Checks.{Check, first_of, or_else, top, in_turn, flow_place, flow_shape, flow_names, flow_grants, flow_fault}
 use Rattle.us_flows.specs.Answers.{Judged}
 use Rattle.us_flows.proofs.CheckLemmas.{none_finds}
 use Rattle.us_flows.proofs.ShapeLemmas.{length-lists_of}
@@ -30,14 +30,14 @@ abbrev pub AreJudged : List Check → Type 0
 AreJudged [] = Unit {0}
 AreJudged (check ∷ checks) = IsJudged check.1 × AreJudged checks
 
-first_judged : (checks : List Check) (f : ConfigFault) → AreJudged checks → first_of checks ≡ Some f → IsJudged f
+pub first_judged : (checks : List Check) (f : ConfigFault) → AreJudged checks → first_of checks ≡ Some f → IsJudged f
 first_judged [] f all h = let no : None ≡ Some f = h in cc
 first_judged (check ∷ checks) f all h = elim (cases_Bool check.0) [
   | inl t ↦ let here : Some check.1 ≡ Some f = rw t at h in let same : check.1 ≡ f = cc in rw (← same) all.0
   | inr later ↦ first_judged checks f all.1 (rw later at h)
 ]
 
-judged : {A : Type 0} (f : ConfigFault) (first : Option ConfigFault) (Is : A → Type 0) → IsJudged f → first ≡ Some f →
+pub judged : {A : Type 0} (f : ConfigFault) (first : Option ConfigFault) (Is : A → Type 0) → IsJudged f → first ≡ Some f →
     Judged (Err f) first Is
 judged fault.Text first Is is h = absurd is
 judged (fault.Missing place) first Is is h = h
@@ -54,7 +54,7 @@ judged (fault.Headers place) first Is is h = h
 judged fault.NoMemory first Is is h = tt
 
 -- the fault of a part is that of the whole
-carried : {A B : Type 0} (f : ConfigFault) (part whole : Option ConfigFault) (Is : A → Type 0) (Are : B → Type 0) →
+pub carried : {A B : Type 0} (f : ConfigFault) (part whole : Option ConfigFault) (Is : A → Type 0) (Are : B → Type 0) →
     (part ≡ Some f → whole ≡ Some f) → Judged (Err f) part Is → Judged (Err f) whole Are
 carried fault.Text part whole Is Are on h = absurd h
 carried (fault.Missing place) part whole Is Are on h = on h
@@ -136,60 +136,76 @@ is_table (boolean b) t h = let no : Some t ≡ None = h in cc
 is_table (datetime x) t h = let no : Some t ≡ None = h in cc
 is_table (array ds) t h = let no : Some t ≡ None = h in cc
 
-no_table : {A : Type 0} (of : Members → A) (fault_of : List A → Members → Option ConfigFault) (earlier : List A) (d : Data) (rest : Items) →
-    None ≡ as_table d → in_turn of fault_of earlier (item d rest) ≡ Some (fault.Range top)
-no_table of fault_of earlier (table ms) rest h = let no : None ≡ Some ms = h in cc
-no_table of fault_of earlier (string s) rest h = refl
-no_table of fault_of earlier (integer z) rest h = refl
-no_table of fault_of earlier (float x) rest h = refl
-no_table of fault_of earlier (boolean b) rest h = refl
-no_table of fault_of earlier (datetime x) rest h = refl
-no_table of fault_of earlier (array ds) rest h = refl
+-- the next item alone, and the tables so far with it
+module _ {A : Type 0} (of : Members → A) (fault_of : List A → Members → Option ConfigFault) where
+  pub no_table : (earlier : List A) (d : Data) → None ≡ as_table d →
+      in_turn of fault_of earlier (item d no_items) ≡ Some (fault.Range top)
+  no_table earlier (table ms) h = let no : None ≡ Some ms = h in cc
+  no_table earlier (string s) h = refl
+  no_table earlier (integer z) h = refl
+  no_table earlier (float x) h = refl
+  no_table earlier (boolean b) h = refl
+  no_table earlier (datetime x) h = refl
+  no_table earlier (array ds) h = refl
 
-module _ (round : ℕ) (channels : List Channel) (values : List Value) (flows : List FlowTable) (i : ℕ) (value d : Value)
-    (within : i < length values) (is : value ≡ get_or values i d)
-    (left : in_turn flow_of (flow_fault round channels) flows (items_view (drop i values)) ≡ flows_fault round channels (items_view values)) where
-  -- an item that is no table
-  pub refused_item : None ≡ as_table (view value) → flows_fault round channels (items_view values) ≡ Some (fault.Range top)
-  refused_item none =
-      sym left ∙ ap (in_turn flow_of (flow_fault round channels) flows) (next_data values i value d within is) ∙
-      no_table flow_of (flow_fault round channels) flows (view value) (items_view (drop (i + 1) values)) none
+  pub refused_table : {B : Type 0} (earlier : List A) (d : Data) (t : Members) (f : ConfigFault) (Is : A → Type 0) (Are : B → Type 0) →
+      Some t ≡ as_table d → Judged (Err f) (fault_of earlier t) Is →
+      Judged (Err f) (in_turn of fault_of earlier (item d no_items)) Are
+  refused_table earlier d t f Is Are some h =
+      carried f (fault_of earlier t) (in_turn of fault_of earlier (item d no_items)) Is Are
+      (λ found. rw (is_table d t some, found) refl) h
 
-  -- what is found of all items, where the next is a table
-  at_table : (t : Members) → Some t ≡ as_table (view value) →
-      or_else (flow_fault round channels flows t)
-      (in_turn flow_of (flow_fault round channels) (flows ++ flow_of t ∷ []) (items_view (drop (i + 1) values)))
-      ≡ flows_fault round channels (items_view values)
-  at_table t some =
-      let here : items_view (drop i values) ≡ item (table t) (items_view (drop (i + 1) values)) =
-      next_data values i value d within is ∙ ap (λ x. item x (items_view (drop (i + 1) values))) (is_table (view value) t some) in
-      sym (ap (in_turn flow_of (flow_fault round channels) flows) here) ∙ left
+  pub accepted_table : (earlier : List A) (d : Data) (t : Members) (a : A) → Some t ≡ as_table d →
+      fault_of earlier t ≡ None → a ≡ of t →
+      (in_turn of fault_of earlier (item d no_items) ≡ None) × (earlier ++ a ∷ [] ≡ earlier ++ all_of of (item d no_items))
+  accepted_table earlier d t a some none is = (rw (is_table d t some, none) refl, rw (is_table d t some, is) refl)
 
-  -- a flow that is refused
-  pub refused_flow : (t : Members) (f : ConfigFault) (Is : List FlowTable → Type 0) → Some t ≡ as_table (view value) →
-      Judged (Err f) (flow_fault round channels flows t) (λ flow. flow ≡ flow_of t) →
-      Judged (Err f) (flows_fault round channels (items_view values)) Is
-  refused_flow t f Is some h =
-      carried f (flow_fault round channels flows t) (flows_fault round channels (items_view values))
-      (λ flow. flow ≡ flow_of t) Is (λ found. sym (at_table t some) ∙ rw found refl) h
+  or_none : (first later : Option ConfigFault) → or_else first later ≡ or_else (or_else first None) later
+  or_none None later = refl
+  or_none (Some f) later = refl
 
-  -- a flow that is accepted
-  pub accepted_flow : (t : Members) (flow : FlowTable) (more : List FlowTable) → Some t ≡ as_table (view value) →
-      flow_fault round channels flows t ≡ None → flow ≡ flow_of t → more ≡ flows ++ flow ∷ [] →
-      flows ++ all_of flow_of (items_view (drop i values)) ≡ all_of flow_of (items_view values) → length flows ≡ i →
-      (in_turn flow_of (flow_fault round channels) more (items_view (drop (i + 1) values)) ≡ flows_fault round channels (items_view values)) ×
-      (more ++ all_of flow_of (items_view (drop (i + 1) values)) ≡ all_of flow_of (items_view values)) ×
-      (length more ≡ i + 1)
-  accepted_flow t flow more some none same all read count =
-      let added : more ≡ flows ++ flow_of t ∷ [] = all ∙ ap (λ f. flows ++ f ∷ []) same in
-      let here : items_view (drop i values) ≡ item (table t) (items_view (drop (i + 1) values)) =
-      next_data values i value d within is ∙ ap (λ x. item x (items_view (drop (i + 1) values))) (is_table (view value) t some) in
-      let found = rw none at (at_table t some) in
-      let lists : flows ++ flow_of t ∷ all_of flow_of (items_view (drop (i + 1) values)) ≡ all_of flow_of (items_view values) =
-      sym (ap (λ x. flows ++ all_of flow_of x) here) ∙ read in
-      let size = length-append flows (flow_of t ∷ []) in (
-        ap (λ fs. in_turn flow_of (flow_fault round channels) fs (items_view (drop (i + 1) values))) added ∙ found,
-        ap (λ fs. fs ++ all_of flow_of (items_view (drop (i + 1) values))) added ∙
-            append_assoc flows (flow_of t ∷ []) (all_of flow_of (items_view (drop (i + 1) values))) ∙ lists,
-        omega (arith, size, count, ap length added),
-      )
+  parted : (earlier : List A) (d : Data) (rest : Items) → in_turn of fault_of earlier (item d rest) ≡
+      or_else (in_turn of fault_of earlier (item d no_items))
+      (in_turn of fault_of (earlier ++ all_of of (item d no_items)) rest)
+  parted earlier (table ms) rest = or_none (fault_of earlier ms) (in_turn of fault_of (earlier ++ of ms ∷ []) rest)
+  parted earlier (string s) rest = refl
+  parted earlier (integer z) rest = refl
+  parted earlier (float x) rest = refl
+  parted earlier (boolean b) rest = refl
+  parted earlier (datetime x) rest = refl
+  parted earlier (array ds) rest = refl
+
+  -- of a list of values the next is judged, where this is left of what is found of all of them
+  module _ (values : List Value) (earlier : List A) (i : ℕ) (value d : Value)
+      (within : i < length values) (is : value ≡ get_or values i d)
+      (left : in_turn of fault_of earlier (items_view (drop i values)) ≡ in_turn of fault_of [] (items_view values)) where
+    found_next : or_else (in_turn of fault_of earlier (item (view value) no_items))
+        (in_turn of fault_of (earlier ++ all_of of (item (view value) no_items)) (items_view (drop (i + 1) values)))
+        ≡ in_turn of fault_of [] (items_view values)
+    found_next =
+        sym (parted earlier (view value) (items_view (drop (i + 1) values))) ∙
+        sym (ap (in_turn of fault_of earlier) (next_data values i value d within is)) ∙ left
+
+    pub refused_item : {B C : Type 0} (f : ConfigFault) (Is : B → Type 0) (Are : C → Type 0) →
+        Judged (Err f) (in_turn of fault_of earlier (item (view value) no_items)) Is →
+        Judged (Err f) (in_turn of fault_of [] (items_view values)) Are
+    refused_item f Is Are h =
+        carried f (in_turn of fault_of earlier (item (view value) no_items)) (in_turn of fault_of [] (items_view values)) Is Are
+        (λ found. sym found_next ∙ rw found refl) h
+
+    pub accepted_item : (more : List A) → in_turn of fault_of earlier (item (view value) no_items) ≡ None →
+        more ≡ earlier ++ all_of of (item (view value) no_items) →
+        earlier ++ all_of of (items_view (drop i values)) ≡ all_of of (items_view values) → length earlier ≡ i →
+        (in_turn of fault_of more (items_view (drop (i + 1) values)) ≡ in_turn of fault_of [] (items_view values)) ×
+        (more ++ all_of of (items_view (drop (i + 1) values)) ≡ all_of of (items_view values)) ×
+        (length more ≡ i + 1)
+    accepted_item more none all read count =
+        let one : List A = all_of of (item (view value) no_items) in
+        let rest : Items = items_view (drop (i + 1) values) in
+        let found = rw none at found_next in
+        let lists : earlier ++ all_of of (item (view value) rest) ≡ all_of of (items_view values) =
+        sym (ap (λ items. earlier ++ all_of of items) (next_data values i value d within is)) ∙ read in (
+          rw all found,
+          ap (λ others. others ++ all_of of rest) all ∙ append_assoc earlier one (all_of of rest) ∙ lists,
+          omega (arith, length-append earlier one, count, ap length all),
+        )

@@ -1,12 +1,14 @@
 -- A document without a fault writes lawful tables.
-use Rattle.std.proofs.Common.{◌≡◌, ℕ, zero, suc, ◌+◌, ◌*◌, ◌/◌, ◌%◌, ◌≤◌, ◌==◌, nat_eq, nat_lt, nat_le, Bool, true, false, not, ◌&&◌, List, [], ◌∷◌, ◌++◌, length, map, flat_map, codes, Option, Some, None, append_assoc, refl, sym, subst, ◌∙◌, ap, arith, inl, inr}
-use Rattle.std.specs.Prelude.{is_some, option_and_then, slice_get}
+use Rattle.std.proofs.Common.{◌≡◌, ℕ, zero, suc, ◌+◌, ◌*◌, ◌/◌, ◌%◌, ◌^◌, ◌<◌, ◌≤◌, ◌==◌, nat_eq, nat_lt, nat_le, Bool, true, false, not, ◌&&◌, List, [], ◌∷◌, ◌++◌, length, map, flat_map, codes, Option, Some, None, append_assoc, refl, sym, subst, ◌∙◌, ap, arith, inl, inr}
+use Rattle.std.specs.Prelude.{Err, is_some, option_and_then, slice_get}
 use Rattle.std.specs.List.{AllByRecursion, list_all, list_any}
 use Rattle.std.proofs.lemmas.Bool.{cases_Bool, and_parts, or_parts, eqb-true, ltb-false, leb-false, not-false, false≢true}
 use Rattle.std.proofs.Math.Nat.{div-le_self}
 use Rattle.std.proofs.lemmas.Nat.{div-add-mod'}
 use Rattle.std.proofs.lemmas.List.{append-nil}
 use Rattle.toml.specs.Data.{Data, string, integer, float, boolean, datetime, array, table, Items, no_items, item, Members, get_member}
+use Rattle.toml.specs.declared.value.Value.{Value}
+use Rattle.toml.specs.View.{items_view}
 use Rattle.us_slots.specs.Times.{minislot_ticks}
 use Rattle.us_flows.specs.declared.channels.Channel.{Channel}
 use Rattle.us_flows.specs.declared.stations.Station.{Station}
@@ -22,7 +24,10 @@ use Rattle.us_flows.specs.Lawful.{Between, AreApart, Fits, IsSchedule, IsChannel
 use Rattle.us_flows.specs.Documents.{number_at, flag_at, numbers_of, lists_of, items_of, items_at, read_or}
 use Rattle.us_flows.specs.Shapes.{is_number, is_number_list, is_list, is_table, count, all_items, allows, lacks, strays}
 use Rattle.us_flows.specs.Checks.{first_of, or_else, top_checks, channel_shape, channel_rules, channel_fault, repeats, same_sid, is_taken, has_flow, flow_place, flow_shape, flow_names, grant_slots, is_too_long, flow_grants, flow_fault, station_shape, station_rules, station_fault, in_turn, channels_fault, flows_fault, stations_fault, first_fault}
-use Rattle.us_flows.specs.Reading.{channel_of, kind_at, flow_of, station_of, all_of, round_of, channels_of, tables_of}
+use Rattle.us_flows.specs.Reading.{channel_of, kind_at, flow_of, station_of, all_of, round_of, channels_of, flows_of, stations_of, tables_of}
+use Rattle.us_flows.specs.Answers.{Judged}
+use Rattle.us_flows.proofs.DocumentLemmas.{count_view}
+use Rattle.us_flows.proofs.JudgedLemmas.{judged, first_judged}
 use Rattle.us_flows.proofs.CheckLemmas.{or_else_none, none_finds}
 use Rattle.us_flows.proofs.ApartLemmas.{keys_apart, ids_apart, sids_apart}
 use Rattle.us_flows.proofs.ShapeLemmas.{length-numbers_of, length-lists_of, found_allowed, number_in_range, number_between}
@@ -386,26 +391,77 @@ tables_are doc h =
       sids_apart = flows_apart.1;
     }
 
--- the same, of the lists as they are read one after another
-pub accepted : (doc : Members) (round lead : ℕ) (channels : List Channel) (flows : List FlowTable) (stations : List Station)
-    (channel_items flow_items station_items : Items) →
-    first_of (top_checks doc) ≡ None → round ≡ round_of doc → lead ≡ number_at (codes "lead_ticks") doc →
-    channel_items ≡ items_at (codes "channel") doc → flow_items ≡ items_at (codes "flow") doc →
-    station_items ≡ items_at (codes "station") doc →
-    channels_fault round channel_items ≡ None → channels ≡ all_of channel_of channel_items →
-    flows_fault round channels flow_items ≡ None → flows ≡ all_of flow_of flow_items →
-    stations_fault round channels station_items ≡ None → stations ≡ all_of station_of station_items →
-    let t : Tables = record { round_ticks = round; lead_ticks = lead; channels = channels; flows = flows; stations = stations } in
-    AreTables t
+-- The lists as they are read one after another.
+
+-- what is read of the top level fits
+pub round_fits : (doc : Members) → first_of (top_checks doc) ≡ None → number_at (codes "round_ticks") doc ≤ 4294967295
+round_fits doc top = let ranges = top_is doc top in omega (arith, ranges.round_ticks.1)
+
+pub lead_fits : (doc : Members) → first_of (top_checks doc) ≡ None → number_at (codes "lead_ticks") doc ≤ 4294967295
+lead_fits doc top = let ranges = top_is doc top in omega (arith, ranges.lead_ticks.1)
+
+pub few_channels : (doc : Members) (values : List Value) → first_of (top_checks doc) ≡ None →
+    items_view values ≡ items_at (codes "channel") doc → length values < 2 ^ 32
+few_channels doc values top are =
+    let ranges = top_is doc top in
+    omega (arith, count_view values, ap count are, ranges.channels.1)
+
+pub few_flows : (doc : Members) (values : List Value) → first_of (top_checks doc) ≡ None →
+    items_view values ≡ items_at (codes "flow") doc → length values ≤ 1024
+few_flows doc values top are =
+    let ranges = top_is doc top in
+    omega (arith, count_view values, ap count are, ranges.flows)
+
+pub few_stations : (doc : Members) (values : List Value) → first_of (top_checks doc) ≡ None →
+    items_view values ≡ items_at (codes "station") doc → length values < 2 ^ 32
+few_stations doc values top are =
+    let ranges = top_is doc top in
+    omega (arith, count_view values, ap count are, ranges.stations)
+
+-- the first fault of the top level is that of the document
+pub top_judged : (doc : Members) (f : ConfigFault) (Is : Tables → Type 0) → first_of (top_checks doc) ≡ Some f →
+    Judged (Err f) (first_fault doc) Is
 unfolding first_fault
-accepted doc round lead channels flows stations channel_items flow_items station_items top round_is lead_is channels_at
-    flows_at stations_at no_channel channels_are no_flow flows_are no_station stations_are =
-    let read : channels ≡ channels_of doc = channels_are ∙ ap (all_of channel_of) channels_at in
-    let none : first_fault doc ≡ None = rw (
-      top,
-      rw (round_is, channels_at) at no_channel,
-      rw (round_is, read, flows_at) at no_flow,
-      rw (round_is, read, stations_at) at no_station,
-    ) refl in
-    let are = tables_are doc none in
-    rw (round_is, lead_is, read, flows_are, flows_at, stations_are, stations_at) are
+top_judged doc f Is found =
+    judged f (first_fault doc) Is (first_judged (top_checks doc) f (tt, (tt, tt)) found) (rw found refl)
+
+-- the first fault of the channels is that of the document
+pub found_in_channels : (doc : Members) (round : ℕ) (f : ConfigFault) → first_of (top_checks doc) ≡ None →
+    round ≡ round_of doc → channels_fault round (items_at (codes "channel") doc) ≡ Some f → first_fault doc ≡ Some f
+unfolding first_fault
+found_in_channels doc round f top round_is found = rw (top, rw round_is at found) refl
+
+-- the fault of the flows and the stations
+abbrev pub rest_fault : Members → ℕ → List Channel → Option ConfigFault
+rest_fault doc round channels =
+    or_else (flows_fault round channels (items_at (codes "flow") doc))
+    (stations_fault round channels (items_at (codes "station") doc))
+
+pub found_in_flows : (doc : Members) (round : ℕ) (channels : List Channel) (items : Items) (f : ConfigFault) →
+    items ≡ items_at (codes "flow") doc → flows_fault round channels items ≡ Some f →
+    rest_fault doc round channels ≡ Some f
+found_in_flows doc round channels items f are found = rw (rw are at found) refl
+
+pub found_in_stations : (doc : Members) (round : ℕ) (channels : List Channel) (flow_items items : Items) (first : Option ConfigFault) →
+    flow_items ≡ items_at (codes "flow") doc → flows_fault round channels flow_items ≡ None →
+    items ≡ items_at (codes "station") doc → stations_fault round channels items ≡ first →
+    rest_fault doc round channels ≡ first
+found_in_stations doc round channels flow_items items first flows_are none are found =
+    rw (rw flows_are at none, rw are at found) refl
+
+-- and theirs, where the channels have none
+pub found_in_rest : (doc : Members) (round : ℕ) (channels : List Channel) → first_of (top_checks doc) ≡ None →
+    round ≡ round_of doc → channels_fault round (items_at (codes "channel") doc) ≡ None → channels ≡ channels_of doc →
+    first_fault doc ≡ rest_fault doc round channels
+unfolding first_fault
+found_in_rest doc round channels top round_is no_channel channels_are =
+    rw (top, rw round_is at no_channel, round_is, channels_are) refl
+
+-- without a fault they are lawful
+pub accepted : (doc : Members) (round lead : ℕ) (channels : List Channel) (flows : List FlowTable) (stations : List Station) →
+    first_fault doc ≡ None → round ≡ round_of doc → lead ≡ number_at (codes "lead_ticks") doc →
+    channels ≡ channels_of doc → flows ≡ flows_of doc → stations ≡ stations_of doc →
+    let t : Tables = record { round_ticks = round; lead_ticks = lead; channels = channels; flows = flows; stations = stations } in
+    AreTables t × (t ≡ tables_of doc)
+accepted doc round lead channels flows stations none round_is lead_is channels_are flows_are stations_are =
+    rw (round_is, lead_is, channels_are, flows_are, stations_are) (tables_are doc none, refl)

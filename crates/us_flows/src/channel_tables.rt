@@ -1,17 +1,21 @@
-ghost use Rattle.std.specs.Prelude.{◌≡◌, ◌+◌, ◌*◌, ◌<◌, ◌^◌, nat_lt, codes, length, Some, SomeIff, IfOk, IfErr, IfNone, false};
+ghost use Rattle.std.specs.Prelude.{◌≡◌, ◌+◌, ◌*◌, ◌<◌, ◌≤◌, ◌++◌, ◌^◌, nat_lt, codes, length, Some, SomeIff, IfOk, IfErr, IfNone, false};
+ghost use Rattle.toml.specs.Data.{item, no_items};
 ghost use Rattle.toml.specs.View.{view, table_view, items_view};
 ghost use Rattle.us_slots.specs.Times.{IsTiming};
 ghost use Rattle.us_slots.specs.Bursts.{IsBurstProfile, IsChannelBursts};
 ghost use Rattle.us_flows.specs.Tables.{has_channel};
+ghost use Rattle.us_flows.specs.Lawful.{IsBackoff};
 ghost use Rattle.us_flows.specs.Keys.{keys_of};
 ghost use Rattle.us_flows.specs.Documents;
 ghost use Rattle.us_flows.specs.Checks;
-ghost use Rattle.us_flows.specs.Checks.{first_of, channel_shape, channel_rules, channel_fault, channels_fault};
+ghost use Rattle.us_flows.specs.Checks.{first_of, channel_shape, channel_rules, channel_fault, channels_fault, in_turn};
 ghost use Rattle.us_flows.specs.Reading;
 ghost use Rattle.us_flows.specs.Answers.{Judged};
 
 use crate::channels::Channel;
-use crate::documents::{flag_at, items_at, number_at, number_in, table_at, value_at};
+use crate::documents::{
+    flag_at, items_at, number_at, number_in, table_at, u8_at, u16_at, u32_at, value_at,
+};
 use crate::faults::{ConfigFault, Place, TOP, TableName};
 use crate::keys::{Key, channel_keys, profile_keys, short_keys};
 use crate::limits::is_too_long;
@@ -36,13 +40,25 @@ pub(crate) fn channels_of(
 {
     let mut channels = Channels::new(alloc);
     for value in items {
-        let channel = match value.as_table() {
-            Some(table) => channel_in(round_ticks, &channels, table)?,
-            None => return Err(ConfigFault::Range(TOP)),
-        };
-        channels.push(channel)?;
+        push_channel(round_ticks, &mut channels, value)?;
     }
     Ok(channels)
+}
+
+/// Puts the channel of a value behind these others, or answers its first fault.
+fn push_channel(round_ticks: u32, channels: &mut Channels, value: &Value) -> Result<(), ConfigFault>
+    requires { length channels.old < 2 ^ 32 }
+    ensures { Judged result (in_turn Reading.channel_of (channel_fault round_ticks) channels.old
+        (item (view value.now) no_items))
+        (λ _. channels.new ≡ channels.old ++ Reading.all_of Reading.channel_of (item (view value.now) no_items)) }
+{
+    match value.as_table() {
+        Some(table) => {
+            let channel = channel_in(round_ticks, channels, table)?;
+            Ok(channels.push(channel)?)
+        }
+        None => Err(ConfigFault::Range(TOP)),
+    }
 }
 
 /// The channel of a table that stands behind these others, or its first fault.
@@ -136,7 +152,6 @@ fn strays_within(keys: &[Key], channel: &Table, key: &str) -> bool
 }
 
 /// The channel of a table whose shape has no fault.
-#[tactic(auto, using(crate::proofs::ChannelLemmas::channel_ranges))]
 fn channel_of(table: &Table) -> Channel
     requires whole { Checks.channel_lacks (table_view table.now) ≡ false }
     requires ranged { Checks.channel_strays (table_view table.now) ≡ false }
@@ -146,23 +161,36 @@ fn channel_of(table: &Table) -> Channel
         Some(bursts) => bursts,
         None => unreachable!(),
     };
-    let ranging = items_at(table, "ranging_backoff");
-    let data_backoff = items_at(table, "data_backoff");
+    let id = u8_at(table, "id");
+    let ucd_count = u8_at(table, "ucd_count");
+    let ranging_backoff = backoff_at(table, "ranging_backoff");
+    let data_backoff = backoff_at(table, "data_backoff");
+    let request_minislots = u8_at(table, "request_minislots");
+    let contention_minislots = u16_at(table, "contention_minislots");
+    let maintenance_minislots = u16_at(table, "maintenance_minislots");
+    let maintenance_every = u32_at(table, "maintenance_every");
+    let station_minislots = u8_at(table, "station_minislots");
     Channel {
-        id: number_at(table, "id") as u8,
+        id,
         bursts,
-        ucd_count: number_at(table, "ucd_count") as u8,
-        ranging_backoff: [number_in(ranging, 0) as u8, number_in(ranging, 1) as u8],
-        data_backoff: [
-            number_in(data_backoff, 0) as u8,
-            number_in(data_backoff, 1) as u8,
-        ],
-        request_minislots: number_at(table, "request_minislots") as u8,
-        contention_minislots: number_at(table, "contention_minislots") as u16,
-        maintenance_minislots: number_at(table, "maintenance_minislots") as u16,
-        maintenance_every: number_at(table, "maintenance_every") as u32,
-        station_minislots: number_at(table, "station_minislots") as u8,
+        ucd_count,
+        ranging_backoff,
+        data_backoff,
+        request_minislots,
+        contention_minislots,
+        maintenance_minislots,
+        maintenance_every,
+        station_minislots,
     }
+}
+
+/// The two exponents of a key's list.
+fn backoff_at(table: &Table, key: &str) -> [u8; 2]
+    requires { IsBackoff (Documents.pair_at key.now (table_view table.now)) }
+    ensures { result ≡ Documents.pair_at key.now (table_view table.now) }
+{
+    let items = items_at(table, key);
+    [number_in(items, 0) as u8, number_in(items, 1) as u8]
 }
 
 /// The time and the profiles of a channel, `None` out of range.
@@ -171,12 +199,31 @@ fn bursts_of(channel: &Table) -> Option<BurstSet>
         (Reading.bursts_of (table_view channel.now)) }
 {
     let time = time_of(channel)?;
-    let long = profile_of(table_at(channel, "long")?)?;
-    let short_table = table_at(channel, "short")?;
-    let short = profile_of(short_table)?;
-    let short_max = u16::try_from(number_at(short_table, "max_minislots")).ok()?;
-    let unsolicited = profile_of(table_at(channel, "unsolicited")?)?;
+    let long = profile_at(channel, "long")?;
+    let short = profile_at(channel, "short")?;
+    let short_max = short_max_of(channel)?;
+    let unsolicited = profile_at(channel, "unsolicited")?;
     BurstSet::new(time, long, short, short_max, unsolicited)
+}
+
+/// The burst profile of a key, `None` out of range.
+fn profile_at(channel: &Table, key: &str) -> Option<Profile>
+    ensures { SomeIff result (IsBurstProfile (Reading.profile_of (Documents.table_at key.now (table_view channel.now))))
+        (Reading.profile_of (Documents.table_at key.now (table_view channel.now))) }
+{
+    profile_of(table_at(channel, key)?)
+}
+
+/// The most minislots of a short data grant, `None` past 16 bits.
+fn short_max_of(channel: &Table) -> Option<u16>
+    ensures { SomeIff result (Documents.number_at (codes "max_minislots")
+        (Documents.table_at (codes "short") (table_view channel.now)) ≤ 65535)
+        (Documents.number_at (codes "max_minislots") (Documents.table_at (codes "short") (table_view channel.now))) }
+{
+    match table_at(channel, "short") {
+        Some(short) => u16::try_from(number_at(short, "max_minislots")).ok(),
+        None => Some(0),
+    }
 }
 
 /// The time of a channel, `None` out of range.

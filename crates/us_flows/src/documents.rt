@@ -1,4 +1,4 @@
-ghost use Rattle.std.specs.Prelude.{◌≡◌, option_map, IfSome, IfNone};
+ghost use Rattle.std.specs.Prelude.{◌≡◌, ◌≤◌, option_map, IfSome, IfNone};
 ghost use Rattle.toml.specs.Data.{get_member, no_members};
 ghost use Rattle.toml.specs.View.{view, table_view, items_view};
 ghost use Rattle.us_flows.specs.Documents;
@@ -13,13 +13,29 @@ pub(crate) fn value_at<'a>(table: &'a Table, key: &str) -> Option<&'a Value>
 }
 
 /// A whole number from 0 on; 0 for all other values.
-pub(crate) fn number_of(value: &Value) -> u64
+fn number_of(value: &Value) -> u64
     ensures { result ≡ Documents.number_of (view value.now) }
 {
     match value.as_integer() {
         Some(number) => u64::try_from(number).unwrap_or(0),
         None => 0,
     }
+}
+
+/// A whole number, known to fit.
+pub(crate) fn u8_of(value: &Value) -> u8
+    requires { Documents.number_of (view value.now) ≤ 255 }
+    ensures { result ≡ Documents.number_of (view value.now) }
+{
+    number_of(value) as u8
+}
+
+/// A whole number, known to fit.
+pub(crate) fn u16_of(value: &Value) -> u16
+    requires { Documents.number_of (view value.now) ≤ 65535 }
+    ensures { result ≡ Documents.number_of (view value.now) }
+{
+    number_of(value) as u16
 }
 
 /// The items of a list; none for all other values.
@@ -40,6 +56,30 @@ pub(crate) fn number_at(table: &Table, key: &str) -> u64
         Some(value) => number_of(value),
         None => 0,
     }
+}
+
+/// The number of a key, known to fit.
+pub(crate) fn u8_at(table: &Table, key: &str) -> u8
+    requires { Documents.number_at key.now (table_view table.now) ≤ 255 }
+    ensures { result ≡ Documents.number_at key.now (table_view table.now) }
+{
+    number_at(table, key) as u8
+}
+
+/// The number of a key, known to fit.
+pub(crate) fn u16_at(table: &Table, key: &str) -> u16
+    requires { Documents.number_at key.now (table_view table.now) ≤ 65535 }
+    ensures { result ≡ Documents.number_at key.now (table_view table.now) }
+{
+    number_at(table, key) as u16
+}
+
+/// The number of a key, known to fit.
+pub(crate) fn u32_at(table: &Table, key: &str) -> u32
+    requires { Documents.number_at key.now (table_view table.now) ≤ 4294967295 }
+    ensures { result ≡ Documents.number_at key.now (table_view table.now) }
+{
+    number_at(table, key) as u32
 }
 
 /// The truth of a key.

@@ -3,7 +3,7 @@ use std::fmt;
 use thiserror::Error;
 
 /// A kind of table of the configuration.
-#[derive(Clone, Copy, Debug, PartialEq, Eq, Hash)]
+#[derive(Clone, Copy, Debug, PartialEq, Eq)]
 pub enum TableName {
     /// The top level.
     Top,
@@ -23,17 +23,17 @@ impl fmt::Display for TableName {
     ghost output = { λ table. Some (table_word table) };
 
     fn fmt<W: fmt::Write>(&self, f: &mut fmt::Formatter<W>) -> fmt::Result {
-        match self {
-            TableName::Top => write!(f, "top"),
-            TableName::Channel => write!(f, "channel"),
-            TableName::Flow => write!(f, "flow"),
-            TableName::Station => write!(f, "station"),
-        }
+        f.write_str(match self {
+            TableName::Top => "top",
+            TableName::Channel => "channel",
+            TableName::Flow => "flow",
+            TableName::Station => "station",
+        })
     }
 }
 
 /// A table of the configuration.
-#[derive(Clone, Copy, Debug, PartialEq, Eq, Hash)]
+#[derive(Clone, Copy, Debug, PartialEq, Eq)]
 pub struct Place {
     /// The kind of table.
     pub table: TableName,
@@ -62,47 +62,86 @@ impl fmt::Display for Place {
 /// Why a text is no configuration. Of several faults the first is answered: C1; those of the top level, of each
 /// channel, of each flow and of each station, in this order of tables and each table's by number, but a flow's type is
 /// looked at first, and C7 before C6; C13 last, but memory may be wanting before a later check is made.
-#[derive(Clone, Copy, Debug, PartialEq, Eq, Hash, Error)]
+#[derive(Clone, Copy, Debug, PartialEq, Eq, Error)]
 pub enum ConfigFault {
     /// C1: over 4,194,304 bytes, or no TOML document.
-    #[error("C1: no TOML document of at most 4194304 bytes")]
     Text,
     /// C2: a key is missing; a key of a profile counts at its channel.
-    #[error("C2: a key is missing in {0}")]
     Missing(Place),
     /// C3: a value of another kind or out of its range, a list of a wrong length, or a key that isn't listed.
-    #[error("C3: a value is out of its range, or a key is unknown, in {0}")]
     Range(Place),
     /// C4: a channel id that no channel has.
-    #[error("C4: no channel has an id that is named in {0}")]
     UnknownChannel(Place),
     /// C5: an id that an earlier table of the same list has; in a flow also a channel that is there twice.
-    #[error("C5: an id is there twice in {0}")]
     DuplicateId(Place),
     /// C6: a SID that an earlier flow, or an earlier cluster of this flow, has on the same channel.
-    #[error("C6: a SID of another cluster is on the same channel in {0}")]
     DuplicateSid(Place),
     /// C7: a cluster whose length isn't that of the flow's channels.
-    #[error("C7: a cluster has not one SID for each channel in {0}")]
     ClusterLength(Place),
     /// C8: the round isn't a multiple of the channel's minislot.
-    #[error("C8: the round is no whole number of minislots of {0}")]
     RoundNotMultiple(Place),
     /// C9: both reserves of the channel together pass the length of its MAPs.
-    #[error("C9: the reserves pass the length of the MAPs of {0}")]
     ReservesTooLong(Place),
     /// C10: the jitter isn't below the interval.
-    #[error("C10: the jitter is not below the interval in {0}")]
     Jitter(Place),
     /// C11: an unsolicited grant, a poll or a station's maintenance that passes the length of the channel's MAPs.
-    #[error("C11: a grant passes the length of the MAPs in {0}")]
     GrantLongerThanMap(Place),
     /// C12: no segment headers, but more than one channel.
-    #[error("C12: segment headers are wanting on several channels in {0}")]
     Headers(Place),
     /// C13: want of memory.
-    #[error("C13: out of memory")]
     NoMemory,
+}
+
+/// Writes a fault as a sentence that begins with its number and ends in its table, by one `write!` for all of them.
+impl fmt::Display for ConfigFault {
+    fn fmt<W: fmt::Write>(&self, f: &mut fmt::Formatter<W>) -> fmt::Result {
+        let (words, place) = match self {
+            ConfigFault::Text => ("C1: no TOML document of at most 4194304 bytes", None),
+            ConfigFault::Missing(place) => ("C2: a key is missing in ", Some(place)),
+            ConfigFault::Range(place) => (
+                "C3: a value is out of its range, or a key is unknown, in ",
+                Some(place),
+            ),
+            ConfigFault::UnknownChannel(place) => (
+                "C4: no channel has an id that is named in ",
+                Some(place),
+            ),
+            ConfigFault::DuplicateId(place) => ("C5: an id is there twice in ", Some(place)),
+            ConfigFault::DuplicateSid(place) => (
+                "C6: a SID of another cluster is on the same channel in ",
+                Some(place),
+            ),
+            ConfigFault::ClusterLength(place) => (
+                "C7: a cluster has not one SID for each channel in ",
+                Some(place),
+            ),
+            ConfigFault::RoundNotMultiple(place) => (
+                "C8: the round is no whole number of minislots of ",
+                Some(place),
+            ),
+            ConfigFault::ReservesTooLong(place) => (
+                "C9: the reserves pass the length of the MAPs of ",
+                Some(place),
+            ),
+            ConfigFault::Jitter(place) => (
+                "C10: the jitter is not below the interval in ",
+                Some(place),
+            ),
+            ConfigFault::GrantLongerThanMap(place) => (
+                "C11: a grant passes the length of the MAPs in ",
+                Some(place),
+            ),
+            ConfigFault::Headers(place) => (
+                "C12: segment headers are wanting on several channels in ",
+                Some(place),
+            ),
+            ConfigFault::NoMemory => ("C13: out of memory", None),
+        };
+        match place {
+            Some(place) => write!(f, "{words}{place}"),
+            None => f.write_str(words),
+        }
+    }
 }
 
 impl From<AllocError> for ConfigFault {

@@ -1,15 +1,18 @@
-ghost use Rattle.std.specs.Prelude.{◌≡◌, ◌<◌, ◌≤◌, ◌^◌, length, map, Err, None, IfOk, IfSome, true, false};
-ghost use Rattle.toml.specs.View.{table_view, items_view};
+ghost use Rattle.std.specs.Prelude.{◌≡◌, ◌<◌, ◌≤◌, ◌++◌, ◌^◌, length, map, Err, None, IfOk, IfSome, true, false};
+ghost use Rattle.toml.specs.Data.{item, no_items};
+ghost use Rattle.toml.specs.View.{view, table_view, items_view};
 ghost use Rattle.us_flows.specs.Keys.{flow_keys};
 ghost use Rattle.us_flows.specs.Documents;
 ghost use Rattle.us_flows.specs.Shapes;
 ghost use Rattle.us_flows.specs.Checks;
-ghost use Rattle.us_flows.specs.Checks.{first_of, flow_shape, flow_names, flow_fault, flows_fault};
+ghost use Rattle.us_flows.specs.Checks.{first_of, flow_shape, flow_names, flow_fault, flows_fault, in_turn};
 ghost use Rattle.us_flows.specs.Reading;
 ghost use Rattle.us_flows.specs.Reading.{kind_at};
 ghost use Rattle.us_flows.specs.Answers.{Judged};
 
-use crate::documents::{flag_at, items_at, items_of, number_at, number_of, value_at};
+use crate::documents::{
+    flag_at, items_at, items_of, number_at, u8_at, u8_of, u16_at, u16_of, u32_at, value_at,
+};
 use crate::faults::{ConfigFault, Place, TOP, TableName};
 use crate::flow_grants::grants_fault;
 use crate::flow_names::{names_fault, sids_of};
@@ -33,15 +36,31 @@ pub(crate) fn flows_of(
 {
     let mut flows = Flows::new(alloc);
     for value in items {
-        let Some(table) = value.as_table() else {
-            return Err(ConfigFault::Range(TOP));
-        };
-        match flow_in(alloc, round_ticks, channels, &flows, table) {
-            Ok(flow) => flows = flows.pushed(flow)?,
-            Err(fault) => return Err(fault),
-        }
+        flows = pushed_flow(alloc, round_ticks, channels, flows, value)?;
     }
     Ok(flows)
+}
+
+/// These flows with that of a value behind them, or its first fault.
+fn pushed_flow(
+    alloc: Global,
+    round_ticks: u32,
+    channels: &Channels,
+    flows: Flows,
+    value: &Value,
+) -> Result<Flows, ConfigFault>
+    requires { length flows < 1024 }
+    ensures { Judged result (in_turn Reading.flow_of (flow_fault round_ticks channels.now) flows
+        (item (view value.now) no_items))
+        (λ more. more ≡ flows ++ Reading.all_of Reading.flow_of (item (view value.now) no_items)) }
+{
+    match value.as_table() {
+        Some(table) => {
+            let flow = flow_in(alloc, round_ticks, channels, &flows, table)?;
+            Ok(flows.pushed(flow)?)
+        }
+        None => Err(ConfigFault::Range(TOP)),
+    }
 }
 
 /// The flow of a table that stands behind these others, or its first fault.
@@ -117,7 +136,6 @@ fn kind_at(table: &Table) -> SchedulingType
 }
 
 /// The flow of a table whose shape has no fault.
-#[tactic(auto, using(crate::proofs::FlowLemmas::flow_ranges))]
 fn flow_of(alloc: Global, table: &Table) -> Result<Flow, AllocError>
     requires whole { Shapes.lacks (flow_keys (kind_at (table_view table.now))) (table_view table.now) ≡ false }
     requires ranged { Shapes.strays (flow_keys (kind_at (table_view table.now))) (table_view table.now) ≡ false }
@@ -126,45 +144,43 @@ fn flow_of(alloc: Global, table: &Table) -> Result<Flow, AllocError>
     let channels = ids_of(alloc, items_at(table, "channels"))?;
     let clusters = clusters_of(alloc, items_at(table, "clusters"))?;
     Ok(Flow {
-        id: number_at(table, "id") as u16,
+        id: u16_at(table, "id"),
         kind: kind_at(table),
         channels,
         clusters,
-        priority: number_at(table, "priority") as u8,
-        rate: number_at(table, "rate") as u32,
-        burst: number_at(table, "burst") as u32,
-        unit: number_at(table, "unit") as u8,
+        priority: u8_at(table, "priority"),
+        rate: u32_at(table, "rate"),
+        burst: u32_at(table, "burst"),
+        unit: u8_at(table, "unit"),
         headers: flag_at(table, "headers"),
-        start_us: number_at(table, "start_us") as u32,
-        interval_us: number_at(table, "interval_us") as u32,
-        jitter_us: number_at(table, "jitter_us") as u32,
-        grant_bytes: number_at(table, "grant_bytes") as u16,
-        grants_per_interval: number_at(table, "grants_per_interval") as u8,
+        start_us: u32_at(table, "start_us"),
+        interval_us: u32_at(table, "interval_us"),
+        jitter_us: u32_at(table, "jitter_us"),
+        grant_bytes: u16_at(table, "grant_bytes"),
+        grants_per_interval: u8_at(table, "grants_per_interval"),
     })
 }
 
 /// The channel ids of a list.
-#[tactic(auto, using(crate::proofs::FlowLemmas::first_number))]
 fn ids_of(alloc: Global, items: &[Value]) -> Result<Vec<u8>, AllocError>
     requires { Shapes.all_items (Shapes.is_number 1 255) (items_view items.now) ≡ true }
     ensures { IfOk result (λ ids. ids.items ≡ Documents.numbers_of (items_view items.now)) }
 {
     let mut ids = Vec::new(alloc);
     for value in items {
-        ids.push(number_of(value) as u8)?;
+        ids.push(u8_of(value))?;
     }
     Ok(ids)
 }
 
 /// The SIDs of one cluster.
-#[tactic(auto, using(crate::proofs::FlowLemmas::first_number))]
 fn cluster_of(alloc: Global, items: &[Value]) -> Result<Vec<u16>, AllocError>
     requires { Shapes.all_items (Shapes.is_number 1 15871) (items_view items.now) ≡ true }
     ensures { IfOk result (λ sids. sids.items ≡ Documents.numbers_of (items_view items.now)) }
 {
     let mut sids = Vec::new(alloc);
     for value in items {
-        sids.push(number_of(value) as u16)?;
+        sids.push(u16_of(value))?;
     }
     Ok(sids)
 }

@@ -5,7 +5,7 @@ ghost use Rattle.us_flows.specs.Tables.{FlowTable};
 use std::marker::Model;
 
 /// How a service flow is scheduled (the standard's scheduling types).
-#[derive(Clone, Copy, Debug, PartialEq, Eq, Hash)]
+#[derive(Clone, Copy, Debug, PartialEq, Eq)]
 pub enum SchedulingType {
     /// Type 2: it makes requests, and has no grant without one.
     BestEffort,
@@ -34,7 +34,7 @@ impl SchedulingType {
 }
 
 /// A service flow of the table. What its scheduling type has no key for is 0, or false.
-#[derive(Debug, Drop)]
+#[derive(Debug)]
 pub struct Flow {
     pub(crate) id: u16,
     pub(crate) kind: SchedulingType,
@@ -71,6 +71,28 @@ impl Model for Flow {
       grant_bytes = f.grant_bytes;
       grants_per_interval = f.grants_per_interval;
     } };
+}
+
+/// Gives the flow up. It is written out so that it is one step wherever a flow ends.
+impl Drop for Flow {
+    fn drop(self) {
+        let Flow {
+            id: _,
+            kind: _,
+            channels: _,
+            clusters: _,
+            priority: _,
+            rate: _,
+            burst: _,
+            unit: _,
+            headers: _,
+            start_us: _,
+            interval_us: _,
+            jitter_us: _,
+            grant_bytes: _,
+            grants_per_interval: _,
+        } = self;
+    }
 }
 
 impl Flow {

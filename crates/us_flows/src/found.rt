@@ -1,5 +1,5 @@
 /// What a SID asks for on a channel.
-#[derive(Clone, Copy, Debug, PartialEq, Eq, Hash)]
+#[derive(Clone, Copy, Debug, PartialEq, Eq)]
 pub enum Found {
     /// A SID cluster, by its number.
     Cluster(u16),

@@ -4,7 +4,7 @@ ghost use Rattle.us_flows.specs.Keys.{keys_of, top_keys, channel_keys, profile_k
 use crate::flows::SchedulingType;
 
 /// What the value of a key must be. Of two numbers the first is the least and the second the greatest.
-#[derive(Clone, Copy, Debug, PartialEq, Eq)]
+#[derive(Clone, Copy)]
 pub(crate) enum Rule {
     /// A whole number.
     Number(u32, u32),

@@ -1,6 +1,7 @@
-ghost use Rattle.std.specs.Prelude.{◌≡◌, ◌<◌, length, Err, IfSome};
+ghost use Rattle.std.specs.Prelude.{◌≡◌, ◌<◌, codes, length, None, Err, IfSome};
 ghost use Rattle.us_flows.specs.declared.faults.ConfigFault.TheVariants as fault;
-ghost use Rattle.us_flows.specs.Checks.{first_of, top_checks, first_fault};
+ghost use Rattle.us_flows.specs.Documents;
+ghost use Rattle.us_flows.specs.Checks.{first_of, or_else, top_checks, channels_fault, flows_fault, stations_fault, first_fault};
 ghost use Rattle.us_flows.specs.Reading;
 ghost use Rattle.us_flows.specs.Answers.{Answers, Judged};
 ghost use Rattle.toml.specs.View.{table_view};
@@ -8,10 +9,11 @@ ghost use Rattle.toml.specs.Errors.{IsMemory};
 
 use crate::channel_tables::channels_of;
 use crate::config::Config;
-use crate::documents::{items_at, number_at};
+use crate::documents::{items_at, u32_at};
 use crate::faults::{ConfigFault, TOP};
 use crate::flow_tables::flows_of;
 use crate::keys::top_keys;
+use crate::listed::{Channels, Flows, Stations};
 use crate::shapes::{lacks, strays};
 use crate::station_tables::stations_of;
 use std::alloc::Global;
@@ -51,7 +53,6 @@ fn fault_of(error: &toml::de::Error) -> ConfigFault
 }
 
 /// The configuration of a document, or its first fault.
-#[tactic(auto, using(crate::proofs::TableLemmas::tables_are), unfolding(crate::specs::Checks::first_fault))]
 fn config_of(alloc: Global, document: &Table) -> Result<Config, ConfigFault>
     ensures judged { Judged result (first_fault (table_view document.now))
         (λ config. config ≡ Reading.tables_of (table_view document.now)) }
@@ -61,12 +62,47 @@ fn config_of(alloc: Global, document: &Table) -> Result<Config, ConfigFault>
     if let Some(fault) = top_fault(document) {
         return Err(fault);
     }
-    let round_ticks = number_at(document, "round_ticks") as u32;
-    let lead_ticks = number_at(document, "lead_ticks") as u32;
+    let round_ticks = u32_at(document, "round_ticks");
     let channels = channels_of(alloc, round_ticks, items_at(document, "channel"))?;
-    let flows = flows_of(alloc, round_ticks, &channels, items_at(document, "flow"))?;
-    let stations = stations_of(alloc, round_ticks, &channels, items_at(document, "station"))?;
+    config_on(alloc, document, round_ticks, channels)
+}
+
+/// The configuration on channels that have no fault, or its first fault.
+fn config_on(
+    alloc: Global,
+    document: &Table,
+    round_ticks: u32,
+    channels: Channels,
+) -> Result<Config, ConfigFault>
+    requires top { first_of (top_checks (table_view document.now)) ≡ None }
+    requires round { round_ticks ≡ Reading.round_of (table_view document.now) }
+    requires judged { channels_fault round_ticks (Documents.items_at (codes "channel") (table_view document.now)) ≡ None }
+    requires channels { channels ≡ Reading.channels_of (table_view document.now) }
+    ensures { Judged result (first_fault (table_view document.now))
+        (λ config. config ≡ Reading.tables_of (table_view document.now)) }
+{
+    let lead_ticks = u32_at(document, "lead_ticks");
+    let (flows, stations) = flows_and_stations(alloc, document, round_ticks, &channels)?;
     Ok(Config::new(alloc, round_ticks, lead_ticks, channels, flows, stations)?)
+}
+
+/// The flows and the stations on these channels, or their first fault.
+fn flows_and_stations(
+    alloc: Global,
+    document: &Table,
+    round_ticks: u32,
+    channels: &Channels,
+) -> Result<(Flows, Stations), ConfigFault>
+    requires { first_of (top_checks (table_view document.now)) ≡ None }
+    ensures { Judged result (or_else
+        (flows_fault round_ticks channels.now (Documents.items_at (codes "flow") (table_view document.now)))
+        (stations_fault round_ticks channels.now (Documents.items_at (codes "station") (table_view document.now))))
+        (λ both. (both.0 ≡ Reading.flows_of (table_view document.now)) ×
+        (both.1 ≡ Reading.stations_of (table_view document.now))) }
+{
+    let flows = flows_of(alloc, round_ticks, channels, items_at(document, "flow"))?;
+    let stations = stations_of(alloc, round_ticks, channels, items_at(document, "station"))?;
+    Ok((flows, stations))
 }
 
 /// The first fault of the top level.

@@ -1,12 +1,13 @@
-ghost use Rattle.std.specs.Prelude.{◌≡◌, ◌<◌, ◌^◌, length, Some, IfOk, IfErr, IfNone, false};
-ghost use Rattle.toml.specs.View.{table_view, items_view};
+ghost use Rattle.std.specs.Prelude.{◌≡◌, ◌<◌, ◌++◌, ◌^◌, length, Some, IfOk, IfErr, IfNone, false};
+ghost use Rattle.toml.specs.Data.{item, no_items};
+ghost use Rattle.toml.specs.View.{view, table_view, items_view};
 ghost use Rattle.us_flows.specs.Keys;
 ghost use Rattle.us_flows.specs.Shapes;
-ghost use Rattle.us_flows.specs.Checks.{first_of, has_station, station_shape, station_rules, station_fault, stations_fault};
+ghost use Rattle.us_flows.specs.Checks.{first_of, has_station, station_shape, station_rules, station_fault, stations_fault, in_turn};
 ghost use Rattle.us_flows.specs.Reading;
 ghost use Rattle.us_flows.specs.Answers.{Judged};
 
-use crate::documents::number_at;
+use crate::documents::{u8_at, u16_at, u32_at};
 use crate::faults::{ConfigFault, Place, TOP, TableName};
 use crate::keys::station_keys;
 use crate::limits::is_too_long;
@@ -29,13 +30,30 @@ pub(crate) fn stations_of(
 {
     let mut stations = Stations::new(alloc);
     for value in items {
-        let station = match value.as_table() {
-            Some(table) => station_in(round_ticks, channels, &stations, table)?,
-            None => return Err(ConfigFault::Range(TOP)),
-        };
-        stations.push(station)?;
+        push_station(round_ticks, channels, &mut stations, value)?;
     }
     Ok(stations)
+}
+
+/// Puts the station of a value behind these others, or answers its first fault.
+fn push_station(
+    round_ticks: u32,
+    channels: &Channels,
+    stations: &mut Stations,
+    value: &Value,
+) -> Result<(), ConfigFault>
+    requires { length stations.old < 2 ^ 32 }
+    ensures { Judged result (in_turn Reading.station_of (station_fault round_ticks channels.now) stations.old
+        (item (view value.now) no_items))
+        (λ _. stations.new ≡ stations.old ++ Reading.all_of Reading.station_of (item (view value.now) no_items)) }
+{
+    match value.as_table() {
+        Some(table) => {
+            let station = station_in(round_ticks, channels, stations, table)?;
+            Ok(stations.push(station)?)
+        }
+        None => Err(ConfigFault::Range(TOP)),
+    }
 }
 
 /// The station of a table that stands behind these others, or its first fault.
@@ -82,19 +100,18 @@ fn shape_fault(place: Place, table: &Table) -> Option<ConfigFault>
 }
 
 /// The station of a table whose shape has no fault.
-#[tactic(auto, using(crate::proofs::StationLemmas::station_ranges))]
 fn station_of(table: &Table) -> Station
     requires whole { Shapes.lacks Keys.station_keys (table_view table.now) ≡ false }
     requires ranged { Shapes.strays Keys.station_keys (table_view table.now) ≡ false }
     ensures { result ≡ Reading.station_of (table_view table.now) }
 {
     Station {
-        id: number_at(table, "id") as u16,
-        channel: number_at(table, "channel") as u8,
-        sid: number_at(table, "sid") as u16,
-        start_us: number_at(table, "start_us") as u32,
-        interval_us: number_at(table, "interval_us") as u32,
-        jitter_us: number_at(table, "jitter_us") as u32,
+        id: u16_at(table, "id"),
+        channel: u8_at(table, "channel"),
+        sid: u16_at(table, "sid"),
+        start_us: u32_at(table, "start_us"),
+        interval_us: u32_at(table, "interval_us"),
+        jitter_us: u32_at(table, "jitter_us"),
     }
 }
 

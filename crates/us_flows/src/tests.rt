@@ -2,13 +2,10 @@
 
 // Configurations, and the driver of tables of changed ones.
 mod base;
-mod between;
-mod damage;
-mod keys;
+// One of each fault; `crates/mapsim/cases/config_*.toml` have all limits, keys and orders.
+mod faults;
 mod lookups;
 mod memory;
-mod order;
-mod ranges;
 mod reading;
 mod sizes;
 mod texts;

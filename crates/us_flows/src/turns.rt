@@ -4,7 +4,7 @@ mod ordering;
 pub(crate) use ordering::turns_of;
 
 /// A turn of a round: a SID cluster that makes requests, by its places in the tables.
-#[derive(Clone, Copy, Debug, PartialEq, Eq, Hash)]
+#[derive(Clone, Copy, Debug, PartialEq, Eq)]
 pub struct Turn {
     /// The place of its flow among the flows.
     pub flow: usize,

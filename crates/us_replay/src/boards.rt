@@ -18,7 +18,7 @@ pub(crate) const MAX_BOARD_LEN: u32 = 4_096;
 pub(crate) const MAX_ASSIGNMENTS: usize = 100;
 
 /// To whom minislots are assigned, and what for.
-#[derive(Clone, Copy, Debug, PartialEq, Eq)]
+#[derive(Clone, Copy)]
 pub(crate) struct Owner {
     sid: u16,
     iuc: Iuc,
@@ -63,7 +63,7 @@ impl Owner {
 
 /// The board of one MAP: for each minislot the number of the assignment that holds it, if one does, and the owner of
 /// each assignment by its number. So each minislot has one owner.
-#[derive(Debug, Drop)]
+#[derive(Drop)]
 pub(crate) struct Board {
     cells: Vec<Option<u32>>,
     owners: Vec<Owner>,
@@ -85,12 +85,8 @@ impl Board {
         requires most { len ≤ MAX_BOARD_LEN }
         ensures { IfOk result (λ board. board ≡ spec.empty_board len) }
     {
-        let mut cells = Vec::with_capacity(alloc, len as usize)?;
-        for _ in 0..len {
-            cells.push(None)?;
-        }
         Ok(Board {
-            cells,
+            cells: vec![in alloc; None; len as usize]?,
             owners: Vec::new(alloc),
         })
     }

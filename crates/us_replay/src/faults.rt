@@ -1,3 +1,4 @@
+use std::fmt;
 use thiserror::Error;
 use us_requests::TraceFault;
 
@@ -5,26 +6,37 @@ use us_requests::TraceFault;
 #[derive(Clone, Copy, Debug, PartialEq, Eq, Hash, Error)]
 pub enum RunFault {
     /// RU1: no rounds, or together over 67,108,864 ticks. Nothing was read or written.
-    #[error("RU1: no rounds, or more than a run has ticks for")]
     Rounds,
     /// RU3: the trace has a fault. Nothing was written.
-    #[error("RU3: the trace is refused")]
     Trace(TraceFault),
     /// RU4: a write or flush of the maps file failed, after so many rounds. These are done: their records and their
     /// lines were all taken, and there is no greater number of which that holds.
-    #[error("RU4: the maps file failed after {0} rounds")]
     WriteMaps(u32),
     /// RU5: a write or flush of the report failed, after so many rounds were done as in RU4.
-    #[error("RU5: the report failed after {0} rounds")]
     WriteReport(u32),
     /// RU6: want of memory, after so many rounds were done as in RU4.
-    #[error("RU6: out of memory after {0} rounds")]
     NoMemory(u32),
     /// RU7: a configuration that is not served yet: with a station, with more than one flow, or with a flow of another
     /// type than 2 (best effort), of more than one channel or SID cluster, or with a rate above 0. This is looked at
     /// before RU1; nothing was read or written.
-    #[error("RU7: the configuration is not served yet")]
     NotServed,
+}
+
+impl fmt::Display for RunFault {
+    fn fmt<W: fmt::Write>(&self, f: &mut fmt::Formatter<W>) -> fmt::Result {
+        let (text, rounds) = match *self {
+            RunFault::Rounds => ("RU1: no rounds, or more than a run has ticks for", None),
+            RunFault::Trace(_) => ("RU3: the trace is refused", None),
+            RunFault::WriteMaps(done) => ("RU4: the maps file failed", Some(done)),
+            RunFault::WriteReport(done) => ("RU5: the report failed", Some(done)),
+            RunFault::NoMemory(done) => ("RU6: out of memory", Some(done)),
+            RunFault::NotServed => ("RU7: the configuration is not served yet", None),
+        };
+        match rounds {
+            Some(done) => write!(f, "{text} after {done} rounds"),
+            None => f.write_str(text),
+        }
+    }
 }
 
 impl From<TraceFault> for RunFault {

@@ -101,7 +101,7 @@ fn word(entry: Entry) -> &'static str
 pub(crate) fn push_line(text: &mut Vec<u8>, row: &Row) -> Result<(), AllocError>
     ensures { OnOk result (text.new.items ≡ text.old.items ++ spec.text_of row.now) }
 {
-    match *row {
+    let pushed = match *row {
         Row::Granted {
             round,
             channel,
@@ -114,10 +114,13 @@ pub(crate) fn push_line(text: &mut Vec<u8>, row: &Row) -> Result<(), AllocError>
             start,
             slots,
             credit,
-        } => {
-            push_front(text, b"G", &[round, channel], word(entry))?;
-            push_numbers(text, &[id, i, k, sid, iuc, start, slots, credit])?;
-        }
+        } => push_event(
+            text,
+            b"G",
+            &[round, channel],
+            entry,
+            &[id, i, k, sid, iuc, start, slots, credit],
+        ),
         Row::Missed {
             round,
             channel,
@@ -125,30 +128,54 @@ pub(crate) fn push_line(text: &mut Vec<u8>, row: &Row) -> Result<(), AllocError>
             id,
             i,
             k,
-        } => {
-            push_front(text, b"M", &[round, channel], word(entry))?;
-            push_numbers(text, &[id, i, k])?;
-        }
+        } => push_event(text, b"M", &[round, channel], entry, &[id, i, k]),
         Row::Final {
             flow,
             cluster,
             outstanding,
             units,
-        } => {
-            text.extend_from_slice(b"F")?;
-            push_numbers(text, &[flow, cluster, outstanding])?;
-            push_units(text, units)?;
-        }
+        } => push_final(text, &[flow, cluster, outstanding], units),
         Row::Counts {
             unknown,
             not_requestable,
             late,
-        } => {
-            text.extend_from_slice(b"U")?;
-            push_numbers(text, &[unknown, not_requestable, late])?;
-        }
-    }
+        } => push_counts(text, &[unknown, not_requestable, late]),
+    };
+    pushed?;
     text.extend_from_slice(b"\n")
+}
+
+/// Adds a G or M line without its line feed: its letter, round and channel, its entry, and numbers.
+fn push_event(
+    text: &mut Vec<u8>,
+    letter: &[u8],
+    place: &[u64],
+    entry: Entry,
+    numbers: &[u64],
+) -> Result<(), AllocError>
+    ensures { OnOk result (text.new.items ≡ text.old.items ++ (letter.now ++
+        (spec.numbers place.now ++ (44 ∷ (spec.word_of entry ++ spec.numbers numbers.now))))) }
+{
+    push_front(text, letter, place, word(entry))?;
+    push_numbers(text, numbers)
+}
+
+/// Adds an F line without its line feed.
+fn push_final(text: &mut Vec<u8>, numbers: &[u64], units: Option<u64>) -> Result<(), AllocError>
+    ensures { OnOk result (text.new.items ≡
+        text.old.items ++ (70 ∷ (spec.numbers numbers.now ++ (44 ∷ spec.units_of units)))) }
+{
+    text.extend_from_slice(b"F")?;
+    push_numbers(text, numbers)?;
+    push_units(text, units)
+}
+
+/// Adds a U line without its line feed.
+fn push_counts(text: &mut Vec<u8>, numbers: &[u64]) -> Result<(), AllocError>
+    ensures { OnOk result (text.new.items ≡ text.old.items ++ (85 ∷ spec.numbers numbers.now)) }
+{
+    text.extend_from_slice(b"U")?;
+    push_numbers(text, numbers)
 }
 
 /// Adds the letter of a line, numbers and a word.

@@ -10,7 +10,7 @@ use crate::boards::{Board, Owner};
 use us_slots::{BurstSet, Iuc, MAX_BURST_BYTES, MAX_MAP_TICKS, NoMemory, capacity, grant_cost};
 
 /// Where a grant starts, and the bytes that it serves.
-#[derive(Clone, Copy, Debug, PartialEq, Eq)]
+#[derive(Clone, Copy)]
 pub(crate) struct Spot {
     /// The offset of its first minislot.
     pub start: u32,
@@ -19,7 +19,7 @@ pub(crate) struct Spot {
 }
 
 /// A grant's minislots, its IUC, and the bytes that it serves.
-#[derive(Clone, Copy, Debug, PartialEq, Eq)]
+#[derive(Clone, Copy)]
 pub(crate) struct Placed {
     /// The offset of its first minislot.
     pub start: u32,

@@ -2,8 +2,10 @@ ghost use Rattle.std.specs.Prelude.{◌≡◌, ◌↔◌, ◌⊎◌, ℕ, ◌<�
 ghost use Rattle.std.specs.List.{AllByRecursion};
 ghost use Rattle.us_flows.specs.Tables.{rounds_fit};
 ghost use Rattle.us_flows.specs.Clusters.{clusters_of};
+ghost use Rattle.us_flows.specs.Lawful.{AreTables};
 ghost use Rattle.us_requests.specs.Traces.{asks_in};
 ghost use Rattle.us_replay.specs.Served.{is_served};
+ghost use Rattle.us_replay.specs.Rounds.{opening};
 ghost use Rattle.us_replay.specs.Replays.{Growth, Output, Ran, Replayed, output_of, comes_before, blames_maps, blames_report};
 ghost use Rattle.us_replay.specs.Progress.{cuts_in};
 
@@ -82,10 +84,41 @@ fn run<W1: Sink, W2: Sink>(
     ensures maps_failed { W1.failed maps.new ≡ blames_maps result }
     ensures report_failed { W2.failed report.new ≡ blames_report result }
 {
-    let rounds = trace.rounds();
     let Ok(mut progress) = Progress::opening(alloc, config) else {
         return Err(RunFault::NoMemory(0));
     };
+    run_on(alloc, config, trace, &mut progress, maps, report)
+}
+
+/// Replays a trace from before round 0 on. That the progress stands with the caller spares each way out of here to give
+/// it up.
+fn run_on<W1: Sink, W2: Sink>(
+    alloc: Global,
+    config: &Config,
+    trace: &Trace,
+    progress: &mut Progress,
+    maps: &mut W1,
+    report: &mut W2,
+) -> Result<Summary, RunFault>
+    requires lawful { AreTables config.now }
+    requires served { is_served config.now ≡ true }
+    requires fits { rounds_fit config.now trace.now.rounds ≡ true }
+    requires known { (round : ℕ) →
+        AllByRecursion (λ ask. ask.cluster < length (clusters_of config.now)) (asks_in trace.now round) }
+    requires state { progress.old.state ≡ opening config.now }
+    requires clusters { progress.old.clusters ≡ length (clusters_of config.now) }
+    requires granted { progress.old.granted ≡ 0 }
+    requires missed { progress.old.missed ≡ 0 }
+    requires maps_ready { W1.failed maps.old ≡ false }
+    requires report_ready { W2.failed report.old ≡ false }
+    ensures ran { let out : Output = output_of config.now (cuts_in config.now trace.now) trace.now.counts in
+        let to_maps : Growth = record { before = W1.contents maps.old; after = W1.contents maps.new } in
+        let to_report : Growth = record { before = W2.contents report.old; after = W2.contents report.new } in
+        Ran out trace.now.counts to_maps to_report result }
+    ensures maps_failed { W1.failed maps.new ≡ blames_maps result }
+    ensures report_failed { W2.failed report.new ≡ blames_report result }
+{
+    let rounds = trace.rounds();
     for done in 0..rounds {
         let Ok(()) = progress.make_round(alloc, config, trace.asks(done)) else {
             return Err(RunFault::NoMemory(done));

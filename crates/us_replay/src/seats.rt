@@ -8,7 +8,7 @@ use us_flows::{Config, Flow};
 const HEADER_BYTES: u32 = 8;
 
 /// Who may ask in a run, which so far is at most one cluster on one channel.
-#[derive(Clone, Copy, Debug, PartialEq, Eq)]
+#[derive(Clone, Copy)]
 pub(crate) struct Seat {
     /// The id of its flow.
     pub flow: u16,

@@ -5,4 +5,3 @@ mod boards;
 mod devices;
 mod lines;
 mod replays;
-mod served;

@@ -36,8 +36,9 @@ fn push_record(text: &mut Vec<u8>, round: u32, body: &[u8]) -> Result<(), NoMemo
     ensures { let piece : Piece = record { round = round; body = body.now } in
         OnOk result (text.new.items ≡ text.old.items ++ record_bytes piece) }
 {
+    let length = body.len() as u16;
     text.extend_from_slice(&round.to_be_bytes())?;
-    text.extend_from_slice(&(body.len() as u16).to_be_bytes())?;
+    text.extend_from_slice(&length.to_be_bytes())?;
     text.extend_from_slice(body)?;
     Ok(())
 }

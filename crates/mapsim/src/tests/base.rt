@@ -1,12 +1,13 @@
 use crate::programs::run;
 use crate::statuses::Status;
-use std::alloc::AllocError;
-use std::io::{self, ErrorKind, Read};
-use std::test::Fail;
+use std::fmt::Write as _;
+use std::io::{self, ErrorKind, Read, Write};
+use std::process::Abort;
+use std::str;
 use us_slots::{FromRead, FromWrite};
 
-/// The base configuration.
-pub const CONFIG: &str = "\
+/// The input of the stored run: the base configuration, and a request of 1,000 bytes at tick 0.
+pub const INPUT: &str = "\
 round_ticks = 320
 lead_ticks = 160
 
@@ -36,13 +37,13 @@ rate = 0
 burst = 3044
 unit = 4
 headers = true
+%%
+tick,channel,sid,units
+0,1,291,250
 ";
 
-/// The trace of the stored run.
-pub const TRACE: &str = "tick,channel,sid,units\n0,1,291,250\n";
-
-/// The lines of its MAPs.
-pub const MAP_LINES: &str = "\
+/// What the stored run prints.
+pub const OUTPUT: &str = "\
 0 1 0 150 16383 1
 0 1 150 10 16383 1
 0 1 160 0 0 7
@@ -50,72 +51,145 @@ pub const MAP_LINES: &str = "\
 1 1 32 118 16383 1
 1 1 150 10 16383 1
 1 1 160 0 0 7
+G,1,1,req,1,0,0,291,10,0,32,1000
+F,1,0,0,-
+U,0,0,0
 ";
 
-/// Its report.
-pub const REPORT: &str = "G,1,1,req,1,0,0,291,10,0,32,1000\nF,1,0,0,-\nU,0,0,0\n";
-
-/// Its maps file.
-pub const MAPS: [u8; 72] = [
-    0, 0, 0, 0, 0, 0x1c, 1, 0, 3, 0, 0, 0, 0, 0, 0, 0, 0, 0, 2, 6, 3, 8, 0xff, 0xfc, 0x40, 0, 0xff,
-    0xfc, 0x40, 0x96, 0, 1, 0xc0, 0xa0, 0, 0, 0, 1, 0, 0x20, 1, 0, 4, 0, 0, 0, 0, 0xa0, 0, 0, 0,
-    0x50, 2, 6, 3, 8, 4, 0x8e, 0x80, 0, 0xff, 0xfc, 0x40, 0x20, 0xff, 0xfc, 0x40, 0x96, 0, 1, 0xc0,
-    0xa0,
-];
-
-/// What a run of the program wrote, and how it ended.
-#[derive(Debug, Drop)]
-pub struct Outcome {
-    pub status: Status,
-    pub output: Vec<u8>,
-    pub errors: Vec<u8>,
+/// A run of the program that is tried.
+#[derive(Clone, Copy)]
+pub struct Setting<'a> {
+    /// What it shows.
+    pub name: &'a str,
+    /// The words, the program's name first.
+    pub words: &'a [&'a str],
+    pub input: &'a str,
+    /// Whether the input fails behind its text, and doesn't end.
+    pub input_fails: bool,
+    pub output: Limits,
+    pub errors: Limits,
 }
 
-/// A run on these words, behind the program's name, and this input.
-pub fn run_on(rt: &HostRuntime, words: &[&str], input: &[u8]) -> Result<Outcome, AllocError> {
-    let mut all_words = vec![in rt.alloc(); "mapsim"]?;
-    all_words.extend_from_slice(words)?;
-    let mut output = Vec::new(rt.alloc());
-    let mut errors = Vec::new(rt.alloc());
-    let status = run(
-        rt,
-        all_words.as_slice(),
-        &mut FromRead::new(input),
-        &mut FromWrite::new(&mut output),
-        &mut errors,
-    );
-    Ok(Outcome {
-        status,
-        output,
-        errors,
-    })
+/// How far a writer goes.
+#[derive(Clone, Copy)]
+pub struct Limits {
+    /// How many bytes it takes.
+    pub room: usize,
+    /// Whether a write behind them fails, and doesn't take none.
+    pub fails: bool,
+    /// Whether it can be flushed.
+    pub flushes: bool,
 }
 
-/// The base configuration with one text put in place of another, which it has.
-pub fn changed(rt: &HostRuntime, from: &str, to: &str) -> Result<String, Fail> {
-    let (before, behind) = CONFIG.split_once(from).ok_or("nothing to change")?;
-    Ok(format!(in rt.alloc(); "{before}{to}{behind}")?)
+/// Limits that the lines here don't meet.
+pub const WIDE: Limits = Limits {
+    room: 400,
+    fails: true,
+    flushes: true,
+};
+
+/// The stored run.
+pub const STORED: Setting<'static> = Setting {
+    name: "stored run",
+    words: &["mapsim"],
+    input: INPUT,
+    input_fails: false,
+    output: WIDE,
+    errors: WIDE,
+};
+
+/// A reader that gives a text, and behind it ends or fails.
+#[derive(Clone, Copy)]
+struct Tape<'a> {
+    left: &'a [u8],
+    fails: bool,
 }
 
-/// What `pipe` reads.
-pub fn piped(rt: &HostRuntime, config: &str, trace: &str) -> Result<String, AllocError> {
-    format!(in rt.alloc(); "{config}%%\n{trace}")
-}
-
-/// A reader that gives a text and then fails.
-#[derive(Drop)]
-pub struct FailingReader<'a> {
-    pub left: &'a [u8],
-}
-
-impl<'a> Read for FailingReader<'a> {
+impl<'a> Read for Tape<'a> {
     fn read(&mut self, buf: &mut [u8]) -> io::Result<usize> {
         let count = self.left.len().min(buf.len());
-        if count == 0 {
+        if count == 0 && self.fails {
             return Err(io::Error::from(ErrorKind::BrokenPipe));
         }
         buf[..count].copy_from_slice(&self.left[..count]);
         self.left = &self.left[count..];
         Ok(count)
     }
+}
+
+/// A writer that holds what it took.
+#[derive(Drop)]
+struct NarrowWriter {
+    held: Vec<u8>,
+    limits: Limits,
+}
+
+impl NarrowWriter {
+    fn new(rt: &HostRuntime, limits: Limits) -> NarrowWriter {
+        NarrowWriter {
+            held: Vec::new(rt.alloc()),
+            limits,
+        }
+    }
+}
+
+impl Write for NarrowWriter {
+    fn write(&mut self, buf: &[u8]) -> io::Result<usize> {
+        let room = self.limits.room.saturating_sub(self.held.len());
+        if room == 0 && self.limits.fails {
+            return Err(io::Error::from(ErrorKind::StorageFull));
+        }
+        let count = buf.len().min(room);
+        self.held.extend_from_slice(&buf[..count])?;
+        Ok(count)
+    }
+
+    fn flush(&mut self) -> io::Result<()> {
+        if self.limits.flushes {
+            Ok(())
+        } else {
+            Err(io::Error::from(ErrorKind::StorageFull))
+        }
+    }
+}
+
+/// Runs the program in these settings, and tells each in a line: its name, the status, how many bytes the output took,
+/// whether the stored run's begins with them, and what the errors took.
+pub fn told_of(rt: &HostRuntime, settings: &[Setting<'_>]) -> String {
+    let mut told = String::new(rt.alloc());
+    for setting in settings {
+        tell(rt, &mut told, setting);
+    }
+    told
+}
+
+fn tell(rt: &HostRuntime, told: &mut String, setting: &Setting<'_>) {
+    let mut output = NarrowWriter::new(rt, setting.output);
+    let mut errors = NarrowWriter::new(rt, setting.errors);
+    let input = Tape {
+        left: setting.input.as_bytes(),
+        fails: setting.input_fails,
+    };
+    let status = run(
+        rt,
+        setting.words,
+        &mut FromRead::new(input),
+        &mut FromWrite::new(&mut output),
+        &mut errors,
+    );
+    tell_line(told, setting.name, status, &output.held, &errors.held);
+}
+
+fn tell_line(told: &mut String, name: &str, status: Status, output: &[u8], errors: &[u8]) {
+    let code = status.code();
+    let taken = output.len();
+    let is_start = OUTPUT.as_bytes().starts_with(output);
+    let errors = str::from_utf8(errors).unwrap_or("no text");
+    // Without room for it the line is missing, and so isn't the one that is wanted.
+    let _ = writeln!(told, "{name}: {code} {taken} {is_start} [{errors}]");
+}
+
+/// Compares what was told with what has to be.
+pub fn same(rt: &impl Abort, told: &str, wanted: &str) {
+    assert_eq!(rt; told, wanted);
 }

@@ -10,7 +10,7 @@ use std::alloc::{AllocError, Global};
 use std::marker::Model;
 
 /// Channels in table order, found by id.
-#[derive(Debug, Drop)]
+#[derive(Debug)]
 pub(crate) struct Channels {
     map: IndexMap<u8, Channel>,
 }
@@ -21,6 +21,13 @@ impl Model for Channels {
     ghost view = { λ c. values_of c.map.entries };
 
     ghost invariant = { λ c. c.map.entries ≡ by_id (λ channel. channel.id) (values_of c.map.entries) };
+}
+
+/// Gives the channels up. It is written out so that it is one step wherever they end.
+impl Drop for Channels {
+    fn drop(self) {
+        let Channels { map: _ } = self;
+    }
 }
 
 impl Channels {

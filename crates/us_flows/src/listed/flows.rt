@@ -1,8 +1,8 @@
 ghost use Rattle.std.specs.Prelude.{◌≡◌, ◌≤◌, ◌<◌, ◌+◌, ◌*◌, ◌++◌, List, [], ◌∷◌, false};
-ghost use Rattle.std.specs.Prelude.{length, map, zip, flat_map, OnOk, IfOk};
+ghost use Rattle.std.specs.Prelude.{length, map, zip, flat_map, nat_eq, OnOk, IfOk};
 ghost use Rattle.std.specs.List.{list_any};
 ghost use Rattle.std.specs.Map.{values_of};
-ghost use Rattle.indexmap.specs.IndexMap.{insert_all};
+ghost use Rattle.indexmap.specs.IndexMap.{insert_all, insert_entry};
 ghost use Rattle.us_flows.specs.Tables.{FlowTable, sids_of};
 ghost use Rattle.us_flows.specs.Clusters.{requesting, found_among};
 ghost use Rattle.us_flows.specs.Checks.{has_flow, is_taken, same_sid, repeats};
@@ -15,7 +15,7 @@ use std::alloc::{AllocError, Global};
 use std::marker::Model;
 
 /// Service flows in table order, found by id, with an index of what their SIDs ask for.
-#[derive(Debug, Drop)]
+#[derive(Debug)]
 pub(crate) struct Flows {
     map: IndexMap<u16, Flow>,
     /// What each SID asks for, by its channel and itself.
@@ -30,6 +30,17 @@ impl Model for Flows {
     ghost view = { λ f. values_of f.map.entries };
 
     ghost invariant = { λ f. AreIndexed f.map.entries f.sids.entries f.clusters };
+}
+
+/// Gives the flows up. It is written out so that it is one step wherever they end.
+impl Drop for Flows {
+    fn drop(self) {
+        let Flows {
+            map: _,
+            sids: _,
+            clusters: _,
+        } = self;
+    }
 }
 
 impl Flows {
@@ -98,19 +109,41 @@ impl Flows {
         ensures { IfOk result (λ flows. flows ≡ self ++ flow ∷ []) }
     {
         let Flows {
-            mut map,
-            mut sids,
+            map,
+            sids,
             clusters,
         } = self;
-        index_flow(&mut sids, &flow, clusters)?;
         let more = requesting_clusters(&flow);
-        map.insert(flow.id, flow)?;
+        let sids = indexed(sids, &flow, clusters)?;
+        let map = inserted(map, flow)?;
         Ok(Flows {
             map,
             sids,
             clusters: clusters + more,
         })
     }
+}
+
+/// A map of flows with one more.
+fn inserted(mut map: IndexMap<u16, Flow>, flow: Flow) -> Result<IndexMap<u16, Flow>, AllocError>
+    ensures { IfOk result (λ more. more.entries ≡ insert_entry nat_eq map.entries flow.id flow) }
+{
+    map.insert(flow.id, flow)?;
+    Ok(map)
+}
+
+/// An index with the SIDs of one more flow, of which the first cluster has this number.
+fn indexed(
+    mut sids: IndexMap<(u8, u16), Found>,
+    flow: &Flow,
+    number: u16,
+) -> Result<IndexMap<(u8, u16), Found>, AllocError>
+    requires { number + length flow.now.clusters ≤ 65535 }
+    ensures { IfOk result (λ more. more.entries ≡ insert_all same_sid sids.entries
+        (asked_from (asks flow.now.kind) number flow.now.channels flow.now.clusters)) }
+{
+    index_flow(&mut sids, flow, number)?;
+    Ok(sids)
 }
 
 /// How many clusters of a flow make requests.

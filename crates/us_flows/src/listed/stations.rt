@@ -10,7 +10,7 @@ use std::alloc::{AllocError, Global};
 use std::marker::Model;
 
 /// Stations in table order, found by id.
-#[derive(Debug, Drop)]
+#[derive(Debug)]
 pub(crate) struct Stations {
     map: IndexMap<u16, Station>,
 }
@@ -21,6 +21,13 @@ impl Model for Stations {
     ghost view = { λ c. values_of c.map.entries };
 
     ghost invariant = { λ c. c.map.entries ≡ by_id (λ station. station.id) (values_of c.map.entries) };
+}
+
+/// Gives the stations up. It is written out so that it is one step wherever they end.
+impl Drop for Stations {
+    fn drop(self) {
+        let Stations { map: _ } = self;
+    }
 }
 
 impl Stations {

@@ -1,9 +1,10 @@
+use super::{lookups, reading, turns};
 use crate::{Config, ConfigFault};
 use std::alloc::Global;
 use std::test::Fail;
 
 /// The base configuration: one channel and one flow of best effort.
-pub const BASE: &str = r#"round_ticks = 320
+const BASE: &str = r#"round_ticks = 320
 lead_ticks = 160
 
 [[channel]]
@@ -36,7 +37,7 @@ headers = true
 
 /// A configuration of two channels, a flow of each type and two stations. No line but a header is there twice, so that
 /// a change names its place by the line. The MAPs of the channels have 320 and 160 minislots.
-pub const BIG: &str = r#"round_ticks = 640
+const BIG: &str = r#"round_ticks = 640
 lead_ticks = 300
 
 [[channel]]
@@ -138,72 +139,155 @@ interval_us = 50000
 jitter_us = 1000
 "#;
 
+/// The base configuration. It is held here alone, since a long text is dear to prove with wherever it stands.
+pub fn base() -> &'static str {
+    BASE
+}
+
+/// The larger configuration, likewise.
+pub fn big() -> &'static str {
+    BIG
+}
+
+/// What makes a configuration without flows of the base configuration.
+pub const NO_FLOWS: &str =
+    "[[flow]]~id = 1~type = 2~channels = [1]~clusters = [[291]]~priority = 0~rate = 0~\
+burst = 3044~unit = 4~headers = true~ -> ";
+
+/// What a table of vectors asks of each of its configurations.
+#[derive(Clone, Copy)]
+pub enum Asked {
+    /// `ok`, or its fault: `C1`, or `C8 channel 0` where that names a table.
+    Fault,
+    /// The numbers of the top level, the channels and the stations.
+    Tables,
+    /// The flows.
+    Flows,
+    /// Which runs it allows, of a few numbers of rounds.
+    Runs,
+    /// How many clusters it has, and all that SIDs ask for on some channels.
+    Sids,
+    /// The turns of a round.
+    Turns,
+}
+
 /// Looks at changes of a configuration, each a line `ANSWER | OLD -> NEW`, and fails with those that are answered
 /// otherwise, each with its own answer behind it. `~` is a line feed, and several changes of one line are made in turn,
-/// with ` ; ` between them. A line that begins with `#` is a comment.
-pub fn check_answers(alloc: Global, base: &str, lines: &str) -> Result<(), Fail> {
-    same(others(alloc, base, lines)?, "")
+/// with ` ; ` between them. The shared changes are made first. A line that begins with `#` is a comment.
+pub fn check(
+    alloc: Global,
+    asked: Asked,
+    base: &str,
+    shared: &str,
+    lines: &str,
+) -> Result<(), Fail> {
+    let base = changed(alloc, base, shared)?;
+    let others = others(alloc, asked, base.as_str(), lines)?;
+    same(others.as_str(), "")
 }
 
-/// The lines that are answered otherwise.
-fn others(alloc: Global, base: &str, lines: &str) -> Result<String, Fail> {
-    let mut others = String::new(alloc);
-    for line in lines.lines().filter(|line| !line.starts_with('#')) {
-        let (expected, changes) = line.split_once(" | ").ok_or("a line without its answer")?;
-        let text = changed(alloc, base, changes)?;
-        let answer = answer_of(alloc, text.as_bytes())?;
-        if answer.as_str() != expected {
-            writeln!(others, "{line}: {answer}")?;
-        }
-    }
-    Ok(others)
-}
-
-/// Fails with what was found, where it isn't what is expected. A test that asserts by this function is proved sooner.
-pub fn same(found: String, expected: &str) -> Result<(), Fail> {
-    if found.as_str() == expected {
+/// Fails with what was found, where it isn't what is expected.
+pub fn same(found: &str, expected: &str) -> Result<(), Fail> {
+    if found == expected {
         Ok(())
     } else {
         Err(Fail::new(found))
     }
 }
 
+/// The lines that are answered otherwise.
+fn others(alloc: Global, asked: Asked, base: &str, lines: &str) -> Result<String, Fail> {
+    let mut others = String::new(alloc);
+    for line in lines.lines() {
+        if !line.starts_with('#') {
+            judge(&mut others, alloc, asked, base, line)?;
+        }
+    }
+    Ok(others)
+}
+
+/// Adds a line to the others, if it is answered otherwise.
+fn judge(
+    others: &mut String,
+    alloc: Global,
+    asked: Asked,
+    base: &str,
+    line: &str,
+) -> Result<(), Fail> {
+    let (expected, changes) = line.split_once(" | ").ok_or("a line without its answer")?;
+    let answer = answer_of(alloc, asked, base, changes)?;
+    if answer.as_str() != expected {
+        writeln!(others, "{line}: {answer}")?;
+    }
+    Ok(())
+}
+
+/// What a changed configuration is answered with.
+fn answer_of(alloc: Global, asked: Asked, base: &str, changes: &str) -> Result<String, Fail> {
+    let text = changed(alloc, base, changes)?;
+    let mut answer = String::new(alloc);
+    tell(&mut answer, alloc, asked, text.as_bytes())?;
+    Ok(answer)
+}
+
 /// A configuration with these changes, each at the first place that reads so; there has to be one.
 pub fn changed(alloc: Global, base: &str, changes: &str) -> Result<String, Fail> {
+    let changes = changes.replace(alloc, "~", "\n")?;
     let mut text = String::from_str(alloc, base)?;
-    for change in changes.replace(alloc, "~", "\n")?.split(" ; ") {
-        let (old, new) = change
-            .split_once(" -> ")
-            .ok_or("a change without an arrow")?;
-        let (before, after) = text
-            .as_str()
-            .split_once(old)
-            .ok_or("a place that isn't there")?;
-        text = format!(in alloc; "{before}{new}{after}")?;
+    for change in changes.split(" ; ").filter(|change| !change.is_empty()) {
+        text = with_change(alloc, text.as_str(), change)?;
     }
     Ok(text)
 }
 
-/// What a text is answered with: `ok`, or its fault, as `C1`, or as `C8 channel 0` where it names a table.
-pub fn answer_of(alloc: Global, text: &[u8]) -> Result<String, Fail> {
-    let fault = match Config::read(alloc, text) {
-        Ok(_) => return Ok(String::from_str(alloc, "ok")?),
-        Err(fault) => fault,
-    };
+/// A text with one change.
+fn with_change(alloc: Global, text: &str, change: &str) -> Result<String, Fail> {
+    let (old, new) = change
+        .split_once(" -> ")
+        .ok_or("a change without an arrow")?;
+    let (before, after) = text.split_once(old).ok_or("a place that isn't there")?;
+    Ok(format!(in alloc; "{before}{new}{after}")?)
+}
+
+/// Writes what is asked of the configuration of a text.
+pub fn tell(answer: &mut String, alloc: Global, asked: Asked, text: &[u8]) -> Result<(), Fail> {
+    match Config::read(alloc, text) {
+        Ok(config) => tell_asked(answer, asked, &config),
+        Err(fault) => tell_fault(answer, alloc, fault),
+    }
+}
+
+/// Writes what is asked of a configuration.
+fn tell_asked(answer: &mut String, asked: Asked, config: &Config) -> Result<(), Fail> {
+    match asked {
+        Asked::Fault => answer.push_str("ok")?,
+        Asked::Tables => reading::tell_tables(answer, config)?,
+        Asked::Flows => reading::tell_flows(answer, config)?,
+        Asked::Runs => reading::tell_runs(answer, config)?,
+        Asked::Sids => lookups::tell_sids(answer, config)?,
+        Asked::Turns => turns::tell_turns(answer, config)?,
+    }
+    Ok(())
+}
+
+/// Writes the number of a fault, and the table that it names.
+fn tell_fault(answer: &mut String, alloc: Global, fault: ConfigFault) -> Result<(), Fail> {
     let printed = fault.to_string(alloc)?;
     let (code, words) = printed
         .as_str()
         .split_once(": ")
         .ok_or("a fault without a code")?;
-    if fault == ConfigFault::Text || fault == ConfigFault::NoMemory {
-        return Ok(String::from_str(alloc, code)?);
+    answer.push_str(code)?;
+    if fault != ConfigFault::Text && fault != ConfigFault::NoMemory {
+        let (table, index) = last_words(words).ok_or("a fault without a table")?;
+        write!(answer, " {table} {index}")?;
     }
-    let (words, index) = words.rsplit_once(' ').ok_or("a fault without an index")?;
-    let (_, table) = words.rsplit_once(' ').ok_or("a fault without a table")?;
-    Ok(format!(in alloc; "{code} {table} {index}")?)
+    Ok(())
 }
 
-/// The configuration of a text, which has no fault.
-pub fn read(alloc: Global, text: &str) -> Result<Config, Fail> {
-    Ok(Config::read(alloc, text.as_bytes())?)
+/// The last two words of a sentence.
+fn last_words(sentence: &str) -> Option<(&str, &str)> {
+    let (before, last) = sentence.rsplit_once(' ')?;
+    let (_, last_but_one) = before.rsplit_once(' ')?;
+    Some((last_but_one, last))
 }

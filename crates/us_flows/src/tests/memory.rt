@@ -1,4 +1,4 @@
-use super::base::BIG;
+use super::base::big;
 use crate::{Config, ConfigFault};
 use std::test::Fail;
 
@@ -6,7 +6,7 @@ use std::test::Fail;
 /// among them. A refused one is answered as want of memory, and never as another fault or other tables.
 #[test]
 fn refused_memory(rt: HostRuntime) -> Result<(), Fail> {
-    match Config::read(rt.alloc(), BIG.as_bytes()) {
+    match Config::read(rt.alloc(), big().as_bytes()) {
         Ok(config) => assert_eq!(rt; config.flows().len(), 4),
         Err(fault) => assert_eq!(rt; fault, ConfigFault::NoMemory),
     }

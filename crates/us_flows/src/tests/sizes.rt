@@ -1,15 +1,17 @@
-use super::base::{BASE, answer_of, check_answers, same};
+use super::base::{Asked, base, check, same, tell};
 use crate::MAX_CONFIG_BYTES;
 use std::alloc::Global;
 use std::test::Fail;
 
-/// A configuration of so many channels, flows and stations, each with ids from 1 on. The flows are on channel 1, with
-/// their ids as SIDs.
-fn sized(alloc: Global, channels: u32, flows: u32, stations: u32) -> Result<String, Fail> {
-    let (top, rest) = BASE.split_once("[[channel]]\nid = 1").ok_or("no channel")?;
+/// Writes a configuration of so many channels, flows and stations, each with ids from 1 on. The flows are on channel 1,
+/// with their ids as SIDs.
+fn write_sized(text: &mut String, channels: u32, flows: u32, stations: u32) -> Result<(), Fail> {
+    let (top, rest) = base()
+        .split_once("[[channel]]\nid = 1")
+        .ok_or("no channel")?;
     let (channel, flow) = rest.split_once("[[flow]]\nid = 1").ok_or("no flow")?;
     let (front, end) = flow.split_once("291").ok_or("no SID")?;
-    let mut text = String::from_str(alloc, top)?;
+    text.push_str(top)?;
     for id in 1..=channels {
         write!(text, "[[channel]]\nid = {id}{channel}")?;
     }
@@ -17,10 +19,26 @@ fn sized(alloc: Global, channels: u32, flows: u32, stations: u32) -> Result<Stri
         write!(text, "[[flow]]\nid = {id}{front}{id}{end}")?;
     }
     for id in 1..=stations {
-        write!(text, "[[station]]\nid = {id}\nchannel = 1\nsid = 1\n")?;
-        write!(text, "start_us = 0\ninterval_us = 100\njitter_us = 0\n")?;
+        write!(
+            text,
+            "[[station]]\nid = {id}\nchannel = 1\nsid = 1\nstart_us = 0\n"
+        )?;
+        write!(text, "interval_us = 100\njitter_us = 0\n")?;
     }
-    Ok(text)
+    Ok(())
+}
+
+/// Looks at changes of a configuration of so many channels, flows and stations.
+fn check_sized(
+    alloc: Global,
+    channels: u32,
+    flows: u32,
+    stations: u32,
+    lines: &str,
+) -> Result<(), Fail> {
+    let mut text = String::new(alloc);
+    write_sized(&mut text, channels, flows, stations)?;
+    check(alloc, Asked::Fault, text.as_str(), "", lines)
 }
 
 /// Of 16 channels, 1 flow and 256 stations.
@@ -41,20 +59,26 @@ C6 flow 1023 | clusters = [[1024]] -> clusters = [[1023]]";
 
 #[test]
 fn most_tables(rt: HostRuntime) -> Result<(), Fail> {
-    let channels = sized(rt.alloc(), 16, 1, 256)?;
-    check_answers(rt.alloc(), channels.as_str(), MOST_CHANNELS)?;
-    let flows = sized(rt.alloc(), 1, 1_024, 0)?;
-    check_answers(rt.alloc(), flows.as_str(), MOST_FLOWS)
+    check_sized(rt.alloc(), 16, 1, 256, MOST_CHANNELS)?;
+    check_sized(rt.alloc(), 1, 1_024, 0, MOST_FLOWS)
 }
 
 /// A text of as many bytes as there may be, and one more.
 #[test]
 fn longest_text(rt: HostRuntime) -> Result<(), Fail> {
-    let mut text = Vec::new(rt.alloc());
-    text.extend_from_slice(BASE.as_bytes())?;
+    let mut answers = String::new(rt.alloc());
+    tell_longest(&mut answers, rt.alloc())?;
+    same(answers.as_str(), "ok, C1")
+}
+
+/// Writes what they are answered with.
+fn tell_longest(answers: &mut String, alloc: Global) -> Result<(), Fail> {
+    let mut text = Vec::new(alloc);
+    text.extend_from_slice(base().as_bytes())?;
     text.push(b'#')?;
     text.resize(MAX_CONFIG_BYTES, b'-')?;
-    same(answer_of(rt.alloc(), &text)?, "ok")?;
+    tell(answers, alloc, Asked::Fault, &text)?;
+    answers.push_str(", ")?;
     text.push(b'-')?;
-    same(answer_of(rt.alloc(), &text)?, "C1")
+    tell(answers, alloc, Asked::Fault, &text)
 }

@@ -6,7 +6,7 @@ use std::marker::Model;
 use us_slots::NoMemory;
 
 /// A run: minislots side by side with one holder, as many as there are.
-#[derive(Clone, Copy, Debug, PartialEq, Eq)]
+#[derive(Clone, Copy)]
 pub(crate) struct Run {
     start: u32,
     slots: u32,
@@ -53,9 +53,10 @@ pub(super) fn grouped(alloc: Global, cells: &[Option<u32>]) -> Result<Vec<Run>, 
     let mut start = 0;
     while start < cells.len() {
         let end = end_of(cells, start);
+        let slots = (end - start) as u32;
         found.push(Run {
             start: start as u32,
-            slots: (end - start) as u32,
+            slots,
             holder: cells[start],
         })?;
         start = end;

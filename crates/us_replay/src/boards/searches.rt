@@ -67,5 +67,11 @@ pub(super) fn free_count(cells: &[Option<u32>]) -> u32
     requires { length cells.now ≤ 4096 }
     ensures { result ≡ count_by is_none cells.now }
 {
-    cells.iter().filter(|cell| cell.is_none()).count() as u32
+    let mut count = 0;
+    for cell in cells {
+        if cell.is_none() {
+            count += 1;
+        }
+    }
+    count
 }

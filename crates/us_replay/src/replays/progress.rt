@@ -22,7 +22,7 @@ use us_requests::{Ask, Counts};
 use us_slots::NoMemory;
 
 /// A replay between two rounds: the state, the lines so far, and the buffers that every round uses again.
-#[derive(Debug, Drop)]
+#[derive(Drop)]
 pub(crate) struct Progress {
     state: State,
     cut: Vec<u64>,

@@ -4,7 +4,7 @@ ghost use Rattle.us_replay.specs.Replays.{is_granted, is_missed};
 use crate::lines::Row;
 
 /// How many lines of the report are of grants, and how many of missed occurrences.
-#[derive(Clone, Copy, Debug, PartialEq, Eq, Hash)]
+#[derive(Clone, Copy)]
 pub(crate) struct Tally {
     pub(crate) granted: u64,
     pub(crate) missed: u64,

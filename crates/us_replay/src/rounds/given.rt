@@ -6,7 +6,7 @@ use std::marker::Model;
 use us_codec::Map;
 
 /// What a round gives: the MAP of each channel in table order, and its lines.
-#[derive(Debug, Drop)]
+#[derive(Drop)]
 pub(crate) struct Given {
     round: u32,
     maps: Vec<Map>,

@@ -10,7 +10,7 @@ use us_requests::ClusterState;
 use us_slots::NoMemory;
 
 /// What a round starts from: its number, and what is outstanding of each cluster.
-#[derive(Debug, Drop)]
+#[derive(Drop)]
 pub(crate) struct State {
     round: u32,
     outstanding: Vec<ClusterState>,

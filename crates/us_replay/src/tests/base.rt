@@ -1,5 +1,5 @@
 use std::alloc::Global;
-use std::test::Fail;
+use std::process::Abort;
 use us_flows::{Config, ConfigFault};
 
 /// The base configuration of the formats: one channel of 160 minislots, one best-effort flow with SID 291.
@@ -51,15 +51,7 @@ pub(super) fn base(alloc: Global) -> Result<Config, ConfigFault> {
     Config::read(alloc, BASE.as_bytes())
 }
 
-/// The base configuration without its flow.
-pub(super) fn without_flows(alloc: Global) -> Result<Config, ConfigFault> {
-    let (before, _) = BASE.split_once("[[flow]]").unwrap_or(("", ""));
-    Config::read(alloc, before.as_bytes())
-}
-
-/// The base configuration with one text in it replaced, and more behind its last line.
-pub(super) fn changed(alloc: Global, from: &str, to: &str, more: &str) -> Result<Config, Fail> {
-    let (before, behind) = BASE.split_once(from).ok_or("nothing to change")?;
-    let text = format!(in alloc; "{before}{to}{behind}{more}")?;
-    Ok(Config::read(alloc, text.as_bytes())?)
+/// Asserts that two texts are one. The tests' only assertion on texts: each place of one is proved anew.
+pub(super) fn same(rt: &impl Abort, found: &str, wanted: &str) {
+    assert_eq!(rt; found, wanted);
 }

@@ -1,81 +1,131 @@
+use super::base::same;
 use crate::lines::push_line;
-use crate::{Entry, Row};
+use crate::texts::push_lines;
+use crate::{Entry, Row, RunFault};
+use std::alloc::{AllocError, Global};
+use std::fmt::Write;
+use std::str;
 use std::test::Fail;
+use us_requests::TraceFault;
 
-#[test]
-fn a_line_of_each_kind(rt: HostRuntime) -> Result<(), Fail> {
-    let mut text = Vec::new(rt.alloc());
-    for row in [
-        Row::Granted {
-            round: 1,
-            channel: 1,
-            entry: Entry::Requested,
-            id: 1,
-            i: 0,
-            k: 0,
-            sid: 291,
-            iuc: 10,
-            start: 0,
-            slots: 32,
-            credit: 1_000,
-        },
-        Row::Missed {
-            round: 5,
-            channel: 1,
-            entry: Entry::Unsolicited,
-            id: 1,
-            i: 1,
-            k: 0,
-        },
-        Row::Final {
-            flow: 1,
-            cluster: 0,
-            outstanding: 0,
-            units: None,
-        },
-        Row::Final {
-            flow: 1,
-            cluster: 0,
-            outstanding: 7_838,
-            units: Some(0),
-        },
-        Row::Counts {
-            unknown: 0,
-            not_requestable: 0,
-            late: u64::MAX,
-        },
-    ] {
-        push_line(&mut text, &row)?;
-    }
-    let expected = "G,1,1,req,1,0,0,291,10,0,32,1000\n\
-        M,5,1,ugs,1,1,0\n\
-        F,1,0,0,-\n\
-        F,1,0,7838,0\n\
-        U,0,0,18446744073709551615\n";
-    assert_eq!(rt; text.as_slice(), expected.as_bytes());
-    Ok(())
-}
+/// A line of each kind.
+const ROWS: [Row; 5] = [
+    Row::Granted {
+        round: 1,
+        channel: 1,
+        entry: Entry::Requested,
+        id: 1,
+        i: 0,
+        k: 0,
+        sid: 291,
+        iuc: 10,
+        start: 0,
+        slots: 32,
+        credit: 1_000,
+    },
+    Row::Missed {
+        round: 5,
+        channel: 1,
+        entry: Entry::Unsolicited,
+        id: 1,
+        i: 1,
+        k: 0,
+    },
+    Row::Final {
+        flow: 1,
+        cluster: 0,
+        outstanding: 0,
+        units: None,
+    },
+    Row::Final {
+        flow: 1,
+        cluster: 0,
+        outstanding: 7_838,
+        units: Some(0),
+    },
+    Row::Counts {
+        unknown: 0,
+        not_requestable: 0,
+        late: u64::MAX,
+    },
+];
 
-#[test]
-fn words(rt: HostRuntime) -> Result<(), Fail> {
-    for (entry, expected) in [
-        (Entry::Unsolicited, "M,9,2,ugs,3,4,5\n"),
-        (Entry::RealTimePoll, "M,9,2,rtp,3,4,5\n"),
-        (Entry::NonRealTimePoll, "M,9,2,nrtp,3,4,5\n"),
-        (Entry::Station, "M,9,2,station,3,4,5\n"),
-        (Entry::Requested, "M,9,2,req,3,4,5\n"),
-    ] {
+const ENTRIES: [Entry; 5] = [
+    Entry::Unsolicited,
+    Entry::RealTimePoll,
+    Entry::NonRealTimePoll,
+    Entry::Station,
+    Entry::Requested,
+];
+
+const LINES: &str = "\
+G,1,1,req,1,0,0,291,10,0,32,1000
+M,5,1,ugs,1,1,0
+F,1,0,0,-
+F,1,0,7838,0
+U,0,0,18446744073709551615
+M,9,2,ugs,3,4,5
+M,9,2,rtp,3,4,5
+M,9,2,nrtp,3,4,5
+M,9,2,station,3,4,5
+M,9,2,req,3,4,5
+";
+
+/// Adds a line of a missed occurrence for each entry.
+fn push_words(text: &mut Vec<u8>) -> Result<(), AllocError> {
+    for entry in &ENTRIES {
         let row = Row::Missed {
             round: 9,
             channel: 2,
-            entry,
+            entry: *entry,
             id: 3,
             i: 4,
             k: 5,
         };
-        let mut text = Vec::new(rt.alloc());
-        push_line(&mut text, &row)?;
-        assert_eq!(rt; text.as_slice(), expected.as_bytes());
+        push_line(text, &row)?;
     }
+    Ok(())
+}
+
+#[test]
+fn a_line_of_each_kind_and_word(rt: HostRuntime) -> Result<(), Fail> {
+    let mut text = Vec::new(rt.alloc());
+    push_lines(&mut text, &ROWS).map_err(|_| "memory")?;
+    push_words(&mut text)?;
+    same(&rt, str::from_utf8(&text)?, LINES);
+    Ok(())
+}
+
+const FAULTS: [RunFault; 6] = [
+    RunFault::Rounds,
+    RunFault::Trace(TraceFault::Header),
+    RunFault::WriteMaps(0),
+    RunFault::WriteReport(7),
+    RunFault::NoMemory(1),
+    RunFault::NotServed,
+];
+
+const TEXTS: &str = "\
+RU1: no rounds, or more than a run has ticks for
+RU3: the trace is refused
+RU4: the maps file failed after 0 rounds
+RU5: the report failed after 7 rounds
+RU6: out of memory after 1 rounds
+RU7: the configuration is not served yet
+";
+
+/// The texts of all these faults, one a line.
+fn texts(alloc: Global) -> Result<String, Fail> {
+    let mut text = String::new(alloc);
+    for fault in &FAULTS {
+        writeln!(text, "{fault}")?;
+    }
+    Ok(text)
+}
+
+#[test]
+fn texts_of_run_faults(rt: HostRuntime) -> Result<(), Fail> {
+    let text = texts(rt.alloc())?;
+    same(&rt, text.as_str(), TEXTS);
     Ok(())
 }

@@ -1,11 +1,92 @@
-use crate::{Ask, Trace, TraceFault};
-use std::alloc::Global;
-use std::test::Fail;
-use us_flows::{Config, ConfigFault};
-use us_slots::FromRead;
+ghost use Rattle.std.specs.Prelude.{◌≡◌, false};
 
-/// What a channel has besides its id: minislots of a tick, and no reserves, so that it may have rounds of any length.
-const CHANNEL: &str = "minislot_log2 = 0
+use crate::{Trace, TraceFault};
+use std::alloc::{AllocError, Global};
+use std::io::{self, ErrorKind, Read};
+use std::process::Abort;
+use us_flows::{Config, ConfigFault};
+use us_slots::{FromRead, Source};
+
+/// A trace that is read, and what is answered.
+#[derive(Clone, Copy)]
+pub(super) struct Case<'a> {
+    pub(super) name: &'a str,
+    pub(super) round_ticks: u32,
+    pub(super) lead_ticks: u32,
+    /// The channels and flows.
+    pub(super) tables: &'a str,
+    pub(super) rounds: u32,
+    pub(super) reader: Repeated<'a>,
+    /// The rounds whose asks are looked at.
+    pub(super) looked_at: &'a [u32],
+    /// How often the reader is asked; 0 where that isn't looked at.
+    pub(super) reads: usize,
+    pub(super) answer: &'a str,
+}
+
+/// A reader of a text, then of so many copies of a row, and then of a last piece, behind which may be a fault. It gives
+/// at most `piece` bytes a call, and counts its calls.
+#[derive(Clone, Copy, Drop)]
+pub(super) struct Repeated<'a> {
+    pub(super) text: &'a [u8],
+    pub(super) row: &'a [u8],
+    pub(super) left: u32,
+    pub(super) last: &'a [u8],
+    pub(super) piece: usize,
+    pub(super) fails: bool,
+    pub(super) reads: usize,
+}
+
+impl<'a> Read for Repeated<'a> {
+    fn read(&mut self, buf: &mut [u8]) -> io::Result<usize> {
+        self.reads = self.reads.saturating_add(1);
+        if self.text.is_empty() && self.left > 0 {
+            self.text = self.row;
+            self.left -= 1;
+        } else if self.text.is_empty() {
+            self.text = self.last;
+            self.last = &[];
+        }
+        let count = self.text.len().min(self.piece).min(buf.len());
+        if count == 0 && self.fails {
+            return Err(io::Error::from(ErrorKind::BrokenPipe));
+        }
+        buf[..count].copy_from_slice(&self.text[..count]);
+        self.text = &self.text[count..];
+        Ok(count)
+    }
+}
+
+/// The header, and no row.
+pub(super) const HEADER: Repeated<'static> = Repeated {
+    text: b"tick,channel,sid,units\n",
+    row: b"",
+    left: 0,
+    last: b"",
+    piece: usize::MAX,
+    fails: false,
+    reads: 0,
+};
+
+/// A run of 4 rounds with the base configuration.
+pub(super) const BASE: Case<'static> = Case {
+    name: "no rows",
+    round_ticks: 320,
+    lead_ticks: 160,
+    tables: ONE_FLOW,
+    rounds: 4,
+    reader: HEADER,
+    looked_at: &[],
+    reads: 0,
+    answer: "4 rounds, Counts { unknown: 0, not_requestable: 0, late: 0 }",
+};
+
+/// A flow with one cluster, of SID 291 on channel 1, and units of 4 bytes. The channel has minislots of a tick, and no
+/// reserves, so that it may have rounds of any length.
+const ONE_FLOW: &str = "
+[[channel]]
+id = 1
+minislot_log2 = 0
 rate_log2 = 5
 ucd_count = 0
 ranging_backoff = [2, 6]
@@ -18,10 +99,7 @@ station_minislots = 4
 long = { bits = 4, preamble = 24, guard = 8, fec_t = 0, fec_k = 200, shortened = false }
 short = { bits = 4, preamble = 24, guard = 8, fec_t = 0, fec_k = 200, shortened = false, max_minislots = 10 }
 unsolicited = { bits = 4, preamble = 24, guard = 8, fec_t = 0, fec_k = 200, shortened = false }
-";
 
-/// A flow with one cluster, of SID 291 on channel 1, and units of 4 bytes.
-const FLOW: &str = "
 [[flow]]
 id = 1
 type = 2
@@ -34,8 +112,52 @@ unit = 4
 headers = true
 ";
 
-/// More flows: one of unsolicited grants between two of two clusters each.
-const MORE_FLOWS: &str = "
+/// The same and more flows: one of unsolicited grants between two of two clusters each; and two of channel 2, one of both
+/// channels, and one with a SID that a flow of channel 1 has too.
+pub(super) const MORE_FLOWS: &str = "
+[[channel]]
+id = 1
+minislot_log2 = 0
+rate_log2 = 5
+ucd_count = 0
+ranging_backoff = [2, 6]
+data_backoff = [3, 8]
+request_minislots = 2
+contention_minislots = 0
+maintenance_minislots = 0
+maintenance_every = 1
+station_minislots = 4
+long = { bits = 4, preamble = 24, guard = 8, fec_t = 0, fec_k = 200, shortened = false }
+short = { bits = 4, preamble = 24, guard = 8, fec_t = 0, fec_k = 200, shortened = false, max_minislots = 10 }
+unsolicited = { bits = 4, preamble = 24, guard = 8, fec_t = 0, fec_k = 200, shortened = false }
+
+[[channel]]
+id = 2
+minislot_log2 = 0
+rate_log2 = 5
+ucd_count = 0
+ranging_backoff = [2, 6]
+data_backoff = [3, 8]
+request_minislots = 2
+contention_minislots = 0
+maintenance_minislots = 0
+maintenance_every = 1
+station_minislots = 4
+long = { bits = 4, preamble = 24, guard = 8, fec_t = 0, fec_k = 200, shortened = false }
+short = { bits = 4, preamble = 24, guard = 8, fec_t = 0, fec_k = 200, shortened = false, max_minislots = 10 }
+unsolicited = { bits = 4, preamble = 24, guard = 8, fec_t = 0, fec_k = 200, shortened = false }
+
+[[flow]]
+id = 1
+type = 2
+channels = [1]
+clusters = [[291]]
+priority = 0
+rate = 0
+burst = 3044
+unit = 4
+headers = true
+
 [[flow]]
 id = 2
 type = 2
@@ -71,10 +193,7 @@ headers = true
 start_us = 0
 interval_us = 10000
 jitter_us = 500
-";
 
-/// And two of channel 2: one of both channels, and one with a SID that a flow of channel 1 has too.
-const FLOWS_OF_CHANNEL_2: &str = "
 [[flow]]
 id = 5
 type = 4
@@ -101,78 +220,83 @@ unit = 1
 headers = false
 ";
 
-/// The header of a trace.
-pub(super) const HEADER: &[u8] = b"tick,channel,sid,units\n";
-
-/// The base configuration: a round of 320 ticks, a lead of 160, and SID 291 on channel 1 with units of 4 bytes.
-pub(super) fn base(alloc: Global) -> Result<Config, ConfigFault> {
-    with_rounds(alloc, 320, 160)
+/// Reads the trace of each case, and compares what is answered.
+pub(super) fn compare(
+    rt: &impl Abort,
+    alloc: Global,
+    cases: &[Case<'_>],
+) -> Result<(), AllocError> {
+    for case in cases {
+        let answer = answer_of(alloc, case)?;
+        same(rt, case.name, answer.as_str(), case.answer);
+    }
+    Ok(())
 }
 
-/// The base configuration with other rounds and another lead.
-pub(super) fn with_rounds(
+/// The one comparison of these tests.
+pub(super) fn same(rt: &impl Abort, name: &str, found: &str, wanted: &str) {
+    assert_eq!(rt; found, wanted, "{name}");
+}
+
+/// What is answered: the fault, or the rounds, the counts and the asks of the rounds that are looked at.
+pub(super) fn answer_of(alloc: Global, case: &Case<'_>) -> Result<String, AllocError> {
+    let mut answer = String::new(alloc);
+    let mut source = FromRead::new(case.reader);
+    match trace_of(alloc, case, &mut source) {
+        Ok(trace) => tell_trace(&mut answer, &trace, case.looked_at)?,
+        Err(fault) => write!(answer, "{fault}")?,
+    }
+    tell_source(&mut answer, case, source)?;
+    Ok(answer)
+}
+
+/// The trace of a case. What can only be wrong with its configuration is said to be that too: want of memory.
+pub(super) fn trace_of(
     alloc: Global,
-    round_ticks: u32,
-    lead_ticks: u32,
-) -> Result<Config, ConfigFault> {
+    case: &Case<'_>,
+    source: &mut FromRead<Repeated<'_>>,
+) -> Result<Trace, TraceFault>
+    requires { source.old.failed ≡ false }
+{
+    if let Ok(config) = config_of(alloc, case) {
+        if config.rounds_fit(case.rounds) {
+            return Trace::read(alloc, source, &config, case.rounds);
+        }
+    }
+    Err(TraceFault::NoMemory)
+}
+
+fn config_of(alloc: Global, case: &Case<'_>) -> Result<Config, ConfigFault> {
     let text = format!(in alloc;
-        "round_ticks = {round_ticks}\nlead_ticks = {lead_ticks}\n[[channel]]\nid = 1\n{CHANNEL}{FLOW}"
+        "round_ticks = {}\nlead_ticks = {}\n{}",
+        case.round_ticks, case.lead_ticks, case.tables
     )?;
     Config::read(alloc, text.as_bytes())
 }
 
-/// The base configuration with a second channel, and more flows behind its own.
-pub(super) fn with_more_flows(alloc: Global) -> Result<Config, Fail> {
-    let text = format!(in alloc;
-        "round_ticks = 320\nlead_ticks = 160\n[[channel]]\nid = 1\n{CHANNEL}\n[[channel]]\nid = 2\n{CHANNEL}{FLOW}{MORE_FLOWS}{FLOWS_OF_CHANNEL_2}"
-    )?;
-    Ok(Config::read(alloc, text.as_bytes())?)
-}
-
-/// What a text answers with the base configuration in a run of 4 rounds.
-pub(super) fn read(alloc: Global, text: &[u8]) -> Result<Result<Trace, TraceFault>, Fail> {
-    let config = base(alloc)?;
-    read_for(alloc, &config, 4, text)
-}
-
-/// The same with another configuration and so many rounds.
-pub(super) fn read_for(
-    alloc: Global,
-    config: &Config,
-    rounds: u32,
-    text: &[u8],
-) -> Result<Result<Trace, TraceFault>, Fail> {
-    let mut source = FromRead::new(text);
-    if !config.rounds_fit(rounds) {
-        return Err(Fail::from("a longer run than there may be"));
+/// Of a round the number of its asks and the first ones.
+fn tell_trace(answer: &mut String, trace: &Trace, looked_at: &[u32]) -> Result<(), AllocError> {
+    write!(answer, "{} rounds, {:?}", trace.rounds(), trace.counts())?;
+    for round in looked_at {
+        let asks = trace.asks(*round);
+        let first = &asks[..asks.len().min(7)];
+        write!(answer, ", {round}: {} {first:?}", asks.len())?;
     }
-    Ok(Trace::read(alloc, &mut source, config, rounds))
+    Ok(())
 }
 
-/// A text of the header and `rows`.
-pub(super) fn behind_header(alloc: Global, rows: &[u8]) -> Result<Vec<u8>, Fail> {
-    let mut text = Vec::new(alloc);
-    text.extend_from_slice(HEADER)?;
-    text.extend_from_slice(rows)?;
-    Ok(text)
-}
-
-/// Asks, each as its cluster and its bytes.
-pub(super) fn asks(alloc: Global, clusters: &[(u16, u32)]) -> Result<Vec<Ask>, Fail> {
-    let mut asks = Vec::new(alloc);
-    for (cluster, bytes) in clusters {
-        asks.push(Ask {
-            cluster: *cluster,
-            bytes: *bytes,
-        })?;
+/// Whether the source says that it failed, and how often it was asked where that isn't as the case has it.
+fn tell_source(
+    answer: &mut String,
+    case: &Case<'_>,
+    source: FromRead<Repeated<'_>>,
+) -> Result<(), AllocError> {
+    if source.has_failed() {
+        answer.push_str(", as it says")?;
     }
-    Ok(asks)
-}
-
-/// So many units of 4 bytes of the one cluster of the base configuration.
-pub(super) fn units(units: u32) -> Ask {
-    Ask {
-        cluster: 0,
-        bytes: units.saturating_mul(4),
+    let reads = source.into_inner().reads;
+    if case.reads != 0 && case.reads != reads {
+        write!(answer, ", asked {reads} times")?;
     }
+    Ok(())
 }

@@ -1,7 +1,43 @@
-use super::base::{HEADER, base, read_for, units};
-use crate::TraceFault;
-use std::alloc::{AllocError, Global};
-use std::test::Fail;
+use super::base::{BASE, Case, HEADER, Repeated, answer_of, same};
+
+/// No test of its own: run with `--fail-alloc`, where each allocation is refused in turn, of the text, its records, its
+/// requests and its asks by round among them. A refused one is answered as want of memory, and never as another fault or
+/// a wrong trace. There are so many rows that lists grow and that asks are sorted in more than their place.
+#[test]
+fn refused_memory(rt: HostRuntime) {
+    // else it was refused to the configuration or to the answer's text
+    if let Ok(answer) = answer_of(rt.alloc(), &CASE) {
+        if answer.as_str() != "TR6: out of memory" {
+            same(&rt, CASE.name, answer.as_str(), CASE.answer);
+        }
+    }
+}
+
+static CASE: Case<'static> = Case {
+    name: "memory",
+    rounds: 7,
+    reader: Repeated {
+        row: ROWS,
+        left: 6,
+        ..HEADER
+    },
+    looked_at: &[1, 2, 3, 4, 5, 6],
+    answer: "\
+        7 rounds, Counts { unknown: 6, not_requestable: 0, late: 6 }, 1: 12 [Ask { cluster: 0, bytes: 4 }, \
+        Ask { cluster: 0, bytes: 8 }, Ask { cluster: 0, bytes: 4 }, Ask { cluster: 0, bytes: 8 }, \
+        Ask { cluster: 0, bytes: 4 }, Ask { cluster: 0, bytes: 8 }, Ask { cluster: 0, bytes: 4 }], \
+        2: 6 [Ask { cluster: 0, bytes: 12 }, Ask { cluster: 0, bytes: 12 }, Ask { cluster: 0, bytes: 12 }, \
+        Ask { cluster: 0, bytes: 12 }, Ask { cluster: 0, bytes: 12 }, Ask { cluster: 0, bytes: 12 }], \
+        3: 6 [Ask { cluster: 0, bytes: 16 }, Ask { cluster: 0, bytes: 16 }, Ask { cluster: 0, bytes: 16 }, \
+        Ask { cluster: 0, bytes: 16 }, Ask { cluster: 0, bytes: 16 }, Ask { cluster: 0, bytes: 16 }], \
+        4: 6 [Ask { cluster: 0, bytes: 20 }, Ask { cluster: 0, bytes: 20 }, Ask { cluster: 0, bytes: 20 }, \
+        Ask { cluster: 0, bytes: 20 }, Ask { cluster: 0, bytes: 20 }, Ask { cluster: 0, bytes: 20 }], \
+        5: 6 [Ask { cluster: 0, bytes: 24 }, Ask { cluster: 0, bytes: 24 }, Ask { cluster: 0, bytes: 24 }, \
+        Ask { cluster: 0, bytes: 24 }, Ask { cluster: 0, bytes: 24 }, Ask { cluster: 0, bytes: 24 }], \
+        6: 6 [Ask { cluster: 0, bytes: 28 }, Ask { cluster: 0, bytes: 28 }, Ask { cluster: 0, bytes: 28 }, \
+        Ask { cluster: 0, bytes: 28 }, Ask { cluster: 0, bytes: 28 }, Ask { cluster: 0, bytes: 28 }]",
+    ..BASE
+};
 
 /// Rows of six rounds, and of none.
 const ROWS: &[u8] = b"500,1,291,4
@@ -14,36 +50,3 @@ const ROWS: &[u8] = b"500,1,291,4
 1000000,1,291,9
 1121,1,291,6
 ";
-
-/// A text of so many of these rows that lists grow and that asks are sorted in more than their place.
-fn text(alloc: Global) -> Result<Vec<u8>, AllocError> {
-    let mut text = HEADER.to_vec(alloc)?;
-    for _ in 0..6 {
-        text.extend_from_slice(ROWS)?;
-    }
-    Ok(text)
-}
-
-/// No test of its own: run with `--fail-alloc`, where each allocation is refused in turn, of the text, its records, its
-/// requests and its asks by round among them. A refused one is answered as want of memory, and never as another fault or
-/// a wrong trace.
-#[test]
-fn refused_memory(rt: HostRuntime) -> Result<(), Fail> {
-    let Ok(config) = base(rt.alloc()) else {
-        return Ok(());
-    };
-    let Ok(text) = text(rt.alloc()) else {
-        return Ok(());
-    };
-    match read_for(rt.alloc(), &config, 7, &text)? {
-        Ok(trace) => {
-            assert_eq!(rt; trace.asks(1).len(), 12);
-            for (round, asked) in [(2, 3), (3, 4), (4, 5), (5, 6), (6, 7)] {
-                assert_eq!(rt; trace.asks(round), [units(asked); 6].as_slice());
-            }
-            assert_eq!(rt; (trace.counts().unknown, trace.counts().late), (6, 6));
-        }
-        Err(fault) => assert_eq!(rt; fault, TraceFault::NoMemory),
-    }
-    Ok(())
-}

@@ -1,7 +1,7 @@
-use Rattle.mapsim.proofs.SummaryLemmas.{summarized}
+use Rattle.mapsim.proofs.SummaryLemmas.{printed}
 use Rattle.mapsim.proofs.replaying.replay_files.Goals as goal
 
 pub returns-clause-printed : goal.returns-clause-printed
 returns-clause-printed g c =
-    summarized c.in_ok-config.config c.args.order.now.rounds _ _ _ c.in_ok-summary.summary _ _ c.print_summary.result
-    c.in_ok-summary.ensures.replayed c.print_summary.ensures.printed
+    printed c.args.order.now.rounds _ _ _ c.print_summary.result c.in_ok-summary.ensures.summary
+    c.print_summary.ensures.printed

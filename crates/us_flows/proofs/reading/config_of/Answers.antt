@@ -1,40 +1,29 @@
-use Rattle.std.proofs.Common.{arith, ap, sym, ◌∙◌}
-use Rattle.toml.specs.View.{table_view, items_view}
-use Rattle.us_flows.specs.Shapes.{count}
-use Rattle.us_flows.proofs.DocumentLemmas.{count_view}
-use Rattle.us_flows.proofs.TableLemmas.{top_is, accepted}
+use Rattle.std.proofs.Common.{sym, ◌∙◌}
+use Rattle.std.proofs.lemmas.Result.{err_from_is_err_and}
+use Rattle.toml.specs.View.{table_view}
+use Rattle.us_flows.specs.Checks.{first_fault}
+use Rattle.us_flows.proofs.JudgedLemmas.{carried}
+use Rattle.us_flows.proofs.TableLemmas.{round_fits, few_channels, top_judged, found_in_channels}
 use Rattle.us_flows.proofs.reading.config_of.Goals as goal
 
-pub overflow_cast-round_ticks : goal.overflow_cast-round_ticks
-overflow_cast-round_ticks c =
-    let ranges = top_is (table_view c.args.document.now) (sym c.top_fault.ensures ∙ c.in_default.is) in
-    omega (arith, c.number_at-round_ticks.ensures, ranges.round_ticks.1)
+pub returns-in-Some-clause-judged : goal.returns-in-Some-clause-judged
+returns-in-Some-clause-judged c =
+    top_judged (table_view c.args.document.now) c.in-Some.fault _ (sym c.top_fault.ensures ∙ c.in-Some.is)
 
-pub overflow_cast-lead_ticks : goal.overflow_cast-lead_ticks
-overflow_cast-lead_ticks c =
-    let ranges = top_is (table_view c.args.document.now) (sym c.top_fault.ensures ∙ c.in_default.is) in
-    omega (arith, c.number_at-lead_ticks.ensures, ranges.lead_ticks.1)
+pub u32_at-round_ticks-requires : goal.u32_at-round_ticks-requires
+u32_at-round_ticks-requires c = round_fits (table_view c.args.document.now) (sym c.top_fault.ensures ∙ c.in_default.is)
 
 pub channels_of-requires : goal.channels_of-requires
 channels_of-requires c =
-    let ranges = top_is (table_view c.args.document.now) (sym c.top_fault.ensures ∙ c.in_default.is) in
-    omega (arith, count_view c.items_at.result.now, ap count c.items_at.ensures, ranges.channels.1)
+    few_channels (table_view c.args.document.now) c.items_at.result.now (sym c.top_fault.ensures ∙ c.in_default.is)
+    c.items_at.ensures
 
-pub flows_of-requires : goal.flows_of-requires
-flows_of-requires c =
-    let ranges = top_is (table_view c.args.document.now) (sym c.top_fault.ensures ∙ c.in_default.is) in
-    omega (arith, count_view c.items_at-2.result.now, ap count c.items_at-2.ensures, ranges.flows)
-
-pub stations_of-requires : goal.stations_of-requires
-stations_of-requires c =
-    let ranges = top_is (table_view c.args.document.now) (sym c.top_fault.ensures ∙ c.in_default.is) in
-    omega (arith, count_view c.items_at-3.result.now, ap count c.items_at-3.ensures, ranges.stations)
-
-pub new-requires : goal.new-requires
-new-requires c =
-    accepted (table_view c.args.document.now) c.number_at-round_ticks.result c.number_at-lead_ticks.result
-    c.in_ok-channels.channels c.in_ok-flows.flows c.in_ok-stations.stations (items_view c.items_at.result.now)
-    (items_view c.items_at-2.result.now) (items_view c.items_at-3.result.now)
-    (sym c.top_fault.ensures ∙ c.in_default.is) c.number_at-round_ticks.ensures c.number_at-lead_ticks.ensures
-    c.items_at.ensures c.items_at-2.ensures c.items_at-3.ensures c.in_ok-channels.ensures.0 c.in_ok-channels.ensures.1
-    c.in_ok-flows.ensures.0 c.in_ok-flows.ensures.1 c.in_ok-stations.ensures.0 c.in_ok-stations.ensures.1
+pub returns-in_err-channels-clause-judged : goal.returns-in_err-channels-clause-judged
+returns-in_err-channels-clause-judged c =
+    let passed = err_from_is_err_and c.from_residual.result c.from_residual.ensures.1 in
+    let found = rw c.items_at.ensures at c.in_err-channels.ensures in
+    rw (passed.1, passed.2) (
+    carried c.in_err-channels.field-0.0 _ (first_fault (table_view c.args.document.now)) _ _
+    (found_in_channels (table_view c.args.document.now) c.u32_at-round_ticks.result c.in_err-channels.field-0.0
+    (sym c.top_fault.ensures ∙ c.in_default.is) c.u32_at-round_ticks.ensures) found
+    )
