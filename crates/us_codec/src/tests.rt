@@ -1,11 +1,10 @@
 //! What no clause says: outside bytes, texts, memory, and a plain program.
 
 mod base;
-mod building;
+mod bodies;
+mod faults;
 mod files;
 mod limits;
 mod memory;
 mod plain;
-mod reading;
-mod texts;
 mod values;

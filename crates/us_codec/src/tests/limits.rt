@@ -1,66 +1,65 @@
-use super::base::{BASE_HEAD, element};
-use crate::{Element, MAX_BODY_BYTES, MAX_ELEMENTS, MAX_LEN, Map, MapFault, decode, encode_into};
-use std::alloc::Global;
-use std::test::Fail;
-use us_slots::Iuc;
+ghost use Rattle.std.specs.Prelude.{◌≤◌};
 
-/// As many long data grants, a minislot each from minislot 0 on.
-fn grants(alloc: Global, count: u16) -> Result<Vec<Element>, Fail> {
+use super::base::{BASE_HEAD, count_of, element, is_written_again, same};
+use crate::{Element, MAX_BODY_BYTES, MAX_LEN, Map, MapFault, decode, encode_into};
+use std::alloc::{AllocError, Global};
+
+/// As many long data grants: a minislot each from minislot 0 on, or all of them pending at this length.
+fn grants(alloc: Global, count: u16, pending: Option<u16>) -> Result<Vec<Element>, AllocError> {
     let mut all = Vec::new(alloc);
-    for offset in 0..count {
-        all.push(element(1, 10, offset).ok_or("grant")?)?;
+    for number in 0..count {
+        let fields = match pending {
+            Some(len) => (number, 10, len),
+            None => (1, 10, number),
+        };
+        all.extend(element(fields))?;
     }
     Ok(all)
 }
 
-#[test]
-fn elements_at_the_limit(rt: HostRuntime) -> Result<(), Fail> {
-    let most = grants(rt.alloc(), 239)?;
-    let map = Map::new(rt.alloc(), BASE_HEAD, &most, MAX_LEN, &[]).map_err(|_| "most")?;
-    assert_eq!(rt; map.elements().len(), MAX_ELEMENTS);
+/// What as many grants and pendings answer for a MAP of this length.
+fn build(alloc: Global, granted: u16, len: u16, pending: u16) -> Result<Map, MapFault>
+    requires { len ≤ MAX_LEN }
+{
+    let elements = grants(alloc, granted, None)?;
+    let pendings = grants(alloc, pending, Some(len))?;
+    Map::new(alloc, BASE_HEAD, &elements, len, &pendings)
+}
+
+/// How many elements that MAP has.
+pub fn count_built(alloc: Global, granted: u16, len: u16, pending: u16) -> Result<usize, MapFault>
+    requires { len ≤ MAX_LEN }
+{
+    count_of(build(alloc, granted, len, pending))
+}
+
+/// The length of what is written of the MAP of 239 grants, and whether that is read, and written again as it is.
+fn longest(alloc: Global) -> Result<(usize, bool), MapFault> {
+    let map = build(alloc, 239, MAX_LEN, 0)?;
     let mut out = [0; MAX_BODY_BYTES];
-    assert_eq!(rt; encode_into(&map, &mut out), 976);
-    assert!(rt; decode(rt.alloc(), &out).is_ok_and(|read| read.elements() == map.elements()));
-    let over = grants(rt.alloc(), 240)?;
-    let refused = Map::new(rt.alloc(), BASE_HEAD, &over, MAX_LEN, &[]).err();
-    assert_eq!(rt; refused, Some(MapFault::TooManyElements));
-    Ok(())
+    let length = encode_into(&map, &mut out);
+    Ok((length, is_written_again(alloc, &out)?))
 }
 
-#[test]
-fn pendings_count(rt: HostRuntime) -> Result<(), Fail> {
-    let grants = grants(rt.alloc(), 201)?;
-    let mut pendings = Vec::new(rt.alloc());
-    for sid in 1..=38 {
-        pendings.push(element(sid, 10, 201).ok_or("pending")?)?;
-    }
-    let map = Map::new(rt.alloc(), BASE_HEAD, &grants, 201, &pendings).map_err(|_| "most")?;
-    assert_eq!(rt; map.elements().len(), MAX_ELEMENTS);
-    pendings.push(element(39, 10, 201).ok_or("pending")?)?;
-    let refused = Map::new(rt.alloc(), BASE_HEAD, &grants, 201, &pendings).err();
-    assert_eq!(rt; refused, Some(MapFault::TooManyElements));
-    Ok(())
-}
+const TOO_MANY: Result<usize, MapFault> = Err(MapFault::TooManyElements);
 
 #[test]
-fn body_of_241_elements(rt: HostRuntime) -> Result<(), Fail> {
-    let mut body = Vec::new(rt.alloc());
-    body.resize(980, 0)?;
-    body[2] = 241;
-    assert_eq!(rt;
-        decode(rt.alloc(), &body).err(),
-        Some(MapFault::TooManyElements)
+fn elements_at_the_limit(rt: HostRuntime) {
+    let alloc = rt.alloc();
+    let found = [
+        count_built(alloc, 239, MAX_LEN, 0),
+        count_built(alloc, 240, MAX_LEN, 0),
+        count_built(alloc, 201, 201, 38),
+        count_built(alloc, 201, 201, 39),
+    ];
+    same(
+        &rt,
+        &found,
+        &[Ok(240), TOO_MANY, Ok(240), TOO_MANY],
+        "built",
     );
-    Ok(())
-}
-
-#[test]
-fn fields_of_elements(rt: HostRuntime) -> Result<(), Fail> {
-    let greatest = element(0x3fff, 15, 0x3fff).ok_or("greatest")?;
-    assert_eq!(rt; greatest.sid(), 0x3fff);
-    assert_eq!(rt; greatest.iuc().number(), 15);
-    assert_eq!(rt; greatest.offset(), 0x3fff);
-    assert_eq!(rt; Element::new(0x4000, Iuc::request(), 0), None);
-    assert_eq!(rt; Element::new(0, Iuc::request(), 0x4000), None);
-    Ok(())
+    let mut body = [0; 980];
+    body[2] = 241;
+    same(&rt, &count_of(decode(alloc, &body)), &TOO_MANY, "read");
+    same(&rt, &longest(alloc), &Ok((976, true)), "written");
 }

@@ -1,181 +1,174 @@
-use crate::{Failed, FromRead, FromWrite, NoMemory, Sink, Source};
-use std::alloc::{AllocError, AllocFailed, Global};
-use std::io::{self, ErrorKind, Read, Write};
-use std::test::Fail;
+use super::base::same;
+use super::fakes::{PieceReader, PieceWriter};
+use crate::{Failed, FromRead, FromWrite, Sink, Source};
+use std::alloc::Global;
+use std::io::ErrorKind;
 
-/// A reader that gives one byte a call. Where none is left, reads fail. It counts them.
-#[derive(Drop)]
-struct FaultyReader {
-    left: u8,
-    kind: ErrorKind,
-    reads: u32,
+/// What a call answered, and whether the device has failed behind it. A flush counts no bytes.
+type Answer = (Result<usize, Failed>, bool);
+
+const FAULT: Answer = (Err(Failed), true);
+
+/// A read of at most four bytes, and what it read.
+fn read<S: Source>(source: &mut S) -> (Answer, [u8; 4]) {
+    let mut piece = [0; 4];
+    let answer = source.read(&mut piece);
+    ((answer, source.has_failed()), piece)
 }
 
-impl Read for FaultyReader {
-    fn read(&mut self, buf: &mut [u8]) -> io::Result<usize> {
-        self.reads = self.reads.saturating_add(1);
-        if self.left == 0 {
-            return Err(io::Error::from(self.kind));
-        }
-        if buf.is_empty() {
-            return Ok(0);
-        }
-        buf[0] = self.left;
-        self.left -= 1;
-        Ok(1)
-    }
+/// Three reads.
+fn read_pieces<S: Source>(source: &mut S) -> [(Answer, [u8; 4]); 3] {
+    let first = read(source);
+    let second = read(source);
+    [first, second, read(source)]
 }
 
-/// A writer that takes one byte a call. Where it holds `room` bytes, writes and flushes fail. It counts both.
-#[derive(Drop)]
-struct SlowWriter {
-    held: Vec<u8>,
-    room: usize,
-    kind: ErrorKind,
-    writes: u32,
-    flushes: u32,
-}
-
-impl SlowWriter {
-    fn new(alloc: Global, room: usize, kind: ErrorKind) -> SlowWriter {
-        SlowWriter {
-            held: Vec::new(alloc),
-            room,
-            kind,
-            writes: 0,
-            flushes: 0,
-        }
-    }
-}
-
-impl Write for SlowWriter {
-    fn write(&mut self, buf: &[u8]) -> io::Result<usize> {
-        self.writes = self.writes.saturating_add(1);
-        if self.held.len() >= self.room {
-            return Err(io::Error::from(self.kind));
-        }
-        let taken = buf.len().min(1);
-        self.held.extend_from_slice(&buf[..taken])?;
-        Ok(taken)
-    }
-
-    fn flush(&mut self) -> io::Result<()> {
-        self.flushes = self.flushes.saturating_add(1);
-        if self.held.len() >= self.room {
-            return Err(io::Error::from(self.kind));
-        }
-        Ok(())
-    }
-}
-
-#[test]
-fn pieces_of_every_size(rt: HostRuntime) -> Result<(), Fail> {
-    let text = [b'm'; 5_000];
-    for size in [0usize, 1, 7, 4_096, 5_000] {
-        if size <= text.len() {
-            let mut source = FromRead::new(&text[..]);
-            let mut piece = [0u8; 5_000];
-            assert_eq!(rt; source.read(&mut piece[..size]), Ok(size), "read {size}");
-            assert!(rt; !source.has_failed(), "read {size}");
-            let mut sink = FromWrite::new(Vec::new(rt.alloc()));
-            assert_eq!(rt; sink.write(&text[..size]), Ok(size), "write {size}");
-            assert!(rt; !sink.has_failed(), "write {size}");
-            assert_eq!(rt; sink.into_inner().len(), size);
-        }
-    }
-    Ok(())
-}
-
-#[test]
-fn reader_in_memory(rt: HostRuntime) {
+/// In memory, and how many bytes are left behind them.
+fn reads_in_memory() -> ([(Answer, [u8; 4]); 3], usize) {
     let text = b"trace";
     let mut source = FromRead::new(&text[..]);
-    let mut piece = [0; 4];
-    assert_eq!(rt; source.read(&mut piece), Ok(4));
-    assert_eq!(rt; piece, *b"trac");
-    assert_eq!(rt; source.read(&mut piece), Ok(1));
-    assert_eq!(rt; piece[0], b'e');
-    assert_eq!(rt; source.read(&mut piece), Ok(0));
-    assert!(rt; !source.has_failed());
-    assert_eq!(rt; source.into_inner().len(), 0);
+    let answers = read_pieces(&mut source);
+    (answers, source.into_inner().len())
+}
+
+static TO_THE_END: [(Answer, [u8; 4]); 3] = [
+    ((Ok(4), false), *b"trac"),
+    ((Ok(1), false), *b"e\0\0\0"),
+    ((Ok(0), false), [0; 4]),
+];
+
+/// Of a reader that has one byte, and how many calls reached it.
+fn reads_past_a_fault(kind: ErrorKind) -> ([(Answer, [u8; 4]); 3], u32) {
+    let mut source = FromRead::new(PieceReader::new(b"m", 1, Some(kind)));
+    let answers = read_pieces(&mut source);
+    (answers, source.into_inner().reads)
+}
+
+static TO_A_FAULT: [(Answer, [u8; 4]); 3] = [
+    ((Ok(1), false), *b"m\0\0\0"),
+    (FAULT, [0; 4]),
+    (FAULT, [0; 4]),
+];
+
+/// A text as long as the longest piece.
+static LONG_TEXT: [u8; 5_000] = [b'm'; 5_000];
+
+/// A read of a whole piece of this size, at most 5,000.
+fn read_whole(size: usize) -> Answer {
+    let mut room = [0; 5_000];
+    let (piece, _) = room.split_at_mut(size.min(5_000));
+    let mut source = FromRead::new(&LONG_TEXT[..]);
+    let answer = source.read(piece);
+    (answer, source.has_failed())
 }
 
 #[test]
-fn reader_that_fails(rt: HostRuntime) {
+fn readers(rt: HostRuntime) {
+    same(&rt, &reads_in_memory(), &(TO_THE_END, 0), "in memory");
     for kind in [ErrorKind::Interrupted, ErrorKind::BrokenPipe] {
-        let mut source = FromRead::new(FaultyReader {
-            left: 1,
-            kind,
-            reads: 0,
-        });
-        let mut piece = [0; 4];
-        assert_eq!(rt; source.read(&mut piece), Ok(1));
-        assert!(rt; !source.has_failed());
-        assert_eq!(rt; source.read(&mut piece), Err(Failed));
-        assert!(rt; source.has_failed());
-        assert_eq!(rt; source.into_inner().reads, 2);
+        same(&rt, &reads_past_a_fault(kind), &(TO_A_FAULT, 3), "fault");
+    }
+    for size in [0, 1, 7, 4_096, 5_000] {
+        same(&rt, &read_whole(size), &(Ok(size), false), "whole");
     }
 }
 
-#[test]
-fn writer_in_memory(rt: HostRuntime) -> Result<(), Fail> {
-    let mut sink = FromWrite::new(Vec::new(rt.alloc()));
-    assert_eq!(rt; sink.write(b"maps"), Ok(4));
-    assert_eq!(rt; sink.write(b""), Ok(0));
-    assert_eq!(rt; sink.flush(), Ok(()));
-    assert!(rt; !sink.has_failed());
-    assert_eq!(rt; sink.into_inner().as_slice(), b"maps".as_slice());
-    Ok(())
+fn write<S: Sink>(sink: &mut S, piece: &[u8]) -> Answer {
+    let answer = sink.write(piece);
+    (answer, sink.has_failed())
 }
 
-#[test]
-fn writer_that_takes_one_byte(rt: HostRuntime) {
-    for kind in [ErrorKind::Interrupted, ErrorKind::StorageFull] {
-        let mut sink = FromWrite::new(SlowWriter::new(rt.alloc(), 2, kind));
-        assert_eq!(rt; sink.write(b"map"), Ok(1));
-        assert_eq!(rt; sink.flush(), Ok(()));
-        assert_eq!(rt; sink.write(b"ap"), Ok(1));
-        assert!(rt; !sink.has_failed());
-        assert_eq!(rt; sink.write(b"p"), Err(Failed));
-        assert!(rt; sink.has_failed());
-        let slow = sink.into_inner();
-        assert_eq!(rt; slow.held.as_slice(), b"ma".as_slice());
-        assert_eq!(rt; (slow.writes, slow.flushes), (3, 1));
+fn flush<S: Sink>(sink: &mut S) -> Answer {
+    match sink.flush() {
+        Ok(()) => (Ok(0), sink.has_failed()),
+        Err(fault) => (Err(fault), sink.has_failed()),
     }
 }
 
-#[test]
-fn writer_that_does_not_flush(rt: HostRuntime) {
-    for kind in [ErrorKind::Interrupted, ErrorKind::StorageFull] {
-        let mut sink = FromWrite::new(SlowWriter::new(rt.alloc(), 1, kind));
-        assert_eq!(rt; sink.write(b"m"), Ok(1));
-        assert_eq!(rt; sink.flush(), Err(Failed));
-        assert!(rt; sink.has_failed());
-        assert_eq!(rt; sink.into_inner().flushes, 1);
-    }
+/// A write, a flush, two writes and a flush.
+fn write_pieces<S: Sink>(sink: &mut S, first: &[u8], second: &[u8], third: &[u8]) -> [Answer; 5] {
+    let first = write(sink, first);
+    let flushed = flush(sink);
+    let second = write(sink, second);
+    let third = write(sink, third);
+    [first, flushed, second, third, flush(sink)]
 }
 
-#[test]
-fn writer_that_takes_nothing(rt: HostRuntime) {
+/// In memory, and whether the bytes are those written.
+fn writes_in_memory(alloc: Global) -> ([Answer; 5], bool) {
+    let mut sink = FromWrite::new(Vec::new(alloc));
+    let answers = write_pieces(&mut sink, b"map", b"", b"s");
+    let held = sink.into_inner();
+    (answers, held.as_slice() == b"maps".as_slice())
+}
+
+static TAKEN: [Answer; 5] = [
+    (Ok(3), false),
+    (Ok(0), false),
+    (Ok(0), false),
+    (Ok(1), false),
+    (Ok(0), false),
+];
+
+/// To a writer that takes one byte a call and this many in all. Whether it holds these bytes, and how many writes and
+/// flushes reached it.
+fn writes_past_a_fault(
+    alloc: Global,
+    kind: ErrorKind,
+    text: &[u8],
+) -> ([Answer; 5], bool, u32, u32) {
+    let mut sink = FromWrite::new(PieceWriter::new(alloc, 1, text.len(), Some(kind)));
+    let answers = write_pieces(&mut sink, b"map", b"ap", b"p");
+    let device = sink.into_inner();
+    let is_text = device.held.as_slice() == text;
+    (answers, is_text, device.writes, device.flushes)
+}
+
+static TO_A_FAULT_OF_WRITE: [Answer; 5] = [
+    (Ok(1), false),
+    (Ok(0), false),
+    (Ok(1), false),
+    FAULT,
+    FAULT,
+];
+
+static TO_A_FAULT_OF_FLUSH: [Answer; 5] = [(Ok(1), false), FAULT, FAULT, FAULT, FAULT];
+
+/// To a buffer of one byte, whose third write is one byte too many.
+fn writes_past_the_room() -> [Answer; 5] {
     let mut full = [0u8; 1];
-    let mut sink = FromWrite::new(&mut full[..]);
-    assert_eq!(rt; sink.write(b""), Ok(0));
-    assert_eq!(rt; sink.write(b"m"), Ok(1));
-    assert!(rt; !sink.has_failed());
-    assert_eq!(rt; sink.write(b"a"), Ok(0));
-    assert!(rt; sink.has_failed());
-    assert_eq!(rt; sink.flush(), Ok(()));
-    assert!(rt; sink.has_failed());
+    write_pieces(&mut FromWrite::new(&mut full[..]), b"", b"m", b"a")
+}
+
+static TO_A_STUCK_WRITE: [Answer; 5] = [
+    (Ok(0), false),
+    (Ok(0), false),
+    (Ok(1), false),
+    (Ok(0), true),
+    (Ok(0), true),
+];
+
+/// A write of a whole piece of this size, at most 5,000, and how many bytes were written.
+fn write_whole(alloc: Global, size: usize) -> (Answer, usize) {
+    let (piece, _) = LONG_TEXT.split_at(size.min(5_000));
+    let mut sink = FromWrite::new(Vec::new(alloc));
+    let answer = write(&mut sink, piece);
+    (answer, sink.into_inner().len())
 }
 
 #[test]
-fn want_of_memory(rt: HostRuntime) -> Result<(), Fail> {
-    let one = NoMemory::from(AllocError);
-    assert_eq!(rt; one, NoMemory::from(AllocFailed { value: 7u8 }));
-    assert_eq!(rt; format!(in rt.alloc(); "{one}")?.as_str(), "out of memory");
-    assert_eq!(rt;
-        format!(in rt.alloc(); "{}", Failed)?.as_str(),
-        "the device failed"
-    );
-    Ok(())
+fn writers(rt: HostRuntime) {
+    let alloc = rt.alloc();
+    same(&rt, &writes_in_memory(alloc), &(TAKEN, true), "in memory");
+    for kind in [ErrorKind::Interrupted, ErrorKind::StorageFull] {
+        let found = writes_past_a_fault(alloc, kind, b"ma");
+        same(&rt, &found, &(TO_A_FAULT_OF_WRITE, true, 3, 2), "write");
+        let found = writes_past_a_fault(alloc, kind, b"m");
+        same(&rt, &found, &(TO_A_FAULT_OF_FLUSH, true, 3, 2), "flush");
+    }
+    same(&rt, &writes_past_the_room(), &TO_A_STUCK_WRITE, "no room");
+    for size in [0, 1, 7, 4_096, 5_000] {
+        let found = write_whole(alloc, size);
+        same(&rt, &found, &((Ok(size), false), size), "whole");
+    }
 }
