@@ -4,6 +4,7 @@ use Rattle.std.proofs.lemmas.Bool.{or_parts, and_parts, false≢true, ltb-false,
 use Rattle.toml.specs.Data.{Data, string, integer, float, boolean, datetime, array, table, Items, no_items, item, Members, no_members}
 use Rattle.us_slots.specs.Times.{IsTiming}
 use Rattle.us_slots.specs.Bursts.{IsBurstProfile, IsChannelBursts}
+use Rattle.us_flows.specs.Ranges.{least_bits, least_fec_k, max_bits, max_channel_id, max_codeword, max_exponent, max_fec_k, max_fec_t, max_guard, max_maintenance_every, max_minislot_log2, max_preamble, max_rate_log2, max_request_minislots, max_reserve_minislots, max_short_minislots, max_station_minislots, max_ucd_count}
 use Rattle.us_flows.specs.Keys.{Key, channel_keys, profile_keys, short_keys}
 use Rattle.us_flows.specs.Lawful.{Between, IsBackoff}
 use Rattle.us_flows.specs.Documents.{number_at, number_in, items_at, items_of, table_of, pair_at, table_at, read_or}
@@ -42,15 +43,15 @@ list_in_range keys t k fewest many passes whole ranged listed by_rule =
     rw kept.1 (list_items fewest many passes kept.0 (sym (by_rule kept.0) ∙ kept.2))
 
 backoff : (t : Members) (k : List ℕ) → lacks channel_keys t ≡ false → strays channel_keys t ≡ false →
-    demands channel_keys k ≡ true → ((d : Data) → allows channel_keys k d ≡ is_list 2 2 (is_number 0 15) d) →
+    demands channel_keys k ≡ true → ((d : Data) → allows channel_keys k d ≡ is_list 2 2 (is_number 0 max_exponent) d) →
     IsBackoff (pair_at k t)
 backoff t k whole ranged listed by_rule =
-    let range = list_in_range channel_keys t k 2 2 (is_number 0 15) whole ranged listed by_rule in
+    let range = list_in_range channel_keys t k 2 2 (is_number 0 max_exponent) whole ranged listed by_rule in
     record {
       two = refl;
       each = (
-        number_in_below 0 15 0 (items_at k t) range.1,
-        (number_in_below 0 15 1 (items_at k t) range.1, tt),
+        number_in_below 0 max_exponent 0 (items_at k t) range.1,
+        (number_in_below 0 max_exponent 1 (items_at k t) range.1, tt),
       );
     }
 
@@ -59,13 +60,13 @@ profile_is : (t : Members) → lacks profile_keys t ≡ false → profile_strays
     IsBurstProfile (profile_of t)
 unfolding profile_keys
 profile_is t whole h =
-    let parts = or_parts (strays profile_keys t) (nat_lt 255 (number_at (codes "fec_k") t + 2 * number_at
+    let parts = or_parts (strays profile_keys t) (nat_lt max_codeword (number_at (codes "fec_k") t + 2 * number_at
     (codes "fec_t") t)) h in
-    let bits = number_in_range profile_keys t (codes "bits") 2 6 whole parts.0 refl (λ d. refl) in
-    let preamble = number_in_range profile_keys t (codes "preamble") 0 1024 whole parts.0 refl (λ d. refl) in
-    let guard = number_in_range profile_keys t (codes "guard") 0 255 whole parts.0 refl (λ d. refl) in
-    let fec_t = number_in_range profile_keys t (codes "fec_t") 0 16 whole parts.0 refl (λ d. refl) in
-    let fec_k = number_in_range profile_keys t (codes "fec_k") 16 253 whole parts.0 refl (λ d. refl) in
+    let bits = number_in_range profile_keys t (codes "bits") least_bits max_bits whole parts.0 refl (λ d. refl) in
+    let preamble = number_in_range profile_keys t (codes "preamble") 0 max_preamble whole parts.0 refl (λ d. refl) in
+    let guard = number_in_range profile_keys t (codes "guard") 0 max_guard whole parts.0 refl (λ d. refl) in
+    let fec_t = number_in_range profile_keys t (codes "fec_t") 0 max_fec_t whole parts.0 refl (λ d. refl) in
+    let fec_k = number_in_range profile_keys t (codes "fec_k") least_fec_k max_fec_k whole parts.0 refl (λ d. refl) in
     record {
       least_bits = bits.0;
       most_bits = bits.1;
@@ -74,20 +75,20 @@ profile_is t whole h =
       fec_t = fec_t.1;
       least_fec_k = fec_k.0;
       most_fec_k = fec_k.1;
-      codeword = omega (arith, ltb-false 255 (number_at (codes "fec_k") t + 2 * number_at (codes "fec_t") t) parts.1);
+      codeword = omega (arith, ltb-false max_codeword (number_at (codes "fec_k") t + 2 * number_at (codes "fec_t") t) parts.1);
     }
 
 short_profile_is : (t : Members) → lacks short_keys t ≡ false → profile_strays short_keys t ≡ false →
-    IsBurstProfile (profile_of t) × Between 1 255 (number_at (codes "max_minislots") t)
+    IsBurstProfile (profile_of t) × Between 1 max_short_minislots (number_at (codes "max_minislots") t)
 unfolding short_keys
 short_profile_is t whole h =
-    let parts = or_parts (strays short_keys t) (nat_lt 255 (number_at (codes "fec_k") t + 2 * number_at
+    let parts = or_parts (strays short_keys t) (nat_lt max_codeword (number_at (codes "fec_k") t + 2 * number_at
     (codes "fec_t") t)) h in
-    let bits = number_in_range short_keys t (codes "bits") 2 6 whole parts.0 refl (λ d. refl) in
-    let preamble = number_in_range short_keys t (codes "preamble") 0 1024 whole parts.0 refl (λ d. refl) in
-    let guard = number_in_range short_keys t (codes "guard") 0 255 whole parts.0 refl (λ d. refl) in
-    let fec_t = number_in_range short_keys t (codes "fec_t") 0 16 whole parts.0 refl (λ d. refl) in
-    let fec_k = number_in_range short_keys t (codes "fec_k") 16 253 whole parts.0 refl (λ d. refl) in
+    let bits = number_in_range short_keys t (codes "bits") least_bits max_bits whole parts.0 refl (λ d. refl) in
+    let preamble = number_in_range short_keys t (codes "preamble") 0 max_preamble whole parts.0 refl (λ d. refl) in
+    let guard = number_in_range short_keys t (codes "guard") 0 max_guard whole parts.0 refl (λ d. refl) in
+    let fec_t = number_in_range short_keys t (codes "fec_t") 0 max_fec_t whole parts.0 refl (λ d. refl) in
+    let fec_k = number_in_range short_keys t (codes "fec_k") least_fec_k max_fec_k whole parts.0 refl (λ d. refl) in
     let profile : IsBurstProfile (profile_of t) = record {
       least_bits = bits.0;
       most_bits = bits.1;
@@ -96,9 +97,9 @@ short_profile_is t whole h =
       fec_t = fec_t.1;
       least_fec_k = fec_k.0;
       most_fec_k = fec_k.1;
-      codeword = omega (arith, ltb-false 255 (number_at (codes "fec_k") t + 2 * number_at (codes "fec_t") t) parts.1);
+      codeword = omega (arith, ltb-false max_codeword (number_at (codes "fec_k") t + 2 * number_at (codes "fec_t") t) parts.1);
     } in
-    (profile, number_in_range short_keys t (codes "max_minislots") 1 255 whole parts.0 refl (λ d. refl))
+    (profile, number_in_range short_keys t (codes "max_minislots") 1 max_short_minislots whole parts.0 refl (λ d. refl))
 
 -- a profile that has to be there is a table, and so lacks nothing
 whole_of_table : (keys : List Key) (d : Data) → is_table d ≡ true → is_table_without keys d ≡ false →
@@ -120,16 +121,16 @@ whole_within keys t k whole ranged listed by_rule h =
     rw kept.1 (whole_of_table keys kept.0 (sym (by_rule kept.0) ∙ kept.2) (rw kept.1 at h))
 
 pub record ChannelRanges (t : Members) : Type 0 where
-  pub id : Between 1 255 (number_at (codes "id") t)
+  pub id : Between 1 max_channel_id (number_at (codes "id") t)
   pub bursts : IsChannelBursts (bursts_of t)
-  pub ucd_count : number_at (codes "ucd_count") t ≤ 255
+  pub ucd_count : number_at (codes "ucd_count") t ≤ max_ucd_count
   pub ranging : IsBackoff (pair_at (codes "ranging_backoff") t)
   pub data_backoff : IsBackoff (pair_at (codes "data_backoff") t)
-  pub request_minislots : Between 1 64 (number_at (codes "request_minislots") t)
-  pub contention_minislots : number_at (codes "contention_minislots") t ≤ 4096
-  pub maintenance_minislots : number_at (codes "maintenance_minislots") t ≤ 4096
-  pub maintenance_every : Between 1 65536 (number_at (codes "maintenance_every") t)
-  pub station_minislots : Between 1 64 (number_at (codes "station_minislots") t)
+  pub request_minislots : Between 1 max_request_minislots (number_at (codes "request_minislots") t)
+  pub contention_minislots : number_at (codes "contention_minislots") t ≤ max_reserve_minislots
+  pub maintenance_minislots : number_at (codes "maintenance_minislots") t ≤ max_reserve_minislots
+  pub maintenance_every : Between 1 max_maintenance_every (number_at (codes "maintenance_every") t)
+  pub station_minislots : Between 1 max_station_minislots (number_at (codes "station_minislots") t)
 
 pub channel_ranges : (t : Members) → channel_lacks t ≡ false → channel_strays t ≡ false → ChannelRanges t
 unfolding channel_keys channel_lacks channel_strays
@@ -148,15 +149,15 @@ channel_ranges t whole ranged =
     let others_keep = or_parts short_strays unsolicited_strays long_keeps.1 in
     let w = has.0 in
     let r = keeps.0 in
-    let minislot = number_in_range channel_keys t (codes "minislot_log2") 0 7 w r refl (λ d. refl) in
-    let rate = number_in_range channel_keys t (codes "rate_log2") 0 5 w r refl (λ d. refl) in
+    let minislot = number_in_range channel_keys t (codes "minislot_log2") 0 max_minislot_log2 w r refl (λ d. refl) in
+    let rate = number_in_range channel_keys t (codes "rate_log2") 0 max_rate_log2 w r refl (λ d. refl) in
     let time : IsTiming (time_of t) = record { longest_minislot = minislot.1; highest_rate = rate.1 } in
     let long_whole = whole_within profile_keys t (codes "long") w r refl (λ d. refl) long_has.0 in
     let short_whole = whole_within short_keys t (codes "short") w r refl (λ d. refl) others_have.0 in
     let unsolicited_whole = whole_within profile_keys t (codes "unsolicited") w r refl (λ d. refl) others_have.1 in
     let short = short_profile_is (table_at (codes "short") t) short_whole others_keep.0 in
     record {
-      id = number_in_range channel_keys t (codes "id") 1 255 w r refl (λ d. refl);
+      id = number_in_range channel_keys t (codes "id") 1 max_channel_id w r refl (λ d. refl);
       bursts = record {
         time = time;
         long = profile_is (table_at (codes "long") t) long_whole long_keeps.0;
@@ -165,16 +166,16 @@ channel_ranges t whole ranged =
         most_short_max = short.1.1;
         unsolicited = profile_is (table_at (codes "unsolicited") t) unsolicited_whole others_keep.1;
       };
-      ucd_count = (number_in_range channel_keys t (codes "ucd_count") 0 255 w r refl (λ d. refl)).1;
+      ucd_count = (number_in_range channel_keys t (codes "ucd_count") 0 max_ucd_count w r refl (λ d. refl)).1;
       ranging = backoff t (codes "ranging_backoff") w r refl (λ d. refl);
       data_backoff = backoff t (codes "data_backoff") w r refl (λ d. refl);
-      request_minislots = number_in_range channel_keys t (codes "request_minislots") 1 64 w r refl (λ d. refl);
-      contention_minislots = (number_in_range channel_keys t (codes "contention_minislots") 0 4096 w r refl
+      request_minislots = number_in_range channel_keys t (codes "request_minislots") 1 max_request_minislots w r refl (λ d. refl);
+      contention_minislots = (number_in_range channel_keys t (codes "contention_minislots") 0 max_reserve_minislots w r refl
           (λ d. refl)).1;
-      maintenance_minislots = (number_in_range channel_keys t (codes "maintenance_minislots") 0 4096 w r refl
+      maintenance_minislots = (number_in_range channel_keys t (codes "maintenance_minislots") 0 max_reserve_minislots w r refl
           (λ d. refl)).1;
-      maintenance_every = number_in_range channel_keys t (codes "maintenance_every") 1 65536 w r refl (λ d. refl);
-      station_minislots = number_in_range channel_keys t (codes "station_minislots") 1 64 w r refl (λ d. refl);
+      maintenance_every = number_in_range channel_keys t (codes "maintenance_every") 1 max_maintenance_every w r refl (λ d. refl);
+      station_minislots = number_in_range channel_keys t (codes "station_minislots") 1 max_station_minislots w r refl (λ d. refl);
     }
 
 -- so that they fit the types of their fields

@@ -13,4 +13,7 @@ pub mod SidLemmas
 pub mod IndexLemmas
 pub mod RankLemmas
 pub mod TurnLemmas
+pub mod KeyLaws
+pub mod TurnLaws
 pub mod OrderLemmas
+pub mod CopyLemmas

@@ -5,6 +5,8 @@ use Rattle.std.specs.List.{list_any}
 use Rattle.std.specs.Map.{lookup, values_of}
 use Rattle.std.proofs.lemmas.Bool.{cases_Bool}
 use Rattle.std.proofs.lemmas.List.{map-append}
+use Rattle.indexmap.specs.IndexMap.{IndexMap, get, insert_entry}
+use Rattle.indexmap.proofs.CallerLemmas.{insert_entry-new}
 use Rattle.us_flows.specs.Listed.{by_id}
 
 pub none_from_is_some : {X : Type 0} (found : Option X) → is_some found ≡ false → found ≡ None
@@ -39,3 +41,25 @@ module _ {X : Type 0} (id : X → ℕ) where
         let values = map-append (λ entry. entry.1) entries last in
         let both = map-append (λ item. (id item, item)) (values_of entries) (x ∷ []) in
         sym (ap (by_id id) values ∙ both ∙ ap (λ before. before ++ last) (sym are))
+
+-- entries with one item more, which still stand behind their ids
+pub record IsPushed {X : Type 0} (id : X → ℕ) (old : List (ℕ × X)) (before : List X) (x : X) (entries : List (ℕ × X)) : Type 0 where
+  pub last : entries ≡ old ++ (id x, x) ∷ []
+  pub by_ids : entries ≡ by_id id (values_of entries)
+  pub values : values_of entries ≡ before ++ x ∷ []
+
+-- an item whose id is new goes last
+pub pushed : {X S : Type 0} (id : X → ℕ) (map : IndexMap ℕ X S) → map.entries ≡ by_id id (values_of map.entries) →
+    (before : List X) → values_of map.entries ≡ before → (x : X) → list_any (λ y. id y == id x) before ≡ false →
+    (entries : List (ℕ × X)) → entries ≡ insert_entry nat_eq map.entries (id x) x →
+    IsPushed id map.entries before x entries
+pushed id map are before is x other entries inserted =
+    let had = has_id id map.entries are (id x) ∙ ap (list_any (λ y. id y == id x)) is in
+    let none : get nat_eq map (id x) ≡ None = none_from_is_some _ (had ∙ other) in
+    let last = inserted ∙ insert_entry-new nat_eq map (id x) x none in
+    record {
+      last = last;
+      by_ids = last ∙ by_id-push id map.entries are x ∙ ap (λ more. by_id id (values_of more)) (sym last);
+      values = ap values_of last ∙ map-append (λ entry. entry.1) map.entries ((id x, x) ∷ []) ∙
+          ap (λ items. items ++ x ∷ []) is;
+    }

@@ -1,5 +1,5 @@
 -- Turns that are sorted by rank stand in order.
-use Rattle.std.proofs.Common.{◌≡◌, ℕ, zero, suc, ◌+◌, ◌-◌, ◌<◌, ◌≤◌, List, [], ◌∷◌, length, map, get_or, flat_map, Bool, false, ltb, eqb, Option, Some, None, slice_get, unwrap_or, option_map, option_and_then, refl, sym, ap, ap₂, ◌∙◌, subst, IsPermutation, nat_cmp, is_lt, arith}
+use Rattle.std.proofs.Common.{◌≡◌, ℕ, zero, suc, ◌+◌, ◌-◌, ◌<◌, ◌≤◌, List, [], ◌∷◌, length, map, get_or, Bool, false, ltb, eqb, Option, Some, None, slice_get, unwrap_or, option_map, option_and_then, refl, sym, ap, ap₂, ◌∙◌, subst, IsPermutation, nat_cmp, is_lt, arith}
 use Rattle.std.specs.Ordering.{ordering_then}
 use Rattle.std.specs.List.{AllByRecursion, IsDistinct}
 use Rattle.std.specs.List.Sorted.{IsNonDecreasing, IsNonDecreasingBy}
@@ -7,19 +7,20 @@ use Rattle.std.proofs.lemmas.List.Elements.{All-from_recursion, recursion_from_A
 use Rattle.std.proofs.lemmas.List.Sorted.{All-permutation, IsPermutation-map, IsNonDecreasingBy-from_all_adjacent}
 use Rattle.us_flows.specs.Tables.{Tables, FlowTable}
 use Rattle.us_flows.specs.Clusters as clusters
-use Rattle.us_flows.specs.Clusters.{requesting, numbered, goes_before, in_order, turns_of}
-use Rattle.us_flows.specs.Turns.{turn_at}
+use Rattle.us_flows.specs.Clusters.{requesting, turns_from, goes_before, in_order, turns_of}
+use Rattle.us_flows.specs.Turns.{turn_at, in_flow}
 use Rattle.us_flows.specs.Lawful.{AreApart}
 use Rattle.us_flows.specs.Ranks.{table_turns, rank_in, rank_of, IsRanked}
 use Rattle.us_flows.specs.declared.turns.Turn.{Turn}
 use Rattle.us_flows.specs.declared.flows.SchedulingType.TheVariants.{BestEffort}
 use Rattle.us_flows.proofs.RankLemmas.{all_more, sorted-in_place}
-use Rattle.us_flows.proofs.TurnLemmas.{turn_in, flows_turns, number_rises, before_is, InRange, turn_rank, in_range, all_numbered, ranks_numbered, ranks_apart}
+use Rattle.us_flows.proofs.TurnLemmas.{turn_in, flows_turns, number_rises, before_is, InRange, turn_rank, cluster_rank, in_range, clusters_in, all_turned, ranks_apart}
 
 -- what a turn's places lead to; `blank` stands where they lead nowhere
 abbrev blank : clusters.Turn
 blank = record {
   number = 0;
+  place = 0;
   cluster = record {
     flow = record {
       id = 0;
@@ -74,19 +75,19 @@ module _ (flows : List FlowTable) where
   turns_made (u ∷ us) h = ap₂ (λ a b. a ∷ b) h.0.found (turns_made us h.1)
 
   -- a rank is that of what the places lead to
-  rank_found : (list : ℕ) (number : ℕ) (flow : Option FlowTable) (turn : clusters.Turn) →
-      option_and_then
-      (λ f. option_map (λ sids. record { number = number; cluster = record { flow = f; list = list; sids = sids } })
-      (slice_get f.clusters list)) flow ≡ Some turn →
-      rank_in list flow ≡ (255 - turn.cluster.flow.priority, turn.cluster.flow.id, turn.cluster.list)
-  rank_found list number None turn h = let no : None ≡ Some turn = h in cc
-  rank_found list number (Some f) turn h = by (slice_get f.clusters list) h
+  rank_found : (u : Turn) (flow : Option FlowTable) (turn : clusters.Turn) →
+      option_and_then (in_flow u) flow ≡ Some turn →
+      rank_in u.list flow ≡ (255 - turn.cluster.flow.priority, turn.cluster.flow.id, turn.cluster.list)
+  rank_found u None turn h = let no : None ≡ Some turn = h in cc
+  rank_found u (Some f) turn h = by (slice_get f.clusters u.list) h
     where
       by : (lists : Option (List ℕ)) →
-          option_map
-          (λ sids. record { number = number; cluster = record { flow = f; list = list; sids = sids } }) lists ≡
-          Some turn →
-          rank_in list (Some f) ≡ (255 - turn.cluster.flow.priority, turn.cluster.flow.id, turn.cluster.list)
+          option_map (λ sids. record {
+            number = u.cluster;
+            place = u.flow;
+            cluster = record { flow = f; list = u.list; sids = sids };
+          }) lists ≡ Some turn →
+          rank_in u.list (Some f) ≡ (255 - turn.cluster.flow.priority, turn.cluster.flow.id, turn.cluster.list)
       by None e = let no : None ≡ Some turn = e in cc
       by (Some sids) e =
           ap (λ o.
@@ -99,7 +100,7 @@ module _ (flows : List FlowTable) where
         (made flows turn).cluster.flow.id,
         (made flows turn).cluster.list,
       )
-  rank_is turn is = rank_found turn.list turn.cluster (slice_get flows turn.flow) (made flows turn) is.found
+  rank_is turn is = rank_found turn (slice_get flows turn.flow) (made flows turn) is.found
 
   abbrev compares : Turn → Turn → Bool
   compares one other =
@@ -143,11 +144,11 @@ map-mapped f g (x ∷ xs) = ap (λ more. f (g x) ∷ more) (map-mapped f g xs)
 in_order-is : (flows : List FlowTable) (us : List Turn) → AllByRecursion IsRanked flows →
     AreApart (map (λ f. f.id) flows) → IsPermutation (table_turns 0 0 flows) us →
     ((k : ℕ) (d : Turn) → 0 ≤ k → k + 1 < length us → compares flows (get_or us (k + 1) d) (get_or us k d) ≡ false) →
-    map (turn_in flows) us ≡ map Some (in_order (numbered 0 (flat_map requesting flows)))
+    map (turn_in flows) us ≡ map Some (in_order (turns_from 0 0 flows))
 in_order-is flows us ranges apart moved sorted =
-    let ts : List clusters.Turn = numbered 0 (flat_map requesting flows) in
+    let ts : List clusters.Turn = turns_from 0 0 flows in
     let first : List Turn = table_turns 0 0 flows in
-    let in_ranges = all_numbered InRange 0 (flat_map requesting flows) (in_range flows ranges) in
+    let in_ranges = all_turned InRange 0 0 flows (in_range flows ranges) in
     let before = are_made flows first ts (flows_turns flows [] flows 0 refl) in_ranges in
     let all = All-permutation (IsMade flows) first us moved (All-from_recursion (IsMade flows) first before.0) in
     let turns = map (made flows) us in
@@ -161,7 +162,8 @@ in_order-is flows us ranges apart moved sorted =
     let rising : IsNonDecreasing (map turn_rank turns) =
     subst IsNonDecreasing (sym (map-mapped turn_rank (made flows) us)) (rises-mapped rank us none rises) in
     let ranks : IsDistinct eqb (map turn_rank ts) =
-    subst (IsDistinct eqb) (sym (ranks_numbered 0 (flat_map requesting flows))) (ranks_apart flows ranges apart) in
+    subst (IsDistinct eqb) (sym (ap (map cluster_rank) (clusters_in 0 0 flows)) ∙
+    map-mapped cluster_rank (λ turn. turn.cluster) ts) (ranks_apart flows ranges apart) in
     let same = all_more (λ x. InRange x.cluster)
     (λ x. AllByRecursion (λ y. goes_before y x ≡ ltb (turn_rank y) (turn_rank x)) ts)
     (λ x is_x. all_more (λ y. InRange y.cluster) (λ y. goes_before y x ≡ ltb (turn_rank y) (turn_rank x))
@@ -178,4 +180,4 @@ pub turns_of-is : (flows : List FlowTable) (us : List Turn) → AllByRecursion I
 unfolding turns_of
 turns_of-is flows us ranges apart moved sorted t is =
     ap (λ fs. map (turn_in fs) us) is ∙ in_order-is flows us ranges apart moved sorted ∙ sym (ap
-    (λ fs. map Some (in_order (numbered 0 (flat_map requesting fs)))) is)
+    (λ fs. map Some (in_order (turns_from 0 0 fs))) is)

@@ -10,6 +10,7 @@ use Rattle.toml.specs.Data.{Data, string, integer, float, boolean, datetime, arr
 use Rattle.toml.specs.declared.value.Value.{Value}
 use Rattle.toml.specs.View.{items_view}
 use Rattle.us_slots.specs.Times.{minislot_ticks}
+use Rattle.us_flows.specs.Ranges.{least_interval_us, max_channels, max_flows, max_lead_ticks, max_round_ticks, max_sid, max_stations, max_us}
 use Rattle.us_flows.specs.declared.channels.Channel.{Channel}
 use Rattle.us_flows.specs.declared.stations.Station.{Station}
 use Rattle.us_flows.specs.declared.flows.SchedulingType.{SchedulingType}
@@ -24,7 +25,7 @@ use Rattle.us_flows.specs.Lawful.{Between, AreApart, Fits, IsSchedule, IsChannel
 use Rattle.us_flows.specs.Documents.{number_at, flag_at, numbers_of, lists_of, items_of, items_at, read_or}
 use Rattle.us_flows.specs.Shapes.{is_number, is_number_list, is_list, is_table, count, all_items, allows, lacks, strays}
 use Rattle.us_flows.specs.Checks.{first_of, or_else, top_checks, channel_shape, channel_rules, channel_fault, repeats, same_sid, is_taken, has_flow, flow_place, flow_shape, flow_names, grant_slots, is_too_long, flow_grants, flow_fault, station_shape, station_rules, station_fault, in_turn, channels_fault, flows_fault, stations_fault, first_fault}
-use Rattle.us_flows.specs.Reading.{channel_of, kind_at, flow_of, station_of, all_of, round_of, channels_of, flows_of, stations_of, tables_of}
+use Rattle.us_flows.specs.Reading.{channel_of, kind_at, flow_of, station_of, all_of, round_ticks_of, channels_of, flows_of, stations_of, tables_of}
 use Rattle.us_flows.specs.Answers.{Judged}
 use Rattle.us_flows.proofs.DocumentLemmas.{count_view}
 use Rattle.us_flows.proofs.JudgedLemmas.{judged, first_judged}
@@ -32,17 +33,17 @@ use Rattle.us_flows.proofs.CheckLemmas.{or_else_none, none_finds}
 use Rattle.us_flows.proofs.ApartLemmas.{keys_apart, ids_apart, sids_apart}
 use Rattle.us_flows.proofs.ShapeLemmas.{length-numbers_of, length-lists_of, found_allowed, number_in_range, number_between}
 use Rattle.us_flows.proofs.ChannelLemmas.{list_items, list_in_range, channel_ranges}
-use Rattle.us_flows.proofs.FlowLemmas.{FlowRanges, RequestRanges, KindRanges, kind_ranges, numbers_within}
+use Rattle.us_flows.proofs.FlowLemmas.{FlowRanges, RequestRanges, KindRanges, kind_ranges, numbers_within, others_absent}
 use Rattle.us_flows.proofs.StationLemmas.{station_ranges}
 
 -- The top level.
 
 pub record TopRanges (doc : Members) : Type 0 where
-  pub round_ticks : Between 1 4096 (number_at (codes "round_ticks") doc)
-  pub lead_ticks : Between 1 65536 (number_at (codes "lead_ticks") doc)
-  pub channels : Between 1 16 (count (items_at (codes "channel") doc))
-  pub flows : count (items_at (codes "flow") doc) ≤ 1024
-  pub stations : count (items_at (codes "station") doc) ≤ 256
+  pub round_ticks : Between 1 max_round_ticks (number_at (codes "round_ticks") doc)
+  pub lead_ticks : Between 1 max_lead_ticks (number_at (codes "lead_ticks") doc)
+  pub channels : Between 1 max_channels (count (items_at (codes "channel") doc))
+  pub flows : count (items_at (codes "flow") doc) ≤ max_flows
+  pub stations : count (items_at (codes "station") doc) ≤ max_stations
 
 -- a list that may be left out
 few_items : (doc : Members) (k : List ℕ) (many : ℕ) → strays top_keys doc ≡ false →
@@ -56,11 +57,11 @@ few_items doc k many ranged by_rule = few (get_member k doc) refl
 pub top_ranges : (doc : Members) → lacks top_keys doc ≡ false → strays top_keys doc ≡ false → TopRanges doc
 unfolding top_keys
 top_ranges doc w r = record {
-  round_ticks = number_in_range top_keys doc (codes "round_ticks") 1 4096 w r refl (λ d. refl);
-  lead_ticks = number_in_range top_keys doc (codes "lead_ticks") 1 65536 w r refl (λ d. refl);
-  channels = (list_in_range top_keys doc (codes "channel") 1 16 is_table w r refl (λ d. refl)).0;
-  flows = few_items doc (codes "flow") 1024 r (λ d. refl);
-  stations = few_items doc (codes "station") 256 r (λ d. refl);
+  round_ticks = number_in_range top_keys doc (codes "round_ticks") 1 max_round_ticks w r refl (λ d. refl);
+  lead_ticks = number_in_range top_keys doc (codes "lead_ticks") 1 max_lead_ticks w r refl (λ d. refl);
+  channels = (list_in_range top_keys doc (codes "channel") 1 max_channels is_table w r refl (λ d. refl)).0;
+  flows = few_items doc (codes "flow") max_flows r (λ d. refl);
+  stations = few_items doc (codes "station") max_stations r (λ d. refl);
 }
 
 pub top_is : (doc : Members) → first_of (top_checks doc) ≡ None → TopRanges doc
@@ -115,7 +116,7 @@ whole_round round ticks h =
     omega (arith, none, parts)
 
 -- a round of whole minislots has one at least, and no more than it has ticks
-some_minislots : (round ticks : ℕ) → Between 1 4096 round → round / ticks * ticks ≡ round → Between 1 4096 (round / ticks)
+some_minislots : (round ticks : ℕ) → Between 1 max_round_ticks round → round / ticks * ticks ≡ round → Between 1 max_round_ticks (round / ticks)
 some_minislots round ticks range whole =
     (some (round / ticks) ticks whole, omega (arith, div-le_self round ticks, range.1))
   where
@@ -123,7 +124,7 @@ some_minislots round ticks range whole =
     some zero ticks h = absurd (omega (arith, h, range.0))
     some (suc len) ticks h = omega arith
 
-channel_is : (t : Tables) → Between 1 4096 t.round_ticks → (earlier : List Channel) (m : Members) →
+channel_is : (t : Tables) → Between 1 max_round_ticks t.round_ticks → (earlier : List Channel) (m : Members) →
     channel_fault t.round_ticks earlier m ≡ None → IsChannel t (channel_of m)
 unfolding channel_fault
 channel_is t range earlier m h =
@@ -167,15 +168,15 @@ all_between least most (item d ds) h =
     let parts = and_parts (is_number least most d) (all_items (is_number least most) ds) h in
     (number_between least most d parts.0, all_between least most ds parts.1)
 
-all_clusters : (n : ℕ) (items : Items) → all_items (is_number_list 1 15871) items ≡ true →
+all_clusters : (n : ℕ) (items : Items) → all_items (is_number_list 1 max_sid) items ≡ true →
     list_all (λ sids. length sids == n) (lists_of items) ≡ true →
-    AllByRecursion (λ sids. (length sids ≡ n) × AllByRecursion (Between 1 15871) sids) (lists_of items)
+    AllByRecursion (λ sids. (length sids ≡ n) × AllByRecursion (Between 1 max_sid) sids) (lists_of items)
 all_clusters n no_items h k = tt
 all_clusters n (item d ds) h k =
     let sids : List ℕ = numbers_of (items_of d) in
-    let ranges = and_parts (is_number_list 1 15871 d) (all_items (is_number_list 1 15871) ds) h in
+    let ranges = and_parts (is_number_list 1 max_sid d) (all_items (is_number_list 1 max_sid) ds) h in
     let lengths = and_parts (length sids == n) (list_all (λ others. length others == n) (lists_of ds)) k in (
-      (eqb-true (length sids) n lengths.0, all_between 1 15871 (items_of d) (numbers_within 1 15871 d ranges.0)),
+      (eqb-true (length sids) n lengths.0, all_between 1 max_sid (items_of d) (numbers_within 1 max_sid d ranges.0)),
       all_clusters n ds ranges.1 lengths.1,
     )
 
@@ -204,7 +205,7 @@ first_there : (channels : List Channel) (ids : List ℕ) → AllByRecursion (λ 
 first_there channels [] all some = absurd (omega (arith, some))
 first_there channels (id ∷ ids) all some = there channels id all.0
 
-schedule : (start interval jitter : ℕ) → start ≤ 10000000 → 100 ≤ interval → interval ≤ 10000000 →
+schedule : (start interval jitter : ℕ) → start ≤ max_us → least_interval_us ≤ interval → interval ≤ max_us →
     nat_le interval jitter ≡ false → IsSchedule start interval jitter
 schedule start interval jitter few least most below = record {
   start = few;
@@ -226,7 +227,7 @@ requesting_is m ranges some headers = record {
 }
 
 polled_is : (t : Tables) (m : Members) → FlowRanges m → is_some (first_channel t.channels (flow_of m)) ≡ true →
-    100 ≤ number_at (codes "interval_us") m →
+    least_interval_us ≤ number_at (codes "interval_us") m →
     nat_le (flow_of m).interval_us (flow_of m).jitter_us ≡ false →
     is_too_long t.round_ticks (λ c. c.request_minislots) (first_channel t.channels (flow_of m)) ≡ false →
     IsPolled t (flow_of m)
@@ -296,6 +297,7 @@ flow_is t earlier m h =
       jitter_us = ranges.jitter_us;
       scheduled = scheduled_is t m (kind_at m) ranges both.1 some (first_there t.channels f.channels known some) grants.0
           grants.1.0 grants.1.1.0;
+      others = others_absent m (kind_at m) shape.1.1.1.0;
     }
 
 flows_stay_apart : (round : ℕ) (channels : List Channel) (earlier : List FlowTable) (m : Members) →
@@ -357,24 +359,24 @@ tables_are doc h =
     let channel_items : Items = items_at (codes "channel") doc in
     let flow_items : Items = items_at (codes "flow") doc in
     let station_items : Items = items_at (codes "station") doc in
-    let channels = channels_fault (round_of doc) channel_items in
-    let flows = flows_fault (round_of doc) (channels_of doc) flow_items in
-    let stations = stations_fault (round_of doc) (channels_of doc) station_items in
+    let channels = channels_fault (round_ticks_of doc) channel_items in
+    let flows = flows_fault (round_ticks_of doc) (channels_of doc) flow_items in
+    let stations = stations_fault (round_ticks_of doc) (channels_of doc) station_items in
     let top = or_else_none (first_of (top_checks doc)) (or_else channels (or_else flows stations)) h in
     let rest = or_else_none channels (or_else flows stations) top.1 in
     let last = or_else_none flows stations rest.1 in
     let ranges = top_is doc top.0 in
     let t : Tables = tables_of doc in
-    let flows_apart = kept_in_turn flow_of (flow_fault (round_of doc) (channels_of doc))
-    (λ fs. AreApart (map (λ f. f.id) fs) × AreApart (flat_map sids_of fs)) (flows_stay_apart (round_of doc) (channels_of doc))
+    let flows_apart = kept_in_turn flow_of (flow_fault (round_ticks_of doc) (channels_of doc))
+    (λ fs. AreApart (map (λ f. f.id) fs) × AreApart (flat_map sids_of fs)) (flows_stay_apart (round_ticks_of doc) (channels_of doc))
     [] flow_items last.0 (tt, tt) in
     record {
       round_ticks = ranges.round_ticks;
       lead_ticks = ranges.lead_ticks;
-      channels = all_in_turn channel_of (channel_fault (round_of doc)) (IsChannel t) (channel_is t ranges.round_ticks) []
+      channels = all_in_turn channel_of (channel_fault (round_ticks_of doc)) (IsChannel t) (channel_is t ranges.round_ticks) []
           channel_items rest.0;
-      flows = all_in_turn flow_of (flow_fault (round_of doc) (channels_of doc)) (IsFlow t) (flow_is t) [] flow_items last.0;
-      stations = all_in_turn station_of (station_fault (round_of doc) (channels_of doc)) (IsStation t) (station_is t) []
+      flows = all_in_turn flow_of (flow_fault (round_ticks_of doc) (channels_of doc)) (IsFlow t) (flow_is t) [] flow_items last.0;
+      stations = all_in_turn station_of (station_fault (round_ticks_of doc) (channels_of doc)) (IsStation t) (station_is t) []
           station_items last.1;
       some_channels = (
         omega (arith, ranges.channels.0, length-all_of channel_of channel_items),
@@ -382,11 +384,11 @@ tables_are doc h =
       );
       few_flows = omega (arith, ranges.flows, length-all_of flow_of flow_items);
       few_stations = omega (arith, ranges.stations, length-all_of station_of station_items);
-      channels_apart = kept_in_turn channel_of (channel_fault (round_of doc)) (λ cs. AreApart (map (λ c. c.id) cs))
-          (channels_stay_apart (round_of doc)) [] channel_items rest.0 tt;
+      channels_apart = kept_in_turn channel_of (channel_fault (round_ticks_of doc)) (λ cs. AreApart (map (λ c. c.id) cs))
+          (channels_stay_apart (round_ticks_of doc)) [] channel_items rest.0 tt;
       flows_apart = flows_apart.0;
-      stations_apart = kept_in_turn station_of (station_fault (round_of doc) (channels_of doc))
-          (λ ss. AreApart (map (λ s. s.id) ss)) (stations_stay_apart (round_of doc) (channels_of doc)) [] station_items
+      stations_apart = kept_in_turn station_of (station_fault (round_ticks_of doc) (channels_of doc))
+          (λ ss. AreApart (map (λ s. s.id) ss)) (stations_stay_apart (round_ticks_of doc) (channels_of doc)) [] station_items
           last.1 tt;
       sids_apart = flows_apart.1;
     }
@@ -407,7 +409,7 @@ few_channels doc values top are =
     omega (arith, count_view values, ap count are, ranges.channels.1)
 
 pub few_flows : (doc : Members) (values : List Value) → first_of (top_checks doc) ≡ None →
-    items_view values ≡ items_at (codes "flow") doc → length values ≤ 1024
+    items_view values ≡ items_at (codes "flow") doc → length values ≤ max_flows
 few_flows doc values top are =
     let ranges = top_is doc top in
     omega (arith, count_view values, ap count are, ranges.flows)
@@ -427,7 +429,7 @@ top_judged doc f Is found =
 
 -- the first fault of the channels is that of the document
 pub found_in_channels : (doc : Members) (round : ℕ) (f : ConfigFault) → first_of (top_checks doc) ≡ None →
-    round ≡ round_of doc → channels_fault round (items_at (codes "channel") doc) ≡ Some f → first_fault doc ≡ Some f
+    round ≡ round_ticks_of doc → channels_fault round (items_at (codes "channel") doc) ≡ Some f → first_fault doc ≡ Some f
 unfolding first_fault
 found_in_channels doc round f top round_is found = rw (top, rw round_is at found) refl
 
@@ -451,7 +453,7 @@ found_in_stations doc round channels flow_items items first flows_are none are f
 
 -- and theirs, where the channels have none
 pub found_in_rest : (doc : Members) (round : ℕ) (channels : List Channel) → first_of (top_checks doc) ≡ None →
-    round ≡ round_of doc → channels_fault round (items_at (codes "channel") doc) ≡ None → channels ≡ channels_of doc →
+    round ≡ round_ticks_of doc → channels_fault round (items_at (codes "channel") doc) ≡ None → channels ≡ channels_of doc →
     first_fault doc ≡ rest_fault doc round channels
 unfolding first_fault
 found_in_rest doc round channels top round_is no_channel channels_are =
@@ -459,7 +461,7 @@ found_in_rest doc round channels top round_is no_channel channels_are =
 
 -- without a fault they are lawful
 pub accepted : (doc : Members) (round lead : ℕ) (channels : List Channel) (flows : List FlowTable) (stations : List Station) →
-    first_fault doc ≡ None → round ≡ round_of doc → lead ≡ number_at (codes "lead_ticks") doc →
+    first_fault doc ≡ None → round ≡ round_ticks_of doc → lead ≡ number_at (codes "lead_ticks") doc →
     channels ≡ channels_of doc → flows ≡ flows_of doc → stations ≡ stations_of doc →
     let t : Tables = record { round_ticks = round; lead_ticks = lead; channels = channels; flows = flows; stations = stations } in
     AreTables t × (t ≡ tables_of doc)

@@ -7,12 +7,12 @@ use Rattle.std.proofs.lemmas.List.{drop_more, length-append, map-append}
 use Rattle.std.proofs.lemmas.Map.Keys.{IsDistinct-cons, IsDistinct-head, IsDistinct-tail}
 use Rattle.us_flows.specs.Tables.{FlowTable}
 use Rattle.us_flows.specs.Clusters as clusters
-use Rattle.us_flows.specs.Clusters.{Cluster, clusters_from, makes_requests, requesting, numbered, goes_before, in_order, turns_of}
+use Rattle.us_flows.specs.Clusters.{Cluster, clusters_from, makes_requests, requesting, turns_for, turns_from}
 use Rattle.us_flows.specs.Turns.{in_flow}
 use Rattle.us_flows.specs.Lawful.{AreApart}
 use Rattle.us_flows.specs.Ranks.{cluster_turns, flow_turns, table_turns, IsRanked}
 use Rattle.us_flows.specs.declared.turns.Turn.{Turn}
-use Rattle.us_flows.proofs.RankLemmas.{order_of}
+use Rattle.us_flows.proofs.RankLemmas.{order_of, all_map}
 
 -- steps of the loops
 
@@ -64,23 +64,15 @@ table_turns-more turns place flows flow d within is =
 abbrev pub turn_in : List FlowTable → Turn → Option clusters.Turn
 turn_in flows turn = option_and_then (in_flow turn) (slice_get flows turn.flow)
 
-get-behind : {X : Type 0} (before : List X) (x : X) (rest : List X) →
+pub get-behind : {X : Type 0} (before : List X) (x : X) (rest : List X) →
     slice_get (before ++ x ∷ rest) (length before) ≡ Some x
 get-behind [] x rest = refl
 get-behind (b ∷ before) x rest = get-behind before x rest
 
-numbered-append : (number : ℕ) (xs ys : List Cluster) →
-    numbered number (xs ++ ys) ≡ numbered number xs ++ numbered (number + length xs) ys
-numbered-append number [] ys = let none : number ≡ number + 0 = omega arith in ap (λ n. numbered n ys) none
-numbered-append number (x ∷ xs) ys =
-    let next : number + 1 + length xs ≡ number + length (x ∷ xs) = omega arith in
-    ap (λ more. record { number = number; cluster = x } ∷ more)
-    (numbered-append (number + 1) xs ys ∙ ap (λ n. numbered (number + 1) xs ++ numbered n ys) next)
-
 own_turns : (flows : List FlowTable) (flow : FlowTable) (place number : ℕ) (before rest : List (List ℕ)) →
     slice_get flows place ≡ Some flow → flow.clusters ≡ before ++ rest →
     map (turn_in flows) (cluster_turns place number (length before) rest) ≡
-    map Some (numbered number (clusters_from flow (length before) rest))
+    map Some (turns_for place number (clusters_from flow (length before) rest))
 own_turns flows flow place number before [] at is = refl
 own_turns flows flow place number before (sids ∷ rest) at is =
     let turn : Turn = record { flow = place; list = length before; cluster = number } in
@@ -88,9 +80,11 @@ own_turns flows flow place number before (sids ∷ rest) at is =
     ap (λ lists. slice_get lists (length before)) is ∙ get-behind before sids rest in
     let found : turn_in flows turn ≡ Some (record {
       number = number;
+      place = place;
       cluster = record { flow = flow; list = length before; sids = sids };
     }) = ap (option_and_then (in_flow turn)) at ∙ ap (option_map (λ s. record {
       number = number;
+      place = place;
       cluster = record { flow = flow; list = length before; sids = s };
     })) here in
     let long : length (before ++ sids ∷ []) ≡ length before + 1 = length-append before (sids ∷ []) in
@@ -100,25 +94,25 @@ own_turns flows flow place number before (sids ∷ rest) at is =
 
 pub flows_turns : (flows before rest : List FlowTable) (number : ℕ) → flows ≡ before ++ rest →
     map (turn_in flows) (table_turns (length before) number rest) ≡
-    map Some (numbered number (flat_map requesting rest))
+    map Some (turns_from (length before) number rest)
 flows_turns flows before [] number is = refl
 flows_turns flows before (flow ∷ rest) number is =
     let at : slice_get flows (length before) ≡ Some flow =
     ap (λ fs. slice_get fs (length before)) is ∙ get-behind before flow rest in
     let own : map (turn_in flows) (flow_turns (length before) number flow) ≡
-    map Some (numbered number (requesting flow)) = by (makes_requests flow.kind) at in
+    map Some (turns_for (length before) number (requesting flow)) = by (makes_requests flow.kind) at in
     let long : length (before ++ flow ∷ []) ≡ length before + 1 = length-append before (flow ∷ []) in
     let count : ℕ = number + length (requesting flow) in
     let more = flows_turns flows (before ++ flow ∷ []) rest count (is ∙ sym (append_assoc before (flow ∷ []) rest)) in
     let turns = map-append (turn_in flows) (flow_turns (length before) number flow)
     (table_turns (length before + 1) count rest) in
-    let both = ap (map Some) (numbered-append number (requesting flow) (flat_map requesting rest)) ∙
-    map-append Some (numbered number (requesting flow)) (numbered count (flat_map requesting rest)) in
+    let both = map-append Some (turns_for (length before) number (requesting flow))
+    (turns_from (length before + 1) count rest) in
     turns ∙ ap₂ (λ a b. a ++ b) own (rw long at more) ∙ sym both
   where
     by : (b : Bool) → slice_get flows (length before) ≡ Some flow →
         map (turn_in flows) (if b then cluster_turns (length before) number 0 flow.clusters else []) ≡
-        map Some (numbered number (if b then clusters_from flow 0 flow.clusters else []))
+        map Some (turns_for (length before) number (if b then clusters_from flow 0 flow.clusters else []))
     by true at = own_turns flows flow (length before) number [] flow.clusters at refl
     by false at = refl
 
@@ -216,7 +210,7 @@ cluster_rank c = number_of (255 - c.flow.priority) c.flow.id c.list
 abbrev pub turn_rank : clusters.Turn → ℕ
 turn_rank turn = cluster_rank turn.cluster
 
-all-append : {X : Type 0} (P : X → Type 0) (xs ys : List X) → AllByRecursion P xs → AllByRecursion P ys →
+pub all-append : {X : Type 0} (P : X → Type 0) (xs ys : List X) → AllByRecursion P xs → AllByRecursion P ys →
     AllByRecursion P (xs ++ ys)
 all-append P [] ys own rest = rest
 all-append P (x ∷ xs) ys own rest = (own.0, all-append P xs ys own.1 rest)
@@ -261,14 +255,25 @@ pub in_range : (flows : List FlowTable) → AllByRecursion IsRanked flows →
 in_range flows ranges = all_of_flows InRange IsRanked
     (λ flow list sids ranked low. record { flow = ranked; list = omega (arith, ranked.clusters, low) }) flows ranges
 
-pub all_numbered : (P : Cluster → Type 0) (number : ℕ) (cs : List Cluster) → AllByRecursion P cs →
-    AllByRecursion (λ turn. P turn.cluster) (numbered number cs)
-all_numbered P number [] h = tt
-all_numbered P number (c ∷ cs) h = (h.0, all_numbered P (number + 1) cs h.1)
+-- the clusters of turns
 
-pub ranks_numbered : (number : ℕ) (cs : List Cluster) → map turn_rank (numbered number cs) ≡ map cluster_rank cs
-ranks_numbered number [] = refl
-ranks_numbered number (c ∷ cs) = ap (λ more. cluster_rank c ∷ more) (ranks_numbered (number + 1) cs)
+clusters_for : (place number : ℕ) (cs : List Cluster) → map (λ turn. turn.cluster) (turns_for place number cs) ≡ cs
+clusters_for place number [] = refl
+clusters_for place number (c ∷ cs) = ap (λ more. c ∷ more) (clusters_for place (number + 1) cs)
+
+pub clusters_in : (place number : ℕ) (flows : List FlowTable) →
+    map (λ turn. turn.cluster) (turns_from place number flows) ≡ flat_map requesting flows
+clusters_in place number [] = refl
+clusters_in place number (flow ∷ flows) =
+    let next : ℕ = number + length (requesting flow) in
+    map-append (λ turn. turn.cluster) (turns_for place number (requesting flow)) (turns_from (place + 1) next flows) ∙
+    ap₂ (λ a b. a ++ b) (clusters_for place number (requesting flow)) (clusters_in (place + 1) next flows)
+
+pub all_turned : (P : Cluster → Type 0) (place number : ℕ) (flows : List FlowTable) →
+    AllByRecursion P (flat_map requesting flows) → AllByRecursion (λ turn. P turn.cluster) (turns_from place number flows)
+all_turned P place number flows all =
+    all_map P (λ turn. P turn.cluster) (λ turn. turn.cluster) (λ turn h. h) (turns_from place number flows)
+    (rw (clusters_in place number flows) all)
 
 -- ranks are apart
 

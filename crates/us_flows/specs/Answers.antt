@@ -3,6 +3,7 @@ use Rattle.std.specs.Prelude.{◌≡◌, ℕ, ◌≤◌, List, length, Option, S
 use Rattle.std.specs.Str.{IsUtf8}
 use Rattle.toml.specs.Data.{Members}
 use Rattle.toml.specs.Parse.{parse_document}
+use Rattle.us_flows.specs.Ranges.{max_config_bytes}
 use Rattle.us_flows.specs.declared.faults.ConfigFault.{ConfigFault}
 use Rattle.us_flows.specs.declared.faults.ConfigFault.TheVariants as fault
 use Rattle.us_flows.specs.Tables.{Tables}
@@ -11,7 +12,7 @@ use Rattle.us_flows.specs.Reading.{tables_of}
 
 -- the bytes are a document, and not too long
 pub record IsDocument (text : List ℕ) (doc : Members) : Type 0 where
-  pub short : length text ≤ 4194304
+  pub short : length text ≤ max_config_bytes
   pub utf8 : IsUtf8 text
   pub parsed : parse_document text ≡ Some doc
 

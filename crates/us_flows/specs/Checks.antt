@@ -5,6 +5,7 @@ use Rattle.std.specs.List.{list_all, list_any}
 use Rattle.toml.specs.Data.{Data, table, Items, no_items, item, Members, get_member}
 use Rattle.us_slots.specs.Times.{minislot_ticks}
 use Rattle.us_slots.specs.Bursts.{burst_cost}
+use Rattle.us_flows.specs.Ranges.{max_codeword}
 use Rattle.us_flows.specs.declared.channels.Channel.{Channel}
 use Rattle.us_flows.specs.declared.stations.Station.{Station}
 use Rattle.us_flows.specs.declared.flows.SchedulingType.{SchedulingType}
@@ -18,7 +19,7 @@ use Rattle.us_flows.specs.Clusters.{makes_requests, has_intervals}
 use Rattle.us_flows.specs.Keys.{Key, top_keys, channel_keys, profile_keys, short_keys, flow_keys, station_keys}
 use Rattle.us_flows.specs.Documents.{read_or, number_at, items_at, table_at}
 use Rattle.us_flows.specs.Shapes.{is_type, lacks, strays}
-use Rattle.us_flows.specs.Reading.{channel_of, kind_at, flow_of, station_of, round_of, channels_of}
+use Rattle.us_flows.specs.Reading.{channel_of, kind_at, flow_of, station_of, round_ticks_of, channels_of}
 
 -- what is amiss, and the fault that it is
 abbrev pub Check : Type 0
@@ -50,7 +51,7 @@ lacks_within keys profile t = read_or false (is_table_without keys) (get_member 
 -- a profile strays from its keys, or has codewords that are too long
 abbrev pub profile_strays : List Key → Members → Bool
 profile_strays keys t =
-    strays keys t || nat_lt 255 (number_at (codes "fec_k") t + 2 * number_at (codes "fec_t") t)
+    strays keys t || nat_lt max_codeword (number_at (codes "fec_k") t + 2 * number_at (codes "fec_t") t)
 
 -- a channel or one of its profiles lacks a key, or strays from its keys
 unfoldable pub channel_lacks : Members → Bool
@@ -107,8 +108,8 @@ is_taken earlier sid = list_any (same_sid sid) (flat_map sids_of earlier)
 abbrev pub has_flow : List FlowTable → ℕ → Bool
 has_flow earlier id = list_any (λ flow. flow.id == id) earlier
 
--- its channels, its id and its SIDs beside the channels and the flows before it; the length of its clusters is looked at
--- before its SIDs,
+-- its channels, its id and its SIDs beside the channels and the flows before it; the length of its clusters is looked
+-- at before its SIDs,
 abbrev pub flow_names : Place → List Channel → List FlowTable → FlowTable → List Check
 flow_names place channels earlier flow =
     (not (list_all (has_channel channels) flow.channels), fault.UnknownChannel place) ∷
@@ -189,6 +190,6 @@ stations_fault round channels items = in_turn station_of (station_fault round ch
 unfoldable pub first_fault : Members → Option ConfigFault
 first_fault doc =
     or_else (first_of (top_checks doc))
-    (or_else (channels_fault (round_of doc) (items_at (codes "channel") doc))
-    (or_else (flows_fault (round_of doc) (channels_of doc) (items_at (codes "flow") doc))
-    (stations_fault (round_of doc) (channels_of doc) (items_at (codes "station") doc))))
+    (or_else (channels_fault (round_ticks_of doc) (items_at (codes "channel") doc))
+    (or_else (flows_fault (round_ticks_of doc) (channels_of doc) (items_at (codes "flow") doc))
+    (stations_fault (round_ticks_of doc) (channels_of doc) (items_at (codes "station") doc))))

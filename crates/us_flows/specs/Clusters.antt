@@ -1,5 +1,5 @@
 -- SID clusters: which of them make requests, what a SID asks for, and in which order clusters have their turns.
-use Rattle.std.specs.Prelude.{ℕ, ◌+◌, List, [], ◌∷◌, length, zip, flat_map, filter, count_by, position, Bool, true, false, not, ◌==◌, nat_lt, ◌&&◌, ◌||◌, if◌then◌else◌, Option, Some, None, option_map}
+use Rattle.std.specs.Prelude.{◌≡◌, ◌<◌, ℕ, ◌+◌, List, [], ◌∷◌, ◌++◌, length, zip, flat_map, filter, count_by, position, Bool, true, false, not, ◌==◌, nat_lt, ◌&&◌, ◌||◌, if◌then◌else◌, Option, Some, None, option_map, take, slice_get}
 use Rattle.std.specs.List.{list_any, range_with_len}
 use Rattle.std.specs.Option.{option_or}
 use Rattle.us_flows.specs.Tables.{Tables, FlowTable}
@@ -62,15 +62,27 @@ found_among flows channel sid =
 unfoldable pub lookup : Tables → ℕ → ℕ → Option Found
 lookup t channel sid = found_among t.flows channel sid
 
--- a turn of a round (ours): a cluster and its number
+-- a turn of a round (ours): a cluster, its number, and the place of its flow among the flows
 pub record Turn : Type 0 where
   pub number : ℕ
+  pub place : ℕ
   pub cluster : Cluster
 
--- all clusters with their numbers, of which the first is `number`
-abbrev pub numbered : ℕ → List Cluster → List Turn
-numbered number [] = []
-numbered number (cluster ∷ rest) = record { number = number; cluster = cluster } ∷ numbered (number + 1) rest
+-- the turns of clusters of the flow at a place, of which the first has this number
+abbrev pub turns_for : ℕ → ℕ → List Cluster → List Turn
+turns_for place number [] = []
+turns_for place number (cluster ∷ rest) =
+    record { number = number; place = place; cluster = cluster } ∷ turns_for place (number + 1) rest
+
+-- and of flows, of which the first is at a place
+abbrev pub turns_from : ℕ → ℕ → List FlowTable → List Turn
+turns_from place number [] = []
+turns_from place number (flow ∷ flows) =
+    turns_for place number (requesting flow) ++ turns_from (place + 1) (number + length (requesting flow)) flows
+
+-- all clusters that make requests, in table order, with their numbers from 0
+abbrev pub table_order : Tables → List Turn
+table_order t = turns_from 0 0 t.flows
 
 -- whether a turn goes before another: by priority falling, then by flow id rising, then by the place in the flow
 abbrev pub goes_before : Turn → Turn → Bool
@@ -88,4 +100,13 @@ in_order turns =
 
 -- the turns of each round
 unfoldable pub turns_of : Tables → List Turn
-turns_of t = in_order (numbered 0 (clusters_of t))
+turns_of t = in_order (table_order t)
+
+-- the turn of a cluster of these tables that makes requests: its places lead to it, and its number says how many such
+-- clusters stand before it
+pub record IsTurnIn (t : Tables) (turn : Turn) : Type 0 where
+  pub flow : slice_get t.flows turn.place ≡ Some turn.cluster.flow
+  pub requests : makes_requests turn.cluster.flow.kind ≡ true
+  pub sids : slice_get turn.cluster.flow.clusters turn.cluster.list ≡ Some turn.cluster.sids
+  pub number : turn.number < length (clusters_of t)
+  pub before : turn.number ≡ length (flat_map requesting (take turn.place t.flows)) + turn.cluster.list

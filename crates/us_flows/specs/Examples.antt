@@ -10,7 +10,7 @@ use Rattle.us_flows.specs.declared.faults.TableName.TheVariants as name
 use Rattle.us_flows.specs.declared.faults.ConfigFault.{ConfigFault}
 use Rattle.us_flows.specs.declared.faults.ConfigFault.TheVariants.{Missing, Range, UnknownChannel, DuplicateId, DuplicateSid, ClusterLength, RoundNotMultiple, ReservesTooLong, Jitter, GrantLongerThanMap, Headers}
 use Rattle.us_flows.specs.Tables.{Tables, FlowTable, rounds_fit}
-use Rattle.us_flows.specs.Clusters.{lookup, turns_of}
+use Rattle.us_flows.specs.Clusters.{lookup, table_order, turns_of}
 use Rattle.us_flows.specs.Turns.{turn_at}
 use Rattle.us_flows.specs.Keys.{top_keys, channel_keys, profile_keys, short_keys, best_effort_keys, polling_keys, unsolicited_keys, station_keys}
 use Rattle.us_flows.specs.Checks.{top, channel_lacks, channel_strays, channel_fault, flow_fault, station_fault, first_fault}
@@ -384,10 +384,18 @@ found_among_four :
 unfolding lookup
 found_among_four = (refl, refl, refl, refl)
 
+-- numbers go on from flow to flow, and places count flows without requests too
+numbered_in_table_order :
+    (map (λ turn. turn.number) (table_order four_tables) ≡ 0 ∷ 1 ∷ 2 ∷ 3 ∷ 4 ∷ 5 ∷ []) ×
+    (map (λ turn. turn.place) (table_order four_tables) ≡ 0 ∷ 0 ∷ 2 ∷ 2 ∷ 3 ∷ 3 ∷ [])
+numbered_in_table_order = (refl, refl)
+
 -- priority falling, then id rising, then the clusters of the flow in order
-three_flows : map (λ turn. turn.number) (turns_of four_tables) ≡ 4 ∷ 5 ∷ 2 ∷ 3 ∷ 0 ∷ 1 ∷ []
+three_flows :
+    (map (λ turn. turn.number) (turns_of four_tables) ≡ 4 ∷ 5 ∷ 2 ∷ 3 ∷ 0 ∷ 1 ∷ []) ×
+    (map (λ turn. turn.place) (turns_of four_tables) ≡ 3 ∷ 3 ∷ 2 ∷ 2 ∷ 0 ∷ 0 ∷ [])
 unfolding turns_of
-three_flows = refl
+three_flows = (refl, refl)
 
 -- the places of the first of these turns, and places where there is no cluster
 places :

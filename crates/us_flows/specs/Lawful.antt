@@ -3,6 +3,7 @@ use Rattle.std.specs.Prelude.{◌≡◌, ◌≢◌, ◌⊎◌, ℕ, ◌+◌, ◌
 use Rattle.std.specs.List.{AllByRecursion}
 use Rattle.us_slots.specs.Times.{minislot_ticks}
 use Rattle.us_slots.specs.Bursts.{IsChannelBursts, burst_cost}
+use Rattle.us_flows.specs.Ranges.{max_channels, max_flows, max_stations, max_round_ticks, max_lead_ticks, max_channel_id, max_ucd_count, max_exponent, max_request_minislots, max_station_minislots, max_maintenance_every, max_id, max_sid, max_channels_of_flow, max_clusters_of_flow, max_priority, max_rate, max_burst, max_unit, max_grant_bytes, max_grants, least_interval_us, max_us}
 use Rattle.us_flows.specs.declared.channels.Channel.{Channel}
 use Rattle.us_flows.specs.declared.stations.Station.{Station}
 use Rattle.us_flows.specs.declared.flows.SchedulingType.{SchedulingType}
@@ -21,19 +22,19 @@ AreApart (x ∷ xs) = AllByRecursion (λ y. x ≢ y) xs × AreApart xs
 -- two exponents of 2, the start and the end of a backoff window
 pub record IsBackoff (b : List ℕ) : Type 0 where
   pub two : length b ≡ 2
-  pub each : AllByRecursion (λ exponent. exponent ≤ 15) b
+  pub each : AllByRecursion (λ exponent. exponent ≤ max_exponent) b
 
 pub record IsChannel (t : Tables) (c : Channel) : Type 0 where
-  pub id : Between 1 255 c.id
+  pub id : Between 1 max_channel_id c.id
   pub bursts : IsChannelBursts c.bursts
-  pub ucd_count : c.ucd_count ≤ 255
+  pub ucd_count : c.ucd_count ≤ max_ucd_count
   pub ranging_backoff : IsBackoff c.ranging_backoff
   pub data_backoff : IsBackoff c.data_backoff
-  pub request_minislots : Between 1 64 c.request_minislots
-  pub maintenance_every : Between 1 65536 c.maintenance_every
-  pub station_minislots : Between 1 64 c.station_minislots
-  -- a MAP has from 1 to 4,096 minislots, and a round is a whole number of them
-  pub len : Between 1 4096 (map_len t c)
+  pub request_minislots : Between 1 max_request_minislots c.request_minislots
+  pub maintenance_every : Between 1 max_maintenance_every c.maintenance_every
+  pub station_minislots : Between 1 max_station_minislots c.station_minislots
+  -- a MAP has a minislot at least, and a round is a whole number of them
+  pub len : Between 1 max_round_ticks (map_len t c)
   pub whole : map_len t c * minislot_ticks c.bursts.time ≡ t.round_ticks
   -- and both reserves together have room in it
   pub reserves : c.maintenance_minislots + c.contention_minislots ≤ map_len t c
@@ -49,8 +50,8 @@ IsUnit n = (n ≡ 1) ⊎ ((n ≡ 2) ⊎ ((n ≡ 4) ⊎ ((n ≡ 8) ⊎ (n ≡ 16)
 
 -- when intervals begin, how long they are, and the jitter, which is below that, in microseconds
 pub record IsSchedule (start_us interval_us jitter_us : ℕ) : Type 0 where
-  pub start : start_us ≤ 10000000
-  pub interval : Between 100 10000000 interval_us
+  pub start : start_us ≤ max_us
+  pub interval : Between least_interval_us max_us interval_us
   pub jitter : jitter_us < interval_us
 
 -- a flow that makes requests; without segment headers it has one channel
@@ -74,6 +75,32 @@ pub record IsUnsolicited (t : Tables) (f : FlowTable) : Type 0 where
   pub grant : Fits t (λ channel. burst_cost channel.bursts.time channel.bursts.unsolicited f.grant_bytes)
       (first_channel t.channels f)
 
+-- what a flow doesn't have is 0, or false: a flow that makes no requests,
+pub record MakesNoRequests (f : FlowTable) : Type 0 where
+  pub priority : f.priority ≡ 0
+  pub rate : f.rate ≡ 0
+  pub burst : f.burst ≡ 0
+  pub unit : f.unit ≡ 0
+  pub headers : f.headers ≡ false
+
+-- one without intervals,
+pub record HasNoSchedule (f : FlowTable) : Type 0 where
+  pub start_us : f.start_us ≡ 0
+  pub interval_us : f.interval_us ≡ 0
+  pub jitter_us : f.jitter_us ≡ 0
+
+-- and one without unsolicited grants
+pub record HasNoGrants (f : FlowTable) : Type 0 where
+  pub grant_bytes : f.grant_bytes ≡ 0
+  pub grants : f.grants_per_interval ≡ 0
+
+-- what a flow of a scheduling type doesn't have
+abbrev pub HasNoOthers : FlowTable → SchedulingType → Type 0
+HasNoOthers f BestEffort = HasNoSchedule f × HasNoGrants f
+HasNoOthers f NonRealTimePolling = HasNoGrants f
+HasNoOthers f RealTimePolling = HasNoGrants f
+HasNoOthers f UnsolicitedGrant = MakesNoRequests f
+
 -- what a scheduling type asks of a flow
 abbrev pub IsScheduled : Tables → FlowTable → SchedulingType → Type 0
 IsScheduled t f BestEffort = IsRequesting f
@@ -82,44 +109,45 @@ IsScheduled t f RealTimePolling = IsRequesting f × IsPolled t f
 IsScheduled t f UnsolicitedGrant = IsUnsolicited t f
 
 pub record IsFlow (t : Tables) (f : FlowTable) : Type 0 where
-  pub id : Between 1 65535 f.id
+  pub id : Between 1 max_id f.id
   -- each of its channels is one of the table, and is there once
-  pub some_channels : Between 1 8 (length f.channels)
+  pub some_channels : Between 1 max_channels_of_flow (length f.channels)
   pub channels : AllByRecursion (λ id. has_channel t.channels id ≡ true) f.channels
   pub apart : AreApart f.channels
-  -- a cluster has a SID for each channel, from 1 to 15,871
-  pub some_clusters : Between 1 2 (length f.clusters)
+  -- a cluster has a SID for each channel
+  pub some_clusters : Between 1 max_clusters_of_flow (length f.clusters)
   pub sids : AllByRecursion
-      (λ sids. (length sids ≡ length f.channels) × AllByRecursion (Between 1 15871) sids) f.clusters
+      (λ sids. (length sids ≡ length f.channels) × AllByRecursion (Between 1 max_sid) sids) f.clusters
   -- whatever its type is,
-  pub priority : f.priority ≤ 7
-  pub rate : f.rate ≤ 1000000000
-  pub burst : f.burst ≤ 16777216
-  pub unit : f.unit ≤ 16
-  pub start_us : f.start_us ≤ 10000000
-  pub interval_us : f.interval_us ≤ 10000000
-  pub jitter_us : f.jitter_us ≤ 10000000
-  pub grant_bytes : f.grant_bytes ≤ 65535
-  pub grants : f.grants_per_interval ≤ 127
-  -- and what its type asks of it
+  pub priority : f.priority ≤ max_priority
+  pub rate : f.rate ≤ max_rate
+  pub burst : f.burst ≤ max_burst
+  pub unit : f.unit ≤ max_unit
+  pub start_us : f.start_us ≤ max_us
+  pub interval_us : f.interval_us ≤ max_us
+  pub jitter_us : f.jitter_us ≤ max_us
+  pub grant_bytes : f.grant_bytes ≤ max_grant_bytes
+  pub grants : f.grants_per_interval ≤ max_grants
+  -- what its type asks of it, and what its type has no key for
   pub scheduled : IsScheduled t f f.kind
+  pub others : HasNoOthers f f.kind
 
 pub record IsStation (t : Tables) (s : Station) : Type 0 where
-  pub id : Between 1 65535 s.id
+  pub id : Between 1 max_id s.id
   pub channel : has_channel t.channels s.channel ≡ true
-  pub sid : Between 1 15871 s.sid
+  pub sid : Between 1 max_sid s.sid
   pub schedule : IsSchedule s.start_us s.interval_us s.jitter_us
   pub maintenance : Fits t (λ channel. channel.station_minislots) (channel_with t.channels s.channel)
 
 pub record AreTables (t : Tables) : Type 0 where
-  pub round_ticks : Between 1 4096 t.round_ticks
-  pub lead_ticks : Between 1 65536 t.lead_ticks
+  pub round_ticks : Between 1 max_round_ticks t.round_ticks
+  pub lead_ticks : Between 1 max_lead_ticks t.lead_ticks
   pub channels : AllByRecursion (IsChannel t) t.channels
   pub flows : AllByRecursion (IsFlow t) t.flows
   pub stations : AllByRecursion (IsStation t) t.stations
-  pub some_channels : Between 1 16 (length t.channels)
-  pub few_flows : length t.flows ≤ 1024
-  pub few_stations : length t.stations ≤ 256
+  pub some_channels : Between 1 max_channels (length t.channels)
+  pub few_flows : length t.flows ≤ max_flows
+  pub few_stations : length t.stations ≤ max_stations
   -- ids are apart, and on a channel no SID belongs to two clusters
   pub channels_apart : AreApart (map (λ c. c.id) t.channels)
   pub flows_apart : AreApart (map (λ f. f.id) t.flows)

@@ -92,8 +92,8 @@ abbrev pub all_of : {A : Type 0} → (Members → A) → Items → List A
 all_of of no_items = []
 all_of of (item d ds) = of (table_of d) ∷ all_of of ds
 
-abbrev pub round_of : Members → ℕ
-round_of doc = number_at (codes "round_ticks") doc
+abbrev pub round_ticks_of : Members → ℕ
+round_ticks_of doc = number_at (codes "round_ticks") doc
 
 abbrev pub channels_of : Members → List Channel
 channels_of doc = all_of channel_of (items_at (codes "channel") doc)
@@ -106,7 +106,7 @@ stations_of doc = all_of station_of (items_at (codes "station") doc)
 
 abbrev pub tables_of : Members → Tables
 tables_of doc = record {
-  round_ticks = round_of doc;
+  round_ticks = round_ticks_of doc;
   lead_ticks = number_at (codes "lead_ticks") doc;
   channels = channels_of doc;
   flows = flows_of doc;

@@ -9,6 +9,7 @@ abbrev pub in_flow : Turn → FlowTable → Option clusters.Turn
 in_flow turn flow =
     option_map (λ sids. record {
       number = turn.cluster;
+      place = turn.flow;
       cluster = record { flow = flow; list = turn.list; sids = sids };
     }) (slice_get flow.clusters turn.list)
 

@@ -5,6 +5,7 @@ ghost use Rattle.us_slots.specs.Times.{IsTiming};
 ghost use Rattle.us_slots.specs.Bursts.{IsBurstProfile, IsChannelBursts};
 ghost use Rattle.us_flows.specs.Tables.{has_channel};
 ghost use Rattle.us_flows.specs.Lawful.{IsBackoff};
+ghost use Rattle.us_flows.specs.Ranges.{max_codeword};
 ghost use Rattle.us_flows.specs.Keys.{keys_of};
 ghost use Rattle.us_flows.specs.Documents;
 ghost use Rattle.us_flows.specs.Checks;
@@ -20,13 +21,11 @@ use crate::faults::{ConfigFault, Place, TOP, TableName};
 use crate::keys::{Key, channel_keys, profile_keys, short_keys};
 use crate::limits::is_too_long;
 use crate::listed::Channels;
+use crate::ranges::MAX_CODEWORD;
 use crate::shapes::{lacks, strays};
 use std::alloc::Global;
 use toml::{Table, Value};
 use us_slots::{BurstSet, ChannelTime, Profile};
-
-/// The longest codeword with its parity, in bytes (ours).
-const MAX_CODEWORD: u64 = 255;
 
 /// The channels of a list, or their first fault.
 pub(crate) fn channels_of(
@@ -214,7 +213,8 @@ fn profile_at(channel: &Table, key: &str) -> Option<Profile>
     profile_of(table_at(channel, key)?)
 }
 
-/// The most minislots of a short data grant, `None` past 16 bits.
+/// The most minislots of a short data grant, `None` past 16 bits. Without its table it is 0, as a missing number is
+/// read; a channel that lacks the table was refused before.
 fn short_max_of(channel: &Table) -> Option<u16>
     ensures { SomeIff result (Documents.number_at (codes "max_minislots")
         (Documents.table_at (codes "short") (table_view channel.now)) ≤ 65535)
@@ -282,7 +282,7 @@ fn rules_fault(
 
 /// Whether a profile has codewords that are too long.
 fn has_long_codeword(profile: &Table) -> bool
-    ensures { result ≡ nat_lt 255 (Documents.number_at (codes "fec_k") (table_view profile.now)
+    ensures { result ≡ nat_lt max_codeword (Documents.number_at (codes "fec_k") (table_view profile.now)
         + 2 * Documents.number_at (codes "fec_t") (table_view profile.now)) }
 {
     let parity = number_at(profile, "fec_t").saturating_mul(2);

@@ -1,7 +1,7 @@
 use us_slots::BurstSet;
 
 /// An upstream channel of the table.
-#[derive(Clone, Copy, Debug, PartialEq, Eq)]
+#[derive(Clone, Copy)]
 pub struct Channel {
     /// Upstream Channel ID, 1 to 255.
     pub id: u8,

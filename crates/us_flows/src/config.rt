@@ -1,26 +1,30 @@
-ghost use Rattle.std.specs.Prelude.{◌≡◌, ◌≤◌, length, map, Some, IfOk};
+ghost use Rattle.std.specs.Prelude.{◌≡◌, ◌≤◌, ◌<◌, ◌*◌, length, map, Some, IfOk};
+ghost use Rattle.std.specs.List.{AllByRecursion};
+ghost use Rattle.us_slots.specs.Times.{minislot_ticks};
 ghost use Rattle.us_flows.specs.Tables;
 ghost use Rattle.us_flows.specs.Tables.{Tables};
 ghost use Rattle.us_flows.specs.Turns.{turn_at};
 ghost use Rattle.us_flows.specs.Clusters;
 ghost use Rattle.us_flows.specs.Clusters.{clusters_of, turns_of};
-ghost use Rattle.us_flows.specs.Lawful.{AreTables};
+ghost use Rattle.us_flows.specs.Ranges.{max_round_ticks, max_clusters};
+ghost use Rattle.us_flows.specs.Lawful.{AreTables, IsChannel};
 ghost use Rattle.us_flows.specs.Ranks.{IsConfig};
 
 use crate::channels::Channel;
 use crate::flows::Flow;
 use crate::found::Found;
+use crate::limits::map_len;
 use crate::listed::{Channels, Flows, Stations};
 use crate::stations::Station;
 use crate::turns::{Turn, turns_of};
 use std::alloc::{AllocError, Global};
 use std::marker::Model;
+use us_slots::{MAX_MAP_TICKS, NoMemory};
 
 /// The most ticks of a run (ours).
 const MAX_RUN_TICKS: u64 = 67_108_864;
 
 /// A configuration without a fault.
-#[derive(Debug)]
 pub struct Config {
     round_ticks: u32,
     lead_ticks: u32,
@@ -100,6 +104,25 @@ impl Config {
         })
     }
 
+    /// The same tables in memory of their own. Where memory is wanting, what was copied is given up.
+    pub fn copy(&self, alloc: Global) -> Result<Config, NoMemory>
+        ensures value { IfOk result (λ copy. copy ≡ self.now) }
+        ensures lawful { AreTables self.now }
+    {
+        let channels = Channels::copied(alloc, self.channels.all())?;
+        let flows = Flows::copied(alloc, self.flows.all())?;
+        let stations = Stations::copied(alloc, self.stations.all())?;
+        let turns = Vec::from_slice(alloc, &self.turns)?;
+        Ok(Config {
+            round_ticks: self.round_ticks,
+            lead_ticks: self.lead_ticks,
+            channels,
+            flows,
+            stations,
+            turns,
+        })
+    }
+
     /// The length of a round in ticks, 1 to 4,096.
     pub fn round_ticks(&self) -> u32
         ensures value { result ≡ self.now.round_ticks }
@@ -140,6 +163,18 @@ impl Config {
         self.stations.all()
     }
 
+    /// The minislots of a channel's MAPs, 1 to 4,096.
+    pub fn map_len(&self, channel: &Channel) -> u32
+        requires { IsChannel self.now channel.now }
+        ensures value { result ≡ Tables.map_len self.now channel.now }
+        ensures some { 1 ≤ result }
+        ensures most { result ≤ max_round_ticks }
+        ensures ticks { result * minislot_ticks channel.now.bursts.time ≤ MAX_MAP_TICKS }
+        ensures lawful { AreTables self.now }
+    {
+        map_len(self.round_ticks, channel)
+    }
+
     /// Whether so many rounds, at least one, fit into a run.
     pub fn rounds_fit(&self, rounds: u32) -> bool
         ensures value { result ≡ Tables.rounds_fit self.now rounds }
@@ -149,8 +184,10 @@ impl Config {
     }
 
     /// The turns of each round, in order: by priority falling, then by flow id rising, then by cluster.
+    #[tactic(auto, using(crate::proofs::TurnLaws::config_numbers))]
     pub fn turns(&self) -> &[Turn]
         ensures value { map (turn_at self.now) result.now ≡ map Some (turns_of self.now) }
+        ensures numbers { AllByRecursion (λ turn. turn.cluster < length (clusters_of self.now)) result.now }
         ensures lawful { AreTables self.now }
     {
         &self.turns
@@ -159,7 +196,7 @@ impl Config {
     /// How many SID clusters make requests.
     pub fn clusters(&self) -> usize
         ensures value { result ≡ length (clusters_of self.now) }
-        ensures few { result ≤ 2048 }
+        ensures few { result ≤ max_clusters }
         ensures lawful { AreTables self.now }
     {
         self.flows.clusters()

@@ -1,6 +1,7 @@
 ghost use Rattle.std.specs.Prelude.{◌≡◌, ◌<◌, ◌≤◌, ◌++◌, ◌^◌, length, map, Err, None, IfOk, IfSome, true, false};
 ghost use Rattle.toml.specs.Data.{item, no_items};
 ghost use Rattle.toml.specs.View.{view, table_view, items_view};
+ghost use Rattle.us_flows.specs.Ranges.{max_flows, max_channel_id, max_sid};
 ghost use Rattle.us_flows.specs.Keys.{flow_keys};
 ghost use Rattle.us_flows.specs.Documents;
 ghost use Rattle.us_flows.specs.Shapes;
@@ -30,7 +31,7 @@ pub(crate) fn flows_of(
     channels: &Channels,
     items: &[Value],
 ) -> Result<Flows, ConfigFault>
-    requires { length items.now ≤ 1024 }
+    requires { length items.now ≤ max_flows }
     ensures { Judged result (flows_fault round_ticks channels.now (items_view items.now))
         (λ flows. flows ≡ Reading.all_of Reading.flow_of (items_view items.now)) }
 {
@@ -49,7 +50,7 @@ fn pushed_flow(
     flows: Flows,
     value: &Value,
 ) -> Result<Flows, ConfigFault>
-    requires { length flows < 1024 }
+    requires { length flows < max_flows }
     ensures { Judged result (in_turn Reading.flow_of (flow_fault round_ticks channels.now) flows
         (item (view value.now) no_items))
         (λ more. more ≡ flows ++ Reading.all_of Reading.flow_of (item (view value.now) no_items)) }
@@ -163,7 +164,7 @@ fn flow_of(alloc: Global, table: &Table) -> Result<Flow, AllocError>
 
 /// The channel ids of a list.
 fn ids_of(alloc: Global, items: &[Value]) -> Result<Vec<u8>, AllocError>
-    requires { Shapes.all_items (Shapes.is_number 1 255) (items_view items.now) ≡ true }
+    requires { Shapes.all_items (Shapes.is_number 1 max_channel_id) (items_view items.now) ≡ true }
     ensures { IfOk result (λ ids. ids.items ≡ Documents.numbers_of (items_view items.now)) }
 {
     let mut ids = Vec::new(alloc);
@@ -175,7 +176,7 @@ fn ids_of(alloc: Global, items: &[Value]) -> Result<Vec<u8>, AllocError>
 
 /// The SIDs of one cluster.
 fn cluster_of(alloc: Global, items: &[Value]) -> Result<Vec<u16>, AllocError>
-    requires { Shapes.all_items (Shapes.is_number 1 15871) (items_view items.now) ≡ true }
+    requires { Shapes.all_items (Shapes.is_number 1 max_sid) (items_view items.now) ≡ true }
     ensures { IfOk result (λ sids. sids.items ≡ Documents.numbers_of (items_view items.now)) }
 {
     let mut sids = Vec::new(alloc);
@@ -188,7 +189,7 @@ fn cluster_of(alloc: Global, items: &[Value]) -> Result<Vec<u16>, AllocError>
 /// The clusters of a list of lists.
 #[tactic(auto, using(crate::proofs::FlowLemmas::first_list))]
 fn clusters_of(alloc: Global, items: &[Value]) -> Result<Vec<Vec<u16>>, AllocError>
-    requires { Shapes.all_items (Shapes.is_number_list 1 15871) (items_view items.now) ≡ true }
+    requires { Shapes.all_items (Shapes.is_number_list 1 max_sid) (items_view items.now) ≡ true }
     ensures { IfOk result (λ clusters.
         map (λ sids. sids.items) clusters.items ≡ Documents.lists_of (items_view items.now)) }
 {

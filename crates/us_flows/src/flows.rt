@@ -1,7 +1,8 @@
-ghost use Rattle.std.specs.Prelude.{◌≡◌, map};
+ghost use Rattle.std.specs.Prelude.{◌≡◌, map, IfOk};
 ghost use Rattle.us_flows.specs.Clusters.{makes_requests, has_intervals};
 ghost use Rattle.us_flows.specs.Tables.{FlowTable};
 
+use std::alloc::{AllocError, Global};
 use std::marker::Model;
 
 /// How a service flow is scheduled (the standard's scheduling types).
@@ -34,7 +35,6 @@ impl SchedulingType {
 }
 
 /// A service flow of the table. What its scheduling type has no key for is 0, or false.
-#[derive(Debug)]
 pub struct Flow {
     pub(crate) id: u16,
     pub(crate) kind: SchedulingType,
@@ -96,6 +96,30 @@ impl Drop for Flow {
 }
 
 impl Flow {
+    /// The same flow in memory of its own.
+    pub(crate) fn copy(&self, alloc: Global) -> Result<Flow, AllocError>
+        ensures { IfOk result (λ copy. copy ≡ self.now) }
+    {
+        let channels = Vec::from_slice(alloc, &self.channels)?;
+        let clusters = copied(alloc, &self.clusters)?;
+        Ok(Flow {
+            id: self.id,
+            kind: self.kind,
+            channels,
+            clusters,
+            priority: self.priority,
+            rate: self.rate,
+            burst: self.burst,
+            unit: self.unit,
+            headers: self.headers,
+            start_us: self.start_us,
+            interval_us: self.interval_us,
+            jitter_us: self.jitter_us,
+            grant_bytes: self.grant_bytes,
+            grants_per_interval: self.grants_per_interval,
+        })
+    }
+
     /// The number of the flow, 1 to 65,535.
     pub fn id(&self) -> u16
         ensures value { result ≡ self.now.id }
@@ -195,4 +219,15 @@ impl Flow {
     {
         self.grants_per_interval
     }
+}
+
+/// The same lists in memory of their own.
+fn copied(alloc: Global, lists: &[Vec<u16>]) -> Result<Vec<Vec<u16>>, AllocError>
+    ensures { IfOk result (λ copies. map (λ sids. sids.items) copies.items ≡ map (λ sids. sids.items) lists.now) }
+{
+    let mut copies = Vec::new(alloc);
+    for sids in lists {
+        copies.push(Vec::from_slice(alloc, sids)?)?;
+    }
+    Ok(copies)
 }

@@ -2,6 +2,14 @@ ghost use Rattle.std.specs.Prelude.{◌≡◌};
 ghost use Rattle.us_flows.specs.Keys.{keys_of, top_keys, channel_keys, profile_keys, short_keys, best_effort_keys, polling_keys, unsolicited_keys, flow_keys, station_keys};
 
 use crate::flows::SchedulingType;
+use crate::ranges::{
+    LEAST_BITS, LEAST_FEC_K, LEAST_INTERVAL_US, MAX_BITS, MAX_BURST, MAX_CHANNEL_ID, MAX_CHANNELS,
+    MAX_CHANNELS_OF_FLOW, MAX_CLUSTERS_OF_FLOW, MAX_EXPONENT, MAX_FEC_K, MAX_FEC_T, MAX_FLOWS,
+    MAX_GRANT_BYTES, MAX_GRANTS, MAX_GUARD, MAX_ID, MAX_LEAD_TICKS, MAX_MAINTENANCE_EVERY,
+    MAX_MINISLOT_LOG2, MAX_PREAMBLE, MAX_PRIORITY, MAX_RATE, MAX_RATE_LOG2, MAX_REQUEST_MINISLOTS,
+    MAX_RESERVE_MINISLOTS, MAX_ROUND_TICKS, MAX_SHORT_MINISLOTS, MAX_SID, MAX_STATION_MINISLOTS,
+    MAX_STATIONS, MAX_UCD_COUNT, MAX_US,
+};
 
 /// What the value of a key must be. Of two numbers the first is the least and the second the greatest.
 #[derive(Clone, Copy)]
@@ -28,95 +36,107 @@ pub(crate) enum Rule {
 pub(crate) type Key = (&'static str, Rule);
 
 static TOP_KEYS: [Key; 5] = [
-    ("round_ticks", Rule::Number(1, 4_096)),
-    ("lead_ticks", Rule::Number(1, 65_536)),
-    ("channel", Rule::Tables(1, 16)),
-    ("flow", Rule::Tables(0, 1_024)),
-    ("station", Rule::Tables(0, 256)),
+    ("round_ticks", Rule::Number(1, MAX_ROUND_TICKS)),
+    ("lead_ticks", Rule::Number(1, MAX_LEAD_TICKS)),
+    ("channel", Rule::Tables(1, MAX_CHANNELS)),
+    ("flow", Rule::Tables(0, MAX_FLOWS)),
+    ("station", Rule::Tables(0, MAX_STATIONS)),
 ];
 
 static CHANNEL_KEYS: [Key; 14] = [
-    ("id", Rule::Number(1, 255)),
-    ("minislot_log2", Rule::Number(0, 7)),
-    ("rate_log2", Rule::Number(0, 5)),
-    ("ucd_count", Rule::Number(0, 255)),
-    ("ranging_backoff", Rule::Numbers(2, 2, 0, 15)),
-    ("data_backoff", Rule::Numbers(2, 2, 0, 15)),
-    ("request_minislots", Rule::Number(1, 64)),
-    ("contention_minislots", Rule::Number(0, 4_096)),
-    ("maintenance_minislots", Rule::Number(0, 4_096)),
-    ("maintenance_every", Rule::Number(1, 65_536)),
-    ("station_minislots", Rule::Number(1, 64)),
+    ("id", Rule::Number(1, MAX_CHANNEL_ID)),
+    ("minislot_log2", Rule::Number(0, MAX_MINISLOT_LOG2)),
+    ("rate_log2", Rule::Number(0, MAX_RATE_LOG2)),
+    ("ucd_count", Rule::Number(0, MAX_UCD_COUNT)),
+    ("ranging_backoff", Rule::Numbers(2, 2, 0, MAX_EXPONENT)),
+    ("data_backoff", Rule::Numbers(2, 2, 0, MAX_EXPONENT)),
+    ("request_minislots", Rule::Number(1, MAX_REQUEST_MINISLOTS)),
+    (
+        "contention_minislots",
+        Rule::Number(0, MAX_RESERVE_MINISLOTS),
+    ),
+    (
+        "maintenance_minislots",
+        Rule::Number(0, MAX_RESERVE_MINISLOTS),
+    ),
+    ("maintenance_every", Rule::Number(1, MAX_MAINTENANCE_EVERY)),
+    ("station_minislots", Rule::Number(1, MAX_STATION_MINISLOTS)),
     ("long", Rule::Table),
     ("short", Rule::Table),
     ("unsolicited", Rule::Table),
 ];
 
 static PROFILE_KEYS: [Key; 6] = [
-    ("bits", Rule::Number(2, 6)),
-    ("preamble", Rule::Number(0, 1_024)),
-    ("guard", Rule::Number(0, 255)),
-    ("fec_t", Rule::Number(0, 16)),
-    ("fec_k", Rule::Number(16, 253)),
+    ("bits", Rule::Number(LEAST_BITS, MAX_BITS)),
+    ("preamble", Rule::Number(0, MAX_PREAMBLE)),
+    ("guard", Rule::Number(0, MAX_GUARD)),
+    ("fec_t", Rule::Number(0, MAX_FEC_T)),
+    ("fec_k", Rule::Number(LEAST_FEC_K, MAX_FEC_K)),
     ("shortened", Rule::Flag),
 ];
 
 static SHORT_KEYS: [Key; 7] = [
-    ("bits", Rule::Number(2, 6)),
-    ("preamble", Rule::Number(0, 1_024)),
-    ("guard", Rule::Number(0, 255)),
-    ("fec_t", Rule::Number(0, 16)),
-    ("fec_k", Rule::Number(16, 253)),
+    ("bits", Rule::Number(LEAST_BITS, MAX_BITS)),
+    ("preamble", Rule::Number(0, MAX_PREAMBLE)),
+    ("guard", Rule::Number(0, MAX_GUARD)),
+    ("fec_t", Rule::Number(0, MAX_FEC_T)),
+    ("fec_k", Rule::Number(LEAST_FEC_K, MAX_FEC_K)),
     ("shortened", Rule::Flag),
-    ("max_minislots", Rule::Number(1, 255)),
+    ("max_minislots", Rule::Number(1, MAX_SHORT_MINISLOTS)),
 ];
 
 static BEST_EFFORT_KEYS: [Key; 9] = [
-    ("id", Rule::Number(1, 65_535)),
+    ("id", Rule::Number(1, MAX_ID)),
     ("type", Rule::Type),
-    ("channels", Rule::Numbers(1, 8, 1, 255)),
-    ("clusters", Rule::Lists(1, 2, 1, 15_871)),
-    ("priority", Rule::Number(0, 7)),
-    ("rate", Rule::Number(0, 1_000_000_000)),
-    ("burst", Rule::Number(1, 16_777_216)),
+    (
+        "channels",
+        Rule::Numbers(1, MAX_CHANNELS_OF_FLOW, 1, MAX_CHANNEL_ID),
+    ),
+    ("clusters", Rule::Lists(1, MAX_CLUSTERS_OF_FLOW, 1, MAX_SID)),
+    ("priority", Rule::Number(0, MAX_PRIORITY)),
+    ("rate", Rule::Number(0, MAX_RATE)),
+    ("burst", Rule::Number(1, MAX_BURST)),
     ("unit", Rule::Unit),
     ("headers", Rule::Flag),
 ];
 
 static POLLING_KEYS: [Key; 12] = [
-    ("id", Rule::Number(1, 65_535)),
+    ("id", Rule::Number(1, MAX_ID)),
     ("type", Rule::Type),
-    ("channels", Rule::Numbers(1, 8, 1, 255)),
-    ("clusters", Rule::Lists(1, 2, 1, 15_871)),
-    ("priority", Rule::Number(0, 7)),
-    ("rate", Rule::Number(0, 1_000_000_000)),
-    ("burst", Rule::Number(1, 16_777_216)),
+    (
+        "channels",
+        Rule::Numbers(1, MAX_CHANNELS_OF_FLOW, 1, MAX_CHANNEL_ID),
+    ),
+    ("clusters", Rule::Lists(1, MAX_CLUSTERS_OF_FLOW, 1, MAX_SID)),
+    ("priority", Rule::Number(0, MAX_PRIORITY)),
+    ("rate", Rule::Number(0, MAX_RATE)),
+    ("burst", Rule::Number(1, MAX_BURST)),
     ("unit", Rule::Unit),
     ("headers", Rule::Flag),
-    ("start_us", Rule::Number(0, 10_000_000)),
-    ("interval_us", Rule::Number(100, 10_000_000)),
-    ("jitter_us", Rule::Number(0, 10_000_000)),
+    ("start_us", Rule::Number(0, MAX_US)),
+    ("interval_us", Rule::Number(LEAST_INTERVAL_US, MAX_US)),
+    ("jitter_us", Rule::Number(0, MAX_US)),
 ];
 
 static UNSOLICITED_KEYS: [Key; 9] = [
-    ("id", Rule::Number(1, 65_535)),
+    ("id", Rule::Number(1, MAX_ID)),
     ("type", Rule::Type),
-    ("channels", Rule::Numbers(1, 1, 1, 255)),
-    ("clusters", Rule::Lists(1, 1, 1, 15_871)),
-    ("start_us", Rule::Number(0, 10_000_000)),
-    ("interval_us", Rule::Number(100, 10_000_000)),
-    ("jitter_us", Rule::Number(0, 10_000_000)),
-    ("grant_bytes", Rule::Number(1, 65_535)),
-    ("grants_per_interval", Rule::Number(1, 127)),
+    ("channels", Rule::Numbers(1, 1, 1, MAX_CHANNEL_ID)),
+    ("clusters", Rule::Lists(1, 1, 1, MAX_SID)),
+    ("start_us", Rule::Number(0, MAX_US)),
+    ("interval_us", Rule::Number(LEAST_INTERVAL_US, MAX_US)),
+    ("jitter_us", Rule::Number(0, MAX_US)),
+    ("grant_bytes", Rule::Number(1, MAX_GRANT_BYTES)),
+    ("grants_per_interval", Rule::Number(1, MAX_GRANTS)),
 ];
 
 static STATION_KEYS: [Key; 6] = [
-    ("id", Rule::Number(1, 65_535)),
-    ("channel", Rule::Number(1, 255)),
-    ("sid", Rule::Number(1, 15_871)),
-    ("start_us", Rule::Number(0, 10_000_000)),
-    ("interval_us", Rule::Number(100, 10_000_000)),
-    ("jitter_us", Rule::Number(0, 10_000_000)),
+    ("id", Rule::Number(1, MAX_ID)),
+    ("channel", Rule::Number(1, MAX_CHANNEL_ID)),
+    ("sid", Rule::Number(1, MAX_SID)),
+    ("start_us", Rule::Number(0, MAX_US)),
+    ("interval_us", Rule::Number(LEAST_INTERVAL_US, MAX_US)),
+    ("jitter_us", Rule::Number(0, MAX_US)),
 ];
 
 /// The keys of the top level.

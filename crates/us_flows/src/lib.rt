@@ -37,6 +37,9 @@ mod config;
 // The configuration of a text, or its first fault.
 mod reading;
 
+// The least and the greatest of what a configuration may say.
+mod ranges;
+
 // The keys of each table, and the rules of their values.
 mod keys;
 

@@ -1,5 +1,6 @@
 ghost use Rattle.std.specs.Prelude.{◌≡◌, ◌<◌, codes, length, None, Err, IfSome};
 ghost use Rattle.us_flows.specs.declared.faults.ConfigFault.TheVariants as fault;
+ghost use Rattle.us_flows.specs.Ranges.{max_config_bytes};
 ghost use Rattle.us_flows.specs.Documents;
 ghost use Rattle.us_flows.specs.Checks.{first_of, or_else, top_checks, channels_fault, flows_fault, stations_fault, first_fault};
 ghost use Rattle.us_flows.specs.Reading;
@@ -28,7 +29,7 @@ impl Config {
     /// A text that is too long is C1 whatever memory there is; before anything else is answered, memory may be wanting.
     pub fn read(alloc: Global, text: &[u8]) -> Result<Config, ConfigFault>
         ensures answer { Answers text.now result }
-        ensures too_long { 4194304 < length text.now → result ≡ Err fault.Text }
+        ensures too_long { max_config_bytes < length text.now → result ≡ Err fault.Text }
     {
         if text.len() > MAX_CONFIG_BYTES {
             return Err(ConfigFault::Text);
@@ -75,7 +76,7 @@ fn config_on(
     channels: Channels,
 ) -> Result<Config, ConfigFault>
     requires top { first_of (top_checks (table_view document.now)) ≡ None }
-    requires round { round_ticks ≡ Reading.round_of (table_view document.now) }
+    requires round { round_ticks ≡ Reading.round_ticks_of (table_view document.now) }
     requires judged { channels_fault round_ticks (Documents.items_at (codes "channel") (table_view document.now)) ≡ None }
     requires channels { channels ≡ Reading.channels_of (table_view document.now) }
     ensures { Judged result (first_fault (table_view document.now))

@@ -1,5 +1,5 @@
 /// A station of the table: a modem whose ranging is kept up by Station Maintenance.
-#[derive(Clone, Copy, Debug, PartialEq, Eq)]
+#[derive(Clone, Copy)]
 pub struct Station {
     /// The number of the station, 1 to 65,535.
     pub id: u16,

@@ -2,6 +2,7 @@
 
 // Configurations, and the driver of tables of changed ones.
 mod base;
+mod copies;
 // One of each fault; `crates/mapsim/cases/config_*.toml` have all limits, keys and orders.
 mod faults;
 mod lookups;

@@ -1,6 +1,7 @@
-ghost use Rattle.std.specs.Prelude.{◌≡◌, List, ◌++◌, [], ◌∷◌, false, length, OnOk, option_map};
+ghost use Rattle.std.specs.Prelude.{◌≡◌, List, ◌++◌, [], ◌∷◌, false, length, map, IfOk, OnOk, option_map};
 ghost use Rattle.us_flows.specs.Tables.{has_channel, channel_with};
 ghost use Rattle.std.specs.Map.{values_of};
+ghost use Rattle.us_flows.specs.Lawful.{AreApart};
 ghost use Rattle.us_flows.specs.Listed.{by_id};
 ghost use Rattle.us_flows.specs.declared.channels.Channel.{Channel};
 
@@ -10,7 +11,6 @@ use std::alloc::{AllocError, Global};
 use std::marker::Model;
 
 /// Channels in table order, found by id.
-#[derive(Debug)]
 pub(crate) struct Channels {
     map: IndexMap<u8, Channel>,
 }
@@ -68,6 +68,18 @@ impl Channels {
     {
         self.map.insert(channel.id, channel)?;
         Ok(())
+    }
+
+    /// These channels in this order, in memory of their own.
+    pub(crate) fn copied(alloc: Global, channels: &[Channel]) -> Result<Channels, AllocError>
+        requires { AreApart (map (λ channel. channel.id) channels.now) }
+        ensures { IfOk result (λ copy. copy ≡ channels.now) }
+    {
+        let mut copy = Channels::new(alloc);
+        for channel in channels {
+            copy.push(*channel)?;
+        }
+        Ok(copy)
     }
 
     /// All of them in table order.

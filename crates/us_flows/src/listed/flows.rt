@@ -1,11 +1,13 @@
 ghost use Rattle.std.specs.Prelude.{◌≡◌, ◌≤◌, ◌<◌, ◌+◌, ◌*◌, ◌++◌, List, [], ◌∷◌, false};
 ghost use Rattle.std.specs.Prelude.{length, map, zip, flat_map, nat_eq, OnOk, IfOk};
-ghost use Rattle.std.specs.List.{list_any};
+ghost use Rattle.std.specs.List.{AllByRecursion, list_any};
 ghost use Rattle.std.specs.Map.{values_of};
 ghost use Rattle.indexmap.specs.IndexMap.{insert_all, insert_entry};
 ghost use Rattle.us_flows.specs.Tables.{FlowTable, sids_of};
+ghost use Rattle.us_flows.specs.Ranges.{max_flows, max_clusters_of_flow};
 ghost use Rattle.us_flows.specs.Clusters.{requesting, found_among};
 ghost use Rattle.us_flows.specs.Checks.{has_flow, is_taken, same_sid, repeats};
+ghost use Rattle.us_flows.specs.Lawful.{AreApart};
 ghost use Rattle.us_flows.specs.Listed.{AreIndexed, asks, asked_from};
 
 use crate::flows::{Flow, SchedulingType};
@@ -15,7 +17,6 @@ use std::alloc::{AllocError, Global};
 use std::marker::Model;
 
 /// Service flows in table order, found by id, with an index of what their SIDs ask for.
-#[derive(Debug)]
 pub(crate) struct Flows {
     map: IndexMap<u16, Flow>,
     /// What each SID asks for, by its channel and itself.
@@ -76,6 +77,21 @@ impl Flows {
         self.map.len()
     }
 
+    /// These flows in this order, in memory of their own.
+    pub(crate) fn copied(alloc: Global, flows: &[Flow]) -> Result<Flows, AllocError>
+        requires ids { AreApart (map (λ flow. flow.id) flows.now) }
+        requires sids { AreApart (flat_map sids_of flows.now) }
+        requires few { length flows.now ≤ max_flows }
+        requires clusters { AllByRecursion (λ flow. length flow.clusters ≤ max_clusters_of_flow) flows.now }
+        ensures { IfOk result (λ copy. copy ≡ flows.now) }
+    {
+        let mut copy = Flows::new(alloc);
+        for flow in flows {
+            copy = copy.pushed(flow.copy(alloc)?)?;
+        }
+        Ok(copy)
+    }
+
     /// All of them in table order.
     pub(crate) fn all(&self) -> &[Flow]
         ensures { result.now ≡ self.now }
@@ -104,8 +120,8 @@ impl Flows {
         requires id { has_flow self flow.id ≡ false }
         requires sids { list_any (is_taken self) (sids_of flow) ≡ false }
         requires apart { repeats same_sid (sids_of flow) ≡ false }
-        requires few { length self < 1024 }
-        requires clusters { length flow.clusters ≤ 2 }
+        requires few { length self < max_flows }
+        requires clusters { length flow.clusters ≤ max_clusters_of_flow }
         ensures { IfOk result (λ flows. flows ≡ self ++ flow ∷ []) }
     {
         let Flows {
@@ -124,7 +140,8 @@ impl Flows {
     }
 }
 
-/// A map of flows with one more.
+/// A map of flows with one more. The map is taken and given back, so that where memory is wanting nothing is left of
+/// it, and no proof has to say what it holds then.
 fn inserted(mut map: IndexMap<u16, Flow>, flow: Flow) -> Result<IndexMap<u16, Flow>, AllocError>
     ensures { IfOk result (λ more. more.entries ≡ insert_entry nat_eq map.entries flow.id flow) }
 {
@@ -132,7 +149,8 @@ fn inserted(mut map: IndexMap<u16, Flow>, flow: Flow) -> Result<IndexMap<u16, Fl
     Ok(map)
 }
 
-/// An index with the SIDs of one more flow, of which the first cluster has this number.
+/// An index with the SIDs of one more flow, of which the first cluster has this number. It is taken and given back for
+/// the same reason: what holds part of a flow's SIDs is of no use.
 fn indexed(
     mut sids: IndexMap<(u8, u16), Found>,
     flow: &Flow,

@@ -1,6 +1,7 @@
-ghost use Rattle.std.specs.Prelude.{◌≡◌, List, ◌++◌, [], ◌∷◌, false, length, OnOk};
+ghost use Rattle.std.specs.Prelude.{◌≡◌, List, ◌++◌, [], ◌∷◌, false, length, map, IfOk, OnOk};
 ghost use Rattle.us_flows.specs.Checks.{has_station};
 ghost use Rattle.std.specs.Map.{values_of};
+ghost use Rattle.us_flows.specs.Lawful.{AreApart};
 ghost use Rattle.us_flows.specs.Listed.{by_id};
 ghost use Rattle.us_flows.specs.declared.stations.Station.{Station};
 
@@ -10,7 +11,6 @@ use std::alloc::{AllocError, Global};
 use std::marker::Model;
 
 /// Stations in table order, found by id.
-#[derive(Debug)]
 pub(crate) struct Stations {
     map: IndexMap<u16, Station>,
 }
@@ -61,6 +61,18 @@ impl Stations {
     {
         self.map.insert(station.id, station)?;
         Ok(())
+    }
+
+    /// These stations in this order, in memory of their own.
+    pub(crate) fn copied(alloc: Global, stations: &[Station]) -> Result<Stations, AllocError>
+        requires { AreApart (map (λ station. station.id) stations.now) }
+        ensures { IfOk result (λ copy. copy ≡ stations.now) }
+    {
+        let mut copy = Stations::new(alloc);
+        for station in stations {
+            copy.push(*station)?;
+        }
+        Ok(copy)
     }
 
     /// All of them in table order.

@@ -1,5 +1,6 @@
 use super::base::big;
 use crate::{Config, ConfigFault};
+use std::alloc::Global;
 use std::test::Fail;
 
 /// No test of its own: run with `--fail-alloc`, where each allocation is refused in turn, of lists, maps and turns
@@ -7,8 +8,19 @@ use std::test::Fail;
 #[test]
 fn refused_memory(rt: HostRuntime) -> Result<(), Fail> {
     match Config::read(rt.alloc(), big().as_bytes()) {
-        Ok(config) => assert_eq!(rt; config.flows().len(), 4),
+        Ok(config) => {
+            assert_eq!(rt; copied_flows(rt.alloc(), &config), 4);
+            assert_eq!(rt; config.flows().len(), 4);
+        }
         Err(fault) => assert_eq!(rt; fault, ConfigFault::NoMemory),
     }
     Ok(())
+}
+
+/// How many flows a copy has. A copy that is refused leaves all flows where they were.
+fn copied_flows(alloc: Global, config: &Config) -> usize {
+    match config.copy(alloc) {
+        Ok(copy) => copy.flows().len(),
+        Err(_) => config.flows().len(),
+    }
 }

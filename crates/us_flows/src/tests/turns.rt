@@ -13,8 +13,8 @@ pub fn tell_turns(out: &mut String, config: &Config) -> Result<(), AllocError> {
     Ok(())
 }
 
-/// Changes of the larger configuration, each with the turns that follow. Its flows of types 2, 6, 3 and 4 have the ids 101, 104, 103 and
-/// 102, and the priorities 1, none, 6 and 6.
+/// Changes of the larger configuration, each with the turns that follow. Its flows of types 2, 6, 3 and 4 have the ids
+/// 101, 104, 103 and 102, and the priorities 1, none, 6 and 6.
 const TURNS: &str = "\
 turns 3.0.3 3.1.4 2.0.2 0.0.0 0.1.1 | id = 10~ -> id = 10~
 # by priority, of which the highest goes first

@@ -1,27 +1,14 @@
-use Rattle.std.proofs.Common.{◌≡◌, ap, sym, ◌∙◌, nat_eq, None, ◌++◌, [], ◌∷◌}
-use Rattle.std.proofs.lemmas.List.{map-append}
-use Rattle.std.specs.Map.{values_of}
-use Rattle.us_flows.specs.Checks.{has_station}
-use Rattle.us_flows.specs.Listed.{by_id}
-use Rattle.indexmap.specs.IndexMap.{get}
-use Rattle.indexmap.proofs.CallerLemmas.{insert_entry-new}
-use Rattle.us_flows.proofs.ListedLemmas.{has_id, none_from_is_some, by_id-push}
+use Rattle.us_flows.proofs.ListedLemmas.{IsPushed, pushed}
 use Rattle.us_flows.proofs.listed.stations.Stations.push.Goals as goal
 
-pushed : (c : goal.In_ok-insert) →
-    c.insert.new.self.entries ≡ c.self.inside.map.entries ++ (c.args.station.id, c.args.station) ∷ []
-pushed c =
-    let had = has_id (λ station. station.id) c.self.inside.map.entries c.self.invariant c.args.station.id in
-    let new = ap (λ stations. has_station stations c.args.station.id) c.self.view_is ∙ c.requires in
-    let none : get nat_eq c.self.inside.map c.args.station.id ≡ None = none_from_is_some _ (had ∙ new) in
-    c.in_ok-insert.ensures.entries ∙ insert_entry-new nat_eq c.self.inside.map c.args.station.id c.args.station none
+put : (c : goal.In_ok-insert) →
+    IsPushed (λ station. station.id) c.self.inside.map.entries c.args.self.now c.args.station c.insert.new.self.entries
+put c =
+    pushed (λ station. station.id) c.self.inside.map c.self.invariant _ c.self.view_is c.args.station c.requires _
+    c.in_ok-insert.ensures.entries
 
 pub invariant_of-self-2 : goal.invariant_of-self-2
-invariant_of-self-2 c =
-    let last = by_id-push (λ station. station.id) c.self.inside.map.entries c.self.invariant c.args.station in
-    pushed c ∙ last ∙ ap (λ entries. by_id (λ station. station.id) (values_of entries)) (sym (pushed c))
+invariant_of-self-2 c = (put c).by_ids
 
 pub returns : goal.returns
-returns c =
-    let last = map-append (λ entry. entry.1) c.self.inside.map.entries ((c.args.station.id, c.args.station) ∷ []) in
-    ap values_of (pushed c) ∙ last ∙ ap (λ stations. stations ++ c.args.station ∷ []) c.self.view_is
+returns c = (put c).values
