@@ -1,0 +1,3 @@
+pub mod LevelLemmas
+pub mod SpanLemmas
+pub mod AllowanceLemmas
