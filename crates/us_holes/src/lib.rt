@@ -1,0 +1,34 @@
+//! The board of one MAP: which assignment holds each minislot, and where one more fits.
+//!
+//! ```
+//! let mut board = Board::new(alloc, 160)?; // 160 idle minislots
+//! let reserve = Owner::new(16_383, Iuc::request());
+//! board.place_earliest(150, 150, 10, reserve); // At(150, 10)
+//! board.longest(); // Some((0, 150))
+//! ```
+//!
+//! What these words mean stands in `specs/`, in the order of its `Lib.antt`.
+#![tactic(auto)]
+
+// To whom minislots are assigned.
+mod owners;
+
+// The assignment that holds a minislot.
+mod holders;
+
+// What becomes of an assignment that is to be placed.
+mod placements;
+
+// Minislots side by side with one holder.
+mod runs;
+
+// The board.
+mod boards;
+
+pub use boards::{Board, MAX_ASSIGNMENTS, MAX_MINISLOTS};
+pub use owners::Owner;
+pub use placements::Placed;
+pub use runs::Run;
+
+#[cfg(test)]
+mod tests;

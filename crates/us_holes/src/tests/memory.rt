@@ -1,0 +1,17 @@
+use super::base::{place, same};
+use crate::Board;
+
+/// No test of its own: run with `--fail-alloc`, where each allocation is refused in turn: of the board, and as the list
+/// of its runs grows. A refused one is answered as want of memory, and never as a list of fewer runs.
+#[test]
+fn refused_memory(rt: HostRuntime) {
+    let Ok(mut board) = Board::new(rt.alloc(), 4_096) else {
+        return;
+    };
+    for number in 0..20u32 {
+        let _ = place(&mut board, ((2 * number + 1, 4_095), 1, 1));
+    }
+    if let Ok(runs) = board.runs(rt.alloc()) {
+        same(&rt, runs.len(), 41);
+    }
+}
