@@ -1,0 +1,129 @@
+-- Small inputs, computed by the definitions alone.
+use Rattle.std.specs.Prelude.{◌≡◌, ℕ, true, List, [], ◌∷◌, map, Option, Some, None, ⊤, refl}
+use Rattle.us_slots.specs.Bursts.{coded_length, burst_cost}
+use Rattle.us_slots.specs.Capacities.{greatest_up_to, capacity_of}
+use Rattle.us_slots.specs.Examples.{base_profile, bursts_with}
+use Rattle.us_flows.specs.declared.channels.Channel.{Channel}
+use Rattle.us_flows.specs.declared.flows.SchedulingType.TheVariants.{BestEffort}
+use Rattle.us_flows.specs.Tables.{FlowTable, Tables}
+use Rattle.us_flows.specs.Clusters.{turns_of}
+use Rattle.us_split.specs.Divisions.{divided}
+use Rattle.us_split.specs.Plans.{weights, shares_of, cost_on, after_turn, plan_of, plan_for}
+use Rattle.us_split.specs.Shares.{TurnShares, with_shares, share_of}
+
+-- what these computations unfold
+unfoldable all_steps : ⊤
+unfolding coded_length burst_cost greatest_up_to capacity_of turns_of divided weights shares_of cost_on after_turn
+    plan_of plan_for with_shares
+all_steps = tt
+
+-- Division.
+
+-- parts of 150, 300 and 50 bytes, and a byte that is left over; then no byte more than the weights
+three_weights :
+    (divided 501 (300 ∷ 600 ∷ 100 ∷ []) ≡ 151 ∷ 300 ∷ 50 ∷ []) ×
+    (divided 1000 (300 ∷ 600 ∷ 100 ∷ []) ≡ 300 ∷ 600 ∷ 100 ∷ []) ×
+    (divided 2000 (300 ∷ 600 ∷ 100 ∷ []) ≡ 300 ∷ 600 ∷ 100 ∷ []) ×
+    (divided 0 (300 ∷ 600 ∷ 100 ∷ []) ≡ 0 ∷ 0 ∷ 0 ∷ [])
+unfolding divided
+three_weights = (refl, refl, refl, refl)
+
+-- a channel that carries nothing gets no byte that is left over
+no_weight : divided 1 (0 ∷ 2 ∷ 2 ∷ []) ≡ 0 ∷ 1 ∷ 0 ∷ []
+unfolding divided
+no_weight = refl
+
+-- Tables.
+
+-- a channel with this id; a minislot has 2 ticks and 64 symbols of 4 bits
+abbrev channel : ℕ → Channel
+channel id = record {
+  id = id;
+  bursts = bursts_with base_profile;
+  ucd_count = 0;
+  ranging_backoff = 2 ∷ 6 ∷ [];
+  data_backoff = 3 ∷ 8 ∷ [];
+  request_minislots = 2;
+  contention_minislots = 10;
+  maintenance_minislots = 0;
+  maintenance_every = 1;
+  station_minislots = 4;
+}
+
+-- a flow of these channels and clusters, with segment headers of 8 bytes
+abbrev flow : List ℕ → List (List ℕ) → FlowTable
+flow channels clusters = record {
+  id = 1;
+  kind = BestEffort;
+  channels = channels;
+  clusters = clusters;
+  priority = 0;
+  rate = 0;
+  burst = 3044;
+  unit = 4;
+  headers = true;
+  start_us = 0;
+  interval_us = 0;
+  jitter_us = 0;
+  grant_bytes = 0;
+  grants_per_interval = 0;
+}
+
+-- two channels, and a flow of them in this order with two clusters
+abbrev bonded : List ℕ → Tables
+bonded channels = record {
+  round_ticks = 320;
+  lead_ticks = 160;
+  channels = channel 1 ∷ channel 2 ∷ [];
+  flows = flow channels ((291 ∷ 292 ∷ []) ∷ (293 ∷ 294 ∷ []) ∷ []) ∷ [];
+  stations = [];
+}
+
+-- the shares of all turns, of so many outstanding bytes of both clusters, an allowance of their flow, and so many idle
+-- minislots of both channels
+abbrev shares_for : List ℕ → ℕ → ℕ → Option ℕ → ℕ → ℕ → List (List ℕ)
+shares_for channels first second allowance one two =
+    map (λ planned. planned.shares)
+    (plan_for (bonded channels) (first ∷ second ∷ []) (allowance ∷ []) (one ∷ two ∷ []))
+
+-- Plans.
+
+-- 150 minislots carry 4,784 bytes: a header, and 4,776 bytes. A grant of 4,008 bytes costs 126 minislots, and the 24
+-- that are left carry 752: a header, and 744 bytes
+two_clusters : shares_for (1 ∷ 2 ∷ []) 8000 2000 None 150 150 ≡ (4000 ∷ 4000 ∷ []) ∷ (744 ∷ 744 ∷ []) ∷ []
+unfolding all_steps
+two_clusters = refl
+
+-- the second channel is asked first for what is left over, and has less room
+other_order : shares_for (2 ∷ 1 ∷ []) 1001 0 None 150 24 ≡ (135 ∷ 866 ∷ []) ∷ (0 ∷ 0 ∷ []) ∷ []
+unfolding all_steps
+other_order = refl
+
+-- the clusters of a flow share its allowance: the second has what the first one left
+one_allowance :
+    (shares_for (1 ∷ 2 ∷ []) 1000 1000 (Some 1500) 150 150 ≡ (500 ∷ 500 ∷ []) ∷ (250 ∷ 250 ∷ []) ∷ []) ×
+    (shares_for (1 ∷ 2 ∷ []) 1000 1000 (Some 1000) 150 150 ≡ (500 ∷ 500 ∷ []) ∷ (0 ∷ 0 ∷ []) ∷ []) ×
+    (shares_for (1 ∷ 2 ∷ []) 1000 1000 (Some 701) 150 150 ≡ (351 ∷ 350 ∷ []) ∷ (0 ∷ 0 ∷ []) ∷ [])
+unfolding all_steps
+one_allowance = (refl, refl, refl)
+
+-- no room on the one channel, and none on both
+no_room :
+    (shares_for (1 ∷ 2 ∷ []) 1000 0 None 0 150 ≡ (0 ∷ 1000 ∷ []) ∷ (0 ∷ 0 ∷ []) ∷ []) ×
+    (shares_for (1 ∷ 2 ∷ []) 1000 1000 None 0 0 ≡ (0 ∷ 0 ∷ []) ∷ (0 ∷ 0 ∷ []) ∷ [])
+unfolding all_steps
+no_room = (refl, refl)
+
+-- As it is kept.
+
+-- the first cluster asks for nothing
+abbrev second_only : List TurnShares
+second_only = with_shares 0 (plan_for (bonded (1 ∷ 2 ∷ [])) (0 ∷ 7 ∷ []) (None ∷ []) (150 ∷ 150 ∷ []))
+
+kept_turns :
+    (second_only ≡ record { turn = 1; shares = 4 ∷ 3 ∷ [] } ∷ []) ×
+    (share_of second_only 1 0 ≡ 4) ×
+    (share_of second_only 1 2 ≡ 0) ×
+    (share_of second_only 0 0 ≡ 0)
+unfolding all_steps
+kept_turns = (refl, refl, refl, refl)

@@ -1,0 +1,17 @@
+-- Read in this order: the division of bytes over channels; the plan of a round; what of it is kept; what holds of every
+-- plan.
+-- In a definition `≡` is equals, `≤` compares, `×` is and, `⊎` or, `→` implies, `∷` one item before a list, and ℕ has
+-- the whole numbers from 0; `-` stops at 0, and `/` rounds down.
+
+-- bytes over channels, by their weights
+pub mod Divisions
+-- how many bytes each turn may send
+pub mod Plans
+-- a plan as it is kept
+pub mod Shares
+-- what holds of every plan
+pub mod PlanLaws
+-- the definitions at small inputs
+pub mod Examples
+-- inside the crate, and of no use to a reader of the promise: what a ledger gives a turn
+pub mod Grants

@@ -1,0 +1,34 @@
+-- What holds of every plan: no channel, cluster or flow gives more than it has.
+use Rattle.std.specs.Prelude.{◌≡◌, ◌⊎◌, ℕ, ◌+◌, ◌≤◌, ◌==◌, List, filter, sum, sum_by, slice_get, slice_index, Option, Some, None}
+use Rattle.std.specs.List.{AllByRecursion}
+use Rattle.us_flows.specs.declared.channels.Channel.{Channel}
+use Rattle.us_flows.specs.Tables.{Tables}
+use Rattle.us_split.specs.Plans.{Planned, header_bytes, cost_on}
+
+-- at most so many bytes, where there is a limit
+abbrev pub Within : Option ℕ → ℕ → Type 0
+Within None bytes = Unit {0}
+Within (Some most) bytes = bytes ≤ most
+
+-- the bytes of all shares of the turns that pass
+abbrev pub planned_bytes : List Planned → ℕ
+planned_bytes plan = sum_by (λ planned. sum planned.shares) plan
+
+-- the shares of a turn and the header are at most the bytes of a burst
+abbrev pub AreBursts : Planned → Type 0
+AreBursts planned =
+    AllByRecursion (λ share. (share ≡ 0) ⊎ (share + header_bytes planned.turn.cluster.flow ≤ 98304)) planned.shares
+
+pub record IsLawfulPlan (t : Tables) (outstanding : List ℕ) (allowances : List (Option ℕ)) (idle : List ℕ)
+    (plan : List Planned) : Type 0 where
+  -- on each channel the grants that are planned cost at most its idle minislots,
+  pub room : (place : ℕ) (c : Channel) → slice_get t.channels place ≡ Some c →
+      sum_by (λ planned. cost_on c planned) plan ≤ slice_index idle place
+  -- the shares of a cluster are at most its outstanding bytes,
+  pub asked : (number : ℕ) →
+      planned_bytes (filter (λ planned. planned.turn.number == number) plan) ≤ slice_index outstanding number
+  -- those of a flow at most its allowance,
+  pub allowed : (place : ℕ) (allowance : Option ℕ) → slice_get allowances place ≡ Some allowance →
+      Within allowance (planned_bytes (filter (λ planned. planned.turn.place == place) plan))
+  -- and each with its header is a burst
+  pub bursts : AllByRecursion AreBursts plan

@@ -1,0 +1,120 @@
+-- The plan of a round (ours): how many bytes each turn may send on each of its flow's channels.
+use Rattle.std.specs.Prelude.{ℕ, ◌+◌, ◌-◌, ◌≤◌, ◌≡◌, ◌==◌, min, if◌then◌else◌, List, [], ◌∷◌, map, zip, find, position, set, length, sum, slice_get, slice_index, slice_index_or, Option, Some, None, option_map}
+use Rattle.us_slots.specs.Bursts.{grant_cost}
+use Rattle.us_slots.specs.Capacities.{capacity_of}
+use Rattle.us_flows.specs.declared.channels.Channel.{Channel}
+use Rattle.us_flows.specs.Tables.{Tables, FlowTable, map_len}
+use Rattle.us_flows.specs.Clusters.{Turn, turns_of}
+use Rattle.us_split.specs.Divisions.{divided}
+
+-- the bytes of a segment header
+abbrev pub header_bytes : FlowTable → ℕ
+header_bytes flow = if flow.headers then 8 else 0
+
+-- a channel and the minislots that are still to be planned on it
+pub record Budget : Type 0 where
+  pub channel : Channel
+  pub slots : ℕ
+
+-- what turns still may plan with: the budget of each channel in table order, and of each flow the bytes that its bucket
+-- allows, `None` where it has no limit
+pub record Ledger : Type 0 where
+  pub budgets : List Budget
+  pub allowances : List (Option ℕ)
+
+-- a turn and its shares, one for each channel of its flow in the flow's order
+pub record Planned : Type 0 where
+  pub turn : Turn
+  pub shares : List ℕ
+
+-- Shares.
+
+-- the budget of the channel with this id
+abbrev pub budget_of : List Budget → ℕ → Option Budget
+budget_of budgets id = find (λ b. b.channel.id == id) budgets
+
+-- the bytes that a channel can carry behind a header, in its long profile; `-` stops at 0
+abbrev pub weight : ℕ → Option Budget → ℕ
+weight header None = 0
+weight header (Some b) = capacity_of b.channel.bursts.time b.channel.bursts.long b.slots - header
+
+-- the weights of a flow's channels
+unfoldable pub weights : FlowTable → List Budget → List ℕ
+weights flow budgets = map (λ id. weight (header_bytes flow) (budget_of budgets id)) flow.channels
+
+-- no more than a limit, where there is one
+abbrev pub at_most : Option ℕ → ℕ → ℕ
+at_most None bytes = bytes
+at_most (Some most) bytes = min bytes most
+
+-- what a turn asks for: its outstanding bytes, as far as its flow's bucket still allows
+abbrev pub demand : List ℕ → Ledger → Turn → ℕ
+demand outstanding ledger turn =
+    at_most (slice_index_or ledger.allowances turn.place None) (slice_index outstanding turn.number)
+
+-- and what it gets
+unfoldable pub shares_of : List ℕ → Ledger → Turn → List ℕ
+shares_of outstanding ledger turn =
+    divided (demand outstanding ledger turn) (weights turn.cluster.flow ledger.budgets)
+
+-- What is left.
+
+-- the share at a place, 0 where there is none
+abbrev pub share_at : List ℕ → Option ℕ → ℕ
+share_at shares None = 0
+share_at shares (Some place) = slice_index shares place
+
+-- the share of a planned turn on the channel with this id
+abbrev pub share_on : ℕ → Planned → ℕ
+share_on id planned = share_at planned.shares (position (λ channel. channel == id) planned.turn.cluster.flow.channels)
+
+-- the minislots that a share costs on a channel, behind a header; no share costs none
+abbrev pub share_cost : Channel → ℕ → ℕ → ℕ
+share_cost c header share = if share == 0 then 0 else (grant_cost c.bursts (share + header)).0
+
+-- the minislots that a planned turn costs on a channel
+unfoldable pub cost_on : Channel → Planned → ℕ
+cost_on c planned = share_cost c (header_bytes planned.turn.cluster.flow) (share_on c.id planned)
+
+-- each budget falls by what the turn's share on the channel costs
+abbrev pub lowered : Planned → List Budget → List Budget
+lowered planned budgets =
+    map (λ b. record { channel = b.channel; slots = b.slots - cost_on b.channel planned }) budgets
+
+-- and the flow's allowance by all its shares
+abbrev pub allowed_less : Planned → List (Option ℕ) → List (Option ℕ)
+allowed_less planned allowances =
+    set allowances planned.turn.place
+    (option_map (λ most. most - sum planned.shares) (slice_index_or allowances planned.turn.place None))
+
+unfoldable pub after_turn : Ledger → Planned → Ledger
+after_turn ledger planned = record {
+  budgets = lowered planned ledger.budgets;
+  allowances = allowed_less planned ledger.allowances;
+}
+
+-- The plan.
+
+-- the shares of the turns, one turn after another
+unfoldable pub plan_of : List ℕ → Ledger → List Turn → List Planned
+plan_of outstanding ledger [] = []
+plan_of outstanding ledger (turn ∷ turns) =
+    let planned : Planned = record { turn = turn; shares = shares_of outstanding ledger turn } in
+    planned ∷ plan_of outstanding (after_turn ledger planned) turns
+
+-- a number of idle minislots for each channel, no more than its MAPs have
+pub record IsIdle (t : Tables) (idle : List ℕ) : Type 0 where
+  pub one_each : length idle ≡ length t.channels
+  pub within : (place : ℕ) (c : Channel) → slice_get t.channels place ≡ Some c →
+      slice_index idle place ≤ map_len t c
+
+-- before the first turn: so many minislots are idle on each channel, and so many bytes are allowed of each flow
+abbrev pub ledger_of : Tables → List (Option ℕ) → List ℕ → Ledger
+ledger_of t allowances idle = record {
+  budgets = map (λ pair. record { channel = pair.0; slots = pair.1 }) (zip t.channels idle);
+  allowances = allowances;
+}
+
+-- the plan of a round: of the bytes outstanding of each cluster, the allowances by flow and the idle minislots by channel
+unfoldable pub plan_for : Tables → List ℕ → List (Option ℕ) → List ℕ → List Planned
+plan_for t outstanding allowances idle = plan_of outstanding (ledger_of t allowances idle) (turns_of t)

@@ -1,0 +1,91 @@
+ghost use Rattle.std.specs.Prelude.{◌≡◌, ℕ, ◌+◌, ◌-◌, ◌*◌, ◌/◌, ◌==◌, ◌<◌, ◌≤◌, ◌||◌, not, nat_lt, if◌then◌else◌, length, map, sum, min, slice_index};
+ghost use Rattle.std.specs.List.{AllByRecursion};
+ghost use Rattle.us_split.specs.Divisions.{topped_up, divided};
+
+/// The most channels of a flow (ours).
+pub const MAX_CHANNELS: usize = 8;
+
+/// Divides bytes over channels by their weights, the most bytes that each can take, and writes what each channel gets
+/// to `shares`.
+///
+/// A channel gets bytes in proportion to its weight, rounded down. The bytes that this leaves over go, one each, to the
+/// first channels whose part is below the weight.
+#[tactic(auto, using(crate::proofs::DivisionLemmas::division_facts))]
+pub fn divide(bytes: u64, weights: &[u32], shares: &mut [u32])
+    requires same_length { length weights.now ≡ length shares.old }
+    requires few { length weights.now ≤ 8 }
+    requires bursts { AllByRecursion (λ weight. weight ≤ 98304) weights.now }
+    ensures value { shares.new ≡ divided bytes weights.now }
+    ensures all { sum shares.new ≡ min bytes (sum weights.now) }
+    ensures within { (channel : ℕ) → slice_index shares.new channel ≤ slice_index weights.now channel }
+    ensures one_each { length shares.new ≡ length weights.now }
+{
+    let total = sum_of(weights);
+    if bytes >= total {
+        shares.copy_from_slice(weights);
+    } else {
+        top_up(bytes, total, weights, shares);
+    }
+}
+
+/// All weights together.
+pub(crate) fn sum_of(weights: &[u32]) -> u64
+    requires { length weights.now ≤ 8 }
+    ensures { result ≡ sum weights.now }
+{
+    let mut total = 0;
+    for weight in weights {
+        total += u64::from(*weight);
+    }
+    total
+}
+
+/// The part of a channel: bytes in proportion to its weight, rounded down.
+#[tactic(auto, using(crate::proofs::DivisionLemmas::part_within))]
+fn part_of(bytes: u64, total: u64, weight: u32) -> u32
+    requires below { bytes < total }
+    requires small { total ≤ 786432 }
+    ensures value { result ≡ bytes * weight / total }
+    ensures within { result ≤ weight }
+{
+    (bytes * u64::from(weight) / total) as u32
+}
+
+/// The bytes that are left over where each channel gets its part.
+fn left_over(bytes: u64, total: u64, weights: &[u32]) -> u64
+    requires below { bytes < total }
+    requires small { total ≤ 786432 }
+    ensures { result ≡ bytes - sum (map (λ weight. bytes * weight / total) weights.now) }
+{
+    let mut left = bytes;
+    for weight in weights {
+        left = left.saturating_sub(u64::from(part_of(bytes, total, *weight)));
+    }
+    left
+}
+
+/// The byte that a channel gets on top of its part: one where some are left over and the part is below its weight.
+fn byte_more(left: u64, part: u32, weight: u32) -> u32
+    ensures value { result ≡ (if (left == 0) || not (nat_lt part weight) then 0 else 1) }
+    ensures left { result ≤ left }
+    ensures most { part ≤ weight → part + result ≤ weight }
+{
+    if left == 0 || part >= weight { 0 } else { 1 }
+}
+
+/// Writes what each channel gets: its part, and one byte more while some are left over.
+fn top_up(bytes: u64, total: u64, weights: &[u32], shares: &mut [u32])
+    requires same_length { length weights.now ≡ length shares.old }
+    requires below { bytes < total }
+    requires small { total ≤ 786432 }
+    ensures { shares.new ≡ topped_up (bytes - sum (map (λ weight. bytes * weight / total) weights.now))
+        (map (λ weight. (bytes * weight / total, weight)) weights.now) }
+{
+    let mut left = left_over(bytes, total, weights);
+    for i in 0..weights.len() {
+        let part = part_of(bytes, total, weights[i]);
+        let more = byte_more(left, part, weights[i]);
+        shares[i] = part + more;
+        left -= u64::from(more);
+    }
+}

@@ -1,0 +1,116 @@
+ghost use Rattle.std.specs.Prelude.{IsTrue};
+ghost use Rattle.us_split.specs.Plans.{IsIdle};
+
+use crate::{Plan, plan};
+use std::alloc::{AllocError, Global};
+use std::process::Abort;
+use us_flows::Config;
+use us_slots::NoMemory;
+
+/// The one assertion of these tests, since each costs the proof of the function that it stands in.
+pub fn same(rt: &impl Abort, found: &str, wanted: &str, place: &str) {
+    assert_eq!(rt; found, wanted, "{place}");
+}
+
+/// A channel but for its id. Its MAPs have 160 minislots of 64 symbols of 4 bits; 150 of them carry 4,784 bytes.
+const CHANNEL: &str = "minislot_log2 = 1
+rate_log2 = 5
+ucd_count = 0
+ranging_backoff = [2, 6]
+data_backoff = [3, 8]
+request_minislots = 2
+contention_minislots = 10
+maintenance_minislots = 0
+maintenance_every = 1
+station_minislots = 4
+long = { bits = 4, preamble = 24, guard = 8, fec_t = 0, fec_k = 200, shortened = false }
+short = { bits = 4, preamble = 24, guard = 8, fec_t = 0, fec_k = 200, shortened = false, max_minislots = 10 }
+unsolicited = { bits = 4, preamble = 24, guard = 8, fec_t = 0, fec_k = 200, shortened = false }
+";
+
+/// What flows of best effort have in common.
+const FLOW: &str = "type = 2
+rate = 0
+burst = 3044
+unit = 4
+";
+
+/// A round to plan.
+#[derive(Clone, Copy)]
+pub struct Case<'a> {
+    pub name: &'a str,
+    /// The ids go from 1 to this.
+    pub channels: u8,
+    /// Each flow but for what all have.
+    pub flows: &'a [&'a str],
+    pub outstanding: &'a [u64],
+    pub allowances: &'a [Option<u64>],
+    pub idle: &'a [u32],
+    /// The turns that have a share, each with its shares.
+    pub answer: &'a str,
+}
+
+/// The configuration of a case, as text.
+fn text_of(alloc: Global, case: &Case<'_>) -> Result<String, AllocError> {
+    let mut text = String::new(alloc);
+    text.push_str("round_ticks = 320\nlead_ticks = 160\n")?;
+    for id in 1..=case.channels {
+        write!(text, "[[channel]]\nid = {id}\n{CHANNEL}")?;
+    }
+    for flow in case.flows {
+        write!(text, "[[flow]]\n{flow}\n{FLOW}")?;
+    }
+    Ok(text)
+}
+
+/// The configuration of a case; `None` where there is a fault or no memory.
+pub fn config_of(alloc: Global, case: &Case<'_>) -> Option<Config> {
+    let text = text_of(alloc, case).ok()?;
+    Config::read(alloc, text.as_bytes()).ok()
+}
+
+/// Whether these are idle minislots of the channels.
+fn is_idle(config: &Config, idle: &[u32]) -> bool
+    ensures { IsTrue result → IsIdle config.now idle.now }
+{
+    let channels = config.channels();
+    if idle.len() != channels.len() {
+        return false;
+    }
+    for (place, channel) in channels.iter().enumerate() {
+        if idle[place] > config.map_len(channel) {
+            return false;
+        }
+    }
+    true
+}
+
+/// The plan of a case; `None` where it isn't one.
+pub fn plan_of(alloc: Global, config: &Config, case: &Case<'_>) -> Option<Result<Plan, NoMemory>> {
+    if case.outstanding.len() == config.clusters()
+        && case.allowances.len() == config.flows().len()
+        && is_idle(config, case.idle)
+    {
+        Some(plan(alloc, config, case.outstanding, case.allowances, case.idle))
+    } else {
+        None
+    }
+}
+
+/// The turns of a plan that have a share: `0: 4000 4000, 1: 744 744`. Each share is looked up too.
+pub fn tell(alloc: Global, plan: &Plan) -> Result<String, AllocError> {
+    let mut text = String::new(alloc);
+    for shares in plan.turns() {
+        if !text.is_empty() {
+            text.push_str(", ")?;
+        }
+        write!(text, "{}:", shares.turn())?;
+        for (position, share) in shares.shares().iter().enumerate() {
+            write!(text, " {share}")?;
+            if plan.share(shares.turn(), position) != *share {
+                text.push_str(" (not found)")?;
+            }
+        }
+    }
+    Ok(text)
+}

@@ -1,0 +1,18 @@
+use super::base::{config_of, plan_of, same, tell};
+use super::plans::TWO_CLUSTERS;
+use std::test::Fail;
+
+/// Run with `--fail-alloc`, where each allocation is refused in turn: a plan is answered whole or as want of memory.
+#[test]
+fn refused_memory(rt: HostRuntime) -> Result<(), Fail> {
+    let Some(config) = config_of(rt.alloc(), &TWO_CLUSTERS) else {
+        return Ok(());
+    };
+    let Some(Ok(plan)) = plan_of(rt.alloc(), &config, &TWO_CLUSTERS) else {
+        return Ok(());
+    };
+    if let Ok(told) = tell(rt.alloc(), &plan) {
+        same(&rt, told.as_str(), TWO_CLUSTERS.answer, "whole");
+    }
+    Ok(())
+}
