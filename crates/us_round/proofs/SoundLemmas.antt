@@ -1,0 +1,198 @@
+-- That the grants of a round take what is there, and start inside the MAPs.
+use Rattle.std.proofs.Common.{◌≡◌, ℕ, zero, suc, ◌<◌, ◌≤◌, ◌==◌, nat_lt, List, [], ◌∷◌, ◌++◌, length, map, slice_index, slice_get, filter, Option, Some, None, ap, sym, subst, ◌∙◌, inl, inr, arith, option_map, option_and_then, option_to_list, filter_map, position}
+use Rattle.std.specs.List.{AllByRecursion, cons_option}
+use Rattle.std.proofs.lemmas.Bool.{cases_Bool}
+use Rattle.std.proofs.lemmas.List.{length-map}
+use Rattle.std.proofs.lemmas.Option.{slice_get-map}
+use Rattle.us_slots.specs.Bursts.{ChannelBursts, IsChannelBursts}
+use Rattle.us_flows.specs.declared.channels.Channel.{Channel}
+use Rattle.us_flows.specs.Tables.{Tables, map_len}
+use Rattle.us_flows.specs.Clusters.{Turn, IsTurnIn, clusters_of, turns_of}
+use Rattle.us_flows.specs.Lawful.{AreTables, IsChannel, AreApart}
+use Rattle.us_flows.proofs.TurnLaws.{turns_of-turns}
+use Rattle.us_bucket.specs.Levels.{Level, bytes_in}
+use Rattle.us_holes.specs.Boards.{Board, assign, assign_all}
+use Rattle.us_holes.proofs.LawLemmas.{fit_length, assign_all-length, assign_all-standing}
+use Rattle.us_split.specs.Plans.{Planned, ledger_of, plan_for}
+use Rattle.us_split.proofs.PlanLawLemmas.{plan_of-turns}
+use Rattle.us_round.specs.Claims.{kept_build}
+use Rattle.us_split.specs.Shares.{TurnShares, with_shares}
+use Rattle.us_round.proofs.KeptLemmas.{kept_builds_are}
+use Rattle.us_split.specs.PlanLaws.{IsLawfulPlan, planned_bytes}
+use Rattle.us_round.specs.Placements.{Claim, Claimant, Grant, Spot, claimant_of, claim_at, claim_on, claims, spot, grant_at, grants_of, with_grant, intervals}
+use Rattle.us_round.specs.Rounds.{State, Filled, filled, idle, build_on, builds_of, round_plan, all_grants, credits, is_of_flow}
+use Rattle.us_round.specs.Leftovers.{StartsInside, IsBuiltFor, AreInside}
+use Rattle.us_round.specs.States.{IsState, IsKnown, AreSound}
+use Rattle.us_round.proofs.PartLemmas.{all_append, all_weaker}
+use Rattle.us_round.proofs.FitLemmas.{fit_inside}
+use Rattle.us_round.proofs.FillLemmas.{filled_apart, filled_bursts}
+use Rattle.us_round.proofs.GrantLaws.{Granted, grants_are, grants_fit}
+use Rattle.us_round.proofs.CreditLaws.{claims_some, credits_planned}
+use Rattle.us_round.proofs.StateLemmas.{within_less}
+
+-- Grants are of the turns of the plan.
+
+claims_of : (P : Claimant → Type 0) (id : ℕ) (plan : List Planned) →
+    AllByRecursion (λ planned. P (claimant_of planned.turn)) plan → AllByRecursion (λ c. P c.claimant) (claims id plan)
+unfolding claims
+claims_of P id [] h = tt
+claims_of P id (planned ∷ plan) h =
+    by (position (λ channel. channel == id) planned.turn.cluster.flow.channels) (claims_of P id plan h.1)
+  where
+    by : (place : Option ℕ) → AllByRecursion (λ c. P c.claimant) (filter_map (claim_on id) plan) →
+        AllByRecursion (λ c. P c.claimant) (cons_option (option_and_then (claim_at planned) place) (filter_map (claim_on id) plan))
+    by None rest = rest
+    by (Some place) rest = elim (cases_Bool (nat_lt 0 (slice_index planned.shares place))) [
+      | inl some ↦ rw some (h.0, rest)
+      | inr none ↦ rw none rest
+    ]
+
+granted_of : (P : Claimant → Type 0) (b : ChannelBursts) (board : Board) (cs : List Claim) →
+    AllByRecursion (λ c. P c.claimant) cs → AllByRecursion (λ g. P g.claimant) (grants_of b board cs)
+unfolding grants_of
+granted_of P b board [] h = tt
+granted_of P b board (claim ∷ cs) h =
+    by (spot b claim.header claim.share board) (λ found. granted_of P b (with_grant board found) cs h.1)
+  where
+    by : (at : Option Spot) →
+        ((found : Option Grant) → AllByRecursion (λ g. P g.claimant) (grants_of b (with_grant board found) cs)) →
+        AllByRecursion (λ g. P g.claimant) (option_to_list (option_map (grant_at b claim) at)
+        ++ grants_of b (with_grant board (option_map (grant_at b claim) at)) cs)
+    by None rest = rest None
+    by (Some at) rest = (h.0, rest (Some (grant_at b claim at)))
+
+built_of : (P : Claimant → Type 0) (plan : List Planned) (fs : List Filled) →
+    AllByRecursion (λ planned. P (claimant_of planned.turn)) plan →
+    AllByRecursion (λ g. P g.claimant) (all_grants (map (build_on plan) fs))
+unfolding build_on
+built_of P plan [] h = tt
+built_of P plan (f ∷ fs) h =
+    all_append (λ g. P g.claimant) (grants_of f.channel.bursts f.board (claims f.channel.id plan))
+    (all_grants (map (build_on plan) fs))
+    (granted_of P f.channel.bursts f.board (claims f.channel.id plan) (claims_of P f.channel.id plan h)) (built_of P plan fs h)
+
+by_turns : (P : Turn → Type 0) (plan : List Planned) (turns : List Turn) → map (λ planned. planned.turn) plan ≡ turns →
+    AllByRecursion P turns → AllByRecursion (λ planned. P planned.turn) plan
+by_turns P [] turns is h = tt
+by_turns P (planned ∷ plan) [] is h = absurd (cc is)
+by_turns P (planned ∷ plan) (turn ∷ turns) is h =
+    let first : planned.turn ≡ turn = cc in
+    let rest : map (λ planned. planned.turn) plan ≡ turns = cc in
+    (subst (λ t. P t) (sym first) h.0, by_turns P plan turns rest h.1)
+
+slice_get-below : {X : Type 0} (xs : List X) (i : ℕ) (x : X) → slice_get xs i ≡ Some x → i < length xs
+slice_get-below [] i x is = absurd (cc is)
+slice_get-below (y ∷ xs) zero x is = omega arith
+slice_get-below (y ∷ xs) (suc i) x is = omega (arith, slice_get-below xs i x is)
+
+abbrev Known : List ℕ → List Level → Claimant → Type 0
+Known os bs c = (c.cluster < length os) × (c.place < length bs)
+
+all_known : (t : Tables) (plan : List Planned) (fs : List Filled) (os : List ℕ) (bs : List Level) →
+    map (λ planned. planned.turn) plan ≡ turns_of t → length os ≡ length (clusters_of t) →
+    length bs ≡ length t.flows → AllByRecursion (IsKnown (length os) (length bs)) (all_grants (map (build_on plan) fs))
+all_known t plan fs os bs turns clusters flows =
+    all_weaker (λ g. Known os bs g.claimant) (IsKnown (length os) (length bs))
+    (λ g k. record { cluster = k.0; place = k.1 })
+    (all_grants (map (build_on plan) fs))
+    (built_of (Known os bs) plan fs (by_turns (λ turn. Known os bs (claimant_of turn)) plan (turns_of t) turns
+    (all_weaker (IsTurnIn t) (λ turn. Known os bs (claimant_of turn))
+    (λ turn is. (omega (arith, clusters, is.number), omega (arith, flows, slice_get-below t.flows turn.place turn.cluster.flow is.flow)))
+    (turns_of t) (turns_of-turns t))))
+
+-- Boards.
+
+lengths : (b : ChannelBursts) (board : Board) (cs : List Claim) (gs : List Grant) → Granted b board cs gs →
+    AllByRecursion (StartsInside (length board.cells)) gs
+unfolding Granted
+lengths b board [] [] h = tt
+lengths b board [] (g ∷ gs) h = absurd h
+lengths b board (claim ∷ cs) [] h = tt
+lengths b board (claim ∷ cs) (g ∷ gs) (inl later) = lengths b board cs (g ∷ gs) later
+lengths b board (claim ∷ cs) (g ∷ gs) (inr now) =
+    let next : Board = assign board g.interval.start g.interval.slots g.interval.owner in
+    let same : length next.cells ≡ length board.cells =
+    fit_length board g.interval.start g.interval.slots g.interval.owner now.0.fits in (
+      fit_inside board g.interval.slots g.interval.start now.0.fits now.0.slots,
+      subst (λ n. AllByRecursion (StartsInside n) gs) same (lengths b next cs gs now.1),
+    )
+
+built_sound : (t : Tables) (plan : List Planned) (f : Filled) → IsChannel t f.channel → length f.board.cells ≡ map_len t f.channel →
+    IsBuiltFor t (build_on plan f) × AreInside (build_on plan f)
+    × (length (build_on plan f).grants ≤ (build_on plan f).board.standing)
+unfolding build_on
+built_sound t plan f is len =
+    let cs : List Claim = claims f.channel.id plan in
+    let gs : List Grant = grants_of f.channel.bursts f.board cs in
+    let granted : Granted f.channel.bursts f.board cs gs = grants_are f.channel.bursts f.board cs is.bursts (claims_some f.channel.id plan) in
+    let kept : length (assign_all f.board (intervals gs)).cells ≡ length f.board.cells =
+    assign_all-length f.board (intervals gs) (grants_fit f.channel.bursts f.board cs gs granted) in
+    let standing = assign_all-standing f.board (intervals gs) in
+    let many : length (intervals gs) ≡ length gs = length-map gs (λ g. g.interval) in (
+      record { channel = is; len = kept ∙ len },
+      subst (λ n. AllByRecursion (StartsInside n) gs) (sym kept) (lengths f.channel.bursts f.board cs gs granted),
+      omega (arith, standing, many),
+    )
+
+-- All channels.
+
+channels_sound : (t : Tables) (plan : List Planned) (fs : List Filled) → AllByRecursion (λ f. IsChannel t f.channel) fs →
+    AllByRecursion (λ f. length f.board.cells ≡ map_len t f.channel) fs →
+    AllByRecursion (IsBuiltFor t) (map (build_on plan) fs) × AllByRecursion AreInside (map (build_on plan) fs)
+    × AllByRecursion (λ b. length b.grants ≤ b.board.standing) (map (build_on plan) fs)
+channels_sound t plan [] are long = (tt, tt, tt)
+channels_sound t plan (f ∷ fs) are long =
+    let first = built_sound t plan f are.0 long.0 in
+    let rest = channels_sound t plan fs are.1 long.1 in
+    ((first.0, rest.0), (first.1, rest.1), (first.2, rest.2))
+
+-- what is known of channels is known of those whose reserves stand
+filled_all : (t u : Tables) (round : ℕ) (P : Channel → Type 0) (cs : List Channel) → AllByRecursion P cs →
+    AllByRecursion (λ f. P f.channel) (filled (record t { channels = cs }) round)
+filled_all t u round P [] h = tt
+filled_all t u round P (c ∷ cs) h = (h.0, filled_all t u round P cs h.1)
+
+-- The round of a state.
+pub sound : (s : State) → AreTables s.tables → IsState s →
+    IsLawfulPlan s.tables s.outstanding (map bytes_in s.buckets) (idle (filled s.tables s.round)) (round_plan s) →
+    map (λ planned. planned.turn) (round_plan s) ≡ turns_of s.tables →
+    AllByRecursion (λ f. length f.board.cells ≡ map_len s.tables f.channel) (filled s.tables s.round) →
+    AreSound s (builds_of s)
+unfolding builds_of
+sound s lawful is law turns long =
+    let fs : List Filled = filled s.tables s.round in
+    let plan : List Planned = round_plan s in
+    let are : AllByRecursion (λ f. IsChannel s.tables f.channel) fs =
+    filled_all s.tables s.tables s.round (IsChannel s.tables) s.tables.channels lawful.channels in
+    let bursts : AllByRecursion (λ f. IsChannelBursts f.channel.bursts) fs = filled_bursts s.tables s.round lawful in
+    let apart : AreApart (map (λ c. c.id) (map (λ f. f.channel) fs)) = filled_apart s.tables s.round lawful in
+    let channels = channels_sound s.tables plan fs are long in
+    record {
+      covers = record {
+        known = all_known s.tables plan fs s.outstanding s.buckets turns is.clusters is.flows;
+        asked = λ number.
+            omega (arith, credits_planned (λ c. c.cluster == number) plan fs bursts apart, law.asked number);
+        allowed = λ place bucket at.
+            within_less (bytes_in bucket) (credits (is_of_flow place) (all_grants (map (build_on plan) fs)))
+            (planned_bytes (filter (λ planned. planned.turn.place == place) plan))
+            (credits_planned (λ c. c.place == place) plan fs bursts apart)
+            (law.allowed place (bytes_in bucket) (slice_get-map bytes_in s.buckets place ∙ ap (λ o. option_map bytes_in o) at));
+      };
+      boards = channels.0;
+      inside = channels.1;
+      few = channels.2;
+    }
+
+-- The plan of a round.
+
+pub turns_planned : (s : State) → map (λ planned. planned.turn) (round_plan s) ≡ turns_of s.tables
+unfolding plan_for
+turns_planned s =
+    plan_of-turns s.outstanding (ledger_of s.tables (map bytes_in s.buckets) (idle (filled s.tables s.round))) (turns_of s.tables)
+
+-- the claims of the plan as it is kept, on the boards of a round, are those of the plan
+pub builds_are : (s : State) (t : Tables) (plan : List TurnShares) (fs : List Filled) → t ≡ s.tables →
+    plan ≡ with_shares 0 (round_plan s) → fs ≡ filled s.tables s.round → map (kept_build t plan) fs ≡ builds_of s
+unfolding builds_of
+builds_are s t plan fs same kept are =
+    rw (same, kept, are) (kept_builds_are s.tables (round_plan s) (filled s.tables s.round) (turns_planned s))

@@ -1,0 +1,14 @@
+use Rattle.std.proofs.Common.{◌≡◌, ◌++◌, map, drop}
+use Rattle.std.specs.List.{AllByRecursion}
+use Rattle.us_round.specs.Outputs.{built_map, IsWithinLimits}
+use Rattle.us_round.specs.Leftovers.{IsBuiltFor}
+use Rattle.us_round.proofs.mapping.maps_of.Given as goal
+
+-- what is left leads to the same
+abbrev pub invariant-loop-part : goal.invariant-loop-part
+invariant-loop-part l =
+    (l.maps.items ++ map (built_map l.config l.round l.seats) (drop l.part-index l.built) ≡
+    map (built_map l.config l.round l.seats) l.built)
+    × AllByRecursion (IsBuiltFor l.config) (drop l.part-index l.built)
+    × (AllByRecursion (IsWithinLimits l.config l.round l.seats) (drop l.part-index l.built) →
+    AllByRecursion (IsWithinLimits l.config l.round l.seats) l.built)

@@ -1,0 +1,39 @@
+-- Inside the crate, and of no use to a reader of the promise: how a round tells who is pending, by the outstanding
+-- bytes before and after its grants; and what its boards keep.
+use Rattle.std.specs.Prelude.{◌≡◌, ℕ, ◌+◌, ◌<◌, ◌≤◌, nat_lt, ◌==◌, ◌&&◌, if◌then◌else◌, List, length, slice_get, slice_index, Option, None, IfSome, option_and_then}
+use Rattle.std.specs.List.{AllByRecursion}
+use Rattle.us_flows.specs.Tables.{Tables, map_len}
+use Rattle.us_flows.specs.Turns.{turn_at}
+use Rattle.us_flows.specs.Clusters.{Turn}
+use Rattle.us_flows.specs.declared.turns.Turn as places
+use Rattle.us_flows.specs.Lawful.{IsChannel}
+use Rattle.us_round.specs.Placements.{Grant}
+use Rattle.us_round.specs.Rounds.{Built, first_seat}
+
+-- a turn that has bytes left, as many as it had before, is pending
+abbrev pub still_asking : List ℕ → List ℕ → Turn → Option (ℕ × ℕ)
+still_asking before left turn =
+    if nat_lt 0 (slice_index left turn.number) && (slice_index left turn.number == slice_index before turn.number)
+    then first_seat turn else None
+
+-- the same of a turn that is told by its places in the tables
+abbrev pub still_asking_at : Tables → List ℕ → List ℕ → places.Turn → Option (ℕ × ℕ)
+still_asking_at t before left turn = option_and_then (still_asking before left) (turn_at t turn)
+
+-- a grant starts inside a MAP of this length
+abbrev pub StartsInside : ℕ → Grant → Type 0
+StartsInside len g = g.interval.start < len
+
+-- a channel of these tables, whose board has the length of its MAPs
+pub record IsBuiltFor (t : Tables) (built : Built) : Type 0 where
+  pub channel : IsChannel t built.channel
+  pub len : length built.board.cells ≡ map_len t built.channel
+
+-- its grants start inside
+abbrev pub AreInside : Built → Type 0
+AreInside built = AllByRecursion (StartsInside (length built.board.cells)) built.grants
+
+-- the grant before place `place` starts at `start` or earlier
+abbrev pub IsUpTo : ℕ → ℕ → List Grant → Type 0
+IsUpTo start place grants =
+    (before : ℕ) → place ≡ before + 1 → IfSome (slice_get grants before) (λ g. g.interval.start ≤ start)

@@ -1,0 +1,28 @@
+-- Read in this order: the reserves of a board; where shares are granted; the round and the schedule; what a round gives,
+-- and its laws. Then what is served so far, and examples. In a definition `≡` is equals, `×` and, `→` implies, `++` one
+-- list behind another, `∷` one item before a list, and ℕ has the whole numbers from 0; `-` stops at 0.
+
+-- minislots that belong to all modems
+pub mod Reserves
+-- where a share is granted
+pub mod Placements
+-- a round, and the schedule
+pub mod Rounds
+-- the MAPs and the lines that a round comes to
+pub mod Outputs
+-- laws of what a round gives
+pub mod OutputLaws
+-- which configurations are served so far
+pub mod Served
+-- the definitions at small inputs: placings,
+pub mod PlacementExamples
+-- what a round gives,
+pub mod OutputExamples
+-- and whole rounds
+pub mod RoundExamples
+-- inside the crate, and of no use to a reader of the promise: the claims of a plan as it is kept,
+pub mod Claims
+-- who is pending, by what is outstanding before and after the grants,
+pub mod Leftovers
+-- and what a state keeps
+pub mod States

@@ -1,0 +1,117 @@
+-- What a round gives (ours): the MAP of each channel, and its lines.
+use Rattle.std.specs.Prelude.{ℕ, ◌-◌, ◌*◌, ◌/◌, ◌==◌, ◌≤◌, nat_le, if◌then◌else◌, List, ◌++◌, length, map, filter, flat_map, slice_get, slice_index, Option, Some, None, option_and_then}
+use Rattle.std.specs.List.{AllByRecursion, range_with_len}
+use Rattle.us_slots.specs.Times.{minislot_ticks}
+use Rattle.us_slots.specs.UsageCodes as codes
+use Rattle.us_codec.specs.declared.heads.Head.{Head}
+use Rattle.us_codec.specs.Elements.{MapElement}
+use Rattle.us_codec.specs.Bodies.{MapBody, body_of, spelling}
+use Rattle.us_flows.specs.declared.channels.Channel.{Channel}
+use Rattle.us_flows.specs.Tables.{Tables, map_len}
+use Rattle.us_flows.specs.Clusters.{Turn, table_order}
+use Rattle.us_bucket.specs.Levels.{Level, units_in}
+use Rattle.us_holes.specs.Boards.{Owner, Board}
+use Rattle.us_holes.specs.Runs.{Run, runs_of}
+use Rattle.us_round.specs.Reserves.{broadcast}
+use Rattle.us_round.specs.Placements.{Grant}
+use Rattle.us_round.specs.Rounds.{State, Built, Scheduled, pendings_on}
+use Rattle.us_round.specs.declared.rows.Row.{Row}
+use Rattle.us_round.specs.declared.rows.Row.TheVariants as rows
+use Rattle.us_round.specs.declared.rows.Entry.TheVariants as entries
+
+-- MAPs.
+
+-- the element of an idle run: any modem may request there, if a request fits, and else nobody is addressed
+abbrev pub gap : Channel → ℕ → ℕ → MapElement
+gap c start len = record {
+  sid = if nat_le c.request_minislots len then broadcast else 0;
+  iuc = codes.request;
+  offset = start;
+}
+
+-- the element of minislots of this owner, or of none
+abbrev pub element_by : Channel → ℕ → ℕ → Option Owner → MapElement
+element_by c start len None = gap c start len
+element_by c start len (Some owner) = record { sid = owner.sid; iuc = owner.iuc; offset = start }
+
+abbrev pub run_element : Channel → Run → MapElement
+run_element c run = element_by c run.start run.len run.owner
+
+-- what stands before the Null: each assignment and each idle run
+unfoldable pub elements_of : Channel → Board → List MapElement
+elements_of c board = map (run_element c) (runs_of board.cells)
+
+-- a data grant pending, at the MAP's length
+abbrev pub pending_element : ℕ → ℕ → MapElement
+pending_element len sid = record { sid = sid; iuc = codes.long_data_grant; offset = len }
+
+-- what stands before the elements; the Ack Time is 0 where it would lie before the first minislot
+unfoldable pub head_of : Tables → ℕ → Channel → Head
+head_of t round c = record {
+  channel = c.id;
+  ucd_count = c.ucd_count;
+  alloc_start = round * map_len t c;
+  ack = (round * t.round_ticks - t.lead_ticks) / minislot_ticks c.bursts.time;
+  backoffs = c.ranging_backoff ++ c.data_backoff;
+}
+
+-- the MAP of a board and of the SIDs that are pending
+unfoldable pub map_of : Tables → ℕ → Channel → Board → List ℕ → MapBody
+map_of t round c board sids =
+    body_of (head_of t round c) (elements_of c board) (map_len t c) (map (pending_element (map_len t c)) sids)
+
+-- the MAP of a channel's round
+abbrev pub built_map : Tables → ℕ → List (ℕ × ℕ) → Built → MapBody
+built_map t round pending built =
+    map_of t round built.channel built.board (pendings_on built.channel.id pending)
+
+-- Lines.
+
+-- grants by their start
+unfoldable pub by_start : ℕ → List Grant → List Grant
+by_start len grants = flat_map (λ start. filter (λ g. g.interval.start == start) grants) (range_with_len 0 len)
+
+-- the G line of a grant
+abbrev pub grant_row : ℕ → Channel → Grant → Row
+grant_row round c g =
+    rows.Granted round c.id entries.Requested g.claimant.flow g.claimant.list 0 g.interval.owner.sid
+    g.interval.owner.iuc g.interval.start g.interval.slots g.credit
+
+-- the G lines of a channel's round
+unfoldable pub rows_on : ℕ → Built → List Row
+rows_on round built = map (grant_row round built.channel) (by_start (length built.board.cells) built.grants)
+
+-- the F line of a cluster, of what is outstanding of each cluster and the bucket of each flow
+abbrev pub final_row : List ℕ → List Level → Turn → Row
+final_row outstanding buckets turn =
+    rows.Final turn.cluster.flow.id turn.cluster.list (slice_index outstanding turn.number)
+    (option_and_then units_in (slice_get buckets turn.place))
+
+-- the F lines of a state, in table order
+unfoldable pub final_rows : State → List Row
+final_rows state = map (final_row state.outstanding state.buckets) (table_order state.tables)
+
+-- What a round gives: its MAPs in table order, and its lines.
+pub record RoundOut : Type 0 where
+  pub round : ℕ
+  pub maps : List MapBody
+  pub rows : List Row
+
+unfoldable pub out_of : Tables → Scheduled → RoundOut
+out_of t s = record {
+  round = s.round;
+  maps = map (built_map t s.round s.pending) s.channels;
+  rows = flat_map (rows_on s.round) s.channels;
+}
+
+-- Limits.
+
+-- no channel's MAP passes 100 assignments, 38 pendings, 240 elements or 976 bytes
+pub record IsWithinLimits (t : Tables) (round : ℕ) (pending : List (ℕ × ℕ)) (built : Built) : Type 0 where
+  pub assignments : built.board.standing ≤ 100
+  pub pendings : length (pendings_on built.channel.id pending) ≤ 38
+  pub elements : length (built_map t round pending built).elements ≤ 240
+  pub bytes : length (spelling (built_map t round pending built)) ≤ 976
+
+abbrev pub AreWithinLimits : Tables → Scheduled → Type 0
+AreWithinLimits t s = AllByRecursion (IsWithinLimits t s.round s.pending) s.channels

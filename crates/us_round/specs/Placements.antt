@@ -1,0 +1,119 @@
+-- Placing (ours): where each share of the plan is granted on its channel.
+use Rattle.std.specs.Prelude.{ℕ, ◌+◌, ◌-◌, ◌==◌, nat_lt, if◌then◌else◌, List, [], ◌∷◌, ◌++◌, length, filter_map, map, position, slice_index, Option, Some, None, option_map, option_and_then, option_to_list}
+use Rattle.std.specs.Option.{option_or}
+use Rattle.us_slots.specs.Bursts.{ChannelBursts, grant_cost}
+use Rattle.us_slots.specs.Capacities.{capacity_of}
+use Rattle.us_flows.specs.Clusters.{Turn}
+use Rattle.us_holes.specs.Boards.{Board, Interval, is_full, assign, least_fit, longest_idle}
+use Rattle.us_split.specs.Plans.{Planned, header_bytes}
+
+-- Claims.
+
+-- the SID cluster that a claim or a grant is of: its number among all clusters, the place of its flow in the table, the
+-- flow's id, and its place in the flow
+pub record Claimant : Type 0 where
+  pub cluster : ℕ
+  pub place : ℕ
+  pub flow : ℕ
+  pub list : ℕ
+
+abbrev pub claimant_of : Turn → Claimant
+claimant_of turn = record {
+  cluster = turn.number;
+  place = turn.place;
+  flow = turn.cluster.flow.id;
+  list = turn.cluster.list;
+}
+
+-- a share of a turn on a channel, above 0, with the SID there and the bytes of its segment header
+pub record Claim : Type 0 where
+  pub claimant : Claimant
+  pub sid : ℕ
+  pub header : ℕ
+  pub share : ℕ
+
+-- the claim of a planned turn on its flow's channel at this place, if it has a share there
+abbrev pub claim_at : Planned → ℕ → Option Claim
+claim_at planned place =
+    if nat_lt 0 (slice_index planned.shares place) then Some (record {
+      claimant = claimant_of planned.turn;
+      sid = slice_index planned.turn.cluster.sids place;
+      header = header_bytes planned.turn.cluster.flow;
+      share = slice_index planned.shares place;
+    }) else None
+
+-- and on the channel with this id
+abbrev pub claim_on : ℕ → Planned → Option Claim
+claim_on id planned =
+    option_and_then (claim_at planned) (position (λ channel. channel == id) planned.turn.cluster.flow.channels)
+
+-- all claims on a channel, in the order of turns
+unfoldable pub claims : ℕ → List Planned → List Claim
+claims id plan = filter_map (claim_on id) plan
+
+-- Spots.
+
+-- where a grant starts, and the bytes that it credits
+pub record Spot : Type 0 where
+  pub start : ℕ
+  pub credit : ℕ
+
+-- the earliest start where the whole share fits
+abbrev pub whole_spot : ChannelBursts → ℕ → ℕ → Board → Option Spot
+whole_spot bursts header share board =
+    option_map (λ start. record { start = start; credit = share })
+    (least_fit board 0 (length board.cells - 1) (grant_cost bursts (share + header)).0)
+
+-- what an idle run carries behind the header, if that is a byte at least
+abbrev pub carried : ChannelBursts → ℕ → ℕ × ℕ → Option Spot
+carried bursts header run =
+    let credit : ℕ = capacity_of bursts.time bursts.long run.1 - header in
+    if credit == 0 then None else Some (record { start = run.0; credit = credit })
+
+-- the start of the first longest idle run with what that carries
+abbrev pub part_spot : ChannelBursts → ℕ → Board → Option Spot
+part_spot bursts header board = option_and_then (carried bursts header) (longest_idle board.cells)
+
+-- the spot of a share: the earliest fit, else a part of it; none where the MAP has all assignments that it may have
+unfoldable pub spot : ChannelBursts → ℕ → ℕ → Board → Option Spot
+spot bursts header share board =
+    if is_full board then None
+    else option_or (whole_spot bursts header share board) (part_spot bursts header board)
+
+-- Grants.
+
+-- a claim that was placed: its minislots and owner, and the bytes that it credits, without the header
+pub record Grant : Type 0 where
+  pub claimant : Claimant
+  pub interval : Interval
+  pub credit : ℕ
+
+-- the grant of a claim at a spot
+abbrev pub grant_at : ChannelBursts → Claim → Spot → Grant
+grant_at bursts claim found =
+    let cost : ℕ × ℕ = grant_cost bursts (found.credit + claim.header) in
+    record {
+      claimant = claim.claimant;
+      interval = record { start = found.start; slots = cost.0; owner = record { sid = claim.sid; iuc = cost.1 } };
+      credit = found.credit;
+    }
+
+-- what a claim is granted on a board
+abbrev pub grant_of : ChannelBursts → Board → Claim → Option Grant
+grant_of bursts board claim = option_map (grant_at bursts claim) (spot bursts claim.header claim.share board)
+
+-- a board with one more grant
+abbrev pub with_grant : Board → Option Grant → Board
+with_grant board None = board
+with_grant board (Some g) = assign board g.interval.start g.interval.slots g.interval.owner
+
+-- what all claims of a channel are granted, one after another
+unfoldable pub grants_of : ChannelBursts → Board → List Claim → List Grant
+grants_of bursts board [] = []
+grants_of bursts board (claim ∷ rest) =
+    let found : Option Grant = grant_of bursts board claim in
+    option_to_list found ++ grants_of bursts (with_grant board found) rest
+
+-- the intervals of grants
+abbrev pub intervals : List Grant → List Interval
+intervals grants = map (λ g. g.interval) grants

@@ -1,0 +1,182 @@
+-- A round of a bonding group (ours), and the schedule, round after round.
+use Rattle.std.specs.Prelude.{ℕ, ◌+◌, ◌-◌, ◌==◌, nat_lt, Bool, ◌&&◌, if◌then◌else◌, List, [], ◌∷◌, length, replicate, map, flat_map, filter, filter_map, sum_by, zip, take, slice_index, slice_get, Option, None}
+use Rattle.us_flows.specs.declared.channels.Channel.{Channel}
+use Rattle.us_flows.specs.Tables.{Tables, map_len}
+use Rattle.us_flows.specs.Clusters.{Turn, clusters_of, turns_of}
+use Rattle.us_bucket.specs.Levels.{Level, full, refilled, spent, bytes_in}
+use Rattle.us_holes.specs.Boards.{Board, free_count, assign_all}
+use Rattle.us_split.specs.Plans.{Planned, plan_for}
+use Rattle.us_round.specs.Reserves.{reserves}
+use Rattle.us_round.specs.Placements.{Grant, claims, grants_of, intervals}
+
+-- what a round starts from: the tables, its number, the outstanding bytes of each cluster, and the bucket of each flow
+pub record State : Type 0 where
+  pub tables : Tables
+  pub round : ℕ
+  pub outstanding : List ℕ
+  pub buckets : List Level
+
+-- before round 0 nothing is outstanding, and every bucket is full
+abbrev pub opening : Tables → State
+opening t = record {
+  tables = t;
+  round = 0;
+  outstanding = replicate (length (clusters_of t)) 0;
+  buckets = map (λ flow. full flow.rate flow.burst) t.flows;
+}
+
+-- The start of a round.
+
+-- the bytes that are newly asked for of each cluster are outstanding too
+abbrev pub asked : List ℕ → List ℕ → List ℕ
+asked outstanding cut = map (λ pair. pair.0 + pair.1) (zip outstanding cut)
+
+-- in every round but the first the buckets grow by what a round's time brings
+abbrev pub grown : State → List Level
+grown state = if state.round == 0 then state.buckets else map (refilled state.tables.round_ticks) state.buckets
+
+-- Channels.
+
+-- a channel whose reserves stand
+pub record Filled : Type 0 where
+  pub channel : Channel
+  pub board : Board
+
+abbrev pub filled : Tables → ℕ → List Filled
+filled t round = map (λ c. record { channel = c; board = reserves c (map_len t c) round }) t.channels
+
+-- the minislots that are idle then are what the plan has
+abbrev pub idle : List Filled → List ℕ
+idle fs = map (λ f. free_count f.board.cells) fs
+
+-- a channel whose claims are placed
+pub record Built : Type 0 where
+  pub channel : Channel
+  pub board : Board
+  pub grants : List Grant
+
+-- each channel places its claims, and reads no other channel's board
+unfoldable pub build_on : List Planned → Filled → Built
+build_on plan f =
+    let grants : List Grant = grants_of f.channel.bursts f.board (claims f.channel.id plan) in
+    record { channel = f.channel; board = assign_all f.board (intervals grants); grants = grants }
+
+-- The end of a round.
+
+-- the grants of all channels
+abbrev pub all_grants : List Built → List Grant
+all_grants builds = flat_map (λ b. b.grants) builds
+
+-- the bytes that grants credit, of those that pass
+abbrev pub credits : (Grant → Bool) → List Grant → ℕ
+credits passes grants = sum_by (λ g. g.credit) (filter passes grants)
+
+-- whether a grant is of the cluster with this number, and whether it is of the flow at this place
+abbrev pub is_of_cluster : ℕ → Grant → Bool
+is_of_cluster number g = g.claimant.cluster == number
+
+abbrev pub is_of_flow : ℕ → Grant → Bool
+is_of_flow place g = g.claimant.place == place
+
+-- credits leave the outstanding bytes of the clusters from `number` on,
+abbrev pub left_of : List Grant → ℕ → List ℕ → List ℕ
+left_of grants number [] = []
+left_of grants number (bytes ∷ more) =
+    (bytes - credits (is_of_cluster number) grants) ∷ left_of grants (number + 1) more
+
+-- and the buckets of the flows from `place` on
+abbrev pub spent_of : List Grant → ℕ → List Level → List Level
+spent_of grants place [] = []
+spent_of grants place (bucket ∷ more) =
+    spent (credits (is_of_flow place) grants) bucket ∷ spent_of grants (place + 1) more
+
+-- Pendings.
+
+-- the most pendings of a MAP
+abbrev pub max_pendings : ℕ
+max_pendings = 38
+
+-- the first channel of a turn's flow, by its id, with the turn's SID there
+abbrev pub first_seat : Turn → Option (ℕ × ℕ)
+first_seat turn = slice_get (zip turn.cluster.flow.channels turn.cluster.sids) 0
+
+-- a turn that still has outstanding bytes and was credited nothing is pending there
+abbrev pub pending_seat : List Grant → List ℕ → Turn → Option (ℕ × ℕ)
+pending_seat grants left turn =
+    if nat_lt 0 (slice_index left turn.number) && (credits (is_of_cluster turn.number) grants == 0)
+    then first_seat turn else None
+
+-- all of them in the order of turns
+unfoldable pub pending_seats : List Grant → List ℕ → List Turn → List (ℕ × ℕ)
+pending_seats grants left turns = filter_map (pending_seat grants left) turns
+
+-- the SIDs that a MAP lists: the first that are pending on its channel
+unfoldable pub pendings_on : ℕ → List (ℕ × ℕ) → List ℕ
+pendings_on id seats = take max_pendings (map (λ seat. seat.1) (filter (λ seat. seat.0 == id) seats))
+
+-- Rounds.
+
+-- a round: its number, its channels in table order, and what is pending
+pub record Scheduled : Type 0 where
+  pub round : ℕ
+  pub channels : List Built
+  pub pending : List (ℕ × ℕ)
+
+-- a round, and what the next one starts from
+pub record Step : Type 0 where
+  pub state : State
+  pub scheduled : Scheduled
+
+-- a state in whose round the bytes that are newly asked for stand, and the growth of the buckets
+abbrev pub begun : State → List ℕ → State
+begun state cut = record {
+  tables = state.tables;
+  round = state.round;
+  outstanding = asked state.outstanding cut;
+  buckets = grown state;
+}
+
+-- the plan of a round that has begun, on channels whose reserves stand
+abbrev pub round_plan : State → List Planned
+round_plan state =
+    plan_for state.tables state.outstanding (map bytes_in state.buckets) (idle (filled state.tables state.round))
+
+-- and its channels, once all claims are placed
+unfoldable pub builds_of : State → List Built
+builds_of state = map (build_on (round_plan state)) (filled state.tables state.round)
+
+-- what grants leave of a state to the next round
+abbrev pub credited : State → List Grant → State
+credited state grants = record {
+  tables = state.tables;
+  round = state.round + 1;
+  outstanding = left_of grants 0 state.outstanding;
+  buckets = spent_of grants 0 state.buckets;
+}
+
+-- a round that has begun
+unfoldable pub round_from : State → Step
+round_from state =
+    let grants : List Grant = all_grants (builds_of state) in
+    record {
+      state = credited state grants;
+      scheduled = record {
+        round = state.round;
+        channels = builds_of state;
+        pending = pending_seats grants (left_of grants 0 state.outstanding) (turns_of state.tables);
+      };
+    }
+
+-- the round of a state, with the bytes that are newly asked for of each cluster
+unfoldable pub round_of : State → List ℕ → Step
+round_of state cut = round_from (begun state cut)
+
+-- the rounds of these cuts, one after another
+unfoldable pub schedule : State → List (List ℕ) → List Scheduled
+schedule state [] = []
+schedule state (cut ∷ cuts) = (round_of state cut).scheduled ∷ schedule (round_of state cut).state cuts
+
+-- and the state that they leave
+unfoldable pub final : State → List (List ℕ) → State
+final state [] = state
+final state (cut ∷ cuts) = final (round_of state cut).state cuts

@@ -1,0 +1,68 @@
+//! The round of a bonding group: what every cluster asks for goes in, and the MAPs of all channels and their lines come
+//! out, with the state that the next round starts from.
+//!
+//! ```
+//! let state = State::new(alloc, config)?; // nothing is outstanding, and every bucket is full
+//! let (state, out) = round(alloc, state, &[1_000])?; // the first cluster asks for 1,000 bytes
+//! let maps = out.maps(); // a MAP for each channel, in table order
+//! let finals = state.finals(alloc)?; // what is outstanding, and the units of the buckets
+//! ```
+//!
+//! What these are stands in `specs/`, in the order of its `Lib.antt`.
+#![tactic(auto)]
+
+// Which configurations are served so far.
+mod served;
+
+// Every refusal.
+mod faults;
+
+// The lines of a round.
+mod rows;
+
+// The reserves of a round's boards.
+mod reserving;
+
+// Who is granted what: claims and grants,
+mod claims;
+
+// minislots that are assigned where they fit,
+mod assigning;
+
+// where a claim is placed,
+mod placing;
+
+// and all claims of a channel.
+mod building;
+
+// Who is pending.
+mod pendings;
+
+// From a board to a MAP.
+mod mapping;
+
+// From grants to lines.
+mod reporting;
+
+// What a round gives.
+mod round_outs;
+
+// Laws of what a round gives.
+mod output_laws;
+
+// What a round starts from.
+mod states;
+
+// The round.
+mod rounds;
+
+pub use faults::RoundFault;
+pub use output_laws::{lines_are_of_grants, lines_bear_round};
+pub use round_outs::RoundOut;
+pub use rounds::round;
+pub use rows::{Entry, Row};
+pub use served::is_served;
+pub use states::State;
+
+#[cfg(test)]
+mod tests;

@@ -1,0 +1,13 @@
+//! Laws of the definitions of what a round gives, each as the contract of a function that does nothing.
+
+ghost use Rattle.us_round.specs.OutputLaws.{ByStartMoves, LinesBearRound};
+
+/// The lines of a channel are of its grants, each once, in the order of their starts.
+pub fn lines_are_of_grants()
+    ensures { ByStartMoves }
+{}
+
+/// Each of them bears the number of the round and the id of the channel.
+pub fn lines_bear_round()
+    ensures { LinesBearRound }
+{}

@@ -1,0 +1,33 @@
+ghost use Rattle.std.specs.Prelude.{◌≡◌, length};
+ghost use Rattle.us_round.specs.Rounds.{all_grants, left_of, spent_of};
+ghost use Rattle.us_round.specs.States.{Covers};
+
+use crate::building::Built;
+use crate::placing::Grant;
+use us_bucket::Bucket;
+use us_requests::ClusterState;
+
+/// Takes the credits of all channels' grants from the outstanding bytes of their clusters, and from the buckets of
+/// their flows.
+pub(super) fn credit_all(outstanding: &mut [ClusterState], buckets: &mut [Bucket], built: &[Built])
+    requires { Covers outstanding.old buckets.old (all_grants built.now) }
+    ensures outstanding { outstanding.new ≡ left_of (all_grants built.now) 0 outstanding.old }
+    ensures buckets { buckets.new ≡ spent_of (all_grants built.now) 0 buckets.old }
+{
+    for channel in built {
+        credit_grants(outstanding, buckets, channel.grants());
+    }
+}
+
+/// The same of the grants of one channel.
+fn credit_grants(outstanding: &mut [ClusterState], buckets: &mut [Bucket], grants: &[Grant])
+    requires { Covers outstanding.old buckets.old grants.now }
+    ensures outstanding { outstanding.new ≡ left_of grants.now 0 outstanding.old }
+    ensures buckets { buckets.new ≡ spent_of grants.now 0 buckets.old }
+{
+    for grant in grants {
+        let credit = u64::from(grant.credit());
+        outstanding[grant.cluster()].credit(credit);
+        buckets[grant.place()].spend(credit);
+    }
+}

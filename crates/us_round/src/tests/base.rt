@@ -1,0 +1,232 @@
+ghost use Rattle.std.specs.Prelude.{◌+◌, ◌^◌, ◌<◌, zip, IsTrue};
+ghost use Rattle.std.specs.List.{AllByRecursion};
+
+use crate::{RoundFault, RoundOut, Row, State, is_served, round};
+use std::alloc::{AllocError, Global};
+use std::process::Abort;
+use us_codec::Map;
+use us_flows::{Config, ConfigFault};
+use us_requests::ClusterState;
+use us_slots::NoMemory;
+
+/// The one comparison of these tests.
+pub(super) fn same(rt: &impl Abort, name: &str, found: &str, wanted: &str) {
+    assert_eq!(rt; found, wanted, "{name}");
+}
+
+/// A channel but for its id. Its MAPs have 160 minislots of 64 symbols of 4 bits; the last 10 are for contention, and
+/// the others carry 4,784 bytes.
+const CHANNEL: &str = "minislot_log2 = 1
+rate_log2 = 5
+ucd_count = 0
+ranging_backoff = [2, 6]
+data_backoff = [3, 8]
+request_minislots = 2
+contention_minislots = 10
+maintenance_minislots = 0
+maintenance_every = 1
+station_minislots = 4
+long = { bits = 4, preamble = 24, guard = 8, fec_t = 0, fec_k = 200, shortened = false }
+short = { bits = 4, preamble = 24, guard = 8, fec_t = 0, fec_k = 200, shortened = false, max_minislots = 10 }
+unsolicited = { bits = 4, preamble = 24, guard = 8, fec_t = 0, fec_k = 200, shortened = false }
+";
+
+/// A run, in which clusters ask for bytes in round 1 only.
+#[derive(Clone, Copy)]
+pub(super) struct Case<'a> {
+    pub(super) name: &'a str,
+    /// The ids go from 1 to this.
+    pub(super) channels: u8,
+    /// The first flow, but for its id, which is 1.
+    pub(super) flow: &'a str,
+    /// The id of the last flow. The others are on channel 1, and without limit.
+    pub(super) flows: u16,
+    /// Whether they have two clusters each, or one.
+    pub(super) two_clusters: bool,
+    pub(super) rounds: u32,
+    /// The bytes that the first cluster asks for, and each other one.
+    pub(super) asks: (u64, u64),
+    pub(super) answer: &'a str,
+}
+
+/// Makes the run of each case, and compares what is answered.
+pub(super) fn compare(
+    rt: &impl Abort,
+    alloc: Global,
+    cases: &[Case<'_>],
+) -> Result<(), AllocError> {
+    for case in cases {
+        let answer = answer_of(alloc, case)?;
+        same(rt, case.name, answer.as_str(), case.answer);
+    }
+    Ok(())
+}
+
+/// What is answered: of each round its first grants, how many there are, and how many elements and pendings each MAP
+/// has; then the first final lines. A fault stands behind what was answered before it.
+pub(super) fn answer_of(alloc: Global, case: &Case<'_>) -> Result<String, AllocError> {
+    let mut answer = String::new(alloc);
+    match config_of(alloc, case) {
+        Ok(config) => {
+            if let Err(fault) = run(alloc, &mut answer, config, case) {
+                write!(answer, "{fault}")?;
+            }
+        }
+        Err(fault) => write!(answer, "{fault}")?,
+    }
+    Ok(answer)
+}
+
+/// The configuration of a case.
+pub(super) fn config_of(alloc: Global, case: &Case<'_>) -> Result<Config, ConfigFault> {
+    let text = text_of(alloc, case)?;
+    Config::read(alloc, text.as_bytes())
+}
+
+fn text_of(alloc: Global, case: &Case<'_>) -> Result<String, AllocError> {
+    let mut text = String::new(alloc);
+    text.push_str("round_ticks = 320\nlead_ticks = 160\n")?;
+    for id in 1..=case.channels {
+        write!(text, "[[channel]]\nid = {id}\n{CHANNEL}")?;
+    }
+    write!(text, "[[flow]]\nid = 1\n{}\n", case.flow)?;
+    for id in 2..=case.flows {
+        push_flow(&mut text, id, case.two_clusters)?;
+    }
+    Ok(text)
+}
+
+/// A flow on channel 1 with one cluster or two, of SIDs above 1,000.
+fn push_flow(text: &mut String, id: u16, two_clusters: bool) -> Result<(), AllocError> {
+    let sid = 1000 + 2 * u32::from(id);
+    write!(
+        text,
+        "[[flow]]\nid = {id}\ntype = 2\nchannels = [1]\npriority = 0\nrate = 0\nburst = 3044\nunit = 4\nheaders = true\n"
+    )?;
+    if two_clusters {
+        write!(text, "clusters = [[{sid}], [{}]]\n", sid + 1)
+    } else {
+        write!(text, "clusters = [[{sid}]]\n")
+    }
+}
+
+/// What each cluster asks for in a round.
+fn cut_of(
+    alloc: Global,
+    case: &Case<'_>,
+    number: u32,
+    clusters: usize,
+) -> Result<Vec<u64>, NoMemory> {
+    let (first, others) = if number == 1 { case.asks } else { (0, 0) };
+    let mut cut = vec![in alloc; others; clusters]?;
+    if let Some(bytes) = cut.get_mut(0) {
+        *bytes = first;
+    }
+    Ok(cut)
+}
+
+/// Makes the rounds of a case. What can only be wrong with the case is said to be want of memory.
+fn run(
+    alloc: Global,
+    answer: &mut String,
+    config: Config,
+    case: &Case<'_>,
+) -> Result<(), RoundFault> {
+    if !is_served(&config) {
+        return Err(RoundFault::NoMemory);
+    }
+    let clusters = config.clusters();
+    let mut state = State::new(alloc, config)?;
+    for number in 0..case.rounds {
+        let cut = cut_of(alloc, case, number, clusters)?;
+        let (next, out) = next_round(alloc, state, &cut)?;
+        state = next;
+        tell_round(answer, &out)?;
+    }
+    let finals = state.finals(alloc)?;
+    tell_rows(answer, &finals)?;
+    Ok(())
+}
+
+/// The round of a state, if it may be made.
+pub(super) fn next_round(
+    alloc: Global,
+    state: State,
+    cut: &[u64],
+) -> Result<(State, RoundOut), RoundFault> {
+    let config = state.config();
+    let end = (u64::from(state.round()) + 1) * u64::from(config.round_ticks());
+    if cut.len() == config.clusters() && end <= 1 << 26 && have_room(state.outstanding(), cut) {
+        round(alloc, state, cut)
+    } else {
+        Err(RoundFault::NoMemory)
+    }
+}
+
+/// Whether what is outstanding and asked for is below 2^62 of each cluster.
+fn have_room(outstanding: &[ClusterState], cut: &[u64]) -> bool
+    ensures { IsTrue result → AllByRecursion (λ pair. pair.0 + pair.1 < 2 ^ 62) (zip outstanding.now cut.now) }
+{
+    if outstanding.len() != cut.len() {
+        return false;
+    }
+    for place in 0..cut.len() {
+        if cut[place] >= (1 << 62) - outstanding[place].outstanding() {
+            return false;
+        }
+    }
+    true
+}
+
+/// The round's first grants, how many there are, and of each MAP its elements and its pendings.
+fn tell_round(answer: &mut String, out: &RoundOut) -> Result<(), NoMemory> {
+    write!(answer, "{}: ", out.round())?;
+    tell_rows(answer, out.rows())?;
+    for map in out.maps() {
+        tell_map(answer, map)?;
+    }
+    Ok(())
+}
+
+/// How many elements a MAP has, and how many of them stand at its length behind the Null.
+fn tell_map(answer: &mut String, map: &Map) -> Result<(), NoMemory> {
+    let elements = map.elements();
+    let mut pendings = 0_u32;
+    for element in elements {
+        if element.offset() == 160 && element.iuc().number() == 10 {
+            pendings = pendings.saturating_add(1);
+        }
+    }
+    write!(answer, "MAP {} {pendings}; ", elements.len())?;
+    Ok(())
+}
+
+/// The first of these lines, and how many there are.
+fn tell_rows(answer: &mut String, rows: &[Row]) -> Result<(), NoMemory> {
+    for row in &rows[..rows.len().min(4)] {
+        tell_row(answer, row)?;
+    }
+    if rows.len() > 4 {
+        write!(answer, ".. {}, ", rows.len())?;
+    }
+    Ok(())
+}
+
+/// Of a grant its channel, start, minislots and credit; of a final line what is outstanding, and the units.
+fn tell_row(answer: &mut String, row: &Row) -> Result<(), AllocError> {
+    match row {
+        Row::Granted {
+            channel,
+            start,
+            slots,
+            credit,
+            ..
+        } => write!(answer, "{channel} {start}+{slots} {credit}, "),
+        Row::Final {
+            outstanding,
+            units,
+            ..
+        } => write!(answer, "left {outstanding} {units:?}, "),
+        _ => write!(answer, "{row:?}, "),
+    }
+}
