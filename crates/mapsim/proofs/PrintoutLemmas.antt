@@ -23,7 +23,7 @@ grown bytes = record { before = Some []; after = Some bytes }
 -- a replay in memory that was Ok
 pub gives : (t : Tables) (rounds : ℕ) (trace : List ℕ) (summary : Summary) (maps report : List ℕ) →
     Replayed t rounds (Some trace) (grown maps) (grown report) (Ok summary) → Gives t rounds trace maps report
-gives t rounds trace summary maps report ((served, fit), (text, is_text, sound, (to_maps, to_report, told))) =
+gives t rounds trace summary maps report ((served, fit), (text, is_text, sound, (to_maps, to_report, told), kept)) =
     let same : text ≡ trace = sym is_text.tells in
     record {
       served = served;

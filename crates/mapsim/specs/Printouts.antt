@@ -6,7 +6,7 @@ use Rattle.us_flows.specs.Answers.{Answers}
 use Rattle.us_requests.specs.Rows.{trace_fault}
 use Rattle.us_requests.specs.Readings.{Reads}
 use Rattle.us_replay.specs.declared.faults.RunFault.TheVariants as run
-use Rattle.us_replay.specs.Served.{is_served}
+use Rattle.us_round.specs.Served.{is_served}
 use Rattle.us_replay.specs.Replays.{CanRun, maps_text, report_text, output_for}
 use Rattle.mapsim.specs.declared.faults.Stream.TheVariants as stream
 use Rattle.mapsim.specs.declared.faults.Fault.{Fault}

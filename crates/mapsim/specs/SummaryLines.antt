@@ -3,7 +3,7 @@ use Rattle.std.specs.Prelude.{◌≡◌, ℕ, true, List, [], ◌∷◌, ◌++�
 use Rattle.us_flows.specs.Tables.{Tables, rounds_fit}
 use Rattle.us_requests.specs.Asks.{counts_of}
 use Rattle.us_requests.specs.Rows.{trace_fault, requests_of}
-use Rattle.us_replay.specs.Served.{is_served}
+use Rattle.us_round.specs.Served.{is_served}
 use Rattle.us_replay.specs.Replays.{output_for, summary_of}
 use Rattle.us_replay.specs.declared.summaries.Summary.{Summary}
 use Rattle.mapsim.specs.Texts.{spaced}

@@ -6,7 +6,7 @@ ghost use Rattle.mapsim.specs.MapLines.{lines_of};
 ghost use Rattle.mapsim.specs.Marks.{IsMark};
 ghost use Rattle.mapsim.specs.Inputs.{IsInputFault, IsPrintFault, fault_in_memory};
 ghost use Rattle.mapsim.specs.Dumps.{IsDump};
-ghost use Rattle.mapsim.specs.Printouts.{Gives, IsEarly, Prints, Refuses, RefusesTrace, Replays, Stops};
+ghost use Rattle.mapsim.specs.Printouts.{Gives, IsEarly, Prints, Refuses, RefusesTrace, Replays, Stops, max_input_bytes};
 ghost use Rattle.mapsim.specs.declared.faults.Fault.TheVariants as fault;
 ghost use Rattle.mapsim.specs.declared.faults.Stream.TheVariants as stream;
 
@@ -46,6 +46,8 @@ pub fn pipe<I: Source, O: Sink>(
     ensures early { IsErrAnd result IsEarly → output.new ≡ output.old }
     ensures unmarked { IfSome (I.remaining input.old) (λ text.
         ((at : ℕ) → ¬ IsMark text at) → IsErrAnd result IsInputFault) }
+    ensures long { IfSome (I.remaining input.old) (λ text.
+        max_input_bytes < length text → IsErrAnd result IsInputFault) }
 
     // Either stream is blamed exactly where it failed.
     ensures input { (I.failed input.new ≡ true) ↔ (result ≡ Err (fault.Device stream.Input)) }
@@ -63,6 +65,8 @@ fn read_input<I: Source>(alloc: Global, input: &mut I) -> Result<Vec<u8>, Fault>
     ensures value { IfOk result (λ v. IfSome (I.remaining input.old) (λ text. v.items ≡ text)) }
     ensures large { result ≡ Err fault.Pipe → IfSome (I.remaining input.old) (λ text.
         MAX_INPUT_BYTES < length text) }
+    ensures long { IfSome (I.remaining input.old) (λ text.
+        max_input_bytes < length text → IsErrAnd result IsInputFault) }
     ensures failed { (I.failed input.new ≡ true) ↔ (result ≡ Err (fault.Device stream.Input)) }
     ensures fault { IfErr result IsInputFault }
 {

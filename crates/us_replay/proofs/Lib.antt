@@ -1,15 +1,7 @@
-pub mod BoardLemmas
-pub mod IdleLemmas
-pub mod RunLemmas
-pub mod ReserveLemmas
-pub mod PlaceLemmas
-pub mod SeatLemmas
-pub mod ChannelLemmas
-pub mod MapLemmas
-pub mod RoundLemmas
 pub mod TextLemmas
 pub mod CutLemmas
+pub mod SumLemmas
+pub mod RoundLemmas
 pub mod ReplayStopLemmas
-pub mod LoopRoundLemmas
 pub mod LoopLemmas
 pub mod ReplayLemmas

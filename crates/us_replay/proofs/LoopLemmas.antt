@@ -1,5 +1,5 @@
--- The loop over rounds: how progress and writers stand after each.
-use Rattle.std.proofs.Common.{◌≡◌, ℕ, zero, suc, ◌+◌, ◌*◌, ◌^◌, ◌<◌, ◌≤◌, Bool, true, List, [], ◌∷◌, ◌++◌, length, replicate, map, take, drop, cond, nat_le, sum, sum_by, count_by, refl, ap, sym, ◌∙◌, arith}
+-- The loop over rounds: how state, progress and writers stand after each.
+use Rattle.std.proofs.Common.{◌≡◌, ℕ, zero, suc, ◌+◌, ◌*◌, ◌^◌, ◌<◌, ◌≤◌, List, [], ◌∷◌, ◌++◌, length, replicate, map, take, drop, cond, nat_le, Bool, sum, sum_by, count_by, true, refl, ap, sym, subst, ◌∙◌, arith}
 use Rattle.std.specs.List.{AllByRecursion, range_with_len, zip}
 use Rattle.std.proofs.lemmas.Bool.{and_parts, leb-true}
 use Rattle.std.proofs.lemmas.Nat.{mul-le}
@@ -10,53 +10,42 @@ use Rattle.us_flows.specs.Tables.{Tables, max_run_ticks, rounds_fit}
 use Rattle.us_flows.specs.Clusters.{clusters_of}
 use Rattle.us_flows.specs.Lawful.{AreTables}
 use Rattle.us_requests.specs.declared.asks.Ask.{Ask}
+use Rattle.us_requests.specs.declared.asks.Counts.{Counts}
 use Rattle.us_requests.specs.Cuts.{cut_of}
 use Rattle.us_requests.specs.Traces.{TraceAsks, asks_in, asked_before, max_asked, IsTrace}
-use Rattle.us_replay.specs.declared.lines.Row.{Row}
-use Rattle.us_replay.specs.Rounds.{State, RoundOut, round_of, opening, schedule, final}
-use Rattle.us_replay.specs.Outputs.{Given, given_by, records, lines, final_rows, counts_row}
-use Rattle.us_replay.specs.Replays.{Output, output_of, rows_of, is_granted, is_missed, summary_of}
-use Rattle.us_replay.specs.Progress.{Progress, cuts_in, after_round, after_last, max_rows, summary_after}
-use Rattle.us_replay.proofs.LoopRoundLemmas.{After, after, added-below, sum-cut, few-rows, some-records}
+use Rattle.us_round.specs.declared.rows.Row.{Row}
+use Rattle.us_round.specs.Rounds.{State, Scheduled, round_of, opening, schedule, final}
+use Rattle.us_round.specs.Outputs.{RoundOut, AreWithinLimits, out_of, final_rows}
+use Rattle.us_replay.specs.Files.{records, lines, counts_row}
+use Rattle.us_replay.specs.Replays.{KeptLimits, all_rows, is_granted, is_missed, output_of, summary_of}
+use Rattle.us_replay.specs.Progress.{Progress, Along, CanMake, IsMade, cuts_in, opening_progress, out_after, output_in, step_of, summary_after, with_last, with_round}
+use Rattle.us_replay.proofs.RoundLemmas.{After, after, some-records}
+use Rattle.us_replay.proofs.SumLemmas.{added-below, length-cut, sum-cut}
 use Rattle.us_replay.proofs.ReplayStopLemmas.{next-of, next-part, AreTexts, AreLast}
 
--- The run of a trace.
-
-abbrev pub output : Tables → TraceAsks → Output
-output t v = output_of t (cuts_in t v) v.counts
-
--- how progress stands after k rounds
-pub record Along (t : Tables) (v : TraceAsks) (k : ℕ) (p : Progress) : Type 0 where
-  pub within : k ≤ v.rounds
-  pub round : p.state.round ≡ k
-  pub wide : length p.state.outstanding ≡ length (clusters_of t)
-  pub clusters : p.clusters ≡ length (clusters_of t)
-  pub asked : sum p.state.outstanding ≤ asked_before v k
-  pub rest : schedule t p.state (drop k (cuts_in t v)) ≡ drop k (schedule t (opening t) (cuts_in t v))
-  pub ends : final t p.state (drop k (cuts_in t v)) ≡ final t (opening t) (cuts_in t v)
-  pub granted : p.granted ≡ count_by is_granted (rows_of (take k (output t v).given))
-  pub missed : p.missed ≡ count_by is_missed (rows_of (take k (output t v).given))
-  pub few_granted : p.granted ≤ max_rows * k
-  pub few_missed : p.missed ≤ max_rows * k
+-- Before round 0.
 
 no-sum : (n : ℕ) → sum (replicate n 0) ≡ 0
 no-sum zero = refl
 no-sum (suc n) = omega (arith, sum_by-cons (λ n. n) 0 (replicate n 0), no-sum n)
 
-pub along-opening : (t : Tables) (v : TraceAsks) (p : Progress) → p.state ≡ opening t →
-    p.clusters ≡ length (clusters_of t) → p.granted ≡ 0 → p.missed ≡ 0 → Along t v 0 p
-along-opening t v p opened clusters granted missed = record {
+pub along-opening : (t : Tables) (v : TraceAsks) (state : State) (p : Progress) → AreTables t → state ≡ opening t →
+    p ≡ opening_progress (length (clusters_of t)) → Along t v 0 state p
+unfolding KeptLimits
+along-opening t v state p lawful opened empty = record {
   within = omega arith;
+  lawful = lawful;
+  tables = ap (λ s. s.tables) opened;
   round = ap (λ s. s.round) opened;
-  wide = ap (λ s. length s.outstanding) opened ∙ length-replicate (length (clusters_of t)) 0;
-  clusters = clusters;
+  clusters = ap (λ p. length p.cut) empty ∙ length-replicate (length (clusters_of t)) 0;
   asked = omega (arith, ap (λ s. sum s.outstanding) opened, no-sum (length (clusters_of t)));
-  rest = ap (λ s. schedule t s (cuts_in t v)) opened;
-  ends = ap (λ s. final t s (cuts_in t v)) opened;
-  granted = granted;
-  missed = missed;
-  few_granted = omega (arith, granted);
-  few_missed = omega (arith, missed);
+  rest = ap (λ s. schedule s (cuts_in t v)) opened;
+  ends = ap (λ s. final s (cuts_in t v)) opened;
+  granted = ap (λ p. p.granted) empty;
+  missed = ap (λ p. p.missed) empty;
+  few_granted = omega (arith, ap (λ p. p.granted) empty);
+  few_missed = omega (arith, ap (λ p. p.missed) empty);
+  limits = tt;
 }
 
 -- One round.
@@ -97,164 +86,212 @@ next-asked : (v : TraceAsks) (k : ℕ) → asked_before v (k + 1) ≡ asked_befo
 next-asked v k =
     let here : 0 + k ≡ k = omega arith in omega (arith, sum-more (bytes_in v) 0 k, ap (bytes_in v) here)
 
--- what the next round gives
-abbrev pub next_given : Tables → TraceAsks → ℕ → Progress → Given
-next_given t v k p = given_by t (round_of t p.state (cut_of p.clusters (asks_in v k))).out
-
-abbrev next_state : Tables → TraceAsks → ℕ → Progress → State
-next_state t v k p = (round_of t p.state (cut_of p.clusters (asks_in v k))).state
-
-next-cut-of : (t : Tables) (v : TraceAsks) (k : ℕ) (p : Progress) → Along t v k p → k < v.rounds →
-    drop k (cuts_in t v) ≡ cut_of p.clusters (asks_in v k) ∷ drop (k + 1) (cuts_in t v)
-next-cut-of t v k p along below =
+next-cut-of : (t : Tables) (v : TraceAsks) (k : ℕ) (state : State) (p : Progress) → Along t v k state p → k < v.rounds →
+    drop k (cuts_in t v) ≡ cut_of (length p.cut) (asks_in v k) ∷ drop (k + 1) (cuts_in t v)
+next-cut-of t v k state p along below =
     next-cut t v k below ∙ ap (λ n. cut_of n (asks_in v k) ∷ drop (k + 1) (cuts_in t v)) (sym along.clusters)
 
-next-out : (t : Tables) (v : TraceAsks) (k : ℕ) (p : Progress) → Along t v k p → k < v.rounds →
-    drop k (schedule t (opening t) (cuts_in t v)) ≡
-    (round_of t p.state (cut_of p.clusters (asks_in v k))).out ∷ schedule t (next_state t v k p) (drop (k + 1) (cuts_in t v))
+next-round : (t : Tables) (v : TraceAsks) (k : ℕ) (state : State) (p : Progress) → Along t v k state p → k < v.rounds →
+    drop k (schedule (opening t) (cuts_in t v)) ≡
+    (step_of state p (asks_in v k)).scheduled ∷ schedule (step_of state p (asks_in v k)).state (drop (k + 1) (cuts_in t v))
 unfolding schedule
-next-out t v k p along below = sym along.rest ∙ ap (schedule t p.state) (next-cut-of t v k p along below)
+next-round t v k state p along below = sym along.rest ∙ ap (schedule state) (next-cut-of t v k state p along below)
 
-pub next-here : (t : Tables) (v : TraceAsks) (k : ℕ) (p : Progress) → Along t v k p → k < v.rounds →
-    drop k (output t v).given ≡ next_given t v k p ∷ drop (k + 1) (output t v).given
+pub next-here : (t : Tables) (v : TraceAsks) (k : ℕ) (state : State) (p : Progress) → Along t v k state p → k < v.rounds →
+    drop k (output_in t v).given ≡ out_after state p (asks_in v k) ∷ drop (k + 1) (output_in t v).given
 unfolding output_of
-next-here t v k p along below =
-    let outs : List RoundOut = schedule t (opening t) (cuts_in t v) in
-    let now = next-out t v k p along below in
-    let later = next-of outs k _ _ now in
-    map-drop (given_by t) k outs ∙ ap (map (given_by t)) now ∙
-    ap (λ rest. next_given t v k p ∷ map (given_by t) rest) (sym later.behind) ∙
-    ap (λ rest. next_given t v k p ∷ rest) (sym (map-drop (given_by t) (k + 1) outs))
+next-here t v k state p along below =
+    let all : List Scheduled = schedule (opening t) (cuts_in t v) in
+    let here : Scheduled = (step_of state p (asks_in v k)).scheduled in
+    let now = next-round t v k state p along below in
+    let later = next-of all k _ _ now in
+    map-drop (out_of t) k all ∙ ap (map (out_of t)) now ∙
+    ap (λ rest. out_of t here ∷ map (out_of t) rest) (sym later.behind) ∙
+    ap (λ rest. out_of t here ∷ rest) (sym (map-drop (out_of t) (k + 1) all)) ∙
+    ap (λ u. out_of u here ∷ drop (k + 1) (output_in t v).given) (sym along.tables)
 
-count-next : (passes : Row → Bool) (given : List Given) (k : ℕ) (here : Given) (rest : List Given) →
+count-next : (passes : Row → Bool) (given : List RoundOut) (k : ℕ) (here : RoundOut) (rest : List RoundOut) →
     drop k given ≡ here ∷ rest →
-    count_by passes (rows_of (take (k + 1) given)) ≡ count_by passes (rows_of (take k given)) + count_by passes here.rows
+    count_by passes (all_rows (take (k + 1) given)) ≡ count_by passes (all_rows (take k given)) + count_by passes here.rows
 count-next passes given k here rest is =
-    ap (count_by passes) (next-part (λ one. one.rows) given k here rest is) ∙
-    sum_by-append (λ row. cond (passes row) 1 0) (rows_of (take k given)) here.rows
+    ap (count_by passes) (next-part (λ out. out.rows) given k here rest is) ∙
+    sum_by-append (λ row. cond (passes row) 1 0) (all_rows (take k given)) here.rows
 
--- a round has at most so many lines
-rows-room : (t : Tables) (state : State) (cut : List ℕ) → AreTables t →
-    length (given_by t (round_of t state cut).out).rows ≤ max_rows
-rows-room t state cut lawful = omega (arith, few-rows t state cut, lawful.some_channels.1)
+-- of one more round the limits are kept too
+limits-next : {X : Type 0} (P : X → Type 0) (xs : List X) (k : ℕ) (x : X) (rest : List X) → drop k xs ≡ x ∷ rest →
+    AllByRecursion P (take k xs) → P x → AllByRecursion P (take (k + 1) xs)
+limits-next P [] zero x rest is kept here = let no : [] ≡ x ∷ rest = is in cc
+limits-next P [] (suc k) x rest is kept here = let no : [] ≡ x ∷ rest = is in cc
+limits-next P (y ∷ ys) zero x rest is kept here = let same : y ≡ x = cc in (subst P (sym same) here, tt)
+limits-next P (y ∷ ys) (suc k) x rest is kept here =
+    let back : suc (k + 1) ≡ suc k + 1 = omega arith in
+    subst (λ n. AllByRecursion P (take n (y ∷ ys))) back (kept.0, limits-next P ys k x rest is kept.1 here)
 
-pub along-next : (t : Tables) (v : TraceAsks) (k : ℕ) (p : Progress) → AreTables t → Along t v k p → k < v.rounds →
-    Along t v (k + 1) (after_round t p (asks_in v k))
-unfolding after_round final
-along-next t v k p lawful along below =
-    let cut : List ℕ = cut_of p.clusters (asks_in v k) in
-    let here : Given = next_given t v k p in
-    let next : After t p.state (asks_in v k) (next_state t v k p) =
-    after t p.state p.clusters (asks_in v k) (along.wide ∙ sym along.clusters) in
-    let now = next-out t v k p along below in
-    let given = next-here t v k p along below in
-    let few = rows-room t p.state cut lawful in
+along-made : (t : Tables) (v : TraceAsks) (k : ℕ) (state next : State) (p q : Progress) → Along t v k state p →
+    k < v.rounds → IsMade state p (asks_in v k) next q → Along t v (k + 1) next q
+unfolding with_round final KeptLimits
+along-made t v k state next p q along below made =
+    let cut : List ℕ = cut_of (length p.cut) (asks_in v k) in
+    let here : RoundOut = out_after state p (asks_in v k) in
+    let ends : After state cut (round_of state cut).state = after state cut in
+    let now = next-round t v k state p along below in
+    let given = next-here t v k state p along below in
+    let few = made.few in
     record {
       within = omega (arith, below);
-      round = omega (arith, next.round, along.round);
-      wide = next.wide ∙ along.wide;
-      clusters = along.clusters;
-      asked = omega (arith, next.asked, along.asked, next-asked v k);
-      rest = sym (next-of (schedule t (opening t) (cuts_in t v)) k _ _ now).behind;
-      ends = sym (ap (final t p.state) (next-cut-of t v k p along below)) ∙ along.ends;
-      granted = ap (λ n. n + count_by is_granted here.rows) along.granted ∙
-          sym (count-next is_granted (output t v).given k here _ given);
-      missed = ap (λ n. n + count_by is_missed here.rows) along.missed ∙
-          sym (count-next is_missed (output t v).given k here _ given);
-      few_granted = omega (arith, along.few_granted, few, count_by-le-length is_granted here.rows);
-      few_missed = omega (arith, along.few_missed, few, count_by-le-length is_missed here.rows);
+      lawful = along.lawful;
+      tables = ap (λ s. s.tables) made.state_is ∙ ends.tables_are ∙ along.tables;
+      round = omega (arith, ap (λ s. s.round) made.state_is, ends.round_is, along.round);
+      clusters = ap (λ p. length p.cut) made.progress_is ∙ length-cut (length p.cut) (asks_in v k) ∙ along.clusters;
+      asked = omega (
+        arith,
+        ap (λ s. sum s.outstanding) made.state_is,
+        ends.asked_for,
+        sum-cut (length p.cut) (asks_in v k),
+        along.asked,
+        next-asked v k,
+      );
+      rest = ap (λ s. schedule s (drop (k + 1) (cuts_in t v))) made.state_is ∙
+          sym (next-of (schedule (opening t) (cuts_in t v)) k _ _ now).behind;
+      ends = ap (λ s. final s (drop (k + 1) (cuts_in t v))) made.state_is ∙
+          sym (ap (final state) (next-cut-of t v k state p along below)) ∙ along.ends;
+      granted = ap (λ p. p.granted) made.progress_is ∙ ap (λ n. n + count_by is_granted here.rows) along.granted ∙
+          sym (count-next is_granted (output_in t v).given k here _ given);
+      missed = ap (λ p. p.missed) made.progress_is ∙ ap (λ n. n + count_by is_missed here.rows) along.missed ∙
+          sym (count-next is_missed (output_in t v).given k here _ given);
+      few_granted = omega (
+        arith,
+        ap (λ p. p.granted) made.progress_is,
+        along.few_granted,
+        few,
+        count_by-le-length is_granted here.rows,
+      );
+      few_missed = omega (
+        arith,
+        ap (λ p. p.missed) made.progress_is,
+        along.few_missed,
+        few,
+        count_by-le-length is_missed here.rows,
+      );
+      limits = limits-next (AreWithinLimits t) (schedule (opening t) (cuts_in t v)) k _ _ now along.limits
+          (subst (λ u. AreWithinLimits u (step_of state p (asks_in v k)).scheduled) along.tables made.limits);
     }
 
+pub along-next : (t : Tables) (v : TraceAsks) (k : ℕ) (state next : State) (p q : Progress) (asks : List Ask) →
+    Along t v k state p → k < v.rounds → asks ≡ asks_in v k → IsMade state p asks next q → Along t v (k + 1) next q
+along-next t v k state next p q asks along below are made =
+    along-made t v k state next p q along below (subst (λ xs. IsMade state p xs next q) are made)
+
 -- the texts that were made of it
-pub texts-here : (t : Tables) (v : TraceAsks) (k : ℕ) (p q : Progress) (asks : List Ask) (maps report : List ℕ) →
-    Along t v k p → k < v.rounds → q ≡ after_round t p asks → asks ≡ asks_in v k → maps ≡ q.to_maps →
-    report ≡ q.to_report → AreTexts (output t v) k maps report
-unfolding after_round
-texts-here t v k p q asks maps report along below made are maps_are report_is =
-    let now : q ≡ after_round t p (asks_in v k) = made ∙ ap (after_round t p) are in
+pub texts-here : (t : Tables) (v : TraceAsks) (k : ℕ) (state next : State) (p q : Progress) (asks : List Ask)
+    (maps report : List ℕ) → Along t v k state p → k < v.rounds → asks ≡ asks_in v k → IsMade state p asks next q →
+    maps ≡ q.to_maps → report ≡ q.to_report → AreTexts (output_in t v) k maps report
+unfolding with_round
+texts-here t v k state next p q asks maps report along below are made maps_are report_is =
+    let same : out_after state p asks ≡ out_after state p (asks_in v k) = ap (out_after state p) are in
     record {
-      round = next_given t v k p;
-      rest = drop (k + 1) (output t v).given;
-      here = next-here t v k p along below;
-      maps_are = maps_are ∙ ap (λ p. p.to_maps) now;
-      report_is = report_is ∙ ap (λ p. p.to_report) now;
+      round = out_after state p (asks_in v k);
+      rest = drop (k + 1) (output_in t v).given;
+      here = next-here t v k state p along below;
+      maps_are = maps_are ∙ ap (λ p. p.to_maps) made.progress_is ∙ ap records same;
+      report_is = report_is ∙ ap (λ p. p.to_report) made.progress_is ∙ ap (λ out. lines out.rows) same;
     }
 
 -- each round has records
-some-in : (t : Tables) (state : State) (cuts : List (List ℕ)) (k : ℕ) (next : Given) (rest : List Given) →
-    1 ≤ length t.channels → drop k (map (given_by t) (schedule t state cuts)) ≡ next ∷ rest → 0 < length (records next)
+some-in : (state : State) (cuts : List (List ℕ)) (k : ℕ) (next : RoundOut) (rest : List RoundOut) →
+    1 ≤ length state.tables.channels →
+    drop k (map (out_of state.tables) (schedule state cuts)) ≡ next ∷ rest → 0 < length (records next)
 unfolding schedule
-some-in t state [] zero next rest some here = let no : [] ≡ next ∷ rest = here in cc
-some-in t state [] (suc k) next rest some here = let no : [] ≡ next ∷ rest = here in cc
-some-in t state (cut ∷ cuts) zero next rest some here =
-    let same : given_by t (round_of t state cut).out ≡ next = cc in
-    omega (arith, some-records t state cut some, ap (λ given. length (records given)) same)
-some-in t state (cut ∷ cuts) (suc k) next rest some here =
-    some-in t (round_of t state cut).state cuts k next rest some here
+some-in state [] zero next rest some here = let no : [] ≡ next ∷ rest = here in cc
+some-in state [] (suc k) next rest some here = let no : [] ≡ next ∷ rest = here in cc
+some-in state (cut ∷ cuts) zero next rest some here =
+    let same : out_of state.tables (round_of state cut).scheduled ≡ next = cc in
+    omega (arith, some-records state cut some, ap (λ out. length (records out)) same)
+some-in state (cut ∷ cuts) (suc k) next rest some here =
+    let same : (round_of state cut).state.tables ≡ state.tables = (after state cut).tables_are in
+    some-in (round_of state cut).state cuts k next rest (omega (arith, some, ap (λ t. length t.channels) same))
+    (ap (λ t. drop k (map (out_of t) (schedule (round_of state cut).state cuts))) same ∙ here)
 
-pub some-next : (t : Tables) (v : TraceAsks) (k : ℕ) → AreTables t → (next : Given) (rest : List Given) →
-    drop k (output t v).given ≡ next ∷ rest → 0 < length (records next)
+pub some-next : (t : Tables) (v : TraceAsks) (k : ℕ) → AreTables t → (next : RoundOut) (rest : List RoundOut) →
+    drop k (output_in t v).given ≡ next ∷ rest → 0 < length (records next)
 unfolding output_of
-some-next t v k lawful next rest here = some-in t (opening t) (cuts_in t v) k next rest lawful.some_channels.0 here
+some-next t v k lawful next rest here = some-in (opening t) (cuts_in t v) k next rest lawful.some_channels.0 here
 
 -- All rounds.
 
-length-schedule : (t : Tables) (state : State) (cuts : List (List ℕ)) → length (schedule t state cuts) ≡ length cuts
+length-schedule : (state : State) (cuts : List (List ℕ)) → length (schedule state cuts) ≡ length cuts
 unfolding schedule
-length-schedule t state [] = refl
-length-schedule t state (cut ∷ cuts) = omega (arith, length-schedule t (round_of t state cut).state cuts)
+length-schedule state [] = refl
+length-schedule state (cut ∷ cuts) = omega (arith, length-schedule (round_of state cut).state cuts)
 
 length-cuts : (t : Tables) (v : TraceAsks) → length (cuts_in t v) ≡ v.rounds
 unfolding cuts_in
 length-cuts t v = length-map-range_with_len (λ round. cut_of (length (clusters_of t)) (asks_in v round)) 0 v.rounds
 
-pub length-given : (t : Tables) (v : TraceAsks) → length (output t v).given ≡ v.rounds
+pub length-given : (t : Tables) (v : TraceAsks) → length (output_in t v).given ≡ v.rounds
 unfolding output_of
 length-given t v =
-    length-map (schedule t (opening t) (cuts_in t v)) (given_by t) ∙ length-schedule t (opening t) (cuts_in t v) ∙ length-cuts t v
+    length-map (schedule (opening t) (cuts_in t v)) (out_of t) ∙ length-schedule (opening t) (cuts_in t v) ∙ length-cuts t v
+
+pub last-made : (v : TraceAsks) (state : State) (p q : Progress) (counts : Counts) → q ≡ with_last p state counts →
+    counts ≡ v.counts → q ≡ with_last p state v.counts
+last-made v state p q counts made are = made ∙ ap (with_last p state) are
 
 -- the end of the report, where all rounds were made
-pub texts-last : (t : Tables) (v : TraceAsks) (k : ℕ) (p q : Progress) (maps report : List ℕ) →
-    Along t v k p → k ≡ v.rounds → q ≡ after_last t p v.counts → maps ≡ q.to_maps → report ≡ q.to_report →
-    AreLast (output t v) k maps report
-unfolding after_last output_of final
-texts-last t v k p q maps report along all made maps_are report_is =
+pub texts-last : (t : Tables) (v : TraceAsks) (k : ℕ) (state : State) (p q : Progress) (maps report : List ℕ) →
+    Along t v k state p → k ≡ v.rounds → q ≡ with_last p state v.counts → maps ≡ q.to_maps → report ≡ q.to_report →
+    AreLast (output_in t v) k maps report
+unfolding with_last output_of final
+texts-last t v k state p q maps report along all made maps_are report_is =
     let none : drop k (cuts_in t v) ≡ [] = drop_all k (cuts_in t v) (omega (arith, all, length-cuts t v)) in
-    let ended : p.state ≡ final t (opening t) (cuts_in t v) = sym (ap (final t p.state) none) ∙ along.ends in
+    let ended : state ≡ final (opening t) (cuts_in t v) = sym (ap (final state) none) ∙ along.ends in
     record {
-      none = drop_all k (output t v).given (omega (arith, all, length-given t v));
+      none = drop_all k (output_in t v).given (omega (arith, all, length-given t v));
       maps_are = maps_are ∙ ap (λ p. p.to_maps) made;
-      report_is = report_is ∙ ap (λ p. p.to_report) made ∙ ap (λ s. lines (final_rows t s ++ counts_row v.counts ∷ [])) ended;
+      report_is = report_is ∙ ap (λ p. p.to_report) made ∙ ap (λ s. lines (final_rows s ++ counts_row v.counts ∷ [])) ended;
     }
 
 -- the summary
-pub summary-is : (t : Tables) (v : TraceAsks) (k : ℕ) (p q : Progress) → Along t v k p → k ≡ v.rounds →
-    q ≡ after_last t p v.counts → summary_after q k v.counts ≡ summary_of (output t v) v.counts
-unfolding summary_of after_last
-summary-is t v k p q along all made =
-    let whole : take k (output t v).given ≡ (output t v).given =
-    take_all k (output t v).given (omega (arith, all, length-given t v)) in
-    let granted : p.granted ≡ count_by is_granted (rows_of (output t v).given) =
-    along.granted ∙ ap (λ given. count_by is_granted (rows_of given)) whole in
-    let missed : p.missed ≡ count_by is_missed (rows_of (output t v).given) =
-    along.missed ∙ ap (λ given. count_by is_missed (rows_of given)) whole in
-    let rounds : k ≡ length (output t v).given = all ∙ sym (length-given t v) in
+pub summary-is : (t : Tables) (v : TraceAsks) (k : ℕ) (state : State) (p q : Progress) → Along t v k state p →
+    k ≡ v.rounds → q ≡ with_last p state v.counts → summary_after q k v.counts ≡ summary_of (output_in t v) v.counts
+unfolding summary_of with_last
+summary-is t v k state p q along all made =
+    let whole : take k (output_in t v).given ≡ (output_in t v).given =
+    take_all k (output_in t v).given (omega (arith, all, length-given t v)) in
+    let granted : p.granted ≡ count_by is_granted (all_rows (output_in t v).given) =
+    along.granted ∙ ap (λ given. count_by is_granted (all_rows given)) whole in
+    let missed : p.missed ≡ count_by is_missed (all_rows (output_in t v).given) =
+    along.missed ∙ ap (λ given. count_by is_missed (all_rows given)) whole in
+    let rounds : k ≡ length (output_in t v).given = all ∙ sym (length-given t v) in
     ap (λ p. summary_after p k v.counts) made ∙ rw (granted, missed, sym rounds) refl
 
 -- What a round needs.
 
--- what is outstanding and what is asked for stay below all that is ever asked for
-pub room-next : (t : Tables) (v : TraceAsks) (k : ℕ) (p : Progress) → IsTrace v → Along t v k p →
-    sum p.state.outstanding + sum_by (λ ask. ask.bytes) (asks_in v k) ≤ max_asked
-room-next t v k p lawful along = omega (arith, along.asked, next-asked v k, lawful.asked (k + 1))
-
 -- the rounds of a run keep their ends
-pub time-next : (t : Tables) (rounds k : ℕ) → rounds_fit t rounds ≡ true → k < rounds →
+time-next : (t : Tables) (rounds k : ℕ) → rounds_fit t rounds ≡ true → k < rounds →
     (k + 1) * t.round_ticks ≤ max_run_ticks
 time-next t rounds k fits below =
     let all = leb-true (rounds * t.round_ticks) max_run_ticks
     (and_parts (nat_le 1 rounds) (nat_le (rounds * t.round_ticks) max_run_ticks) fits).1 in
     omega (arith, all, mul-le (k + 1) t.round_ticks rounds t.round_ticks (omega (arith, below)) (omega arith))
+
+-- what is outstanding and what is asked for stay below all that is ever asked for
+pub can-make : (t : Tables) (v : TraceAsks) (k : ℕ) (state : State) (p : Progress) (asks : List Ask) → IsTrace v →
+    Along t v k state p → rounds_fit t v.rounds ≡ true → k < v.rounds → v.rounds < 2 ^ 32 →
+    AllByRecursion (λ ask. ask.cluster < length (clusters_of t)) (asks_in v k) → asks ≡ asks_in v k → CanMake state p asks
+can-make t v k state p asks lawful along fits below short known are = record {
+  lawful = subst AreTables (sym along.tables) along.lawful;
+  clusters = along.clusters ∙ ap (λ t. length (clusters_of t)) (sym along.tables);
+  known = subst (AllByRecursion (λ ask. ask.cluster < length p.cut)) (sym are)
+      (subst (λ n. AllByRecursion (λ ask. ask.cluster < n) (asks_in v k)) (sym along.clusters) known);
+  asked = omega (arith, along.asked, next-asked v k, lawful.asked (k + 1), ap (sum_by (λ ask. ask.bytes)) are);
+  time = subst (λ n. (n + 1) * state.tables.round_ticks ≤ max_run_ticks) (sym along.round)
+      (subst (λ t. (k + 1) * t.round_ticks ≤ max_run_ticks) (sym along.tables) (time-next t v.rounds k fits below));
+  room = record {
+    granted = omega (arith, along.few_granted, below, short);
+    missed = omega (arith, along.few_missed, below, short);
+  };
+}
 
 -- Making a round.
 
@@ -263,27 +300,3 @@ pub pairs-room : (outstanding cut : List ℕ) (n : ℕ) (asks : List Ask) → cu
     AllByRecursion (λ pair. pair.0 + pair.1 < 2 ^ 62) (zip outstanding cut)
 pairs-room outstanding cut n asks is room =
     added-below (2 ^ 62) outstanding cut (omega (arith, ap sum is, sum-cut n asks, room))
-
-pub count-room : (t : Tables) (state : State) (cut : List ℕ) (given : Given) (rows : List Row) (counted : ℕ) →
-    AreTables t → given ≡ given_by t (round_of t state cut).out → rows ≡ given.rows →
-    counted ≤ max_rows * state.round → state.round < 2 ^ 32 → counted + length rows < 2 ^ 64
-count-room t state cut given rows counted lawful is are few short =
-    omega (arith, few, short, rows-room t state cut lawful, ap length are, ap (λ g. length g.rows) is)
-
-pub made-round : (t : Tables) (p : Progress) (asks : List Ask) (clusters : ℕ) (cut : List ℕ) (given : Given)
-    (state : State) (rows : List Row) (to_maps to_report : List ℕ) (granted missed : ℕ) →
-    clusters ≡ p.clusters → cut ≡ cut_of p.clusters asks → given ≡ given_by t (round_of t p.state cut).out →
-    state ≡ (round_of t p.state cut).state → rows ≡ given.rows → to_maps ≡ records given → to_report ≡ lines rows →
-    granted ≡ p.granted + count_by is_granted rows → missed ≡ p.missed + count_by is_missed rows →
-    let q : Progress = record {
-      state = state;
-      clusters = clusters;
-      to_maps = to_maps;
-      to_report = to_report;
-      granted = granted;
-      missed = missed;
-    } in q ≡ after_round t p asks
-unfolding after_round
-made-round t p asks clusters cut given state rows to_maps to_report granted missed clusters_are cut_is given_is state_is
-    rows_are maps_are report_is granted_is missed_is =
-    rw (clusters_are, state_is, maps_are, report_is, granted_is, missed_is, rows_are, given_is, cut_is) refl

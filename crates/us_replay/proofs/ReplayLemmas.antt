@@ -11,8 +11,8 @@ use Rattle.us_requests.specs.Readings.{Reads}
 use Rattle.us_replay.specs.declared.summaries.Summary.{Summary}
 use Rattle.us_replay.specs.declared.faults.RunFault.{RunFault}
 use Rattle.us_replay.specs.declared.faults.RunFault.TheVariants as fault
-use Rattle.us_replay.specs.Replays.{Growth, Ran, RanText, CanRun, Replayed, cuts_of, output_of, output_for}
-use Rattle.us_replay.specs.Progress.{cuts_in}
+use Rattle.us_replay.specs.Replays.{Growth, Ran, RanText, CanRun, KeptLimits, Replayed, cuts_of, output_of, output_for, rounds_done}
+use Rattle.us_replay.specs.Progress.{RanTrace, cuts_in}
 
 -- the asks of each round add up to the cut of the rows
 cuts-same : (t : Tables) (rounds : ℕ) (requests : List Request) (v : TraceAsks) → IsTraceOf t rounds requests v →
@@ -31,24 +31,23 @@ output-same t rounds requests v is =
     ap (output_of t (cuts_of t rounds requests)) is.counts
 
 pub ran-text : (t : Tables) (rounds : ℕ) (told : Option (List ℕ)) (v : TraceAsks) (to_maps to_report : Growth)
-    (result : Result Summary RunFault) → Reads t rounds told (Ok v) →
-    Ran (output_of t (cuts_in t v) v.counts) v.counts to_maps to_report result →
+    (result : Result Summary RunFault) → Reads t rounds told (Ok v) → RanTrace t v to_maps to_report result →
     RanText t rounds told to_maps to_report result
 unfolding output_for
-ran-text t rounds told v to_maps to_report result (text, is_text, no_fault, is) ran = (
+ran-text t rounds told v to_maps to_report result (text, is_text, no_fault, is) (ran, kept) = (
   text,
   is_text,
   no_fault,
   subst (λ out. Ran out (counts_of t rounds (requests_of text)) to_maps to_report result)
       (output-same t rounds (requests_of text) v is)
       (subst (λ counts. Ran (output_of t (cuts_in t v) v.counts) counts to_maps to_report result) is.counts ran),
+  subst (λ cuts. KeptLimits t cuts (rounds_done result)) (cuts-same t rounds (requests_of text) v is) kept,
 )
 
 -- whatever `run` answers
 pub replayed : (t : Tables) (rounds : ℕ) (told : Option (List ℕ)) (v : TraceAsks) (to_maps to_report : Growth)
     (result : Result Summary RunFault) → CanRun t rounds → Reads t rounds told (Ok v) →
-    Ran (output_of t (cuts_in t v) v.counts) v.counts to_maps to_report result →
-    Replayed t rounds told to_maps to_report result
+    RanTrace t v to_maps to_report result → Replayed t rounds told to_maps to_report result
 replayed t rounds told v to_maps to_report (Ok summary) can read ran =
     (can, ran-text t rounds told v to_maps to_report (Ok summary) read ran)
 replayed t rounds told v to_maps to_report (Err (fault.WriteMaps done)) can read ran =
@@ -57,6 +56,6 @@ replayed t rounds told v to_maps to_report (Err (fault.WriteReport done)) can re
     (can, ran-text t rounds told v to_maps to_report (Err (fault.WriteReport done)) read ran)
 replayed t rounds told v to_maps to_report (Err (fault.NoMemory done)) can read ran =
     (can, ran-text t rounds told v to_maps to_report (Err (fault.NoMemory done)) read ran)
-replayed t rounds told v to_maps to_report (Err fault.Rounds) can read ran = absurd ran
-replayed t rounds told v to_maps to_report (Err (fault.Trace reason)) can read ran = absurd ran
-replayed t rounds told v to_maps to_report (Err fault.NotServed) can read ran = absurd ran
+replayed t rounds told v to_maps to_report (Err fault.Rounds) can read ran = absurd ran.0
+replayed t rounds told v to_maps to_report (Err (fault.Trace reason)) can read ran = absurd ran.0
+replayed t rounds told v to_maps to_report (Err fault.NotServed) can read ran = absurd ran.0

@@ -6,11 +6,13 @@ use Rattle.std.proofs.lemmas.Grind.{flat_map-append}
 use Rattle.std.proofs.lemmas.List.{take-append-drop, take-append-le, take_at, take_all}
 use Rattle.std.specs.Io.KnownBytes.{Appends, Keeps}
 use Rattle.us_slots.proofs.DeviceLemmas.{appends_nothing, appends_join, appends_keep}
+use Rattle.us_flows.specs.Tables.{Tables}
 use Rattle.us_requests.specs.declared.asks.Counts.{Counts}
 use Rattle.us_replay.specs.declared.faults.RunFault.{RunFault}
 use Rattle.us_replay.specs.declared.faults.RunFault.TheVariants as fault
-use Rattle.us_replay.specs.Outputs.{Given, records, round_lines, lines}
-use Rattle.us_replay.specs.Replays.{Output, Growth, Took, TookRounds, Holds, Stopped, Ran, maps_text, report_text}
+use Rattle.us_round.specs.Outputs.{RoundOut}
+use Rattle.us_replay.specs.Files.{records, round_lines, lines}
+use Rattle.us_replay.specs.Replays.{Output, Growth, Took, TookRounds, Holds, Stopped, Ran, KeptLimits, maps_text, report_text, rounds_done}
 use Rattle.us_replay.specs.Progress.{Sent, Flushed}
 
 -- Lists.
@@ -76,7 +78,7 @@ pub record Fronts (out : Output) (k m n : ℕ) (to_maps to_report : Growth) : Ty
 
 -- which isn't all of the next round
 abbrev pub IsShort : Output → ℕ → ℕ → ℕ → Type 0
-IsShort out k m n = (next : Given) (rest : List Given) → drop k out.given ≡ next ∷ rest →
+IsShort out k m n = (next : RoundOut) (rest : List RoundOut) → drop k out.given ≡ next ∷ rest →
     (m < length (records next)) ⊎ (n < length (round_lines next))
 
 -- a front of a text that begins with some bytes
@@ -101,7 +103,7 @@ ended (suc k) (x ∷ xs) h = omega (arith, ended k xs h)
 pub stopped : (out : Output) (k m n : ℕ) (to_maps to_report : Growth) → Fronts out k m n to_maps to_report →
     IsShort out k m n → Stopped out to_maps to_report k
 stopped out k m n to_maps to_report fronts short =
-    let given : List Given = out.given in
+    let given : List RoundOut = out.given in
     let maps_before : List ℕ = flat_map records (take k given) in
     let maps_behind : List ℕ = flat_map records (drop k given) in
     let report_before : List ℕ = flat_map round_lines (take k given) in
@@ -123,7 +125,7 @@ stopped out k m n to_maps to_report fronts short =
       greatest = λ more within in_maps in_report. most more (drop k given) refl in_maps in_report within;
     }
   where
-    most : (more : ℕ) (rest : List Given) → drop k out.given ≡ rest →
+    most : (more : ℕ) (rest : List RoundOut) → drop k out.given ≡ rest →
         Holds records out.given more (length (flat_map records (take k out.given)) + m) →
         Holds round_lines out.given more (length (flat_map round_lines (take k out.given)) + n) →
         more ≤ length out.given → more ≤ k
@@ -157,7 +159,7 @@ abbrev pub EndsBetween : Output → Growth → Growth → ℕ → Type 0
 EndsBetween out to_maps to_report k = TookRounds out k to_maps to_report × Stopped out to_maps to_report k
 
 pub stops-between : (out : Output) (k : ℕ) (to_maps to_report : Growth) → TookRounds out k to_maps to_report →
-    ((next : Given) (rest : List Given) → drop k out.given ≡ next ∷ rest → 0 < length (records next)) →
+    ((next : RoundOut) (rest : List RoundOut) → drop k out.given ≡ next ∷ rest → 0 < length (records next)) →
     EndsBetween out to_maps to_report k
 stops-between out k to_maps to_report so_far some = (
   so_far,
@@ -215,15 +217,15 @@ sent-stops out counts k a b c d e f maps report fault.NotServed so_far part neve
 
 -- the texts of the round at a place
 pub record AreTexts (out : Output) (k : ℕ) (maps report : List ℕ) : Type 0 where
-  pub round : Given
-  pub rest : List Given
+  pub round : RoundOut
+  pub rest : List RoundOut
   pub here : drop k out.given ≡ round ∷ rest
   pub maps_are : maps ≡ records round
   pub report_is : report ≡ round_lines round
 
 pub round-part : (out : Output) (k : ℕ) (maps report : List ℕ) → AreTexts out k maps report → IsPart out k maps report
 round-part out k maps report texts =
-    let same : (next : Given) (more : List Given) → drop k out.given ≡ next ∷ more → next ≡ texts.round =
+    let same : (next : RoundOut) (more : List RoundOut) → drop k out.given ≡ next ∷ more → next ≡ texts.round =
     λ next more at. let both : next ∷ more ≡ texts.round ∷ texts.rest = sym at ∙ texts.here in cc in
     record {
       maps_behind = flat_map records texts.rest;
@@ -304,7 +306,7 @@ stops-after out k to_maps to_report all took = record {
   greatest = λ more within in_maps in_report. omega (arith, within, all);
 }
   where
-    whole : (part : Given → List ℕ) (text : List ℕ) → length (flat_map part out.given) ≤ length text →
+    whole : (part : RoundOut → List ℕ) (text : List ℕ) → length (flat_map part out.given) ≤ length text →
         length (flat_map part (take k out.given)) ≤ length text
     whole part text h =
         omega (arith, h, ap (λ given. length (flat_map part given)) (take_all k out.given (omega (arith, all))))
@@ -326,3 +328,34 @@ flush-stops out counts k a b c d e f (fault.NoMemory done) all took never = absu
 flush-stops out counts k a b c d e f fault.Rounds all took never = absurd never
 flush-stops out counts k a b c d e f (fault.Trace reason) all took never = absurd never
 flush-stops out counts k a b c d e f fault.NotServed all took never = absurd never
+
+-- Limits.
+
+-- a fault of a round names the rounds before it
+pub sent-kept : (t : Tables) (cuts : List (List ℕ)) (k : ℕ) (maps report : List ℕ) (to_maps to_report : Growth)
+    (reason : RunFault) → KeptLimits t cuts k → Sent maps report k to_maps to_report (Err reason) →
+    KeptLimits t cuts (rounds_done (Err reason))
+sent-kept t cuts k maps report to_maps to_report (fault.WriteMaps done) kept (is, front, nothing) =
+    subst (KeptLimits t cuts) (sym is) kept
+sent-kept t cuts k maps report to_maps to_report (fault.WriteReport done) kept (is, wrote, front) =
+    subst (KeptLimits t cuts) (sym is) kept
+sent-kept t cuts k maps report to_maps to_report (fault.NoMemory done) kept never = absurd never
+sent-kept t cuts k maps report to_maps to_report fault.Rounds kept never = absurd never
+sent-kept t cuts k maps report to_maps to_report (fault.Trace reason) kept never = absurd never
+sent-kept t cuts k maps report to_maps to_report fault.NotServed kept never = absurd never
+
+-- and one of a flush all of them
+pub flushed-kept : (t : Tables) (cuts : List (List ℕ)) (k : ℕ) (to_maps to_report : Growth) (reason : RunFault) →
+    KeptLimits t cuts k → Flushed k to_maps to_report (Err reason) → KeptLimits t cuts (rounds_done (Err reason))
+flushed-kept t cuts k to_maps to_report (fault.WriteMaps done) kept (maps, report, is) =
+    subst (KeptLimits t cuts) (sym is) kept
+flushed-kept t cuts k to_maps to_report (fault.WriteReport done) kept (maps, report, is) =
+    subst (KeptLimits t cuts) (sym is) kept
+flushed-kept t cuts k to_maps to_report (fault.NoMemory done) kept never = absurd never
+flushed-kept t cuts k to_maps to_report fault.Rounds kept never = absurd never
+flushed-kept t cuts k to_maps to_report (fault.Trace reason) kept never = absurd never
+flushed-kept t cuts k to_maps to_report fault.NotServed kept never = absurd never
+
+pub none-kept : (t : Tables) (cuts : List (List ℕ)) → KeptLimits t cuts 0
+unfolding KeptLimits
+none-kept t cuts = tt

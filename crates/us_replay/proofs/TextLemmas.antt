@@ -5,7 +5,8 @@ use Rattle.std.proofs.lemmas.List.{append_assoc, append-nil, drop_all}
 use Rattle.std.proofs.Math.Seq.{take-append_seam}
 use Rattle.us_codec.specs.Bodies.{MapBody, spelling}
 use Rattle.us_codec.specs.MapsFiles.{Piece, record_bytes, maps_file}
-use Rattle.us_replay.specs.Outputs.{Given, records}
+use Rattle.us_round.specs.Outputs.{RoundOut}
+use Rattle.us_replay.specs.Files.{records}
 
 -- the record of a MAP
 abbrev pub piece : ℕ → MapBody → Piece
@@ -16,9 +17,9 @@ each_record : (round : ℕ) (maps : List MapBody) →
 each_record round [] = refl
 each_record round (body ∷ maps) = ap (λ rest. record_bytes (piece round body) ++ rest) (each_record round maps)
 
-pub records_flat : (given : Given) → flat_map (λ body. record_bytes (piece given.round body)) given.maps ≡ records given
+pub records_flat : (out : RoundOut) → flat_map (λ body. record_bytes (piece out.round body)) out.maps ≡ records out
 unfolding records maps_file
-records_flat given = each_record given.round given.maps
+records_flat out = each_record out.round out.maps
 
 pub piece_joined : (text head size body one two : List ℕ) (round : ℕ) → one ≡ text ++ head → two ≡ one ++ size →
     head ≡ to_be_bytes w32 round → size ≡ to_be_bytes w16 (length body) →
@@ -32,11 +33,11 @@ pub taken_front : (body rest : List ℕ) → take (length body) (body ++ rest) �
 taken_front body rest = take-append_seam body rest
 
 -- at the end of the MAPs nothing is left to add
-pub records_end : (text old : List ℕ) (given : Given) (done : ℕ) → length given.maps ≤ done →
-    text ++ flat_map (λ body. record_bytes (piece given.round body)) (drop done given.maps)
-    ≡ old ++ flat_map (λ body. record_bytes (piece given.round body)) given.maps →
-    text ≡ old ++ records given
-records_end text old given done all is =
-    let none : drop done given.maps ≡ [] = drop_all done given.maps all in
-    let joined : text ++ [] ≡ old ++ flat_map (λ body. record_bytes (piece given.round body)) given.maps = rw none at is in
-    sym (append-nil text) ∙ joined ∙ ap (λ r. old ++ r) (records_flat given)
+pub records_end : (text old : List ℕ) (out : RoundOut) (done : ℕ) → length out.maps ≤ done →
+    text ++ flat_map (λ body. record_bytes (piece out.round body)) (drop done out.maps)
+    ≡ old ++ flat_map (λ body. record_bytes (piece out.round body)) out.maps →
+    text ≡ old ++ records out
+records_end text old out done all is =
+    let none : drop done out.maps ≡ [] = drop_all done out.maps all in
+    let joined : text ++ [] ≡ old ++ flat_map (λ body. record_bytes (piece out.round body)) out.maps = rw none at is in
+    sym (append-nil text) ∙ joined ∙ ap (λ r. old ++ r) (records_flat out)

@@ -1,8 +1,8 @@
 -- Lines of the report, computed by the definitions alone.
 use Rattle.std.specs.Prelude.{◌≡◌, codes, Some, None, refl}
 use Rattle.std.specs.Fmt.{digits}
-use Rattle.us_replay.specs.declared.lines.Entry.TheVariants as entries
-use Rattle.us_replay.specs.declared.lines.Row.TheVariants as rows
+use Rattle.us_round.specs.declared.rows.Entry.TheVariants as entries
+use Rattle.us_round.specs.declared.rows.Row.TheVariants as rows
 use Rattle.us_replay.specs.Lines.{text_of}
 
 granted : text_of (rows.Granted 1 1 entries.Requested 1 0 0 291 10 0 32 1000) ≡

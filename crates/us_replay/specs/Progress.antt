@@ -1,34 +1,44 @@
 -- A replay on its way: the cuts of the trace that was read, what is kept from one round to the next, and what one writing
 -- of texts leaves.
-use Rattle.std.specs.Prelude.{◌≡◌, ℕ, ◌+◌, List, [], ◌∷◌, ◌++◌, length, map, count_by, Result, Ok, Err}
-use Rattle.std.specs.List.{range_with_len}
+use Rattle.std.specs.Prelude.{◌≡◌, ℕ, ◌+◌, ◌*◌, ◌^◌, ◌<◌, ◌≤◌, List, [], ◌∷◌, ◌++◌, length, map, drop, take, replicate, sum, sum_by, count_by, Result, Ok, Err}
+use Rattle.std.specs.List.{AllByRecursion, range_with_len}
 use Rattle.std.specs.Io.KnownBytes.{Keeps}
 use Rattle.us_slots.specs.Devices.{AppendsFront}
-use Rattle.us_flows.specs.Tables.{Tables}
+use Rattle.us_flows.specs.Tables.{Tables, max_run_ticks}
 use Rattle.us_flows.specs.Clusters.{clusters_of}
+use Rattle.us_flows.specs.Lawful.{AreTables}
 use Rattle.us_requests.specs.declared.asks.Ask.{Ask}
 use Rattle.us_requests.specs.declared.asks.Counts.{Counts}
 use Rattle.us_requests.specs.Cuts.{cut_of}
-use Rattle.us_requests.specs.Traces.{TraceAsks, asks_in}
+use Rattle.us_requests.specs.Traces.{TraceAsks, asks_in, asked_before, max_asked}
+use Rattle.us_round.specs.Rounds.{State, Step, opening, round_of, schedule, final}
+use Rattle.us_round.specs.Outputs.{RoundOut, AreWithinLimits, final_rows, out_of}
 use Rattle.us_replay.specs.declared.summaries.Summary.{Summary}
 use Rattle.us_replay.specs.declared.faults.RunFault.{RunFault}
 use Rattle.us_replay.specs.declared.faults.RunFault.TheVariants as fault
-use Rattle.us_replay.specs.Rounds.{State, Step, round_of}
-use Rattle.us_replay.specs.Outputs.{Given, given_by, records, round_lines, lines, final_rows, counts_row}
-use Rattle.us_replay.specs.Replays.{Growth, Took, is_granted, is_missed}
+use Rattle.us_replay.specs.Files.{records, round_lines, lines, counts_row}
+use Rattle.us_replay.specs.Replays.{Growth, Output, Took, Ran, KeptLimits, all_rows, is_granted, is_missed, output_of, rounds_done}
 
--- Cuts.
+-- Traces.
 
 -- the cuts of all rounds of a trace that was read: what its asks add up to
 unfoldable pub cuts_in : Tables → TraceAsks → List (List ℕ)
 cuts_in t v = map (λ round. cut_of (length (clusters_of t)) (asks_in v round)) (range_with_len 0 v.rounds)
 
+-- and what they come to
+abbrev pub output_in : Tables → TraceAsks → Output
+output_in t v = output_of t (cuts_in t v) v.counts
+
+-- the run of a trace that was read
+abbrev pub RanTrace : Tables → TraceAsks → Growth → Growth → Result Summary RunFault → Type 0
+RanTrace t v to_maps to_report result =
+    Ran (output_in t v) v.counts to_maps to_report result × KeptLimits t (cuts_in t v) (rounds_done result)
+
 -- Progress.
 
 pub record Progress : Type 0 where
-  pub state : State
-  -- of how many clusters the buffer for cuts has room
-  pub clusters : ℕ
+  -- what each cluster newly asks for
+  pub cut : List ℕ
   -- the texts that are to be written next
   pub to_maps : List ℕ
   pub to_report : List ℕ
@@ -36,31 +46,46 @@ pub record Progress : Type 0 where
   pub granted : ℕ
   pub missed : ℕ
 
+-- before round 0 of so many clusters
+abbrev pub opening_progress : ℕ → Progress
+opening_progress clusters =
+    record { cut = replicate clusters 0; to_maps = []; to_report = []; granted = 0; missed = 0 }
+
 -- the most lines of a round: of 16 channels with 100 assignments each
 abbrev pub max_rows : ℕ
 max_rows = 1600
 
--- one more round was made, of these asks
-unfoldable pub after_round : Tables → Progress → List Ask → Progress
-after_round t p asks =
-    let step : Step = round_of t p.state (cut_of p.clusters asks) in
-    let given : Given = given_by t step.out in
-    record {
-      state = step.state;
-      clusters = p.clusters;
-      to_maps = records given;
-      to_report = round_lines given;
-      granted = p.granted + count_by is_granted given.rows;
-      missed = p.missed + count_by is_missed given.rows;
-    }
+-- there is room to count the lines of one more round
+pub record HasRoom (p : Progress) : Type 0 where
+  pub granted : p.granted + max_rows < 2 ^ 64
+  pub missed : p.missed + max_rows < 2 ^ 64
 
--- all rounds were made, and then the end of the report
-unfoldable pub after_last : Tables → Progress → Counts → Progress
-after_last t p counts = record {
-  state = p.state;
-  clusters = p.clusters;
+-- the asks of the next round were added up
+abbrev pub with_asks : Progress → List Ask → Progress
+with_asks p asks = record {
+  cut = cut_of (length p.cut) asks;
+  to_maps = p.to_maps;
+  to_report = p.to_report;
+  granted = p.granted;
+  missed = p.missed;
+}
+
+-- the texts of a round were made
+unfoldable pub with_round : Progress → RoundOut → Progress
+with_round p out = record {
+  cut = p.cut;
+  to_maps = records out;
+  to_report = round_lines out;
+  granted = p.granted + count_by is_granted out.rows;
+  missed = p.missed + count_by is_missed out.rows;
+}
+
+-- the end of the report was made, of the state after all rounds
+unfoldable pub with_last : Progress → State → Counts → Progress
+with_last p state counts = record {
+  cut = p.cut;
   to_maps = [];
-  to_report = lines (final_rows t p.state ++ counts_row counts ∷ []);
+  to_report = lines (final_rows state ++ counts_row counts ∷ []);
   granted = p.granted;
   missed = p.missed;
 }
@@ -75,6 +100,49 @@ summary_after p rounds counts = record {
   not_requestable = counts.not_requestable;
   late = counts.late;
 }
+
+-- Rounds.
+
+-- a round can be made of a state and these asks
+pub record CanMake (state : State) (p : Progress) (asks : List Ask) : Type 0 where
+  pub lawful : AreTables state.tables
+  pub clusters : length p.cut ≡ length (clusters_of state.tables)
+  pub known : AllByRecursion (λ ask. ask.cluster < length p.cut) asks
+  pub asked : sum state.outstanding + sum_by (λ ask. ask.bytes) asks ≤ max_asked
+  pub time : (state.round + 1) * state.tables.round_ticks ≤ max_run_ticks
+  pub room : HasRoom p
+
+-- the round of a state and these asks
+abbrev pub step_of : State → Progress → List Ask → Step
+step_of state p asks = round_of state (cut_of (length p.cut) asks)
+
+abbrev pub out_after : State → Progress → List Ask → RoundOut
+out_after state p asks = out_of state.tables (step_of state p asks).scheduled
+
+-- it was made
+pub record IsMade (state : State) (p : Progress) (asks : List Ask) (next : State) (after : Progress) : Type 0 where
+  pub state_is : next ≡ (step_of state p asks).state
+  pub progress_is : after ≡ with_round (with_asks p asks) (out_after state p asks)
+  pub limits : AreWithinLimits state.tables (step_of state p asks).scheduled
+  pub few : length (out_after state p asks).rows ≤ max_rows
+
+-- how a replay stands after k rounds
+pub record Along (t : Tables) (v : TraceAsks) (k : ℕ) (state : State) (p : Progress) : Type 0 where
+  pub within : k ≤ v.rounds
+  pub lawful : AreTables t
+  pub tables : state.tables ≡ t
+  pub round : state.round ≡ k
+  pub clusters : length p.cut ≡ length (clusters_of t)
+  pub asked : sum state.outstanding ≤ asked_before v k
+  -- what is still to be scheduled
+  pub rest : schedule state (drop k (cuts_in t v)) ≡ drop k (schedule (opening t) (cuts_in t v))
+  pub ends : final state (drop k (cuts_in t v)) ≡ final (opening t) (cuts_in t v)
+  -- the lines so far
+  pub granted : p.granted ≡ count_by is_granted (all_rows (take k (output_in t v).given))
+  pub missed : p.missed ≡ count_by is_missed (all_rows (take k (output_in t v).given))
+  pub few_granted : p.granted ≤ max_rows * k
+  pub few_missed : p.missed ≤ max_rows * k
+  pub limits : KeptLimits t (cuts_in t v) k
 
 -- Writing.
 

@@ -1,6 +1,6 @@
 -- Replays (ours): what a run writes, and what stands after it ended early.
 use Rattle.std.specs.Prelude.{◌≡◌, ℕ, ◌≤◌, List, [], ◌∷◌, ◌++◌, length, map, flat_map, count_by, take, Bool, true, false, Option, None, Result, Ok, Err}
-use Rattle.std.specs.List.{range_with_len}
+use Rattle.std.specs.List.{AllByRecursion, range_with_len}
 use Rattle.std.specs.Io.KnownBytes.{Appends}
 use Rattle.us_flows.specs.Tables.{Tables, rounds_fit}
 use Rattle.us_requests.specs.declared.asks.Counts.{Counts}
@@ -8,14 +8,15 @@ use Rattle.us_requests.specs.Asks.{Request, counts_of}
 use Rattle.us_requests.specs.Cuts.{cut_at}
 use Rattle.us_requests.specs.Rows.{trace_fault, requests_of}
 use Rattle.us_requests.specs.Readings.{IsTextOf, Reads}
-use Rattle.us_replay.specs.declared.lines.Row.{Row}
-use Rattle.us_replay.specs.declared.lines.Row.TheVariants as rows
+use Rattle.us_round.specs.Served.{is_served}
+use Rattle.us_round.specs.Rounds.{opening, schedule, final}
+use Rattle.us_round.specs.Outputs.{RoundOut, AreWithinLimits, final_rows, out_of}
+use Rattle.us_round.specs.declared.rows.Row.{Row}
+use Rattle.us_round.specs.declared.rows.Row.TheVariants as rows
 use Rattle.us_replay.specs.declared.summaries.Summary.{Summary}
 use Rattle.us_replay.specs.declared.faults.RunFault.{RunFault}
 use Rattle.us_replay.specs.declared.faults.RunFault.TheVariants as fault
-use Rattle.us_replay.specs.Served.{is_served}
-use Rattle.us_replay.specs.Rounds.{opening, schedule, final}
-use Rattle.us_replay.specs.Outputs.{Given, given_by, records, round_lines, lines, final_rows, counts_row}
+use Rattle.us_replay.specs.Files.{records, round_lines, lines, counts_row}
 
 -- What a run gives.
 
@@ -25,14 +26,14 @@ cuts_of t rounds requests = map (cut_at t rounds requests) (range_with_len 0 rou
 
 -- what each round gives, and the lines at the end of the report
 pub record Output : Type 0 where
-  pub given : List Given
+  pub given : List RoundOut
   pub last : List Row
 
 -- the output of the schedule of these cuts, from the opening on
 unfoldable pub output_of : Tables → List (List ℕ) → Counts → Output
 output_of t cuts counts = record {
-  given = map (given_by t) (schedule t (opening t) cuts);
-  last = final_rows t (final t (opening t) cuts) ++ counts_row counts ∷ [];
+  given = map (out_of t) (schedule (opening t) cuts);
+  last = final_rows (final (opening t) cuts) ++ counts_row counts ∷ [];
 }
 
 -- the maps file
@@ -57,15 +58,15 @@ is_missed (rows.Final flow cluster outstanding units) = false
 is_missed (rows.Counts unknown not_requestable late) = false
 
 -- the lines of all rounds
-abbrev pub rows_of : List Given → List Row
-rows_of given = flat_map (λ one. one.rows) given
+abbrev pub all_rows : List RoundOut → List Row
+all_rows given = flat_map (λ out. out.rows) given
 
 -- what a run did
 unfoldable pub summary_of : Output → Counts → Summary
 summary_of out counts = record {
   rounds = length out.given;
-  granted = count_by is_granted (rows_of out.given);
-  missed = count_by is_missed (rows_of out.given);
+  granted = count_by is_granted (all_rows out.given);
+  missed = count_by is_missed (all_rows out.given);
   unknown = counts.unknown;
   not_requestable = counts.not_requestable;
   late = counts.late;
@@ -85,7 +86,7 @@ Took g bytes = Appends g.before g.after bytes
 -- Runs that end early.
 
 -- `taken` bytes of a file have the parts of its first `done` rounds
-abbrev pub Holds : (Given → List ℕ) → List Given → ℕ → ℕ → Type 0
+abbrev pub Holds : (RoundOut → List ℕ) → List RoundOut → ℕ → ℕ → Type 0
 Holds part given done taken = length (flat_map part (take done given)) ≤ taken
 
 -- each writer took the beginning of its text, both have the first `done` rounds, and no greater number
@@ -120,6 +121,22 @@ Ran out counts to_maps to_report (Err fault.Rounds) = ⊥
 Ran out counts to_maps to_report (Err (fault.Trace reason)) = ⊥
 Ran out counts to_maps to_report (Err fault.NotServed) = ⊥
 
+-- Limits.
+
+-- how many rounds are done, by an answer
+abbrev pub rounds_done : Result Summary RunFault → ℕ
+rounds_done (Ok summary) = summary.rounds
+rounds_done (Err (fault.WriteMaps done)) = done
+rounds_done (Err (fault.WriteReport done)) = done
+rounds_done (Err (fault.NoMemory done)) = done
+rounds_done (Err fault.Rounds) = 0
+rounds_done (Err (fault.Trace reason)) = 0
+rounds_done (Err fault.NotServed) = 0
+
+-- no MAP of the first `done` rounds passes a limit of MAPs
+unfoldable pub KeptLimits : Tables → List (List ℕ) → ℕ → Type 0
+KeptLimits t cuts done = AllByRecursion (AreWithinLimits t) (take done (schedule (opening t) cuts))
+
 -- Whole runs.
 
 -- the output for the requests that the text of a trace tells
@@ -131,6 +148,7 @@ abbrev pub RanText : Tables → ℕ → Option (List ℕ) → Growth → Growth 
 RanText t rounds told to_maps to_report result =
     (text : List ℕ) × IsTextOf told text × (trace_fault text ≡ None)
     × Ran (output_for t rounds text) (counts_of t rounds (requests_of text)) to_maps to_report result
+    × KeptLimits t (cuts_of t rounds (requests_of text)) (rounds_done result)
 
 abbrev pub TookNothing : Growth → Growth → Type 0
 TookNothing to_maps to_report = Took to_maps [] × Took to_report []

@@ -16,9 +16,8 @@ pub enum RunFault {
     WriteReport(u32),
     /// RU6: want of memory, after so many rounds were done as in RU4.
     NoMemory(u32),
-    /// RU7: a configuration that is not served yet: with a station, with more than one flow, or with a flow of another
-    /// type than 2 (best effort), of more than one channel or SID cluster, or with a rate above 0. This is looked at
-    /// before RU1; nothing was read or written.
+    /// RU7: a configuration that is not served yet: with a station, or with a flow of another type than 2 (best effort).
+    /// This is looked at before RU1; nothing was read or written.
     NotServed,
 }
 

@@ -11,27 +11,6 @@
 //! What these bytes are stands in `specs/`, in the order of its `Lib.antt`.
 #![tactic(auto)]
 
-// Who holds each minislot of a MAP.
-mod boards;
-
-// The reserves of a round.
-mod reserving;
-
-// Who may ask.
-mod seats;
-
-// How many bytes are planned.
-mod planning;
-
-// Where they are granted.
-mod placing;
-
-// From a board to a MAP.
-mod mapping;
-
-// The round, and the state between two rounds.
-mod rounds;
-
 // The lines of the report.
 mod lines;
 
@@ -40,9 +19,6 @@ mod texts;
 
 // What the trace asks of a round.
 mod cuts;
-
-// Which configurations are served so far.
-mod served;
 
 // Every refusal, in order.
 mod faults;
@@ -54,10 +30,9 @@ mod summaries;
 mod replays;
 
 pub use faults::RunFault;
-pub use lines::{Entry, Row};
 pub use replays::replay;
-pub use served::is_served;
 pub use summaries::Summary;
+pub use us_round::{Entry, Row, is_served};
 
 #[cfg(test)]
 mod tests;

@@ -1,23 +1,22 @@
-ghost use Rattle.std.specs.Prelude.{◌≡◌, ◌↔◌, ◌⊎◌, ℕ, ◌<◌, true, false, length};
+ghost use Rattle.std.specs.Prelude.{◌≡◌, ◌↔◌, ◌⊎◌, ℕ, ◌<◌, true, false, length, IfOk};
 ghost use Rattle.std.specs.List.{AllByRecursion};
-ghost use Rattle.us_flows.specs.Tables.{rounds_fit};
+ghost use Rattle.us_flows.specs.Tables;
 ghost use Rattle.us_flows.specs.Clusters.{clusters_of};
-ghost use Rattle.us_flows.specs.Lawful.{AreTables};
 ghost use Rattle.us_requests.specs.Traces.{asks_in};
-ghost use Rattle.us_replay.specs.Served.{is_served};
-ghost use Rattle.us_replay.specs.Rounds.{opening};
-ghost use Rattle.us_replay.specs.Replays.{Growth, Output, Ran, Replayed, output_of, comes_before, blames_maps, blames_report};
-ghost use Rattle.us_replay.specs.Progress.{cuts_in};
+ghost use Rattle.us_round.specs.Served.{is_served};
+ghost use Rattle.us_round.specs.Rounds.{opening};
+ghost use Rattle.us_replay.specs.Replays.{Growth, Replayed, comes_before, blames_maps, blames_report};
+ghost use Rattle.us_replay.specs.Progress.{Along, CanMake, IsMade, RanTrace};
 
 use crate::faults::RunFault;
-use crate::served::is_served;
 use crate::summaries::Summary;
 use progress::Progress;
 use sending::{flush, send};
 use std::alloc::Global;
 use us_flows::Config;
-use us_requests::{Trace, TraceFault};
-use us_slots::{Sink, Source};
+use us_requests::{Ask, Trace, TraceFault};
+use us_round::{State, is_served, round};
+use us_slots::{NoMemory, Sink, Source};
 
 mod progress;
 mod sending;
@@ -45,7 +44,7 @@ pub fn replay<R: Source, W1: Sink, W2: Sink>(
         Replayed config.now rounds (R.remaining trace.old) to_maps to_report result }
     ensures served { (result ≡ Err RunFault.NotServed) ↔ (is_served config.now ≡ false) }
     ensures rounds { (result ≡ Err RunFault.Rounds) ↔
-        ((is_served config.now ≡ true) × (rounds_fit config.now rounds ≡ false)) }
+        ((is_served config.now ≡ true) × (Tables.rounds_fit config.now rounds ≡ false)) }
     ensures nothing_read { ((result ≡ Err RunFault.NotServed) ⊎ (result ≡ Err RunFault.Rounds)) →
         trace.new ≡ trace.old }
     ensures nothing_written { comes_before result ≡ true → (maps.new ≡ maps.old) × (report.new ≡ report.old) }
@@ -72,60 +71,70 @@ fn run<W1: Sink, W2: Sink>(
     report: &mut W2,
 ) -> Result<Summary, RunFault>
     requires served { is_served config.now ≡ true }
-    requires fits { rounds_fit config.now trace.now.rounds ≡ true }
+    requires fits { Tables.rounds_fit config.now trace.now.rounds ≡ true }
     requires known { (round : ℕ) →
         AllByRecursion (λ ask. ask.cluster < length (clusters_of config.now)) (asks_in trace.now round) }
     requires maps_ready { W1.failed maps.old ≡ false }
     requires report_ready { W2.failed report.old ≡ false }
-    ensures ran { let out : Output = output_of config.now (cuts_in config.now trace.now) trace.now.counts in
-        let to_maps : Growth = record { before = W1.contents maps.old; after = W1.contents maps.new } in
+    ensures ran { let to_maps : Growth = record { before = W1.contents maps.old; after = W1.contents maps.new } in
         let to_report : Growth = record { before = W2.contents report.old; after = W2.contents report.new } in
-        Ran out trace.now.counts to_maps to_report result }
+        RanTrace config.now trace.now to_maps to_report result }
     ensures maps_failed { W1.failed maps.new ≡ blames_maps result }
     ensures report_failed { W2.failed report.new ≡ blames_report result }
 {
-    let Ok(mut progress) = Progress::opening(alloc, config) else {
+    let Ok(mut progress) = Progress::opening(alloc, config.clusters()) else {
         return Err(RunFault::NoMemory(0));
     };
-    run_on(alloc, config, trace, &mut progress, maps, report)
+    let Ok(state) = opened(alloc, config) else {
+        return Err(RunFault::NoMemory(0));
+    };
+    run_on(alloc, trace, state, &mut progress, maps, report)
+}
+
+/// The state before round 0, of a copy of the configuration.
+fn opened(alloc: Global, config: &Config) -> Result<State, NoMemory>
+    requires { is_served config.now ≡ true }
+    ensures { IfOk result (λ state. state ≡ opening config.now) }
+{
+    let copy = config.copy(alloc)?;
+    match State::new(alloc, copy) {
+        Ok(state) => Ok(state),
+        Err(_) => Err(NoMemory),
+    }
 }
 
 /// Replays a trace from before round 0 on. That the progress stands with the caller spares each way out of here to give
 /// it up.
 fn run_on<W1: Sink, W2: Sink>(
     alloc: Global,
-    config: &Config,
     trace: &Trace,
+    state: State,
     progress: &mut Progress,
     maps: &mut W1,
     report: &mut W2,
 ) -> Result<Summary, RunFault>
-    requires lawful { AreTables config.now }
-    requires served { is_served config.now ≡ true }
-    requires fits { rounds_fit config.now trace.now.rounds ≡ true }
+    requires fits { Tables.rounds_fit state.tables trace.now.rounds ≡ true }
     requires known { (round : ℕ) →
-        AllByRecursion (λ ask. ask.cluster < length (clusters_of config.now)) (asks_in trace.now round) }
-    requires state { progress.old.state ≡ opening config.now }
-    requires clusters { progress.old.clusters ≡ length (clusters_of config.now) }
-    requires granted { progress.old.granted ≡ 0 }
-    requires missed { progress.old.missed ≡ 0 }
+        AllByRecursion (λ ask. ask.cluster < length (clusters_of state.tables)) (asks_in trace.now round) }
+    requires along { Along state.tables trace.now 0 state progress.old }
     requires maps_ready { W1.failed maps.old ≡ false }
     requires report_ready { W2.failed report.old ≡ false }
-    ensures ran { let out : Output = output_of config.now (cuts_in config.now trace.now) trace.now.counts in
-        let to_maps : Growth = record { before = W1.contents maps.old; after = W1.contents maps.new } in
+    ensures ran { let to_maps : Growth = record { before = W1.contents maps.old; after = W1.contents maps.new } in
         let to_report : Growth = record { before = W2.contents report.old; after = W2.contents report.new } in
-        Ran out trace.now.counts to_maps to_report result }
+        RanTrace state.tables trace.now to_maps to_report result }
     ensures maps_failed { W1.failed maps.new ≡ blames_maps result }
     ensures report_failed { W2.failed report.new ≡ blames_report result }
 {
+    let mut state = state;
     let rounds = trace.rounds();
     for done in 0..rounds {
-        let Ok(()) = progress.make_round(alloc, config, trace.asks(done)) else {
+        let Ok(next) = make_round(alloc, state, progress, trace.asks(done)) else {
             return Err(RunFault::NoMemory(done));
         };
+        state = next;
         send(progress.to_maps(), progress.to_report(), done, maps, report)?;
     }
-    let Ok(()) = progress.make_last(alloc, config, trace.counts()) else {
+    let Ok(()) = progress.take_last(alloc, &state, trace.counts()) else {
         return Err(RunFault::NoMemory(rounds));
     };
     send(
@@ -137,4 +146,22 @@ fn run_on<W1: Sink, W2: Sink>(
     )?;
     flush(rounds, maps, report)?;
     Ok(progress.summary(rounds, trace.counts()))
+}
+
+/// Makes the round of a state and these asks, and its texts. After want of memory nothing is said of `progress`.
+fn make_round(
+    alloc: Global,
+    state: State,
+    progress: &mut Progress,
+    asks: &[Ask],
+) -> Result<State, NoMemory>
+    requires { CanMake state progress.old asks.now }
+    ensures { IfOk result (λ next. IsMade state progress.old asks.now next progress.new) }
+{
+    progress.take_asks(asks);
+    let Ok((next, out)) = round(alloc, state, progress.cut()) else {
+        return Err(NoMemory);
+    };
+    progress.take_round(&out)?;
+    Ok(next)
 }

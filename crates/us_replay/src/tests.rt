@@ -1,7 +1,6 @@
-//! What no clause says: replays over devices of every kind, to the byte, and the searches on boards beside plain ones.
+//! What no clause says: replays over devices of every kind, to the byte, and the texts of lines and faults.
 
 mod base;
-mod boards;
 mod devices;
 mod lines;
 mod replays;

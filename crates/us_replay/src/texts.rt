@@ -1,19 +1,19 @@
 ghost use Rattle.std.specs.Prelude.{◌≡◌, ◌^◌, ◌<◌, ◌++◌, length, OnOk};
 ghost use Rattle.us_codec.specs.Bodies.{spelling};
 ghost use Rattle.us_codec.specs.MapsFiles.{Piece, record_bytes};
-ghost use Rattle.us_replay.specs.Outputs.{records, lines};
+ghost use Rattle.us_replay.specs.Files.{records, lines};
 
-use crate::lines::{Row, push_line};
-use crate::rounds::Given;
+use crate::lines::push_line;
 use us_codec::{MAX_BODY_BYTES, Map, encode_into};
+use us_round::{RoundOut, Row};
 use us_slots::NoMemory;
 
 /// Adds the records of a round: one for each MAP, in table order.
-pub(crate) fn push_records(text: &mut Vec<u8>, given: &Given) -> Result<(), NoMemory>
-    ensures { OnOk result (text.new.items ≡ text.old.items ++ records given.now) }
+pub(crate) fn push_records(text: &mut Vec<u8>, out: &RoundOut) -> Result<(), NoMemory>
+    ensures { OnOk result (text.new.items ≡ text.old.items ++ records out.now) }
 {
-    for map in given.maps() {
-        push_map(text, given.round(), map)?;
+    for map in out.maps() {
+        push_map(text, out.round(), map)?;
     }
     Ok(())
 }
@@ -44,7 +44,7 @@ fn push_record(text: &mut Vec<u8>, round: u32, body: &[u8]) -> Result<(), NoMemo
 }
 
 /// Adds the lines of some rows.
-#[tactic(auto, unfolding(crate::specs::Outputs::lines))]
+#[tactic(auto, unfolding(crate::specs::Files::lines))]
 pub(crate) fn push_lines(text: &mut Vec<u8>, rows: &[Row]) -> Result<(), NoMemory>
     ensures { OnOk result (text.new.items ≡ text.old.items ++ lines rows.now) }
 {

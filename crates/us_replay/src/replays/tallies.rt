@@ -1,7 +1,7 @@
 ghost use Rattle.std.specs.Prelude.{◌≡◌, ◌+◌, ◌^◌, ◌<◌, length, count_by};
 ghost use Rattle.us_replay.specs.Replays.{is_granted, is_missed};
 
-use crate::lines::Row;
+use us_round::Row;
 
 /// How many lines of the report are of grants, and how many of missed occurrences.
 #[derive(Clone, Copy)]

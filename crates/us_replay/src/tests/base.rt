@@ -1,4 +1,5 @@
 use std::alloc::Global;
+use std::fmt::Debug;
 use std::process::Abort;
 use us_flows::{Config, ConfigFault};
 
@@ -51,7 +52,8 @@ pub(super) fn base(alloc: Global) -> Result<Config, ConfigFault> {
     Config::read(alloc, BASE.as_bytes())
 }
 
-/// Asserts that two texts are one. The tests' only assertion on texts: each place of one is proved anew.
-pub(super) fn same(rt: &impl Abort, found: &str, wanted: &str) {
-    assert_eq!(rt; found, wanted);
+/// The one assertion of these tests, since each costs the proof of the function that it stands in. `place` says where
+/// in a test.
+pub(super) fn same<T: PartialEq + Debug>(rt: &impl Abort, found: &T, wanted: &T, place: &str) {
+    assert_eq!(rt; *found, *wanted, "{place}");
 }

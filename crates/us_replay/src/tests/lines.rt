@@ -2,11 +2,10 @@ use super::base::same;
 use crate::lines::push_line;
 use crate::texts::push_lines;
 use crate::{Entry, Row, RunFault};
-use std::alloc::{AllocError, Global};
-use std::fmt::Write;
-use std::str;
-use std::test::Fail;
+use std::alloc::Global;
+use std::fmt::{self, Write};
 use us_requests::TraceFault;
+use us_slots::NoMemory;
 
 /// A line of each kind.
 const ROWS: [Row; 5] = [
@@ -71,8 +70,10 @@ M,9,2,station,3,4,5
 M,9,2,req,3,4,5
 ";
 
-/// Adds a line of a missed occurrence for each entry.
-fn push_words(text: &mut Vec<u8>) -> Result<(), AllocError> {
+/// A line of each kind, and one of a missed occurrence for each entry.
+fn text_of_rows(alloc: Global) -> Result<Vec<u8>, NoMemory> {
+    let mut text = Vec::new(alloc);
+    push_lines(&mut text, &ROWS)?;
     for entry in &ENTRIES {
         let row = Row::Missed {
             round: 9,
@@ -82,18 +83,17 @@ fn push_words(text: &mut Vec<u8>) -> Result<(), AllocError> {
             i: 4,
             k: 5,
         };
-        push_line(text, &row)?;
+        push_line(&mut text, &row)?;
     }
-    Ok(())
+    Ok(text)
 }
 
 #[test]
-fn a_line_of_each_kind_and_word(rt: HostRuntime) -> Result<(), Fail> {
-    let mut text = Vec::new(rt.alloc());
-    push_lines(&mut text, &ROWS).map_err(|_| "memory")?;
-    push_words(&mut text)?;
-    same(&rt, str::from_utf8(&text)?, LINES);
-    Ok(())
+fn a_line_of_each_kind_and_word(rt: HostRuntime) {
+    match text_of_rows(rt.alloc()) {
+        Ok(text) => same(&rt, &text.as_slice(), &LINES.as_bytes(), "lines"),
+        Err(_) => same(&rt, &"no memory", &"lines", "lines"),
+    }
 }
 
 const FAULTS: [RunFault; 6] = [
@@ -115,7 +115,7 @@ RU7: the configuration is not served yet
 ";
 
 /// The texts of all these faults, one a line.
-fn texts(alloc: Global) -> Result<String, Fail> {
+fn text_of_faults(alloc: Global) -> Result<String, fmt::Error> {
     let mut text = String::new(alloc);
     for fault in &FAULTS {
         writeln!(text, "{fault}")?;
@@ -124,8 +124,9 @@ fn texts(alloc: Global) -> Result<String, Fail> {
 }
 
 #[test]
-fn texts_of_run_faults(rt: HostRuntime) -> Result<(), Fail> {
-    let text = texts(rt.alloc())?;
-    same(&rt, text.as_str(), TEXTS);
-    Ok(())
+fn texts_of_run_faults(rt: HostRuntime) {
+    match text_of_faults(rt.alloc()) {
+        Ok(text) => same(&rt, &text.as_str(), &TEXTS, "faults"),
+        Err(_) => same(&rt, &"no memory", &"faults", "faults"),
+    }
 }

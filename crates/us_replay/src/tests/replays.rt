@@ -3,7 +3,6 @@ use super::devices::{FakeReader, FakeWriter, reader, short_writer, stuck_writer,
 use crate::{RunFault, Summary, replay};
 use std::alloc::Global;
 use std::process::Abort;
-use std::test::Fail;
 use us_flows::Config;
 use us_requests::TraceFault;
 use us_slots::{FromRead, FromWrite, Sink, Source};
@@ -20,7 +19,13 @@ const STORED: Summary = Summary {
 
 /// What a writer did: whether it is marked as failed, how many bytes it took, whether they are those that are wanted,
 /// how often it was called without room, and how often it was flushed.
-fn deeds(writer: FromWrite<FakeWriter>) -> (bool, usize, bool, usize, usize) {
+type Deeds = (bool, usize, bool, usize, usize);
+
+/// The answer of a replay, whether the trace is marked as failed and how often it was called at its end, and what the
+/// writers did.
+type Outcome = (Result<Summary, RunFault>, (bool, usize), Deeds, Deeds);
+
+fn deeds(writer: FromWrite<FakeWriter>) -> Deeds {
     let failed = writer.has_failed();
     let inner = writer.into_inner();
     (
@@ -32,119 +37,107 @@ fn deeds(writer: FromWrite<FakeWriter>) -> (bool, usize, bool, usize, usize) {
     )
 }
 
-/// A replay of 2 rounds on these devices, as a line: its answer, whether the trace is marked as failed and how often it
-/// was called at its end, and what the writers did.
+/// A replay of 2 rounds on these devices.
 fn outcome(
     alloc: Global,
     config: &Config,
     trace: FakeReader<'_>,
     maps: FakeWriter,
     report: FakeWriter,
-) -> Result<String, Fail> {
+) -> Outcome {
     let mut trace = FromRead::new(trace);
     let mut maps = FromWrite::new(maps);
     let mut report = FromWrite::new(report);
     let answer = replay(alloc, config, &mut trace, 2, &mut maps, &mut report);
     let failed = trace.has_failed();
-    let ends = trace.into_inner().ends;
-    let (maps, report) = (deeds(maps), deeds(report));
-    Ok(format!(in alloc; "{answer:?} trace {failed} {ends} maps {maps:?} report {report:?}")?)
+    (
+        answer,
+        (failed, trace.into_inner().ends),
+        deeds(maps),
+        deeds(report),
+    )
 }
 
-/// Compares what a replay of the base configuration on these devices comes to with a line.
+/// Compares what a replay of the base configuration on these devices comes to with an outcome.
 fn expect(
     rt: &impl Abort,
     alloc: Global,
     trace: FakeReader<'_>,
     maps: FakeWriter,
     report: FakeWriter,
-    line: &str,
-) -> Result<(), Fail> {
-    let config = base(alloc)?;
-    let found = outcome(alloc, &config, trace, maps, report)?;
-    same(rt, found.as_str(), line);
-    Ok(())
+    wanted: Outcome,
+) {
+    let found = match base(alloc) {
+        Ok(config) => Some(outcome(alloc, &config, trace, maps, report)),
+        Err(_) => None,
+    };
+    same(rt, &found, &Some(wanted), "outcome");
 }
 
 #[test]
-fn stored_run_in_pieces_of_every_size(rt: HostRuntime) -> Result<(), Fail> {
-    let line =
-        "Ok(Summary { rounds: 2, granted: 1, missed: 0, unknown: 0, not_requestable: 0, late: 0 }) \
-        trace false 1 maps (false, 72, true, 0, 1) report (false, 51, true, 0, 1)";
+fn stored_run_in_pieces_of_every_size(rt: HostRuntime) {
+    let (to_maps, to_report) = ((false, 72, true, 0, 1), (false, 51, true, 0, 1));
     for piece in [1, 2, 7, 34, 1_000] {
         let (maps, report) = (writer(MAPS, piece), writer(REPORT, piece));
-        expect(&rt, rt.alloc(), reader(TRACE, false), maps, report, line)?;
+        let wanted = (Ok(STORED), (false, 1), to_maps, to_report);
+        expect(&rt, rt.alloc(), reader(TRACE, false), maps, report, wanted);
     }
-    Ok(())
 }
 
 /// A maps file that fails at each byte, by an error or by a write that takes nothing.
 #[test]
-fn maps_file_that_fails_at_each_byte(rt: HostRuntime) -> Result<(), Fail> {
+fn maps_file_that_fails_at_each_byte(rt: HostRuntime) {
     for room in 0..MAPS.len() {
-        let done = if room < 34 { 0 } else { 1 };
-        let line = format!(in rt.alloc();
-            "Err(WriteMaps({done})) trace false 1 \
-            maps (true, {room}, true, 1, 0) report (false, 0, true, 0, 0)"
-        )?;
+        let fault = RunFault::WriteMaps(if room < 34 { 0 } else { 1 });
+        let (to_maps, to_report) = ((true, room, true, 1, 0), (false, 0, true, 0, 0));
         for fails in [true, false] {
             let (maps, report) = (short_writer(MAPS, room, fails), writer(REPORT, 100));
-            expect(
-                &rt,
-                rt.alloc(),
-                reader(TRACE, false),
-                maps,
-                report,
-                line.as_str(),
-            )?;
+            let wanted = (Err(fault), (false, 1), to_maps, to_report);
+            expect(&rt, rt.alloc(), reader(TRACE, false), maps, report, wanted);
         }
     }
-    Ok(())
 }
 
 /// Round 0 has no line, so that a full report ends the run after it. The G line, of 33 bytes, is the one of the rounds.
 #[test]
-fn report_that_fails_at_each_byte(rt: HostRuntime) -> Result<(), Fail> {
+fn report_that_fails_at_each_byte(rt: HostRuntime) {
     for room in 0..REPORT.len() {
-        let done = if room < 33 { 1 } else { 2 };
-        let line = format!(in rt.alloc();
-            "Err(WriteReport({done})) trace false 1 \
-            maps (false, 72, true, 0, 0) report (true, {room}, true, 1, 0)"
-        )?;
+        let fault = RunFault::WriteReport(if room < 33 { 1 } else { 2 });
+        let (to_maps, to_report) = ((false, 72, true, 0, 0), (true, room, true, 1, 0));
         for fails in [true, false] {
             let (maps, report) = (writer(MAPS, 100), short_writer(REPORT, room, fails));
-            expect(
-                &rt,
-                rt.alloc(),
-                reader(TRACE, false),
-                maps,
-                report,
-                line.as_str(),
-            )?;
+            let wanted = (Err(fault), (false, 1), to_maps, to_report);
+            expect(&rt, rt.alloc(), reader(TRACE, false), maps, report, wanted);
         }
     }
-    Ok(())
 }
 
 /// The maps file is flushed first, and a report behind a maps file that sticks isn't flushed.
 #[test]
-fn flushes_that_fail(rt: HostRuntime) -> Result<(), Fail> {
-    let trace = reader(TRACE, false);
-    let (maps, report) = (stuck_writer(MAPS), stuck_writer(REPORT));
-    let line =
-        "Err(WriteMaps(2)) trace false 1 maps (true, 72, true, 0, 1) report (false, 51, true, 0, 0)";
-    expect(&rt, rt.alloc(), trace, maps, report, line)?;
-    expect(&rt, rt.alloc(), trace, maps, writer(REPORT, 100), line)?;
-    let line =
-        "Err(WriteReport(2)) trace false 1 maps (false, 72, true, 0, 1) report (true, 51, true, 0, 1)";
-    expect(&rt, rt.alloc(), trace, writer(MAPS, 100), report, line)
+fn flushes_that_fail(rt: HostRuntime) {
+    let unflushed = (false, 51, true, 0, 0);
+    let stuck_maps = (true, 72, true, 0, 1);
+    for report in [stuck_writer(REPORT), writer(REPORT, 100)] {
+        let wanted = (
+            Err(RunFault::WriteMaps(2)),
+            (false, 1),
+            stuck_maps,
+            unflushed,
+        );
+        let trace = reader(TRACE, false);
+        expect(&rt, rt.alloc(), trace, stuck_writer(MAPS), report, wanted);
+    }
+    let (flushed, stuck) = ((false, 72, true, 0, 1), (true, 51, true, 0, 1));
+    let wanted = (Err(RunFault::WriteReport(2)), (false, 1), flushed, stuck);
+    let (maps, report) = (writer(MAPS, 100), stuck_writer(REPORT));
+    expect(&rt, rt.alloc(), reader(TRACE, false), maps, report, wanted);
 }
 
 /// The whole trace, and fronts of it that are none: that the trace failed comes first.
 #[test]
-fn trace_that_fails(rt: HostRuntime) -> Result<(), Fail> {
-    let line =
-        "Err(Trace(Read)) trace true 1 maps (false, 0, true, 0, 0) report (false, 0, true, 0, 0)";
+fn trace_that_fails(rt: HostRuntime) {
+    let unused = (false, 0, true, 0, 0);
+    let fault = RunFault::Trace(TraceFault::Read);
     for text in [
         TRACE,
         b"tick,channel,sid,units\n0,1,291",
@@ -152,19 +145,16 @@ fn trace_that_fails(rt: HostRuntime) -> Result<(), Fail> {
         b"",
     ] {
         let (maps, report) = (writer(MAPS, 100), writer(REPORT, 100));
-        expect(&rt, rt.alloc(), reader(text, true), maps, report, line)?;
+        let wanted = (Err(fault), (true, 1), unused, unused);
+        expect(&rt, rt.alloc(), reader(text, true), maps, report, wanted);
     }
-    Ok(())
 }
 
 /// Whether a replay answers what it may where memory is refused, and blames no device.
 fn is_right(alloc: Global, config: &Config) -> bool {
-    let mut trace = FromRead::new(reader(TRACE, false));
-    let mut maps = FromWrite::new(writer(MAPS, 100));
-    let mut report = FromWrite::new(writer(REPORT, 100));
-    let answer = replay(alloc, config, &mut trace, 2, &mut maps, &mut report);
-    let (maps, report) = (deeds(maps), deeds(report));
-    let blameless = !trace.has_failed() && !maps.0 && !report.0;
+    let (maps, report) = (writer(MAPS, 100), writer(REPORT, 100));
+    let (answer, trace, maps, report) = outcome(alloc, config, reader(TRACE, false), maps, report);
+    let blameless = !trace.0 && !maps.0 && !report.0;
     let as_wanted = maps.2 && report.2;
     let right = match answer {
         Ok(summary) => summary == STORED,
@@ -178,6 +168,6 @@ fn is_right(alloc: Global, config: &Config) -> bool {
 #[test]
 fn replay_without_memory(rt: HostRuntime) {
     if let Ok(config) = base(rt.alloc()) {
-        assert!(rt; is_right(rt.alloc(), &config));
+        same(&rt, &is_right(rt.alloc(), &config), &true, "without memory");
     }
 }

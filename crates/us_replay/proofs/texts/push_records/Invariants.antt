@@ -6,5 +6,5 @@ use Rattle.us_replay.proofs.texts.push_records.Given as goal
 -- what was added and what is left
 abbrev pub invariant-loop-map : goal.invariant-loop-map
 invariant-loop-map l =
-    l.text.items ++ flat_map (λ body. record_bytes (piece l.given.round body)) (drop l.map-index l.given.maps)
-    ≡ l.fn.text.items ++ flat_map (λ body. record_bytes (piece l.given.round body)) l.given.maps
+    l.text.items ++ flat_map (λ body. record_bytes (piece l.out.round body)) (drop l.map-index l.out.maps)
+    ≡ l.fn.text.items ++ flat_map (λ body. record_bytes (piece l.out.round body)) l.out.maps
