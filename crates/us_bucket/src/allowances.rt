@@ -10,8 +10,8 @@ use crate::events::Event;
 pub struct OverBound;
 
 /// How many bytes a flow may be granted after these events: the greatest number that, credited now, keeps the bound
-/// over every span of rounds; `None` where the rate is 0 and there is no limit. [`OverBound`] just where the credits of
-/// the events do not keep the bound themselves.
+/// over every span of rounds; `None` where the rate is 0 and there is no limit. [`OverBound`] just where there is a limit
+/// and the credits of the events do not keep the bound themselves.
 ///
 /// The `rate` is in bit/s, the `burst` in bytes, and a round has `round_ticks` ticks of 6.25 microseconds, at most
 /// [`MAX_REFILL_TICKS`].

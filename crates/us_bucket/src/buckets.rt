@@ -49,8 +49,9 @@ impl Bucket {
         requires { ticks ≤ MAX_REFILL_TICKS }
         ensures value { self.new ≡ refilled ticks self.old }
 
-        // The limit that the condition names.
+        // The limit that the condition names, and the units of a byte.
         ensures limit { MAX_REFILL_TICKS ≡ 2 ^ 26 }
+        ensures units { UNITS_PER_BYTE ≡ 1280000 }
     {
         let cap = u64::from(self.burst) * UNITS_PER_BYTE;
         let grown = self.units + u64::from(ticks) * u64::from(self.rate);

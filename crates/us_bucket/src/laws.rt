@@ -2,7 +2,8 @@
 
 ghost use Rattle.us_bucket.specs.Laws.{BucketKeepsBound, BucketIsAllowance};
 
-/// The credits whose bytes the bucket has, each when it comes, are those that keep the bound over every span of rounds.
+/// Under a limit, the credits whose bytes the bucket has, each when it comes, are those that keep the bound over every
+/// span of rounds.
 pub fn bucket_keeps_bound()
     ensures { BucketKeepsBound }
 {}

@@ -120,6 +120,9 @@ impl Board {
     pub fn len(&self) -> u32
         ensures value { result ≡ length self.now.cells }
         ensures known { IsBoard self.now }
+
+        // The limits that conditions and docs name.
+        ensures limits { (MAX_MINISLOTS ≡ 4096) × (MAX_ASSIGNMENTS ≡ 100) }
     {
         self.cells.len() as u32
     }

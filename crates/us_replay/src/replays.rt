@@ -2,6 +2,8 @@ ghost use Rattle.std.specs.Prelude.{◌≡◌, ◌↔◌, ◌⊎◌, ℕ, ◌<�
 ghost use Rattle.std.specs.List.{AllByRecursion};
 ghost use Rattle.us_flows.specs.Tables;
 ghost use Rattle.us_flows.specs.Clusters.{clusters_of};
+ghost use Rattle.us_slots.specs.Devices.{TookAtMost};
+ghost use Rattle.us_requests.specs.Readings.{max_bytes};
 ghost use Rattle.us_requests.specs.Traces.{asks_in};
 ghost use Rattle.us_round.specs.Served.{is_served};
 ghost use Rattle.us_round.specs.Rounds.{opening};
@@ -49,6 +51,8 @@ pub fn replay<R: Source, W1: Sink, W2: Sink>(
         trace.new ≡ trace.old }
     ensures nothing_written { comes_before result ≡ true → (maps.new ≡ maps.old) × (report.new ≡ report.old) }
     ensures trace_failed { (R.failed trace.new ≡ true) ↔ (result ≡ Err (RunFault.Trace TraceFault.Read)) }
+    ensures trace_taken { result ≡ Err (RunFault.Trace TraceFault.Read) →
+        TookAtMost max_bytes (R.remaining trace.old) (R.remaining trace.new) }
     ensures maps_failed { W1.failed maps.new ≡ blames_maps result }
     ensures report_failed { W2.failed report.new ≡ blames_report result }
 {

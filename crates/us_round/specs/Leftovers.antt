@@ -1,5 +1,4 @@
--- Inside the crate, and of no use to a reader of the promise: how a round tells who is pending, by the outstanding
--- bytes before and after its grants; and what its boards keep.
+-- How a round tells who is pending, by the outstanding bytes before and after its grants; and what its boards keep.
 use Rattle.std.specs.Prelude.{◌≡◌, ℕ, ◌+◌, ◌<◌, ◌≤◌, nat_lt, ◌==◌, ◌&&◌, if◌then◌else◌, List, length, slice_get, slice_index, Option, None, IfSome, option_and_then}
 use Rattle.std.specs.List.{AllByRecursion}
 use Rattle.us_flows.specs.Tables.{Tables, map_len}

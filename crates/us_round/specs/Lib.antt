@@ -20,9 +20,9 @@ pub mod PlacementExamples
 pub mod OutputExamples
 -- and whole rounds
 pub mod RoundExamples
--- inside the crate, and of no use to a reader of the promise: the claims of a plan as it is kept,
-pub mod Claims
--- who is pending, by what is outstanding before and after the grants,
-pub mod Leftovers
--- and what a state keeps
+-- what a round's grants take, and what a state keeps
 pub mod States
+-- who is pending, by what is outstanding before and after the grants; what boards keep
+pub mod Leftovers
+-- inside the crate, and of no use to a reader of the promise: the claims of a plan as it is kept
+pub mod Claims

@@ -249,16 +249,6 @@ few_pendings :
 unfolding round_steps
 few_pendings = refl
 
--- bytes in proportion to weights, and what rounding leaves over to the first that have room
-divisions :
-    (divided 501 (300 ∷ 600 ∷ 100 ∷ []) ≡ 151 ∷ 300 ∷ 50 ∷ []) ×
-    (divided 1000 (300 ∷ 600 ∷ 100 ∷ []) ≡ 300 ∷ 600 ∷ 100 ∷ []) ×
-    (divided 2000 (300 ∷ 600 ∷ 100 ∷ []) ≡ 300 ∷ 600 ∷ 100 ∷ []) ×
-    (divided 0 (300 ∷ 600 ∷ 100 ∷ []) ≡ 0 ∷ 0 ∷ 0 ∷ []) ×
-    (divided 1 (0 ∷ 2 ∷ 2 ∷ []) ≡ 0 ∷ 1 ∷ 0 ∷ [])
-unfolding round_steps
-divisions = (refl, refl, refl, refl, refl)
-
 -- two clusters of a flow over two channels, with so many minislots of contention
 abbrev bonded : ℕ → ℕ → Tables
 bonded one two =
@@ -319,68 +309,3 @@ limited_round :
     ((step limited 1 (2000 ∷ 1000 ∷ [])).scheduled.pending ≡ (1, 292) ∷ [])
 unfolding round_steps
 limited_round = (refl, refl, refl, refl, refl)
-
--- Placing.
-
-abbrev base_bursts : ChannelBursts
-base_bursts = bursts_with base_profile
-
-abbrev broadcast_request : Owner
-broadcast_request = record { sid = 16383; iuc = 1 }
-
--- 160 minislots, of which this one and that one are held
-abbrev held_at : ℕ → ℕ → Board
-held_at one other = assign (assign (empty_board 160) one 1 broadcast_request) other 1 broadcast_request
-
--- a share behind a header
-abbrev claim : ℕ → ℕ → Claim
-claim header share = record {
-  claimant = record { cluster = 0; place = 0; flow = 1; list = 0 };
-  sid = 291;
-  header = header;
-  share = share;
-}
-
--- what it is granted on a board: where, how many minislots, the IUC, and its credit
-abbrev placed : ChannelBursts → ℕ → ℕ → Board → Option (ℕ × ℕ × ℕ × ℕ)
-placed bursts header share board =
-    option_map (λ g. (g.interval.start, g.interval.slots, g.interval.owner.iuc, g.credit))
-    (grant_of bursts board (claim header share))
-
-placings :
-    -- 3,008 bytes take 95 minislots
-    (placed base_bursts 8 3000 (held_at 0 96) ≡ Some (1, 95, 10, 3000)) ×
-    -- no idle run has them, and the first of two with 79 carries 2,512 bytes
-    (placed base_bursts 8 3000 (held_at 0 80) ≡ Some (1, 79, 10, 2504)) ×
-    -- a run of 93 starts later
-    (placed base_bursts 8 3000 (held_at 0 66) ≡ Some (67, 93, 10, 2952))
-unfolding round_steps
-placings = (refl, refl, refl)
-
--- 8 idle minislots, and so many assignments
-abbrev assigned : ℕ → Board
-assigned count = record { cells = replicate 8 None; standing = count }
-
--- with 100 assignments a MAP has no room
-most_assignments :
-    (placed base_bursts 0 16 (assigned 99) ≡ Some (0, 1, 9, 16)) ×
-    (placed base_bursts 0 16 (assigned 100) ≡ None)
-unfolding round_steps
-most_assignments = (refl, refl)
-
--- minislots of 32 symbols, one of which only carries a burst without bytes
-abbrev slow_bursts : ChannelBursts
-slow_bursts = record {
-  time = record { minislot_log2 = 1; rate_log2 = 4 };
-  long = base_profile;
-  short = base_profile;
-  short_max = 10;
-  unsolicited = base_profile;
-}
-
--- an idle run is taken where it carries a byte at least
-carries_nothing :
-    (placed base_bursts 8 9 (assign (empty_board 2) 1 1 broadcast_request) ≡ Some (0, 1, 9, 8)) ×
-    (placed slow_bursts 8 9 (assign (empty_board 2) 1 1 broadcast_request) ≡ None)
-unfolding round_steps
-carries_nothing = (refl, refl)

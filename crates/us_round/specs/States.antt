@@ -1,4 +1,4 @@
--- Inside the crate, and of no use to a reader of the promise: what a state keeps, and what of it grants may take.
+-- What a state keeps, and what of it the grants of a round may take.
 use Rattle.std.specs.Prelude.{◌≡◌, ℕ, ◌<◌, ◌≤◌, true, List, length, slice_index, slice_get, Some}
 use Rattle.std.specs.List.{AllByRecursion}
 use Rattle.us_flows.specs.Clusters.{clusters_of}

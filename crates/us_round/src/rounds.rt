@@ -34,6 +34,11 @@ pub fn round(alloc: Global, state: State, cuts: &[u64]) -> Result<(State, RoundO
     ensures state { IfOk result (λ done. done.0 ≡ (spec.round_of state cuts.now).state) }
     ensures out { IfOk result (λ done. done.1 ≡ out_of state.tables (spec.round_of state cuts.now).scheduled) }
 
+    // The grants credit no cluster more than is outstanding of it, and no flow more than its bucket has; and each starts
+    // inside its MAP.
+    ensures sound { IfOk result (λ _. let begun : spec.State = spec.begun state cuts.now in
+        AreSound begun (spec.builds_of begun)) }
+
     // No MAP passes 100 assignments, 38 pendings, 240 elements or 976 bytes, so a channel has at most 100 lines.
     ensures limits { IfOk result (λ done.
         AreWithinLimits state.tables (spec.round_of state cuts.now).scheduled) }
@@ -51,6 +56,7 @@ fn run(alloc: Global, state: &mut State) -> Result<RoundOut, NoMemory>
     requires time { (state.old.round + 1) * state.old.tables.round_ticks ≤ max_run_ticks }
     ensures state { OnOk result (state.new ≡ (spec.round_from state.old).state) }
     ensures out { IfOk result (λ out. out ≡ out_of state.old.tables (spec.round_from state.old).scheduled) }
+    ensures sound { OnOk result (AreSound state.old (spec.builds_of state.old)) }
     ensures limits { OnOk result (AreWithinLimits state.old.tables (spec.round_from state.old).scheduled) }
     ensures few { IfOk result (λ out. length out.rows ≤ 100 * length state.old.tables.channels) }
 {

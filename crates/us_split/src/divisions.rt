@@ -19,6 +19,9 @@ pub fn divide(bytes: u64, weights: &[u32], shares: &mut [u32])
     ensures all { sum shares.new ≡ min bytes (sum weights.now) }
     ensures within { (channel : ℕ) → slice_index shares.new channel ≤ slice_index weights.now channel }
     ensures one_each { length shares.new ≡ length weights.now }
+
+    // The limit that the condition names.
+    ensures limit { MAX_CHANNELS ≡ 8 }
 {
     let total = sum_of(weights);
     if bytes >= total {
