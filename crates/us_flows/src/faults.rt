@@ -3,7 +3,7 @@ use std::fmt;
 use thiserror::Error;
 
 /// A kind of table of the configuration.
-#[derive(Clone, Copy, Debug, PartialEq, Eq)]
+#[derive(Clone, Copy, PartialEq, Eq)]
 pub enum TableName {
     /// The top level.
     Top,
@@ -32,8 +32,15 @@ impl fmt::Display for TableName {
     }
 }
 
+/// Writes the same word.
+impl fmt::Debug for TableName {
+    fn fmt<W: fmt::Write>(&self, f: &mut fmt::Formatter<W>) -> fmt::Result {
+        fmt::Display::fmt(self, f)
+    }
+}
+
 /// A table of the configuration.
-#[derive(Clone, Copy, Debug, PartialEq, Eq)]
+#[derive(Clone, Copy, PartialEq, Eq)]
 pub struct Place {
     /// The kind of table.
     pub table: TableName,
@@ -59,10 +66,17 @@ impl fmt::Display for Place {
     }
 }
 
+/// Writes the same.
+impl fmt::Debug for Place {
+    fn fmt<W: fmt::Write>(&self, f: &mut fmt::Formatter<W>) -> fmt::Result {
+        fmt::Display::fmt(self, f)
+    }
+}
+
 /// Why a text is no configuration. Of several faults the first is answered: C1; those of the top level, of each
 /// channel, of each flow and of each station, in this order of tables and each table's by number, but a flow's type is
 /// looked at first, and C7 before C6; C13 last, but memory may be wanting before a later check is made.
-#[derive(Clone, Copy, Debug, PartialEq, Eq, Error)]
+#[derive(Clone, Copy, PartialEq, Eq, Error)]
 pub enum ConfigFault {
     /// C1: over 4,194,304 bytes, or no TOML document.
     Text,
@@ -92,55 +106,65 @@ pub enum ConfigFault {
     NoMemory,
 }
 
-/// Writes a fault as a sentence that begins with its number and ends in its table, by one `write!` for all of them.
+impl ConfigFault {
+    /// Its number and what it says, up to the table that it names.
+    fn words(&self) -> &'static str {
+        match self {
+            ConfigFault::Text => "C1: no TOML document of at most 4194304 bytes",
+            ConfigFault::Missing(_) => "C2: a key is missing in ",
+            ConfigFault::Range(_) => "C3: a value is out of its range, or a key is unknown, in ",
+            ConfigFault::UnknownChannel(_) => "C4: no channel has an id that is named in ",
+            ConfigFault::DuplicateId(_) => "C5: an id is there twice in ",
+            ConfigFault::DuplicateSid(_) => {
+                "C6: a SID of another cluster is on the same channel in "
+            }
+            ConfigFault::ClusterLength(_) => "C7: a cluster has not one SID for each channel in ",
+            ConfigFault::RoundNotMultiple(_) => {
+                "C8: the round is no whole number of minislots of "
+            }
+            ConfigFault::ReservesTooLong(_) => "C9: the reserves pass the length of the MAPs of ",
+            ConfigFault::Jitter(_) => "C10: the jitter is not below the interval in ",
+            ConfigFault::GrantLongerThanMap(_) => {
+                "C11: a grant passes the length of the MAPs in "
+            }
+            ConfigFault::Headers(_) => "C12: segment headers are wanting on several channels in ",
+            ConfigFault::NoMemory => "C13: out of memory",
+        }
+    }
+
+    /// The table that it names.
+    fn place(&self) -> Option<Place> {
+        match self {
+            ConfigFault::Missing(place)
+            | ConfigFault::Range(place)
+            | ConfigFault::UnknownChannel(place)
+            | ConfigFault::DuplicateId(place)
+            | ConfigFault::DuplicateSid(place)
+            | ConfigFault::ClusterLength(place)
+            | ConfigFault::RoundNotMultiple(place)
+            | ConfigFault::ReservesTooLong(place)
+            | ConfigFault::Jitter(place)
+            | ConfigFault::GrantLongerThanMap(place)
+            | ConfigFault::Headers(place) => Some(*place),
+            ConfigFault::Text | ConfigFault::NoMemory => None,
+        }
+    }
+}
+
+/// Writes a fault as a sentence that begins with its number and ends in its table.
 impl fmt::Display for ConfigFault {
     fn fmt<W: fmt::Write>(&self, f: &mut fmt::Formatter<W>) -> fmt::Result {
-        let (words, place) = match self {
-            ConfigFault::Text => ("C1: no TOML document of at most 4194304 bytes", None),
-            ConfigFault::Missing(place) => ("C2: a key is missing in ", Some(place)),
-            ConfigFault::Range(place) => (
-                "C3: a value is out of its range, or a key is unknown, in ",
-                Some(place),
-            ),
-            ConfigFault::UnknownChannel(place) => (
-                "C4: no channel has an id that is named in ",
-                Some(place),
-            ),
-            ConfigFault::DuplicateId(place) => ("C5: an id is there twice in ", Some(place)),
-            ConfigFault::DuplicateSid(place) => (
-                "C6: a SID of another cluster is on the same channel in ",
-                Some(place),
-            ),
-            ConfigFault::ClusterLength(place) => (
-                "C7: a cluster has not one SID for each channel in ",
-                Some(place),
-            ),
-            ConfigFault::RoundNotMultiple(place) => (
-                "C8: the round is no whole number of minislots of ",
-                Some(place),
-            ),
-            ConfigFault::ReservesTooLong(place) => (
-                "C9: the reserves pass the length of the MAPs of ",
-                Some(place),
-            ),
-            ConfigFault::Jitter(place) => (
-                "C10: the jitter is not below the interval in ",
-                Some(place),
-            ),
-            ConfigFault::GrantLongerThanMap(place) => (
-                "C11: a grant passes the length of the MAPs in ",
-                Some(place),
-            ),
-            ConfigFault::Headers(place) => (
-                "C12: segment headers are wanting on several channels in ",
-                Some(place),
-            ),
-            ConfigFault::NoMemory => ("C13: out of memory", None),
-        };
-        match place {
-            Some(place) => write!(f, "{words}{place}"),
-            None => f.write_str(words),
+        match self.place() {
+            Some(place) => write!(f, "{}{place}", self.words()),
+            None => f.write_str(self.words()),
         }
+    }
+}
+
+/// Writes the same sentence.
+impl fmt::Debug for ConfigFault {
+    fn fmt<W: fmt::Write>(&self, f: &mut fmt::Formatter<W>) -> fmt::Result {
+        fmt::Display::fmt(self, f)
     }
 }
 

@@ -2,12 +2,10 @@
 
 // Configurations, and the driver of tables of changed ones.
 mod base;
-mod copies;
 // One of each fault; `crates/mapsim/cases/config_*.toml` have all limits, keys and orders.
 mod faults;
 mod lookups;
 mod memory;
-mod reading;
 mod sizes;
 mod texts;
 mod turns;

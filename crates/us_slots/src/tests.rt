@@ -1,9 +1,9 @@
 //! What no clause says: worked numbers, the plain programs, and devices that refuse.
 
 mod base;
+mod clones;
 mod devices;
 mod fakes;
 mod numbers;
 mod plain;
-mod ranges;
 mod transfers;

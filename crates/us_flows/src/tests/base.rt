@@ -1,4 +1,4 @@
-use super::{lookups, reading, turns};
+use super::{lookups, turns};
 use crate::{Config, ConfigFault};
 use std::alloc::Global;
 use std::test::Fail;
@@ -159,12 +159,6 @@ burst = 3044~unit = 4~headers = true~ -> ";
 pub enum Asked {
     /// `ok`, or its fault: `C1`, or `C8 channel 0` where that names a table.
     Fault,
-    /// The numbers of the top level, the channels and the stations.
-    Tables,
-    /// The flows.
-    Flows,
-    /// Which runs it allows, of a few numbers of rounds.
-    Runs,
     /// How many clusters it has, and all that SIDs ask for on some channels.
     Sids,
     /// The turns of a round.
@@ -261,9 +255,6 @@ pub fn tell(answer: &mut String, alloc: Global, asked: Asked, text: &[u8]) -> Re
 fn tell_asked(answer: &mut String, asked: Asked, config: &Config) -> Result<(), Fail> {
     match asked {
         Asked::Fault => answer.push_str("ok")?,
-        Asked::Tables => reading::tell_tables(answer, config)?,
-        Asked::Flows => reading::tell_flows(answer, config)?,
-        Asked::Runs => reading::tell_runs(answer, config)?,
         Asked::Sids => lookups::tell_sids(answer, config)?,
         Asked::Turns => turns::tell_turns(answer, config)?,
     }

@@ -3,8 +3,8 @@ use crate::{Config, ConfigFault};
 use std::alloc::Global;
 use std::test::Fail;
 
-/// No test of its own: run with `--fail-alloc`, where each allocation is refused in turn, of lists, maps and turns
-/// among them. A refused one is answered as want of memory, and never as another fault or other tables.
+/// Run by `tools/refuse-memory` too, where each allocation is refused in turn, of lists, maps and turns among them. A
+/// refused one is answered as want of memory, and never as another fault or other tables.
 #[test]
 fn refused_memory(rt: HostRuntime) -> Result<(), Fail> {
     match Config::read(rt.alloc(), big().as_bytes()) {

@@ -53,10 +53,10 @@ static FAULTS: [ConfigFault; 13] = [
     ConfigFault::NoMemory,
 ];
 
-/// Writes each fault in a line, and behind it as `Debug` does.
+/// Writes each fault in a line.
 fn write_faults(lines: &mut String) -> Result<(), AllocError> {
     for fault in &FAULTS {
-        writeln!(lines, "{fault} | {fault:?}")?;
+        writeln!(lines, "{fault}")?;
     }
     Ok(())
 }
@@ -68,19 +68,19 @@ fn faults_are_one_line(rt: HostRuntime) -> Result<(), Fail> {
     same(
         lines.as_str(),
         "\
-C1: no TOML document of at most 4194304 bytes | Text
-C2: a key is missing in top 0 | Missing(Place { table: Top, index: 0 })
-C3: a value is out of its range, or a key is unknown, in channel 0 | Range(Place { table: Channel, index: 0 })
-C4: no channel has an id that is named in flow 0 | UnknownChannel(Place { table: Flow, index: 0 })
-C5: an id is there twice in station 255 | DuplicateId(Place { table: Station, index: 255 })
-C6: a SID of another cluster is on the same channel in flow 0 | DuplicateSid(Place { table: Flow, index: 0 })
-C7: a cluster has not one SID for each channel in flow 0 | ClusterLength(Place { table: Flow, index: 0 })
-C8: the round is no whole number of minislots of channel 0 | RoundNotMultiple(Place { table: Channel, index: 0 })
-C9: the reserves pass the length of the MAPs of channel 0 | ReservesTooLong(Place { table: Channel, index: 0 })
-C10: the jitter is not below the interval in station 255 | Jitter(Place { table: Station, index: 255 })
-C11: a grant passes the length of the MAPs in station 255 | GrantLongerThanMap(Place { table: Station, index: 255 })
-C12: segment headers are wanting on several channels in flow 0 | Headers(Place { table: Flow, index: 0 })
-C13: out of memory | NoMemory
+C1: no TOML document of at most 4194304 bytes
+C2: a key is missing in top 0
+C3: a value is out of its range, or a key is unknown, in channel 0
+C4: no channel has an id that is named in flow 0
+C5: an id is there twice in station 255
+C6: a SID of another cluster is on the same channel in flow 0
+C7: a cluster has not one SID for each channel in flow 0
+C8: the round is no whole number of minislots of channel 0
+C9: the reserves pass the length of the MAPs of channel 0
+C10: the jitter is not below the interval in station 255
+C11: a grant passes the length of the MAPs in station 255
+C12: segment headers are wanting on several channels in flow 0
+C13: out of memory
 ",
     )
 }

@@ -1,8 +1,6 @@
-ghost use Rattle.std.specs.Prelude.{◌≡◌, false};
-
 use super::base::same;
-use super::fakes::{PieceReader, PieceWriter};
-use crate::{Failed, FromRead, FromWrite, ReadFault, Sink, Source, read_all, write_all};
+use super::fakes::PieceReader;
+use crate::{FromRead, ReadFault, Source, read_all};
 use std::alloc::Global;
 use std::io::{self, ErrorKind, Read};
 
@@ -75,62 +73,13 @@ fn reads(rt: HostRuntime) {
     same(&rt, &mebibyte, &(Ok(1_048_576), false), "a mebibyte");
 }
 
-/// Run with `--fail-alloc` too, where each allocation is refused in turn.
+/// Run by `tools/refuse-memory` too, where each allocation is refused in turn.
 #[test]
-fn source_without_memory(rt: HostRuntime) {
+fn refused_memory(rt: HostRuntime) {
     let (answer, failed) = read_repeated(rt.alloc(), 100_000);
     let wanted = match answer {
         Ok(_) => Ok(100_000),
         Err(_) => Err(ReadFault::NoMemory),
     };
     same(&rt, &(answer, failed), &(wanted, false), "without memory");
-}
-
-/// Writes the text, nothing, and the text again.
-fn write_twice<S: Sink>(sink: &mut S) -> Result<(), Failed>
-    requires { S.failed sink.old ≡ false }
-{
-    write_all(sink, TEXT)?;
-    write_all(sink, b"")?;
-    write_all(sink, TEXT)
-}
-
-/// That answer, whether the sink failed, and whether it holds the text twice.
-fn written_twice(alloc: Global, piece: usize) -> (Result<(), Failed>, bool, bool) {
-    let writer = PieceWriter::new(alloc, piece, 44, Some(ErrorKind::StorageFull));
-    let mut sink = FromWrite::new(writer);
-    let answer = write_twice(&mut sink);
-    let failed = sink.has_failed();
-    let twice = b"tick,channel,sid,unitstick,channel,sid,units".as_slice();
-    (answer, failed, sink.into_inner().held.as_slice() == twice)
-}
-
-/// The answer to the text where the writer has so much room, whether the sink failed, how many bytes it holds, and
-/// whether these are the front of the text.
-fn written(
-    alloc: Global,
-    piece: usize,
-    room: usize,
-    fault: Option<ErrorKind>,
-) -> (Result<(), Failed>, bool, usize, bool) {
-    let mut sink = FromWrite::new(PieceWriter::new(alloc, piece, room, fault));
-    let answer = write_all(&mut sink, TEXT);
-    let failed = sink.has_failed();
-    let held = sink.into_inner().held;
-    (answer, failed, held.len(), TEXT.starts_with(&held))
-}
-
-/// Each piece, and a fault at each place of the text, by an error or by a write that takes nothing.
-#[test]
-fn writes(rt: HostRuntime) {
-    for piece in [1, 2, 7, 22, 100] {
-        let found = written_twice(rt.alloc(), piece);
-        same(&rt, &found, &(Ok(()), false, true), "writes");
-        for room in 0..TEXT.len() {
-            for fault in [None, Some(ErrorKind::StorageFull)] {
-                let found = written(rt.alloc(), piece, room, fault);
-                same(&rt, &found, &(Err(Failed), true, room, true), "faults");
-            }
-        }
-    }
 }
