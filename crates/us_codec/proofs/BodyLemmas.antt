@@ -1,7 +1,8 @@
 -- Bytes and the body that they spell: each gives the other.
 use Rattle.std.proofs.Common.{◌≡◌, ℕ, suc, ◌+◌, ◌*◌, ◌^◌, ◌<◌, ◌≤◌, List, [], ◌∷◌, ◌++◌, length, drop, slice_index, append_assoc, Bool, true, false, cond, not, eqb, nat_lt, Result, Ok, Err, IfOk, is_some, refl, ap, sym, ◌∙◌, arith}
 use Rattle.std.specs.Int.{to_be_bytes, from_be_bytes, w32}
-use Rattle.us_codec.specs.Elements.{MapElement, null_at}
+use Rattle.std.specs.List.{AllByRecursion}
+use Rattle.us_codec.specs.Elements.{MapElement, IsMapElement, null_at}
 use Rattle.us_codec.specs.declared.heads.Head.{Head}
 use Rattle.us_codec.specs.Bodies.{max_elements, MapBody, IsMapBody, body_of, element_bytes, front, spelling, SpellsMap}
 use Rattle.us_codec.specs.declared.faults.MapFault.{MapFault}
@@ -311,3 +312,18 @@ pub built-only : (r : Result MapBody MapFault) (h : Head) (before : List MapElem
 built-only r h before len after gives lawful = rw (built-again h before len after lawful) at gives
 
 pub ruleset building = (built-found, built-only)
+
+-- The parts of a lawful body.
+
+null-fields : (before : List MapElement) (null : MapElement) (after : List MapElement) →
+    AllByRecursion IsMapElement (before ++ null ∷ after) → IsMapElement null
+null-fields [] null after fields = fields.0
+null-fields (e ∷ before) null after fields = null-fields before null after fields.1
+
+-- the Null's offset is in range
+pub null_within : (h : Head) (before : List MapElement) (len : ℕ) (after : List MapElement) →
+    IsMapBody (body_of h before len after) → len ≤ 16383
+null_within h before len after lawful =
+    omega (arith, (null-fields before (null_at len) after lawful.fields).offset)
+
+pub ruleset putting = (null_within, joined-draft)

@@ -1,4 +1,4 @@
-ghost use Rattle.std.specs.Prelude.{◌≡◌, ◌≤◌, SomeIff};
+ghost use Rattle.std.specs.Prelude.{◌≡◌, ◌^◌, ◌<◌, ◌≤◌, SomeIff};
 ghost use Rattle.us_codec.specs.Elements.{MapElement, IsMapElement, word_of, element_of, null_at};
 ghost use Rattle.us_codec.specs.Faults.{ends_list, is_pending};
 
@@ -48,13 +48,24 @@ impl Element {
         ensures { let element : MapElement = record { sid = sid; iuc = iuc; offset = offset } in
             SomeIff result (IsMapElement element) element }
     {
-        // Called for its clause `in_range` alone.
-        let _ = iuc.number();
         if sid <= MAX_SID && offset <= MAX_OFFSET {
-            Some(Element { sid, iuc, offset })
+            Some(Element::from_fields(sid, iuc, offset))
         } else {
             None
         }
+    }
+
+    /// The element of a SID, an IUC and an offset in minislots, where the caller knows that the SID and the offset are at
+    /// most 16,383. Nothing is judged.
+    pub fn from_fields(sid: u16, iuc: Iuc, offset: u16) -> Element
+        requires sid { sid < 2 ^ 14 }
+        requires offset { offset < 2 ^ 14 }
+        ensures value { result ≡ record { sid = sid; iuc = iuc; offset = offset } }
+        ensures in_range { IsMapElement result }
+    {
+        // Called for its clause `in_range` alone.
+        let _ = iuc.number();
+        Element { sid, iuc, offset }
     }
 
     /// The SID, 0 to 16,383.

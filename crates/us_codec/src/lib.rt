@@ -8,7 +8,9 @@
 //! let same = decode(alloc, &out[..length])?;
 //! ```
 //!
-//! Whoever holds a [`Map`] holds a lawful body. What is lawful stands in `specs/`, in the order of its `Lib.antt`.
+//! Whoever holds a [`Map`] holds a lawful body. A caller whose own contract says that the parts are sound takes
+//! [`Element::from_fields`] and [`Map::from_parts`], which judge nothing. What is lawful stands in `specs/`, in the order
+//! of its `Lib.antt`.
 #![tactic(auto)]
 
 // To whom minislots are assigned, what for, and from where on.

@@ -10,6 +10,7 @@ use crate::faults::MapFault;
 use crate::heads::Head;
 use std::alloc::Global;
 use std::marker::Model;
+use us_slots::NoMemory;
 
 /// The most elements of a MAP, with the Null and the pendings (ours: the standard's count has a byte).
 pub const MAX_ELEMENTS: usize = 240;
@@ -59,6 +60,29 @@ impl Map {
         ensures limits { (MAX_LEN ≡ 16383) × (MAX_ELEMENTS ≡ 240) }
     {
         Map::build(alloc, head, elements, len, pendings)
+    }
+
+    /// The MAP of the parts that [`Map::new`] takes, where the caller knows that they make a lawful body, so that none of
+    /// M4 to M9 stands. Nothing is judged, and want of memory is the one fault.
+    #[tactic(auto, using(crate::proofs::BodyLemmas::putting))]
+    pub fn from_parts(
+        alloc: Global,
+        head: Head,
+        elements: &[Element],
+        len: u16,
+        pendings: &[Element],
+    ) -> Result<Map, NoMemory>
+        requires { IsMapBody (body_of head elements.now len pendings.now) }
+        ensures { IfOk result (λ map. map ≡ body_of head elements.now len pendings.now) }
+    {
+        let mut all = Vec::with_capacity(alloc, elements.len() + 1 + pendings.len())?;
+        all.extend_from_slice(elements)?;
+        all.push(Element::null_at(len))?;
+        all.extend_from_slice(pendings)?;
+        Ok(Map {
+            head,
+            elements: all,
+        })
     }
 
     /// The same: what `found` and `complete` say follows of this function's clauses alone.

@@ -5,7 +5,7 @@ use Rattle.std.specs.Prelude.{sum_by, option_map, option_to_list}
 use Rattle.std.specs.List.{AllByRecursion}
 use Rattle.std.proofs.lemmas.Bool.{cases_Bool}
 use Rattle.us_slots.specs.Bursts.{ChannelBursts, IsChannelBursts, burst_cost, grant_cost}
-use Rattle.us_slots.proofs.CostLemmas.{burst_cost-some}
+use Rattle.us_slots.proofs.CostLaws.{bytes_cost_minislots}
 use Rattle.us_holes.specs.Boards.{Board, fits, assign, AllFit}
 use Rattle.us_round.specs.Placements.{Claimant, Claim, Spot, Grant, spot, grant_at, grant_of, with_grant, grants_of, intervals}
 use Rattle.us_round.specs.Rounds.{credits}
@@ -22,14 +22,6 @@ pub record IsGrantOf (b : ChannelBursts) (board : Board) (claim : Claim) (g : Gr
   pub few : g.credit ≤ claim.share
   pub slots : 0 < g.interval.slots
   pub fits : fits board g.interval.slots g.interval.start ≡ true
-
-cost_some : (b : ChannelBursts) (bytes : ℕ) → IsChannelBursts b → 0 < bytes → 0 < (grant_cost b bytes).0
-cost_some b bytes is some =
-    elim (cases_Bool (nat_le (burst_cost b.time b.short bytes) b.short_max
-    && nat_le (burst_cost b.time b.short bytes) (burst_cost b.time b.long bytes))) [
-      | inl short ↦ rw short (burst_cost-some b.time b.short bytes is.short some)
-      | inr long ↦ rw long (burst_cost-some b.time b.long bytes is.long some)
-    ]
 
 cost_usage : (b : ChannelBursts) (bytes : ℕ) → ((grant_cost b bytes).1 ≡ 9) ⊎ ((grant_cost b bytes).1 ≡ 10)
 cost_usage b bytes =
@@ -50,7 +42,7 @@ at_spot b board claim s is found =
       usage = cost_usage b (s.credit + claim.header);
       credit = some;
       few = found.few;
-      slots = cost_some b (s.credit + claim.header) is (omega arith);
+      slots = bytes_cost_minislots b (s.credit + claim.header) is (omega arith);
       fits = found.fits;
     }
 

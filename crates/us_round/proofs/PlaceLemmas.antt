@@ -1,21 +1,13 @@
 -- A grant that an idle run carries fits where the run starts, and is less than a share that fits nowhere.
-use Rattle.std.proofs.Common.{◌≡◌, ℕ, ◌+◌, ◌-◌, ◌<◌, ◌≤◌, nat_le, List, length, true, false, ◌&&◌, Option, sym, ◌∙◌, inl, inr, arith}
-use Rattle.std.proofs.lemmas.Bool.{cases_Bool, cases_lt, and_parts, leb-true}
+use Rattle.std.proofs.Common.{◌≡◌, ℕ, ◌+◌, ◌-◌, ◌<◌, ◌≤◌, List, length, true, false, Option, sym, ◌∙◌, inl, inr, arith}
+use Rattle.std.proofs.lemmas.Bool.{cases_lt}
 use Rattle.us_slots.specs.Bursts.{ChannelBursts, IsChannelBursts, burst_cost, grant_cost}
 use Rattle.us_slots.proofs.CostLemmas.{burst_cost-mono}
+use Rattle.us_slots.proofs.CostLaws.{within_long}
 use Rattle.us_slots.specs.Capacities.{IsCapacity}
 use Rattle.us_holes.specs.Boards.{Holder, Board, is_idle_at, fits, IsFirstLongest}
 use Rattle.us_holes.specs.Placements.{HasNoRoom}
 use Rattle.us_round.proofs.FitLemmas.{fit_from, few_where_not_full, idle_inside, idle_fewer}
-
-pub within_long : (b : ChannelBursts) (bytes : ℕ) → (grant_cost b bytes).0 ≤ burst_cost b.time b.long bytes
-within_long b bytes =
-    let short : ℕ = burst_cost b.time b.short bytes in
-    let long : ℕ = burst_cost b.time b.long bytes in
-    elim (cases_Bool (nat_le short b.short_max && nat_le short long)) [
-      | inl is ↦ rw is (leb-true short long (and_parts (nat_le short b.short_max) (nat_le short long) is).1)
-      | inr not ↦ rw not (omega arith)
-    ]
 
 -- what a run carries costs no more than the run
 carried_cost : (b : ChannelBursts) (slots most header : ℕ) → IsCapacity (burst_cost b.time b.long) slots most →

@@ -1,16 +1,15 @@
 -- What a spot is worth: at least a byte, at most the share, and its grant fits.
-use Rattle.std.proofs.Common.{◌≡◌, ℕ, zero, suc, ◌+◌, ◌-◌, ◌*◌, ◌/◌, ◌<◌, ◌≤◌, ◌==◌, nat_le, List, length, Bool, true, false, Option, Some, None, is_some, refl, ap, sym, ◌∙◌, subst, cond, eq-eqb, arith, inl, inr}
+use Rattle.std.proofs.Common.{◌≡◌, ℕ, zero, suc, ◌+◌, ◌-◌, ◌<◌, ◌≤◌, ◌==◌, List, length, Bool, true, false, Option, Some, None, is_some, refl, ap, sym, ◌∙◌, subst, cond, eq-eqb, arith, inl, inr}
 use Rattle.std.specs.Option.{option_or}
 use Rattle.std.specs.Prelude.{option_map, option_and_then}
-use Rattle.std.proofs.lemmas.Bool.{cases_Bool, cases_lt, leb-true}
-use Rattle.us_slots.specs.Times.{Timing, symbols_per_minislot}
-use Rattle.us_slots.specs.Bursts.{BurstProfile, ChannelBursts, IsChannelBursts, burst_cost, grant_cost}
-use Rattle.us_slots.specs.Capacities.{greatest_up_to, capacity_of}
+use Rattle.std.proofs.lemmas.Bool.{cases_Bool, cases_lt}
+use Rattle.us_slots.specs.Bursts.{ChannelBursts, IsChannelBursts, burst_cost, grant_cost}
+use Rattle.us_slots.specs.Capacities.{capacity_of}
 use Rattle.us_slots.proofs.CostLemmas.{burst_cost-mono}
+use Rattle.us_slots.proofs.CostLaws.{within_long, capacity_fits, carried_bytes_fit}
 use Rattle.us_holes.specs.Boards.{Holder, Board, is_idle_at, is_full, fits, first_of, least_fit, longest_up_to, longest_idle}
 use Rattle.us_round.specs.Placements.{Spot, carried, part_spot, spot}
 use Rattle.us_round.proofs.FitLemmas.{fit_from, few_where_not_full, idle_inside, idle_fewer}
-use Rattle.us_round.proofs.PlaceLemmas.{within_long}
 
 -- What a search finds passes, and where it finds nothing, nothing does.
 
@@ -62,22 +61,6 @@ longest_is cells (suc limit) start slots is =
         let many : suc limit ≡ slots = ap (λ found. (run_of found).1) is in
         (rw (starts, many) at (first_passes (is_idle_at cells (suc limit)) 0 (length cells) first at), omega arith)
 
-greatest_passes : (passes : ℕ → Bool) (limit : ℕ) → 0 < greatest_up_to passes limit →
-    passes (greatest_up_to passes limit) ≡ true
-unfolding greatest_up_to
-greatest_passes passes zero some = absurd (omega arith)
-greatest_passes passes (suc limit) some = elim (cases_Bool (passes (suc limit))) [
-  | inl is ↦ rw is is
-  | inr not ↦ rw not (greatest_passes passes limit (rw not at some))
-]
-
-capacity_fits : (t : Timing) (p : BurstProfile) (slots : ℕ) → 0 < capacity_of t p slots →
-    burst_cost t p (capacity_of t p slots) ≤ slots
-unfolding capacity_of
-capacity_fits t p slots some =
-    leb-true (burst_cost t p (greatest_up_to (λ bytes. nat_le (burst_cost t p bytes) slots) (slots * symbols_per_minislot t * p.bits / 8))) slots
-    (greatest_passes (λ bytes. nat_le (burst_cost t p bytes) slots) (slots * symbols_per_minislot t * p.bits / 8) some)
-
 -- Spots.
 
 pub record IsSpot (b : ChannelBursts) (header share : ℕ) (board : Board) (s : Spot) : Type 0 where
@@ -122,7 +105,8 @@ part_is b header share board start slots is room none idle long some =
             absurd cc
       ];
       fits = rw same (fit_from board (grant_cost b most).0 start few
-          (idle_fewer board.cells slots (grant_cost b most).0 start idle (omega (arith, within_long b most, carries))));
+          (idle_fewer board.cells slots (grant_cost b most).0 start idle
+          (carried_bytes_fit b slots most is (omega arith) (omega arith))));
     }
 
 some_is : {X : Type 0} (x y : X) → Some x ≡ Some y → x ≡ y

@@ -13,7 +13,7 @@ use crate::building::Built;
 use crate::pendings::{PendingSeat, sids_on};
 use crate::reserving::BROADCAST;
 use std::alloc::Global;
-use us_codec::{Element, Head, Map, MapFault};
+use us_codec::{Element, Head, Map};
 use us_flows::{Channel, Config};
 use us_holes::{Board, Run};
 use us_slots::{Iuc, NoMemory};
@@ -60,7 +60,7 @@ fn built_map(
 }
 
 /// The MAP of a channel's round: its head, the elements of its board, the Null and the pendings, at most 38.
-#[tactic(auto, using(crate::proofs::MapLemmas::board_map), unfolding(crate::specs::Outputs::map_of))]
+#[tactic(auto, unfolding(crate::specs::Outputs::map_of))]
 pub(crate) fn map_of(
     alloc: Global,
     config: &Config,
@@ -82,11 +82,7 @@ pub(crate) fn map_of(
     let elements = elements_of(alloc, channel, board)?;
     let len = board.len() as u16;
     let pendings = pendings_of(alloc, sids, len)?;
-    match Map::new(alloc, head, &elements, len, &pendings) {
-        Ok(map) => Ok(map),
-        Err(MapFault::NoMemory) => Err(NoMemory),
-        Err(_) => unreachable!(),
-    }
+    Map::from_parts(alloc, head, &elements, len, &pendings)
 }
 
 /// What stands before the elements of a MAP.
@@ -150,10 +146,7 @@ fn element_of(channel: &Channel, run: Run) -> Element
         None if run.len() >= u32::from(channel.request_minislots) => (BROADCAST, Iuc::request()),
         None => (NOBODY, Iuc::request()),
     };
-    match Element::new(sid, iuc, run.start() as u16) {
-        Some(element) => element,
-        None => unreachable!(),
-    }
+    Element::from_fields(sid, iuc, run.start() as u16)
 }
 
 /// The data grants pending of some SIDs, at the MAP's length.
@@ -164,10 +157,7 @@ fn pendings_of(alloc: Global, sids: &[u16], len: u16) -> Result<Vec<Element>, No
 {
     let mut pendings = Vec::new(alloc);
     for sid in sids {
-        match Element::new(*sid, Iuc::long_data_grant(), len) {
-            Some(element) => pendings.push(element)?,
-            None => unreachable!(),
-        }
+        pendings.push(Element::from_fields(*sid, Iuc::long_data_grant(), len))?;
     }
     Ok(pendings)
 }

@@ -11,6 +11,8 @@ pub mod Bursts
 pub mod Examples
 -- what some minislots carry
 pub mod Capacities
+-- what follows of them for data grants
+pub mod Laws
 -- the jitter window
 pub mod Windows
 -- when a reader or a writer counts as failed

@@ -30,6 +30,9 @@ mod costs;
 // What some minislots carry.
 mod capacities;
 
+// Laws of cost and capacity.
+mod laws;
+
 // Readers and writers.
 mod devices;
 
@@ -41,6 +44,7 @@ pub use capacities::{MAX_MAP_TICKS, capacity};
 pub use channel_times::ChannelTime;
 pub use costs::{MAX_BURST_BYTES, coded_len, cost, grant_cost};
 pub use devices::{Failed, FromRead, FromWrite, ReadFault, Sink, Source, read_all, write_all};
+pub use laws::{bytes_cost_minislots, carried_bytes_fit};
 pub use memory::NoMemory;
 pub use profiles::Profile;
 pub use usage_codes::Iuc;

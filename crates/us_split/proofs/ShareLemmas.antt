@@ -1,17 +1,16 @@
 -- One turn: its shares are what its channels can carry, and no more than it asks for.
-use Rattle.std.proofs.Common.{◌≡◌, ◌⊎◌, ℕ, zero, suc, ◌+◌, ◌*◌, ◌/◌, ◌==◌, ◌<◌, ◌≤◌, nat_le, ◌&&◌, if◌then◌else◌, Bool, true, false, List, [], ◌∷◌, length, Option, Some, None, refl, ap, ◌∙◌, subst, inl, inr, arith}
+use Rattle.std.proofs.Common.{◌≡◌, ◌⊎◌, ℕ, zero, suc, ◌+◌, ◌*◌, ◌/◌, ◌==◌, ◌<◌, ◌≤◌, nat_le, Bool, false, List, [], ◌∷◌, length, Option, Some, None, refl, ap, ◌∙◌, subst, inl, inr, arith}
 use Rattle.std.specs.Prelude.{sum, position, slice_index}
 use Rattle.std.specs.List.{AllByRecursion}
-use Rattle.std.proofs.lemmas.Bool.{cases_Bool, cases_lt, eqb-true, leb-true, and_parts}
+use Rattle.std.proofs.lemmas.Bool.{cases_Bool, cases_lt, eqb-true}
 use Rattle.std.proofs.lemmas.List.{length-map, get_or-map, get_or_default}
 use Rattle.std.proofs.lemmas.List.Elements.{recursion_from_All}
 use Rattle.std.proofs.lemmas.List.Quantifiers.{position-Some}
 use Rattle.us_slots.specs.Times.{Timing, IsTiming, minislot_ticks, symbols_per_minislot}
-use Rattle.us_slots.specs.Bursts.{BurstProfile, IsBurstProfile, ChannelBursts, IsChannelBursts, burst_cost, grant_cost}
+use Rattle.us_slots.specs.Bursts.{BurstProfile, IsBurstProfile, IsChannelBursts, burst_cost}
 use Rattle.us_slots.specs.Capacities.{greatest_up_to, capacity_of}
-use Rattle.us_slots.specs.UsageCodes.{short_data_grant, long_data_grant}
 use Rattle.us_slots.proofs.CapacityLemmas.{symbols_most, room_most}
-use Rattle.us_slots.proofs.CostLemmas.{burst_cost-mono}
+use Rattle.us_slots.proofs.CostLaws.{carried_bytes_fit}
 use Rattle.us_flows.specs.declared.channels.Channel.{Channel}
 use Rattle.us_flows.specs.Tables.{FlowTable}
 use Rattle.us_flows.specs.Clusters.{Turn}
@@ -21,15 +20,6 @@ use Rattle.us_split.proofs.DivisionLemmas.{divided-sum, divided-within, divided-
 
 -- capacity, by its definition
 
-greatest-passes : (passes : ℕ → Bool) (limit : ℕ) →
-    (greatest_up_to passes limit ≡ 0) ⊎ (passes (greatest_up_to passes limit) ≡ true)
-unfolding greatest_up_to
-greatest-passes passes zero = inl refl
-greatest-passes passes (suc limit) = elim (cases_Bool (passes (suc limit))) [
-  | inl t ↦ rw t (inr t)
-  | inr f ↦ rw f (greatest-passes passes limit)
-]
-
 greatest-le : (passes : ℕ → Bool) (limit : ℕ) → greatest_up_to passes limit ≤ limit
 unfolding greatest_up_to
 greatest-le passes zero = omega arith
@@ -38,7 +28,7 @@ greatest-le passes (suc limit) = elim (cases_Bool (passes (suc limit))) [
   | inr f ↦ rw f (omega (arith, greatest-le passes limit))
 ]
 
--- it is within the most bytes of a burst,
+-- it is within the most bytes of a burst
 capacity-most : (t : Timing) (p : BurstProfile) (slots : ℕ) → IsTiming t → IsBurstProfile p →
     slots * minislot_ticks t ≤ 4096 → capacity_of t p slots ≤ 98304
 unfolding capacity_of
@@ -46,32 +36,6 @@ capacity-most t p slots timing profile ticks =
     let symbols : slots * symbols_per_minislot t ≤ 131072 =
     symbols_most t slots (symbols_per_minislot t) timing ticks refl in
     omega (arith, greatest-le (λ bytes. nat_le (burst_cost t p bytes) slots) (slots * symbols_per_minislot t * p.bits / 8), (room_most (slots * symbols_per_minislot t) p.bits symbols profile.most_bits).1)
-
--- and so many bytes fit
-capacity-fits : (t : Timing) (p : BurstProfile) (slots bytes : ℕ) → IsBurstProfile p → 0 < bytes →
-    bytes ≤ capacity_of t p slots → burst_cost t p bytes ≤ slots
-unfolding capacity_of
-capacity-fits t p slots bytes profile some within =
-    let most : ℕ = capacity_of t p slots in
-    elim (greatest-passes (λ bytes. nat_le (burst_cost t p bytes) slots) (slots * symbols_per_minislot t * p.bits / 8)) [
-      | inl none ↦ absurd (omega (arith, none))
-      | inr passes ↦
-          omega (arith, burst_cost-mono t p bytes most profile within, leb-true (burst_cost t p most) slots passes)
-    ]
-
--- a grant costs no more than a long one
-grant-within : (b : ChannelBursts) (bytes : ℕ) → (grant_cost b bytes).0 ≤ burst_cost b.time b.long bytes
-grant-within b bytes =
-    by (burst_cost b.time b.short bytes) (burst_cost b.time b.long bytes)
-  where
-    by : (short long : ℕ) →
-        (let cost : ℕ × ℕ = if nat_le short b.short_max && nat_le short long then (short, short_data_grant)
-        else (long, long_data_grant) in
-        cost.0) ≤ long
-    by short long = elim (cases_Bool (nat_le short b.short_max && nat_le short long)) [
-      | inl t ↦ rw t (leb-true short long (and_parts (nat_le short b.short_max) (nat_le short long) t).1)
-      | inr f ↦ rw f (omega arith)
-    ]
 
 -- a budget as a round has it: the minislots of a channel, no more than a MAP has
 pub record IsBudget (b : Budget) : Type 0 where
@@ -97,8 +61,7 @@ fits_budget b header share is within = elim (cases_Bool (share == 0)) [
       rw some (elim (cases_lt 0 share) [
         | inr none ↦ absurd (omega (arith, zero-test share some none))
         | inl more ↦
-            let fits = capacity-fits b.channel.bursts.time b.channel.bursts.long b.slots (share + header) is.bursts.long (omega arith) (omega arith) in
-            omega (arith, fits, grant-within b.channel.bursts (share + header))
+            carried_bytes_fit b.channel.bursts b.slots (share + header) is.bursts (omega arith) (omega arith)
       ])
 ]
   where

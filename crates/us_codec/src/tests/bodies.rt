@@ -25,6 +25,23 @@ fn built(
     Ok(written(&map, body))
 }
 
+/// The same of the MAP that the same parts make where they aren't judged again.
+fn made(
+    alloc: Global,
+    head: Head,
+    elements: &[Fields],
+    pendings: &[Fields],
+    body: &[u8],
+) -> Result<(Head, usize, bool, bool), MapFault> {
+    let elements = elements_of(alloc, elements)?;
+    let pendings = elements_of(alloc, pendings)?;
+    let _judged = Map::new(alloc, head, &elements, 160, &pendings)?;
+    match Map::from_parts(alloc, head, &elements, 160, &pendings) {
+        Ok(map) => Ok(written(&map, body)),
+        Err(_) => Err(MapFault::NoMemory),
+    }
+}
+
 /// The head of a body that is read, and whether its elements are these.
 fn read(alloc: Global, body: &[u8], elements: &[Fields]) -> Result<(Head, bool), MapFault> {
     let elements = elements_of(alloc, elements)?;
@@ -76,6 +93,17 @@ fn bodies(rt: HostRuntime) {
         ),
     ];
     same(&rt, &found, &BUILT, "built");
+    let found = [
+        made(alloc, BASE_HEAD, &LIST[..2], &[], base),
+        made(
+            alloc,
+            MARKED_HEAD,
+            &MARKED_LIST[..1],
+            &MARKED_LIST[2..],
+            &MARKED,
+        ),
+    ];
+    same(&rt, &found, &BUILT, "made of known parts");
     let found = [read(alloc, base, &LIST), read(alloc, &MARKED, &MARKED_LIST)];
     same(&rt, &found, &READ, "read");
 }
