@@ -89,7 +89,7 @@ walk_none cells from to slots seen start all walk at above below = elim (cases_l
 ]
 
 -- Where there may be one more assignment, it fits where minislots are idle.
-not_full : (board : Board) → is_full board ≡ false → board.standing < 100
+pub not_full : (board : Board) → is_full board ≡ false → board.standing < 100
 not_full board h = leb-false 100 board.standing h
 
 pub fits-idle : (board : Board) (slots start : ℕ) → is_full board ≡ false → is_idle_at board.cells slots start ≡ true →

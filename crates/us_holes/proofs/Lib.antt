@@ -2,5 +2,9 @@ pub mod RunLemmas
 pub mod IdleLemmas
 pub mod BoardLemmas
 pub mod FitLemmas
+pub mod CellLemmas
+pub mod HoleLemmas
+pub mod RankLemmas
+pub mod KeptLemmas
 pub mod LawLemmas
 pub mod StandLemmas

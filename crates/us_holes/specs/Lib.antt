@@ -12,3 +12,6 @@ pub mod Runs
 pub mod Kept
 -- the definitions at small inputs
 pub mod Examples
+
+-- how a board is kept, inside the crate
+pub mod Lists
