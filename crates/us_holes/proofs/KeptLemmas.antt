@@ -185,49 +185,4 @@ kept_told assigned holes ranked len free (Some found) lists e =
     let is = kept_longest assigned holes ranked len free found.0 found.1 lists e in
     record { longest = is; none = tt; value = longest-some (cells_of 0 assigned len) found.0 found.1 is }
 
--- What is told of a placement, on the board that the lists are,
-pub record IsToldPlaced (board : Board) (from to slots start : ℕ) : Type 0 where
-  pub value : answer.At start slots ≡ placed board from to slots
-  pub says : IsPlacedAt board from to slots start
-
-pub kept_placed : (assigned : List Interval) (holes : List Hole) (len from to slots place start : ℕ) (board : Board) →
-    board_of assigned len ≡ board → is_full board ≡ false → IsFound assigned holes len from to slots place start →
-    IsToldPlaced board from to slots start
-kept_placed assigned holes len from to slots place start board is few found =
-    let cells : cells_of 0 assigned len ≡ board.cells = ap (λ board. board.cells) is in
-    let least : IsLeastWithin (is_idle_at board.cells slots) from to start = rw cells at found.least in
-    record { value = placed-at board from to slots start few least; says = says-at board from to slots start few least }
-
-pub record IsToldNoRoom (board : Board) (from to slots : ℕ) : Type 0 where
-  pub value : answer.NoRoom ≡ placed board from to slots
-  pub says : HasNoRoom board from to slots
-
-pub kept_refused : (assigned : List Interval) (len from to slots : ℕ) (board : Board) → board_of assigned len ≡ board →
-    is_full board ≡ false →
-    ((start : ℕ) → from ≤ start → start ≤ to → is_idle_at (cells_of 0 assigned len) slots start ≡ false) →
-    IsToldNoRoom board from to slots
-kept_refused assigned len from to slots board is few none =
-    let cells : cells_of 0 assigned len ≡ board.cells = ap (λ board. board.cells) is in
-    let none : (start : ℕ) → from ≤ start → start ≤ to → is_idle_at board.cells slots start ≡ false = rw cells at none in
-    record { value = placed-none board from to slots few none; says = record { few = few; none = none } }
-
--- and what stands then.
-pub record StandsThen (assigned : List Interval) (len : ℕ) (one : Interval) (before : Board) : Type 0 where
-  pub board : board_of (put one assigned) len ≡ assign before one.start one.slots one.owner
-  pub len_is : length (cells_of 0 (put one assigned) len) ≡ length before.cells
-
-pub kept_then : (assigned : List Interval) (holes ranked : List Hole) (len free place : ℕ) (one : Interval) (board : Board) →
-    board_of assigned len ≡ board → AreLists assigned holes ranked len free → 1 ≤ one.slots →
-    HasAt holes place one.start one.slots → StandsThen assigned len one board
-kept_then assigned holes ranked len free place one board is lists some has =
-    let now = kept_assigned assigned holes ranked len free place one lists some has in
-    let room = room_of assigned holes len one.slots one.start lists.between (at_room holes place one.start one.slots has) in
-    let order = put_order 0 assigned len one lists.order some room in
-    let old : len ≡ length board.cells =
-    kept_length assigned holes ranked len free lists ∙ ap (λ board. length board.cells) is in
-    record {
-      board = now ∙ ap (λ board. assign board one.start one.slots one.owner) is;
-      len_is = omega (arith, cells_length 0 (put one assigned) len order, old);
-    }
-
 pub ruleset empty_facts = (empty_lists, empty_kept)

@@ -6,5 +6,6 @@ pub mod CellLemmas
 pub mod HoleLemmas
 pub mod RankLemmas
 pub mod KeptLemmas
+pub mod PlacingLemmas
 pub mod LawLemmas
 pub mod StandLemmas

@@ -1,4 +1,5 @@
-ghost use Rattle.std.specs.Prelude.{◌≡◌, ◌++◌, IfOk, OnOk};
+ghost use Rattle.std.specs.Prelude.{◌≡◌, ◌≤◌, ◌++◌, IfOk, OnOk, length};
+ghost use Rattle.us_holes.specs.Boards.{max_assignments};
 ghost use Rattle.us_holes.specs.Lists as lists;
 ghost use Rattle.us_holes.specs.Runs as spec;
 
@@ -77,9 +78,10 @@ fn push_idle(found: &mut Vec<Run>, from: u32, to: u32) -> Result<(), NoMemory>
 /// The runs of a board of `len` minislots with these assignments.
 #[tactic(auto, unfolding(crate::specs::Lists::runs_between))]
 pub(crate) fn runs_of(alloc: Global, assigned: &[Assignment], len: u32) -> Result<Vec<Run>, NoMemory>
+    requires { length assigned.now ≤ max_assignments }
     ensures { IfOk result (λ found. found.items ≡ lists.runs_between 0 assigned.now len) }
 {
-    let mut found = Vec::new(alloc);
+    let mut found = Vec::with_capacity(alloc, 2 * assigned.len() + 1)?;
     let mut from = 0;
     for i in 0..assigned.len() {
         let one = assigned[i];
