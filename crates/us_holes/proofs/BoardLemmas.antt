@@ -2,7 +2,7 @@
 use Rattle.std.proofs.Common.{◌≡◌, ℕ, zero, suc, ◌+◌, ◌-◌, ◌<◌, ◌≤◌, ◌⊎◌, nat_le, List, [], ◌∷◌, ◌++◌, length, replicate, take, drop, get_or, true, false, cond, Option, Some, None, is_none, refl, ap, sym, ◌∙◌, inl, inr, arith}
 use Rattle.std.specs.List.{list_all}
 use Rattle.std.proofs.lemmas.Bool.{cases_Bool, cases_lt, and_parts}
-use Rattle.std.proofs.lemmas.List.{drop-drop, take-append-drop, length-replicate, length-append, length-take-le, length-drop, drop_all, take_all, append-nil, get_or-append_right, get_or_append_left, get_or-take, get_or-replicate, get_or-drop, get_or_default}
+use Rattle.std.proofs.lemmas.List.{drop-drop, take-append-drop, length-replicate, length-append, length-take-le, length-drop, get_or-append_right, get_or_append_left, get_or-take, get_or-replicate, get_or-drop, get_or_default}
 use Rattle.std.proofs.lemmas.List.Sums.{sum_by-append, sum_by-cons}
 use Rattle.std.proofs.lemmas.List.Folds.{sum_by-replicate}
 use Rattle.us_holes.specs.Boards.{Owner, Holder, Board, empty_board, is_idle_at, assign, free_count}

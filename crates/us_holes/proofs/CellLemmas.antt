@@ -1,12 +1,11 @@
 -- Assignments by start: which minislots are idle between them, and what one more writes.
-use Rattle.std.proofs.Common.{◌≡◌, ℕ, zero, suc, ◌+◌, ◌-◌, ◌⊎◌, ◌<◌, ◌≤◌, nat_lt, List, [], ◌∷◌, ◌++◌, length, take, drop, replicate, get_or, true, false, Option, Some, None, is_none, refl, ap, sym, ◌∙◌, inl, inr, arith}
-use Rattle.std.specs.List.{insert}
+use Rattle.std.proofs.Common.{◌≡◌, ℕ, zero, suc, ◌+◌, ◌-◌, ◌⊎◌, ◌<◌, ◌≤◌, List, [], ◌∷◌, ◌++◌, length, take, drop, replicate, get_or, true, false, Option, Some, None, refl, ap, sym, ◌∙◌, inl, inr, arith}
 use Rattle.std.proofs.lemmas.Bool.{cases_lt, lt-ltb, le-ltb}
 use Rattle.std.proofs.lemmas.List.{append_assoc, append-nil, length-append, length-replicate, get_or_append_left, get_or-append_right, get_or-replicate, replicate-append-replicate}
 use Rattle.std.proofs.Math.Seq.{take-append_seam, drop-append_seam, take-append-add, drop-append-add}
-use Rattle.us_holes.specs.Boards.{Holder, Board, Interval, is_idle_at, assign}
-use Rattle.us_holes.specs.Lists.{end_of, its_holder, InOrder, cells_of, board_of, place_among, put, Hole, hole_end, hole_from, hole_in, holes_of}
-use Rattle.us_holes.proofs.IdleLemmas.{idle_inside, idle_cells, cells_idle, IsIdle, nobody}
+use Rattle.us_holes.specs.Boards.{Holder, Interval, is_idle_at, assign}
+use Rattle.us_holes.specs.Lists.{end_of, its_holder, InOrder, cells_of, board_of, place_among, put, Hole, hole_end, hole_in, holes_of}
+use Rattle.us_holes.proofs.IdleLemmas.{idle_cells, cells_idle, IsIdle, nobody}
 
 pub ordered_end : (from : ℕ) (assigned : List Interval) (to : ℕ) → InOrder from assigned to → from ≤ to
 unfolding InOrder
@@ -305,11 +304,11 @@ put_cells from (other ∷ more) to one order some h =
           let inside = room_inside (end_of other) more to one.slots one.start order.2 later in
           rw (put_later one other more (omega (arith, inside.0)), put_cells (end_of other) more to one order.2 some later)
           (sym (
-            written_behind gap (held ++ cells) (one.start - from) (other.slots + (one.start - end_of other)) one.slots (Some (its_holder one))
-            (rw (length-replicate (other.start - from) idle) (omega (arith, inside.0, order.0)))
-            ∙ ap (λ rest. gap ++ rest)
-            (written_behind held cells (other.slots + (one.start - end_of other)) (one.start - end_of other) one.slots (Some (its_holder one))
-            (rw (length-replicate other.slots (Some (its_holder other))) refl))
+          written_behind gap (held ++ cells) (one.start - from) (other.slots + (one.start - end_of other)) one.slots (Some (its_holder one))
+          (rw (length-replicate (other.start - from) idle) (omega (arith, inside.0, order.0)))
+          ∙ ap (λ rest. gap ++ rest)
+          (written_behind held cells (other.slots + (one.start - end_of other)) (one.start - end_of other) one.slots (Some (its_holder one))
+          (rw (length-replicate other.slots (Some (its_holder other))) refl))
           ))
     ]
 

@@ -1,10 +1,10 @@
 -- Where an assignment fits, and what is answered.
-use Rattle.std.proofs.Common.{◌≡◌, ℕ, ◌+◌, ◌-◌, ◌<◌, ◌≤◌, nat_lt, min, List, length, get_or, true, false, Option, Some, None, is_none, refl, sym, ◌∙◌, inl, inr, arith}
-use Rattle.std.proofs.lemmas.Bool.{cases_lt, and_from, and_right, leb-false, lt-ltb, false_from_ne_true}
-use Rattle.us_holes.specs.Boards.{Holder, Board, is_full, is_idle_at, fits, least_fit, IsLeastWithin}
+use Rattle.std.proofs.Common.{◌≡◌, ℕ, ◌+◌, ◌-◌, ◌<◌, ◌≤◌, nat_lt, true, false, Some, None, refl, arith}
+use Rattle.std.proofs.lemmas.Bool.{and_from, and_right, leb-false, lt-ltb}
+use Rattle.us_holes.specs.Boards.{Board, is_full, is_idle_at, fits, least_fit, IsLeastWithin}
 use Rattle.us_holes.specs.Placements.{placed, IsPlacedAt}
 use Rattle.us_holes.specs.declared.placements.Placed.TheVariants as answer
-use Rattle.us_holes.proofs.IdleLemmas.{idle_inside, idle_cells, cells_idle, IsIdle, AreIdle, nobody, first_of-least, first_of-none}
+use Rattle.us_holes.proofs.IdleLemmas.{idle_inside, first_of-least, first_of-none}
 
 -- Where there may be one more assignment, it fits where minislots are idle.
 pub not_full : (board : Board) → is_full board ≡ false → board.standing < 100
@@ -63,4 +63,4 @@ pub placed-none : (board : Board) (from to slots : ℕ) → is_full board ≡ fa
 placed-none board from to slots few none =
     rw (few, least_fit-none board from to slots (λ start above below. fits-held board slots start (none start above below))) refl
 
-pub ruleset place_facts = (placed-full, placed-at, says-at, placed-none)
+pub ruleset full_facts = (placed-full)

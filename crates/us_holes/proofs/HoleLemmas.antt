@@ -1,10 +1,10 @@
 -- Holes: where an assignment fits, and what it leaves of them.
-use Rattle.std.proofs.Common.{◌≡◌, ℕ, zero, suc, ◌+◌, ◌-◌, ◌⊎◌, ◌<◌, ◌≤◌, nat_lt, nat_le, max, List, [], ◌∷◌, ◌++◌, length, take, drop, get_or, true, false, Option, Some, None, refl, ap, sym, ◌∙◌, inl, inr, arith}
-use Rattle.std.specs.List.{insert, remove}
+use Rattle.std.proofs.Common.{◌≡◌, ℕ, zero, suc, ◌+◌, ◌-◌, ◌<◌, ◌≤◌, nat_le, max, List, [], ◌∷◌, ◌++◌, length, take, drop, get_or, true, false, Some, None, refl, ap, sym, ◌∙◌, inl, inr, arith}
+use Rattle.std.specs.List.{remove}
 use Rattle.std.proofs.lemmas.Bool.{cases_Bool, cases_lt, and_parts, and_from, leb-true, le-leb, lt-ltb, le-ltb}
 use Rattle.std.proofs.lemmas.List.{append-nil}
 use Rattle.us_holes.specs.Boards.{Interval}
-use Rattle.us_holes.specs.Lists.{end_of, InOrder, place_among, put, Hole, hole_end, hole_from, hole_in, holes_of, fits_in, fit, HasAt, cut_at}
+use Rattle.us_holes.specs.Lists.{end_of, InOrder, put, Hole, hole_end, hole_from, hole_in, holes_of, fits_in, fit, HasAt, cut_at}
 use Rattle.us_holes.proofs.CellLemmas.{HasRoom, room_inside, hole_alone, put_first, put_later, put_alone}
 
 -- A hole that is taken out, and what is left of it put back, is cut.
@@ -186,8 +186,11 @@ IsCut from assigned to one = (number : ℕ) → HasAt (holes_of from assigned to
 behind_other : (other one : Interval) (more : List Interval) (to number : ℕ) → InOrder (end_of other) more to →
     HasAt (holes_of (end_of other) more to) number one.start one.slots → other.start ≤ one.start
 behind_other other one more to number order h =
-    omega (arith, (room_inside (end_of other) more to one.slots one.start order
-    (at_room (holes_of (end_of other) more to) number one.start one.slots h)).0)
+    omega (
+      arith,
+      (room_inside (end_of other) more to one.slots one.start order
+          (at_room (holes_of (end_of other) more to) number one.start one.slots h)).0,
+    )
 
 gap_cut : (from : ℕ) (other : Interval) (more : List Interval) (to number : ℕ) (one : Interval) → from < other.start →
     InOrder (end_of other) more to → 0 < one.slots → IsCut (end_of other) more to one →

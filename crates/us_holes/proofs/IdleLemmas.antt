@@ -1,8 +1,8 @@
 -- Idle minislots: the first of some numbers, the longest run, and the same minislot by minislot.
-use Rattle.std.proofs.Common.{◌≡◌, ℕ, zero, suc, ◌+◌, ◌-◌, ◌⊎◌, ◌<◌, ◌≤◌, nat_le, List, [], ◌∷◌, length, take, drop, get_or, Bool, true, false, Option, Some, None, is_none, is_some, not, refl, ap, sym, ◌∙◌, inl, inr, arith}
+use Rattle.std.proofs.Common.{◌≡◌, ℕ, zero, suc, ◌+◌, ◌-◌, ◌<◌, ◌≤◌, nat_le, List, [], ◌∷◌, length, take, drop, get_or, Bool, true, false, Option, Some, None, is_none, refl, sym, inl, inr, arith}
 use Rattle.std.specs.List.{list_all}
 use Rattle.std.proofs.lemmas.Bool.{cases_Bool, cases_lt, and_parts, and_from, leb-true, le-leb}
-use Rattle.std.proofs.lemmas.List.{get_or-drop, get_or_default, get_or_past, length-drop}
+use Rattle.std.proofs.lemmas.List.{get_or-drop, get_or_past, length-drop}
 use Rattle.us_holes.specs.Boards.{Holder, is_idle_at, first_of, IsFirstLongest, longest_up_to, longest_idle}
 
 -- idle minislots are inside
@@ -150,5 +150,3 @@ cells_idle cells slots start some h =
     (le-leb (start + slots) (length cells) (omega (arith, last, some)))
     (front_idle (drop start cells) slots
     (λ at above below. rw (get_or-drop start cells at (Some nobody)) (h (start + at) (omega arith) (omega (arith, below)))))
-
-pub ruleset longest_facts = (longest-some, longest-none)

@@ -1,18 +1,13 @@
 -- What the fields of a board keep, and what they tell of it.
-use Rattle.std.proofs.Common.{◌≡◌, ℕ, zero, suc, ◌+◌, ◌-◌, ◌<◌, ◌≤◌, List, [], ◌∷◌, ◌++◌, length, replicate, false, Option, Some, None, IfSome, IfNone, refl, ap, sym, ◌∙◌, inl, inr, arith}
+use Rattle.std.proofs.Common.{◌≡◌, ℕ, ◌+◌, ◌-◌, ◌<◌, ◌≤◌, List, [], ◌∷◌, ◌++◌, length, false, Option, Some, None, IfSome, IfNone, refl, ap, sym, ◌∙◌, inl, inr, arith}
 use Rattle.std.proofs.lemmas.Bool.{cases_lt, lt-ltb, le-ltb, false_from_ne_true}
-use Rattle.std.proofs.lemmas.List.{length-append}
-use Rattle.us_holes.specs.Boards.{Holder, Board, Interval, empty_board, is_idle_at, assign, free_count, IsLeastWithin, IsFirstLongest, longest_idle, is_full}
-use Rattle.us_holes.specs.Kept.{IsBoard}
+use Rattle.us_holes.specs.Boards.{Holder, Interval, empty_board, is_idle_at, assign, free_count, IsLeastWithin, IsFirstLongest, longest_idle}
 use Rattle.us_holes.specs.Lists.{end_of, its_holder, InOrder, cells_of, board_of, put, Hole, hole_in, holes_of, fit, HasAt, cut_at, place_for, rank, first_in, AreLists}
-use Rattle.us_holes.specs.Placements.{placed, IsPlacedAt, HasNoRoom}
-use Rattle.us_holes.specs.declared.placements.Placed.TheVariants as answer
 use Rattle.us_holes.proofs.IdleLemmas.{longest-some, longest-none}
-use Rattle.us_holes.proofs.FitLemmas.{placed-at, says-at, placed-none}
 use Rattle.us_holes.proofs.BoardLemmas.{empty_is_board, empty_free, assign_is_board, assign_free}
 use Rattle.us_holes.proofs.CellLemmas.{HasRoom, room_inside, room_is_idle, idle_has_room, cells_length, put_order, put_assigned}
 use Rattle.us_holes.proofs.HoleLemmas.{holes_apart, at_room, IsFit, fit_is, fit_none, put_holes}
-use Rattle.us_holes.proofs.RankLemmas.{rank_length, IsMost, first_is_most, first_is_none}
+use Rattle.us_holes.proofs.RankLemmas.{IsMost, first_is_most, first_is_none}
 
 -- An idle board.
 pub empty_lists : (len : ℕ) → board_of [] len ≡ empty_board len
@@ -118,7 +113,7 @@ kept_put assigned holes ranked len free place one lists few some has =
     let is : board_of (put one assigned) len ≡ assign (board_of assigned len) one.start one.slots one.owner =
     put_assigned assigned len one lists.order some room in
     let free_is : free_count (cells_of 0 (put one assigned) len) ≡
-        free_count (assign (board_of assigned len) one.start one.slots one.owner).cells =
+    free_count (assign (board_of assigned len) one.start one.slots one.owner).cells =
     ap (λ board. free_count board.cells) is in
     record {
       board = rw is (assign_is_board (board_of assigned len) one.start one.slots one.owner lists.board few idle);
@@ -142,7 +137,7 @@ kept_free assigned holes ranked len free place one lists some has =
     omega (
       arith,
       assign_free (cells_of 0 assigned len) one.start one.slots (its_holder one)
-      (room_is_idle assigned len one.slots one.start lists.order some room),
+          (room_is_idle assigned len one.slots one.start lists.order some room),
       lists.idle,
     )
 

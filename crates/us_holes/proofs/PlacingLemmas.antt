@@ -1,6 +1,6 @@
 -- A placement: what its answer tells of the board before, and what stands then.
-use Rattle.std.proofs.Common.{◌≡◌, ℕ, ◌+◌, ◌-◌, ◌≤◌, List, length, false, Some, None, ap, ◌∙◌, arith}
-use Rattle.us_holes.specs.Boards.{Owner, Board, Interval, is_full, is_idle_at, assign, IsLeastWithin}
+use Rattle.std.proofs.Common.{◌≡◌, ℕ, ◌+◌, ◌-◌, ◌≤◌, length, false, Some, None, ap, ◌∙◌, arith}
+use Rattle.us_holes.specs.Boards.{Board, Interval, is_full, is_idle_at, assign, IsLeastWithin}
 use Rattle.us_holes.specs.Placements.{placed, IsPlacedAt, HasNoRoom}
 use Rattle.us_holes.specs.declared.placements.Placed.TheVariants as answer
 use Rattle.us_holes.specs.declared.boards.Board.TheInside.{Inside}

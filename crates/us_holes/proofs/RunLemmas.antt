@@ -1,8 +1,8 @@
 -- Runs: how they are found, and what follows of their definition.
-use Rattle.std.proofs.Common.{◌≡◌, ℕ, zero, suc, ◌+◌, ◌-◌, ◌*◌, ◌<◌, ◌≤◌, nat_eq, List, [], ◌∷◌, ◌++◌, length, replicate, drop, get_or, true, false, ◌&&◌, Option, Some, None, is_none, refl, ap, sym, ◌∙◌, inl, inr, arith}
+use Rattle.std.proofs.Common.{◌≡◌, ℕ, zero, suc, ◌+◌, ◌-◌, ◌*◌, ◌<◌, ◌≤◌, nat_eq, List, [], ◌∷◌, ◌++◌, length, replicate, true, false, ◌&&◌, Option, Some, None, is_none, refl, ap, sym, ◌∙◌, inl, inr, arith}
 use Rattle.std.specs.List.{flat_map}
 use Rattle.std.proofs.lemmas.Bool.{cases_Bool, cases_lt, lt-ltb, le-ltb, eqb-true, eq-eqb, ne_eqb, and_parts, and_from, and_left}
-use Rattle.std.proofs.lemmas.List.{append_assoc, append-nil, drop_more, drop_all, replicate_more}
+use Rattle.std.proofs.lemmas.List.{append-nil}
 use Rattle.us_holes.specs.Boards.{Owner, Holder, Board, Interval}
 use Rattle.us_holes.specs.Runs.{Run, same_holder, same_cell, goes_on, owner_of, lengthened, runs_from, runs_of, FollowOn, holder_of, minislots_of, Differ}
 use Rattle.us_holes.specs.Lists.{end_of, its_holder, InOrder, cells_of, idle_run, runs_between}

@@ -12,6 +12,6 @@ pub mod Runs
 pub mod Kept
 -- the definitions at small inputs
 pub mod Examples
-
--- how a board is kept, inside the crate
+-- inside the crate: how a board is kept
 pub mod Lists
+pub mod ListExamples

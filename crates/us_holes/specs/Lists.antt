@@ -1,7 +1,7 @@
 -- Inside the crate, and of no use to a reader of the promise: a board as its assignments and the holes between them.
-use Rattle.std.specs.Prelude.{◌≡◌, ℕ, zero, suc, ◌+◌, ◌-◌, ◌<◌, ◌≤◌, nat_le, nat_lt, nat_eq, max, Bool, ◌&&◌, ◌||◌, if◌then◌else◌, List, [], ◌∷◌, ◌++◌, length, take, drop, replicate, slice_index_or, Option, Some, None}
+use Rattle.std.specs.Prelude.{◌≡◌, ℕ, zero, suc, ◌+◌, ◌-◌, ◌<◌, ◌≤◌, nat_le, nat_lt, nat_eq, max, Bool, ◌&&◌, ◌||◌, if◌then◌else◌, List, [], ◌∷◌, ◌++◌, length, replicate, slice_index_or, Option, Some, None}
 use Rattle.std.specs.List.{insert, remove}
-use Rattle.us_holes.specs.Boards.{Holder, Board, Interval, max_assignments, max_minislots, free_count}
+use Rattle.us_holes.specs.Boards.{Holder, Board, Interval, max_assignments, free_count}
 use Rattle.us_holes.specs.Runs.{Run}
 use Rattle.us_holes.specs.Kept.{IsBoard}
 

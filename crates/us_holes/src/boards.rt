@@ -12,7 +12,7 @@ use crate::holes::{self, Hole};
 use crate::owners::Owner;
 use crate::placements::Placed;
 use crate::ranks;
-use crate::runs::{self as run, Run};
+use crate::runs::{Run, runs_of};
 use std::alloc::Global;
 use std::marker::Model;
 use us_slots::NoMemory;
@@ -27,9 +27,14 @@ pub const MAX_ASSIGNMENTS: u32 = 100;
 /// stand, each in minislots side by side.
 #[derive(Drop)]
 pub struct Board {
+    // by start
     assigned: Vec<Assignment>,
+
+    // what is idle between them, by start, and the same again, the longest first
     holes: Vec<Hole>,
     ranked: Vec<Hole>,
+
+    // how many minislots there are, and how many of them are idle
     len: u32,
     free: u32,
 }
@@ -65,7 +70,7 @@ impl Board {
 
     /// Assigns `slots` minislots to `owner` at the earliest start from `from` to `to` where so many are idle. A board
     /// that is full is told before one that has no room. It needs no memory.
-    #[tactic(auto, using(crate::proofs::FitLemmas::place_facts))]
+    #[tactic(auto, using(crate::proofs::FitLemmas::full_facts))]
     pub fn place_earliest(&mut self, from: u32, to: u32, slots: u32, owner: Owner) -> Placed
         requires window { from ≤ to }
         requires inside { to < length self.old.cells }
@@ -101,7 +106,6 @@ impl Board {
 
     /// The longest run of idle minislots, the first of several: its start and how many they are. `None` where no
     /// minislot is idle.
-    #[tactic(auto, using(crate::proofs::IdleLemmas::longest_facts))]
     pub fn longest(&self) -> Option<(u32, u32)>
         ensures longest { IfSome result (λ found. spec.IsFirstLongest self.now.cells found.0 found.1) }
         ensures none { IfNone result
@@ -148,6 +152,6 @@ impl Board {
         ensures differ { runs.Differ (runs.runs_of self.now.cells) }
         ensures few { length (runs.runs_of self.now.cells) ≤ 2 * self.now.standing + 1 }
     {
-        run::runs_of(alloc, &self.assigned, self.len)
+        runs_of(alloc, &self.assigned, self.len)
     }
 }

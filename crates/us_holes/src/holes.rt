@@ -2,6 +2,7 @@ ghost use Rattle.std.specs.Prelude.{◌≡◌, ◌+◌, ◌-◌, ◌<◌, ◌≤
 ghost use Rattle.us_holes.specs.Boards as spec;
 ghost use Rattle.us_holes.specs.Lists as lists;
 
+use crate::boards::MAX_ASSIGNMENTS;
 use std::alloc::Global;
 use std::marker::Model;
 use us_slots::NoMemory;
@@ -46,10 +47,9 @@ impl Hole {
 }
 
 /// The most holes of a board: one more than assignments.
-const MAX_HOLES: usize = 101;
+const MAX_HOLES: usize = MAX_ASSIGNMENTS as usize + 1;
 
 /// The one hole of an idle board of `len` minislots, and room for as many holes as a board may have.
-#[tactic(auto)]
 pub(crate) fn whole(alloc: Global, len: u32) -> Result<Vec<Hole>, NoMemory>
     requires some { 1 ≤ len }
     requires most { len ≤ spec.max_minislots }

@@ -77,7 +77,11 @@ fn push_idle(found: &mut Vec<Run>, from: u32, to: u32) -> Result<(), NoMemory>
 
 /// The runs of a board of `len` minislots with these assignments.
 #[tactic(auto, unfolding(crate::specs::Lists::runs_between))]
-pub(crate) fn runs_of(alloc: Global, assigned: &[Assignment], len: u32) -> Result<Vec<Run>, NoMemory>
+pub(crate) fn runs_of(
+    alloc: Global,
+    assigned: &[Assignment],
+    len: u32,
+) -> Result<Vec<Run>, NoMemory>
     requires { length assigned.now ≤ max_assignments }
     ensures { IfOk result (λ found. found.items ≡ lists.runs_between 0 assigned.now len) }
 {

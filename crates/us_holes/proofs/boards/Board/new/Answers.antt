@@ -1,4 +1,3 @@
-use Rattle.std.proofs.Common.{rules}
 use Rattle.us_holes.proofs.KeptLemmas.{empty_kept}
 use Rattle.us_holes.proofs.boards.Board.new.Goals as goal
 
