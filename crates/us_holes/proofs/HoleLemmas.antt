@@ -5,7 +5,8 @@ use Rattle.std.proofs.lemmas.Bool.{cases_Bool, cases_lt, and_parts, and_from, le
 use Rattle.std.proofs.lemmas.List.{append-nil}
 use Rattle.us_holes.specs.Boards.{Interval}
 use Rattle.us_holes.specs.Lists.{end_of, InOrder, put, Hole, hole_end, hole_from, hole_in, holes_of, fits_in, fit, HasAt, cut_at}
-use Rattle.us_holes.proofs.CellLemmas.{HasRoom, room_inside, hole_alone, put_first, put_later, put_alone}
+use Rattle.us_holes.proofs.CellLemmas.{HasRoom, room_inside, hole_alone}
+use Rattle.us_holes.proofs.PutLemmas.{put_first, put_later, put_alone}
 
 -- A hole that is taken out, and what is left of it put back, is cut.
 abbrev put_at : ℕ → List Hole → List Hole → List Hole

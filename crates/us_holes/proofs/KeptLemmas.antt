@@ -5,7 +5,8 @@ use Rattle.us_holes.specs.Boards.{Holder, Interval, empty_board, is_idle_at, ass
 use Rattle.us_holes.specs.Lists.{end_of, its_holder, InOrder, cells_of, board_of, put, Hole, hole_in, holes_of, fit, HasAt, cut_at, place_for, rank, first_in, AreLists}
 use Rattle.us_holes.proofs.IdleLemmas.{longest-some, longest-none}
 use Rattle.us_holes.proofs.BoardLemmas.{empty_is_board, empty_free, assign_is_board, assign_free}
-use Rattle.us_holes.proofs.CellLemmas.{HasRoom, room_inside, room_is_idle, idle_has_room, cells_length, put_order, put_assigned}
+use Rattle.us_holes.proofs.CellLemmas.{HasRoom, room_inside, room_is_idle, idle_has_room, cells_length}
+use Rattle.us_holes.proofs.PutLemmas.{put_order, put_assigned}
 use Rattle.us_holes.proofs.HoleLemmas.{holes_apart, at_room, IsFit, fit_is, fit_none, put_holes}
 use Rattle.us_holes.proofs.RankLemmas.{IsMost, first_is_most, first_is_none}
 

@@ -3,6 +3,7 @@ pub mod IdleLemmas
 pub mod BoardLemmas
 pub mod FitLemmas
 pub mod CellLemmas
+pub mod PutLemmas
 pub mod HoleLemmas
 pub mod RankLemmas
 pub mod KeptLemmas

@@ -89,7 +89,8 @@ fn add(holes: &mut Vec<Hole>, place: usize, from: u32, to: u32)
     requires place { place ≤ vec_len holes.old }
     requires room { vec_len holes.old < vec_capacity holes.old }
     requires inside { to ≤ spec.max_minislots }
-    ensures items { holes.new.items ≡ take place holes.old.items ++ (lists.hole_in from to ++ drop place holes.old.items) }
+    ensures items { holes.new.items
+        ≡ take place holes.old.items ++ (lists.hole_in from to ++ drop place holes.old.items) }
     ensures capacity { vec_capacity holes.old ≤ vec_capacity holes.new }
 {
     if from < to {
