@@ -2,7 +2,7 @@
 use Rattle.std.proofs.Common.{◌≡◌, ℕ, zero, suc, ◌+◌, ◌-◌, ◌<◌, ◌≤◌, ◌⊎◌, nat_le, List, [], ◌∷◌, ◌++◌, length, replicate, take, drop, get_or, true, false, cond, Option, Some, None, is_none, refl, ap, sym, ◌∙◌, inl, inr, arith}
 use Rattle.std.specs.List.{list_all}
 use Rattle.std.proofs.lemmas.Bool.{cases_Bool, cases_lt, and_parts}
-use Rattle.std.proofs.lemmas.List.{drop-drop, take-append-drop, length-replicate, length-append, length-take-le, length-drop, drop_all, take_all, append-nil, get_or-append_right, get_or_append_left, get_or-take, get_or-replicate, get_or-drop, get_or_default}
+use Rattle.std.proofs.lemmas.List.{drop-drop, take-append-drop, length-replicate, length-append, length-take-le, length-drop, get_or-append_right, get_or_append_left, get_or-take, get_or-replicate, get_or-drop, get_or_default}
 use Rattle.std.proofs.lemmas.List.Sums.{sum_by-append, sum_by-cons}
 use Rattle.std.proofs.lemmas.List.Folds.{sum_by-replicate}
 use Rattle.us_holes.specs.Boards.{Owner, Holder, Board, empty_board, is_idle_at, assign, free_count}
@@ -249,31 +249,3 @@ assign_free cells start slots holder idle =
       count-append (take start cells) (replicate slots (Some holder)),
       count-held slots holder,
     )
-
--- minislots that were written through a borrow of a vector of `len` minislots
-pub written_back : (cells lent wrote : List (Option Holder)) (len start slots : ℕ) (cell : Option Holder) →
-    lent ≡ cells → length lent ≡ len → start + slots ≤ length cells →
-    wrote ≡ take start lent ++ replicate slots cell ++ drop (start + slots) lent →
-    take len (wrote ++ drop (length wrote) cells) ≡ take start cells ++ replicate slots cell ++ drop (start + slots) cells
-written_back cells lent wrote len start slots cell same long inside e =
-    let is : wrote ≡ take start cells ++ replicate slots cell ++ drop (start + slots) cells = rw same at e in
-    let all : length wrote ≡ length cells =
-    ap (λ xs. length xs) is ∙ length-middle start slots cell cells inside in
-    let old : length cells ≡ len = ap (λ xs. length xs) (sym same) ∙ long in
-    let rest : drop (length wrote) cells ≡ [] = drop_all (length wrote) cells (omega (arith, all)) in
-    rw (rest, append-nil wrote) (take_all len wrote (omega (arith, all, old)) ∙ is)
-
--- what the fields of a board keep: the count of idle minislots is kept too
-pub assigned_keeps : (cells new : List (Option Holder)) (standing free start slots : ℕ) (owner : Owner) →
-    (let board : Board = record { cells = cells; standing = standing } in
-    (IsBoard board × (free ≡ free_count cells)) × (standing < 100) × (is_idle_at cells slots start ≡ true) ×
-    (new ≡ (assign board start slots owner).cells)) →
-    IsBoard (record { cells = new; standing = standing + 1 }) × (free - slots ≡ free_count new)
-assigned_keeps cells new standing free start slots owner h =
-    let board : Board = record { cells = cells; standing = standing } in
-    let fewer = assign_free cells start slots (record { start = start; owner = owner }) h.2 in
-    rw h.3 (assign_is_board board start slots owner h.0.0 h.1 h.2, omega (arith, fewer, h.0.1))
-
-pub ruleset empty_facts = (empty_is_board, empty_free)
-
-pub ruleset assign_facts = (idle_inside, length-middle)

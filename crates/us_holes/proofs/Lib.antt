@@ -2,5 +2,11 @@ pub mod RunLemmas
 pub mod IdleLemmas
 pub mod BoardLemmas
 pub mod FitLemmas
+pub mod CellLemmas
+pub mod PutLemmas
+pub mod HoleLemmas
+pub mod RankLemmas
+pub mod KeptLemmas
+pub mod PlacingLemmas
 pub mod LawLemmas
 pub mod StandLemmas

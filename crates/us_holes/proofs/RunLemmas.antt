@@ -1,10 +1,11 @@
 -- Runs: how they are found, and what follows of their definition.
-use Rattle.std.proofs.Common.{◌≡◌, ℕ, zero, suc, ◌+◌, ◌-◌, ◌*◌, ◌<◌, ◌≤◌, nat_eq, List, [], ◌∷◌, ◌++◌, length, replicate, drop, get_or, true, false, ◌&&◌, Option, Some, None, is_none, refl, ap, sym, ◌∙◌, inl, inr, arith}
+use Rattle.std.proofs.Common.{◌≡◌, ℕ, zero, suc, ◌+◌, ◌-◌, ◌*◌, ◌<◌, ◌≤◌, nat_eq, List, [], ◌∷◌, ◌++◌, length, replicate, true, false, ◌&&◌, Option, Some, None, is_none, refl, ap, sym, ◌∙◌, inl, inr, arith}
 use Rattle.std.specs.List.{flat_map}
-use Rattle.std.proofs.lemmas.Bool.{cases_Bool, cases_lt, eqb-true, eq-eqb, ne_eqb, and_parts, and_from, and_left}
-use Rattle.std.proofs.lemmas.List.{append_assoc, append-nil, drop_more, drop_all, replicate_more}
-use Rattle.us_holes.specs.Boards.{Owner, Holder, Board}
+use Rattle.std.proofs.lemmas.Bool.{cases_Bool, cases_lt, lt-ltb, le-ltb, eqb-true, eq-eqb, ne_eqb, and_parts, and_from, and_left}
+use Rattle.std.proofs.lemmas.List.{append-nil}
+use Rattle.us_holes.specs.Boards.{Owner, Holder, Board, Interval}
 use Rattle.us_holes.specs.Runs.{Run, same_holder, same_cell, goes_on, owner_of, lengthened, runs_from, runs_of, FollowOn, holder_of, minislots_of, Differ}
+use Rattle.us_holes.specs.Lists.{end_of, its_holder, InOrder, cells_of, idle_run, runs_between}
 use Rattle.us_holes.specs.Kept.{cell_at, AreHeldFromStart, changes, IsBoard}
 
 -- A holder is the same as itself,
@@ -85,48 +86,70 @@ runs_group start (suc more) end cell cells e h =
     let back : start + 1 - 1 ≡ start = omega arith in
     rw (same_cell-refl cell, runs_group (start + 1) more end cell cells next h, back, count) refl
 
--- A run as it is found: at its first minislot,
-pub run_starts : (cells : List (Option Holder)) (start : ℕ) → start < length cells →
-    drop start cells ≡ replicate (start + 1 - start) (get_or cells start None) ++ drop (start + 1) cells
-run_starts cells start h =
-    let one : start + 1 - start ≡ 1 = omega arith in
-    rw one (drop_more cells start None h)
+-- Runs of assignments by start, and of the gaps between them.
+group : (start slots end : ℕ) (cell : Option Holder) (cells : List (Option Holder)) → 0 < slots → start + slots ≡ end →
+    Differs cell cells →
+    runs_from start (replicate slots cell ++ cells) ≡
+    record { start = start; len = slots; owner = owner_of cell } ∷ runs_from end cells
+group start zero end cell cells some e h = absurd (omega (arith, some))
+group start (suc more) end cell cells some e h = runs_group start more end cell cells e h
 
--- at one minislot more of its holder,
-pub run_goes_on : (cells : List (Option Holder)) (start end : ℕ) (cell : Option Holder) →
-    drop start cells ≡ replicate (end - start) cell ++ drop end cells → start < end → end < length cells →
-    same_cell cell (get_or cells end None) ≡ true →
-    drop start cells ≡ replicate (end + 1 - start) cell ++ drop (end + 1) cells
-run_goes_on cells start end cell group above inside same =
-    let more : end + 1 - start ≡ end - start + 1 = omega (arith, above) in
-    let next : drop end cells ≡ cell ∷ drop (end + 1) cells =
-    drop_more cells end None inside ∙ ap (λ one. one ∷ drop (end + 1) cells) (sym (same_cell-is cell (get_or cells end None) same)) in
-    group ∙ rw (next, more, sym (replicate_more (end - start) cell))
-    (sym (append_assoc (replicate (end - start) cell) (cell ∷ []) (drop (end + 1) cells)))
+-- what is idle differs from what is held
+idle_differs : (slots : ℕ) (holder : Holder) (cells : List (Option Holder)) → 0 < slots →
+    Differs None (replicate slots (Some holder) ++ cells)
+idle_differs zero holder cells some = absurd (omega (arith, some))
+idle_differs (suc slots) holder cells some = refl
 
--- and at its end.
-pub run_ends : (cells : List (Option Holder)) (start end : ℕ) (cell : Option Holder) →
-    drop start cells ≡ replicate (end - start) cell ++ drop end cells → start < end → Differs cell (drop end cells) →
-    runs_from start (drop start cells) ≡
-    record { start = start; len = end - start; owner = owner_of cell } ∷ runs_from end (drop end cells)
-run_ends cells start end cell group above differs =
-    let count : end - start ≡ suc (end - start - 1) = omega (arith, above) in
-    let at : start + suc (end - start - 1) ≡ end = omega (arith, above) in
-    rw (group, count) (runs_group start (end - start - 1) end cell (drop end cells) at differs)
+gap_differs : (slots : ℕ) (holder : Holder) (cells : List (Option Holder)) → Differs (Some holder) cells →
+    Differs (Some holder) (replicate slots None ++ cells)
+gap_differs zero holder cells h = h
+gap_differs (suc slots) holder cells h = refl
 
-pub differs_past : (cells : List (Option Holder)) (end : ℕ) (cell : Option Holder) → length cells ≤ end →
-    Differs cell (drop end cells)
-differs_past cells end cell past = rw (drop_all end cells past) refl
+-- and so do assignments
+start_differs : (slots : ℕ) (one other : Holder) (cells : List (Option Holder)) → 0 < slots → one.start < other.start →
+    Differs (Some one) (replicate slots (Some other) ++ cells)
+start_differs zero one other cells some h = absurd (omega (arith, some))
+start_differs (suc slots) one other cells some h =
+    and_left (nat_eq one.start other.start) (nat_eq one.owner.sid other.owner.sid && nat_eq one.owner.iuc other.owner.iuc)
+    (ne_eqb one.start other.start (λ same. omega (arith, h, same)))
 
-pub differs_inside : (cells : List (Option Holder)) (end : ℕ) (cell : Option Holder) → end < length cells →
-    same_cell cell (get_or cells end None) ≡ false → Differs cell (drop end cells)
-differs_inside cells end cell inside h = rw (drop_more cells end None inside) h
+next_differs : (from : ℕ) (assigned : List Interval) (to : ℕ) (holder : Holder) → InOrder from assigned to →
+    holder.start < from → Differs (Some holder) (cells_of from assigned to)
+unfolding InOrder cells_of
+next_differs from [] to holder order h =
+    let idle : Option Holder = None in
+    rw (append-nil (replicate (to - from) idle)) at (gap_differs (to - from) holder [] refl)
+next_differs from (one ∷ more) to holder order h =
+    gap_differs (one.start - from) holder (replicate one.slots (Some (its_holder one)) ++ cells_of (end_of one) more to)
+    (start_differs one.slots holder (its_holder one) (cells_of (end_of one) more to) order.1 (omega (arith, h, order.0)))
 
--- behind the last minislot there are no runs
-pub runs_done : (found runs : List Run) (cells : List (Option Holder)) (start : ℕ) → length cells ≤ start →
-    found ++ runs_from start (drop start cells) ≡ runs → found ≡ runs
-unfolding runs_from
-runs_done found runs cells start past h = sym (append-nil found) ∙ rw (drop_all start cells past) at h
+gap_runs : (from to : ℕ) (cells : List (Option Holder)) → from ≤ to → Differs None cells →
+    runs_from from (replicate (to - from) None ++ cells) ≡ idle_run from to ++ runs_from to cells
+gap_runs from to cells order h = elim (cases_lt from to) [
+  | inl some ↦ rw (lt-ltb from to some) (group from (to - from) to None cells (omega (arith, some)) (omega (arith, some)) h)
+  | inr none ↦
+      let nothing : to - from ≡ 0 = omega (arith, none) in
+      let same : from ≡ to = omega (arith, none, order) in
+      rw (le-ltb from to none, nothing, same) refl
+]
+
+pub runs_are : (from : ℕ) (assigned : List Interval) (to : ℕ) → InOrder from assigned to →
+    runs_between from assigned to ≡ runs_from from (cells_of from assigned to)
+unfolding InOrder cells_of runs_between runs_from
+runs_are from [] to order =
+    let idle : Option Holder = None in
+    let is : runs_from from (replicate (to - from) idle) ≡ idle_run from to =
+    rw (append-nil (replicate (to - from) idle), append-nil (idle_run from to)) at (gap_runs from to [] order refl) in
+    sym is
+runs_are from (one ∷ more) to order =
+    let held : Option Holder = Some (its_holder one) in
+    let rest : List (Option Holder) = cells_of (end_of one) more to in
+    rw (
+      gap_runs from one.start (replicate one.slots held ++ rest) order.0 (idle_differs one.slots (its_holder one) rest order.1),
+      group one.start one.slots (end_of one) held rest order.1 refl
+          (next_differs (end_of one) more to (its_holder one) order.2 (omega (arith, order.1))),
+      runs_are (end_of one) more to order.2,
+    ) refl
 
 -- Runs follow on without a gap.
 lengthened-follow : (start to len : ℕ) (owner : Option Owner) (rest : List Run) →

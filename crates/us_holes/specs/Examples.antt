@@ -7,19 +7,19 @@ use Rattle.us_holes.specs.Kept.{changes}
 use Rattle.us_holes.specs.declared.placements.Placed.TheVariants as answer
 
 -- a broadcast request
-abbrev broadcast : Owner
+abbrev pub broadcast : Owner
 broadcast = record { sid = 16383; iuc = 1 }
 
 -- a long data grant
-abbrev grant : Owner
+abbrev pub grant : Owner
 grant = record { sid = 291; iuc = 10 }
 
 -- 8 minislots, of which the last 2 are a contention reserve
-abbrev reserved : Board
+abbrev pub reserved : Board
 reserved = assign (empty_board 8) 6 2 broadcast
 
 -- and 2 from minislot 2 on are a grant
-abbrev granted : Board
+abbrev pub granted : Board
 granted = assign reserved 2 2 grant
 
 abbrev held : ℕ → Owner → Option Holder

@@ -12,3 +12,6 @@ pub mod Runs
 pub mod Kept
 -- the definitions at small inputs
 pub mod Examples
+-- inside the crate: how a board is kept
+pub mod Lists
+pub mod ListExamples

@@ -1,19 +1,21 @@
-ghost use Rattle.std.specs.Prelude.{◌≡◌, ℕ, ◌+◌, ◌*◌, ◌-◌, ◌≤◌, ◌<◌, ◌++◌, nat_le, true, false, take, drop, replicate, IfOk, IfSome, IfNone, Some, length};
+ghost use Rattle.std.specs.Prelude.{◌≡◌, ℕ, ◌+◌, ◌*◌, ◌-◌, ◌≤◌, ◌<◌, true, false, IfOk, IfSome, IfNone, Some, length, vec_capacity};
 ghost use Rattle.std.specs.List.{flat_map};
 ghost use Rattle.us_holes.specs.Boards as spec;
 ghost use Rattle.us_holes.specs.Kept.{IsBoard};
+ghost use Rattle.us_holes.specs.Lists as lists;
 ghost use Rattle.us_holes.specs.Placements as placements;
 ghost use Rattle.us_holes.specs.Runs as runs;
 
-use crate::holders::Holder;
+use crate::assigning::assign;
+use crate::assignments::Assignment;
+use crate::holes::{self, Hole};
 use crate::owners::Owner;
 use crate::placements::Placed;
-use crate::runs::{Run, grouped};
+use crate::ranks;
+use crate::runs::{Run, runs_of};
 use std::alloc::Global;
 use std::marker::Model;
 use us_slots::NoMemory;
-
-mod searches;
 
 /// The most minislots of a board (ours): a MAP has at most 4,096 ticks.
 pub const MAX_MINISLOTS: u32 = 4_096;
@@ -25,38 +27,50 @@ pub const MAX_ASSIGNMENTS: u32 = 100;
 /// stand, each in minislots side by side.
 #[derive(Drop)]
 pub struct Board {
-    cells: Vec<Option<Holder>>,
-    standing: u32,
+    // by start
+    assigned: Vec<Assignment>,
+
+    // what is idle between them, by start, and the same again, the longest first
+    holes: Vec<Hole>,
+    ranked: Vec<Hole>,
+
+    // how many minislots there are, and how many of them are idle
+    len: u32,
     free: u32,
 }
 
 impl Model for Board {
     ghost Value = { spec.Board };
 
-    ghost view = { λ b. record { cells = b.cells.items; standing = b.standing } };
+    ghost view = { λ b. lists.board_of b.assigned.items b.len };
 
-    ghost invariant = { λ b. IsBoard (record { cells = b.cells.items; standing = b.standing })
-        × (b.free ≡ spec.free_count b.cells.items) };
+    ghost invariant = { λ b. lists.AreLists b.assigned.items b.holes.items b.ranked.items b.len b.free
+        × lists.HaveRoom (vec_capacity b.assigned) (vec_capacity b.holes) (vec_capacity b.ranked) };
 }
 
 impl Board {
     /// A board of `len` idle minislots, 1 to 4,096.
-    #[tactic(auto, using(crate::proofs::BoardLemmas::empty_facts))]
+    #[tactic(auto, using(crate::proofs::KeptLemmas::empty_facts))]
     pub fn new(alloc: Global, len: u32) -> Result<Board, NoMemory>
         requires some { 1 ≤ len }
         requires most { len ≤ MAX_MINISLOTS }
         ensures { IfOk result (λ board. board ≡ spec.empty_board len) }
     {
+        let assigned = Vec::with_capacity(alloc, MAX_ASSIGNMENTS as usize)?;
+        let holes = holes::whole(alloc, len)?;
+        let ranked = holes::whole(alloc, len)?;
         Ok(Board {
-            cells: vec![in alloc; None; len as usize]?,
-            standing: 0,
+            assigned,
+            holes,
+            ranked,
+            len,
             free: len,
         })
     }
 
     /// Assigns `slots` minislots to `owner` at the earliest start from `from` to `to` where so many are idle. A board
     /// that is full is told before one that has no room. It needs no memory.
-    #[tactic(auto, using(crate::proofs::FitLemmas::place_facts))]
+    #[tactic(auto, using(crate::proofs::FitLemmas::full_facts))]
     pub fn place_earliest(&mut self, from: u32, to: u32, slots: u32, owner: Owner) -> Placed
         requires window { from ≤ to }
         requires inside { to < length self.old.cells }
@@ -69,44 +83,36 @@ impl Board {
         if self.is_full() {
             return Placed::Full;
         }
-        match searches::earliest(&self.cells, from, to, slots) {
-            Some(start) => {
-                self.assign(start, slots, owner);
+        match holes::earliest(&self.holes, from, to, slots) {
+            Some((place, start)) => {
+                let one = Assignment {
+                    start,
+                    slots,
+                    owner,
+                };
+                assign(
+                    &mut self.assigned,
+                    &mut self.holes,
+                    &mut self.ranked,
+                    place,
+                    one,
+                );
+                self.free -= slots;
                 Placed::At(start, slots)
             }
             None => Placed::NoRoom,
         }
     }
 
-    /// Assigns the `slots` minislots from `start` on, which are idle, to `owner`.
-    #[tactic(auto, using(crate::proofs::BoardLemmas::assign_facts))]
-    fn assign(&mut self, start: u32, slots: u32, owner: Owner)
-        requires idle { spec.is_idle_at self.old.cells slots start ≡ true }
-        requires some { 1 ≤ slots }
-        requires few { self.old.standing < MAX_ASSIGNMENTS }
-        ensures value { self.new ≡ spec.assign self.old start slots owner }
-        ensures len { length self.new.cells ≡ length self.old.cells }
-    {
-        hold(
-            &mut self.cells,
-            start as usize,
-            slots as usize,
-            Holder { start, owner },
-        );
-        self.standing += 1;
-        self.free -= slots;
-    }
-
     /// The longest run of idle minislots, the first of several: its start and how many they are. `None` where no
     /// minislot is idle.
-    #[tactic(auto, using(crate::proofs::IdleLemmas::longest_facts))]
     pub fn longest(&self) -> Option<(u32, u32)>
         ensures longest { IfSome result (λ found. spec.IsFirstLongest self.now.cells found.0 found.1) }
         ensures none { IfNone result
             ((start slots : ℕ) → 0 < slots → spec.is_idle_at self.now.cells slots start ≡ false) }
         ensures value { result ≡ spec.longest_idle self.now.cells }
     {
-        searches::longest(&self.cells)
+        ranks::first(&self.ranked)
     }
 
     /// How many minislots are idle.
@@ -124,14 +130,14 @@ impl Board {
         // The limits that conditions and docs name.
         ensures limits { (MAX_MINISLOTS ≡ 4096) × (MAX_ASSIGNMENTS ≡ 100) }
     {
-        self.cells.len() as u32
+        self.len
     }
 
     /// Whether there are as many assignments as there may be. There may be idle minislots yet.
     pub fn is_full(&self) -> bool
         ensures { result ≡ spec.is_full self.now }
     {
-        self.standing >= MAX_ASSIGNMENTS
+        self.assigned.len() >= MAX_ASSIGNMENTS as usize
     }
 
     /// The runs of minislots with one holder, in order: one for each assignment, and one for each gap.
@@ -146,14 +152,6 @@ impl Board {
         ensures differ { runs.Differ (runs.runs_of self.now.cells) }
         ensures few { length (runs.runs_of self.now.cells) ≤ 2 * self.now.standing + 1 }
     {
-        grouped(alloc, &self.cells)
+        runs_of(alloc, &self.assigned, self.len)
     }
-}
-
-/// Gives the `slots` minislots from `start` on to one holder.
-fn hold(cells: &mut [Option<Holder>], start: usize, slots: usize, holder: Holder)
-    requires { start + slots ≤ length cells.old }
-    ensures { cells.new ≡ take start cells.old ++ replicate slots (Some holder) ++ drop (start + slots) cells.old }
-{
-    cells[start..start + slots].fill(Some(holder));
 }

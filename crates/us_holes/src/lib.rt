@@ -13,16 +13,25 @@
 // To whom minislots are assigned.
 mod owners;
 
-// The assignment that holds a minislot.
-mod holders;
-
 // What becomes of an assignment that is to be placed.
 mod placements;
+
+// Assignments by start.
+mod assignments;
+
+// Idle minislots between them, by start.
+mod holes;
+
+// The same by length.
+mod ranks;
+
+// One more assignment in all three.
+mod assigning;
 
 // Minislots side by side with one holder.
 mod runs;
 
-// The board.
+// The board, which keeps these lists.
 mod boards;
 
 pub use boards::{Board, MAX_ASSIGNMENTS, MAX_MINISLOTS};

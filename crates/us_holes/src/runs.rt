@@ -1,7 +1,9 @@
-ghost use Rattle.std.specs.Prelude.{◌≡◌, ◌+◌, ◌-◌, ◌≤◌, ◌<◌, ◌∷◌, drop, slice_index_or, IfOk, length, None};
+ghost use Rattle.std.specs.Prelude.{◌≡◌, ◌≤◌, ◌++◌, IfOk, OnOk, length};
+ghost use Rattle.us_holes.specs.Boards.{max_assignments};
+ghost use Rattle.us_holes.specs.Lists as lists;
 ghost use Rattle.us_holes.specs.Runs as spec;
 
-use crate::holders::{Holder, is_same_cell, owner_of};
+use crate::assignments::Assignment;
 use crate::owners::Owner;
 use std::alloc::Global;
 use std::marker::Model;
@@ -46,41 +48,51 @@ impl Run {
     }
 }
 
-/// The runs of these minislots.
-pub(crate) fn grouped(alloc: Global, cells: &[Option<Holder>]) -> Result<Vec<Run>, NoMemory>
-    requires { length cells.now ≤ 4096 }
-    ensures { IfOk result (λ found. found.items ≡ spec.runs_of cells.now) }
-{
-    let mut found = Vec::new(alloc);
-    let mut start = 0;
-    while start < cells.len() {
-        let end = end_of(cells, start);
-        let len = (end - start) as u32;
-        found.push(Run {
-            start: start as u32,
-            len,
-            owner: owner_of(cells[start]),
-        })?;
-        start = end;
+impl Run {
+    /// The run of an assignment.
+    fn of(one: Assignment) -> Run
+        ensures { result ≡ lists.run_of one }
+    {
+        Run {
+            start: one.start,
+            len: one.slots,
+            owner: Some(one.owner),
+        }
     }
-    Ok(found)
 }
 
-/// Where the run that begins at `start` ends.
-fn end_of(cells: &[Option<Holder>], start: usize) -> usize
-    requires { start < length cells.now }
-    ensures above { start < result }
-    ensures below { result ≤ length cells.now }
-    ensures run { let run : spec.Run = record {
-      start = start;
-      len = result - start;
-      owner = spec.owner_of (slice_index_or cells.now start None);
-    } in
-        spec.runs_from start (drop start cells.now) ≡ run ∷ spec.runs_from result (drop result cells.now) }
+/// Adds the idle run from `from` to `to`, where there are such minislots.
+fn push_idle(found: &mut Vec<Run>, from: u32, to: u32) -> Result<(), NoMemory>
+    ensures { OnOk result (found.new.items ≡ found.old.items ++ lists.idle_run from to) }
 {
-    let mut end = start + 1;
-    while end < cells.len() && is_same_cell(cells[start], cells[end]) {
-        end += 1;
+    if from < to {
+        found.push(Run {
+            start: from,
+            len: to - from,
+            owner: None,
+        })?;
     }
-    end
+    Ok(())
+}
+
+/// The runs of a board of `len` minislots with these assignments.
+#[tactic(auto, unfolding(crate::specs::Lists::runs_between))]
+pub(crate) fn runs_of(
+    alloc: Global,
+    assigned: &[Assignment],
+    len: u32,
+) -> Result<Vec<Run>, NoMemory>
+    requires { length assigned.now ≤ max_assignments }
+    ensures { IfOk result (λ found. found.items ≡ lists.runs_between 0 assigned.now len) }
+{
+    let mut found = Vec::with_capacity(alloc, 2 * assigned.len() + 1)?;
+    let mut from = 0;
+    for i in 0..assigned.len() {
+        let one = assigned[i];
+        push_idle(&mut found, from, one.start)?;
+        found.push(Run::of(one))?;
+        from = one.end();
+    }
+    push_idle(&mut found, from, len)?;
+    Ok(found)
 }

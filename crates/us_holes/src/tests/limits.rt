@@ -2,11 +2,11 @@ use super::base::{place, same};
 use crate::{Board, Placed};
 use std::alloc::Global;
 
-/// Assigns each second minislot from minislot 1 on, and says how many could be.
+/// Assigns each second minislot from minislot 1 on, here and there among the others, and says how many could be.
 fn assign_many(board: &mut Board) -> usize {
     let mut count = 0usize;
     for number in 0..100u32 {
-        let at = 2 * number + 1;
+        let at = 2 * (number * 37 % 100) + 1;
         if place(board, ((at, at), 1, 16_383)) == Placed::At(at, 1) {
             count = count.saturating_add(1);
         }
@@ -29,7 +29,7 @@ fn run_count(alloc: Global, board: &Board) -> usize {
     }
 }
 
-/// The most assignments, with an idle minislot round each.
+/// The most assignments, with an idle minislot round each: so there are as many holes as there may be.
 #[test]
 fn most_assignments(rt: HostRuntime) {
     let Ok(mut board) = Board::new(rt.alloc(), 201) else {

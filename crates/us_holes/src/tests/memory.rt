@@ -1,8 +1,9 @@
 use super::base::{place, same};
 use crate::Board;
 
-/// No test of its own: run with `--fail-alloc`, where each allocation is refused in turn: of the board, and as the list
-/// of its runs grows. A refused one is answered as want of memory, and never as a list of fewer runs.
+/// No test of its own: run with `--fail-alloc`, where each allocation is refused in turn: of the board's lists, and of
+/// the list of its runs. A refused one is answered as want of memory, and never as a list of fewer runs; and placements
+/// take none, so that none is refused.
 #[test]
 fn refused_memory(rt: HostRuntime) {
     let Ok(mut board) = Board::new(rt.alloc(), 4_096) else {

@@ -4,8 +4,9 @@ use super::base::{Triple, Wish, is_told, place, same};
 use crate::{Board, Placed};
 use std::alloc::Global;
 
-/// The minislots of a plain program: the number of the assignment that holds each, and 0 where it is idle.
-type Cells = [u32; 24];
+/// The minislots of a plain program, a list of owners: the number of the assignment that holds each, and 0 where it is
+/// idle.
+type Cells = [u32; 64];
 
 /// The next number below a limit, of a fixed row of numbers that look random.
 fn next(seed: &mut u32, below: u32) -> u32
@@ -28,7 +29,7 @@ fn sid_of(number: u32) -> u16 {
 /// How many minislots from `start` on have this number.
 fn same_from(cells: &Cells, start: u32, number: u32) -> u32 {
     let mut count = 0u32;
-    for i in start as usize..24 {
+    for i in start as usize..64 {
         if cells[i] != number {
             return count;
         }
@@ -40,7 +41,7 @@ fn same_from(cells: &Cells, start: u32, number: u32) -> u32 {
 /// The first start of a wish's window with so many idle minislots behind it.
 fn plain_start(cells: &Cells, wish: Wish) -> Option<u32> {
     let ((from, to), slots, _) = wish;
-    for start in from..24 {
+    for start in from..64 {
         if start <= to && same_from(cells, start, 0) >= slots {
             return Some(start);
         }
@@ -72,7 +73,7 @@ fn plain_place(cells: &mut Cells, wish: Wish, number: u32) -> Placed {
 fn plain_longest(cells: &Cells) -> Option<(u32, u32)> {
     let mut best = None;
     let mut most = 0;
-    for start in 0..24u32 {
+    for start in 0..64u32 {
         let count = same_from(cells, start, 0);
         if count > most {
             most = count;
@@ -84,7 +85,7 @@ fn plain_longest(cells: &Cells) -> Option<(u32, u32)> {
 
 /// The run that starts at a minislot, told by the change of the number; `None` where none does.
 fn run_at(cells: &Cells, start: u32) -> Option<Triple>
-    requires { start < 24 }
+    requires { start < 64 }
 {
     let number = cells[start as usize];
     if start > 0 && cells[start as usize - 1] == number {
@@ -99,24 +100,24 @@ fn run_at(cells: &Cells, start: u32) -> Option<Triple>
 }
 
 /// Writes the runs into the front of a list, and says how many there are.
-fn plain_runs(cells: &Cells, found: &mut [Triple; 24]) -> usize
-    ensures { result ≤ 24 }
+fn plain_runs(cells: &Cells, found: &mut [Triple; 64]) -> usize
+    ensures { result ≤ 64 }
 {
     let mut count = 0;
-    for start in 0..24u32 {
+    for start in 0..64u32 {
         if let Some(run) = run_at(cells, start) {
-            if count < 24 {
+            if count < 64 {
                 found[count] = run;
                 count += 1;
             }
         }
     }
-    count.min(24)
+    count.min(64)
 }
 
-/// A wish of up to 5 minislots, in a window of 24.
+/// A wish of up to 5 minislots, and the window of its starts.
 fn wish_of(seed: &mut u32, number: u32) -> Wish {
-    let (one, other) = (next(seed, 24), next(seed, 24));
+    let (one, other) = (next(seed, 64), next(seed, 64));
     (
         (one.min(other), one.max(other)),
         1 + next(seed, 5),
@@ -128,7 +129,7 @@ fn wish_of(seed: &mut u32, number: u32) -> Wish {
 fn agree(alloc: Global, board: &mut Board, cells: &mut Cells, wish: Wish, number: u32) -> bool {
     let answer = place(board, wish);
     let placed = plain_place(cells, wish, number);
-    let mut runs = [(0, 0, None); 24];
+    let mut runs = [(0, 0, None); 64];
     let count = plain_runs(cells, &mut runs);
     let idle = cells.iter().filter(|cell| **cell == 0).count() as u32;
     is_told(
@@ -139,14 +140,14 @@ fn agree(alloc: Global, board: &mut Board, cells: &mut Cells, wish: Wish, number
     )
 }
 
-/// After how many of 14 wishes a board and a plain list tell the same.
+/// After how many of 30 wishes a board and a plain list tell the same.
 fn wishes_agree(alloc: Global, seed: &mut u32) -> usize {
-    let Ok(mut board) = Board::new(alloc, 24) else {
+    let Ok(mut board) = Board::new(alloc, 64) else {
         return 0;
     };
-    let mut cells = [0; 24];
+    let mut cells = [0; 64];
     let mut count = 0usize;
-    for number in 1..15u32 {
+    for number in 1..31u32 {
         let wish = wish_of(seed, number);
         count = count.saturating_add(usize::from(agree(
             alloc, &mut board, &mut cells, wish, number,
@@ -158,7 +159,7 @@ fn wishes_agree(alloc: Global, seed: &mut u32) -> usize {
 #[test]
 fn plain_program_agrees(rt: HostRuntime) {
     let mut seed = 1;
-    for _ in 0..60u32 {
-        same(&rt, wishes_agree(rt.alloc(), &mut seed), 14);
+    for _ in 0..40u32 {
+        same(&rt, wishes_agree(rt.alloc(), &mut seed), 30);
     }
 }

@@ -1,0 +1,228 @@
+-- Holes: where an assignment fits, and what it leaves of them.
+use Rattle.std.proofs.Common.{◌≡◌, ℕ, zero, suc, ◌+◌, ◌-◌, ◌<◌, ◌≤◌, nat_le, max, List, [], ◌∷◌, ◌++◌, length, take, drop, get_or, true, false, Some, None, refl, ap, sym, ◌∙◌, inl, inr, arith}
+use Rattle.std.specs.List.{remove}
+use Rattle.std.proofs.lemmas.Bool.{cases_Bool, cases_lt, and_parts, and_from, leb-true, le-leb, lt-ltb, le-ltb}
+use Rattle.std.proofs.lemmas.List.{append-nil}
+use Rattle.us_holes.specs.Boards.{Interval}
+use Rattle.us_holes.specs.Lists.{end_of, InOrder, put, Hole, hole_end, hole_from, hole_in, holes_of, fits_in, fit, HasAt, cut_at}
+use Rattle.us_holes.proofs.CellLemmas.{HasRoom, room_inside, hole_alone}
+use Rattle.us_holes.proofs.PutLemmas.{put_first, put_later, put_alone}
+
+-- A hole that is taken out, and what is left of it put back, is cut.
+abbrev put_at : ℕ → List Hole → List Hole → List Hole
+put_at place gap holes = take place holes ++ (gap ++ drop place holes)
+
+pub cut_is : (holes : List Hole) (place start slots : ℕ) (hole : Hole) → place < length holes →
+    hole ≡ get_or holes place hole →
+    put_at place (hole_in hole.start start) (put_at place (hole_in (start + slots) (hole_end hole)) (remove holes place)) ≡
+    cut_at place start slots holes
+unfolding cut_at
+cut_is [] place start slots hole inside is = absurd (omega (arith, inside))
+cut_is (one ∷ more) zero start slots hole inside is = rw is refl
+cut_is (one ∷ more) (suc place) start slots hole inside is =
+    ap (λ holes. one ∷ holes) (cut_is more place start slots hole (omega (arith, inside)) is)
+
+-- Holes by start.
+unfoldable pub AreApart : ℕ → List Hole → Type 0
+AreApart from [] = Unit {0}
+AreApart from (hole ∷ more) = (from ≤ hole.start) × (0 < hole.slots) × AreApart (hole_end hole) more
+
+apart_before : (from later : ℕ) (holes : List Hole) → from ≤ later → AreApart later holes → AreApart from holes
+unfolding AreApart
+apart_before from later [] before h = tt
+apart_before from later (hole ∷ more) before h = (omega (arith, before, h.0), h.1, h.2)
+
+gap_apart : (from to : ℕ) (holes : List Hole) → from ≤ to → AreApart to holes → AreApart from (hole_in from to ++ holes)
+unfolding AreApart
+gap_apart from to holes order h = elim (cases_lt from to) [
+  | inr none ↦ rw (le-ltb from to none) (apart_before from to holes order h)
+  | inl some ↦
+      let ends : from + (to - from) ≡ to = omega (arith, some) in
+      rw (lt-ltb from to some) (omega arith, omega (arith, some), rw ends h)
+]
+
+pub holes_apart : (from : ℕ) (assigned : List Interval) (to : ℕ) → InOrder from assigned to →
+    AreApart from (holes_of from assigned to)
+unfolding InOrder holes_of AreApart
+holes_apart from [] to order = rw (sym (hole_alone from to)) (gap_apart from to [] order tt)
+holes_apart from (one ∷ more) to order =
+    gap_apart from one.start (holes_of (end_of one) more to) order.0
+    (apart_before one.start (end_of one) (holes_of (end_of one) more to) (omega arith) (holes_apart (end_of one) more to order.2))
+
+room_above : (from : ℕ) (holes : List Hole) (slots start : ℕ) → AreApart from holes → HasRoom holes slots start →
+    from ≤ start
+unfolding AreApart HasRoom
+room_above from [] slots start apart h = absurd h
+room_above from (hole ∷ more) slots start apart (inl here) = omega (arith, apart.0, here.0)
+room_above from (hole ∷ more) slots start apart (inr later) =
+    omega (arith, apart.0, room_above (hole_end hole) more slots start apart.2 later)
+
+pub at_room : (holes : List Hole) (number from slots : ℕ) → HasAt holes number from slots → HasRoom holes slots from
+unfolding HasRoom
+at_room [] number from slots h = absurd (omega (arith, h.inside))
+at_room (hole ∷ more) zero from slots h = inl (h.above hole, h.below hole)
+at_room (hole ∷ more) (suc number) from slots h =
+    inr (at_room more number from slots (record { inside = omega (arith, h.inside); above = h.above; below = h.below }))
+
+at_later : (hole : Hole) (more : List Hole) (number from slots : ℕ) → HasAt (hole ∷ more) (suc number) from slots →
+    HasAt more number from slots
+at_later hole more number from slots h = record { inside = omega (arith, h.inside); above = h.above; below = h.below }
+
+-- The first fit, from a place on.
+pub record IsFit (holes : List Hole) (first from to slots place start : ℕ) : Type 0 where
+  pub number : ℕ
+  pub place_is : place ≡ first + number
+  pub has : HasAt holes number start slots
+  pub above : from ≤ start
+  pub below : start ≤ to
+  pub first_one : (at : ℕ) → from ≤ at → at < start → HasRoom holes slots at → ⊥
+
+abbrev first_part : ℕ × ℕ → ℕ
+first_part p = p.0
+
+abbrev second_part : ℕ × ℕ → ℕ
+second_part p = p.1
+
+abbrev pair : ℕ → ℕ → ℕ × ℕ
+pair one other = (one, other)
+
+the_pair : (found other : ℕ × ℕ) → Some found ≡ Some other → found ≡ other
+the_pair found other e = cc
+
+some_none : (found : ℕ × ℕ) → Some found ≡ None → ⊥
+some_none found e = cc
+
+fits_here : (hole : Hole) (start to slots : ℕ) → fits_in hole start to slots ≡ true →
+    (start ≤ to) × (start + slots ≤ hole_end hole)
+fits_here hole start to slots h =
+    let parts = and_parts (nat_le start to) (nat_le (start + slots) (hole_end hole)) h in
+    (leb-true start to parts.0, leb-true (start + slots) (hole_end hole) parts.1)
+
+fits_not : (hole : Hole) (from to slots at : ℕ) → fits_in hole (max from hole.start) to slots ≡ false → from ≤ at →
+    at ≤ to → hole.start ≤ at → at + slots ≤ hole_end hole → ⊥
+fits_not hole from to slots at h above below starts ends =
+    let start : ℕ = max from hole.start in
+    let no : false ≡ true =
+    sym h ∙ and_from (nat_le start to) (nat_le (start + slots) (hole_end hole)) (le-leb start to (omega (arith, above, below, starts)))
+    (le-leb (start + slots) (hole_end hole) (omega (arith, above, starts, ends))) in
+    cc
+
+pub fit_is : (at first from to slots place start : ℕ) (holes : List Hole) → AreApart at holes →
+    fit first from to slots holes ≡ Some (place, start) → IsFit holes first from to slots place start
+unfolding fit AreApart HasRoom
+fit_is at first from to slots place start [] apart e = absurd cc
+fit_is at first from to slots place start (hole ∷ more) apart e =
+    elim (cases_Bool (fits_in hole (max from hole.start) to slots)) [
+      | inl t ↦
+          let same : pair first (max from hole.start) ≡ pair place start =
+          the_pair (pair first (max from hole.start)) (pair place start) (rw t at e) in
+          let place_is : first ≡ place = ap first_part same in
+          let start_is : max from hole.start ≡ start = ap second_part same in
+          let known = fits_here hole (max from hole.start) to slots t in
+          record {
+            number = 0;
+            place_is = omega (arith, place_is);
+            has = record {
+              inside = omega arith;
+              above = λ none. omega (arith, start_is);
+              below = λ none. omega (arith, start_is, known.1);
+            };
+            above = omega (arith, start_is);
+            below = omega (arith, start_is, known.0);
+            first_one = λ number over under h. elim h [
+              | inl here ↦ omega (arith, here.0, over, under, start_is)
+              | inr later ↦
+                  omega (arith, room_above (hole_end hole) more slots number apart.2 later, under, start_is, known.1)
+            ];
+          }
+      | inr f ↦
+          let rest = fit_is (hole_end hole) (first + 1) from to slots place start more apart.2 (rw f at e) in
+          record {
+            number = suc rest.number;
+            place_is = omega (arith, rest.place_is);
+            has = record {
+              inside = omega (arith, rest.has.inside);
+              above = rest.has.above;
+              below = rest.has.below;
+            };
+            above = rest.above;
+            below = rest.below;
+            first_one = λ number over under h. elim h [
+              | inl here ↦ fits_not hole from to slots number f over (omega (arith, under, rest.below)) here.0 here.1
+              | inr later ↦ rest.first_one number over under later
+            ];
+          }
+    ]
+
+-- There is none.
+pub fit_none : (first from to slots : ℕ) (holes : List Hole) → fit first from to slots holes ≡ None → (at : ℕ) →
+    from ≤ at → at ≤ to → HasRoom holes slots at → ⊥
+unfolding fit HasRoom
+fit_none first from to slots [] e at above below h = h
+fit_none first from to slots (hole ∷ more) e at above below h =
+    elim (cases_Bool (fits_in hole (max from hole.start) to slots)) [
+      | inl t ↦ some_none (pair first (max from hole.start)) (rw t at e)
+      | inr f ↦ elim h [
+        | inl here ↦ fits_not hole from to slots at f above below here.0 here.1
+        | inr later ↦ fit_none (first + 1) from to slots more (rw f at e) at above below later
+      ]
+    ]
+
+-- One more assignment cuts the hole that has its minislots.
+-- after the last assignment,
+alone_cut : (from to number : ℕ) (one : Interval) → from < to →
+    HasAt (hole_from from to ∷ []) number one.start one.slots →
+    hole_in from one.start ++ hole_in (end_of one) to ≡ cut_at number one.start one.slots (hole_from from to ∷ [])
+unfolding cut_at
+alone_cut from to zero one gap h =
+    let ends : from + (to - from) ≡ to = omega (arith, gap) in
+    rw (ends, append-nil (hole_in (end_of one) to)) refl
+alone_cut from to (suc number) one gap h = absurd (omega (arith, h.inside))
+
+-- or among them.
+abbrev IsCut : ℕ → List Interval → ℕ → Interval → Type 0
+IsCut from assigned to one = (number : ℕ) → HasAt (holes_of from assigned to) number one.start one.slots →
+    holes_of from (put one assigned) to ≡ cut_at number one.start one.slots (holes_of from assigned to)
+
+behind_other : (other one : Interval) (more : List Interval) (to number : ℕ) → InOrder (end_of other) more to →
+    HasAt (holes_of (end_of other) more to) number one.start one.slots → other.start ≤ one.start
+behind_other other one more to number order h =
+    omega (
+      arith,
+      (room_inside (end_of other) more to one.slots one.start order
+          (at_room (holes_of (end_of other) more to) number one.start one.slots h)).0,
+    )
+
+gap_cut : (from : ℕ) (other : Interval) (more : List Interval) (to number : ℕ) (one : Interval) → from < other.start →
+    InOrder (end_of other) more to → 0 < one.slots → IsCut (end_of other) more to one →
+    HasAt (hole_from from other.start ∷ holes_of (end_of other) more to) number one.start one.slots →
+    holes_of from (put one (other ∷ more)) to ≡
+    cut_at number one.start one.slots (hole_from from other.start ∷ holes_of (end_of other) more to)
+unfolding cut_at holes_of
+gap_cut from other more to zero one gap order some later h =
+    let ends : from + (other.start - from) ≡ other.start = omega (arith, gap) in
+    let before : one.start < other.start = omega (arith, h.below (hole_from 0 0), ends, some) in
+    rw (put_first one other more before, ends) refl
+gap_cut from other more to (suc number) one gap order some later h =
+    let rest = at_later (hole_from from other.start) (holes_of (end_of other) more to) number one.start one.slots h in
+    rw (put_later one other more (behind_other other one more to number order rest), lt-ltb from other.start gap)
+    (ap (λ holes. hole_from from other.start ∷ holes) (later number rest))
+
+pub put_holes : (from : ℕ) (assigned : List Interval) (to : ℕ) (one : Interval) → InOrder from assigned to →
+    0 < one.slots → IsCut from assigned to one
+unfolding InOrder holes_of cut_at
+put_holes from [] to one order some number h = elim (cases_lt from to) [
+  | inr none ↦ absurd (omega (arith, (rw (le-ltb from to none) at h).inside))
+  | inl gap ↦ rw (put_alone one, lt-ltb from to gap) (alone_cut from to number one gap (rw (lt-ltb from to gap) at h))
+]
+put_holes from (other ∷ more) to one order some number h = elim (cases_lt from other.start) [
+  | inr none ↦
+      let rest : HasAt (holes_of (end_of other) more to) number one.start one.slots =
+      rw (le-ltb from other.start none) at h in
+      rw (put_later one other more (behind_other other one more to number order.2 rest), le-ltb from other.start none)
+      (put_holes (end_of other) more to one order.2 some number rest)
+  | inl gap ↦
+      rw (lt-ltb from other.start gap)
+      (gap_cut from other more to number one gap order.2 some (put_holes (end_of other) more to one order.2 some)
+      (rw (lt-ltb from other.start gap) at h))
+]

@@ -1,0 +1,23 @@
+use Rattle.std.proofs.Common.{◌≡◌, ◌∙◌, length, ap, sym, arith, rules}
+use Rattle.us_holes.proofs.RankLemmas.{ranked_there, rank_length, rank_of_cut}
+use Rattle.us_holes.proofs.assigning.assign.Goals as goal
+
+pub cut-requires-clause-there : goal.cut-requires-clause-there
+cut-requires-clause-there c =
+    let there = ranked_there c.args.holes.now.items c.args.place c.index-hole.result.now c.requires.has.inside (search rules) in
+    let here = rw (sym c.requires.by_rank) at there in
+    omega (arith, here)
+
+pub cut-requires-clause-room : goal.cut-requires-clause-room
+cut-requires-clause-room c =
+    let len : length c.args.ranked.now.items ≡ length c.args.holes.now.items =
+    ap (λ holes. length holes) c.requires.by_rank ∙ rank_length c.args.holes.now.items in
+    omega (arith, len, c.requires.holes, c.requires.room.ranked)
+
+pub returns-clause-by_rank : goal.returns-clause-by_rank
+returns-clause-by_rank c =
+    let start : c.one.inside.start ≡ c.args.one.start = ap (λ one. one.start) c.one.view_is in
+    let slots : c.one.inside.slots ≡ c.args.one.slots = ap (λ one. one.slots) c.one.view_is in
+    let cut = rank_of_cut c.args.holes.now.items c.args.place c.args.one.start c.args.one.slots c.index-hole.result.now
+    c.requires.has.inside (search rules) in
+    c.cut.ensures.items ∙ rw (c.requires.by_rank, c.cut-2.ensures.items, start, slots) cut

@@ -1,0 +1,143 @@
+-- Inside the crate, and of no use to a reader of the promise: a board as its assignments and the holes between them.
+use Rattle.std.specs.Prelude.{◌≡◌, ℕ, zero, suc, ◌+◌, ◌-◌, ◌<◌, ◌≤◌, nat_le, nat_lt, nat_eq, max, Bool, ◌&&◌, ◌||◌, if◌then◌else◌, List, [], ◌∷◌, ◌++◌, length, replicate, slice_index_or, Option, Some, None}
+use Rattle.std.specs.List.{insert, remove}
+use Rattle.us_holes.specs.Boards.{Holder, Board, Interval, max_assignments, free_count}
+use Rattle.us_holes.specs.Runs.{Run}
+use Rattle.us_holes.specs.Kept.{IsBoard}
+
+-- Assignments by start.
+
+abbrev pub end_of : Interval → ℕ
+end_of one = one.start + one.slots
+
+abbrev pub its_holder : Interval → Holder
+its_holder one = record { start = one.start; owner = one.owner }
+
+-- none begins before the one before it ends, all lie from `from` to `to`, and each has a minislot
+unfoldable pub InOrder : ℕ → List Interval → ℕ → Type 0
+InOrder from [] to = from ≤ to
+InOrder from (one ∷ more) to = (from ≤ one.start) × (0 < one.slots) × InOrder (end_of one) more to
+
+-- the minislots from `from` to `to`
+unfoldable pub cells_of : ℕ → List Interval → ℕ → List (Option Holder)
+cells_of from [] to = replicate (to - from) None
+cells_of from (one ∷ more) to =
+    replicate (one.start - from) None ++ (replicate one.slots (Some (its_holder one)) ++ cells_of (end_of one) more to)
+
+abbrev pub board_of : List Interval → ℕ → Board
+board_of assigned len = record { cells = cells_of 0 assigned len; standing = length assigned }
+
+-- how many begin no later
+unfoldable pub place_among : ℕ → List Interval → ℕ
+place_among start [] = 0
+place_among start (one ∷ more) = if nat_lt start one.start then 0 else suc (place_among start more)
+
+-- one more
+abbrev pub put : Interval → List Interval → List Interval
+put one assigned = insert assigned (place_among one.start assigned) one
+
+-- Holes by start.
+
+-- idle minislots between held ones, or the ends of the board
+pub record Hole : Type 0 where
+  pub start : ℕ
+  pub slots : ℕ
+
+abbrev pub hole_end : Hole → ℕ
+hole_end hole = hole.start + hole.slots
+
+abbrev pub hole_from : ℕ → ℕ → Hole
+hole_from from to = record { start = from; slots = to - from }
+
+-- a hole has a minislot
+abbrev pub hole_in : ℕ → ℕ → List Hole
+hole_in from to = if nat_lt from to then hole_from from to ∷ [] else []
+
+-- the holes from `from` to `to`
+unfoldable pub holes_of : ℕ → List Interval → ℕ → List Hole
+holes_of from [] to = hole_in from to
+holes_of from (one ∷ more) to = hole_in from one.start ++ holes_of (end_of one) more to
+
+-- a hole has this start in it, not behind the window, and as many minislots from there on
+abbrev pub fits_in : Hole → ℕ → ℕ → ℕ → Bool
+fits_in hole start to slots = nat_le start to && nat_le (start + slots) (hole_end hole)
+
+-- the first hole where so many minislots fit from a start in the window on: its place, the first of which is `place`,
+-- and that start
+unfoldable pub fit : ℕ → ℕ → ℕ → ℕ → List Hole → Option (ℕ × ℕ)
+fit place from to slots [] = None
+fit place from to slots (hole ∷ more) =
+    if fits_in hole (max from hole.start) to slots then Some (place, max from hole.start)
+    else fit (place + 1) from to slots more
+
+-- the hole of this number has `slots` minislots from `from` on
+pub record HasAt (holes : List Hole) (number from slots : ℕ) : Type 0 where
+  pub inside : number < length holes
+  pub above : (none : Hole) → (slice_index_or holes number none).start ≤ from
+  pub below : (none : Hole) → from + slots ≤ hole_end (slice_index_or holes number none)
+
+-- what is left of the hole at this place
+unfoldable pub cut_at : ℕ → ℕ → ℕ → List Hole → List Hole
+cut_at place start slots [] = []
+cut_at zero start slots (hole ∷ more) = hole_in hole.start start ++ (hole_in (start + slots) (hole_end hole) ++ more)
+cut_at (suc place) start slots (hole ∷ more) = hole ∷ cut_at place start slots more
+
+-- Holes by rank: the longest first, and of those as long the earliest.
+
+abbrev pub is_before : Hole → Hole → Bool
+is_before one other = nat_lt other.slots one.slots || (nat_eq one.slots other.slots && nat_lt one.start other.start)
+
+-- how many are before it
+unfoldable pub place_for : Hole → List Hole → ℕ
+place_for hole [] = 0
+place_for hole (one ∷ more) = if is_before one hole then suc (place_for hole more) else 0
+
+-- one more, and one fewer
+abbrev pub rise : Hole → List Hole → List Hole
+rise hole ranked = insert ranked (place_for hole ranked) hole
+
+abbrev pub lift : Hole → List Hole → List Hole
+lift hole ranked = remove ranked (place_for hole ranked)
+
+unfoldable pub rank : List Hole → List Hole
+rank [] = []
+rank (hole ∷ more) = rise hole (rank more)
+
+-- one more, where it has a minislot
+abbrev pub rise_in : ℕ → ℕ → List Hole → List Hole
+rise_in from to ranked = if nat_lt from to then rise (hole_from from to) ranked else ranked
+
+-- what is left of a hole in its place
+abbrev pub rank_cut : Hole → ℕ → ℕ → List Hole → List Hole
+rank_cut hole start slots ranked = rise_in hole.start start (rise_in (start + slots) (hole_end hole) (lift hole ranked))
+
+abbrev pub first_in : List Hole → Option (ℕ × ℕ)
+first_in [] = None
+first_in (hole ∷ more) = Some (hole.start, hole.slots)
+
+-- Runs.
+
+abbrev pub run_of : Interval → Run
+run_of one = record { start = one.start; len = one.slots; owner = Some one.owner }
+
+abbrev pub idle_run : ℕ → ℕ → List Run
+idle_run from to = if nat_lt from to then record { start = from; len = to - from; owner = None } ∷ [] else []
+
+-- the runs from `from` to `to`
+unfoldable pub runs_between : ℕ → List Interval → ℕ → List Run
+runs_between from [] to = idle_run from to
+runs_between from (one ∷ more) to = idle_run from one.start ++ (run_of one ∷ runs_between (end_of one) more to)
+
+-- What the fields of a board are.
+pub record AreLists (assigned : List Interval) (holes ranked : List Hole) (len free : ℕ) : Type 0 where
+  pub board : IsBoard (board_of assigned len)
+  pub order : InOrder 0 assigned len
+  pub between : holes ≡ holes_of 0 assigned len
+  pub by_rank : ranked ≡ rank holes
+  pub idle : free ≡ free_count (cells_of 0 assigned len)
+
+-- There is room for one hole more than assignments, wherever these are.
+pub record HaveRoom (for_assigned for_holes for_ranked : ℕ) : Type 0 where
+  pub assigned : max_assignments ≤ for_assigned
+  pub holes : max_assignments + 1 ≤ for_holes
+  pub ranked : max_assignments + 1 ≤ for_ranked

@@ -1,0 +1,31 @@
+ghost use Rattle.std.specs.Prelude.{◌≡◌, ◌<◌, ◌≤◌, length, vec_capacity};
+ghost use Rattle.us_holes.specs.Boards as spec;
+ghost use Rattle.us_holes.specs.Lists as lists;
+
+use crate::assignments::{self, Assignment};
+use crate::holes::{self, Hole};
+use crate::ranks;
+
+/// Adds an assignment that takes its minislots from the hole at a place. It needs no memory.
+pub(crate) fn assign(
+    assigned: &mut Vec<Assignment>,
+    holes: &mut Vec<Hole>,
+    ranked: &mut Vec<Hole>,
+    place: usize,
+    one: Assignment,
+)
+    requires few { length assigned.old.items < spec.max_assignments }
+    requires holes { length holes.old.items ≤ spec.max_assignments }
+    requires by_rank { ranked.old.items ≡ lists.rank holes.old.items }
+    requires has { lists.HasAt holes.old.items place one.start one.slots }
+    requires room { lists.HaveRoom (vec_capacity assigned.old) (vec_capacity holes.old) (vec_capacity ranked.old) }
+    ensures assigned { assigned.new.items ≡ lists.put one assigned.old.items }
+    ensures holes { holes.new.items ≡ lists.cut_at place one.start one.slots holes.old.items }
+    ensures by_rank { ranked.new.items ≡ lists.rank holes.new.items }
+    ensures room { lists.HaveRoom (vec_capacity assigned.new) (vec_capacity holes.new) (vec_capacity ranked.new) }
+{
+    let hole = holes[place];
+    ranks::cut(ranked, hole, one.start, one.slots);
+    holes::cut(holes, place, one.start, one.slots);
+    assignments::put(assigned, one);
+}

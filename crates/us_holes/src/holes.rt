@@ -1,0 +1,115 @@
+ghost use Rattle.std.specs.Prelude.{◌≡◌, ◌+◌, ◌-◌, ◌<◌, ◌≤◌, ◌++◌, take, drop, length, slice_index_or, IfOk, vec_len, vec_capacity};
+ghost use Rattle.us_holes.specs.Boards as spec;
+ghost use Rattle.us_holes.specs.Lists as lists;
+
+use crate::boards::MAX_ASSIGNMENTS;
+use std::alloc::Global;
+use std::marker::Model;
+use us_slots::NoMemory;
+
+/// A hole: idle minislots between held ones, or the ends of the board.
+#[derive(Clone, Copy)]
+pub(crate) struct Hole {
+    pub(crate) start: u32,
+    pub(crate) slots: u32,
+}
+
+impl Model for Hole {
+    ghost Value = { lists.Hole };
+
+    ghost view = { λ h. record { start = h.start; slots = h.slots } };
+
+    ghost invariant = { λ h. h.start + h.slots ≤ spec.max_minislots };
+
+    ghost inverse = { λ h. record { start = h.start; slots = h.slots } };
+}
+
+impl Hole {
+    /// The hole from `from` on that ends before `to`.
+    pub(crate) fn between(from: u32, to: u32) -> Hole
+        requires order { from ≤ to }
+        requires inside { to ≤ spec.max_minislots }
+        ensures { result ≡ lists.hole_from from to }
+    {
+        Hole {
+            start: from,
+            slots: to - from,
+        }
+    }
+
+    /// The minislot behind it.
+    pub(crate) fn end(self) -> u32
+        ensures value { result ≡ lists.hole_end self }
+        ensures inside { lists.hole_end self ≤ spec.max_minislots }
+    {
+        self.start + self.slots
+    }
+}
+
+/// The most holes of a board: one more than assignments.
+const MAX_HOLES: usize = MAX_ASSIGNMENTS as usize + 1;
+
+/// The one hole of an idle board of `len` minislots, and room for as many holes as a board may have.
+pub(crate) fn whole(alloc: Global, len: u32) -> Result<Vec<Hole>, NoMemory>
+    requires some { 1 ≤ len }
+    requires most { len ≤ spec.max_minislots }
+    ensures items { IfOk result (λ holes. holes.items ≡ lists.hole_in 0 len) }
+    ensures room { IfOk result (λ holes. spec.max_assignments + 1 ≤ vec_capacity holes) }
+{
+    let mut holes = Vec::with_capacity(alloc, MAX_HOLES)?;
+    holes.push(Hole::between(0, len))?;
+    Ok(holes)
+}
+
+/// Whether `start` is no later than `to`, and `slots` minislots from there on end in the hole, or where it does.
+fn fits_in(hole: Hole, start: u32, to: u32, slots: u32) -> bool
+    ensures { result ≡ lists.fits_in hole start to slots }
+{
+    let end = hole.end();
+    start <= to && start <= end && slots <= end - start
+}
+
+/// The first hole where `slots` minislots fit from a start from `from` to `to` on: its place, and the least such start.
+#[tactic(auto, unfolding(crate::specs::Lists::fit))]
+pub(crate) fn earliest(holes: &[Hole], from: u32, to: u32, slots: u32) -> Option<(usize, u32)>
+    ensures { result ≡ lists.fit 0 from to slots holes.now }
+{
+    for i in 0..holes.len() {
+        let hole = holes[i];
+        let start = from.max(hole.start);
+        if fits_in(hole, start, to, slots) {
+            return Some((i, start));
+        }
+    }
+    None
+}
+
+/// Puts the hole from `from` to `to` at a place, where it has a minislot. It needs no memory.
+fn add(holes: &mut Vec<Hole>, place: usize, from: u32, to: u32)
+    requires place { place ≤ vec_len holes.old }
+    requires room { vec_len holes.old < vec_capacity holes.old }
+    requires inside { to ≤ spec.max_minislots }
+    ensures items { holes.new.items
+        ≡ take place holes.old.items ++ (lists.hole_in from to ++ drop place holes.old.items) }
+    ensures capacity { vec_capacity holes.old ≤ vec_capacity holes.new }
+{
+    if from < to {
+        match holes.insert(place, Hole::between(from, to)) {
+            Ok(()) => {}
+            Err(_) => unreachable!(),
+        }
+    }
+}
+
+/// Takes the `slots` minislots from `start` on out of the hole at a place. It needs no memory.
+pub(crate) fn cut(holes: &mut Vec<Hole>, place: usize, start: u32, slots: u32)
+    requires place { place < vec_len holes.old }
+    requires room { vec_len holes.old < vec_capacity holes.old }
+    requires inside { (hole : lists.Hole) → start + slots ≤ lists.hole_end (slice_index_or holes.old.items place hole) }
+    ensures items { holes.new.items ≡ lists.cut_at place start slots holes.old.items }
+    ensures capacity { vec_capacity holes.old ≤ vec_capacity holes.new }
+{
+    let hole = holes.remove(place);
+    add(holes, place, start + slots, hole.end());
+    add(holes, place, hole.start, start);
+}
