@@ -1,0 +1,1 @@
+-- Small calendars, computed by the definitions alone.

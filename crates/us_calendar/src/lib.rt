@@ -1,0 +1,22 @@
+//! The calendar of a channel: unsolicited grants, polls and station maintenance, which nobody asks for.
+//!
+//! ```
+//! let mut calendar = Calendar::new(alloc, &config, 0)?; // of the first channel
+//! let settled = calendar.run(alloc, 0, &mut board)?; // what round 0 grants and misses
+//! ```
+//!
+//! What these words mean stands in `specs/`, in the order of its `Lib.antt`.
+#![tactic(auto)]
+
+// What an entry is.
+mod kinds;
+
+// What a round settled.
+mod settled;
+
+// The calendar.
+mod calendars;
+
+pub use calendars::Calendar;
+pub use kinds::Kind;
+pub use settled::Settled;
