@@ -14,6 +14,21 @@ mod kinds;
 // What a round settled.
 mod settled;
 
+// The time of a channel.
+mod paces;
+
+// An entry.
+mod entries;
+
+// Where an occurrence is granted.
+mod placing;
+
+// The occurrences of an entry in a round.
+mod settling;
+
+// An entry, with what of it is settled.
+mod rows;
+
 // The calendar.
 mod calendars;
 

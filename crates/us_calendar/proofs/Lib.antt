@@ -1,0 +1,4 @@
+pub mod IdealLemmas
+pub mod DueLemmas
+pub mod SettleLemmas
+pub mod SpotLemmas
