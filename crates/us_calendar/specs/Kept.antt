@@ -2,6 +2,8 @@
 -- due. Nothing of this is seen from outside.
 use Rattle.std.specs.Prelude.{◌≡◌, ℕ, ◌+◌, ◌*◌, ◌<◌, ◌≤◌, ◌^◌, Bool, true, List, [], length, Option, Some, slice_get}
 use Rattle.std.specs.List.{AllByRecursion, range_with_len}
+use Rattle.std.specs.declared.cmp.Ordering.{Ordering}
+use Rattle.std.specs.Ordering.{ordering_then, nat_cmp}
 use Rattle.us_slots.specs.Times.{minislot_ticks, IsTiming}
 use Rattle.us_holes.specs.Boards.{Board, IsOwner}
 use Rattle.us_calendar.specs.Entries.{Entry}
@@ -46,13 +48,19 @@ settle_from pace round e next board = settle_row pace round (row_from e next) bo
 abbrev pub IsQuiet : Pace → ℕ → Row → Type 0
 IsQuiet pace round row = due row.entry (end_of pace round) row.settled ≡ []
 
--- What is noted are rounds and places of entries. Those of this round are left from the place `from` on, and before the
--- first round that is noted for an entry nothing of it is due.
+-- what is noted is a round with the place of an entry: earlier rounds first, and in a round by place
+abbrev pub key_cmp : ℕ × ℕ → ℕ × ℕ → Ordering
+key_cmp a b = ordering_then (nat_cmp a.0 b.0) (nat_cmp a.1 b.1)
+
+-- What is noted are rounds and places of entries, none of an earlier round than this, and those of this round from the
+-- place `from` on: the entries before it have had their turn. Each entry is noted for a round before which nothing of it
+-- is due.
 pub record IsAgenda (pace : Pace) (round from : ℕ) (rows : List Row) (has : ℕ × ℕ → Bool) : Type 0 where
   pub noted : (at place : ℕ) → has (at, place) ≡ true →
       (place < length rows) × (round ≤ at) × (at ≡ round → from ≤ place)
   pub quiet : (place : ℕ) (row : Row) → slice_get rows place ≡ Some row →
-      (at : ℕ) × (has (at, place) ≡ true) × ((earlier : ℕ) → round ≤ earlier → earlier < at → IsQuiet pace earlier row)
+      (at : ℕ) × (has (at, place) ≡ true) × ((earlier : ℕ) → round ≤ earlier →
+      (place < from → round < earlier) → earlier < at → IsQuiet pace earlier row)
 
 -- what a calendar keeps, with what it notes
 pub record IsKept (calendar : Calendar) (has : ℕ × ℕ → Bool) : Type 0 where

@@ -29,6 +29,12 @@ mod settling;
 // An entry, with what of it is settled.
 mod rows;
 
+// The entries of a channel.
+mod listing;
+
+// The entries that are due.
+mod agendas;
+
 // The calendar.
 mod calendars;
 

@@ -37,6 +37,7 @@ impl Drop for Row {
 
 impl Row {
     /// An entry of which nothing is settled.
+    #[tactic(auto, using(crate::proofs::RowLemmas::row_facts))]
     pub(crate) fn new(entry: Entry) -> Row
         ensures { result ≡ (record { entry = entry; settled = [] }) }
     {
@@ -45,7 +46,8 @@ impl Row {
     }
 
     /// Settles what is due of the entry, and puts it behind what is settled so far.
-    pub(crate) fn settle(
+    #[tactic(auto, using(crate::proofs::RowLemmas::row_facts))]
+    fn settle(
         &mut self,
         pace: Pace,
         round: u32,
@@ -66,7 +68,35 @@ impl Row {
         Ok(())
     }
 
+    /// Settles what is due of the entry in a round, and tells the first round after it in which something is due.
+    pub(crate) fn run(
+        &mut self,
+        pace: Pace,
+        round: u32,
+        board: &mut Board,
+        settled: &mut Vec<Settled>,
+    ) -> Result<u64, NoMemory>
+        requires time { (round + 1) * (pace.len * minislot_ticks pace.time) ≤ max_run_ticks }
+        requires len { length board.old.cells ≡ pace.len }
+        ensures row { OnOk result
+            (self.new ≡ spec.after_marks self.old (spec.settle_row pace round self.old board.old).marks) }
+        ensures board { OnOk result (board.new ≡ (spec.settle_row pace round self.old board.old).board) }
+        ensures len { length board.new.cells ≡ length board.old.cells }
+        ensures told { OnOk result (settled.new.items ≡ settled.old.items
+            ++ map (spec.told_as self.old.entry) (spec.settle_row pace round self.old board.old).marks) }
+        ensures known { IsRow self.new }
+        ensures next { IfOk result (λ next. next ≡
+            max (round + 1) (ideal self.new.entry (length self.new.settled) / end_of pace 0)) }
+        ensures later { IfOk result (λ next. round + 1 ≤ next) }
+        ensures quiet { IfOk result (λ next. (at : ℕ) → at < next → round + 1 ≤ at → IsQuiet pace at self.new) }
+    {
+        self.settle(pace, round, board, settled)?;
+        pace.end(round);
+        Ok(self.due_round(pace, round + 1))
+    }
+
     /// The first round from `from` on in which an occurrence of the entry is due.
+    #[tactic(auto, using(crate::proofs::RowLemmas::row_facts))]
     pub(crate) fn due_round(&self, pace: Pace, from: u32) -> u64
         ensures value { result ≡ max from (ideal self.now.entry (length self.now.settled) / end_of pace 0) }
         ensures least { from ≤ result }
