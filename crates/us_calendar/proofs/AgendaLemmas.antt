@@ -33,7 +33,7 @@ set_known [] p row all is = tt
 set_known (first ∷ rows) zero row all is = (is, all.1)
 set_known (first ∷ rows) (suc p) row all is = (all.0, set_known rows p row all.1 is)
 
-within : (rows : List Row) (p : ℕ) (row : Row) → slice_get rows p ≡ Some row → p < length rows
+pub within : (rows : List Row) (p : ℕ) (row : Row) → slice_get rows p ≡ Some row → p < length rows
 within [] p row is = let never : None ≡ Some row = is in cc
 within (first ∷ rows) zero row is = omega arith
 within (first ∷ rows) (suc p) row is = omega (arith, within rows p row is)
@@ -53,7 +53,7 @@ was_there at place has mid q update is = elim (cases_Bool (is_at (key_cmp (at, p
   )
 ]
 
-is_there : (next place : ℕ) (mid new : ℕ × ℕ → Bool) (q : ℕ × ℕ) →
+pub is_there : (next place : ℕ) (mid new : ℕ × ℕ → Bool) (q : ℕ × ℕ) →
     new q ≡ cond (is_at (key_cmp (next, place)) q) true (mid q) → mid q ≡ true → new q ≡ true
 is_there next place mid new q update is = elim (cases_Bool (is_at (key_cmp (next, place)) q)) [
   | inl t ↦ rw t at update

@@ -6,3 +6,5 @@ pub mod RowLemmas
 pub mod KeyLemmas
 pub mod RunLemmas
 pub mod AgendaLemmas
+pub mod NotedLemmas
+pub mod RunLaws

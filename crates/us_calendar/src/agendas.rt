@@ -54,6 +54,7 @@ pub(crate) fn settle_due(
         settled.old.items ++ (run_rows pace round rows.old board.old).settled) }
     ensures agenda { OnOk result (IsAgenda pace (round + 1) 0 rows.new (contains key_cmp due.new)) }
     ensures known { AllByRecursion IsRow rows.old → AllByRecursion IsRow rows.new }
+    ensures len { length board.new.cells ≡ length board.old.cells }
 {
     while let Some((_, place)) = take_due(due, u64::from(round)) {
         let next = rows[place].run(pace, round, board, settled)?;

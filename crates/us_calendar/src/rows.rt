@@ -39,7 +39,8 @@ impl Row {
     /// An entry of which nothing is settled.
     #[tactic(auto, using(crate::proofs::RowLemmas::row_facts))]
     pub(crate) fn new(entry: Entry) -> Row
-        ensures { result ≡ (record { entry = entry; settled = [] }) }
+        ensures value { result ≡ (record { entry = entry; settled = [] }) }
+        ensures known { IsRow result }
     {
         entry.ideal(0);
         Row { entry, next: 0 }
