@@ -8,7 +8,7 @@ use Rattle.std.proofs.lemmas.Bool.{cases_order, cases_lt, cases_eq, cases_Bool, 
 use Rattle.us_calendar.specs.Kept.{key_cmp}
 
 -- how two numbers compare
-order_of : (x y : ℕ) →
+pub order_of : (x y : ℕ) →
     ((x < y) × (nat_cmp x y ≡ Less)) ⊎ (((x ≡ y) × (nat_cmp x y ≡ Equal)) ⊎ ((y < x) × (nat_cmp x y ≡ Greater)))
 order_of x y = elim (cases_order x y) [
   | inl e ↦ inr (inl (e, rw (le-ltb x y (omega (arith, e)), eq-eqb x y e) refl))

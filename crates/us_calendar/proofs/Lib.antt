@@ -8,3 +8,4 @@ pub mod RunLemmas
 pub mod AgendaLemmas
 pub mod NotedLemmas
 pub mod RunLaws
+pub mod OrderLemmas

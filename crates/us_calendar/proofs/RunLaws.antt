@@ -4,6 +4,7 @@ use Rattle.std.specs.List.{AllByRecursion}
 use Rattle.std.proofs.lemmas.Bool.{cases_Bool}
 use Rattle.std.proofs.lemmas.List.{map-append, length-append, length-map}
 use Rattle.std.proofs.lemmas.List.Sums.{sum_by-cons, sum_by-append}
+use Rattle.us_slots.specs.Times.{minislot_ticks}
 use Rattle.us_holes.specs.Boards.{Board, fits, first_of}
 use Rattle.us_holes.proofs.LawLemmas.{first_of-is}
 use Rattle.us_flows.proofs.TurnLemmas.{all-append}
@@ -100,7 +101,7 @@ settled_most (row ∷ rows) all =
     let one = sum_by-cons (λ r. length r.settled) row rows in
     omega (arith, few, rest, one)
 
-written : (old new : List Row) → length new ≡ length old → take (length old) (new ++ drop (length new) old) ≡ new
+pub written : (old new : List Row) → length new ≡ length old → take (length old) (new ++ drop (length new) old) ≡ new
 written [] [] e = refl
 written [] (x ∷ xs) e = absurd (omega (arith, e))
 written (o ∷ os) [] e = absurd (omega (arith, e))
@@ -130,3 +131,19 @@ run_kept calendar now next len board has had kept now_is rows_kept len_is next_i
       rows = rows;
       agenda = agenda;
     })
+
+-- before round 0 too
+pub opening_kept : (pace : Pace) (rows : List Row) (es : List Entry) (has : ℕ × ℕ → Bool) → 1 ≤ pace.len →
+    pace.len * minislot_ticks pace.time ≤ 4096 → rows ≡ map (λ e. record { entry = e; settled = [] }) es →
+    length es ≤ 1280 → AllByRecursion IsRow rows → IsAgenda pace 0 0 rows has →
+    IsKept (record { pace = pace; next_round = 0; rows = rows }) has
+opening_kept pace rows es has some ticks rows_are few all agenda =
+    let fresh : Entry → Row = λ e. record { entry = e; settled = [] } in
+    let many : length rows ≡ length es = ap length rows_are ∙ length-map es fresh in
+    let most = settled_most rows all in
+    record {
+      known = record { len = some; ticks = ticks; settled = omega (arith, most, many, few) };
+      few = omega (arith, many, few);
+      rows = all;
+      agenda = agenda;
+    }

@@ -2,6 +2,7 @@ ghost use Rattle.std.specs.Prelude.{◌≡◌, ◌+◌, ◌*◌, ◌<◌, ◌≤
 ghost use Rattle.std.specs.List.{AllByRecursion};
 ghost use Rattle.us_slots.specs.Times.{minislot_ticks};
 ghost use Rattle.us_flows.specs.Tables.{max_run_ticks};
+ghost use Rattle.us_flows.specs.Lawful.{IsChannel};
 ghost use Rattle.us_calendar.specs.Calendars as spec;
 ghost use Rattle.us_calendar.specs.Kept.{IsKept, key_cmp};
 ghost use Rattle.std.specs.BTreeSet.{contains};
@@ -14,7 +15,7 @@ use crate::settled::Settled;
 use std::alloc::Global;
 use std::collections::BTreeSet;
 use std::marker::Model;
-use us_flows::Config;
+use us_flows::{Channel, Config};
 use us_holes::Board;
 use us_slots::NoMemory;
 
@@ -54,7 +55,14 @@ impl Calendar {
         ensures { IfOk result (λ calendar. IfSome (slice_get config.now.channels channel)
             (λ c. calendar ≡ spec.opening config.now c)) }
     {
-        let channel = &config.channels()[channel];
+        Calendar::of_channel(alloc, config, &config.channels()[channel])
+    }
+
+    /// The calendar of a channel of the table.
+    fn of_channel(alloc: Global, config: &Config, channel: &Channel) -> Result<Calendar, NoMemory>
+        requires { IsChannel config.now channel.now }
+        ensures { IfOk result (λ calendar. calendar ≡ spec.opening config.now channel.now) }
+    {
         let pace = Pace {
             time: *channel.bursts.time(),
             len: config.map_len(channel),

@@ -22,7 +22,7 @@ pub loop-entry-preserved : goal.loop-entry-preserved
 loop-entry-preserved c =
     let items = c.in_ok-push.ensures.items in
     let put = subst (λ n. (q : ℕ × ℕ) → contains key_cmp c.insert.new.self q ≡
-    cond (is_at (key_cmp (c.due_round.result, n)) q) true (contains key_cmp c.loop-entry.due q)) c.len.ensures
+    cond (is_at (key_cmp (c.due_round.result, n)) q) true (contains key_cmp c.loop-entry.due q)) (c.len.ensures ∙ c.loop-entry.rows.ok.0)
     c.in_ok-insert.ensures.updates.0 in
     let agenda = one_noted c.args.pace c.loop-entry.rows.items c.new-row.result c.due_round.result
     (contains key_cmp c.loop-entry.due) (contains key_cmp c.insert.new.self) c.loop-entry.invariant.agenda
@@ -30,7 +30,7 @@ loop-entry-preserved c =
     record {
       rows = rows_more (λ e. row_from e 0) c.args.entries.now c.loop-entry.entry-index c.entry-item.result
           c.new-row.result c.loop-entry.rows.items c.push.new.self.items
-          (map (λ e. row_from e 0) c.args.entries.now) c.loop-entry-test.true c.entry-item.is ? items
+          (map (λ e. row_from e 0) c.args.entries.now) c.loop-entry-test.true c.entry-item.is c.new-row.ensures.value items
           c.loop-entry.invariant.rows;
       known = subst (AllByRecursion IsRow) (sym items)
           (all-append IsRow c.loop-entry.rows.items (c.new-row.result ∷ []) c.loop-entry.invariant.known
