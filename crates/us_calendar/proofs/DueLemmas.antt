@@ -1,11 +1,11 @@
 -- What is due of an entry where its first occurrences are settled: the next one and so on, or nothing.
-use Rattle.std.proofs.Common.{◌≡◌, ℕ, zero, suc, ◌+◌, ◌*◌, ◌<◌, ◌≤◌, nat_le, nat_lt, nat_eq, ltb, eqb, ◌&&◌, ◌||◌, not, Bool, true, false, cond, List, [], ◌∷◌, filter, refl, ap, ap₂, sym, ◌∙◌, inl, inr, ne_eqb, eq-eqb, lt-ltb, le-ltb, arith}
+use Rattle.std.proofs.Common.{◌≡◌, ℕ, zero, suc, ◌+◌, ◌*◌, ◌/◌, ◌<◌, ◌≤◌, nat_le, nat_lt, nat_eq, ltb, eqb, ◌&&◌, ◌||◌, not, Bool, true, false, cond, List, [], ◌∷◌, filter, refl, ap, ap₂, sym, ◌∙◌, inl, inr, ne_eqb, eq-eqb, lt-ltb, le-ltb, arith}
 use Rattle.std.specs.List.{list_any, range_with_len, AllByRecursion}
 use Rattle.std.proofs.lemmas.Bool.{cases_lt, cases_eq, cases_Bool, and_from, and_right, and_parts, ltb-true}
 use Rattle.us_calendar.specs.Entries.{Entry}
 use Rattle.us_calendar.specs.Occurrences.{ideal, due}
 use Rattle.us_calendar.specs.Kept.{IsEntry}
-use Rattle.us_calendar.proofs.IdealLemmas.{ideal-rises, number-below, ideal-most, number-most, interval-below}
+use Rattle.us_calendar.proofs.IdealLemmas.{HasWindows, windows, ideal-rises, number-below, ideal-most, number-most, interval-below}
 
 -- a number is among those of a range, or it is not
 
@@ -62,7 +62,7 @@ filter-next p q n from (suc count) low high is isnt p_before q_before after = el
 ]
 
 -- nothing is due where the next occurrence is ideal later,
-pub due-none : (e : Entry) (end n : ℕ) → IsEntry e → end ≤ ideal e n → due e end (range_with_len 0 n) ≡ []
+pub due-none : (e : Entry) (end n : ℕ) → HasWindows e → end ≤ ideal e n → due e end (range_with_len 0 n) ≡ []
 unfolding due
 due-none e end n is h =
     filter-none (is_due e end n) 0 (end * e.grants) (λ m _. elim (cases_lt m n) [
@@ -72,7 +72,7 @@ due-none e end n is h =
     ])
 
 -- and else that one, and what is due where it is settled too
-pub due-next : (e : Entry) (end n : ℕ) → IsEntry e → ideal e n < end →
+pub due-next : (e : Entry) (end n : ℕ) → HasWindows e → ideal e n < end →
     due e end (range_with_len 0 n) ≡ n ∷ due e end (range_with_len 0 (n + 1))
 unfolding due
 due-next e end n is h =
@@ -105,4 +105,8 @@ due-all e end n =
       | inr here ↦ here
     ]
 
-pub ruleset due_facts = (ideal-most, number-most, interval-below)
+-- the same of an entry that is kept
+pub interval_below : (e : Entry) (n end : ℕ) → IsEntry e → ideal e n < end → n / e.grants < end
+interval_below e n end is h = interval-below e n end (windows e is) h
+
+pub ruleset due_facts = (ideal-most, number-most, interval_below)

@@ -12,7 +12,15 @@ use Rattle.us_calendar.specs.Kept.{IsEntry}
 div-rises : (n m k : ℕ) → 0 < k → n ≤ m → n / k ≤ m / k
 div-rises n m k some h = le-div (n / k) m k some (omega (arith, div-mul-le_self n k))
 
-pub ideal-apart : (e : Entry) (n m : ℕ) → IsEntry e → n ≤ m →
+-- an interval has a grant, and ends behind its window
+pub record HasWindows (e : Entry) : Type 0 where
+  pub grants : 1 ≤ e.grants
+  pub jitter : e.jitter < e.interval
+
+pub windows : (e : Entry) → IsEntry e → HasWindows e
+windows e is = record { grants = is.grants; jitter = is.jitter }
+
+pub ideal-apart : (e : Entry) (n m : ℕ) → HasWindows e → n ≤ m →
     (ideal e m ≡ ideal e n) ⊎ (ideal e n + e.interval ≤ ideal e m)
 ideal-apart e n m is h =
     let rises : n / e.grants ≤ m / e.grants = div-rises n m e.grants (omega (arith, is.grants)) h in
@@ -26,20 +34,20 @@ ideal-apart e n m is h =
           inl (ap (λ i. e.start + i * e.interval) same)
     ]
 
-pub ideal-rises : (e : Entry) (n m : ℕ) → IsEntry e → n ≤ m → ideal e n ≤ ideal e m
+pub ideal-rises : (e : Entry) (n m : ℕ) → HasWindows e → n ≤ m → ideal e n ≤ ideal e m
 ideal-rises e n m is h = elim (ideal-apart e n m is h) [
   | inl same ↦ omega (arith, same)
   | inr later ↦ omega (arith, later)
 ]
 
 -- an occurrence that is ideal before `end` is in one of the first `end` intervals
-pub interval-below : (e : Entry) (n end : ℕ) → IsEntry e → ideal e n < end → n / e.grants < end
+pub interval-below : (e : Entry) (n end : ℕ) → HasWindows e → ideal e n < end → n / e.grants < end
 interval-below e n end is h =
     let product : n / e.grants * 1 ≤ n / e.grants * e.interval =
     mul-le (n / e.grants) 1 (n / e.grants) e.interval (omega arith) (omega (arith, is.jitter)) in
     omega arith
 
-pub number-below : (e : Entry) (n end : ℕ) → IsEntry e → ideal e n < end → n < end * e.grants
+pub number-below : (e : Entry) (n end : ℕ) → HasWindows e → ideal e n < end → n < end * e.grants
 number-below e n end is h =
     let inside = interval-below e n end is h in
     let low : n / e.grants + 1 ≤ end = omega arith in
@@ -52,7 +60,7 @@ number-below e n end is h =
 -- and has a number of 38 bits where `end` is in a run
 pub number-most : (e : Entry) (n end : ℕ) → IsEntry e → end ≤ 25 * 67108864 → ideal e n < end → n < 2 ^ 38
 number-most e n end is run h =
-    let below : n < end * e.grants = number-below e n end is h in
+    let below : n < end * e.grants = number-below e n end (windows e is) h in
     let product : end * e.grants ≤ 1677721600 * 127 = mul-le end e.grants 1677721600 127 (omega arith) is.few_grants in
     omega arith
 
@@ -84,4 +92,4 @@ end_most pace round h =
     let same : (round + 1) * pace.len * minislot_ticks pace.time ≡ (round + 1) * (pace.len * minislot_ticks pace.time) = grind arith in
     omega arith
 
-pub ruleset ideal_facts = (ideal-most, number-most, interval-below)
+pub ruleset ideal_facts = (ideal-most, number-most)

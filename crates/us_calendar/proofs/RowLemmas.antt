@@ -9,6 +9,7 @@ use Rattle.us_calendar.specs.Entries.{Entry}
 use Rattle.us_calendar.specs.Occurrences.{Pace, ideal, end_of, due}
 use Rattle.us_calendar.specs.Settling.{Mark, Row, after_marks, settle_row}
 use Rattle.us_calendar.specs.Kept.{IsEntry, IsRow, IsQuiet, row_from}
+use Rattle.us_calendar.proofs.IdealLemmas.{windows}
 use Rattle.us_calendar.proofs.DueLemmas.{due-none}
 
 pub row-is : (e : Entry) (next : ℕ) → IsEntry e → next ≤ 2 ^ 38 → IsRow (row_from e next)
@@ -32,7 +33,7 @@ quiet-before pace e next round from is before after =
     let product : (round + 1) * long ≤ rounds * long = mul-le (round + 1) long rounds long low (omega arith) in
     let whole : rounds * long ≤ ideal e next = div-mul-le_self (ideal e next) long in
     let same : (round + 1) * (25 * (pace.len * minislot_ticks pace.time)) ≡ end_of pace round = grind arith in
-    due-none e (end_of pace round) next is (omega (arith, product, whole, same))
+    due-none e (end_of pace round) next (windows e is) (omega (arith, product, whole, same))
 
 pub row-few : (e : Entry) (next : ℕ) → IsRow (row_from e next) → next ≤ 2 ^ 38
 row-few e next is = omega (arith, is.few, length-range_with_len 0 next)

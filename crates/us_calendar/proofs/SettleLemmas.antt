@@ -9,8 +9,8 @@ use Rattle.us_calendar.specs.Entries.{Entry}
 use Rattle.us_calendar.specs.Occurrences.{Pace, ideal, end_of, is_over, due, starts_within}
 use Rattle.us_calendar.specs.Settling.{Mark, Outcome, Row, spot, mark, with_spot, settle_each, settle_row, after_marks, told_as}
 use Rattle.us_calendar.specs.declared.settled.Settled.{Settled}
-use Rattle.us_calendar.specs.Kept.{IsEntry, row_from, settle_from}
-use Rattle.us_calendar.proofs.IdealLemmas.{ideal-apart}
+use Rattle.us_calendar.specs.Kept.{row_from, settle_from}
+use Rattle.us_calendar.proofs.IdealLemmas.{HasWindows, ideal-apart, number-below}
 use Rattle.us_calendar.proofs.DueLemmas.{due-none, due-next, due-all}
 
 abbrev pub numbers_of : List Mark → List ℕ
@@ -51,7 +51,7 @@ settle-idle pace round e (n ∷ ns) board all =
     (marks_waiting pace round e n all.0.1)
 
 -- The next occurrence is settled first,
-pub settle-next : (pace : Pace) (round : ℕ) (e : Entry) (n : ℕ) (board : Board) → IsEntry e →
+pub settle-next : (pace : Pace) (round : ℕ) (e : Entry) (n : ℕ) (board : Board) → HasWindows e →
     ideal e n < end_of pace round →
     settle_from pace round e n board ≡
     then_settle pace round e n (spot pace round e n board) (settle_from pace round e (n + 1)) board
@@ -61,7 +61,7 @@ settle-next pace round e n board is h =
     settle_each-cons pace round e n (due e (end_of pace round) (range_with_len 0 (n + 1))) board
 
 -- where it is due at all,
-pub settle-none : (pace : Pace) (round : ℕ) (e : Entry) (n : ℕ) (board : Board) → IsEntry e →
+pub settle-none : (pace : Pace) (round : ℕ) (e : Entry) (n : ℕ) (board : Board) → HasWindows e →
     end_of pace round ≤ ideal e n → settle_from pace round e n board ≡ nothing board
 unfolding settle_row settle_each
 settle-none pace round e n board is h =
@@ -74,7 +74,7 @@ WaitsFrom pace round e board at =
     && nat_le (start_of pace.time (round * pace.len + i)) (at + e.jitter)) && fits board e.slots i) 0 pace.len ≡ None)
     × (nat_lt (at + e.jitter) (end_of pace round) ≡ false)
 
-wait_too : (pace : Pace) (round : ℕ) (e : Entry) (n m : ℕ) (board : Board) → IsEntry e → Waits pace round e board n →
+wait_too : (pace : Pace) (round : ℕ) (e : Entry) (n m : ℕ) (board : Board) → HasWindows e → Waits pace round e board n →
     n ≤ m → ideal e m < end_of pace round → Waits pace round e board m
 wait_too pace round e n m board is waits after before = elim (ideal-apart e n m is after) [
   | inl same ↦ subst (WaitsFrom pace round e board) (sym same) waits
@@ -83,14 +83,14 @@ wait_too pace round e n m board is waits after before = elim (ideal-apart e n m 
       absurd (omega (arith, later, before, is.jitter, ends))
 ]
 
-all_wait : (pace : Pace) (round : ℕ) (e : Entry) (n : ℕ) (board : Board) (ns : List ℕ) → IsEntry e →
+all_wait : (pace : Pace) (round : ℕ) (e : Entry) (n : ℕ) (board : Board) (ns : List ℕ) → HasWindows e →
     Waits pace round e board n → AllByRecursion (λ m. (n ≤ m) × (ideal e m < end_of pace round)) ns →
     AllByRecursion (Waits pace round e board) ns
 all_wait pace round e n board [] is waits all = tt
 all_wait pace round e n board (m ∷ ns) is waits all =
     (wait_too pace round e n m board is waits all.0.0 all.0.1, all_wait pace round e n board ns is waits all.1)
 
-pub settle-waits : (pace : Pace) (round : ℕ) (e : Entry) (n : ℕ) (board : Board) → IsEntry e →
+pub settle-waits : (pace : Pace) (round : ℕ) (e : Entry) (n : ℕ) (board : Board) → HasWindows e →
     spot pace round e n board ≡ None → is_over pace round e n ≡ false →
     settle_from pace round e n board ≡ nothing board
 unfolding settle_row
@@ -126,7 +126,7 @@ pub record Reached (pace : Pace) (round : ℕ) (e : Entry) (first : ℕ) (before
 module _ (pace : Pace) (round : ℕ) (e : Entry) (first : ℕ) (before : Board) (told_before : List Settled)
     (n : ℕ) (board : Board) (told : List Settled) where
   pub reached-next : (now : Board) (told_now : List Settled) → Reached pace round e first before told_before n board told →
-      IsEntry e → n < 2 ^ 38 → ideal e n < end_of pace round → now ≡ with_spot e (spot pace round e n board) board →
+      HasWindows e → n < 2 ^ 38 → ideal e n < end_of pace round → now ≡ with_spot e (spot pace round e n board) board →
       length now.cells ≡ length board.cells → numbers_of (mark pace round e n (spot pace round e n board)) ≡ n ∷ [] →
       told_now ≡ told ++ map (told_as e) (mark pace round e n (spot pace round e n board)) →
       Reached pace round e first before told_before (n + 1) now told_now
@@ -183,5 +183,55 @@ module _ (pace : Pace) (round : ℕ) (e : Entry) (n : ℕ) (board now : Board) (
   stands_told =
       told_is ∙ ap (λ found. told ++ map (told_as e) (mark pace round e n found)) waits.0 ∙
       ap (λ marks. told ++ map (told_as e) marks) (marks_waiting pace round e n waits.1) ∙ append-nil told
+
+-- The first occurrences stay the first ones.
+
+numbers_on : (pace : Pace) (round : ℕ) (e : Entry) (n : ℕ) (board : Board) (found : Option ℕ) → HasWindows e →
+    ideal e n < end_of pace round → spot pace round e n board ≡ found → numbers_of (mark pace round e n found) ≡ n ∷ [] →
+    range_with_len 0 n ++ numbers_of (settle_from pace round e n board).marks ≡
+    range_with_len 0 (n + 1) ++ numbers_of (settle_from pace round e (n + 1) (with_spot e found board)).marks
+numbers_on pace round e n board found is due found_is number =
+    let rest : Outcome = settle_from pace round e (n + 1) (with_spot e found board) in
+    let step = settle-next pace round e n board is due ∙
+    ap (λ f. then_settle pace round e n f (settle_from pace round e (n + 1)) board) found_is in
+    ap (λ o. range_with_len 0 n ++ numbers_of o.marks) step ∙
+    ap (λ ns. range_with_len 0 n ++ ns) (map-append (λ m. m.number) (mark pace round e n found) rest.marks) ∙
+    ap (λ ns. range_with_len 0 n ++ (ns ++ numbers_of rest.marks)) number ∙
+    sym (append_assoc (range_with_len 0 n) (n ∷ []) (numbers_of rest.marks)) ∙
+    ap (λ ns. ns ++ numbers_of rest.marks) (sym (range-more n))
+
+stop_here : (pace : Pace) (round : ℕ) (e : Entry) (n : ℕ) (board : Board) →
+    settle_from pace round e n board ≡ nothing board →
+    range_with_len 0 n ++ numbers_of (settle_from pace round e n board).marks ≡ range_with_len 0 n
+stop_here pace round e n board last =
+    ap (λ o. range_with_len 0 n ++ numbers_of o.marks) last ∙ append-nil (range_with_len 0 n)
+
+abbrev Ones : Pace → ℕ → Entry → ℕ → Board → Type 0
+Ones pace round e n board =
+    (more : ℕ) ×
+    (range_with_len 0 n ++ numbers_of (settle_from pace round e n board).marks ≡ range_with_len 0 more)
+
+pub first_ones : (pace : Pace) (round : ℕ) (e : Entry) (left n : ℕ) (board : Board) → HasWindows e →
+    end_of pace round * e.grants ≤ n + left → Ones pace round e n board
+first_ones pace round e zero n board is all = elim (cases_lt (ideal e n) (end_of pace round)) [
+  | inl due ↦ let below = number-below e n (end_of pace round) is due in absurd (omega (arith, below, all))
+  | inr late ↦ (n, stop_here pace round e n board (settle-none pace round e n board is late))
+]
+first_ones pace round e (suc left) n board is all = elim (cases_lt (ideal e n) (end_of pace round)) [
+  | inr late ↦ (n, stop_here pace round e n board (settle-none pace round e n board is late))
+  | inl due ↦ by due (spot pace round e n board) refl (λ next. first_ones pace round e left (n + 1) next is (omega (arith, all)))
+]
+  where
+    by : ideal e n < end_of pace round → (found : Option ℕ) → spot pace round e n board ≡ found →
+        ((next : Board) → Ones pace round e (n + 1) next) → Ones pace round e n board
+    by due (Some at) found rest =
+        let more = rest (with_spot e (Some at) board) in
+        (more.0, numbers_on pace round e n board (Some at) is due found refl ∙ more.1)
+    by due None found rest = elim (cases_Bool (is_over pace round e n)) [
+      | inl over ↦
+          let more = rest board in
+          (more.0, numbers_on pace round e n board None is due found (rw over refl) ∙ more.1)
+      | inr open_yet ↦ (n, stop_here pace round e n board (settle-waits pace round e n board is found open_yet))
+    ]
 
 pub ruleset settle_facts = (settle-next, settle-none)

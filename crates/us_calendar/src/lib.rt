@@ -38,6 +38,10 @@ mod agendas;
 // The calendar.
 mod calendars;
 
+// Laws of the definitions.
+mod laws;
+
 pub use calendars::Calendar;
 pub use kinds::Kind;
+pub use laws::first_ones;
 pub use settled::Settled;

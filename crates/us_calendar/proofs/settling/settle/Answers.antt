@@ -2,7 +2,7 @@ use Rattle.std.proofs.Common.{◌≡◌, ◌∙◌, ◌<◌, ◌≤◌, ◌*◌,
 use Rattle.us_calendar.specs.Occurrences.{ideal, end_of, is_over}
 use Rattle.us_calendar.specs.Settling.{spot}
 use Rattle.us_calendar.specs.Kept.{settle_from}
-use Rattle.us_calendar.proofs.IdealLemmas.{number-most}
+use Rattle.us_calendar.proofs.IdealLemmas.{number-most, windows}
 use Rattle.us_calendar.proofs.SettleLemmas.{Reached, reached-next, last_board, last_numbers, last_told, nothing, settle-waits, settle-none, stands, stands_told}
 use Rattle.us_calendar.proofs.settling.settle.Goals as goal
 
@@ -13,7 +13,7 @@ loop-entry-preserved c =
     let most : end_of c.args.pace c.args.round ≤ 25 * 67108864 = omega (arith, c.end-end.ensures.value, c.end-end.ensures.most) in
     reached-next c.args.pace c.args.round c.args.entry c.args.first c.args.board.now c.args.settled.now.items
     c.loop-entry.number c.loop-entry.board c.loop-entry.settled.items c.settle_one.new.board
-    c.settle_one.new.settled.items c.loop-entry.invariant c.ideal.ensures.known
+    c.settle_one.new.settled.items c.loop-entry.invariant (windows c.args.entry c.ideal.ensures.known)
     (number-most c.args.entry c.loop-entry.number (end_of c.args.pace c.args.round) c.ideal.ensures.known most due)
     due c.settle_one.ensures.board c.settle_one.ensures.len number
     c.in_ok-settle_one.ensures.told
@@ -26,7 +26,7 @@ returns-then-not-branch-clause-board c =
     c.in_ok-settle_one.ensures.told ∙
     last_board c.args.pace c.args.round c.args.entry c.args.first c.args.board.now c.args.settled.now.items
     c.loop-entry.number c.loop-entry.board c.loop-entry.settled.items c.loop-entry.invariant
-    (settle-waits c.args.pace c.args.round c.args.entry c.loop-entry.number c.loop-entry.board c.ideal.ensures.known
+    (settle-waits c.args.pace c.args.round c.args.entry c.loop-entry.number c.loop-entry.board (windows c.args.entry c.ideal.ensures.known)
     waits.0 waits.1)
 
 pub returns-then-not-branch-clause-numbers : goal.returns-then-not-branch-clause-numbers
@@ -34,7 +34,7 @@ returns-then-not-branch-clause-numbers c =
     let waits = rw c.if-not-branch.true at c.in_ok-settle_one.ensures.waits in
     last_numbers c.args.pace c.args.round c.args.entry c.args.first c.args.board.now c.args.settled.now.items
     c.loop-entry.number c.loop-entry.board c.loop-entry.settled.items c.loop-entry.invariant
-    (settle-waits c.args.pace c.args.round c.args.entry c.loop-entry.number c.loop-entry.board c.ideal.ensures.known
+    (settle-waits c.args.pace c.args.round c.args.entry c.loop-entry.number c.loop-entry.board (windows c.args.entry c.ideal.ensures.known)
     waits.0 waits.1)
 
 pub returns-then-not-branch-clause-told : goal.returns-then-not-branch-clause-told
@@ -45,26 +45,26 @@ returns-then-not-branch-clause-told c =
     c.in_ok-settle_one.ensures.told ∙
     last_told c.args.pace c.args.round c.args.entry c.args.first c.args.board.now c.args.settled.now.items
     c.loop-entry.number c.loop-entry.board c.loop-entry.settled.items c.loop-entry.invariant
-    (settle-waits c.args.pace c.args.round c.args.entry c.loop-entry.number c.loop-entry.board c.ideal.ensures.known
+    (settle-waits c.args.pace c.args.round c.args.entry c.loop-entry.number c.loop-entry.board (windows c.args.entry c.ideal.ensures.known)
     waits.0 waits.1)
 
 pub returns-clause-board : goal.returns-clause-board
 returns-clause-board c =
     last_board c.args.pace c.args.round c.args.entry c.args.first c.args.board.now c.args.settled.now.items
     c.loop-entry.number c.loop-entry.board c.loop-entry.settled.items c.loop-entry.invariant
-    (settle-none c.args.pace c.args.round c.args.entry c.loop-entry.number c.loop-entry.board c.ideal.ensures.known
+    (settle-none c.args.pace c.args.round c.args.entry c.loop-entry.number c.loop-entry.board (windows c.args.entry c.ideal.ensures.known)
     (omega (arith, c.ideal.ensures.value, c.end-end.ensures.value, c.loop-entry-test.false)))
 
 pub returns-clause-numbers : goal.returns-clause-numbers
 returns-clause-numbers c =
     last_numbers c.args.pace c.args.round c.args.entry c.args.first c.args.board.now c.args.settled.now.items
     c.loop-entry.number c.loop-entry.board c.loop-entry.settled.items c.loop-entry.invariant
-    (settle-none c.args.pace c.args.round c.args.entry c.loop-entry.number c.loop-entry.board c.ideal.ensures.known
+    (settle-none c.args.pace c.args.round c.args.entry c.loop-entry.number c.loop-entry.board (windows c.args.entry c.ideal.ensures.known)
     (omega (arith, c.ideal.ensures.value, c.end-end.ensures.value, c.loop-entry-test.false)))
 
 pub returns-clause-told : goal.returns-clause-told
 returns-clause-told c =
     last_told c.args.pace c.args.round c.args.entry c.args.first c.args.board.now c.args.settled.now.items
     c.loop-entry.number c.loop-entry.board c.loop-entry.settled.items c.loop-entry.invariant
-    (settle-none c.args.pace c.args.round c.args.entry c.loop-entry.number c.loop-entry.board c.ideal.ensures.known
+    (settle-none c.args.pace c.args.round c.args.entry c.loop-entry.number c.loop-entry.board (windows c.args.entry c.ideal.ensures.known)
     (omega (arith, c.ideal.ensures.value, c.end-end.ensures.value, c.loop-entry-test.false)))
