@@ -176,8 +176,7 @@ module _ (pace : Pace) (round : ℕ) (old_rows : List Row) (old_board : Board) (
         (q < length (set rows place row_now)) × (round ≤ at_now) × (at_now ≡ round → suc place ≤ q)
     noted_now at_now q is = elim (cases_Bool (is_at (key_cmp (next, place)) (at_now, q))) [
       | inl t ↦
-          let key = at_key next place (at_now, q) t in
-          (
+          let key = at_key next place (at_now, q) t in (
             omega (arith, length-set rows place row_now, turn.0, key.1),
             omega (arith, key.0, later),
             λ e. absurd (omega (arith, key.0, later, e)),
@@ -186,8 +185,7 @@ module _ (pace : Pace) (round : ℕ) (old_rows : List Row) (old_board : Board) (
           let update = put (at_now, q) in
           let is_mid : mid (at_now, q) ≡ true = sym (rw f at update) ∙ is in
           let was = was_there at place has mid (at_now, q) (took (at_now, q)) is_mid in
-          let old = g.agenda.noted at_now q was.0 in
-          (
+          let old = g.agenda.noted at_now q was.0 in (
             omega (arith, length-set rows place row_now, old.0),
             old.1,
             λ e. elim (no_later at place (at_now, q) (least (at_now, q) was.0)) [
@@ -208,8 +206,7 @@ module _ (pace : Pace) (round : ℕ) (old_rows : List Row) (old_board : Board) (
           let found : row_now ≡ other =
           the_some row_now other (sym (set_same rows place row_now turn.0) ∙
           ap (slice_get (set rows place row_now)) here ∙ is) in
-          let at_next = subst (λ p. is_at (key_cmp (next, place)) (next, p) ≡ true) here (at_itself next place) in
-          (
+          let at_next = subst (λ p. is_at (key_cmp (next, place)) (next, p) ≡ true) here (at_itself next place) in (
             next,
             put (next, q) ∙ ap (λ b. cond b true (mid (next, q))) at_next,
             λ earlier low early high.
@@ -220,8 +217,7 @@ module _ (pace : Pace) (round : ℕ) (old_rows : List Row) (old_board : Board) (
           let old = g.agenda.quiet q other (sym (set_other rows place q row_now elsewhere) ∙ is) in
           let stays : mid (old.0, q) ≡ true =
           took (old.0, q) ∙ ap (λ b. cond b false (has (old.0, q))) (not_at_key at place (old.0, q) (inr elsewhere)) ∙
-          old.1 in
-          (
+          old.1 in (
             old.0,
             is_there next place mid new (old.0, q) (put (old.0, q)) stays,
             λ earlier low early high.

@@ -96,8 +96,11 @@ pub due-all : (e : Entry) (end n : ℕ) →
 unfolding due
 due-all e end n =
     filter-passes (λ m. (n ≤ m) × (ideal e m < end)) (is_due e end n) 0 (end * e.grants)
-    (λ m is. (from m is, ltb-true (ideal e m) end
-    (and_parts (nat_lt (ideal e m) end) (not (list_any (nat_eq m) (range_with_len 0 n))) is).0))
+    (λ m is. (
+      from m is,
+      ltb-true (ideal e m) end
+          (and_parts (nat_lt (ideal e m) end) (not (list_any (nat_eq m) (range_with_len 0 n))) is).0,
+    ))
   where
     from : (m : ℕ) → is_due e end n m ≡ true → n ≤ m
     from m is = elim (cases_lt m n) [

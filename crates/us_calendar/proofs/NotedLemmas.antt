@@ -49,8 +49,7 @@ one_noted pace rows row at has new agenda quiet put =
             let old = agenda.quiet place other early in
             (old.0, is_there at (length rows) has new (old.0, place) (put (old.0, place)) old.1, old.2)
         | inr last ↦
-            let here = subst (λ p. is_at (key_cmp (at, length rows)) (at, p) ≡ true) last.0 (at_itself at (length rows)) in
-            (
+            let here = subst (λ p. is_at (key_cmp (at, length rows)) (at, p) ≡ true) last.0 (at_itself at (length rows)) in (
               at,
               put (at, place) ∙ ap (λ b. cond b true (has (at, place))) here,
               λ earlier low _ high. subst (IsQuiet pace earlier) last.1 (quiet earlier high low),

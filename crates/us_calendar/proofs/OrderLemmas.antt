@@ -70,6 +70,7 @@ flow_made c f = by (slice_index f.channels 0 == c.id)
     of_kind NonRealTimePolling = (refl, omega arith)
     of_kind RealTimePolling = (refl, omega arith)
     of_kind UnsolicitedGrant = (refl, omega arith)
+
     by : (b : Bool) → IfSome (if b then scheduled c f f.kind else None) (λ e. (e.id ≡ f.id) × (rank_of e.kind ≤ 2))
     by true = of_kind f.kind
     by false = tt
@@ -96,11 +97,11 @@ other_id a b ha hb apart = ne_eqb (number a) (number b) (λ same. elim (cases_or
   | inr other ↦ elim other [
     | inl l ↦ elim (cases_order (rank_of a.kind) (rank_of b.kind)) [
       | inl e ↦ omega (arith, same, l, e)
-      | inr more ↦ elim more [ | inl m ↦ omega (arith, same, ha, hb, m) | inr m ↦ omega (arith, same, ha, hb, m) ]
+      | inr more ↦ elim more [ inl m ↦ omega (arith, same, ha, hb, m) | inr m ↦ omega (arith, same, ha, hb, m) ]
     ]
     | inr l ↦ elim (cases_order (rank_of a.kind) (rank_of b.kind)) [
       | inl e ↦ omega (arith, same, l, e)
-      | inr more ↦ elim more [ | inl m ↦ omega (arith, same, ha, hb, m) | inr m ↦ omega (arith, same, ha, hb, m) ]
+      | inr more ↦ elim more [ inl m ↦ omega (arith, same, ha, hb, m) | inr m ↦ omega (arith, same, ha, hb, m) ]
     ]
   ]
 ])

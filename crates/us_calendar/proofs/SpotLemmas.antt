@@ -143,4 +143,5 @@ spot-at pace round e n from to start board window inside placed =
     (λ low high. least.first at low earlier)))
 
 pub ruleset start_facts = (window-clip, window-past, window-before, none-within, base_most)
+
 pub ruleset spot_facts = (spot-at, spot-none, spot-full, spot-outside)

@@ -12,5 +12,5 @@ use Rattle.us_calendar.specs.Settling.{settle_row, after_marks}
 abbrev pub FirstOnes : Type 0
 FirstOnes = (pace : Pace) (round count : ℕ) (e : Entry) (board : Board) → 1 ≤ e.grants → e.jitter < e.interval →
     (more : ℕ) × ((after_marks (record { entry = e; settled = range_with_len 0 count })
-        (settle_row pace round (record { entry = e; settled = range_with_len 0 count }) board).marks).settled
-      ≡ range_with_len 0 more)
+    (settle_row pace round (record { entry = e; settled = range_with_len 0 count }) board).marks).settled
+    ≡ range_with_len 0 more)

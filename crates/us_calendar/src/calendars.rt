@@ -83,7 +83,12 @@ impl Calendar {
     ///
     /// The board has the length of the channel's MAPs, and the round ends at tick 2^26 or before. After want of memory
     /// nothing is said of calendar and board.
-    pub fn run(&mut self, alloc: Global, round: u32, board: &mut Board) -> Result<Vec<Settled>, NoMemory>
+    pub fn run(
+        &mut self,
+        alloc: Global,
+        round: u32,
+        board: &mut Board,
+    ) -> Result<Vec<Settled>, NoMemory>
         requires next { round ≡ self.old.next_round }
         requires time { (round + 1) * (self.old.pace.len * minislot_ticks self.old.pace.time) ≤ max_run_ticks }
         requires len { length board.old.cells ≡ self.old.pace.len }
@@ -101,7 +106,14 @@ impl Calendar {
             length settled.items + spec.settled_in self.old ≡ spec.settled_in self.new) }
     {
         let mut settled = Vec::new(alloc);
-        match settle_due(self.pace, round, &mut self.rows, &mut self.due, board, &mut settled) {
+        match settle_due(
+            self.pace,
+            round,
+            &mut self.rows,
+            &mut self.due,
+            board,
+            &mut settled,
+        ) {
             Ok(()) => {
                 self.next_round = round + 1;
                 Ok(settled)

@@ -45,3 +45,6 @@ pub use calendars::Calendar;
 pub use kinds::Kind;
 pub use laws::first_ones;
 pub use settled::Settled;
+
+#[cfg(test)]
+mod tests;

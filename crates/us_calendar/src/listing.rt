@@ -15,7 +15,11 @@ use us_slots::{Iuc, NoMemory, cost};
 const QUARTERS_PER_US: u32 = 4;
 
 /// The entries of a channel, in order.
-pub(crate) fn entries_of(alloc: Global, config: &Config, channel: &Channel) -> Result<Vec<Entry>, NoMemory>
+pub(crate) fn entries_of(
+    alloc: Global,
+    config: &Config,
+    channel: &Channel,
+) -> Result<Vec<Entry>, NoMemory>
     requires { IsChannel config.now channel.now }
     ensures value { IfOk result (λ entries. entries.items ≡ spec.entries config.now channel.now) }
     ensures few { IfOk result (λ entries. length entries.items ≤ 1280) }
@@ -56,7 +60,11 @@ fn push_flows(entries: &mut Vec<Entry>, channel: &Channel, flows: &[Flow]) -> Re
 }
 
 /// Puts the entries of stations behind those before them.
-fn push_stations(entries: &mut Vec<Entry>, channel: &Channel, stations: &[Station]) -> Result<(), NoMemory>
+fn push_stations(
+    entries: &mut Vec<Entry>,
+    channel: &Channel,
+    stations: &[Station],
+) -> Result<(), NoMemory>
     requires some { 1 ≤ channel.now.station_minislots }
     requires stations { (t : Tables) × AllByRecursion (IsStation t) stations.now }
     ensures { OnOk result
@@ -82,13 +90,35 @@ fn flow_entry(channel: &Channel, flow: &Flow) -> Option<Entry>
     let poll = u32::from(channel.request_minislots);
     match flow.kind() {
         SchedulingType::BestEffort => None,
-        SchedulingType::NonRealTimePolling => Some(entry_with(flow, Kind::NonRealTimePoll, Iuc::request(), poll, 1)),
-        SchedulingType::RealTimePolling => Some(entry_with(flow, Kind::RealTimePoll, Iuc::request(), poll, 1)),
+        SchedulingType::NonRealTimePolling => Some(entry_with(
+            flow,
+            Kind::NonRealTimePoll,
+            Iuc::request(),
+            poll,
+            1,
+        )),
+        SchedulingType::RealTimePolling => Some(entry_with(
+            flow,
+            Kind::RealTimePoll,
+            Iuc::request(),
+            poll,
+            1,
+        )),
         SchedulingType::UnsolicitedGrant => {
             let bursts = channel.bursts;
-            let slots = cost(bursts.time(), bursts.unsolicited(), u32::from(flow.grant_bytes()));
+            let slots = cost(
+                bursts.time(),
+                bursts.unsolicited(),
+                u32::from(flow.grant_bytes()),
+            );
             let grants = flow.grants_per_interval();
-            Some(entry_with(flow, Kind::Unsolicited, Iuc::unsolicited_grant(), slots, grants))
+            Some(entry_with(
+                flow,
+                Kind::Unsolicited,
+                Iuc::unsolicited_grant(),
+                slots,
+                grants,
+            ))
         }
     }
 }

@@ -12,7 +12,13 @@ use us_slots::window;
 
 /// Grants an occurrence the first minislot of its window in this round's MAP where it fits: the offset, if there is one.
 #[tactic(auto, using(crate::proofs::SpotLemmas::spot_facts))]
-pub(crate) fn place(entry: Entry, pace: Pace, round: u32, number: u64, board: &mut Board) -> Option<u32>
+pub(crate) fn place(
+    entry: Entry,
+    pace: Pace,
+    round: u32,
+    number: u64,
+    board: &mut Board,
+) -> Option<u32>
     requires time { (round + 1) * (pace.len * minislot_ticks pace.time) ≤ max_run_ticks }
     requires len { length board.old.cells ≡ pace.len }
     requires number { number ≤ max_number }
