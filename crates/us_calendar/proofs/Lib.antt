@@ -9,3 +9,4 @@ pub mod AgendaLemmas
 pub mod NotedLemmas
 pub mod RunLaws
 pub mod OrderLemmas
+pub mod FitLaws
