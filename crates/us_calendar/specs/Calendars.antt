@@ -1,0 +1,92 @@
+-- The calendar of a channel, from round to round.
+use Rattle.std.specs.Prelude.{◌≡◌, ℕ, ◌+◌, ◌*◌, ◌<◌, ◌≤◌, ◌^◌, ⊤, List, [], ◌∷◌, ◌++◌, length, map, sum_by, slice_get, Option, Some, None}
+use Rattle.std.specs.List.{AllByRecursion}
+use Rattle.us_slots.specs.Times.{minislot_ticks}
+use Rattle.us_flows.specs.declared.channels.Channel.{Channel}
+use Rattle.us_flows.specs.Tables.{Tables, map_len, max_run_ticks}
+use Rattle.us_holes.specs.Boards.{Board}
+use Rattle.us_calendar.specs.Entries.{entries}
+use Rattle.us_calendar.specs.Occurrences.{Pace}
+use Rattle.us_calendar.specs.Settling.{Row, Outcome, settle_row, after_marks, told_as}
+use Rattle.us_calendar.specs.declared.settled.Settled.{Settled}
+use Rattle.us_calendar.specs.declared.settled.Settled.TheVariants as told
+
+-- the calendar of a channel: its entries in order, each with what of it is settled, and the number of the next round
+pub record Calendar : Type 0 where
+  pub pace : Pace
+  pub next_round : ℕ
+  pub rows : List Row
+
+abbrev pub pace_of : Tables → Channel → Pace
+pace_of t c = record { time = c.bursts.time; len = map_len t c }
+
+-- before round 0 nothing is settled
+abbrev pub opening : Tables → Channel → Calendar
+opening t c = record {
+  pace = pace_of t c;
+  next_round = 0;
+  rows = map (λ e. record { entry = e; settled = [] }) (entries t c);
+}
+
+-- what a round comes to: the calendar and the board that it leaves, and what it settled, in the order of entries
+pub record Ran : Type 0 where
+  pub rows : List Row
+  pub board : Board
+  pub settled : List Settled
+
+-- entries one after another, each on the board that those before it leave
+unfoldable pub run_rows : Pace → ℕ → List Row → Board → Ran
+run_rows pace round [] board = record { rows = []; board = board; settled = [] }
+run_rows pace round (row ∷ more) board =
+    let one : Outcome = settle_row pace round row board in
+    let rest : Ran = run_rows pace round more one.board in
+    record {
+      rows = after_marks row one.marks ∷ rest.rows;
+      board = rest.board;
+      settled = map (told_as row.entry) one.marks ++ rest.settled;
+    }
+
+-- the round of a calendar on a board
+abbrev pub ran : Calendar → Board → Ran
+ran calendar board = run_rows calendar.pace calendar.next_round calendar.rows board
+
+-- and the calendar then
+abbrev pub after : Calendar → Board → Calendar
+after calendar board = record {
+  pace = calendar.pace;
+  next_round = calendar.next_round + 1;
+  rows = (ran calendar board).rows;
+}
+
+-- how many occurrences are settled so far, granted or missed
+abbrev pub settled_in : Calendar → ℕ
+settled_in calendar = sum_by (λ row. length row.settled) calendar.rows
+
+-- the most of them: a calendar has at most 1,280 entries, and each has at most 127 occurrences in a quarter microsecond
+-- of a run, of which there are fewer than 2^32
+abbrev pub max_settled : ℕ
+max_settled = 2 ^ 50
+
+-- what every calendar keeps
+pub record IsCalendar (calendar : Calendar) : Type 0 where
+  pub len : 1 ≤ calendar.pace.len
+  pub ticks : calendar.pace.len * minislot_ticks calendar.pace.time ≤ 4096
+  pub settled : settled_in calendar ≤ max_settled
+
+-- what is settled at a place of the MAP, or nowhere
+abbrev pub granted_start : Settled → Option ℕ
+granted_start (told.Granted kind id i k start slots owner) = Some start
+granted_start (told.Missed kind id i k) = None
+
+-- it is missed, or starts inside a MAP of this length
+abbrev pub StartsInside : ℕ → Settled → Type 0
+StartsInside len (told.Granted kind id i k start slots owner) = start < len
+StartsInside len (told.Missed kind id i k) = ⊤
+
+-- how many are granted
+abbrev pub one_if_granted : Settled → ℕ
+one_if_granted (told.Granted kind id i k start slots owner) = 1
+one_if_granted (told.Missed kind id i k) = 0
+
+abbrev pub granted_in : List Settled → ℕ
+granted_in settled = sum_by one_if_granted settled

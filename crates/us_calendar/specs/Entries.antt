@@ -1,0 +1,92 @@
+-- What a channel's calendar has (ours, where nothing else is said): unsolicited grants, polls and station maintenance.
+use Rattle.std.specs.Prelude.{ℕ, ◌+◌, ◌*◌, ◌==◌, nat_lt, ◌&&◌, ◌||◌, Bool, if◌then◌else◌, List, [], ◌++◌, length, flat_map, filter, filter_map, map, count_by, slice_get, slice_index, Option, Some, None, unwrap_or}
+use Rattle.std.specs.List.{range_with_len}
+use Rattle.us_slots.specs.Bursts.{burst_cost}
+use Rattle.us_slots.specs.UsageCodes as codes
+use Rattle.us_flows.specs.declared.channels.Channel.{Channel}
+use Rattle.us_flows.specs.declared.stations.Station.{Station}
+use Rattle.us_flows.specs.declared.flows.SchedulingType.{SchedulingType}
+use Rattle.us_flows.specs.declared.flows.SchedulingType.TheVariants.{BestEffort, NonRealTimePolling, RealTimePolling, UnsolicitedGrant}
+use Rattle.us_flows.specs.Tables.{Tables, FlowTable}
+use Rattle.us_holes.specs.Boards.{Owner}
+use Rattle.us_calendar.specs.declared.kinds.Kind.{Kind}
+use Rattle.us_calendar.specs.declared.kinds.Kind.TheVariants as kinds
+
+-- an entry: so many grants of `slots` minislots to one owner in each interval, each to start at the ideal time or at
+-- most the jitter behind it; times are in quarter microseconds
+pub record Entry : Type 0 where
+  pub kind : Kind
+  -- of its flow, or of its station
+  pub id : ℕ
+  pub owner : Owner
+  pub slots : ℕ
+  pub start : ℕ
+  pub interval : ℕ
+  pub jitter : ℕ
+  pub grants : ℕ
+
+abbrev pub quarters : ℕ → ℕ
+quarters us = 4 * us
+
+-- the SID of a flow on its first channel, in its first cluster
+abbrev pub first_sid : FlowTable → ℕ
+first_sid f = slice_index (unwrap_or (slice_get f.clusters 0) []) 0
+
+-- the entry of a flow with so many grants, of so many minislots, in each interval
+abbrev pub flow_entry : FlowTable → Kind → ℕ → ℕ → ℕ → Entry
+flow_entry f kind iuc slots grants = record {
+  kind = kind;
+  id = f.id;
+  owner = record { sid = first_sid f; iuc = iuc };
+  slots = slots;
+  start = quarters f.start_us;
+  interval = quarters f.interval_us;
+  jitter = quarters f.jitter_us;
+  grants = grants;
+}
+
+-- an unsolicited grant has the cost of its bytes in the unsolicited profile; a poll is a request region of one SID
+abbrev pub scheduled : Channel → FlowTable → SchedulingType → Option Entry
+scheduled c f BestEffort = None
+scheduled c f NonRealTimePolling = Some (flow_entry f kinds.NonRealTimePoll codes.request c.request_minislots 1)
+scheduled c f RealTimePolling = Some (flow_entry f kinds.RealTimePoll codes.request c.request_minislots 1)
+scheduled c f UnsolicitedGrant =
+    Some (flow_entry f kinds.Unsolicited codes.unsolicited_grant
+    (burst_cost c.bursts.time c.bursts.unsolicited f.grant_bytes) f.grants_per_interval)
+
+-- the entry of a flow on a channel: it stands on the flow's first channel alone
+abbrev pub entry_of_flow : Channel → FlowTable → Option Entry
+entry_of_flow c f = if slice_index f.channels 0 == c.id then scheduled c f f.kind else None
+
+-- and that of a station: its maintenance
+abbrev pub entry_of_station : Channel → Station → Option Entry
+entry_of_station c s = if s.channel == c.id then Some (record {
+  kind = kinds.Station;
+  id = s.id;
+  owner = record { sid = s.sid; iuc = codes.station_maintenance };
+  slots = c.station_minislots;
+  start = quarters s.start_us;
+  interval = quarters s.interval_us;
+  jitter = quarters s.jitter_us;
+  grants = 1;
+}) else None
+
+-- which kind goes first
+abbrev pub rank_of : Kind → ℕ
+rank_of kinds.Unsolicited = 0
+rank_of kinds.RealTimePoll = 1
+rank_of kinds.NonRealTimePoll = 2
+rank_of kinds.Station = 3
+
+-- by kind, and each kind by id
+abbrev pub goes_before : Entry → Entry → Bool
+goes_before a b = nat_lt (rank_of a.kind) (rank_of b.kind) || ((rank_of a.kind == rank_of b.kind) && nat_lt a.id b.id)
+
+-- entries in order: at each place stands the one that so many others go before
+abbrev pub in_order : List Entry → List Entry
+in_order es =
+    flat_map (λ place. filter (λ e. count_by (λ other. goes_before other e) es == place) es) (range_with_len 0 (length es))
+
+-- the entries of a channel
+unfoldable pub entries : Tables → Channel → List Entry
+entries t c = in_order (filter_map (entry_of_flow c) t.flows ++ filter_map (entry_of_station c) t.stations)

@@ -1,0 +1,19 @@
+-- Read in this order: the entries of a channel; when their occurrences are ideal, and where they may start; how a round
+-- settles them; then laws, and small inputs computed.
+-- In a definition `≡` is equals, `×` is and, `→` implies, `++` one list behind another, `∷` one item before a list, and
+-- ℕ has the whole numbers from 0; `/` rounds down.
+
+-- what stands in the calendar of a channel
+pub mod Entries
+-- the occurrences of an entry, by their numbers
+pub mod Occurrences
+-- what a round does with them
+pub mod Settling
+-- the calendar of a channel, from round to round
+pub mod Calendars
+-- how a calendar is kept
+pub mod Kept
+-- laws of settling
+pub mod Laws
+-- the definitions at small inputs
+pub mod Examples

@@ -1,0 +1,136 @@
+ghost use Rattle.std.specs.Prelude.{◌≡◌, ◌+◌, ◌*◌, ◌<◌, ◌≤◌, [], length, slice_get, IfOk, IfSome, OnOk};
+ghost use Rattle.std.specs.List.{AllByRecursion};
+ghost use Rattle.us_slots.specs.Times.{minislot_ticks};
+ghost use Rattle.us_flows.specs.Tables.{max_run_ticks};
+ghost use Rattle.us_flows.specs.Lawful.{IsChannel};
+ghost use Rattle.us_calendar.specs.Calendars as spec;
+ghost use Rattle.us_calendar.specs.Kept.{IsKept, key_cmp};
+ghost use Rattle.std.specs.BTreeSet.{contains};
+
+use crate::agendas::{noted, settle_due};
+use crate::listing::entries_of;
+use crate::paces::Pace;
+use crate::rows::Row;
+use crate::settled::Settled;
+use std::alloc::Global;
+use std::collections::BTreeSet;
+use std::marker::Model;
+use us_flows::{Channel, Config};
+use us_holes::Board;
+use us_slots::NoMemory;
+
+/// The calendar of a channel.
+pub struct Calendar {
+    pace: Pace,
+    next_round: u32,
+    rows: Vec<Row>,
+    due: BTreeSet<(u64, usize)>,
+}
+
+impl Model for Calendar {
+    ghost Value = { spec.Calendar };
+
+    ghost view = { λ c. record { pace = c.pace; next_round = c.next_round; rows = c.rows.items } };
+
+    ghost invariant = { λ c. IsKept (record { pace = c.pace; next_round = c.next_round; rows = c.rows.items })
+        (contains key_cmp c.due) };
+}
+
+/// Gives the entries up. It is written out so that it is one step wherever a calendar ends.
+impl Drop for Calendar {
+    fn drop(self) {
+        let Calendar {
+            pace: _,
+            next_round: _,
+            rows: _,
+            due: _,
+        } = self;
+    }
+}
+
+impl Calendar {
+    /// The calendar of the channel at this place of the table, before round 0.
+    pub fn new(alloc: Global, config: &Config, channel: usize) -> Result<Calendar, NoMemory>
+        requires { channel < length config.now.channels }
+        ensures { IfOk result (λ calendar. IfSome (slice_get config.now.channels channel)
+            (λ c. calendar ≡ spec.opening config.now c)) }
+    {
+        Calendar::of_channel(alloc, config, &config.channels()[channel])
+    }
+
+    /// The calendar of a channel of the table.
+    fn of_channel(alloc: Global, config: &Config, channel: &Channel) -> Result<Calendar, NoMemory>
+        requires { IsChannel config.now channel.now }
+        ensures { IfOk result (λ calendar. calendar ≡ spec.opening config.now channel.now) }
+    {
+        let pace = Pace {
+            time: *channel.bursts.time(),
+            len: config.map_len(channel),
+        };
+        let entries = entries_of(alloc, config, channel)?;
+        let (rows, due) = noted(alloc, pace, &entries)?;
+        Ok(Calendar {
+            pace,
+            next_round: 0,
+            rows,
+            due,
+        })
+    }
+
+    /// Settles what is due in `round`, which is the next one, on the channel's board: entries by kind, then by id, and the
+    /// occurrences of an entry in their order. Each goes to the first minislot of its window in this round's MAP where it
+    /// fits; one that doesn't fit is missed if its window ends before the round, and waits else.
+    ///
+    /// The board has the length of the channel's MAPs, and the round ends at tick 2^26 or before. After want of memory
+    /// nothing is said of calendar and board.
+    pub fn run(
+        &mut self,
+        alloc: Global,
+        round: u32,
+        board: &mut Board,
+    ) -> Result<Vec<Settled>, NoMemory>
+        requires next { round ≡ self.old.next_round }
+        requires time { (round + 1) * (self.old.pace.len * minislot_ticks self.old.pace.time) ≤ max_run_ticks }
+        requires len { length board.old.cells ≡ self.old.pace.len }
+        ensures settled { IfOk result (λ settled. settled.items ≡ (spec.ran self.old board.old).settled) }
+        ensures board { OnOk result (board.new ≡ (spec.ran self.old board.old).board) }
+        ensures calendar { OnOk result (self.new ≡ spec.after self.old board.old) }
+
+        // The board keeps its length, what is granted starts inside it and is one more assignment each, and all that is
+        // settled is counted.
+        ensures len { OnOk result (length board.new.cells ≡ length board.old.cells) }
+        ensures inside { IfOk result (λ settled. AllByRecursion (spec.StartsInside (length board.old.cells)) settled.items) }
+        ensures granted { IfOk result (λ settled.
+            spec.granted_in settled.items + board.old.standing ≡ board.new.standing) }
+        ensures counts { IfOk result (λ settled.
+            length settled.items + spec.settled_in self.old ≡ spec.settled_in self.new) }
+    {
+        let mut settled = Vec::new(alloc);
+        match settle_due(
+            self.pace,
+            round,
+            &mut self.rows,
+            &mut self.due,
+            board,
+            &mut settled,
+        ) {
+            Ok(()) => {
+                self.next_round = round + 1;
+                Ok(settled)
+            }
+            Err(refused) => {
+                self.rows.clear();
+                self.due.clear();
+                Err(refused)
+            }
+        }
+    }
+
+    /// The round that is to be run next.
+    pub fn next_round(&self) -> u32
+        ensures value { result ≡ self.now.next_round }
+        ensures known { spec.IsCalendar self.now }
+    {
+        self.next_round
+    }
+}

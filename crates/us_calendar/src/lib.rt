@@ -1,0 +1,50 @@
+//! The calendar of a channel: unsolicited grants, polls and station maintenance, which nobody asks for.
+//!
+//! ```
+//! let mut calendar = Calendar::new(alloc, &config, 0)?; // of the first channel
+//! let settled = calendar.run(alloc, 0, &mut board)?; // what round 0 grants and misses
+//! ```
+//!
+//! What these words mean stands in `specs/`, in the order of its `Lib.antt`.
+#![tactic(auto)]
+
+// What an entry is.
+mod kinds;
+
+// What a round settled.
+mod settled;
+
+// The time of a channel.
+mod paces;
+
+// An entry.
+mod entries;
+
+// Where an occurrence is granted.
+mod placing;
+
+// The occurrences of an entry in a round.
+mod settling;
+
+// An entry, with what of it is settled.
+mod rows;
+
+// The entries of a channel.
+mod listing;
+
+// The entries that are due.
+mod agendas;
+
+// The calendar.
+mod calendars;
+
+// Laws of the definitions.
+mod laws;
+
+pub use calendars::Calendar;
+pub use kinds::Kind;
+pub use laws::{first_ones, grants_fit};
+pub use settled::Settled;
+
+#[cfg(test)]
+mod tests;
