@@ -11,7 +11,7 @@ fn is_count_or_refused(answer: Result<usize, MapFault>, count: usize) -> bool {
     }
 }
 
-/// No test of its own: run with `--fail-alloc`, where each allocation is refused in turn. A refused one is answered as
+/// Run by `tools/refuse-memory` too, where each allocation is refused in turn. A refused one is answered as
 /// want of memory, and never as another fault or a wrong MAP.
 #[test]
 fn refused_memory(rt: HostRuntime) {

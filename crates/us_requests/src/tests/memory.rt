@@ -1,8 +1,8 @@
 use super::base::{BASE, Case, HEADER, Repeated, answer_of, same};
 
-/// No test of its own: run with `--fail-alloc`, where each allocation is refused in turn, of the text, its records, its
-/// requests and its asks by round among them. A refused one is answered as want of memory, and never as another fault or
-/// a wrong trace. There are so many rows that lists grow and that asks are sorted in more than their place.
+/// Run by `tools/refuse-memory` too, where each allocation is refused in turn, of the text, its records, its requests and
+/// its asks by round among them. A refused one is answered as want of memory, and never as another fault or a wrong
+/// trace. There are so many rows that lists grow and that asks are sorted in more than their place.
 #[test]
 fn refused_memory(rt: HostRuntime) {
     // else it was refused to the configuration or to the answer's text

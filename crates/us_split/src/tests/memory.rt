@@ -2,7 +2,8 @@ use super::base::{config_of, plan_of, same, tell};
 use super::plans::TWO_CLUSTERS;
 use std::test::Fail;
 
-/// Run with `--fail-alloc`, where each allocation is refused in turn: a plan is answered whole or as want of memory.
+/// Run by `tools/refuse-memory` too, where each allocation is refused in turn: a plan is answered whole or as want of
+/// memory.
 #[test]
 fn refused_memory(rt: HostRuntime) -> Result<(), Fail> {
     let Some(config) = config_of(rt.alloc(), &TWO_CLUSTERS) else {
