@@ -25,7 +25,8 @@ module _ {A : Type 0} where
   set_item (x ∷ xs) zero (suc j) a b e = inr ((λ h. omega arith), e)
   set_item (x ∷ xs) (suc i) zero a b e = inr ((λ h. omega arith), e)
   set_item (x ∷ xs) (suc i) (suc j) a b e =
-      ⊎_elim (λ t. inl (ap suc t.0, t.1)) (λ t. let n = t.0 in inr ((λ h. n (omega arith)), t.1)) (set_item xs i j a b e)
+      ⊎_elim (λ t. inl (ap suc t.0, t.1)) (λ t. let n = t.0 in inr ((λ h. n (omega arith)),
+        t.1)) (set_item xs i j a b e)
 
   pub set_other : (l : List A) (i j : ℕ) (a : A) → j ≢ i → slice_get (set l i a) j ≡ slice_get l j
   set_other [] i j a n = refl

@@ -19,8 +19,10 @@ pub index-raised : (tally : List ℕ) (at bytes cluster : ℕ) → at < length t
     slice_index (raised tally at bytes) cluster ≡ slice_index tally cluster + more at bytes cluster
 index-raised tally at bytes cluster lt =
     elim (cases_eq cluster at) [
-      inl e ↦ rw e (omega (arith, get_or-set_same tally at (slice_index tally at + bytes) 0 lt, more-here at bytes at refl))
-    | inr n ↦ omega (arith, get_or-set_other tally at cluster (slice_index tally at + bytes) 0 n, more-else at bytes cluster n)
+      inl e ↦ rw e (omega (arith, get_or-set_same tally at (slice_index tally at + bytes) 0 lt,
+        more-here at bytes at refl))
+    | inr n ↦ omega (arith, get_or-set_other tally at cluster (slice_index tally at + bytes) 0 n,
+      more-else at bytes cluster n)
     ]
 
 pub index-cleared : (tally : List ℕ) (at cluster : ℕ) → at < length tally →
@@ -58,7 +60,8 @@ pub sum-added : (one other : List ℕ) → sum (added one other) ≡ sum one + s
 sum-added [] other = omega arith
 sum-added (x ∷ one) [] = omega arith
 sum-added (x ∷ one) (y ∷ other) =
-    omega (arith, sum_by-cons (λ (n : ℕ). n) (x + y) (added one other), sum_by-cons (λ (n : ℕ). n) x one, sum_by-cons (λ (n : ℕ). n) y other, sum-added one other)
+    omega (arith, sum_by-cons (λ (n : ℕ). n) (x + y) (added one other), sum_by-cons (λ (n : ℕ). n) x one,
+      sum_by-cons (λ (n : ℕ). n) y other, sum-added one other)
 
 pub length-added : (one other : List ℕ) → length one ≡ length other → length (added one other) ≡ length one
 length-added [] [] e = refl
@@ -84,7 +87,8 @@ pub raised-next : (one other : List ℕ) (at : ℕ) → at < length one → at <
     raised (added one (take at other)) at (slice_index other at) ≡ added one (take (at + 1) other)
 raised-next one other at lt in_other =
     raised-added one other at (slice_index other at) lt in_other
-    ∙ ap (λ l. added one (take (suc at) l)) (set-get_or other at 0) ∙ ap (λ n. added one (take n other)) (sym (add-one at))
+    ∙ ap (λ l. added one (take (suc at) l)) (set-get_or other at 0)
+      ∙ ap (λ n. added one (take n other)) (sym (add-one at))
 
 pub index-past : (tally : List ℕ) (cluster : ℕ) → length tally ≤ cluster → slice_index tally cluster ≡ 0
 index-past [] cluster le = refl
@@ -97,12 +101,14 @@ index_le_sum (x ∷ tally) zero = omega (arith, sum_by-cons (λ (n : ℕ). n) x 
 index_le_sum (x ∷ tally) (suc cluster) = omega (arith, sum_by-cons (λ (n : ℕ). n) x tally, index_le_sum tally cluster)
 
 -- of each cluster no more, so in all no more
-pub tally_le : (one other : List ℕ) → ((cluster : ℕ) → slice_index one cluster ≤ slice_index other cluster) → sum one ≤ sum other
+pub tally_le : (one other : List ℕ) → ((cluster : ℕ) → slice_index one cluster ≤ slice_index other cluster) →
+  sum one ≤ sum other
 tally_le [] other h = omega arith
 tally_le (x ∷ one) [] h =
     omega (arith, sum_by-cons (λ (n : ℕ). n) x one, h 0, tally_le one [] (λ cluster. h (suc cluster)))
 tally_le (x ∷ one) (y ∷ other) h =
-    omega (arith, sum_by-cons (λ (n : ℕ). n) x one, sum_by-cons (λ (n : ℕ). n) y other, h 0, tally_le one other (λ cluster. h (suc cluster)))
+    omega (arith, sum_by-cons (λ (n : ℕ). n) x one, sum_by-cons (λ (n : ℕ). n) y other, h 0,
+      tally_le one other (λ cluster. h (suc cluster)))
 
 -- tallies of items, added up
 module _ {A : Type 0} (f : A → List ℕ) where
@@ -114,7 +120,8 @@ module _ {A : Type 0} (f : A → List ℕ) where
       slice_index (gathered xs) cluster ≡ sum_by (λ x. slice_index (f x) cluster) xs
   index-gathered [] cluster = refl
   index-gathered (x ∷ xs) cluster =
-      omega (arith, index-added (f x) (gathered xs) cluster, sum_by-cons (λ y. slice_index (f y) cluster) x xs, index-gathered xs cluster)
+      omega (arith, index-added (f x) (gathered xs) cluster, sum_by-cons (λ y. slice_index (f y) cluster) x xs,
+        index-gathered xs cluster)
 
   pub sum-gathered : (xs : List A) → sum (gathered xs) ≡ sum_by (λ x. sum (f x)) xs
   sum-gathered [] = refl

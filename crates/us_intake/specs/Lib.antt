@@ -1,5 +1,5 @@
--- Read in this order: tallies; intakes and seats, and what each call makes of a seat; the account of all seats together;
--- its laws; then small inputs computed. `Parts` and `Insides` are of no contract.
+-- Read in this order: tallies; intakes and seats, and what each call makes of a seat; the account of all seats
+-- together; its laws; then small inputs computed. `Parts` and `Insides` are of no public contract.
 -- In a definition `≡` is equals, `≢` differs from, `×` and, `⊎` or, `→` implies, `||` or of truth values, `++` one list
 -- behind another, `∷` one item before a list, and ℕ has the whole numbers from 0; `-` stops at 0.
 -- `slice_index tally cluster` is a cluster's number of bytes, 0 behind the last; `sum` adds up a tally, and `sum_by f`

@@ -45,8 +45,8 @@ new_seat intake quota =
     }
 
 -- no bytes, or all that the seat may submit, or more than it may yet
-abbrev pub IsBadPart : Seat → ℕ → Type 0
-IsBadPart seat quota = (quota ≡ 0) ⊎ ((seat.quota ≤ quota) ⊎ (seat.quota < spent seat + quota))
+abbrev pub IsBadSplit : Seat → ℕ → Type 0
+IsBadSplit seat quota = (quota ≡ 0) ⊎ ((seat.quota ≤ quota) ⊎ (seat.quota < spent seat + quota))
 
 -- the seat that another one was split off
 abbrev pub seat_after_split : Seat → ℕ → Seat

@@ -2,13 +2,13 @@ use std::alloc::AllocError;
 use thiserror::Error;
 
 /// Why an intake was not opened or closed, a seat not split, or bytes not submitted.
-#[derive(Clone, Copy, Debug, PartialEq, Eq, Hash, Error)]
+#[derive(Clone, Copy, Debug, PartialEq, Eq, Error)]
 pub enum IntakeFault {
     /// I1: the bytes are more than the seat's quota leaves.
     #[error("I1: the bytes are over what the seat's quota leaves")]
     QuotaSpent,
-    /// I2: an intake's quota is 0, or 2^62 or more; or a split is of no bytes, of the seat's whole quota, or of more than
-    /// it leaves.
+    /// I2: an intake's quota is 0, or 2^62 or more; or a split is of no bytes, of the seat's whole quota, or of more
+    /// than it leaves.
     #[error("I2: the quota is none that can be given")]
     BadQuota,
     /// I3: want of memory.

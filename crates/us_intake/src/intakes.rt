@@ -37,8 +37,8 @@ impl Model for Intake {
 }
 
 impl Intake {
-    /// Opens an intake for 1 to 2,048 clusters, in which seats submit at most `quota` bytes in all, with a seat that has
-    /// them all and takes. I2: the quota is 0, or 2^62 or more; I3: want of memory.
+    /// Opens an intake for 1 to 2,048 clusters, in which seats submit at most `quota` bytes in all, with a seat that
+    /// has them all and takes. I2: the quota is 0, or 2^62 or more; I3: want of memory.
     pub fn open(
         alloc: Global,
         clusters: u16,
@@ -142,7 +142,7 @@ impl Intake {
         requires own { seat.intake ≡ self.now }
         ensures ok { IfOk result (λ both. (both.0 ≡ spec.seat_after_split seat quota)
             × (both.1 ≡ spec.new_seat seat.intake quota)) }
-        ensures bad { (result ≡ Err (seat, fault.BadQuota)) ↔ spec.IsBadPart seat quota }
+        ensures bad { (result ≡ Err (seat, fault.BadQuota)) ↔ spec.IsBadSplit seat quota }
         ensures same { IfErr result (λ given. given.0 ≡ seat) }
         ensures faults { IfErr result (λ given. (given.1 ≡ fault.BadQuota) ⊎ (given.1 ≡ fault.NoMemory)) }
     {
@@ -214,8 +214,8 @@ impl Intake {
         requires whole { spec.IsWhole seat }
         ensures submitted { IfOk result (λ closed. closed.submitted.items ≡ seat.submitted) }
         ensures taken { IfOk result (λ closed. closed.taken.items ≡ seat.taken) }
-        ensures left { IfOk result (λ closed. seat.submitted ≡ added seat.taken closed.left.items) }
         ensures row { IfOk result (λ closed. vec_len closed.left ≡ self.clusters) }
+        ensures balanced { IfOk result (λ closed. closed.submitted.items ≡ added closed.taken.items closed.left.items) }
         ensures faults { IfErr result (λ given. given ≡ fault.NoMemory) }
     {
         let mut left = vec![in alloc; 0u64; seat.taken.len()]?;

@@ -6,7 +6,7 @@ use crate::intakes::Intake;
 use std::marker::Model;
 
 /// The right to submit some bytes to an intake, and what came of it. The thread that holds it submits with it; the one
-/// seat that takes cuts the intake too. A seat that is lost takes its quota with it, and then no other is whole any more.
+/// seat that takes cuts the intake too. A seat that is lost keeps its quota, and then no other is whole any more.
 #[derive(Drop)]
 pub struct Seat {
     pub(crate) token: atomic_table::Seat<(), Part>,
@@ -26,7 +26,8 @@ impl Model for Seat {
 
     ghost view = { λ s. seat_at s.token.table_id s.token.me.0 };
 
-    ghost invariant = { λ s. IsInside s.token.table_id s.token.me s.quota s.spent s.takes s.submitted.items s.taken.items };
+    ghost invariant = { λ s. IsInside s.token.table_id s.token.me s.quota s.spent s.takes s.submitted.items
+        s.taken.items };
 }
 
 impl Seat {

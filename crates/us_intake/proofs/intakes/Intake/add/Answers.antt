@@ -9,7 +9,8 @@ fetch_add-requires c =
     let clusters = ap (λ (x : Intake). x.clusters) c.self.view_is in (
       c.requires.own ∙ sym (ap (λ (x : Intake). x.id) c.self.view_is),
       omega (arith, c.requires.there, clusters),
-      submit_step i.table.shared.key i.table.shared.table_id.slots c.args.token.now.id c.args.at c.args.bytes c.args.token.now.me
+      submit_step i.table.shared.key i.table.shared.table_id.slots c.args.token.now.id c.args.at c.args.bytes
+        c.args.token.now.me
       c.requires.bare (omega (arith, c.requires.there, clusters, c.self.invariant.same_clusters))
       (omega (arith, c.requires.there, c.requires.row)) c.requires.some c.requires.within,
     )

@@ -12,7 +12,8 @@ join_seat-requires c =
       c.requires.own.1 ∙ id,
       c.requires.bare.1,
       c.self.invariant.known.some_clusters,
-      join_step i.table.shared.key c.args.token.now.id c.args.other.id c.args.token.now.me.0 c.args.other.me.0 c.requires.some.0 c.requires.some.1,
+      join_step i.table.shared.key c.args.token.now.id c.args.other.id c.args.token.now.me.0 c.args.other.me.0
+        c.requires.some.0 c.requires.some.1,
     )
 
 pub load-requires : goal.load-requires

@@ -8,5 +8,6 @@ split_seat-requires g c =
     let i = c.self.inside in (
       c.requires.own ∙ sym (ap (λ (x : Intake). x.id) c.self.view_is),
       c.self.invariant.known.some_clusters,
-      split_step i.table.shared.key c.args.token.now.id g.B.Bytes.bytes c.args.token.now.me.0 c.requires.some c.requires.less c.requires.within,
+      split_step i.table.shared.key c.args.token.now.id g.B.Bytes.bytes c.args.token.now.me.0 c.requires.some
+        c.requires.less c.requires.within,
     )
