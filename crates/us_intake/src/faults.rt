@@ -1,5 +1,6 @@
 use std::alloc::AllocError;
 use thiserror::Error;
+use us_slots::NoMemory;
 
 /// Why an intake was not opened or closed, a seat not split, or bytes not submitted.
 #[derive(Clone, Copy, Debug, PartialEq, Eq, Error)]
@@ -18,11 +19,22 @@ pub enum IntakeFault {
 
 impl From<AllocError> for IntakeFault {
     ghost use Rattle.std.specs.Prelude.{◌≡◌};
-    ghost use Rattle.us_intake.specs.declared.faults.IntakeFault.TheVariants.{NoMemory};
+    ghost use Rattle.us_intake.specs.declared.faults.IntakeFault.TheVariants as fault;
 
-    ghost from_gives = { λ _ fault. fault ≡ NoMemory };
+    ghost from_gives = { λ _ given. given ≡ fault.NoMemory };
 
     fn from(_refused: AllocError) -> IntakeFault {
+        IntakeFault::NoMemory
+    }
+}
+
+impl From<NoMemory> for IntakeFault {
+    ghost use Rattle.std.specs.Prelude.{◌≡◌};
+    ghost use Rattle.us_intake.specs.declared.faults.IntakeFault.TheVariants as fault;
+
+    ghost from_gives = { λ _ given. given ≡ fault.NoMemory };
+
+    fn from(_refused: NoMemory) -> IntakeFault {
         IntakeFault::NoMemory
     }
 }

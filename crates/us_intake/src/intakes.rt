@@ -17,6 +17,9 @@ mod steps;
 /// The most SID clusters of an intake (ours).
 pub const MAX_CLUSTERS: u16 = 2_048;
 
+/// The bytes that no quota reaches (ours), so that two numbers of bytes below it add up in a word.
+const QUOTA_LIMIT: u64 = 1 << 62;
+
 /// The words that threads add requests to while rounds are cut: one for each SID cluster, without a lock.
 #[derive(Drop)]
 pub struct Intake {
@@ -51,7 +54,7 @@ impl Intake {
         ensures intake { IfOk result (λ opened. (opened.0.clusters ≡ clusters) × (opened.0.quota ≡ quota)) }
         ensures seat { IfOk result (λ opened. opened.1 ≡ spec.first_seat opened.0) }
     {
-        if quota == 0 || quota >= 1 << 62 {
+        if quota == 0 || quota >= QUOTA_LIMIT {
             return Err(IntakeFault::BadQuota);
         }
         let clusters = usize::from(clusters);

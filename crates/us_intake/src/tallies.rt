@@ -1,13 +1,14 @@
 ghost use Rattle.std.specs.Prelude.{◌≡◌, ◌+◌, ◌^◌, ◌<◌, sum, length, IfOk, vec_len};
 ghost use Rattle.us_intake.specs.Tallies as spec;
 
-use std::alloc::{AllocError, Global};
+use std::alloc::Global;
+use us_slots::NoMemory;
 
 /// Two tallies of nothing.
 pub(crate) fn empty_tallies(
     alloc: Global,
     clusters: usize,
-) -> Result<(Vec<u64>, Vec<u64>), AllocError>
+) -> Result<(Vec<u64>, Vec<u64>), NoMemory>
     ensures { IfOk result (λ both. (both.0.items ≡ spec.empty_tally clusters)
         × (both.1.items ≡ spec.empty_tally clusters)) }
 {
