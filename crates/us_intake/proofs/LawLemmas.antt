@@ -8,9 +8,10 @@ alone-whole terms words parts seat part a at whole =
     (whole_takes terms words parts a seat part at whole, others_spent terms words parts a seat part at whole)
 
 pub balanced-whole : WholeBalances
-balanced-whole terms words parts seat part a at whole cluster =
-    (whole_submitted terms words parts a seat part at whole cluster,
-      whole_balances terms words parts a seat part at whole cluster)
+balanced-whole terms words parts seat part a at whole cluster = (
+  whole_submitted terms words parts a seat part at whole cluster,
+  whole_balances terms words parts a seat part at whole cluster,
+)
 
 pub steps-keep : StepsKeepAccount
 steps-keep = record { opening = opens; submitting = submits; taking = swaps; splitting = splits; joining = joins }

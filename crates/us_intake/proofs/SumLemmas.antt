@@ -1,5 +1,5 @@
 -- Sums over the items of a list, and lists of which one place changes.
-use Rattle.std.proofs.Common.{◌≡◌, ◌≢◌, ℕ, zero, suc, ◌+◌, ◌<◌, ◌≤◌, ◌⊎◌, List, [], ◌∷◌, ◌++◌, length, set, sum_by, slice_get, Some, refl, ap, sym, inl, inr, ⊎_elim, arith}
+use Rattle.std.proofs.Common.{◌≡◌, ◌≢◌, ℕ, zero, suc, ◌+◌, ◌≤◌, ◌⊎◌, List, [], ◌∷◌, ◌++◌, set, sum_by, slice_get, Some, refl, ap, sym, inl, inr, ⊎_elim, arith}
 use mathlib.Core.Option.{some, some-ne-none, some-injective}
 use lib.ListN.{get_elem?}
 use Rattle.std.proofs.lemmas.Option.{none-some, same_Some, slice_get_within, get_or_from_slice_get}
@@ -25,8 +25,10 @@ module _ {A : Type 0} where
   set_item (x ∷ xs) zero (suc j) a b e = inr ((λ h. omega arith), e)
   set_item (x ∷ xs) (suc i) zero a b e = inr ((λ h. omega arith), e)
   set_item (x ∷ xs) (suc i) (suc j) a b e =
-      ⊎_elim (λ t. inl (ap suc t.0, t.1)) (λ t. let n = t.0 in inr ((λ h. n (omega arith)),
-        t.1)) (set_item xs i j a b e)
+      ⊎_elim (λ t. inl (ap suc t.0, t.1)) (λ t. let n = t.0 in inr (
+        (λ h. n (omega arith)),
+        t.1,
+      )) (set_item xs i j a b e)
 
   pub set_other : (l : List A) (i j : ℕ) (a : A) → j ≢ i → slice_get (set l i a) j ≡ slice_get l j
   set_other [] i j a n = refl

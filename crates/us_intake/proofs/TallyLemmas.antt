@@ -1,8 +1,8 @@
 -- Tallies: their bytes by cluster, and in all.
-use Rattle.std.proofs.Common.{◌≡◌, ◌≢◌, ℕ, zero, suc, ◌+◌, ◌<◌, ◌≤◌, ◌⊎◌, cond, eqb, List, [], ◌∷◌, length, set, replicate, sum, sum_by, slice_index, refl, ap, sym, ◌∙◌, take, add-one, inl, inr, ⊎_elim, arith, eq-eqb, ne_eqb, length-set, get_or-set_same, get_or-set_other}
+use Rattle.std.proofs.Common.{◌≡◌, ◌≢◌, ℕ, zero, suc, ◌+◌, ◌<◌, ◌≤◌, cond, eqb, List, [], ◌∷◌, length, set, replicate, sum, sum_by, slice_index, refl, ap, sym, ◌∙◌, take, add-one, inl, inr, arith, eq-eqb, ne_eqb, get_or-set_same, get_or-set_other}
 use Rattle.std.proofs.lemmas.Bool.{cases_eq}
 use Rattle.std.proofs.lemmas.List.{length-replicate, set-get_or}
-use Rattle.std.proofs.lemmas.List.Sums.{sum_by-cons, sum_by-set, get_or-le-sum_by}
+use Rattle.std.proofs.lemmas.List.Sums.{sum_by-cons, sum_by-set}
 use Rattle.us_intake.specs.Tallies.{empty_tally, raised, added}
 
 -- what a cluster has more, where the cluster `at` has so many bytes more
@@ -19,18 +19,24 @@ pub index-raised : (tally : List ℕ) (at bytes cluster : ℕ) → at < length t
     slice_index (raised tally at bytes) cluster ≡ slice_index tally cluster + more at bytes cluster
 index-raised tally at bytes cluster lt =
     elim (cases_eq cluster at) [
-      inl e ↦ rw e (omega (arith, get_or-set_same tally at (slice_index tally at + bytes) 0 lt,
-        more-here at bytes at refl))
-    | inr n ↦ omega (arith, get_or-set_other tally at cluster (slice_index tally at + bytes) 0 n,
-      more-else at bytes cluster n)
+      | inl e ↦ rw e (omega (
+        arith,
+        get_or-set_same tally at (slice_index tally at + bytes) 0 lt,
+        more-here at bytes at refl,
+      ))
+      | inr n ↦ omega (
+        arith,
+        get_or-set_other tally at cluster (slice_index tally at + bytes) 0 n,
+        more-else at bytes cluster n,
+      )
     ]
 
 pub index-cleared : (tally : List ℕ) (at cluster : ℕ) → at < length tally →
     slice_index (set tally at 0) cluster + more at (slice_index tally at) cluster ≡ slice_index tally cluster
 index-cleared tally at cluster lt =
     elim (cases_eq cluster at) [
-      inl e ↦ rw e (omega (arith, get_or-set_same tally at 0 0 lt, more-here at (slice_index tally at) at refl))
-    | inr n ↦ omega (arith, get_or-set_other tally at cluster 0 0 n, more-else at (slice_index tally at) cluster n)
+      | inl e ↦ rw e (omega (arith, get_or-set_same tally at 0 0 lt, more-here at (slice_index tally at) at refl))
+      | inr n ↦ omega (arith, get_or-set_other tally at cluster 0 0 n, more-else at (slice_index tally at) cluster n)
     ]
 
 pub sum-raised : (tally : List ℕ) (at bytes : ℕ) → at < length tally → sum (raised tally at bytes) ≡ sum tally + bytes
@@ -60,8 +66,13 @@ pub sum-added : (one other : List ℕ) → sum (added one other) ≡ sum one + s
 sum-added [] other = omega arith
 sum-added (x ∷ one) [] = omega arith
 sum-added (x ∷ one) (y ∷ other) =
-    omega (arith, sum_by-cons (λ (n : ℕ). n) (x + y) (added one other), sum_by-cons (λ (n : ℕ). n) x one,
-      sum_by-cons (λ (n : ℕ). n) y other, sum-added one other)
+    omega (
+      arith,
+      sum_by-cons (λ (n : ℕ). n) (x + y) (added one other),
+      sum_by-cons (λ (n : ℕ). n) x one,
+      sum_by-cons (λ (n : ℕ). n) y other,
+      sum-added one other,
+    )
 
 pub length-added : (one other : List ℕ) → length one ≡ length other → length (added one other) ≡ length one
 length-added [] [] e = refl
@@ -88,7 +99,7 @@ pub raised-next : (one other : List ℕ) (at : ℕ) → at < length one → at <
 raised-next one other at lt in_other =
     raised-added one other at (slice_index other at) lt in_other
     ∙ ap (λ l. added one (take (suc at) l)) (set-get_or other at 0)
-      ∙ ap (λ n. added one (take n other)) (sym (add-one at))
+    ∙ ap (λ n. added one (take n other)) (sym (add-one at))
 
 pub index-past : (tally : List ℕ) (cluster : ℕ) → length tally ≤ cluster → slice_index tally cluster ≡ 0
 index-past [] cluster le = refl
@@ -102,13 +113,18 @@ index_le_sum (x ∷ tally) (suc cluster) = omega (arith, sum_by-cons (λ (n : �
 
 -- of each cluster no more, so in all no more
 pub tally_le : (one other : List ℕ) → ((cluster : ℕ) → slice_index one cluster ≤ slice_index other cluster) →
-  sum one ≤ sum other
+    sum one ≤ sum other
 tally_le [] other h = omega arith
 tally_le (x ∷ one) [] h =
     omega (arith, sum_by-cons (λ (n : ℕ). n) x one, h 0, tally_le one [] (λ cluster. h (suc cluster)))
 tally_le (x ∷ one) (y ∷ other) h =
-    omega (arith, sum_by-cons (λ (n : ℕ). n) x one, sum_by-cons (λ (n : ℕ). n) y other, h 0,
-      tally_le one other (λ cluster. h (suc cluster)))
+    omega (
+      arith,
+      sum_by-cons (λ (n : ℕ). n) x one,
+      sum_by-cons (λ (n : ℕ). n) y other,
+      h 0,
+      tally_le one other (λ cluster. h (suc cluster)),
+    )
 
 -- tallies of items, added up
 module _ {A : Type 0} (f : A → List ℕ) where
@@ -120,8 +136,12 @@ module _ {A : Type 0} (f : A → List ℕ) where
       slice_index (gathered xs) cluster ≡ sum_by (λ x. slice_index (f x) cluster) xs
   index-gathered [] cluster = refl
   index-gathered (x ∷ xs) cluster =
-      omega (arith, index-added (f x) (gathered xs) cluster, sum_by-cons (λ y. slice_index (f y) cluster) x xs,
-        index-gathered xs cluster)
+      omega (
+        arith,
+        index-added (f x) (gathered xs) cluster,
+        sum_by-cons (λ y. slice_index (f y) cluster) x xs,
+        index-gathered xs cluster,
+      )
 
   pub sum-gathered : (xs : List A) → sum (gathered xs) ≡ sum_by (λ x. sum (f x)) xs
   sum-gathered [] = refl
@@ -156,6 +176,6 @@ pub copied : (tally items : List ℕ) (at bytes : ℕ) → ((k : ℕ) → k < at
     (k : ℕ) → k < at + 1 → slice_index (set tally at bytes) k ≡ slice_index items k
 copied tally items at bytes before lt here k next =
     elim (cases_eq k at) [
-      inl e ↦ rw e (get_or-set_same tally at bytes 0 lt ∙ sym here)
-    | inr n ↦ get_or-set_other tally at k bytes 0 n ∙ before k (omega arith)
+      | inl e ↦ rw e (get_or-set_same tally at bytes 0 lt ∙ sym here)
+      | inr n ↦ get_or-set_other tally at k bytes 0 n ∙ before k (omega arith)
     ]

@@ -36,7 +36,7 @@ pub record Account (terms : Terms) (words : List ℕ) (parts : List Part) : Type
   pub takers : count_by (λ part. part.takes) parts ≡ 1
   -- what is in the word of a cluster and what was taken of it are what was submitted of it
   pub balanced : (cluster : ℕ) →
-    slice_index words cluster + sum_by (λ part. slice_index part.taken cluster) parts
+      slice_index words cluster + sum_by (λ part. slice_index part.taken cluster) parts
       ≡ sum_by (λ part. slice_index part.submitted cluster) parts
   -- each seat stands, or a join has spent it
   pub seats : (seat : ℕ) (part : Part) → slice_get parts seat ≡ Some part → (part ≡ spent_part) ⊎ Stands terms part

@@ -18,7 +18,7 @@ seat_at id part =
 
 -- the seat's fields are what its part in the account says
 pub record IsInside {S : Type 0} (id : TableId) (me : Me S Part) (quota bytes_spent : ℕ) (takes : Bool) (submitted
-  taken : List ℕ) : Type 0 where
+    taken : List ℕ) : Type 0 where
   pub bare : me.1 ≡ []
   pub same_quota : quota ≡ me.0.quota
   pub same_spent : bytes_spent ≡ sum me.0.submitted

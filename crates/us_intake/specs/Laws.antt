@@ -23,21 +23,21 @@ WholeBalances =
 -- An account is opened, and each step of a seat that stands keeps it. A load keeps the words and the parts.
 pub record StepsKeepAccount : Type 0 where
   pub opening : (terms : Terms) → 1 ≤ terms.quota → terms.quota < 2 ^ 62 →
-    Account terms (empty_tally terms.clusters) (first_part terms ∷ [])
+      Account terms (empty_tally terms.clusters) (first_part terms ∷ [])
   pub submitting : (terms : Terms) (words : List ℕ) (parts : List Part) (seat : ℕ) (part : Part) (cluster bytes : ℕ) →
-    Account terms words parts → slice_get parts seat ≡ Some part → Stands terms part → cluster < terms.clusters →
-    cluster < length part.submitted → sum part.submitted + bytes ≤ part.quota →
-    Account terms (raised words cluster bytes) (slice_set parts seat (part_after_submit part cluster bytes))
+      Account terms words parts → slice_get parts seat ≡ Some part → Stands terms part → cluster < terms.clusters →
+      cluster < length part.submitted → sum part.submitted + bytes ≤ part.quota →
+      Account terms (raised words cluster bytes) (slice_set parts seat (part_after_submit part cluster bytes))
   pub taking : (terms : Terms) (words : List ℕ) (parts : List Part) (seat : ℕ) (part : Part) (cluster : ℕ) →
-    Account terms words parts → slice_get parts seat ≡ Some part → part.takes ≡ true → cluster < terms.clusters →
-    cluster < length part.taken →
-    Account terms (slice_set words cluster 0)
+      Account terms words parts → slice_get parts seat ≡ Some part → part.takes ≡ true → cluster < terms.clusters →
+      cluster < length part.taken →
+      Account terms (slice_set words cluster 0)
       (slice_set parts seat (part_after_swap part cluster (slice_index words cluster)))
   pub splitting : (terms : Terms) (words : List ℕ) (parts : List Part) (seat : ℕ) (part : Part) (quota : ℕ) →
-    Account terms words parts → slice_get parts seat ≡ Some part → Stands terms part → 1 ≤ quota → quota < part.quota →
-    sum part.submitted + quota ≤ part.quota →
-    Account terms words (slice_set parts seat (part_after_split part quota) ++ new_part part quota ∷ [])
+      Account terms words parts → slice_get parts seat ≡ Some part → Stands terms part → 1 ≤ quota → quota < part.quota →
+      sum part.submitted + quota ≤ part.quota →
+      Account terms words (slice_set parts seat (part_after_split part quota) ++ new_part part quota ∷ [])
   pub joining : (terms : Terms) (words : List ℕ) (parts : List Part) (seat other : ℕ) (part its : Part) →
-    Account terms words parts → other ≢ seat → slice_get parts seat ≡ Some part → slice_get parts other ≡ Some its →
-    Stands terms part → Stands terms its →
-    Account terms words (slice_set (slice_set parts seat (joined_part part its)) other spent_part)
+      Account terms words parts → other ≢ seat → slice_get parts seat ≡ Some part → slice_get parts other ≡ Some its →
+      Stands terms part → Stands terms its →
+      Account terms words (slice_set (slice_set parts seat (joined_part part its)) other spent_part)

@@ -42,11 +42,7 @@ impl Model for Intake {
 impl Intake {
     /// Opens an intake for 1 to 2,048 clusters, in which seats submit at most `quota` bytes in all, with a seat that
     /// has them all and takes. I2: the quota is 0, or 2^62 or more; I3: want of memory.
-    pub fn open(
-        alloc: Global,
-        clusters: u16,
-        quota: u64,
-    ) -> Result<(Intake, Seat), IntakeFault>
+    pub fn open(alloc: Global, clusters: u16, quota: u64) -> Result<(Intake, Seat), IntakeFault>
         requires some { 1 ≤ clusters }
         requires most { clusters ≤ MAX_CLUSTERS }
         ensures quota { (result ≡ Err fault.BadQuota) ↔ ((quota ≡ 0) ⊎ (2 ^ 62 ≤ quota)) }

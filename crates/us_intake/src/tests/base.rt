@@ -10,10 +10,7 @@ pub(super) fn same(rt: &impl Abort, found: &str, wanted: &str) {
 }
 
 /// An intake of 10,000 bytes, with its first seat and one of 4,000 bytes that is split off.
-pub(super) fn two_seats(
-    alloc: Global,
-    clusters: u16,
-) -> Result<(Intake, Seat, Seat), IntakeFault>
+pub(super) fn two_seats(alloc: Global, clusters: u16) -> Result<(Intake, Seat, Seat), IntakeFault>
     requires { (1 ≤ clusters) × (clusters ≤ 2048) }
     ensures own { IfOk result (λ made. (made.1.intake ≡ made.0) × (made.2.intake ≡ made.0)) }
     ensures clusters { IfOk result (λ made. made.0.clusters ≡ clusters) }

@@ -50,13 +50,7 @@ fn submit_both<R: Threads + Sync>(
 }
 
 /// One thread cuts while two others submit.
-fn run<R: Threads + Sync>(
-    rt: &R,
-    intake: &Intake,
-    first: Seat,
-    second: Seat,
-    third: Seat,
-) -> Seat
+fn run<R: Threads + Sync>(rt: &R, intake: &Intake, first: Seat, second: Seat, third: Seat) -> Seat
     requires own { (first.intake ≡ intake.now) × (second.intake ≡ intake.now) × (third.intake ≡ intake.now) }
     requires clusters { intake.now.clusters ≡ 2 }
     ensures { result.intake ≡ intake.now }

@@ -11,10 +11,15 @@ returns-clause-balanced c =
     let token = c.seat.inside.token in
     let part = token.me.0 in
     let words = ap (λ (i : Intake). i.clusters) (ap (λ (s : Seat). s.intake) c.seat.view_is ∙ c.requires.own
-      ∙ sym c.self.view_is) in
-    let whole : part.quota ≡ key.quota = omega (arith, c.requires.whole, ap (λ (s : Seat). s.quota) c.seat.view_is,
-      ap (λ (i : Intake). i.quota) c.requires.own, ap (λ (i : Intake). i.quota) c.self.view_is,
-      c.self.invariant.same_quota) in
+    ∙ sym c.self.view_is) in
+    let whole : part.quota ≡ key.quota = omega (
+      arith,
+      c.requires.whole,
+      ap (λ (s : Seat). s.quota) c.seat.view_is,
+      ap (λ (i : Intake). i.quota) c.requires.own,
+      ap (λ (i : Intake). i.quota) c.self.view_is,
+      c.self.invariant.same_quota,
+    ) in
     let balance = closing_balances key token.id part _ _ c.close_with-table.ensures.values.2 whole
     (omega (arith, c.seat.invariant.known.submitted_row, words, c.self.invariant.same_clusters))
     (omega (arith, c.seat.invariant.known.taken_row, words, c.self.invariant.same_clusters)) in

@@ -1,4 +1,4 @@
-use Rattle.std.proofs.Common.{◌≡◌, ◌<◌, ap, sym, ◌∙◌, arith}
+use Rattle.std.proofs.Common.{ap, sym, ◌∙◌, arith}
 use Rattle.us_intake.specs.Seats.{Intake}
 use Rattle.us_intake.proofs.TableLemmas.{swap_step}
 use Rattle.us_intake.proofs.intakes.Intake.take.Goals as goal
@@ -10,6 +10,6 @@ swap-requires c =
       c.requires.own ∙ sym (ap (λ (x : Intake). x.id) c.self.view_is),
       omega (arith, c.requires.there, clusters),
       swap_step i.table.shared.key i.table.shared.table_id.slots c.args.token.now.id c.args.at c.args.token.now.me
-      c.requires.bare (omega (arith, c.requires.there, clusters, c.self.invariant.same_clusters))
-      (omega (arith, c.requires.there, c.requires.row)) c.requires.takes,
+          c.requires.bare (omega (arith, c.requires.there, clusters, c.self.invariant.same_clusters))
+          (omega (arith, c.requires.there, c.requires.row)) c.requires.takes,
     )
