@@ -34,8 +34,8 @@ pub record StepsKeepAccount : Type 0 where
       Account terms (slice_set words cluster 0)
       (slice_set parts seat (part_after_swap part cluster (slice_index words cluster)))
   pub splitting : (terms : Terms) (words : List ℕ) (parts : List Part) (seat : ℕ) (part : Part) (quota : ℕ) →
-      Account terms words parts → slice_get parts seat ≡ Some part → Stands terms part → 1 ≤ quota → quota < part.quota →
-      sum part.submitted + quota ≤ part.quota →
+      Account terms words parts → slice_get parts seat ≡ Some part → Stands terms part → 1 ≤ quota →
+      quota < part.quota → sum part.submitted + quota ≤ part.quota →
       Account terms words (slice_set parts seat (part_after_split part quota) ++ new_part part quota ∷ [])
   pub joining : (terms : Terms) (words : List ℕ) (parts : List Part) (seat other : ℕ) (part its : Part) →
       Account terms words parts → other ≢ seat → slice_get parts seat ≡ Some part → slice_get parts other ≡ Some its →
