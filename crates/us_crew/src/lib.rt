@@ -24,11 +24,11 @@ mod turns;
 mod halves;
 
 // The call.
-// mod mapping;
+mod mapping;
 
 pub use faults::CrewFault;
 pub use gates::{Gate, OpenGate, Phase};
-// pub use mapping::{MAX_WORKERS, map_owned};
+pub use mapping::{MAX_WORKERS, map_owned};
 pub use works::Work;
 
 
