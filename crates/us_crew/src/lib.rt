@@ -31,5 +31,5 @@ pub use gates::{Gate, OpenGate, Phase};
 pub use mapping::{MAX_WORKERS, map_owned};
 pub use works::Work;
 
-
-
+#[cfg(test)]
+mod tests;
