@@ -9,6 +9,10 @@ abbrev pub EachFrom : {T : Type 0} → (ℕ → T → Type 0) → ℕ → List T
 EachFrom holds first [] = ⊤
 EachFrom holds first (item ∷ items) = holds first item × EachFrom holds (first + 1) items
 
+-- each item meets the work's condition, once the gate was entered for it
+abbrev pub AreReady : {T : Type 0} → (ℕ → Type 0) → (ℕ → T → Type 0) → ℕ → List T → Type 0
+AreReady entered accepts first items = EachFrom (λ k item. entered k → accepts k item) first items
+
 -- the item of this number may have this fault, and none before it has one of its own
 abbrev pub FaultFrom : {T E : Type 0} → (ℕ → T → E → Type 0) → (ℕ → T → Type 0) → ℕ → List T → ℕ → E → Type 0
 FaultFrom may must first [] place said = ⊥

@@ -3,7 +3,7 @@ use thiserror::Error;
 use us_slots::NoMemory;
 
 /// Why there are no answers. The items were given up, and no worker is at work any more.
-#[derive(Clone, Copy, Debug, PartialEq, Eq, Hash, Error)]
+#[derive(Clone, Copy, Debug, PartialEq, Eq, Error)]
 #[error_bound(E: fmt::Display)]
 pub enum CrewFault<E> {
     /// CR1: no worker, or over 64.

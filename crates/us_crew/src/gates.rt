@@ -1,7 +1,7 @@
 ghost use Rattle.std.specs.Prelude.{ℕ, ⊤};
 
 /// What a round does with its items.
-#[derive(Clone, Copy, Debug, PartialEq, Eq, Hash)]
+#[derive(Clone, Copy, Debug, PartialEq, Eq)]
 pub enum Phase {
     /// Requests are added to the intake.
     Collect,
@@ -24,7 +24,7 @@ pub trait Gate {
 }
 
 /// A gate that holds nobody.
-#[derive(Clone, Copy, Debug, PartialEq, Eq, Hash)]
+#[derive(Clone, Copy)]
 pub struct OpenGate;
 
 impl Gate for OpenGate {

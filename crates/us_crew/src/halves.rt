@@ -1,6 +1,6 @@
 ghost use Rattle.std.specs.Prelude.{◌≡◌, ◌+◌, ◌/◌, ◌^◌, ◌<◌, ◌++◌, OnOk, IfOk, vec_len, take, drop};
 ghost use denote.Param.Send.{IsSync, IsSend};
-ghost use Rattle.us_crew.specs.Parts.{EachFrom, Tells, Together};
+ghost use Rattle.us_crew.specs.Parts.{AreReady, Tells, Together};
 
 use super::turns::in_turn;
 use crate::{CrewFault, Gate, Phase, Work};
@@ -60,8 +60,9 @@ pub(crate) fn in_halves<
     gate: &G,
 ) -> Result<Vec<R>, CrewFault<E>>
     requires room { start + vec_len low < 2 ^ 64 }
-    requires items { EachFrom (λ index item. G.entered gate.now phase index → W.accepts work.now index item) start low.items }
-    ensures { Tells (λ answers. answers.items) (W.value work.now) (W.may_fail work.now) (W.must_fail work.now) start low.items result }
+    requires items { AreReady (G.entered gate.now phase) (W.accepts work.now) start low.items }
+    ensures { Tells (λ answers. answers.items) (W.value work.now) (W.may_fail work.now) (W.must_fail work.now)
+        start low.items result }
 {
     if workers < 2 || low.len() < 2 {
         return in_turn(alloc, work, phase, start, low, gate);
@@ -71,12 +72,16 @@ pub(crate) fn in_halves<
     let few = workers / 2;
     let others = workers - few;
     let front = move || -> Result<Vec<R>, CrewFault<E>>
-        requires { IsSync H.row × IsSync W.row × IsSync G.row × IsSend T.row × IsSend R.row × IsSend E.row × (start + vec_len low < 2 ^ 64) × EachFrom (λ index item. G.entered gate.now phase index → W.accepts work.now index item) start low.items }
-        ensures { Tells (λ answers. answers.items) (W.value work.entry.now) (W.may_fail work.entry.now) (W.must_fail work.entry.now) start low.items result }
+        requires { IsSync H.row × IsSync W.row × IsSync G.row × IsSend T.row × IsSend R.row × IsSend E.row
+            × (start + vec_len low < 2 ^ 64) × AreReady (G.entered gate.now phase) (W.accepts work.now) start low.items }
+        ensures { Tells (λ answers. answers.items) (W.value work.entry.now) (W.may_fail work.entry.now) (W.must_fail work.entry.now)
+        start low.items result }
     { in_halves(alloc, threads, work, phase, start, low, few, gate) };
     let back = move || -> Result<Vec<R>, CrewFault<E>>
-        requires { IsSync H.row × IsSync W.row × IsSync G.row × IsSend T.row × IsSend R.row × IsSend E.row × (middle + vec_len high < 2 ^ 64) × EachFrom (λ index item. G.entered gate.now phase index → W.accepts work.now index item) middle high.items }
-        ensures { Tells (λ answers. answers.items) (W.value work.entry.now) (W.may_fail work.entry.now) (W.must_fail work.entry.now) middle high.items result }
+        requires { IsSync H.row × IsSync W.row × IsSync G.row × IsSend T.row × IsSend R.row × IsSend E.row
+            × (middle + vec_len high < 2 ^ 64) × AreReady (G.entered gate.now phase) (W.accepts work.now) middle high.items }
+        ensures { Tells (λ answers. answers.items) (W.value work.entry.now) (W.may_fail work.entry.now) (W.must_fail work.entry.now)
+        middle high.items result }
     { in_halves(alloc, threads, work, phase, middle, high, others, gate) };
     let (front, back) = join(threads, front, back);
     together(front, back)

@@ -1,4 +1,5 @@
-ghost use Rattle.std.specs.Prelude.{◌≡◌, ◌<◌, ◌≤◌, ◌⊎◌, ◌↔◌, ℕ, [], Option, Some, Err, IsOk, OnOk, IfOk, IfErr, slice_get};
+ghost use Rattle.std.specs.Prelude.{◌≡◌, ◌<◌, ◌≤◌, ◌⊎◌, ◌↔◌, ℕ, [], Option, Err, IsOk, OnOk, IfOk, IfErr};
+ghost use Rattle.us_crew.specs.Items.{AreAccepted};
 ghost use Rattle.us_crew.specs.Values.{values_of};
 ghost use Rattle.us_crew.specs.Faults.{AreFaults, AreSound, NamesFault, SaysFirst, first_fault};
 
@@ -32,14 +33,15 @@ pub fn map_owned<
     workers: usize,
     gate: &G,
 ) -> Result<Vec<R>, CrewFault<E>>
-    requires { (place : ℕ) (item : T) → slice_get items.items place ≡ Some item → G.entered gate.now phase place → W.accepts work.now place item }
+    requires { AreAccepted (G.entered gate.now phase) (W.accepts work.now) items.items }
     ensures workers { (result ≡ Err CrewFault.Workers) ↔ ((workers ≡ 0) ⊎ (64 < workers)) }
     ensures values { IfOk result (λ answers. answers.items ≡ values_of (W.value work.now) items.items) }
     ensures sound { OnOk result (AreSound (W.must_fail work.now) items.items) }
     ensures first { IfErr result (λ said. SaysFirst (W.may_fail work.now) (W.must_fail work.now) items.items said) }
 
     // Where the faults are a function of the items, so is what is answered, unless memory runs out.
-    ensures named { (fault_of : ℕ → T → Option E) → AreFaults fault_of (W.may_fail work.now) (W.must_fail work.now) → NamesFault (first_fault fault_of items.items) result }
+    ensures named { (fault_of : ℕ → T → Option E) → AreFaults fault_of (W.may_fail work.now) (W.must_fail work.now) →
+        NamesFault (first_fault fault_of items.items) result }
 
     // No memory is taken for no items.
     ensures none { items.items ≡ [] → 1 ≤ workers → workers ≤ 64 → IsOk result }

@@ -1,5 +1,5 @@
 ghost use Rattle.std.specs.Prelude.{◌≡◌, ◌+◌, ◌^◌, ◌<◌, OnOk, IfOk, IfErr, vec_len, vec_capacity, ◌≤◌, []};
-ghost use Rattle.us_crew.specs.Parts.{EachFrom, Tells};
+ghost use Rattle.us_crew.specs.Parts.{AreReady, Tells};
 
 use crate::{CrewFault, Gate, Phase, Work};
 use std::alloc::Global;
@@ -17,7 +17,8 @@ fn one<W: Work<T, R, E>, G: Gate, T: Drop, R, E>(
     requires { G.entered gate.now phase index → W.accepts work.now index item }
     ensures value { IfOk result (λ answer. answer ≡ W.value work.now index item) }
     ensures sound { OnOk result (¬ W.must_fail work.now index item) }
-    ensures fault { IfErr result (λ said. (fault : E) × (said ≡ CrewFault.Item index fault) × W.may_fail work.now index item fault) }
+    ensures fault { IfErr result (λ said.
+        (fault : E) × (said ≡ CrewFault.Item index fault) × W.may_fail work.now index item fault) }
 {
     gate.enter(phase, index);
     match work.run(alloc, index, item) {
@@ -45,8 +46,9 @@ pub(crate) fn in_turn<W: Work<T, R, E>, G: Gate, T: Drop, R: Drop, E>(
     gate: &G,
 ) -> Result<Vec<R>, CrewFault<E>>
     requires room { start + vec_len items < 2 ^ 64 }
-    requires items { EachFrom (λ index item. G.entered gate.now phase index → W.accepts work.now index item) start items.items }
-    ensures { Tells (λ answers. answers.items) (W.value work.now) (W.may_fail work.now) (W.must_fail work.now) start items.items result }
+    requires items { AreReady (G.entered gate.now phase) (W.accepts work.now) start items.items }
+    ensures { Tells (λ answers. answers.items) (W.value work.now) (W.may_fail work.now) (W.must_fail work.now)
+        start items.items result }
 {
     let mut answers = room_for(alloc, items.len())?;
     let mut rest = items.into_iter();

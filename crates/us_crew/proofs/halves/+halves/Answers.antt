@@ -9,7 +9,7 @@ use Rattle.us_crew.proofs.halves.+halves.Goals as goal
 pub join-front-requires-after_bounds : goal.join-front-requires-after_bounds
 join-front-requires-after_bounds g t c κs within =
     let cut = c.in_ok-high.ensures in
-    let P = λ (index : ℕ) (item : g.row.T.Denot). g.G.Gate.entered c.args.gate.now c.args.phase index → g.W.Work.accepts c.args.work.now index item in
+    let P = λ (k : ℕ) (item : g.row.T.Denot). g.G.Gate.entered c.args.gate.now c.args.phase k → g.W.Work.accepts c.args.work.now k item in
     let low = c.cut_off.new.items in
     let len : vec_len low ≡ length low.items = search rules in
     let middle : c.args.start + c.len-2.result ≡ c.args.start + length low.items = omega (arith, c.len-2.ensures, len) in

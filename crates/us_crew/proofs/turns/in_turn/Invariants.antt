@@ -1,7 +1,7 @@
 use Rattle.std.proofs.Common.{◌≡◌, ℕ, ◌+◌, ◌^◌, ◌<◌, ◌≤◌, ◌++◌, length, vec_len, vec_capacity}
 use Rattle.std.specs.Vec.Iter.{into_iter_items, into_iter_len}
 use Rattle.us_crew.specs.Values.{values_from}
-use Rattle.us_crew.specs.Parts.{EachFrom, FaultFrom}
+use Rattle.us_crew.specs.Parts.{EachFrom, AreReady, FaultFrom}
 use Rattle.us_crew.proofs.turns.in_turn.Given as goal
 
 -- what is still to do makes up the whole
@@ -14,10 +14,11 @@ invariant-loop-item g l =
     (into_iter_len l.rest ≡ length rest) ×
     (vec_len l.answers + length rest ≤ vec_capacity l.answers) ×
     (l.index + length rest < 2 ^ 64) ×
-    EachFrom (λ index item. g.G.Gate.entered l.gate l.phase index → g.W.Work.accepts l.work index item) l.index rest ×
+    AreReady (g.G.Gate.entered l.gate l.phase) (g.W.Work.accepts l.work) l.index rest ×
     (l.answers.items ++ values_from value l.index rest ≡ values_from value l.fn.start l.fn.items.items) ×
-    (EachFrom (λ index item. ¬ must index item) l.index rest → EachFrom (λ index item. ¬ must index item) l.fn.start l.fn.items.items) ×
-    ((place : ℕ) (fault : _) → FaultFrom may must l.index rest place fault → FaultFrom may must l.fn.start l.fn.items.items place fault)
+    (EachFrom (λ k item. ¬ must k item) l.index rest → EachFrom (λ k item. ¬ must k item) l.fn.start l.fn.items.items) ×
+    ((place : ℕ) (said : _) → FaultFrom may must l.index rest place said →
+      FaultFrom may must l.fn.start l.fn.items.items place said)
 
 abbrev pub decreases-loop-item : goal.decreases-loop-item
 decreases-loop-item g l = into_iter_len l.rest
