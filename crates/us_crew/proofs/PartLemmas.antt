@@ -13,7 +13,8 @@ pub values-append : {T R : Type 0} (value : ℕ → T → R) (first : ℕ) (xs y
     values_from value first (xs ++ ys) ≡ values_from value first xs ++ values_from value (first + length xs) ys
 values-append value first [] ys = let same : first ≡ first + 0 = omega arith in ap (λ n. values_from value n ys) same
 values-append value first (x ∷ xs) ys =
-    ap (λ answers. value first x ∷ answers) (values-append value (first + 1) xs ys ∙ ap (λ n. values_from value (first + 1) xs ++ values_from value n ys) (sym (next_number first (length xs))))
+    let later = ap (λ n. values_from value (first + 1) xs ++ values_from value n ys) (sym (next_number first (length xs))) in
+    ap (λ answers. value first x ∷ answers) (values-append value (first + 1) xs ys ∙ later)
 
 module _ {T : Type 0} (P : ℕ → T → Type 0) where
   pub each-front : (first : ℕ) (xs ys : List T) → EachFrom P first (xs ++ ys) → EachFrom P first xs
@@ -42,8 +43,8 @@ module _ {T E : Type 0} (may : ℕ → T → E → Type 0) (must : ℕ → T →
       inr (sound.0, fault-back (first + 1) xs ys sound.1 (subst (λ n. FaultFrom may must n ys place said) (next_number first (length xs)) there))
 
 module _ {A T R E : Type 0} (read : A → List R) (value : ℕ → T → R) (may : ℕ → T → E → Type 0) (must : ℕ → T → Type 0) where
-  pub tells-together : (first : ℕ) (xs ys : List T) (front back both : Result A (CrewFault E)) → Tells read value may must first xs front →
-      Tells read value may must (first + length xs) ys back → Together read front back both → Tells read value may must first (xs ++ ys) both
+  pub tells-together : (first : ℕ) (xs ys : List T) (front back both : Result A (CrewFault E)) →
+      Tells read value may must first xs front → Tells read value may must (first + length xs) ys back → Together read front back both → Tells read value may must first (xs ++ ys) both
   tells-together first xs ys (Err fault.Workers) back both f b is = absurd f
   tells-together first xs ys (Err fault.NoMemory) back both f b is = subst (Tells read value may must first (xs ++ ys)) (sym is) tt
   tells-together first xs ys (Err (fault.Item place said)) back both f b is =
@@ -60,17 +61,21 @@ module _ {A T R E : Type 0} (read : A → List R) (value : ℕ → T → R) (may
 
 module _ {T : Type 0} (P : ℕ → T → Type 0) where
   -- a list that is cut
-  pub each-cut : (first middle n : ℕ) (xs front back : List T) → front ≡ take n xs → back ≡ drop n xs → middle ≡ first + length front → EachFrom P first xs →
-      EachFrom P first front × EachFrom P middle back
+  pub each-cut : (first middle n : ℕ) (xs front back : List T) → front ≡ take n xs → back ≡ drop n xs →
+      middle ≡ first + length front → EachFrom P first xs → EachFrom P first front × EachFrom P middle back
   each-cut first middle n xs front back f b m each =
       let whole : front ++ back ≡ xs = rw (f, b) (take-append-drop n xs) in
       let all : EachFrom P first (front ++ back) = subst (EachFrom P first) (sym whole) each in
       (each-front P first front back all, subst (λ k. EachFrom P k back) (sym m) (each-back P first front back all))
 
 module _ {A T R E : Type 0} (read : A → List R) (value : ℕ → T → R) (may : ℕ → T → E → Type 0) (must : ℕ → T → Type 0) where
-  pub tells-cut : (first middle n : ℕ) (xs front back : List T) (one two both : Result A (CrewFault E)) → front ≡ take n xs → back ≡ drop n xs → middle ≡ first + length front →
-      Tells read value may must first front one → Tells read value may must middle back two → Together read one two both → Tells read value may must first xs both
+  pub tells-cut : (first middle n : ℕ) (xs front back : List T) (one two both : Result A (CrewFault E)) →
+      front ≡ take n xs → back ≡ drop n xs → middle ≡ first + length front →
+      Tells read value may must first front one → Tells read value may must middle back two →
+      Together read one two both → Tells read value may must first xs both
   tells-cut first middle n xs front back one two both f b m tells_one tells_two together =
       let whole : front ++ back ≡ xs = rw (f, b) (take-append-drop n xs) in
-      let tells : Tells read value may must (first + length front) back two = subst (λ k. Tells read value may must k back two) m tells_two in
-      subst (λ items. Tells read value may must first items both) whole (tells-together read value may must first front back one two both tells_one tells together)
+      let tells : Tells read value may must (first + length front) back two =
+      subst (λ k. Tells read value may must k back two) m tells_two in
+      subst (λ items. Tells read value may must first items both) whole
+      (tells-together read value may must first front back one two both tells_one tells together)

@@ -21,16 +21,20 @@ module _ {T : Type 0} (P : ℕ → T → Type 0) where
   )
 
   pub each-of_places : (xs : List T) → ((place : ℕ) (x : T) → slice_get xs place ≡ Some x → P place x) → EachFrom P 0 xs
-  each-of_places xs at = each-from_places 0 xs (λ place x is. let same : place ≡ 0 + place = omega arith in subst (λ n. P n x) same (at place x is))
+  each-of_places xs at = each-from_places 0 xs (λ place x is.
+      let same : place ≡ 0 + place = omega arith in subst (λ n. P n x) same (at place x is))
 
   pub each-at : (first : ℕ) (xs : List T) → EachFrom P first xs → (place : ℕ) (x : T) → slice_get xs place ≡ Some x → P (first + place) x
   each-at first [] each place x is = absurd (search rules)
-  each-at first (y ∷ xs) each zero x is = let same : y ≡ x = ap (λ o. unwrap_or o y) is in subst (λ n. P n x) (here first) (subst (P first) same each.0)
+  each-at first (y ∷ xs) each zero x is =
+      let same : y ≡ x = ap (λ o. unwrap_or o y) is in subst (λ n. P n x) (here first) (subst (P first) same each.0)
   each-at first (y ∷ xs) each (suc place) x is = subst (λ n. P n x) (next first place) (each-at (first + 1) xs each.1 place x is)
 
-  each-before : (first n : ℕ) (x : T) (xs : List T) → P first x → ((k : ℕ) (y : T) → k < n → slice_get xs k ≡ Some y → P (first + 1 + k) y) →
+  each-before : (first n : ℕ) (x : T) (xs : List T) → P first x →
+      ((k : ℕ) (y : T) → k < n → slice_get xs k ≡ Some y → P (first + 1 + k) y) →
       (k : ℕ) (y : T) → k < suc n → slice_get (x ∷ xs) k ≡ Some y → P (first + k) y
-  each-before first n x xs p rest zero y less is = let same : x ≡ y = ap (λ o. unwrap_or o x) is in subst (λ m. P m y) (here first) (subst (P first) same p)
+  each-before first n x xs p rest zero y less is =
+      let same : x ≡ y = ap (λ o. unwrap_or o x) is in subst (λ m. P m y) (here first) (subst (P first) same p)
   each-before first n x xs p rest (suc k) y less is = subst (λ m. P m y) (next first k) (rest k y (omega arith) is)
 
 module _ {T E : Type 0} (may : ℕ → T → E → Type 0) (must : ℕ → T → Type 0) (said : E) where

@@ -1,6 +1,6 @@
 -- Read in this order: what a call asks of its items; what it answers where all goes well; what where it doesn't.
--- In a definition `≡` is equals, `<` compares, `×` is and, `⊎` or, `→` implies, `¬` not, `∷` one item before a list, and
--- ℕ has the whole numbers from 0, by which items are numbered.
+-- In a definition `≡` is equals, `<` compares, `×` is and, `⊎` or, `→` implies, `¬` not, `∷` one item before a list,
+-- and ℕ has the whole numbers from 0, by which items are numbered.
 
 -- the condition of the items
 pub mod Items

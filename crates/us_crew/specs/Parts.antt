@@ -20,7 +20,8 @@ FaultFrom may must first (item ∷ items) place said =
     ((place ≡ first) × may first item said) ⊎ ((¬ must first item) × FaultFrom may must (first + 1) items place said)
 
 -- what is answered for these items; `read` gives the list of answers
-abbrev pub Tells : {A T R E : Type 0} → (A → List R) → (ℕ → T → R) → (ℕ → T → E → Type 0) → (ℕ → T → Type 0) → ℕ → List T → Result A (CrewFault E) → Type 0
+abbrev pub Tells : {A T R E : Type 0} → (A → List R) → (ℕ → T → R) → (ℕ → T → E → Type 0) → (ℕ → T → Type 0) → ℕ →
+    List T → Result A (CrewFault E) → Type 0
 Tells read value may must first items (Ok answers) =
     (read answers ≡ values_from value first items) × EachFrom (λ k item. ¬ must k item) first items
 Tells read value may must first items (Err (fault.Item place said)) = FaultFrom may must first items place said
@@ -29,7 +30,8 @@ Tells read value may must first items (Err fault.Workers) = ⊥
 
 -- what is answered for two parts of a list, one after the other, of what is answered for each: both lists of answers,
 -- or the first fault
-abbrev pub Together : {A R E : Type 0} → (A → List R) → Result A (CrewFault E) → Result A (CrewFault E) → Result A (CrewFault E) → Type 0
+abbrev pub Together : {A R E : Type 0} → (A → List R) → Result A (CrewFault E) → Result A (CrewFault E) →
+    Result A (CrewFault E) → Type 0
 Together read (Err said) second result = result ≡ Err said
 Together read (Ok front) (Err said) result = result ≡ Err said
 Together read (Ok front) (Ok back) (Ok all) = read all ≡ read front ++ read back

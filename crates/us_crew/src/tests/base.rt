@@ -63,7 +63,15 @@ pub(super) fn map_case<H: Threads + Sync, G: Gate + Sync>(
 ) -> Result<Result<Vec<u64>, CrewFault<u64>>, AllocError> {
     let numbers = numbers_to(alloc, case.numbers)?;
     let work = Doubling { most: case.most };
-    Ok(map_owned(alloc, threads, &work, Phase::Build, numbers, case.workers, gate))
+    Ok(map_owned(
+        alloc,
+        threads,
+        &work,
+        Phase::Build,
+        numbers,
+        case.workers,
+        gate,
+    ))
 }
 
 /// Answers, or the text of a fault.

@@ -1,5 +1,5 @@
-use super::base::{Case, map_case, numbers_to, same, tell};
 use super::answers::DOUBLED;
+use super::base::{Case, map_case, numbers_to, same, tell};
 use crate::OpenGate;
 use rayon::prelude::*;
 use std::alloc::{AllocError, Global};

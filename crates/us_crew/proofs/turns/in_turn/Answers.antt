@@ -6,4 +6,5 @@ pub loop-item-init : goal.loop-item-init
 loop-item-init g c =
     let same = c.into_iter-rest.ensures.rest in
     let room = c.in_ok-answers.ensures in
-    rw (same, room.items) (search rules, search rules, omega arith, c.requires.items, refl, (λ sound. sound), λ place fault first. first)
+    rw (same, room.items)
+    (search rules, search rules, omega arith, c.requires.items, refl, (λ sound. sound), λ place said first. first)

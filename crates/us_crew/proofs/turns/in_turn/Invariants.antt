@@ -18,7 +18,7 @@ invariant-loop-item g l =
     (l.answers.items ++ values_from value l.index rest ≡ values_from value l.fn.start l.fn.items.items) ×
     (EachFrom (λ k item. ¬ must k item) l.index rest → EachFrom (λ k item. ¬ must k item) l.fn.start l.fn.items.items) ×
     ((place : ℕ) (said : _) → FaultFrom may must l.index rest place said →
-      FaultFrom may must l.fn.start l.fn.items.items place said)
+    FaultFrom may must l.fn.start l.fn.items.items place said)
 
 abbrev pub decreases-loop-item : goal.decreases-loop-item
 decreases-loop-item g l = into_iter_len l.rest
