@@ -1,0 +1,133 @@
+-- Intakes and seats, as their callers know them (ours).
+use Rattle.std.specs.Prelude.{◌≡◌, ℕ, ◌+◌, ◌-◌, ◌^◌, ◌<◌, ◌≤◌, ◌⊎◌, Bool, true, false, ◌||◌, List, length, sum, slice_index}
+use Rattle.atomic_table.specs.Seated.{TableId}
+use Rattle.us_intake.specs.Tallies.{empty_tally, raised, added}
+
+-- an intake: which one it is, how many SID clusters it has a word for, and the bytes that may be submitted in all
+pub record Intake : Type 0 where
+  pub id : TableId
+  pub clusters : ℕ
+  pub quota : ℕ
+
+-- a seat: the bytes that it may submit in all, whether it takes, and what it and the seats joined into it submitted and
+-- took
+pub record Seat : Type 0 where
+  pub intake : Intake
+  pub quota : ℕ
+  pub takes : Bool
+  pub submitted : List ℕ
+  pub taken : List ℕ
+
+-- the bytes that a seat has submitted, of all clusters
+abbrev pub spent : Seat → ℕ
+spent seat = sum seat.submitted
+
+-- the seat that an intake is opened with
+abbrev pub first_seat : Intake → Seat
+first_seat intake =
+    record {
+      intake = intake;
+      quota = intake.quota;
+      takes = true;
+      submitted = empty_tally intake.clusters;
+      taken = empty_tally intake.clusters;
+    }
+
+-- a seat that is split off with so many bytes
+abbrev pub new_seat : Intake → ℕ → Seat
+new_seat intake quota =
+    record {
+      intake = intake;
+      quota = quota;
+      takes = false;
+      submitted = empty_tally intake.clusters;
+      taken = empty_tally intake.clusters;
+    }
+
+-- no bytes, or all that the seat may submit, or more than it may yet
+abbrev pub IsBadSplit : Seat → ℕ → Type 0
+IsBadSplit seat quota = (quota ≡ 0) ⊎ ((seat.quota ≤ quota) ⊎ (seat.quota < spent seat + quota))
+
+-- the seat that another one was split off
+abbrev pub seat_after_split : Seat → ℕ → Seat
+seat_after_split seat quota =
+    record {
+      intake = seat.intake;
+      quota = seat.quota - quota;
+      takes = seat.takes;
+      submitted = seat.submitted;
+      taken = seat.taken;
+    }
+
+-- two seats of an intake made one
+abbrev pub joined_seat : Seat → Seat → Seat
+joined_seat one other =
+    record {
+      intake = one.intake;
+      quota = one.quota + other.quota;
+      takes = one.takes || other.takes;
+      submitted = added one.submitted other.submitted;
+      taken = added one.taken other.taken;
+    }
+
+-- the seat that submitted so many bytes of a cluster
+abbrev pub seat_after_submit : Seat → ℕ → ℕ → Seat
+seat_after_submit seat cluster bytes =
+    record {
+      intake = seat.intake;
+      quota = seat.quota;
+      takes = seat.takes;
+      submitted = raised seat.submitted cluster bytes;
+      taken = seat.taken;
+    }
+
+-- the seat that took what one word held
+abbrev pub seat_after_take : Seat → ℕ → ℕ → Seat
+seat_after_take seat cluster bytes =
+    record {
+      intake = seat.intake;
+      quota = seat.quota;
+      takes = seat.takes;
+      submitted = seat.submitted;
+      taken = raised seat.taken cluster bytes;
+    }
+
+-- the seat that took what a cut found
+abbrev pub seat_after_cut : Seat → List ℕ → Seat
+seat_after_cut seat cuts =
+    record {
+      intake = seat.intake;
+      quota = seat.quota;
+      takes = seat.takes;
+      submitted = seat.submitted;
+      taken = added seat.taken cuts;
+    }
+
+-- the whole quota is this seat's
+abbrev pub IsWhole : Seat → Type 0
+IsWhole seat = seat.quota ≡ seat.intake.quota
+
+-- the most clusters of an intake, and the bytes that no quota reaches
+abbrev pub max_clusters : ℕ
+max_clusters = 2048
+
+abbrev pub quota_limit : ℕ
+quota_limit = 2 ^ 62
+
+pub record IsIntake (intake : Intake) : Type 0 where
+  pub some_clusters : 1 ≤ intake.clusters
+  pub few_clusters : intake.clusters ≤ max_clusters
+  pub some : 1 ≤ intake.quota
+  pub small : intake.quota < quota_limit
+
+-- what is known of every seat, whatever the others do
+pub record IsSeat (seat : Seat) : Type 0 where
+  pub intake : IsIntake seat.intake
+  pub submitted_row : length seat.submitted ≡ seat.intake.clusters
+  pub taken_row : length seat.taken ≡ seat.intake.clusters
+  pub some : 1 ≤ seat.quota
+  pub of_whole : seat.quota ≤ seat.intake.quota
+  pub within : spent seat ≤ seat.quota
+  pub taken_within : sum seat.taken ≤ seat.intake.quota
+  pub idle : seat.takes ≡ false → (cluster : ℕ) → slice_index seat.taken cluster ≡ 0
+  pub whole_takes : IsWhole seat → seat.takes ≡ true

@@ -1,0 +1,239 @@
+ghost use Rattle.std.specs.Prelude.{◌≡◌, ℕ, ◌+◌, ◌^◌, ◌<◌, ◌≤◌, ◌⊎◌, ◌↔◌, true, length, sum, slice_index, IfOk, IfErr, OnOk, OnErr, Err, vec_len};
+ghost use Rattle.us_intake.specs.Seats as spec;
+ghost use Rattle.us_intake.specs.Tallies.{empty_tally, added};
+ghost use Rattle.us_intake.specs.declared.faults.IntakeFault.TheVariants as fault;
+
+use crate::accounts::{Bytes, Kept, Part, Terms};
+use crate::closed::{Closed, read_words};
+use crate::faults::IntakeFault;
+use crate::seats::Seat;
+use crate::tallies::{add_to, empty_tallies};
+use atomic_table::Table;
+use std::alloc::Global;
+use std::marker::{Brand, Model};
+
+mod steps;
+
+/// The most SID clusters of an intake (ours).
+pub const MAX_CLUSTERS: u16 = 2_048;
+
+/// The bytes that no quota reaches (ours), so that two numbers of bytes below it add up in a word.
+const QUOTA_LIMIT: u64 = 1 << 62;
+
+/// The words that threads add requests to while rounds are cut: one for each SID cluster, without a lock.
+#[derive(Drop)]
+pub struct Intake {
+    table: Table<(), Part, Terms, Kept, Global>,
+    quota: u64,
+}
+
+impl Model for Intake {
+    ghost use Rattle.us_intake.specs.Seats.{Intake};
+
+    ghost Value = { Intake };
+
+    ghost use Rattle.us_intake.specs.Insides.{intake_at, IsInsideIntake};
+
+    ghost view = { λ i. intake_at i.table.shared.table_id i.quota };
+
+    ghost invariant = { λ i. IsInsideIntake i.table.shared.table_id i.table.shared.key i.quota };
+}
+
+impl Intake {
+    /// Opens an intake for 1 to 2,048 clusters, in which seats submit at most `quota` bytes in all, with a seat that
+    /// has them all and takes. I2: the quota is 0, or 2^62 or more; I3: want of memory.
+    pub fn open(alloc: Global, clusters: u16, quota: u64) -> Result<(Intake, Seat), IntakeFault>
+        requires some { 1 ≤ clusters }
+        requires most { clusters ≤ MAX_CLUSTERS }
+        ensures quota { (result ≡ Err fault.BadQuota) ↔ ((quota ≡ 0) ⊎ (2 ^ 62 ≤ quota)) }
+        ensures faults { IfErr result (λ given. (given ≡ fault.BadQuota) ⊎ (given ≡ fault.NoMemory)) }
+        ensures intake { IfOk result (λ opened. (opened.0.clusters ≡ clusters) × (opened.0.quota ≡ quota)) }
+        ensures seat { IfOk result (λ opened. opened.1 ≡ spec.first_seat opened.0) }
+    {
+        if quota == 0 || quota >= QUOTA_LIMIT {
+            return Err(IntakeFault::BadQuota);
+        }
+        let clusters = usize::from(clusters);
+        let (submitted, taken) = empty_tallies(alloc, clusters)?;
+        let (table, token) = Table::of_words(alloc, &submitted, &Terms { clusters, quota })?;
+        let seat = Seat {
+            token,
+            quota,
+            spent: 0,
+            takes: true,
+            submitted,
+            taken,
+        };
+        Ok((Intake { table, quota }, seat))
+    }
+
+    /// The bytes that may be submitted in all.
+    pub fn quota(&self) -> u64
+        ensures value { result ≡ self.now.quota }
+        ensures known { spec.IsIntake self.now }
+
+        // The limit that conditions and docs name.
+        ensures limit { MAX_CLUSTERS ≡ 2048 }
+    {
+        self.quota
+    }
+
+    /// Adds `bytes` to the word of a cluster by one `fetch_add`. I1, and nothing is changed: they are more than the
+    /// seat's quota leaves. It needs no memory.
+    pub fn submit(&self, seat: &mut Seat, cluster: u16, bytes: u32) -> Result<(), IntakeFault>
+        requires own { seat.old.intake ≡ self.now }
+        requires there { cluster < self.now.clusters }
+        ensures ok { OnOk result (seat.new ≡ spec.seat_after_submit seat.old cluster bytes) }
+        ensures spent { OnOk result (spec.spent seat.new ≡ spec.spent seat.old + bytes) }
+        ensures refused { (result ≡ Err fault.QuotaSpent) ↔ (seat.old.quota < spec.spent seat.old + bytes) }
+        ensures faults { IfErr result (λ given. given ≡ fault.QuotaSpent) }
+        ensures same { OnErr result (seat.new ≡ seat.old) }
+    {
+        let bytes = u64::from(bytes);
+        if bytes > seat.quota - seat.spent {
+            return Err(IntakeFault::QuotaSpent);
+        }
+        let at = usize::from(cluster);
+        self.add(&mut seat.token, at, bytes);
+        seat.submitted[at] += bytes;
+        seat.spent += bytes;
+        Ok(())
+    }
+
+    /// Takes what the words hold, one `swap` for each, in the order of the clusters. It needs no memory.
+    pub fn cut(&self, seat: &mut Seat, cuts: &mut [u64])
+        requires own { seat.old.intake ≡ self.now }
+        requires row { length cuts.old ≡ self.now.clusters }
+        requires takes { seat.old.takes ≡ true }
+        ensures seat { seat.new ≡ spec.seat_after_cut seat.old cuts.new }
+        ensures within { sum seat.new.taken ≤ self.now.quota }
+        ensures least { (cluster : ℕ) → slice_index seat.new.submitted cluster ≤ slice_index seat.new.taken cluster }
+        ensures whole { spec.IsWhole seat.old → seat.new.taken ≡ seat.new.submitted }
+    {
+        for at in 0..seat.taken.len() {
+            cuts[at] = self.take_word(seat, at);
+        }
+    }
+
+    /// Takes what the word of a cluster holds.
+    fn take_word(&self, seat: &mut Seat, at: usize) -> u64
+        requires own { seat.old.intake ≡ self.now }
+        requires there { at < self.now.clusters }
+        requires takes { seat.old.takes ≡ true }
+        ensures seat { seat.new ≡ spec.seat_after_take seat.old at result }
+        ensures known { spec.IsSeat seat.new }
+        ensures least { slice_index seat.new.submitted at ≤ slice_index seat.new.taken at }
+        ensures whole { spec.IsWhole seat.old → slice_index seat.new.taken at ≡ slice_index seat.new.submitted at }
+    {
+        let found = self.take(&mut seat.token, at);
+        seat.taken[at] += found;
+        found
+    }
+
+    /// Splits a seat that may submit `quota` bytes off another one. I2: there are no such bytes, they are all of the
+    /// seat's, or more than it has left; I3: want of memory. With either the seat comes back as it was.
+    pub fn split(
+        &self,
+        alloc: Global,
+        seat: Seat,
+        quota: u64,
+    ) -> Result<(Seat, Seat), (Seat, IntakeFault)>
+        requires own { seat.intake ≡ self.now }
+        ensures ok { IfOk result (λ both. (both.0 ≡ spec.seat_after_split seat quota)
+            × (both.1 ≡ spec.new_seat seat.intake quota)) }
+        ensures bad { (result ≡ Err (seat, fault.BadQuota)) ↔ spec.IsBadSplit seat quota }
+        ensures same { IfErr result (λ given. given.0 ≡ seat) }
+        ensures faults { IfErr result (λ given. (given.1 ≡ fault.BadQuota) ⊎ (given.1 ≡ fault.NoMemory)) }
+    {
+        if quota == 0 || quota >= seat.quota || quota > seat.quota - seat.spent {
+            return Err((seat, IntakeFault::BadQuota));
+        }
+        match empty_tallies(alloc, seat.taken.len()) {
+            Ok((submitted, taken)) => Ok(self.divide::<Brand>(seat, quota, submitted, taken)),
+            Err(_) => Err((seat, IntakeFault::NoMemory)),
+        }
+    }
+
+    /// Splits a seat, for which there are lists.
+    fn divide<B: Bytes>(
+        &self,
+        mut seat: Seat,
+        quota: u64,
+        submitted: Vec<u64>,
+        taken: Vec<u64>,
+    ) -> (Seat, Seat)
+        requires own { seat.intake ≡ self.now }
+        requires named { quota ≡ B.bytes }
+        requires some { 1 ≤ quota }
+        requires less { quota < seat.quota }
+        requires within { spec.spent seat + quota ≤ seat.quota }
+        requires submitted { submitted.items ≡ empty_tally seat.intake.clusters }
+        requires taken { taken.items ≡ empty_tally seat.intake.clusters }
+        ensures rest { result.0 ≡ spec.seat_after_split seat quota }
+        ensures new { result.1 ≡ spec.new_seat seat.intake quota }
+    {
+        let token = self.split_off::<B>(&mut seat.token);
+        seat.quota -= quota;
+        let new = Seat {
+            token,
+            quota,
+            spent: 0,
+            takes: false,
+            submitted,
+            taken,
+        };
+        (seat, new)
+    }
+
+    /// Makes two seats one, with their quotas and lists added up. It needs no memory.
+    pub fn join(&self, mut one: Seat, other: Seat) -> Seat
+        requires own { (one.intake ≡ self.now) × (other.intake ≡ self.now) }
+        ensures { result ≡ spec.joined_seat one other }
+    {
+        let Seat {
+            token,
+            quota,
+            spent,
+            takes,
+            submitted,
+            taken,
+        } = other;
+        self.merge(&mut one.token, token);
+        one.quota += quota;
+        one.spent += spent;
+        one.takes |= takes;
+        add_to(&mut one.submitted, &submitted);
+        add_to(&mut one.taken, &taken);
+        one
+    }
+
+    /// Closes the intake by a seat that is whole. I3: want of memory, and both are given up.
+    pub fn close(self, alloc: Global, seat: Seat) -> Result<Closed, IntakeFault>
+        requires own { seat.intake ≡ self }
+        requires whole { spec.IsWhole seat }
+        ensures submitted { IfOk result (λ closed. closed.submitted.items ≡ seat.submitted) }
+        ensures taken { IfOk result (λ closed. closed.taken.items ≡ seat.taken) }
+        ensures row { IfOk result (λ closed. vec_len closed.left ≡ self.clusters) }
+        ensures balanced { IfOk result (λ closed. closed.submitted.items ≡ added closed.taken.items closed.left.items) }
+        ensures faults { IfErr result (λ given. given ≡ fault.NoMemory) }
+    {
+        let mut left = vec![in alloc; 0u64; seat.taken.len()]?;
+        let Seat {
+            token,
+            quota: _,
+            spent: _,
+            takes: _,
+            submitted,
+            taken,
+        } = seat;
+        let Intake { table, quota: _ } = self;
+        let table = table.close_with(token);
+        read_words(&mut left, &table);
+        table.free();
+        Ok(Closed {
+            left,
+            submitted,
+            taken,
+        })
+    }
+}
