@@ -1,5 +1,5 @@
 -- Read in this order: the reserves of a board; where shares are granted; the round and the schedule; what a round gives,
--- and its laws. Then what is served so far, and examples. In a definition `≡` is equals, `×` and, `→` implies, `++` one
+-- and its laws; then examples. What calendars settle stands in us_calendar. In a definition `≡` is equals, `×` and, `→` implies, `++` one
 -- list behind another, `∷` one item before a list, and ℕ has the whole numbers from 0; `-` stops at 0.
 
 -- minislots that belong to all modems
@@ -12,8 +12,6 @@ pub mod Rounds
 pub mod Outputs
 -- laws of what a round gives
 pub mod OutputLaws
--- which configurations are served so far
-pub mod Served
 -- the definitions at small inputs: placings,
 pub mod PlacementExamples
 -- what a round gives,

@@ -11,9 +11,6 @@
 //! What these are stands in `specs/`, in the order of its `Lib.antt`.
 #![tactic(auto)]
 
-// Which configurations are served so far.
-mod served;
-
 // Every refusal.
 mod faults;
 
@@ -61,7 +58,6 @@ pub use output_laws::{lines_are_of_grants, lines_bear_round};
 pub use round_outs::RoundOut;
 pub use rounds::round;
 pub use rows::{Entry, Row};
-pub use served::is_served;
 pub use states::State;
 
 #[cfg(test)]

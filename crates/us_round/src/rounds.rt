@@ -9,7 +9,7 @@ ghost use Rattle.us_split.specs.PlanLaws.{IsLawfulPlan};
 ghost use Rattle.us_split.specs.Shares.{with_shares};
 ghost use Rattle.us_round.specs.Rounds as spec;
 ghost use Rattle.us_round.specs.Outputs.{out_of, AreWithinLimits};
-ghost use Rattle.us_round.specs.States.{AreSound};
+ghost use Rattle.us_round.specs.States.{AreSound, settled_by};
 
 use crate::building::{Built, Filled, build_all, fill_all};
 use crate::faults::RoundFault;
@@ -39,10 +39,12 @@ pub fn round(alloc: Global, state: State, cuts: &[u64]) -> Result<(State, RoundO
     ensures sound { IfOk result (λ _. let begun : spec.State = spec.begun state cuts.now in
         AreSound begun (spec.builds_of begun)) }
 
-    // No MAP passes 100 assignments, 38 pendings, 240 elements or 976 bytes, so a channel has at most 100 lines.
+    // No MAP passes 100 assignments, 38 pendings, 240 elements or 976 bytes, so a channel has at most 100 lines of
+    // requested grants; all other lines are of what the calendars settled.
     ensures limits { IfOk result (λ done.
         AreWithinLimits state.tables (spec.round_of state cuts.now).scheduled) }
-    ensures few { IfOk result (λ done. length done.1.rows ≤ 100 * length state.tables.channels) }
+    ensures few { IfOk result (λ done. length done.1.rows + settled_by state ≤
+        100 * length state.tables.channels + settled_by done.0) }
 {
     let mut state = state;
     state.begin(cuts);

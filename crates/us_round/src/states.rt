@@ -5,7 +5,6 @@ ghost use Rattle.us_flows.specs.Lawful.{AreTables};
 ghost use Rattle.us_bucket.specs.Levels.{bytes_in, full, refilled};
 ghost use Rattle.us_round.specs.Rounds as spec;
 ghost use Rattle.us_round.specs.Outputs.{final_rows};
-ghost use Rattle.us_round.specs.Served.{is_served};
 ghost use Rattle.us_round.specs.States.{IsState, Covers};
 
 use crate::building::Built;
@@ -64,10 +63,9 @@ impl Drop for State {
 }
 
 impl State {
-    /// Before round 0: nothing is outstanding, and every bucket is full. So far the configuration has to be one that
-    /// is served, as [`crate::is_served`] says. The fault is want of memory, and the configuration is given up then.
+    /// Before round 0: nothing is outstanding, every bucket is full, and nothing of the calendars is settled. The fault
+    /// is want of memory, and the configuration is given up then.
     pub fn new(alloc: Global, config: Config) -> Result<State, RoundFault>
-        requires served { is_served config ≡ true }
         ensures { IfOk result (λ state. state ≡ spec.opening config) }
     {
         let outstanding = nothing_outstanding(alloc, config.clusters())?;
@@ -100,7 +98,9 @@ impl State {
 
     /// The number of the next round.
     pub fn round(&self) -> u32
-        ensures { result ≡ self.now.round }
+        ensures value { result ≡ self.now.round }
+        ensures known { IsState self.now }
+        ensures few { settled_by self.now ≤ max_settled_by }
     {
         self.round
     }
