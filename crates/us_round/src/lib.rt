@@ -47,7 +47,10 @@ mod round_outs;
 // Laws of what a round gives.
 mod output_laws;
 
-// What a round starts from.
+// What a round starts from: all but the calendars,
+mod cores;
+
+// and all of it.
 mod states;
 
 // The round.
