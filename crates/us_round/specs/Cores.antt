@@ -1,14 +1,15 @@
 -- Inside the crate, and of no use to a reader of the promise: a state without its calendars, which go from channel to
 -- channel by themselves; and what the channels of a round keep on the way.
-use Rattle.std.specs.Prelude.{◌≡◌, ℕ, ◌+◌, ◌≤◌, List, [], length, map, replicate, sum_by}
+use Rattle.std.specs.Prelude.{◌≡◌, ℕ, ◌+◌, ◌≤◌, List, [], length, map, filter_map, replicate, sum_by}
 use Rattle.std.specs.List.{AllByRecursion}
 use Rattle.us_flows.specs.Tables.{Tables, map_len}
-use Rattle.us_flows.specs.Clusters.{clusters_of}
-use Rattle.us_flows.specs.Lawful.{IsChannel}
-use Rattle.us_bucket.specs.Levels.{Level, full}
+use Rattle.us_flows.specs.Clusters.{clusters_of, turns_of}
+use Rattle.us_bucket.specs.Levels.{Level, full, bytes_in}
 use Rattle.us_calendar.specs.Calendars as calendars
 use Rattle.us_calendar.specs.Calendars.{Calendar, IsCalendar, pace_of, settled_in, granted_in}
-use Rattle.us_round.specs.Rounds.{State, Filled, Built, asked, grown, all_grants, left_of, spent_of}
+use Rattle.us_split.specs.Plans.{Planned, plan_for}
+use Rattle.us_round.specs.Rounds.{State, Filled, Built, Scheduled, asked, grown, idle, all_grants, left_of, spent_of}
+use Rattle.us_round.specs.Leftovers.{still_asking}
 
 -- all of a state but its calendars
 pub record Core : Type 0 where
@@ -78,3 +79,20 @@ settled_now fs = sum_by (λ f. length f.settled) fs
 
 abbrev pub settled_then : List Filled → ℕ
 settled_then fs = sum_by (λ f. settled_in f.calendar) fs
+
+-- the calendars of built channels: each keeps what calendars do, and they settled what the channels tell
+pub record AreCounted (before : List Calendar) (builds : List Built) : Type 0 where
+  pub calendars : AllByRecursion (λ b. IsCalendar b.calendar) builds
+  pub counts : sum_by (λ b. length b.settled) builds + sum_by settled_in before ≡ sum_by (λ b. settled_in b.calendar) builds
+
+-- the plan of a round that has begun, over these channels
+abbrev pub plan_over : Core → List Filled → List Planned
+plan_over core fs = plan_for core.tables core.outstanding (map bytes_in core.buckets) (idle fs)
+
+-- what these channels were scheduled, where so much was outstanding before, and the core tells what is left
+abbrev pub scheduled_of : Core → ℕ → List ℕ → List Built → Scheduled
+scheduled_of core round before builds = record {
+  round = round;
+  channels = builds;
+  pending = filter_map (still_asking before core.outstanding) (turns_of core.tables);
+}

@@ -1,6 +1,6 @@
-ghost use Rattle.std.specs.Prelude.{◌≡◌, ◌≤◌, length, map, take, IfOk};
+ghost use Rattle.std.specs.Prelude.{◌≡◌, ◌≤◌, map, IfOk};
 ghost use Rattle.us_calendar.specs.Calendars as calendars;
-ghost use Rattle.us_round.specs.Cores.{with_calendars};
+ghost use Rattle.us_round.specs.Cores.{AreCalendars, with_calendars};
 ghost use Rattle.us_round.specs.Rounds as spec;
 ghost use Rattle.us_round.specs.Outputs.{final_rows};
 ghost use Rattle.us_round.specs.States.{IsState, settled_by, max_settled_by};
@@ -18,8 +18,8 @@ use us_slots::NoMemory;
 /// What a round starts from: the configuration, the number of the round, what is outstanding of each SID cluster, the
 /// bucket of each flow, and the calendar of each channel.
 pub struct State {
-    pub(crate) core: Core,
-    pub(crate) calendars: Vec<Calendar>,
+    core: Core,
+    calendars: Vec<Calendar>,
 }
 
 impl Model for State {
@@ -49,7 +49,34 @@ impl State {
     {
         let calendars = calendars_of(alloc, &config)?;
         let core = Core::new(alloc, config)?;
-        Ok(State { core, calendars })
+        Ok(State::of(core, calendars))
+    }
+
+    /// The state of a core and of its calendars.
+    pub(crate) fn of(core: Core, calendars: Vec<Calendar>) -> State
+        requires state { IsState (with_calendars core calendars.items) }
+        requires few { settled_by (with_calendars core calendars.items) ≤ max_settled_by }
+        ensures { result ≡ with_calendars core calendars.items }
+    {
+        State { core, calendars }
+    }
+
+    /// Its core and its calendars.
+    pub(crate) fn into_parts(self) -> (Core, Vec<Calendar>)
+        ensures value { with_calendars result.0 result.1.items ≡ self }
+        ensures calendars { AreCalendars self.tables self.round result.1.items }
+    {
+        let State { core, calendars } = self;
+        (core, calendars)
+    }
+
+    /// All but its calendars.
+    pub(crate) fn core(&self) -> &Core
+        ensures tables { result.now.tables ≡ self.now.tables }
+        ensures outstanding { result.now.outstanding ≡ self.now.outstanding }
+        ensures buckets { result.now.buckets ≡ self.now.buckets }
+    {
+        &self.core
     }
 
     /// The F lines: of each SID cluster in table order what is outstanding, and the units of its flow's bucket.
@@ -57,7 +84,7 @@ impl State {
     pub fn finals(&self, alloc: Global) -> Result<Vec<Row>, RoundFault>
         ensures { IfOk result (λ rows. rows.items ≡ final_rows self.now) }
     {
-        let core = &self.core;
+        let core = self.core();
         let rows = reporting::final_rows(alloc, core.config(), core.outstanding(), core.buckets())?;
         Ok(rows)
     }
@@ -79,7 +106,8 @@ fn calendars_of(alloc: Global, config: &Config) -> Result<Vec<Calendar>, NoMemor
     let channels = config.channels().len();
     let mut all = Vec::with_capacity(alloc, channels)?;
     for place in 0..channels {
-        all.push(Calendar::new(alloc, config, place)?)?;
+        let calendar = Calendar::new(alloc, config, place)?;
+        all.push(calendar)?;
     }
     Ok(all)
 }
