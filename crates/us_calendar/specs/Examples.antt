@@ -1,1 +1,89 @@
 -- Small calendars, computed by the definitions alone.
+use Rattle.std.specs.Prelude.{◌≡◌, ℕ, [], ◌∷◌, Option, Some, None, refl}
+use Rattle.us_holes.specs.Boards.{Owner, Board, empty_board, assign, first_of}
+use Rattle.us_calendar.specs.Entries.{Entry, in_order}
+use Rattle.us_calendar.specs.Occurrences.{Pace, due}
+use Rattle.us_calendar.specs.Settling.{Row, Mark, settle_each, settle_row}
+use Rattle.us_calendar.specs.declared.kinds.Kind.{Kind}
+use Rattle.us_calendar.specs.declared.kinds.Kind.TheVariants as kinds
+
+-- MAPs of 4 minislots of a tick, so that minislots start at 0, 25, 50 and 75, and a round lasts 100
+abbrev pace : Pace
+pace = record { time = record { minislot_log2 = 0; rate_log2 = 0 }; len = 4 }
+
+abbrev grant : Owner
+grant = record { sid = 513; iuc = 11 }
+
+-- so many grants of one minislot in each interval of 1,000
+abbrev entry : ℕ → ℕ → ℕ → Entry
+entry start jitter grants = record {
+  kind = kinds.Unsolicited;
+  id = 1;
+  owner = grant;
+  slots = 1;
+  start = start;
+  interval = 1000;
+  jitter = jitter;
+  grants = grants;
+}
+
+abbrev row : ℕ → ℕ → ℕ → Row
+row start jitter grants = record { entry = entry start jitter grants; settled = [] }
+
+abbrev idle : Board
+idle = empty_board 4
+
+abbrev granted : ℕ → ℕ → Mark
+granted number start = record { number = number; start = Some start }
+
+abbrev missed : ℕ → Mark
+missed number = record { number = number; start = None }
+
+-- a window in which no minislot starts
+no_start : (settle_row pace 0 (row 1 0 1) idle).marks ≡ missed 0 ∷ []
+unfolding settle_row settle_each due first_of
+no_start = refl
+
+-- one that goes on behind the round: it waits, and the next round grants it the first minislot
+waits : (settle_row pace 0 (row 90 20 1) idle).marks ≡ []
+unfolding settle_row settle_each due first_of
+waits = refl
+
+granted_later : (settle_row pace 1 (row 90 20 1) idle).marks ≡ granted 0 0 ∷ []
+unfolding settle_row settle_each due first_of
+granted_later = refl
+
+-- the window ends, and its minislots were all taken
+taken_before : (settle_row pace 0 (row 0 30 1) (assign idle 0 2 grant)).marks ≡ missed 0 ∷ []
+unfolding settle_row settle_each due first_of
+taken_before = refl
+
+-- three grants of an interval for which there are two minislots
+some_missed : (settle_row pace 0 (row 0 75 3) (assign idle 0 2 grant)).marks ≡
+    granted 0 2 ∷ granted 1 3 ∷ missed 2 ∷ []
+unfolding settle_row settle_each due first_of
+some_missed = refl
+
+-- and none where as many assignments stand as there may be
+none_more : (settle_row pace 0 (row 0 75 1) (record { cells = idle.cells; standing = 100 })).marks ≡ missed 0 ∷ []
+unfolding settle_row settle_each due first_of
+none_more = refl
+
+abbrev of_kind : Kind → ℕ → Entry
+of_kind kind id = record {
+  kind = kind;
+  id = id;
+  owner = grant;
+  slots = 1;
+  start = 0;
+  interval = 1000;
+  jitter = 0;
+  grants = 1;
+}
+
+-- by kind, and then by id
+ordered : in_order (of_kind kinds.Station 1 ∷ of_kind kinds.RealTimePoll 9 ∷ of_kind kinds.Unsolicited 7 ∷
+    of_kind kinds.Unsolicited 3 ∷ []) ≡
+    of_kind kinds.Unsolicited 3 ∷ of_kind kinds.Unsolicited 7 ∷ of_kind kinds.RealTimePoll 9 ∷
+    of_kind kinds.Station 1 ∷ []
+ordered = refl

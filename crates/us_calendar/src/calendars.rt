@@ -2,39 +2,49 @@ ghost use Rattle.std.specs.Prelude.{◌≡◌, ◌+◌, ◌*◌, ◌<◌, ◌≤
 ghost use Rattle.std.specs.List.{AllByRecursion};
 ghost use Rattle.us_slots.specs.Times.{minislot_ticks};
 ghost use Rattle.us_flows.specs.Tables.{max_run_ticks};
+ghost use Rattle.us_flows.specs.Lawful.{IsChannel};
 ghost use Rattle.us_calendar.specs.Calendars as spec;
+ghost use Rattle.us_calendar.specs.Kept.{IsKept, key_cmp};
+ghost use Rattle.std.specs.BTreeSet.{contains};
 
+use crate::agendas::{noted, settle_due};
+use crate::listing::entries_of;
+use crate::paces::Pace;
+use crate::rows::Row;
 use crate::settled::Settled;
 use std::alloc::Global;
+use std::collections::BTreeSet;
 use std::marker::Model;
-use us_flows::Config;
+use us_flows::{Channel, Config};
 use us_holes::Board;
 use us_slots::NoMemory;
 
 /// The calendar of a channel.
 pub struct Calendar {
+    pace: Pace,
     next_round: u32,
+    rows: Vec<Row>,
+    due: BTreeSet<(u64, usize)>,
 }
 
 impl Model for Calendar {
     ghost Value = { spec.Calendar };
 
-    ghost view = { λ c. record {
-      pace = record { time = record { minislot_log2 = 0; rate_log2 = 0 }; len = 1 };
-      next_round = c.next_round;
-      rows = [];
-    } };
+    ghost view = { λ c. record { pace = c.pace; next_round = c.next_round; rows = c.rows.items } };
 
-    ghost invariant = { λ c. spec.IsCalendar (record {
-      pace = record { time = record { minislot_log2 = 0; rate_log2 = 0 }; len = 1 };
-      next_round = c.next_round;
-      rows = [];
-    }) };
+    ghost invariant = { λ c. IsKept (record { pace = c.pace; next_round = c.next_round; rows = c.rows.items })
+        (contains key_cmp c.due) };
 }
 
+/// Gives the entries up. It is written out so that it is one step wherever a calendar ends.
 impl Drop for Calendar {
     fn drop(self) {
-        let Calendar { next_round: _ } = self;
+        let Calendar {
+            pace: _,
+            next_round: _,
+            rows: _,
+            due: _,
+        } = self;
     }
 }
 
@@ -45,7 +55,26 @@ impl Calendar {
         ensures { IfOk result (λ calendar. IfSome (slice_get config.now.channels channel)
             (λ c. calendar ≡ spec.opening config.now c)) }
     {
-        Err(NoMemory)
+        Calendar::of_channel(alloc, config, &config.channels()[channel])
+    }
+
+    /// The calendar of a channel of the table.
+    fn of_channel(alloc: Global, config: &Config, channel: &Channel) -> Result<Calendar, NoMemory>
+        requires { IsChannel config.now channel.now }
+        ensures { IfOk result (λ calendar. calendar ≡ spec.opening config.now channel.now) }
+    {
+        let pace = Pace {
+            time: *channel.bursts.time(),
+            len: config.map_len(channel),
+        };
+        let entries = entries_of(alloc, config, channel)?;
+        let (rows, due) = noted(alloc, pace, &entries)?;
+        Ok(Calendar {
+            pace,
+            next_round: 0,
+            rows,
+            due,
+        })
     }
 
     /// Settles what is due in `round`, which is the next one, on the channel's board: entries by kind, then by id, and the
@@ -54,7 +83,12 @@ impl Calendar {
     ///
     /// The board has the length of the channel's MAPs, and the round ends at tick 2^26 or before. After want of memory
     /// nothing is said of calendar and board.
-    pub fn run(&mut self, alloc: Global, round: u32, board: &mut Board) -> Result<Vec<Settled>, NoMemory>
+    pub fn run(
+        &mut self,
+        alloc: Global,
+        round: u32,
+        board: &mut Board,
+    ) -> Result<Vec<Settled>, NoMemory>
         requires next { round ≡ self.old.next_round }
         requires time { (round + 1) * (self.old.pace.len * minislot_ticks self.old.pace.time) ≤ max_run_ticks }
         requires len { length board.old.cells ≡ self.old.pace.len }
@@ -71,7 +105,25 @@ impl Calendar {
         ensures counts { IfOk result (λ settled.
             length settled.items + spec.settled_in self.old ≡ spec.settled_in self.new) }
     {
-        Err(NoMemory)
+        let mut settled = Vec::new(alloc);
+        match settle_due(
+            self.pace,
+            round,
+            &mut self.rows,
+            &mut self.due,
+            board,
+            &mut settled,
+        ) {
+            Ok(()) => {
+                self.next_round = round + 1;
+                Ok(settled)
+            }
+            Err(refused) => {
+                self.rows.clear();
+                self.due.clear();
+                Err(refused)
+            }
+        }
     }
 
     /// The round that is to be run next.

@@ -14,9 +14,37 @@ mod kinds;
 // What a round settled.
 mod settled;
 
+// The time of a channel.
+mod paces;
+
+// An entry.
+mod entries;
+
+// Where an occurrence is granted.
+mod placing;
+
+// The occurrences of an entry in a round.
+mod settling;
+
+// An entry, with what of it is settled.
+mod rows;
+
+// The entries of a channel.
+mod listing;
+
+// The entries that are due.
+mod agendas;
+
 // The calendar.
 mod calendars;
 
+// Laws of the definitions.
+mod laws;
+
 pub use calendars::Calendar;
 pub use kinds::Kind;
+pub use laws::{first_ones, grants_fit};
 pub use settled::Settled;
+
+#[cfg(test)]
+mod tests;

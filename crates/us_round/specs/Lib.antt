@@ -14,6 +14,10 @@ pub mod Outputs
 pub mod OutputLaws
 -- the definitions at small inputs: placings,
 pub mod PlacementExamples
+-- what a round gives,
+pub mod OutputExamples
+-- and whole rounds
+pub mod RoundExamples
 -- what a round's grants take, and what a state keeps
 pub mod States
 -- who is pending, by what is outstanding before and after the grants; what boards keep

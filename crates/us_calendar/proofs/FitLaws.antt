@@ -1,0 +1,89 @@
+-- What a round grants fits, and is what it assigns.
+use Rattle.std.proofs.Common.{◌≡◌, ℕ, ◌+◌, ◌*◌, ◌&&◌, Bool, true, false, List, [], ◌∷◌, ◌++◌, map, flat_map, Option, Some, None, IfSome, refl, ap, sym, ◌∙◌, inl, inr, subst}
+use Rattle.std.proofs.lemmas.Bool.{cases_Bool, and_parts}
+use Rattle.std.proofs.lemmas.Grind.{flat_map-append}
+use Rattle.us_holes.specs.Boards.{Board, Interval, fits, assign_all, AllFit}
+use Rattle.us_holes.proofs.LawLemmas.{first_of-is, assign_all-append, AllFit-append}
+use Rattle.us_calendar.specs.Entries.{Entry}
+use Rattle.us_calendar.specs.Occurrences.{Pace, is_over, starts_within, due, end_of}
+use Rattle.us_calendar.specs.Settling.{Mark, Outcome, Row, spot, mark, with_spot, settle_each, settle_row, told_as}
+use Rattle.us_calendar.specs.Calendars.{Ran, run_rows}
+use Rattle.us_calendar.specs.declared.settled.Settled.{Settled}
+use Rattle.us_calendar.specs.Laws.{intervals_of}
+use Rattle.us_calendar.proofs.SettleLemmas.{then_settle}
+
+record Fitting (before : Board) (told : List Settled) (after : Board) : Type 0 where
+  pub board : after ≡ assign_all before (flat_map intervals_of told)
+  pub fit : AllFit before (flat_map intervals_of told)
+
+nothing_fits : (board : Board) → Fitting board [] board
+unfolding assign_all AllFit
+nothing_fits board = record { board = refl; fit = tt }
+
+spot_fits : (pace : Pace) (round : ℕ) (e : Entry) (n : ℕ) (board : Board) (found : Option ℕ) →
+    spot pace round e n board ≡ found → IfSome found (λ at. fits board e.slots at ≡ true)
+spot_fits pace round e n board None is = tt
+spot_fits pace round e n board (Some at) is =
+    let first = first_of-is (λ i. starts_within pace.time e n (round * pace.len + i) && fits board e.slots i) 0 pace.len at
+    is in
+    (and_parts (starts_within pace.time e n (round * pace.len + at)) (fits board e.slots at) first.passing).1
+
+one_fits : (pace : Pace) (round : ℕ) (e : Entry) (n : ℕ) (found : Option ℕ) (board : Board) (rest : Board → Outcome) →
+    IfSome found (λ at. fits board e.slots at ≡ true) →
+    Fitting (with_spot e found board) (map (told_as e) (rest (with_spot e found board)).marks)
+    (rest (with_spot e found board)).board →
+    Fitting board (map (told_as e) (then_settle pace round e n found rest board).marks)
+    (then_settle pace round e n found rest board).board
+unfolding assign_all AllFit
+one_fits pace round e n (Some at) board rest fit others = record { board = others.board; fit = (fit, others.fit) }
+one_fits pace round e n None board rest fit others = elim (cases_Bool (is_over pace round e n)) [
+  | inl t ↦ rw t (record { board = others.board; fit = others.fit })
+  | inr f ↦ rw f others
+]
+
+each_fits : (pace : Pace) (round : ℕ) (e : Entry) (ns : List ℕ) (board : Board) →
+    Fitting board (map (told_as e) (settle_each pace round e ns board).marks) (settle_each pace round e ns board).board
+unfolding settle_each
+each_fits pace round e [] board = nothing_fits board
+each_fits pace round e (n ∷ ns) board =
+    let found : Option ℕ = spot pace round e n board in
+    one_fits pace round e n found board (settle_each pace round e ns) (spot_fits pace round e n board found refl)
+    (each_fits pace round e ns (with_spot e found board))
+
+row_fits : (pace : Pace) (round : ℕ) (row : Row) (board : Board) →
+    Fitting board (map (told_as row.entry) (settle_row pace round row board).marks)
+    (settle_row pace round row board).board
+unfolding settle_row
+row_fits pace round row board =
+    each_fits pace round row.entry (due row.entry (end_of pace round) row.settled) board
+
+both_fit : (before middle after : Board) (one other : List Settled) → Fitting before one middle →
+    Fitting middle other after → Fitting before (one ++ other) after
+both_fit before middle after one other f g =
+    let first : List Interval = flat_map intervals_of one in
+    let second : List Interval = flat_map intervals_of other in
+    let split = flat_map-append intervals_of one other in
+    record {
+      board = g.board ∙ ap (λ b. assign_all b second) f.board ∙ sym (assign_all-append before first second) ∙
+          ap (assign_all before) (sym split);
+      fit = subst (AllFit before) (sym split)
+          (AllFit-append before first second f.fit (subst (λ b. AllFit b second) f.board g.fit));
+    }
+
+run_fits : (pace : Pace) (round : ℕ) (rows : List Row) (board : Board) →
+    Fitting board (run_rows pace round rows board).settled (run_rows pace round rows board).board
+unfolding run_rows
+run_fits pace round [] board = nothing_fits board
+run_fits pace round (row ∷ rows) board =
+    let one : Outcome = settle_row pace round row board in
+    let rest : Ran = run_rows pace round rows one.board in
+    both_fit board one.board rest.board (map (told_as row.entry) one.marks) rest.settled
+    (row_fits pace round row board) (run_fits pace round rows one.board)
+
+pub grants_fit : (pace : Pace) (round : ℕ) (rows : List Row) (board : Board) →
+    ((run_rows pace round rows board).board ≡
+        assign_all board (flat_map intervals_of (run_rows pace round rows board).settled))
+    × AllFit board (flat_map intervals_of (run_rows pace round rows board).settled)
+grants_fit pace round rows board =
+    let fitting = run_fits pace round rows board in
+    (fitting.board, fitting.fit)

@@ -1,0 +1,12 @@
+pub mod IdealLemmas
+pub mod DueLemmas
+pub mod SettleLemmas
+pub mod SpotLemmas
+pub mod RowLemmas
+pub mod KeyLemmas
+pub mod RunLemmas
+pub mod AgendaLemmas
+pub mod NotedLemmas
+pub mod RunLaws
+pub mod OrderLemmas
+pub mod FitLaws

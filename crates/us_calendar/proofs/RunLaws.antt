@@ -1,0 +1,149 @@
+-- What a round keeps: what is granted starts inside the MAP and is one more assignment each, and all is counted.
+use Rattle.std.proofs.Common.{◌≡◌, ℕ, zero, suc, ◌+◌, ◌*◌, ◌^◌, ◌<◌, ◌≤◌, Bool, true, false, List, [], ◌∷◌, ◌++◌, length, map, take, drop, sum_by, Option, Some, None, IfSome, ◌&&◌, refl, ap, sym, ◌∙◌, inl, inr, subst, arith}
+use Rattle.std.specs.List.{AllByRecursion}
+use Rattle.std.proofs.lemmas.Bool.{cases_Bool}
+use Rattle.std.proofs.lemmas.List.{map-append, length-append, length-map}
+use Rattle.std.proofs.lemmas.List.Sums.{sum_by-cons, sum_by-append}
+use Rattle.us_slots.specs.Times.{minislot_ticks}
+use Rattle.us_holes.specs.Boards.{Board, fits, first_of}
+use Rattle.us_holes.proofs.LawLemmas.{first_of-is}
+use Rattle.us_flows.proofs.TurnLemmas.{all-append}
+use Rattle.us_calendar.specs.Entries.{Entry}
+use Rattle.us_calendar.specs.Occurrences.{Pace, is_over, starts_within, due, end_of}
+use Rattle.us_calendar.specs.Settling.{Mark, Outcome, Row, spot, mark, with_spot, settle_each, settle_row, after_marks, told_as}
+use Rattle.us_calendar.specs.Calendars.{Calendar, Ran, run_rows, StartsInside, granted_in, one_if_granted, IsCalendar}
+use Rattle.us_calendar.specs.declared.settled.Settled.{Settled}
+use Rattle.us_calendar.specs.Kept.{IsRow, IsKept, IsAgenda}
+use Rattle.us_calendar.proofs.SettleLemmas.{then_settle}
+
+-- of what one entry is granted and misses
+record Told (len : ℕ) (e : Entry) (before : Board) (one : Outcome) : Type 0 where
+  pub inside : AllByRecursion (StartsInside len) (map (told_as e) one.marks)
+  pub granted : granted_in (map (told_as e) one.marks) + before.standing ≡ one.board.standing
+
+spot_inside : (pace : Pace) (round : ℕ) (e : Entry) (n : ℕ) (board : Board) (found : Option ℕ) →
+    spot pace round e n board ≡ found → IfSome found (λ at. at < pace.len)
+spot_inside pace round e n board None is = tt
+spot_inside pace round e n board (Some at) is =
+    let first = (first_of-is (λ i. starts_within pace.time e n (round * pace.len + i) && fits board e.slots i) 0 pace.len at is).below in
+    omega (arith, first)
+
+one_told : (pace : Pace) (round : ℕ) (e : Entry) (n : ℕ) (found : Option ℕ) (board : Board) (rest : Board → Outcome) →
+    IfSome found (λ at. at < pace.len) → Told pace.len e (with_spot e found board) (rest (with_spot e found board)) →
+    Told pace.len e board (then_settle pace round e n found rest board)
+one_told pace round e n (Some at) board rest inside told =
+    let first : Settled = told_as e (record { number = n; start = Some at }) in
+    let others : List Settled = map (told_as e) (rest (with_spot e (Some at) board)).marks in
+    let one = sum_by-cons one_if_granted first others in
+    record { inside = (inside, told.inside); granted = omega (arith, one, told.granted) }
+one_told pace round e n None board rest inside told = elim (cases_Bool (is_over pace round e n)) [
+  | inl t ↦
+      let first : Settled = told_as e (record { number = n; start = None }) in
+      let one = sum_by-cons one_if_granted first (map (told_as e) (rest board).marks) in
+      rw t (record { inside = (tt, told.inside); granted = omega (arith, one, told.granted) })
+  | inr f ↦ rw f told
+]
+
+each_told : (pace : Pace) (round : ℕ) (e : Entry) (ns : List ℕ) (board : Board) →
+    Told pace.len e board (settle_each pace round e ns board)
+unfolding settle_each
+each_told pace round e [] board = record { inside = tt; granted = omega arith }
+each_told pace round e (n ∷ ns) board =
+    let found : Option ℕ = spot pace round e n board in
+    one_told pace round e n found board (settle_each pace round e ns) (spot_inside pace round e n board found refl)
+    (each_told pace round e ns (with_spot e found board))
+
+row_told : (pace : Pace) (round : ℕ) (row : Row) (board : Board) →
+    Told pace.len row.entry board (settle_row pace round row board)
+unfolding settle_row
+row_told pace round row board =
+    each_told pace round row.entry (due row.entry (end_of pace round) row.settled) board
+
+abbrev pub settled_by : List Row → ℕ
+settled_by rows = sum_by (λ row. length row.settled) rows
+
+-- of a whole round
+pub record Ended (len : ℕ) (rows : List Row) (before : Board) (ran : Ran) : Type 0 where
+  pub inside : AllByRecursion (StartsInside len) ran.settled
+  pub granted : granted_in ran.settled + before.standing ≡ ran.board.standing
+  pub counts : length ran.settled + settled_by rows ≡ settled_by ran.rows
+  pub many : length ran.rows ≡ length rows
+
+pub run_ended : (pace : Pace) (round : ℕ) (rows : List Row) (board : Board) →
+    Ended pace.len rows board (run_rows pace round rows board)
+unfolding run_rows
+run_ended pace round [] board = record { inside = tt; granted = omega arith; counts = omega arith; many = refl }
+run_ended pace round (row ∷ rows) board =
+    let one : Outcome = settle_row pace round row board in
+    let told : List Settled = map (told_as row.entry) one.marks in
+    let rest : Ran = run_rows pace round rows one.board in
+    let here = row_told pace round row board in
+    let others = run_ended pace round rows one.board in
+    let sum = sum_by-append one_if_granted told rest.settled in
+    let long = length-append told rest.settled in
+    let marks = length-map one.marks (told_as row.entry) in
+    let numbers = length-map one.marks (λ m. m.number) in
+    let grown = length-append row.settled (map (λ m. m.number) one.marks) in
+    let before = sum_by-cons (λ r. length r.settled) row rows in
+    let after = sum_by-cons (λ r. length r.settled) (after_marks row one.marks) rest.rows in
+    record {
+      inside = all-append (StartsInside pace.len) told rest.settled here.inside others.inside;
+      granted = omega (arith, sum, here.granted, others.granted);
+      counts = omega (arith, long, marks, numbers, grown, before, after, others.counts);
+      many = omega (arith, others.many);
+    }
+
+settled_most : (rows : List Row) → AllByRecursion IsRow rows → settled_by rows ≤ length rows * 2 ^ 38
+settled_most [] all = omega arith
+settled_most (row ∷ rows) all =
+    let few = all.0.few in
+    let rest = settled_most rows all.1 in
+    let one = sum_by-cons (λ r. length r.settled) row rows in
+    omega (arith, few, rest, one)
+
+pub written : (old new : List Row) → length new ≡ length old → take (length old) (new ++ drop (length new) old) ≡ new
+written [] [] e = refl
+written [] (x ∷ xs) e = absurd (omega (arith, e))
+written (o ∷ os) [] e = absurd (omega (arith, e))
+written (o ∷ os) (x ∷ xs) e = ap (λ more. x ∷ more) (written os xs (omega (arith, e)))
+
+-- and so the calendar keeps what it owes
+pub run_kept : (calendar : Calendar) (now : List Row) (next len : ℕ) (board : Board) (has had : ℕ × ℕ → Bool) →
+    IsKept calendar had → now ≡ (run_rows calendar.pace calendar.next_round calendar.rows board).rows →
+    (AllByRecursion IsRow calendar.rows → AllByRecursion IsRow now) → len ≡ length calendar.rows →
+    next ≡ calendar.next_round + 1 → IsAgenda calendar.pace next 0 now has →
+    IsKept (record {
+      pace = calendar.pace;
+      next_round = next;
+      rows = take len (now ++ drop (length now) calendar.rows);
+    }) has
+run_kept calendar now next len board has had kept now_is rows_kept len_is next_is agenda =
+    let ended = run_ended calendar.pace calendar.next_round calendar.rows board in
+    let many : length now ≡ length calendar.rows = ap length now_is ∙ ended.many in
+    let rows = rows_kept kept.rows in
+    let most = settled_most now rows in
+    let few : length now ≤ 1280 = omega (arith, kept.few) in
+    let back : take len (now ++ drop (length now) calendar.rows) ≡ now =
+    ap (λ n. take n (now ++ drop (length now) calendar.rows)) len_is ∙ written calendar.rows now many in
+    subst (λ rs. IsKept (record { pace = calendar.pace; next_round = next; rows = rs }) has) (sym back) (record {
+      known = record { len = kept.known.len; ticks = kept.known.ticks; settled = omega (arith, most, few) };
+      few = few;
+      rows = rows;
+      agenda = agenda;
+    })
+
+-- before round 0 too
+pub opening_kept : (pace : Pace) (rows : List Row) (es : List Entry) (has : ℕ × ℕ → Bool) → 1 ≤ pace.len →
+    pace.len * minislot_ticks pace.time ≤ 4096 → rows ≡ map (λ e. record { entry = e; settled = [] }) es →
+    length es ≤ 1280 → AllByRecursion IsRow rows → IsAgenda pace 0 0 rows has →
+    IsKept (record { pace = pace; next_round = 0; rows = rows }) has
+opening_kept pace rows es has some ticks rows_are few all agenda =
+    let fresh : Entry → Row = λ e. record { entry = e; settled = [] } in
+    let many : length rows ≡ length es = ap length rows_are ∙ length-map es fresh in
+    let most = settled_most rows all in
+    record {
+      known = record { len = some; ticks = ticks; settled = omega (arith, most, many, few) };
+      few = omega (arith, many, few);
+      rows = all;
+      agenda = agenda;
+    }

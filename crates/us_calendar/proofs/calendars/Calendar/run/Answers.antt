@@ -1,0 +1,53 @@
+use Rattle.std.proofs.Common.{◌≡◌, ◌+◌, ◌∙◌, ◌++◌, length, take, drop, sym, ap, ap₂, subst, arith}
+use Rattle.std.specs.BTreeSet.{contains}
+use Rattle.std.specs.List.{AllByRecursion}
+use Rattle.us_calendar.specs.Calendars.{run_rows, StartsInside, granted_in, settled_in, Ran}
+use Rattle.us_calendar.specs.Kept.{IsRow, key_cmp}
+use Rattle.us_calendar.proofs.RunLaws.{run_kept, run_ended, settled_by, written}
+use Rattle.us_calendar.proofs.calendars.Calendar.run.Goals as goal
+
+pub invariant_of-self : goal.invariant_of-self
+invariant_of-self c =
+    let round_is : c.args.round ≡ c.self.inside.next_round =
+    c.requires.next ∙ sym (ap (λ v. v.next_round) c.self.view_is) in
+    let rows_is = c.deref_mut.ensures.value in
+    run_kept (record {
+      pace = c.self.inside.pace;
+      next_round = c.self.inside.next_round;
+      rows = c.self.inside.rows.items;
+    }) c.settle_due.new.rows (c.args.round + 1) c.self.inside.rows.len c.args.board.now
+    (contains key_cmp c.settle_due.new.due) (contains key_cmp c.self.inside.due) c.self.invariant
+    (c.in-Ok.ensures.rows ∙ ap₂ (λ r rs. (run_rows c.self.inside.pace r rs c.args.board.now).rows) round_is rows_is)
+    (λ all. c.settle_due.ensures.known (subst (AllByRecursion IsRow) (sym rows_is) all)) c.self.inside.rows.ok.0
+    (ap (λ r. r + 1) round_is) c.in-Ok.ensures.agenda
+
+pub returns-in-Ok-clause-inside : goal.returns-in-Ok-clause-inside
+returns-in-Ok-clause-inside c =
+    let ran : Ran = run_rows c.self.inside.pace c.args.round c.deref_mut.result.now c.args.board.now in
+    let told = c.in-Ok.ensures.settled ∙ ap (λ xs. xs ++ ran.settled) c.new-settled.ensures.items in
+    let ended = run_ended c.self.inside.pace c.args.round c.deref_mut.result.now c.args.board.now in
+    let len = ap (λ v. v.pace.len) c.self.view_is ∙ sym c.requires.len in
+    subst (λ n. AllByRecursion (StartsInside n) c.settle_due.new.settled.items) len
+    (subst (AllByRecursion (StartsInside c.self.inside.pace.len)) (sym told) ended.inside)
+
+pub returns-in-Ok-clause-granted : goal.returns-in-Ok-clause-granted
+returns-in-Ok-clause-granted c =
+    let ran : Ran = run_rows c.self.inside.pace c.args.round c.deref_mut.result.now c.args.board.now in
+    let told = c.in-Ok.ensures.settled ∙ ap (λ xs. xs ++ ran.settled) c.new-settled.ensures.items in
+    let ended = run_ended c.self.inside.pace c.args.round c.deref_mut.result.now c.args.board.now in
+    ap (λ ts. granted_in ts + c.args.board.now.standing) told ∙ ended.granted ∙ sym
+    (ap (λ b. b.standing) c.in-Ok.ensures.board)
+
+pub returns-in-Ok-clause-counts : goal.returns-in-Ok-clause-counts
+returns-in-Ok-clause-counts c =
+    let ran : Ran = run_rows c.self.inside.pace c.args.round c.deref_mut.result.now c.args.board.now in
+    let told = c.in-Ok.ensures.settled ∙ ap (λ xs. xs ++ ran.settled) c.new-settled.ensures.items in
+    let ended = run_ended c.self.inside.pace c.args.round c.deref_mut.result.now c.args.board.now in
+    let rows_is = c.deref_mut.ensures.value in
+    let many : length c.settle_due.new.rows ≡ length c.self.inside.rows.items =
+    ap length c.in-Ok.ensures.rows ∙ ended.many ∙ ap length rows_is in
+    let back = ap (λ n. take n (c.settle_due.new.rows ++ drop (length c.settle_due.new.rows) c.self.inside.rows.items))
+    c.self.inside.rows.ok.0 ∙ written c.self.inside.rows.items c.settle_due.new.rows many in
+    ap₂ (λ ts n. length ts + n) told
+    (sym (ap (λ v. settled_in v) c.self.view_is) ∙ sym (ap settled_by rows_is)) ∙ ended.counts ∙ sym
+    (ap settled_by c.in-Ok.ensures.rows) ∙ sym (ap settled_by back)

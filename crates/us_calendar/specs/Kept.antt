@@ -1,0 +1,70 @@
+-- How a calendar is kept: of each entry the number of its first occurrence that isn't settled, and in which round it is
+-- due. Nothing of this is seen from outside.
+use Rattle.std.specs.Prelude.{◌≡◌, ℕ, ◌+◌, ◌*◌, ◌<◌, ◌≤◌, ◌^◌, Bool, true, List, [], length, Option, Some, slice_get}
+use Rattle.std.specs.List.{AllByRecursion, range_with_len}
+use Rattle.std.specs.declared.cmp.Ordering.{Ordering}
+use Rattle.std.specs.Ordering.{ordering_then, nat_cmp}
+use Rattle.us_slots.specs.Times.{minislot_ticks, IsTiming}
+use Rattle.us_holes.specs.Boards.{Board, IsOwner}
+use Rattle.us_calendar.specs.Entries.{Entry}
+use Rattle.us_calendar.specs.Occurrences.{Pace, end_of, due}
+use Rattle.us_calendar.specs.Settling.{Row, Outcome, settle_row}
+use Rattle.us_calendar.specs.Calendars.{Calendar, IsCalendar}
+
+-- a MAP has a minislot at least, and at most 4,096 ticks
+pub record IsPace (pace : Pace) : Type 0 where
+  pub time : IsTiming pace.time
+  pub len : 1 ≤ pace.len
+  pub ticks : pace.len * minislot_ticks pace.time ≤ 4096
+
+-- an entry has a minislot and a grant at least, and its windows are apart
+pub record IsEntry (e : Entry) : Type 0 where
+  pub owner : IsOwner e.owner
+  pub slots : 1 ≤ e.slots
+  pub start : e.start ≤ 40000000
+  pub interval : e.interval ≤ 40000000
+  pub jitter : e.jitter < e.interval
+  pub grants : 1 ≤ e.grants
+  pub few_grants : e.grants ≤ 127
+
+-- no occurrence of a run has this number or one above it
+abbrev pub max_number : ℕ
+max_number = 2 ^ 38
+
+-- what is settled of an entry are its first occurrences
+pub record IsRow (row : Row) : Type 0 where
+  pub entry : IsEntry row.entry
+  pub settled : row.settled ≡ range_with_len 0 (length row.settled)
+  pub few : length row.settled ≤ max_number
+
+-- the row of an entry of which so many occurrences are settled
+abbrev pub row_from : Entry → ℕ → Row
+row_from e next = record { entry = e; settled = range_with_len 0 next }
+
+abbrev pub settle_from : Pace → ℕ → Entry → ℕ → Board → Outcome
+settle_from pace round e next board = settle_row pace round (row_from e next) board
+
+-- nothing of an entry is due in a round
+abbrev pub IsQuiet : Pace → ℕ → Row → Type 0
+IsQuiet pace round row = due row.entry (end_of pace round) row.settled ≡ []
+
+-- what is noted is a round with the place of an entry: earlier rounds first, and in a round by place
+abbrev pub key_cmp : ℕ × ℕ → ℕ × ℕ → Ordering
+key_cmp a b = ordering_then (nat_cmp a.0 b.0) (nat_cmp a.1 b.1)
+
+-- What is noted are rounds and places of entries, none of an earlier round than this, and those of this round from the
+-- place `from` on: the entries before it have had their turn. Each entry is noted for a round before which nothing of it
+-- is due.
+pub record IsAgenda (pace : Pace) (round from : ℕ) (rows : List Row) (has : ℕ × ℕ → Bool) : Type 0 where
+  pub noted : (at place : ℕ) → has (at, place) ≡ true →
+      (place < length rows) × (round ≤ at) × (at ≡ round → from ≤ place)
+  pub quiet : (place : ℕ) (row : Row) → slice_get rows place ≡ Some row →
+      (at : ℕ) × (has (at, place) ≡ true) × ((earlier : ℕ) → round ≤ earlier →
+      (place < from → round < earlier) → earlier < at → IsQuiet pace earlier row)
+
+-- what a calendar keeps, with what it notes
+pub record IsKept (calendar : Calendar) (has : ℕ × ℕ → Bool) : Type 0 where
+  pub known : IsCalendar calendar
+  pub few : length calendar.rows ≤ 1280
+  pub rows : AllByRecursion IsRow calendar.rows
+  pub agenda : IsAgenda calendar.pace calendar.next_round 0 calendar.rows has

@@ -1,0 +1,13 @@
+//! Laws of the definitions of the calendar, each as the contract of a function that does nothing.
+
+ghost use Rattle.us_calendar.specs.Laws.{FirstOnes, GrantsFit};
+
+/// What is settled of an entry are its first occurrences, and so they are after a round.
+pub fn first_ones()
+    ensures { FirstOnes }
+{}
+
+/// A round leaves the board with what it granted, each where it fitted.
+pub fn grants_fit()
+    ensures { GrantsFit }
+{}

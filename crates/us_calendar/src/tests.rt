@@ -1,0 +1,4 @@
+//! What no clause says: that there are answers at all, and worked rounds.
+
+mod base;
+mod rounds;

@@ -1,0 +1,158 @@
+-- What a round gives in small, computed by the definitions alone.
+use Rattle.std.specs.Prelude.{◌≡◌, ℕ, true, [], ◌∷◌, replicate, Some, None, refl}
+use Rattle.us_slots.specs.Examples.{base_profile, bursts_with}
+use Rattle.us_bucket.specs.Levels.{Level, units_in}
+use Rattle.us_flows.specs.declared.channels.Channel.{Channel}
+use Rattle.us_flows.specs.declared.flows.SchedulingType.TheVariants.{BestEffort}
+use Rattle.us_flows.specs.Tables.{FlowTable, Tables}
+use Rattle.us_flows.specs.Clusters.{Turn}
+use Rattle.us_holes.specs.Boards.{Owner, Board, empty_board, assign}
+use Rattle.us_holes.specs.Runs.{runs_from}
+use Rattle.us_calendar.specs.declared.kinds.Kind.TheVariants as kinds
+use Rattle.us_calendar.specs.declared.settled.Settled.TheVariants as settled
+use Rattle.us_round.specs.Placements.{Grant}
+use Rattle.us_round.specs.Rounds.{left_of, pending_seat, pendings_on}
+use Rattle.us_round.specs.Outputs.{elements_of, head_of, by_start, rows_on, final_row}
+use Rattle.us_round.specs.declared.rows.Row.TheVariants as rows
+use Rattle.us_round.specs.declared.rows.Entry.TheVariants as entries
+
+-- Elements and heads.
+
+-- a MAP has 160 minislots, and a request needs 2
+abbrev channel : Channel
+channel = record {
+  id = 1;
+  bursts = bursts_with base_profile;
+  ucd_count = 3;
+  ranging_backoff = 2 ∷ 6 ∷ [];
+  data_backoff = 3 ∷ 8 ∷ [];
+  request_minislots = 2;
+  contention_minislots = 10;
+  maintenance_minislots = 0;
+  maintenance_every = 1;
+  station_minislots = 4;
+}
+
+abbrev long_grant : Owner
+long_grant = record { sid = 291; iuc = 10 }
+
+-- 8 minislots: 2 are idle, 2 are granted, 1 is idle, and 3 are granted
+abbrev board : Board
+board = assign (assign (empty_board 8) 2 2 long_grant) 5 3 long_grant
+
+-- a gap with room for a request goes to all modems, and one without to nobody
+gaps : elements_of channel board ≡
+    record { sid = 16383; iuc = 1; offset = 0 } ∷ record { sid = 291; iuc = 10; offset = 2 } ∷
+    record { sid = 0; iuc = 1; offset = 4 } ∷ record { sid = 291; iuc = 10; offset = 5 } ∷ []
+unfolding elements_of runs_from
+gaps = refl
+
+abbrev flow : FlowTable
+flow = record {
+  id = 7;
+  kind = BestEffort;
+  channels = 2 ∷ 1 ∷ [];
+  clusters = (292 ∷ 291 ∷ []) ∷ (294 ∷ 293 ∷ []) ∷ [];
+  priority = 0;
+  rate = 0;
+  burst = 3044;
+  unit = 4;
+  headers = true;
+  start_us = 0;
+  interval_us = 0;
+  jitter_us = 0;
+  grant_bytes = 0;
+  grants_per_interval = 0;
+}
+
+abbrev tables : Tables
+tables = record {
+  round_ticks = 320;
+  lead_ticks = 400;
+  channels = channel ∷ [];
+  flows = flow ∷ [];
+  stations = [];
+}
+
+-- a MAP begins where the one before it ends
+second_start : (head_of tables 2 channel).alloc_start ≡ 320
+unfolding head_of
+second_start = refl
+
+-- a request of tick 240 may be served from tick 640 on; a minislot has 2 ticks
+second_ack : (head_of tables 2 channel).ack ≡ 120
+unfolding head_of
+second_ack = refl
+
+-- one of round 1 would have to lie before the first minislot
+no_ack : (head_of tables 1 channel).ack ≡ 0
+unfolding head_of
+no_ack = refl
+
+-- Lines.
+
+-- a grant of the flow's first cluster at this minislot, with this credit
+abbrev grant : ℕ → ℕ → Grant
+grant start credit = record {
+  claimant = record { cluster = 0; place = 0; flow = 7; list = 0 };
+  interval = record { start = start; slots = 1; owner = long_grant };
+  credit = credit;
+}
+
+abbrev line : ℕ → ℕ → rows.the_data
+line start credit = rows.Granted 4 1 entries.Requested 7 0 0 291 10 start 1 credit
+
+-- lines stand by the start of their grants, whatever came first, a poll of 2 minislots too; then what was missed
+lines_by_start : rows_on 4 (record {
+  channel = channel;
+  board = empty_board 8;
+  calendar = record { pace = record { time = channel.bursts.time; len = 8 }; next_round = 5; rows = [] };
+  settled = settled.Granted kinds.RealTimePoll 9 6 0 1 2 (record { sid = 300; iuc = 1 })
+      ∷ settled.Missed kinds.Station 2 3 0 ∷ [];
+  grants = grant 5 30 ∷ grant 0 20 ∷ grant 3 10 ∷ [];
+}) ≡
+    line 0 20 ∷ rows.Granted 4 1 entries.RealTimePoll 9 6 0 300 1 1 2 0 ∷ line 3 10 ∷ line 5 30
+    ∷ rows.Missed 4 1 entries.Station 2 3 0 ∷ []
+unfolding rows_on by_start
+lines_by_start = refl
+
+-- the turn of the flow's second cluster
+abbrev turn : Turn
+turn = record { number = 1; place = 0; cluster = record { flow = flow; list = 1; sids = 294 ∷ 293 ∷ [] } }
+
+abbrev bucket : ℕ → Level
+bucket rate = record { rate = rate; burst = 1; units = 640000 }
+
+-- the F line of a flow with a limit, and of one without
+units_left : final_row (5 ∷ 6 ∷ []) (bucket 8 ∷ []) turn ≡ rows.Final 7 1 6 (Some 640000)
+unfolding units_in
+units_left = refl
+
+no_units : final_row (5 ∷ 6 ∷ []) (bucket 0 ∷ []) turn ≡ rows.Final 7 1 6 None
+unfolding units_in
+no_units = refl
+
+-- Pendings.
+
+-- a turn with bytes left and no credit is pending on its flow's first channel, by the SID there,
+pending : pending_seat (grant 0 20 ∷ []) (left_of (grant 0 20 ∷ []) 0 (20 ∷ 6 ∷ [])) turn ≡ Some (2, 294)
+pending = refl
+
+-- but not where nothing is left,
+none_left : pending_seat [] (0 ∷ 0 ∷ []) turn ≡ None
+none_left = refl
+
+-- nor where any grant credits some bytes
+credited : pending_seat (record (grant 0 20) { claimant = record { cluster = 1; place = 0; flow = 7; list = 1 } } ∷ [])
+    (5 ∷ 6 ∷ []) turn ≡ None
+credited = refl
+
+-- a MAP lists those on its channel, in their order,
+on_channel : pendings_on 2 ((2, 294) ∷ (1, 300) ∷ (2, 292) ∷ []) ≡ 294 ∷ 292 ∷ []
+unfolding pendings_on
+on_channel = refl
+
+-- and no more than 38
+at_most_38 : pendings_on 2 (replicate 40 (2, 294)) ≡ replicate 38 294
+unfolding pendings_on
+at_most_38 = refl
