@@ -15,7 +15,9 @@ pub mod MapLemmas
 pub mod PendingLemmas
 pub mod OrderLemmas
 pub mod FinalLemmas
+pub mod LineLemmas
 pub mod OutputLaws
 pub mod StateLemmas
+pub mod CalendarLemmas
 pub mod RoundLemmas
 pub mod SoundLemmas

@@ -1,18 +1,20 @@
 -- That the grants of a round take what is there, and start inside the MAPs.
-use Rattle.std.proofs.Common.{◌≡◌, ℕ, zero, suc, ◌<◌, ◌≤◌, ◌==◌, nat_lt, List, [], ◌∷◌, ◌++◌, length, map, slice_index, slice_get, filter, Option, Some, None, ap, sym, subst, ◌∙◌, inl, inr, arith, option_map, option_and_then, option_to_list, filter_map, position}
+use Rattle.std.proofs.Common.{◌≡◌, ℕ, zero, suc, ◌+◌, ◌<◌, ◌≤◌, ◌==◌, nat_lt, List, [], ◌∷◌, ◌++◌, length, map, slice_index, slice_get, filter, Option, Some, None, ap, sym, subst, ◌∙◌, inl, inr, arith, option_map, option_and_then, option_to_list, filter_map, position}
 use Rattle.std.specs.List.{AllByRecursion, cons_option}
 use Rattle.std.proofs.lemmas.Bool.{cases_Bool}
 use Rattle.std.proofs.lemmas.List.{length-map}
 use Rattle.std.proofs.lemmas.Option.{slice_get-map}
 use Rattle.us_slots.specs.Bursts.{ChannelBursts, IsChannelBursts}
 use Rattle.us_flows.specs.declared.channels.Channel.{Channel}
-use Rattle.us_flows.specs.Tables.{Tables, map_len}
+use Rattle.us_flows.specs.Tables.{Tables}
 use Rattle.us_flows.specs.Clusters.{Turn, IsTurnIn, clusters_of, turns_of}
 use Rattle.us_flows.specs.Lawful.{AreTables, IsChannel, AreApart}
 use Rattle.us_flows.proofs.TurnLaws.{turns_of-turns}
 use Rattle.us_bucket.specs.Levels.{Level, bytes_in}
 use Rattle.us_holes.specs.Boards.{Board, assign, assign_all}
 use Rattle.us_holes.proofs.LawLemmas.{fit_length, assign_all-length, assign_all-standing}
+use Rattle.us_calendar.specs.Calendars as calendars
+use Rattle.us_calendar.specs.Calendars.{granted_in}
 use Rattle.us_split.specs.Plans.{Planned, ledger_of, plan_for}
 use Rattle.us_split.proofs.PlanLawLemmas.{plan_of-turns}
 use Rattle.us_round.specs.Claims.{kept_build}
@@ -20,12 +22,13 @@ use Rattle.us_split.specs.Shares.{TurnShares, with_shares}
 use Rattle.us_round.proofs.KeptLemmas.{kept_builds_are}
 use Rattle.us_split.specs.PlanLaws.{IsLawfulPlan, planned_bytes}
 use Rattle.us_round.specs.Placements.{Claim, Claimant, Grant, Spot, claimant_of, claim_at, claim_on, claims, spot, grant_at, grants_of, with_grant, intervals}
-use Rattle.us_round.specs.Rounds.{State, Filled, filled, idle, build_on, builds_of, round_plan, all_grants, credits, is_of_flow}
+use Rattle.us_round.specs.Rounds.{State, Filled, idle, fills_of, build_on, builds_of, round_plan, all_grants, credits, is_of_flow}
 use Rattle.us_round.specs.Leftovers.{StartsInside, IsBuiltFor, AreInside}
-use Rattle.us_round.specs.States.{IsState, IsKnown, AreSound}
+use Rattle.us_round.specs.States.{IsKnown, AreSound}
+use Rattle.us_round.specs.Cores.{AreCalendars, IsFilledFor}
 use Rattle.us_round.proofs.PartLemmas.{all_append, all_weaker}
 use Rattle.us_round.proofs.FitLemmas.{fit_inside}
-use Rattle.us_round.proofs.FillLemmas.{filled_apart, filled_bursts}
+use Rattle.us_round.proofs.FillLemmas.{filled_apart, filled_all}
 use Rattle.us_round.proofs.GrantLaws.{Granted, grants_are, grants_fit}
 use Rattle.us_round.proofs.CreditLaws.{claims_some, credits_planned}
 use Rattle.us_round.proofs.StateLemmas.{within_less}
@@ -117,11 +120,11 @@ lengths b board (claim ∷ cs) (g ∷ gs) (inr now) =
       subst (λ n. AllByRecursion (StartsInside n) gs) same (lengths b next cs gs now.1),
     )
 
-built_sound : (t : Tables) (plan : List Planned) (f : Filled) → IsChannel t f.channel → length f.board.cells ≡ map_len t f.channel →
+built_sound : (t : Tables) (plan : List Planned) (f : Filled) → IsChannel t f.channel → IsFilledFor t f →
     IsBuiltFor t (build_on plan f) × AreInside (build_on plan f)
-    × (length (build_on plan f).grants ≤ (build_on plan f).board.standing)
+    × (granted_in (build_on plan f).settled + length (build_on plan f).grants ≤ (build_on plan f).board.standing)
 unfolding build_on
-built_sound t plan f is len =
+built_sound t plan f is sound =
     let cs : List Claim = claims f.channel.id plan in
     let gs : List Grant = grants_of f.channel.bursts f.board cs in
     let granted : Granted f.channel.bursts f.board cs gs = grants_are f.channel.bursts f.board cs is.bursts (claims_some f.channel.id plan) in
@@ -129,47 +132,46 @@ built_sound t plan f is len =
     assign_all-length f.board (intervals gs) (grants_fit f.channel.bursts f.board cs gs granted) in
     let standing = assign_all-standing f.board (intervals gs) in
     let many : length (intervals gs) ≡ length gs = length-map gs (λ g. g.interval) in (
-      record { channel = is; len = kept ∙ len },
-      subst (λ n. AllByRecursion (StartsInside n) gs) (sym kept) (lengths f.channel.bursts f.board cs gs granted),
-      omega (arith, standing, many),
+      record { channel = is; len = kept ∙ sound.len },
+      record {
+        settled = subst (λ n. AllByRecursion (calendars.StartsInside n) f.settled) (sym kept) sound.inside;
+        grants = subst (λ n. AllByRecursion (StartsInside n) gs) (sym kept) (lengths f.channel.bursts f.board cs gs granted);
+      },
+      omega (arith, standing, many, sound.few),
     )
 
 -- All channels.
 
 channels_sound : (t : Tables) (plan : List Planned) (fs : List Filled) → AllByRecursion (λ f. IsChannel t f.channel) fs →
-    AllByRecursion (λ f. length f.board.cells ≡ map_len t f.channel) fs →
+    AllByRecursion (IsFilledFor t) fs →
     AllByRecursion (IsBuiltFor t) (map (build_on plan) fs) × AllByRecursion AreInside (map (build_on plan) fs)
-    × AllByRecursion (λ b. length b.grants ≤ b.board.standing) (map (build_on plan) fs)
+    × AllByRecursion (λ b. granted_in b.settled + length b.grants ≤ b.board.standing) (map (build_on plan) fs)
 channels_sound t plan [] are long = (tt, tt, tt)
 channels_sound t plan (f ∷ fs) are long =
     let first = built_sound t plan f are.0 long.0 in
     let rest = channels_sound t plan fs are.1 long.1 in
     ((first.0, rest.0), (first.1, rest.1), (first.2, rest.2))
 
--- what is known of channels is known of those whose reserves stand
-filled_all : (t u : Tables) (round : ℕ) (P : Channel → Type 0) (cs : List Channel) → AllByRecursion P cs →
-    AllByRecursion (λ f. P f.channel) (filled (record t { channels = cs }) round)
-filled_all t u round P [] h = tt
-filled_all t u round P (c ∷ cs) h = (h.0, filled_all t u round P cs h.1)
-
 -- The round of a state.
-pub sound : (s : State) → AreTables s.tables → IsState s →
-    IsLawfulPlan s.tables s.outstanding (map bytes_in s.buckets) (idle (filled s.tables s.round)) (round_plan s) →
+pub sound : (s : State) → AreTables s.tables → AreCalendars s.tables s.round s.calendars →
+    length s.outstanding ≡ length (clusters_of s.tables) → length s.buckets ≡ length s.tables.flows →
+    IsLawfulPlan s.tables s.outstanding (map bytes_in s.buckets) (idle (fills_of s)) (round_plan s) →
     map (λ planned. planned.turn) (round_plan s) ≡ turns_of s.tables →
-    AllByRecursion (λ f. length f.board.cells ≡ map_len s.tables f.channel) (filled s.tables s.round) →
-    AreSound s (builds_of s)
+    AllByRecursion (IsFilledFor s.tables) (fills_of s) → AreSound s (builds_of s)
 unfolding builds_of
-sound s lawful is law turns long =
-    let fs : List Filled = filled s.tables s.round in
+sound s lawful all clusters flows law turns long =
+    let fs : List Filled = fills_of s in
     let plan : List Planned = round_plan s in
     let are : AllByRecursion (λ f. IsChannel s.tables f.channel) fs =
-    filled_all s.tables s.tables s.round (IsChannel s.tables) s.tables.channels lawful.channels in
-    let bursts : AllByRecursion (λ f. IsChannelBursts f.channel.bursts) fs = filled_bursts s.tables s.round lawful in
-    let apart : AreApart (map (λ c. c.id) (map (λ f. f.channel) fs)) = filled_apart s.tables s.round lawful in
+    filled_all (IsChannel s.tables) s.tables s.round s.calendars all lawful.channels in
+    let bursts : AllByRecursion (λ f. IsChannelBursts f.channel.bursts) fs =
+    all_weaker (λ f. IsChannel s.tables f.channel) (λ f. IsChannelBursts f.channel.bursts) (λ f is. is.bursts) fs are in
+    let apart : AreApart (map (λ c. c.id) (map (λ f. f.channel) fs)) =
+    filled_apart s.tables s.round s.calendars all lawful in
     let channels = channels_sound s.tables plan fs are long in
     record {
       covers = record {
-        known = all_known s.tables plan fs s.outstanding s.buckets turns is.clusters is.flows;
+        known = all_known s.tables plan fs s.outstanding s.buckets turns clusters flows;
         asked = λ number.
             omega (arith, credits_planned (λ c. c.cluster == number) plan fs bursts apart, law.asked number);
         allowed = λ place bucket at.
@@ -188,11 +190,11 @@ sound s lawful is law turns long =
 pub turns_planned : (s : State) → map (λ planned. planned.turn) (round_plan s) ≡ turns_of s.tables
 unfolding plan_for
 turns_planned s =
-    plan_of-turns s.outstanding (ledger_of s.tables (map bytes_in s.buckets) (idle (filled s.tables s.round))) (turns_of s.tables)
+    plan_of-turns s.outstanding (ledger_of s.tables (map bytes_in s.buckets) (idle (fills_of s))) (turns_of s.tables)
 
 -- the claims of the plan as it is kept, on the boards of a round, are those of the plan
 pub builds_are : (s : State) (t : Tables) (plan : List TurnShares) (fs : List Filled) → t ≡ s.tables →
-    plan ≡ with_shares 0 (round_plan s) → fs ≡ filled s.tables s.round → map (kept_build t plan) fs ≡ builds_of s
+    plan ≡ with_shares 0 (round_plan s) → fs ≡ fills_of s → map (kept_build t plan) fs ≡ builds_of s
 unfolding builds_of
 builds_are s t plan fs same kept are =
-    rw (same, kept, are) (kept_builds_are s.tables (round_plan s) (filled s.tables s.round) (turns_planned s))
+    rw (same, kept, are) (kept_builds_are s.tables (round_plan s) (fills_of s) (turns_planned s))

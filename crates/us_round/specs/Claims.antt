@@ -37,7 +37,13 @@ kept_grant t c board kept = option_and_then (grant_of c.bursts board) (kept_clai
 unfoldable pub kept_build : Tables → List TurnShares → Filled → Built
 kept_build t plan f =
     let grants : List Grant = grants_of f.channel.bursts f.board (kept_claims t f.channel.id plan) in
-    record { channel = f.channel; board = assign_all f.board (intervals grants); grants = grants }
+    record {
+      channel = f.channel;
+      board = assign_all f.board (intervals grants);
+      calendar = f.calendar;
+      settled = f.settled;
+      grants = grants;
+    }
 
 -- the MAP of a channel has at most 4,096 ticks
 abbrev pub HasFewTicks : Filled → Type 0

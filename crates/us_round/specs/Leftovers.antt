@@ -1,12 +1,16 @@
 -- How a round tells who is pending, by the outstanding bytes before and after its grants; and what its boards keep.
-use Rattle.std.specs.Prelude.{◌≡◌, ℕ, ◌+◌, ◌<◌, ◌≤◌, nat_lt, ◌==◌, ◌&&◌, if◌then◌else◌, List, length, slice_get, slice_index, Option, None, IfSome, option_and_then}
+use Rattle.std.specs.Prelude.{◌≡◌, ℕ, Bool, not, ◌+◌, ◌<◌, ◌≤◌, nat_lt, ◌==◌, ◌&&◌, if◌then◌else◌, List, length, slice_get, slice_index, Option, None, IfSome, option_and_then}
 use Rattle.std.specs.List.{AllByRecursion}
 use Rattle.us_flows.specs.Tables.{Tables, map_len}
 use Rattle.us_flows.specs.Turns.{turn_at}
 use Rattle.us_flows.specs.Clusters.{Turn}
 use Rattle.us_flows.specs.declared.turns.Turn as places
 use Rattle.us_flows.specs.Lawful.{IsChannel}
+use Rattle.us_calendar.specs.Calendars as calendars
 use Rattle.us_round.specs.Placements.{Grant}
+use Rattle.us_calendar.specs.declared.settled.Settled.{Settled}
+use Rattle.us_round.specs.Outputs.{start_of, is_granted}
+use Rattle.us_round.specs.declared.rows.Row.{Row}
 use Rattle.us_round.specs.Rounds.{Built, first_seat}
 
 -- a turn that has bytes left, as many as it had before, is pending
@@ -28,11 +32,16 @@ pub record IsBuiltFor (t : Tables) (built : Built) : Type 0 where
   pub channel : IsChannel t built.channel
   pub len : length built.board.cells ≡ map_len t built.channel
 
--- its grants start inside
-abbrev pub AreInside : Built → Type 0
-AreInside built = AllByRecursion (StartsInside (length built.board.cells)) built.grants
+-- its grants start inside, and what its calendar granted does
+pub record AreInside (built : Built) : Type 0 where
+  pub settled : AllByRecursion (calendars.StartsInside (length built.board.cells)) built.settled
+  pub grants : AllByRecursion (StartsInside (length built.board.cells)) built.grants
 
--- the grant before place `place` starts at `start` or earlier
-abbrev pub IsUpTo : ℕ → ℕ → List Grant → Type 0
-IsUpTo start place grants =
-    (before : ℕ) → place ≡ before + 1 → IfSome (slice_get grants before) (λ g. g.interval.start ≤ start)
+-- the line before place `place` starts at `start` or earlier
+abbrev pub IsUpTo : ℕ → ℕ → List Row → Type 0
+IsUpTo start place lines =
+    (before : ℕ) → place ≡ before + 1 → IfSome (slice_get lines before) (λ line. start_of line ≤ start)
+
+-- what a calendar granted, or what it missed
+abbrev pub is_granted_as : Bool → Settled → Bool
+is_granted_as granted s = if granted then is_granted s else not (is_granted s)

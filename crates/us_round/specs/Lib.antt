@@ -1,6 +1,6 @@
 -- Read in this order: the reserves of a board; where shares are granted; the round and the schedule; what a round gives,
--- and its laws. Then what is served so far, and examples. In a definition `≡` is equals, `×` and, `→` implies, `++` one
--- list behind another, `∷` one item before a list, and ℕ has the whole numbers from 0; `-` stops at 0.
+-- and its laws; then examples. What calendars settle stands in us_calendar. In a definition `≡` is equals, `×` and, `→`
+-- implies, `++` one list behind another, `∷` one item before a list, and ℕ has the whole numbers from 0; `-` stops at 0.
 
 -- minislots that belong to all modems
 pub mod Reserves
@@ -12,8 +12,6 @@ pub mod Rounds
 pub mod Outputs
 -- laws of what a round gives
 pub mod OutputLaws
--- which configurations are served so far
-pub mod Served
 -- the definitions at small inputs: placings,
 pub mod PlacementExamples
 -- what a round gives,
@@ -26,3 +24,5 @@ pub mod States
 pub mod Leftovers
 -- inside the crate, and of no use to a reader of the promise: the claims of a plan as it is kept
 pub mod Claims
+-- and of no use either: a state without its calendars
+pub mod Cores

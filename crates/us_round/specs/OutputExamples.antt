@@ -8,6 +8,8 @@ use Rattle.us_flows.specs.Tables.{FlowTable, Tables}
 use Rattle.us_flows.specs.Clusters.{Turn}
 use Rattle.us_holes.specs.Boards.{Owner, Board, empty_board, assign}
 use Rattle.us_holes.specs.Runs.{runs_from}
+use Rattle.us_calendar.specs.declared.kinds.Kind.TheVariants as kinds
+use Rattle.us_calendar.specs.declared.settled.Settled.TheVariants as settled
 use Rattle.us_round.specs.Placements.{Grant}
 use Rattle.us_round.specs.Rounds.{left_of, pending_seat, pendings_on}
 use Rattle.us_round.specs.Outputs.{elements_of, head_of, by_start, rows_on, final_row}
@@ -100,12 +102,17 @@ grant start credit = record {
 abbrev line : ℕ → ℕ → rows.the_data
 line start credit = rows.Granted 4 1 entries.Requested 7 0 0 291 10 start 1 credit
 
--- lines stand by the start of their grants, whatever came first
+-- lines stand by the start of their grants, whatever came first, a poll of 2 minislots too; then what was missed
 lines_by_start : rows_on 4 (record {
   channel = channel;
   board = empty_board 8;
+  calendar = record { pace = record { time = channel.bursts.time; len = 8 }; next_round = 5; rows = [] };
+  settled = settled.Granted kinds.RealTimePoll 9 6 0 1 2 (record { sid = 300; iuc = 1 })
+      ∷ settled.Missed kinds.Station 2 3 0 ∷ [];
   grants = grant 5 30 ∷ grant 0 20 ∷ grant 3 10 ∷ [];
-}) ≡ line 0 20 ∷ line 3 10 ∷ line 5 30 ∷ []
+}) ≡
+    line 0 20 ∷ rows.Granted 4 1 entries.RealTimePoll 9 6 0 300 1 1 2 0 ∷ line 3 10 ∷ line 5 30
+    ∷ rows.Missed 4 1 entries.Station 2 3 0 ∷ []
 unfolding rows_on by_start
 lines_by_start = refl
 

@@ -1,5 +1,5 @@
 -- What a round gives (ours): the MAP of each channel, and its lines.
-use Rattle.std.specs.Prelude.{ℕ, ◌-◌, ◌*◌, ◌/◌, ◌==◌, ◌≤◌, nat_le, if◌then◌else◌, List, ◌++◌, length, map, filter, flat_map, slice_get, slice_index, Option, Some, None, option_and_then}
+use Rattle.std.specs.Prelude.{ℕ, Bool, true, false, not, ◌-◌, ◌*◌, ◌/◌, ◌==◌, ◌≤◌, nat_le, if◌then◌else◌, List, ◌++◌, length, map, filter, flat_map, slice_get, slice_index, Option, Some, None, option_and_then}
 use Rattle.std.specs.List.{AllByRecursion, range_with_len}
 use Rattle.us_slots.specs.Times.{minislot_ticks}
 use Rattle.us_slots.specs.UsageCodes as codes
@@ -12,11 +12,16 @@ use Rattle.us_flows.specs.Clusters.{Turn, table_order}
 use Rattle.us_bucket.specs.Levels.{Level, units_in}
 use Rattle.us_holes.specs.Boards.{Owner, Board}
 use Rattle.us_holes.specs.Runs.{Run, runs_of}
+use Rattle.us_calendar.specs.declared.kinds.Kind.{Kind}
+use Rattle.us_calendar.specs.declared.kinds.Kind.TheVariants as kinds
+use Rattle.us_calendar.specs.declared.settled.Settled.{Settled}
+use Rattle.us_calendar.specs.declared.settled.Settled.TheVariants as settled
 use Rattle.us_round.specs.Reserves.{broadcast}
 use Rattle.us_round.specs.Placements.{Grant}
 use Rattle.us_round.specs.Rounds.{State, Built, Scheduled, pendings_on}
 use Rattle.us_round.specs.declared.rows.Row.{Row}
 use Rattle.us_round.specs.declared.rows.Row.TheVariants as rows
+use Rattle.us_round.specs.declared.rows.Entry.{Entry}
 use Rattle.us_round.specs.declared.rows.Entry.TheVariants as entries
 
 -- MAPs.
@@ -67,19 +72,53 @@ built_map t round pending built =
 
 -- Lines.
 
--- grants by their start
-unfoldable pub by_start : ℕ → List Grant → List Grant
-by_start len grants = flat_map (λ start. filter (λ g. g.interval.start == start) grants) (range_with_len 0 len)
+-- where the grant of a line starts; 0 for lines of no grant
+abbrev pub start_of : Row → ℕ
+start_of (rows.Granted round channel entry id i k sid iuc start slots credit) = start
+start_of (rows.Missed round channel entry id i k) = 0
+start_of (rows.Final flow cluster outstanding units) = 0
+start_of (rows.Counts unknown not_requestable late) = 0
 
--- the G line of a grant
+-- lines of grants by where these start
+unfoldable pub by_start : ℕ → List Row → List Row
+by_start len lines = flat_map (λ start. filter (λ line. start_of line == start) lines) (range_with_len 0 len)
+
+-- the word of a calendar's entry
+abbrev pub word_of : Kind → Entry
+word_of kinds.Unsolicited = entries.Unsolicited
+word_of kinds.RealTimePoll = entries.RealTimePoll
+word_of kinds.NonRealTimePoll = entries.NonRealTimePoll
+word_of kinds.Station = entries.Station
+
+-- the line of what the calendar of a channel settled: a G line, which credits nothing, or an M line
+abbrev pub settled_row : ℕ → Channel → Settled → Row
+settled_row round c (settled.Granted kind id i k start slots owner) =
+    rows.Granted round c.id (word_of kind) id i k owner.sid owner.iuc start slots 0
+settled_row round c (settled.Missed kind id i k) = rows.Missed round c.id (word_of kind) id i k
+
+abbrev pub is_granted : Settled → Bool
+is_granted (settled.Granted kind id i k start slots owner) = true
+is_granted (settled.Missed kind id i k) = false
+
+-- the G line of a grant that was requested
 abbrev pub grant_row : ℕ → Channel → Grant → Row
 grant_row round c g =
     rows.Granted round c.id entries.Requested g.claimant.flow g.claimant.list 0 g.interval.owner.sid
     g.interval.owner.iuc g.interval.start g.interval.slots g.credit
 
--- the G lines of a channel's round
+-- the G lines of a channel's round, of its calendar and of requests,
+abbrev pub granted_rows : ℕ → Built → List Row
+granted_rows round built =
+    map (settled_row round built.channel) (filter is_granted built.settled)
+    ++ map (grant_row round built.channel) built.grants
+
+-- and its M lines, in the order of the calendar
+abbrev pub missed_rows : ℕ → Built → List Row
+missed_rows round built = map (settled_row round built.channel) (filter (λ s. not (is_granted s)) built.settled)
+
+-- its lines: those of grants by their start, then those of what was missed
 unfoldable pub rows_on : ℕ → Built → List Row
-rows_on round built = map (grant_row round built.channel) (by_start (length built.board.cells) built.grants)
+rows_on round built = by_start (length built.board.cells) (granted_rows round built) ++ missed_rows round built
 
 -- the F line of a cluster, of what is outstanding of each cluster and the bucket of each flow
 abbrev pub final_row : List ℕ → List Level → Turn → Row

@@ -1,35 +1,35 @@
 -- Rounds in the base configuration and near it, computed by the definitions alone. Words are in hexadecimal.
-use Rattle.std.specs.Prelude.{◌≡◌, ℕ, true, false, List, [], ◌∷◌, length, replicate, map, ⊤, refl}
+use Rattle.std.specs.Prelude.{◌≡◌, ℕ, true, List, [], ◌∷◌, length, replicate, map, Option, Some, None, option_map, ⊤, refl}
 use Rattle.std.specs.List.{range_with_len}
-use Rattle.us_slots.specs.Bursts.{coded_length, burst_cost}
+use Rattle.us_slots.specs.Bursts.{ChannelBursts, coded_length, burst_cost}
 use Rattle.us_slots.specs.Capacities.{greatest_up_to, capacity_of}
 use Rattle.us_slots.specs.Examples.{base_profile, bursts_with}
 use Rattle.us_codec.specs.Elements.{word_of}
 use Rattle.us_flows.specs.declared.channels.Channel.{Channel}
-use Rattle.us_flows.specs.declared.flows.SchedulingType.TheVariants.{BestEffort, NonRealTimePolling, RealTimePolling, UnsolicitedGrant}
-use Rattle.us_flows.specs.declared.stations.Station.{Station}
+use Rattle.us_flows.specs.declared.flows.SchedulingType.TheVariants.{BestEffort}
 use Rattle.us_flows.specs.Tables.{FlowTable, Tables}
 use Rattle.us_flows.specs.Clusters.{Turn, table_order, turns_of}
 use Rattle.us_bucket.specs.Levels.{bytes_in, refilled, spent, units_in}
-use Rattle.us_holes.specs.Boards.{assign_all, first_of, longest_up_to}
+use Rattle.us_holes.specs.Boards.{Owner, Board, assign, assign_all, empty_board, first_of, longest_up_to}
 use Rattle.us_holes.specs.Runs.{runs_from}
+use Rattle.us_calendar.specs.Calendars.{run_rows}
+use Rattle.us_calendar.specs.Entries.{entries}
 use Rattle.us_split.specs.Divisions.{divided}
 use Rattle.us_split.specs.Plans.{after_turn, cost_on, plan_for, plan_of, shares_of, weights}
 use Rattle.us_round.specs.Reserves.{reserves}
-use Rattle.us_round.specs.Placements.{claims, grants_of, spot}
+use Rattle.us_round.specs.Placements.{Claim, claims, grant_of, grants_of, spot}
 use Rattle.us_round.specs.Rounds.{Step, build_on, builds_of, final, opening, pending_seats, pendings_on, round_from, round_of, round_plan, schedule}
 use Rattle.us_round.specs.Outputs.{RoundOut, by_start, elements_of, final_rows, head_of, map_of, out_of, rows_on}
-use Rattle.us_round.specs.Served.{is_served}
 use Rattle.us_round.specs.declared.rows.Row.{Row}
 use Rattle.us_round.specs.declared.rows.Row.TheVariants as rows
-use Rattle.us_round.specs.declared.rows.Entry.TheVariants as entries
+use Rattle.us_round.specs.declared.rows.Entry.TheVariants as words
 
 -- what these computations unfold
 unfoldable pub round_steps : ⊤
 unfolding coded_length burst_cost greatest_up_to capacity_of turns_of bytes_in refilled spent units_in assign_all
     first_of longest_up_to runs_from divided after_turn cost_on plan_for plan_of shares_of weights reserves claims
     grants_of spot build_on builds_of final pending_seats pendings_on round_from round_of schedule by_start elements_of
-    final_rows head_of map_of out_of rows_on word_of
+    final_rows head_of map_of out_of rows_on word_of entries run_rows
 round_steps = tt
 
 -- Tables.
@@ -89,36 +89,6 @@ base = tables (base_channel ∷ []) (base_flow ∷ [])
 abbrev pub without_flows : Tables
 without_flows = tables (base_channel ∷ []) []
 
--- Which configurations are served so far.
-
-abbrev station : Station
-station = record { id = 1; channel = 1; sid = 300; start_us = 0; interval_us = 10000; jitter_us = 100 }
-
--- the base channel and the base flow, and one flow more
-abbrev with_flow : FlowTable → Tables
-with_flow flow = tables (base_channel ∷ []) (base_flow ∷ flow ∷ [])
-
--- of one channel and one cluster
-abbrev other_flow : FlowTable
-other_flow = flow_with 2 0 (1 ∷ []) ((292 ∷ []) ∷ [])
-
-served :
-    (is_served base ≡ true) ×
-    (is_served without_flows ≡ true) ×
-    (is_served (with_flow other_flow) ≡ true) ×
-    (is_served (with_flow (record other_flow { rate = 1 })) ≡ true) ×
-    (is_served (with_flow (flow_with 2 0 (1 ∷ 2 ∷ []) ((292 ∷ 293 ∷ []) ∷ (294 ∷ 295 ∷ []) ∷ []))) ≡ true)
-unfolding is_served
-served = (refl, refl, refl, refl, refl)
-
-not_served :
-    (is_served (record base { stations = station ∷ [] }) ≡ false) ×
-    (is_served (with_flow (record other_flow { kind = NonRealTimePolling })) ≡ false) ×
-    (is_served (with_flow (record other_flow { kind = RealTimePolling })) ≡ false) ×
-    (is_served (with_flow (record other_flow { kind = UnsolicitedGrant })) ≡ false)
-unfolding is_served
-not_served = (refl, refl, refl, refl)
-
 -- Single rounds.
 
 -- round `round`, where nothing was outstanding, every bucket is full, and the clusters ask for this
@@ -135,7 +105,7 @@ elements t round cut = map (λ m. map word_of m.elements) (given t round cut).ma
 -- a grant of round 1 by its channel, flow and cluster, its SID and IUC, its start and minislots, and its credit
 abbrev granted : ℕ → ℕ → ℕ → ℕ → ℕ → ℕ → ℕ → ℕ → Row
 granted channel flow list sid iuc start slots credit =
-    rows.Granted 1 channel entries.Requested flow list 0 sid iuc start slots credit
+    rows.Granted 1 channel words.Requested flow list 0 sid iuc start slots credit
 
 -- the word of a SID, an IUC and an offset
 abbrev word : ℕ → ℕ → ℕ → ℕ

@@ -5,24 +5,30 @@ use Rattle.us_flows.specs.Tables.{Tables, map_len}
 use Rattle.us_flows.specs.Clusters.{Turn, clusters_of, turns_of}
 use Rattle.us_bucket.specs.Levels.{Level, full, refilled, spent, bytes_in}
 use Rattle.us_holes.specs.Boards.{Board, free_count, assign_all}
+use Rattle.us_calendar.specs.Calendars as calendars
+use Rattle.us_calendar.specs.Calendars.{Calendar, Ran}
+use Rattle.us_calendar.specs.declared.settled.Settled.{Settled}
 use Rattle.us_split.specs.Plans.{Planned, plan_for}
 use Rattle.us_round.specs.Reserves.{reserves}
 use Rattle.us_round.specs.Placements.{Grant, claims, grants_of, intervals}
 
--- what a round starts from: the tables, its number, the outstanding bytes of each cluster, and the bucket of each flow
+-- what a round starts from: the tables, its number, the outstanding bytes of each cluster, the bucket of each flow, and
+-- the calendar of each channel
 pub record State : Type 0 where
   pub tables : Tables
   pub round : ℕ
   pub outstanding : List ℕ
   pub buckets : List Level
+  pub calendars : List Calendar
 
--- before round 0 nothing is outstanding, and every bucket is full
+-- before round 0 nothing is outstanding, every bucket is full, and nothing of the calendars is settled
 abbrev pub opening : Tables → State
 opening t = record {
   tables = t;
   round = 0;
   outstanding = replicate (length (clusters_of t)) 0;
   buckets = map (λ flow. full flow.rate flow.burst) t.flows;
+  calendars = map (calendars.opening t) t.channels;
 }
 
 -- The start of a round.
@@ -37,15 +43,24 @@ grown state = if state.round == 0 then state.buckets else map (refilled state.ta
 
 -- Channels.
 
--- a channel whose reserves stand
+-- a channel whose reserves stand, and what its calendar settled
 pub record Filled : Type 0 where
   pub channel : Channel
   pub board : Board
+  pub calendar : Calendar
+  pub settled : List Settled
 
-abbrev pub filled : Tables → ℕ → List Filled
-filled t round = map (λ c. record { channel = c; board = reserves c (map_len t c) round }) t.channels
+-- the calendar of a channel goes over what its reserves leave
+abbrev pub fill : Tables → ℕ → Channel → Calendar → Filled
+fill t round c calendar =
+    let board : Board = reserves c (map_len t c) round in
+    let ran : Ran = calendars.ran calendar board in
+    record { channel = c; board = ran.board; calendar = calendars.after calendar board; settled = ran.settled }
 
--- the minislots that are idle then are what the plan has
+abbrev pub filled : Tables → ℕ → List Calendar → List Filled
+filled t round cs = map (λ pair. fill t round pair.0 pair.1) (zip t.channels cs)
+
+-- the minislots that are idle then are what the plan has to give
 abbrev pub idle : List Filled → List ℕ
 idle fs = map (λ f. free_count f.board.cells) fs
 
@@ -53,13 +68,21 @@ idle fs = map (λ f. free_count f.board.cells) fs
 pub record Built : Type 0 where
   pub channel : Channel
   pub board : Board
+  pub calendar : Calendar
+  pub settled : List Settled
   pub grants : List Grant
 
 -- each channel places its claims, and reads no other channel's board
 unfoldable pub build_on : List Planned → Filled → Built
 build_on plan f =
     let grants : List Grant = grants_of f.channel.bursts f.board (claims f.channel.id plan) in
-    record { channel = f.channel; board = assign_all f.board (intervals grants); grants = grants }
+    record {
+      channel = f.channel;
+      board = assign_all f.board (intervals grants);
+      calendar = f.calendar;
+      settled = f.settled;
+      grants = grants;
+    }
 
 -- The end of a round.
 
@@ -134,32 +157,39 @@ begun state cut = record {
   round = state.round;
   outstanding = asked state.outstanding cut;
   buckets = grown state;
+  calendars = state.calendars;
 }
 
--- the plan of a round that has begun, on channels whose reserves stand
+-- its channels, once reserves and calendars have their minislots
+abbrev pub fills_of : State → List Filled
+fills_of state = filled state.tables state.round state.calendars
+
+-- its plan, on what is idle then
 abbrev pub round_plan : State → List Planned
-round_plan state =
-    plan_for state.tables state.outstanding (map bytes_in state.buckets) (idle (filled state.tables state.round))
+round_plan state = plan_for state.tables state.outstanding (map bytes_in state.buckets) (idle (fills_of state))
 
 -- and its channels, once all claims are placed
 unfoldable pub builds_of : State → List Built
-builds_of state = map (build_on (round_plan state)) (filled state.tables state.round)
+builds_of state = map (build_on (round_plan state)) (fills_of state)
 
--- what grants leave of a state to the next round
-abbrev pub credited : State → List Grant → State
-credited state grants = record {
-  tables = state.tables;
-  round = state.round + 1;
-  outstanding = left_of grants 0 state.outstanding;
-  buckets = spent_of grants 0 state.buckets;
-}
+-- what the channels of a round leave of a state to the next one
+abbrev pub credited : State → List Built → State
+credited state builds =
+    let grants : List Grant = all_grants builds in
+    record {
+      tables = state.tables;
+      round = state.round + 1;
+      outstanding = left_of grants 0 state.outstanding;
+      buckets = spent_of grants 0 state.buckets;
+      calendars = map (λ b. b.calendar) builds;
+    }
 
 -- a round that has begun
 unfoldable pub round_from : State → Step
 round_from state =
     let grants : List Grant = all_grants (builds_of state) in
     record {
-      state = credited state grants;
+      state = credited state (builds_of state);
       scheduled = record {
         round = state.round;
         channels = builds_of state;

@@ -1,19 +1,28 @@
 -- What a state keeps, and what of it the grants of a round may take.
-use Rattle.std.specs.Prelude.{◌≡◌, ℕ, ◌<◌, ◌≤◌, true, List, length, slice_index, slice_get, Some}
+use Rattle.std.specs.Prelude.{◌≡◌, ℕ, ◌+◌, ◌*◌, ◌<◌, ◌≤◌, List, length, map, sum_by, slice_index, slice_get, Some}
 use Rattle.std.specs.List.{AllByRecursion}
 use Rattle.us_flows.specs.Clusters.{clusters_of}
 use Rattle.us_bucket.specs.Levels.{Level, bytes_in}
 use Rattle.us_split.specs.PlanLaws.{Within}
-use Rattle.us_round.specs.Served.{is_served}
+use Rattle.us_calendar.specs.Calendars.{pace_of, settled_in, max_settled, granted_in}
 use Rattle.us_round.specs.Placements.{Grant}
 use Rattle.us_round.specs.Rounds.{State, Built, credits, all_grants, is_of_cluster, is_of_flow}
 use Rattle.us_round.specs.Leftovers.{IsBuiltFor, AreInside}
 
--- the tables are served, and there is a number for each cluster and a bucket for each flow
+-- there is a number for each cluster, a bucket for each flow, and a calendar for each channel, at this round
 pub record IsState (s : State) : Type 0 where
-  pub served : is_served s.tables ≡ true
   pub clusters : length s.outstanding ≡ length (clusters_of s.tables)
   pub flows : length s.buckets ≡ length s.tables.flows
+  pub paces : map (λ calendar. calendar.pace) s.calendars ≡ map (pace_of s.tables) s.tables.channels
+  pub rounds : AllByRecursion (λ calendar. calendar.next_round ≡ s.round) s.calendars
+
+-- how many occurrences the calendars have settled so far, granted or missed
+abbrev pub settled_by : State → ℕ
+settled_by s = sum_by settled_in s.calendars
+
+-- the most of them: there are at most 16 channels
+abbrev pub max_settled_by : ℕ
+max_settled_by = 16 * max_settled
 
 -- a grant is of a cluster and a flow that are there
 pub record IsKnown (clusters flows : ℕ) (g : Grant) : Type 0 where
@@ -32,4 +41,4 @@ pub record AreSound (s : State) (builds : List Built) : Type 0 where
   pub covers : Covers s.outstanding s.buckets (all_grants builds)
   pub boards : AllByRecursion (IsBuiltFor s.tables) builds
   pub inside : AllByRecursion AreInside builds
-  pub few : AllByRecursion (λ b. length b.grants ≤ b.board.standing) builds
+  pub few : AllByRecursion (λ b. granted_in b.settled + length b.grants ≤ b.board.standing) builds

@@ -1,12 +1,13 @@
-ghost use Rattle.std.specs.Prelude.{◌≡◌, ◌+◌, ◌*◌, ◌++◌, ◌≤◌, length, map, option_to_list, IfOk, OnOk};
+ghost use Rattle.std.specs.Prelude.{◌≡◌, ◌+◌, ◌*◌, ◌++◌, ◌≤◌, length, map, option_to_list, sum_by, IfOk, OnOk};
 ghost use Rattle.std.specs.List.{AllByRecursion};
 ghost use Rattle.us_slots.specs.Times.{minislot_ticks};
 ghost use Rattle.us_flows.specs.Lawful.{IsChannel};
-ghost use Rattle.us_flows.specs.Tables;
+ghost use Rattle.us_flows.specs.Tables.{max_run_ticks};
+ghost use Rattle.us_calendar.specs.Calendars.{pace_of, settled_in};
 ghost use Rattle.us_holes.specs.Boards.{free_count};
 ghost use Rattle.us_round.specs.Claims as kept;
+ghost use Rattle.us_round.specs.Cores.{AreCalendars, IsFilledFor, settled_now, settled_then};
 ghost use Rattle.us_round.specs.Placements.{with_grant};
-ghost use Rattle.us_round.specs.Reserves as reserved;
 ghost use Rattle.us_round.specs.Rounds as spec;
 
 use crate::claims::claim_on;
@@ -14,22 +15,30 @@ use crate::placing::{Grant, place};
 use crate::reserving::reserves;
 use std::alloc::Global;
 use std::marker::Model;
+use us_calendar::{Calendar, Settled};
 use us_flows::{Channel, Config};
 use us_holes::Board;
 use us_slots::{MAX_MAP_TICKS, NoMemory};
 use us_split::TurnShares;
 
-/// A channel whose reserves stand.
+/// A channel whose reserves stand, and what its calendar settled.
 #[derive(Drop)]
 pub(crate) struct Filled {
     pub channel: Channel,
     pub board: Board,
+    pub calendar: Calendar,
+    pub settled: Vec<Settled>,
 }
 
 impl Model for Filled {
     ghost Value = { spec.Filled };
 
-    ghost view = { λ f. record { channel = f.channel; board = f.board } };
+    ghost view = { λ f. record {
+      channel = f.channel;
+      board = f.board;
+      calendar = f.calendar;
+      settled = f.settled.items;
+    } };
 }
 
 /// A channel whose claims are placed.
@@ -37,13 +46,21 @@ impl Model for Filled {
 pub(crate) struct Built {
     pub channel: Channel,
     pub board: Board,
+    pub calendar: Calendar,
+    pub settled: Vec<Settled>,
     pub grants: Vec<Grant>,
 }
 
 impl Model for Built {
     ghost Value = { spec.Built };
 
-    ghost view = { λ b. record { channel = b.channel; board = b.board; grants = b.grants.items } };
+    ghost view = { λ b. record {
+      channel = b.channel;
+      board = b.board;
+      calendar = b.calendar;
+      settled = b.settled.items;
+      grants = b.grants.items;
+    } };
 }
 
 impl Filled {
@@ -64,33 +81,56 @@ impl Built {
     }
 }
 
-/// The channels of a round in table order, with their reserves.
-pub(crate) fn fill_all(alloc: Global, config: &Config, round: u32) -> Result<Vec<Filled>, NoMemory>
-    ensures value { IfOk result (λ all. all.items ≡ spec.filled config.now round) }
-    ensures lens { IfOk result (λ all. AllByRecursion
-        (λ filled. length filled.board.cells ≡ Tables.map_len config.now filled.channel) all.items) }
+/// The channels of a round in table order, each after its reserves and its calendar.
+pub(crate) fn fill_all(
+    alloc: Global,
+    config: &Config,
+    round: u32,
+    calendars: Vec<Calendar>,
+) -> Result<Vec<Filled>, NoMemory>
+    requires calendars { AreCalendars config.now round calendars.items }
+    requires time { (round + 1) * config.now.round_ticks ≤ max_run_ticks }
+    ensures value { IfOk result (λ all. all.items ≡ spec.filled config.now round calendars.items) }
+    ensures sound { IfOk result (λ all. AllByRecursion (IsFilledFor config.now) all.items) }
+    ensures counts { IfOk result (λ all.
+        settled_now all.items + sum_by settled_in calendars.items ≡ settled_then all.items) }
 {
     let channels = config.channels();
     let mut all = Vec::with_capacity(alloc, channels.len())?;
-    for channel in channels {
-        all.push(fill(alloc, config, channel, round)?)?;
+    for calendar in calendars {
+        let place = all.len();
+        all.push(fill(alloc, config, &channels[place], calendar, round)?)?;
     }
     Ok(all)
 }
 
-/// A channel with the reserves of a round.
-fn fill(alloc: Global, config: &Config, channel: &Channel, round: u32) -> Result<Filled, NoMemory>
-    requires { IsChannel config.now channel.now }
-    ensures value { IfOk result (λ filled. filled ≡ record {
-      channel = channel.now;
-      board = reserved.reserves channel.now (Tables.map_len config.now channel.now) round;
-    }) }
-    ensures len { IfOk result (λ filled. length filled.board.cells ≡ Tables.map_len config.now filled.channel) }
+/// A channel with the reserves of a round, and with what its calendar settles then.
+pub(crate) fn fill(
+    alloc: Global,
+    config: &Config,
+    channel: &Channel,
+    calendar: Calendar,
+    round: u32,
+) -> Result<Filled, NoMemory>
+    requires channel { IsChannel config.now channel.now }
+    requires pace { calendar.pace ≡ pace_of config.now channel.now }
+    requires next { calendar.next_round ≡ round }
+    requires time { (round + 1) * config.now.round_ticks ≤ max_run_ticks }
+    ensures value { IfOk result (λ filled. filled ≡ spec.fill config.now round channel.now calendar) }
+    ensures sound { IfOk result (IsFilledFor config.now) }
+    ensures counts { IfOk result (λ filled.
+        length filled.settled + settled_in calendar ≡ settled_in filled.calendar) }
 {
-    let board = reserves(alloc, channel, config.map_len(channel), round)?;
+    let mut calendar = calendar;
+    let mut board = reserves(alloc, channel, config.map_len(channel), round)?;
+    let settled = calendar.run(alloc, round, &mut board)?;
+    // Asked for what it tells of the calendar: how much it may have settled.
+    let _ = calendar.next_round();
     Ok(Filled {
         channel: *channel,
         board,
+        calendar,
+        settled,
     })
 }
 
@@ -124,7 +164,12 @@ pub(crate) fn build_on(
     ensures value { IfOk result (λ built. built ≡ kept.kept_build config.now plan.now filled) }
     ensures len { IfOk result (λ built. length built.board.cells ≡ length filled.board.cells) }
 {
-    let Filled { channel, mut board } = filled;
+    let Filled {
+        channel,
+        mut board,
+        calendar,
+        settled,
+    } = filled;
     let mut grants = Vec::new(alloc);
     for turn in plan {
         grant_turn(config, &channel, turn, &mut board, &mut grants)?;
@@ -132,6 +177,8 @@ pub(crate) fn build_on(
     Ok(Built {
         channel,
         board,
+        calendar,
+        settled,
         grants,
     })
 }
@@ -157,4 +204,16 @@ fn grant_turn(
         grants.push(grant)?;
     }
     Ok(())
+}
+
+/// The calendars of channels, which are given up.
+pub(crate) fn calendars_of(alloc: Global, built: Vec<Built>) -> Result<Vec<Calendar>, NoMemory>
+    ensures { IfOk result (λ all. all.items ≡ map (λ b. b.calendar) built.items) }
+{
+    let mut all = Vec::with_capacity(alloc, built.len())?;
+    for part in built {
+        let Built { calendar, .. } = part;
+        all.push(calendar)?;
+    }
+    Ok(all)
 }

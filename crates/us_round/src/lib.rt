@@ -11,9 +11,6 @@
 //! What these are stands in `specs/`, in the order of its `Lib.antt`.
 #![tactic(auto)]
 
-// Which configurations are served so far.
-mod served;
-
 // Every refusal.
 mod faults;
 
@@ -50,7 +47,10 @@ mod round_outs;
 // Laws of what a round gives.
 mod output_laws;
 
-// What a round starts from.
+// What a round starts from: all but the calendars,
+mod cores;
+
+// and all of it.
 mod states;
 
 // The round.
@@ -61,7 +61,6 @@ pub use output_laws::{lines_are_of_grants, lines_bear_round};
 pub use round_outs::RoundOut;
 pub use rounds::round;
 pub use rows::{Entry, Row};
-pub use served::is_served;
 pub use states::State;
 
 #[cfg(test)]

@@ -2,12 +2,12 @@
 
 ghost use Rattle.us_round.specs.OutputLaws.{ByStartMoves, LinesBearRound};
 
-/// The lines of a channel are of its grants, each once, in the order of their starts.
+/// Lines of grants in the order of their starts are the same lines, each once.
 pub fn lines_are_of_grants()
     ensures { ByStartMoves }
 {}
 
-/// Each of them bears the number of the round and the id of the channel.
+/// Each line of a channel bears the number of the round and the id of the channel.
 pub fn lines_bear_round()
     ensures { LinesBearRound }
 {}

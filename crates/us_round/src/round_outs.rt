@@ -41,7 +41,7 @@ impl RoundOut {
         &self.maps
     }
 
-    /// The lines of its grants: channels in table order, and on each the grants by their start.
+    /// The lines: channels in table order, and on each those of grants by their start, then those of what was missed.
     pub fn rows(&self) -> &[Row]
         ensures { result.now ≡ self.now.rows }
     {

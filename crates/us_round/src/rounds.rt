@@ -1,4 +1,4 @@
-ghost use Rattle.std.specs.Prelude.{◌≡◌, ◌+◌, ◌*◌, ◌^◌, ◌<◌, ◌≤◌, length, map, zip, IfOk, OnOk};
+ghost use Rattle.std.specs.Prelude.{◌≡◌, ◌+◌, ◌*◌, ◌^◌, ◌<◌, ◌≤◌, length, map, sum_by, zip, IfOk, OnOk};
 ghost use Rattle.std.specs.List.{AllByRecursion};
 ghost use Rattle.us_flows.specs.Tables.{max_run_ticks};
 ghost use Rattle.us_flows.specs.Clusters.{clusters_of};
@@ -7,11 +7,15 @@ ghost use Rattle.us_flows.specs.Lawful.{AreTables};
 ghost use Rattle.us_split.specs.Plans.{IsIdle};
 ghost use Rattle.us_split.specs.PlanLaws.{IsLawfulPlan};
 ghost use Rattle.us_split.specs.Shares.{with_shares};
+ghost use Rattle.us_calendar.specs.Calendars.{settled_in};
+ghost use Rattle.us_round.specs.Cores.{AreCalendars, AreCounted, with_calendars, plan_over, scheduled_of};
+ghost use Rattle.us_round.specs.Leftovers.{AreInside, IsBuiltFor};
 ghost use Rattle.us_round.specs.Rounds as spec;
 ghost use Rattle.us_round.specs.Outputs.{out_of, AreWithinLimits};
-ghost use Rattle.us_round.specs.States.{AreSound};
+ghost use Rattle.us_round.specs.States.{AreSound, settled_by};
 
-use crate::building::{Built, Filled, build_all, fill_all};
+use crate::building::{Built, Filled, build_all, calendars_of, fill_all};
+use crate::cores::Core;
 use crate::faults::RoundFault;
 use crate::mapping::maps_of;
 use crate::pendings::pending_seats;
@@ -19,6 +23,7 @@ use crate::reporting::rows_of;
 use crate::round_outs::RoundOut;
 use crate::states::State;
 use std::alloc::Global;
+use us_calendar::Calendar;
 use us_slots::NoMemory;
 use us_split::{Plan, plan};
 
@@ -39,69 +44,107 @@ pub fn round(alloc: Global, state: State, cuts: &[u64]) -> Result<(State, RoundO
     ensures sound { IfOk result (λ _. let begun : spec.State = spec.begun state cuts.now in
         AreSound begun (spec.builds_of begun)) }
 
-    // No MAP passes 100 assignments, 38 pendings, 240 elements or 976 bytes, so a channel has at most 100 lines.
+    // No MAP passes 100 assignments, 38 pendings, 240 elements or 976 bytes, so a channel has at most 100 lines of
+    // requested grants; all other lines are of what the calendars settled.
     ensures limits { IfOk result (λ done.
         AreWithinLimits state.tables (spec.round_of state cuts.now).scheduled) }
-    ensures few { IfOk result (λ done. length done.1.rows ≤ 100 * length state.tables.channels) }
+    ensures few { IfOk result (λ done. length done.1.rows + settled_by state ≤
+        100 * length state.tables.channels + settled_by done.0) }
 {
-    let mut state = state;
-    state.begin(cuts);
-    let out = run(alloc, &mut state)?;
-    Ok((state, out))
+    let (mut core, calendars) = state.into_parts();
+    core.begin(cuts);
+    let done = run(alloc, core, calendars)?;
+    Ok(done)
 }
 
 /// Runs a round that has begun.
-fn run(alloc: Global, state: &mut State) -> Result<RoundOut, NoMemory>
-    requires lawful { AreTables state.old.tables }
-    requires time { (state.old.round + 1) * state.old.tables.round_ticks ≤ max_run_ticks }
-    ensures state { OnOk result (state.new ≡ (spec.round_from state.old).state) }
-    ensures out { IfOk result (λ out. out ≡ out_of state.old.tables (spec.round_from state.old).scheduled) }
-    ensures sound { OnOk result (AreSound state.old (spec.builds_of state.old)) }
-    ensures limits { OnOk result (AreWithinLimits state.old.tables (spec.round_from state.old).scheduled) }
-    ensures few { IfOk result (λ out. length out.rows ≤ 100 * length state.old.tables.channels) }
+fn run(
+    alloc: Global,
+    core: Core,
+    calendars: Vec<Calendar>,
+) -> Result<(State, RoundOut), NoMemory>
+    requires lawful { AreTables core.tables }
+    requires time { (core.round + 1) * core.tables.round_ticks ≤ max_run_ticks }
+    requires calendars { AreCalendars core.tables core.round calendars.items }
+    ensures state { IfOk result (λ done. done.0 ≡ (spec.round_from (with_calendars core calendars.items)).state) }
+    ensures out { IfOk result (λ done. done.1 ≡
+        out_of core.tables (spec.round_from (with_calendars core calendars.items)).scheduled) }
+    ensures sound { let s : spec.State = with_calendars core calendars.items in OnOk result (AreSound s (spec.builds_of s)) }
+    ensures limits { OnOk result
+        (AreWithinLimits core.tables (spec.round_from (with_calendars core calendars.items)).scheduled) }
+    ensures few { IfOk result (λ done. length done.1.rows + sum_by settled_in calendars.items ≤
+        100 * length core.tables.channels + settled_by done.0) }
 {
-    let round = state.round();
-    let before = state.demands(alloc)?;
-    let built = build(alloc, state, &before)?;
-    state.close(&built);
-    let config = state.config();
-    let seats = pending_seats(alloc, config, &before, state.outstanding())?;
-    let maps = maps_of(alloc, config, round, &built, &seats)?;
-    let rows = rows_of(alloc, round, &built)?;
+    let mut core = core;
+    let round = core.round();
+    let before = core.demands(alloc)?;
+    let built = build(alloc, &core, &before, calendars)?;
+    core.close(&built);
+    let out = report(alloc, &core, round, &before, &built)?;
+    let calendars = calendars_of(alloc, built)?;
+    Ok((State::of(core, calendars), out))
+}
+
+/// What a round gives of its channels, and of what was outstanding before it and is left after it.
+fn report(
+    alloc: Global,
+    core: &Core,
+    round: u32,
+    before: &[u64],
+    built: &[Built],
+) -> Result<RoundOut, NoMemory>
+    requires built { AllByRecursion (IsBuiltFor core.now.tables) built.now }
+    requires inside { AllByRecursion AreInside built.now }
+    requires time { (round + 1) * core.now.tables.round_ticks ≤ max_run_ticks }
+    ensures out { IfOk result (λ out. out ≡
+        out_of core.now.tables (scheduled_of core.now round before.now built.now)) }
+    ensures limits { OnOk result (AreWithinLimits core.now.tables (scheduled_of core.now round before.now built.now)) }
+{
+    let config = core.config();
+    let seats = pending_seats(alloc, config, before, core.outstanding())?;
+    let maps = maps_of(alloc, config, round, built, &seats)?;
+    let rows = rows_of(alloc, round, built)?;
     Ok(RoundOut::new(round, maps, rows))
 }
 
-/// The channels of a round that has begun, with all claims placed: the boards with their reserves are planned together,
-/// and built one by one.
-fn build(alloc: Global, state: &State, demands: &[u64]) -> Result<Vec<Built>, NoMemory>
-    requires demands { demands.now ≡ state.now.outstanding }
-    ensures value { IfOk result (λ built. built.items ≡ spec.builds_of state.now) }
-    ensures sound { OnOk result (AreSound state.now (spec.builds_of state.now)) }
+/// The channels of a round that has begun, with all claims placed: boards are planned together, once reserves and
+/// calendars have their minislots, and built one by one.
+fn build(
+    alloc: Global,
+    core: &Core,
+    demands: &[u64],
+    calendars: Vec<Calendar>,
+) -> Result<Vec<Built>, NoMemory>
+    requires demands { demands.now ≡ core.now.outstanding }
+    requires calendars { AreCalendars core.now.tables core.now.round calendars.items }
+    requires time { (core.now.round + 1) * core.now.tables.round_ticks ≤ max_run_ticks }
+    ensures value { IfOk result (λ built. built.items ≡ spec.builds_of (with_calendars core.now calendars.items)) }
+    ensures sound { let s : spec.State = with_calendars core.now calendars.items in OnOk result (AreSound s (spec.builds_of s)) }
+    ensures counts { IfOk result (λ built. AreCounted calendars.items built.items) }
 {
-    let config = state.config();
-    let filled = fill_all(alloc, config, state.round())?;
-    let plan = plan_round(alloc, state, demands, &filled)?;
+    let config = core.config();
+    let filled = fill_all(alloc, config, core.round(), calendars)?;
+    let plan = plan_round(alloc, core, demands, &filled)?;
     build_all(alloc, config, plan.turns(), filled)
 }
 
-/// The plan of a round that has begun, over boards with their reserves.
+/// The plan of a round that has begun, over boards with reserves and calendars.
 fn plan_round(
     alloc: Global,
-    state: &State,
+    core: &Core,
     demands: &[u64],
     filled: &[Filled],
 ) -> Result<Plan, NoMemory>
-    requires demands { demands.now ≡ state.now.outstanding }
-    requires filled { filled.now ≡ spec.filled state.now.tables state.now.round }
-    requires room { IsIdle state.now.tables (spec.idle filled.now) }
-    ensures value { IfOk result (λ plan. plan ≡ with_shares 0 (spec.round_plan state.now)) }
-    ensures law { OnOk result (IsLawfulPlan state.now.tables state.now.outstanding (map bytes_in state.now.buckets)
-        (spec.idle filled.now) (spec.round_plan state.now)) }
-    ensures lawful { OnOk result (AreTables state.now.tables) }
+    requires demands { demands.now ≡ core.now.outstanding }
+    requires room { IsIdle core.now.tables (spec.idle filled.now) }
+    ensures value { IfOk result (λ plan. plan ≡ with_shares 0 (plan_over core.now filled.now)) }
+    ensures law { OnOk result (IsLawfulPlan core.now.tables core.now.outstanding (map bytes_in core.now.buckets)
+        (spec.idle filled.now) (plan_over core.now filled.now)) }
+    ensures lawful { OnOk result (AreTables core.now.tables) }
 {
-    let allowances = state.allowances(alloc)?;
+    let allowances = core.allowances(alloc)?;
     let idle = idle_of(alloc, filled)?;
-    plan(alloc, state.config(), demands, &allowances, &idle)
+    plan(alloc, core.config(), demands, &allowances, &idle)
 }
 
 /// The idle minislots of each channel.

@@ -1,83 +1,82 @@
-ghost use Rattle.std.specs.Prelude.{◌≡◌, ◌+◌, ◌^◌, ◌<◌, ◌≤◌, true, length, map, replicate, zip, IfOk};
-ghost use Rattle.std.specs.List.{AllByRecursion};
-ghost use Rattle.us_flows.specs.Clusters.{clusters_of};
-ghost use Rattle.us_flows.specs.Lawful.{AreTables};
-ghost use Rattle.us_bucket.specs.Levels.{bytes_in, full, refilled};
+ghost use Rattle.std.specs.Prelude.{◌≡◌, ◌≤◌, map, IfOk};
+ghost use Rattle.us_calendar.specs.Calendars as calendars;
+ghost use Rattle.us_round.specs.Cores.{AreCalendars, with_calendars};
 ghost use Rattle.us_round.specs.Rounds as spec;
 ghost use Rattle.us_round.specs.Outputs.{final_rows};
-ghost use Rattle.us_round.specs.Served.{is_served};
-ghost use Rattle.us_round.specs.States.{IsState, Covers};
+ghost use Rattle.us_round.specs.States.{IsState, settled_by, max_settled_by};
 
-use crate::building::Built;
+use crate::cores::Core;
 use crate::faults::RoundFault;
 use crate::reporting;
 use crate::rows::Row;
 use std::alloc::Global;
 use std::marker::Model;
-use us_bucket::Bucket;
-use us_flows::{Config, Flow};
-use us_requests::ClusterState;
+use us_calendar::Calendar;
+use us_flows::Config;
 use us_slots::NoMemory;
 
-// What grants take of it.
-mod crediting;
-
-use crediting::credit_all;
-
-/// What a round starts from: the configuration, the number of the round, what is outstanding of each SID cluster, and
-/// the bucket of each flow.
+/// What a round starts from: the configuration, the number of the round, what is outstanding of each SID cluster, the
+/// bucket of each flow, and the calendar of each channel.
 pub struct State {
-    config: Config,
-    round: u32,
-    outstanding: Vec<ClusterState>,
-    buckets: Vec<Bucket>,
+    core: Core,
+    calendars: Vec<Calendar>,
 }
 
 impl Model for State {
     ghost Value = { spec.State };
 
-    ghost view = { λ s. record {
-      tables = s.config;
-      round = s.round;
-      outstanding = s.outstanding.items;
-      buckets = s.buckets.items;
-    } };
+    ghost view = { λ s. with_calendars s.core s.calendars.items };
 
-    ghost invariant = { λ s. IsState (record {
-      tables = s.config;
-      round = s.round;
-      outstanding = s.outstanding.items;
-      buckets = s.buckets.items;
-    }) };
+    ghost invariant = { λ s. IsState (with_calendars s.core s.calendars.items)
+        × (settled_by (with_calendars s.core s.calendars.items) ≤ max_settled_by) };
 }
 
 /// Gives the state up. It is written out so that it is one step wherever a state ends.
 impl Drop for State {
     fn drop(self) {
         let State {
-            config: _,
-            round: _,
-            outstanding: _,
-            buckets: _,
+            core: _,
+            calendars: _,
         } = self;
     }
 }
 
 impl State {
-    /// Before round 0: nothing is outstanding, and every bucket is full. So far the configuration has to be one that
-    /// is served, as [`crate::is_served`] says. The fault is want of memory, and the configuration is given up then.
+    /// Before round 0: nothing is outstanding, every bucket is full, and nothing of the calendars is settled. The fault
+    /// is want of memory, and the configuration is given up then.
     pub fn new(alloc: Global, config: Config) -> Result<State, RoundFault>
-        requires served { is_served config ≡ true }
         ensures { IfOk result (λ state. state ≡ spec.opening config) }
     {
-        let outstanding = nothing_outstanding(alloc, config.clusters())?;
-        let buckets = full_buckets(alloc, config.flows())?;
-        Ok(State {
-            config,
-            round: 0,
-            outstanding,
-            buckets,
-        })
+        let calendars = calendars_of(alloc, &config)?;
+        let core = Core::new(alloc, config)?;
+        Ok(State::of(core, calendars))
+    }
+
+    /// The state of a core and of its calendars.
+    pub(crate) fn of(core: Core, calendars: Vec<Calendar>) -> State
+        requires state { IsState (with_calendars core calendars.items) }
+        requires few { settled_by (with_calendars core calendars.items) ≤ max_settled_by }
+        ensures { result ≡ with_calendars core calendars.items }
+    {
+        State { core, calendars }
+    }
+
+    /// Its core and its calendars.
+    pub(crate) fn into_parts(self) -> (Core, Vec<Calendar>)
+        ensures value { with_calendars result.0 result.1.items ≡ self }
+        ensures calendars { AreCalendars self.tables self.round result.1.items }
+    {
+        let State { core, calendars } = self;
+        (core, calendars)
+    }
+
+    /// All but its calendars.
+    pub(crate) fn core(&self) -> &Core
+        ensures tables { result.now.tables ≡ self.now.tables }
+        ensures outstanding { result.now.outstanding ≡ self.now.outstanding }
+        ensures buckets { result.now.buckets ≡ self.now.buckets }
+    {
+        &self.core
     }
 
     /// The F lines: of each SID cluster in table order what is outstanding, and the units of its flow's bucket.
@@ -85,129 +84,30 @@ impl State {
     pub fn finals(&self, alloc: Global) -> Result<Vec<Row>, RoundFault>
         ensures { IfOk result (λ rows. rows.items ≡ final_rows self.now) }
     {
-        let outstanding = self.outstanding();
-        let rows = reporting::final_rows(alloc, self.config(), outstanding, self.buckets())?;
+        let core = self.core();
+        let rows = reporting::final_rows(alloc, core.config(), core.outstanding(), core.buckets())?;
         Ok(rows)
-    }
-
-    /// The configuration.
-    pub(crate) fn config(&self) -> &Config
-        ensures value { result.now ≡ self.now.tables }
-        ensures known { IsState self.now }
-    {
-        &self.config
     }
 
     /// The number of the next round.
     pub fn round(&self) -> u32
-        ensures { result ≡ self.now.round }
-    {
-        self.round
-    }
-
-    /// What is outstanding of each cluster.
-    pub(crate) fn outstanding(&self) -> &[ClusterState]
-        ensures value { result.now ≡ self.now.outstanding }
+        ensures value { result ≡ self.now.round }
         ensures known { IsState self.now }
+        ensures few { settled_by self.now ≤ max_settled_by }
     {
-        &self.outstanding
-    }
-
-    /// The bucket of each flow.
-    fn buckets(&self) -> &[Bucket]
-        ensures { result.now ≡ self.now.buckets }
-    {
-        &self.buckets
-    }
-
-    /// The outstanding bytes of each cluster.
-    pub(crate) fn demands(&self, alloc: Global) -> Result<Vec<u64>, NoMemory>
-        ensures value { IfOk result (λ bytes. bytes.items ≡ self.now.outstanding) }
-        ensures known { IsState self.now }
-    {
-        let mut bytes = Vec::with_capacity(alloc, self.outstanding.len())?;
-        for state in &self.outstanding {
-            bytes.push(state.outstanding())?;
-        }
-        Ok(bytes)
-    }
-
-    /// The bytes that the bucket of each flow allows.
-    pub(crate) fn allowances(&self, alloc: Global) -> Result<Vec<Option<u64>>, NoMemory>
-        ensures value { IfOk result (λ most. most.items ≡ map bytes_in self.now.buckets) }
-        ensures known { IsState self.now }
-    {
-        let mut most = Vec::with_capacity(alloc, self.buckets.len())?;
-        for bucket in &self.buckets {
-            most.push(bucket.bytes())?;
-        }
-        Ok(most)
-    }
-
-    /// Begins the round: each cluster asks for the bytes of its cut, and in every round but the first the buckets grow.
-    pub(crate) fn begin(&mut self, cuts: &[u64])
-        requires clusters { length cuts.now ≡ length (clusters_of self.old.tables) }
-        requires room { AllByRecursion (λ pair. pair.0 + pair.1 < 2 ^ 62) (zip self.old.outstanding cuts.now) }
-        ensures value { self.new ≡ spec.begun self.old cuts.now }
-        ensures lawful { AreTables self.old.tables }
-    {
-        let ticks = self.config.round_ticks();
-        let outstanding = self.outstanding.as_mut_slice();
-        add_all(outstanding, cuts);
-        if self.round > 0 {
-            let buckets = self.buckets.as_mut_slice();
-            refill_all(buckets, ticks);
-        }
-    }
-
-    /// Ends the round: what was granted leaves the outstanding bytes and the buckets.
-    pub(crate) fn close(&mut self, built: &[Built])
-        requires covers { Covers self.old.outstanding self.old.buckets (spec.all_grants built.now) }
-        requires round { self.old.round + 1 < 2 ^ 32 }
-        ensures { self.new ≡ spec.credited self.old (spec.all_grants built.now) }
-    {
-        let outstanding = self.outstanding.as_mut_slice();
-        let buckets = self.buckets.as_mut_slice();
-        credit_all(outstanding, buckets, built);
-        self.round += 1;
+        self.core.round()
     }
 }
 
-/// So many clusters of which nothing is outstanding.
-fn nothing_outstanding(alloc: Global, clusters: usize) -> Result<Vec<ClusterState>, NoMemory>
-    ensures { IfOk result (λ states. states.items ≡ replicate clusters 0) }
+/// The calendar of each channel, before round 0.
+fn calendars_of(alloc: Global, config: &Config) -> Result<Vec<Calendar>, NoMemory>
+    ensures { IfOk result (λ all. all.items ≡ map (calendars.opening config.now) config.now.channels) }
 {
-    Ok(vec![in alloc; ClusterState::new(); clusters]?)
-}
-
-/// The bucket of each flow in round 0.
-fn full_buckets(alloc: Global, flows: &[Flow]) -> Result<Vec<Bucket>, NoMemory>
-    ensures { IfOk result (λ buckets. buckets.items ≡ map (λ flow. full flow.rate flow.burst) flows.now) }
-{
-    let mut buckets = Vec::with_capacity(alloc, flows.len())?;
-    for flow in flows {
-        buckets.push(Bucket::full(flow.rate(), flow.burst()))?;
+    let channels = config.channels().len();
+    let mut all = Vec::with_capacity(alloc, channels)?;
+    for place in 0..channels {
+        let calendar = Calendar::new(alloc, config, place)?;
+        all.push(calendar)?;
     }
-    Ok(buckets)
-}
-
-/// Adds to the outstanding bytes of each cluster those of its cut.
-fn add_all(outstanding: &mut [ClusterState], cuts: &[u64])
-    requires clusters { length outstanding.old ≡ length cuts.now }
-    requires room { AllByRecursion (λ pair. pair.0 + pair.1 < 2 ^ 62) (zip outstanding.old cuts.now) }
-    ensures { outstanding.new ≡ spec.asked outstanding.old cuts.now }
-{
-    for place in 0..cuts.len() {
-        outstanding[place].add(cuts[place]);
-    }
-}
-
-/// Lets every bucket grow by what so many ticks bring.
-fn refill_all(buckets: &mut [Bucket], ticks: u32)
-    requires { ticks ≤ 4096 }
-    ensures { buckets.new ≡ map (refilled ticks) buckets.old }
-{
-    for place in 0..buckets.len() {
-        buckets[place].refill(ticks);
-    }
+    Ok(all)
 }

@@ -1,5 +1,6 @@
 //! What no clause says: worked rounds, and each allocation refused in turn.
 
 mod base;
+mod calendars;
 mod memory;
 mod rounds;

@@ -1,7 +1,7 @@
 ghost use Rattle.std.specs.Prelude.{◌+◌, ◌^◌, ◌<◌, zip, IsTrue};
 ghost use Rattle.std.specs.List.{AllByRecursion};
 
-use crate::{RoundFault, RoundOut, Row, State, is_served, round};
+use crate::{RoundFault, RoundOut, Row, State, round};
 use std::alloc::{AllocError, Global};
 use std::process::Abort;
 use us_codec::Map;
@@ -43,6 +43,10 @@ pub(super) struct Case<'a> {
     pub(super) flows: u16,
     /// Whether they have two clusters each, or one.
     pub(super) two_clusters: bool,
+    /// What else stands in the configuration, behind these flows.
+    pub(super) more: &'a str,
+    /// Whether lines are told whole, and MAPs by the words of their elements.
+    pub(super) whole: bool,
     pub(super) rounds: u32,
     /// The bytes that the first cluster asks for, and each other one.
     pub(super) asks: (u64, u64),
@@ -93,6 +97,7 @@ fn text_of(alloc: Global, case: &Case<'_>) -> Result<String, AllocError> {
     for id in 2..=case.flows {
         push_flow(&mut text, id, case.two_clusters)?;
     }
+    text.push_str(case.more)?;
     Ok(text)
 }
 
@@ -132,16 +137,17 @@ fn run(
     config: Config,
     case: &Case<'_>,
 ) -> Result<(), RoundFault> {
-    if !is_served(&config) {
-        return Err(RoundFault::NoMemory);
-    }
     let clusters = config.clusters();
     let mut state = State::new(alloc, config)?;
     for number in 0..case.rounds {
         let cut = cut_of(alloc, case, number, clusters)?;
         let (next, out) = next_round(alloc, state, &cut)?;
         state = next;
-        tell_round(answer, &out)?;
+        if case.whole {
+            tell_whole(answer, &out)?;
+        } else {
+            tell_round(answer, &out)?;
+        }
     }
     let finals = state.finals(alloc)?;
     tell_rows(answer, &finals)?;
@@ -154,9 +160,10 @@ pub(super) fn next_round(
     state: State,
     cut: &[u64],
 ) -> Result<(State, RoundOut), RoundFault> {
-    let config = state.config();
+    let core = state.core();
+    let config = core.config();
     let end = (u64::from(state.round()) + 1) * u64::from(config.round_ticks());
-    if cut.len() == config.clusters() && end <= 1 << 26 && have_room(state.outstanding(), cut) {
+    if cut.len() == config.clusters() && end <= 1 << 26 && have_room(core.outstanding(), cut) {
         round(alloc, state, cut)
     } else {
         Err(RoundFault::NoMemory)
@@ -229,4 +236,64 @@ fn tell_row(answer: &mut String, row: &Row) -> Result<(), AllocError> {
         } => write!(answer, "left {outstanding} {units:?}, "),
         _ => write!(answer, "{row:?}, "),
     }
+}
+
+/// The round's lines, the first four and the last three of many, and of each MAP the words of its elements.
+fn tell_whole(answer: &mut String, out: &RoundOut) -> Result<(), NoMemory> {
+    let rows = out.rows();
+    for row in &rows[..rows.len().min(4)] {
+        tell_line(answer, row)?;
+    }
+    if rows.len() > 4 {
+        write!(answer, ".. {} ", rows.len())?;
+        for row in &rows[rows.len() - 3..] {
+            tell_line(answer, row)?;
+        }
+    }
+    for map in out.maps() {
+        tell_words(answer, map)?;
+    }
+    Ok(())
+}
+
+/// A G or an M line, but for the word of its entry.
+fn tell_line(answer: &mut String, row: &Row) -> Result<(), AllocError> {
+    match row {
+        Row::Granted {
+            round,
+            channel,
+            entry,
+            id,
+            i,
+            k,
+            sid,
+            iuc,
+            start,
+            slots,
+            credit,
+        } => write!(
+            answer,
+            "G,{round},{channel},{entry:?},{id},{i},{k},{sid},{iuc},{start},{slots},{credit} "
+        ),
+        Row::Missed {
+            round,
+            channel,
+            entry,
+            id,
+            i,
+            k,
+        } => write!(answer, "M,{round},{channel},{entry:?},{id},{i},{k} "),
+        _ => write!(answer, "{row:?} "),
+    }
+}
+
+/// The words of a MAP's elements, at most six.
+fn tell_words(answer: &mut String, map: &Map) -> Result<(), NoMemory> {
+    let elements = map.elements();
+    for element in &elements[..elements.len().min(6)] {
+        let owner = u64::from(element.sid()) * 16 + u64::from(element.iuc().number());
+        write!(answer, "{:08x} ", owner * 16384 + u64::from(element.offset()))?;
+    }
+    write!(answer, "; ")?;
+    Ok(())
 }

@@ -16,6 +16,8 @@ unit = 4
 headers = true",
     flows: 1,
     two_clusters: false,
+    more: "",
+    whole: false,
     rounds: 2,
     asks: (8000, 2000),
     answer: "0: MAP 3 0; MAP 3 0; 1: 1 0+126 4000, 1 126+24 744, 2 0+126 4000, 2 126+24 744, MAP 4 0; MAP 4 0; \

@@ -22,4 +22,6 @@ returns-clause-value c =
     c.loop-turn.board c.loop-turn.grants.items _ _ c.loop-turn-test.false c.loop-turn.invariant.grants
     c.loop-turn.invariant.board in
     let channel : c.filled.inside.channel ≡ c.args.filled.channel = ap (λ f. f.channel) c.filled.view_is in
-    rw (end.0, end.1, channel) refl
+    let calendar : c.filled.inside.calendar ≡ c.args.filled.calendar = ap (λ f. f.calendar) c.filled.view_is in
+    let settled : c.filled.inside.settled.items ≡ c.args.filled.settled = ap (λ f. f.settled) c.filled.view_is in
+    rw (end.0, end.1, channel, calendar, settled) refl

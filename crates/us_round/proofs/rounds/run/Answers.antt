@@ -1,42 +1,68 @@
-use Rattle.std.proofs.Common.{◌≡◌, ap, ◌∙◌}
-use Rattle.us_round.specs.Rounds.{round_from}
-use Rattle.us_round.proofs.RoundLemmas.{few_rounds, run_state, run_seats, run_out, run_limits, run_few}
+use Rattle.std.proofs.Common.{◌≡◌, ap, sym, ◌∙◌}
+use Rattle.us_round.specs.Rounds.{builds_of}
+use Rattle.us_round.specs.Cores.{with_calendars, credited_core}
+use Rattle.us_round.proofs.RoundLemmas.{few_rounds, run_state, run_out, run_limits, run_few}
+use Rattle.us_round.proofs.CalendarLemmas.{state_next, settled_few}
 use Rattle.us_round.proofs.rounds.run.Goals as goal
 
 pub close-requires-clause-round : goal.close-requires-clause-round
-close-requires-clause-round c = few_rounds c.args.state.now c.requires.lawful c.requires.time
+close-requires-clause-round c = few_rounds c.args.core c.requires.lawful c.requires.time
+
+pub report-requires-clause-built : goal.report-requires-clause-built
+report-requires-clause-built c =
+    rw (c.close.ensures, c.deref-4.ensures.value, c.in_ok-built.ensures.value) c.in_ok-built.ensures.sound.boards
+
+pub report-requires-clause-inside : goal.report-requires-clause-inside
+report-requires-clause-inside c =
+    rw (c.deref-4.ensures.value, c.in_ok-built.ensures.value) c.in_ok-built.ensures.sound.inside
+
+pub report-requires-clause-time : goal.report-requires-clause-time
+report-requires-clause-time c = rw (c.close.ensures, c.round-round.ensures) c.requires.time
+
+pub of-requires-clause-state : goal.of-requires-clause-state
+of-requires-clause-state c =
+    rw (c.close.ensures, c.deref-2.ensures.value, c.in_ok-calendars.ensures)
+    (state_next c.args.core c.args.calendars.items c.in_ok-built.built.items c.demands.ensures.known c.requires.calendars
+    c.in_ok-built.ensures.value)
+
+pub of-requires-clause-few : goal.of-requires-clause-few
+of-requires-clause-few c =
+    rw c.in_ok-calendars.ensures
+    (settled_few c.args.core c.args.calendars.items c.in_ok-built.built.items c.requires.lawful c.requires.calendars
+    c.in_ok-built.ensures.value c.in_ok-built.ensures.counts)
 
 pub returns-clause-state : goal.returns-clause-state
 returns-clause-state c =
-    c.close.ensures
-    ∙ run_state c.args.state.now c.deref-2.result.now (c.deref-2.ensures.value ∙ c.in_ok-built.ensures.value)
-
-seats : (c : goal.After-drop-before-2) → c.deref-5.result.now ≡ (round_from c.args.state.now).scheduled.pending
-seats c =
-    run_seats c.args.state.now c.config-config.result.now c.deref-2.result.now c.deref-3.result.now c.outstanding.result.now
-    c.deref-5.result.now (c.deref-2.ensures.value ∙ c.in_ok-built.ensures.value)
-    (c.config-config.ensures.value ∙ ap (λ s. s.tables) c.close.ensures)
-    (c.deref-3.ensures.value ∙ c.in_ok-before.ensures.value)
-    (c.outstanding.ensures.value ∙ ap (λ s. s.outstanding) c.close.ensures)
-    (c.deref-5.ensures.value ∙ c.in_ok-seats.ensures)
+    c.of.ensures
+    ∙ run_state c.args.core c.close.new.self c.args.calendars.items c.in_ok-calendars.calendars.items
+    c.in_ok-built.built.items c.in_ok-built.ensures.value
+    (c.close.ensures ∙ ap (λ bs. credited_core c.args.core bs) c.deref-2.ensures.value) c.in_ok-calendars.ensures
 
 pub returns-clause-out : goal.returns-clause-out
 returns-clause-out c =
-    run_out c.args.state.now c.config-config.result.now c.round-round.result c.deref-4.result.now c.deref-6.result.now
-    c.deref-5.result.now c.in_ok-maps.maps.items c.in_ok-rows.rows.items c.new.result
-    (c.config-config.ensures.value ∙ ap (λ s. s.tables) c.close.ensures) c.round-round.ensures
-    (c.deref-4.ensures.value ∙ c.in_ok-built.ensures.value) (c.deref-6.ensures.value ∙ c.in_ok-built.ensures.value)
-    (seats c) c.in_ok-maps.ensures.value c.in_ok-rows.ensures c.new.ensures
+    run_out c.args.core c.close.new.self c.args.calendars.items c.round-round.result c.deref-3.result.now
+    c.deref-4.result.now c.in_ok-out.out (c.deref-4.ensures.value ∙ c.in_ok-built.ensures.value)
+    (c.close.ensures ∙ ap (λ bs. credited_core c.args.core bs) (c.deref-2.ensures.value ∙ sym c.deref-4.ensures.value))
+    c.round-round.ensures (c.deref-3.ensures.value ∙ c.in_ok-before.ensures.value) c.in_ok-out.ensures.out
 
 pub returns-clause-limits : goal.returns-clause-limits
 returns-clause-limits c =
-    run_limits c.args.state.now c.config-config.result.now c.round-round.result c.deref-4.result.now c.deref-5.result.now
-    (c.config-config.ensures.value ∙ ap (λ s. s.tables) c.close.ensures) c.round-round.ensures
-    (c.deref-4.ensures.value ∙ c.in_ok-built.ensures.value) (seats c) c.in_ok-maps.ensures.limits
+    run_limits c.args.core c.close.new.self c.args.calendars.items c.round-round.result c.deref-3.result.now
+    c.deref-4.result.now (c.deref-4.ensures.value ∙ c.in_ok-built.ensures.value)
+    (c.close.ensures ∙ ap (λ bs. credited_core c.args.core bs) (c.deref-2.ensures.value ∙ sym c.deref-4.ensures.value))
+    c.round-round.ensures (c.deref-3.ensures.value ∙ c.in_ok-before.ensures.value) c.in_ok-out.ensures.limits
 
 pub returns-clause-few : goal.returns-clause-few
 returns-clause-few c =
-    run_few c.args.state.now c.config-config.result.now c.round-round.result c.round-round.result c.deref-4.result.now
-    c.deref-6.result.now c.deref-5.result.now c.in_ok-rows.rows.items c.new.result c.in_ok-maps.maps.items
-    (c.deref-4.ensures.value ∙ c.in_ok-built.ensures.value) (c.deref-6.ensures.value ∙ c.in_ok-built.ensures.value)
-    c.in_ok-built.ensures.sound c.in_ok-maps.ensures.limits c.in_ok-rows.ensures c.new.ensures
+    let same = c.close.ensures ∙ ap (λ bs. credited_core c.args.core bs) (c.deref-2.ensures.value ∙ sym c.deref-4.ensures.value) in
+    let is = c.deref-4.ensures.value ∙ c.in_ok-built.ensures.value in
+    let was = c.deref-3.ensures.value ∙ c.in_ok-before.ensures.value in
+    rw c.of.ensures
+    (run_few c.args.core c.args.calendars.items c.in_ok-calendars.calendars.items c.in_ok-built.built.items c.in_ok-out.out
+    c.requires.calendars c.in_ok-built.ensures.value c.in_ok-built.ensures.sound
+    (run_limits c.args.core c.close.new.self c.args.calendars.items c.round-round.result c.deref-3.result.now
+    c.deref-4.result.now is same c.round-round.ensures was c.in_ok-out.ensures.limits)
+    c.in_ok-built.ensures.counts
+    (run_out c.args.core c.close.new.self c.args.calendars.items c.round-round.result c.deref-3.result.now
+    c.deref-4.result.now c.in_ok-out.out is same c.round-round.ensures was c.in_ok-out.ensures.out)
+    c.in_ok-calendars.ensures)

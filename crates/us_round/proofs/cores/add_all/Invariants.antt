@@ -1,6 +1,6 @@
 use Rattle.std.proofs.Common.{◌≡◌, ◌+◌, ◌^◌, ◌<◌, ◌++◌, length, map, zip, take, drop}
 use Rattle.std.specs.List.{AllByRecursion}
-use Rattle.us_round.proofs.states.add_all.Given as goal
+use Rattle.us_round.proofs.cores.add_all.Given as goal
 
 abbrev pub invariant-loop-place : goal.invariant-loop-place
 invariant-loop-place l =

@@ -4,7 +4,7 @@ use Rattle.us_round.specs.Placements.{Grant}
 use Rattle.us_round.specs.Rounds.{left_of, spent_of}
 use Rattle.us_round.specs.States.{Covers}
 use Rattle.us_round.proofs.StateLemmas.{left_none, spent_none, may_spend, after_grant}
-use Rattle.us_round.proofs.states.crediting.credit_grants.Goals as goal
+use Rattle.us_round.proofs.cores.crediting.credit_grants.Goals as goal
 
 -- the grants that are left begin with this one
 rest : (grants : List Grant) (at : ℕ) (g : Grant) → at < length grants → g ≡ slice_index_or grants at g →

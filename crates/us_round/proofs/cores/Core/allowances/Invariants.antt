@@ -1,6 +1,6 @@
 use Rattle.std.proofs.Common.{◌≡◌, map, take}
 use Rattle.us_bucket.specs.Levels.{bytes_in}
-use Rattle.us_round.proofs.states.State.allowances.Given as goal
+use Rattle.us_round.proofs.cores.Core.allowances.Given as goal
 
 abbrev pub invariant-loop-bucket : goal.invariant-loop-bucket
 invariant-loop-bucket l = l.most.items ≡ map bytes_in (take l.bucket-index l.bucket-items)

@@ -1,6 +1,6 @@
 use Rattle.std.proofs.Common.{◌≡◌, ◌++◌, length, map, take, drop}
 use Rattle.us_bucket.specs.Levels.{refilled}
-use Rattle.us_round.proofs.states.refill_all.Given as goal
+use Rattle.us_round.proofs.cores.refill_all.Given as goal
 
 abbrev pub invariant-loop-place : goal.invariant-loop-place
 invariant-loop-place l =

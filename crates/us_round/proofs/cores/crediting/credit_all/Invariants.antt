@@ -1,7 +1,7 @@
 use Rattle.std.proofs.Common.{◌≡◌, drop}
 use Rattle.us_round.specs.Rounds.{all_grants, left_of, spent_of}
 use Rattle.us_round.specs.States.{Covers}
-use Rattle.us_round.proofs.states.crediting.credit_all.Given as goal
+use Rattle.us_round.proofs.cores.crediting.credit_all.Given as goal
 
 abbrev pub invariant-loop-channel : goal.invariant-loop-channel
 invariant-loop-channel l =

@@ -3,7 +3,7 @@ use Rattle.std.proofs.lemmas.List.{drop_more, drop_all}
 use Rattle.us_round.specs.Rounds.{Built, all_grants, left_of, spent_of}
 use Rattle.us_round.specs.States.{Covers}
 use Rattle.us_round.proofs.StateLemmas.{left_none, spent_none, channel_covered, after_channel}
-use Rattle.us_round.proofs.states.crediting.credit_all.Goals as goal
+use Rattle.us_round.proofs.cores.crediting.credit_all.Goals as goal
 
 -- the channels that are left begin with this one
 rest : (built : List Built) (at : ℕ) (b : Built) → at < length built → b ≡ slice_index_or built at b →

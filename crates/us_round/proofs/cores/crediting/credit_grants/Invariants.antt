@@ -1,7 +1,7 @@
 use Rattle.std.proofs.Common.{◌≡◌, drop}
 use Rattle.us_round.specs.Rounds.{left_of, spent_of}
 use Rattle.us_round.specs.States.{Covers}
-use Rattle.us_round.proofs.states.crediting.credit_grants.Given as goal
+use Rattle.us_round.proofs.cores.crediting.credit_grants.Given as goal
 
 abbrev pub invariant-loop-grant : goal.invariant-loop-grant
 invariant-loop-grant l =

@@ -1,0 +1,190 @@
+-- The calendars that a round leaves: one for each channel still, at the next round, and none has settled too much.
+use Rattle.std.proofs.Common.{◌≡◌, ℕ, zero, suc, ◌+◌, ◌*◌, ◌<◌, ◌≤◌, ◌++◌, take, List, [], ◌∷◌, length, map, refl, ap, sym, ◌∙◌, arith}
+use Rattle.std.specs.Prelude.{zip, sum_by, slice_get, IfSome}
+use Rattle.std.specs.List.{AllByRecursion}
+use Rattle.std.proofs.lemmas.List.{length-map, length-replicate}
+use Rattle.std.proofs.lemmas.List.Sums.{sum_by-cons}
+use Rattle.us_flows.specs.declared.channels.Channel.{Channel}
+use Rattle.us_flows.specs.Tables.{Tables}
+use Rattle.us_flows.specs.Lawful.{AreTables}
+use Rattle.us_calendar.specs.Calendars.{Calendar, IsCalendar, opening, pace_of, settled_in, max_settled}
+use Rattle.us_calendar.specs.Entries.{Entry, entries}
+use Rattle.us_calendar.specs.Settling.{Row}
+use Rattle.us_bucket.specs.Levels.{full}
+use Rattle.us_flows.specs.Clusters.{clusters_of}
+use Rattle.us_split.specs.Plans.{Planned}
+use Rattle.us_split.specs.Shares.{TurnShares}
+use Rattle.us_round.specs.Claims.{kept_build}
+use Rattle.us_round.specs.Rounds.{State, Filled, Built, fill, build_on, fills_of, round_plan, builds_of}
+use Rattle.us_round.specs.Cores.{Core, IsCore, opening_core, IsFilledFor, AreCalendars, AreCounted, settled_now, settled_then, with_calendars, credited_core}
+use Rattle.us_round.specs.States.{IsState, max_settled_by}
+use Rattle.us_round.proofs.FillLemmas.{calendars_long}
+use Rattle.us_round.proofs.StateLemmas.{left-length, spent-length}
+
+-- the channels of a round, built
+abbrev built_on : Tables → ℕ → List Planned → List Channel → List Calendar → List Built
+built_on t round plan channels cs =
+    map (build_on plan) (map (λ (pair : Channel × Calendar). fill t round pair.0 pair.1) (zip channels cs))
+
+paces_kept : (t : Tables) (round : ℕ) (plan : List Planned) (channels : List Channel) (cs : List Calendar) →
+    length cs ≡ length channels →
+    map (λ calendar. calendar.pace) (map (λ b. b.calendar) (built_on t round plan channels cs))
+    ≡ map (λ calendar. calendar.pace) cs
+unfolding build_on
+paces_kept t round plan [] [] is = refl
+paces_kept t round plan [] (calendar ∷ cs) is = absurd (omega (arith, is))
+paces_kept t round plan (c ∷ channels) [] is = absurd (omega (arith, is))
+paces_kept t round plan (c ∷ channels) (calendar ∷ cs) is =
+    ap (λ more. calendar.pace ∷ more) (paces_kept t round plan channels cs (omega (arith, is)))
+
+rounds_next : (t : Tables) (round : ℕ) (plan : List Planned) (channels : List Channel) (cs : List Calendar) →
+    AllByRecursion (λ calendar. calendar.next_round ≡ round) cs →
+    AllByRecursion (λ calendar. calendar.next_round ≡ round + 1) (map (λ b. b.calendar) (built_on t round plan channels cs))
+unfolding build_on
+rounds_next t round plan [] cs are = tt
+rounds_next t round plan (c ∷ channels) [] are = tt
+rounds_next t round plan (c ∷ channels) (calendar ∷ cs) are =
+    (ap (λ n. n + 1) are.0, rounds_next t round plan channels cs are.1)
+
+built_long : (t : Tables) (round : ℕ) (plan : List Planned) (channels : List Channel) (cs : List Calendar) →
+    length cs ≡ length channels → length (built_on t round plan channels cs) ≡ length channels
+built_long t round plan [] cs is = refl
+built_long t round plan (c ∷ channels) [] is = absurd (omega (arith, is))
+built_long t round plan (c ∷ channels) (calendar ∷ cs) is =
+    ap (λ n. suc n) (built_long t round plan channels cs (omega (arith, is)))
+
+-- there are as many channels as the table has
+pub builds_long : (s : State) → AreCalendars s.tables s.round s.calendars → length (builds_of s) ≡ length s.tables.channels
+unfolding builds_of
+builds_long s are =
+    built_long s.tables s.round (round_plan s) s.tables.channels s.calendars
+    (calendars_long s.tables s.round s.calendars are)
+
+-- what a round leaves is a state's
+pub state_next : (core : Core) (cs : List Calendar) (built : List Built) → IsCore core →
+    AreCalendars core.tables core.round cs → built ≡ builds_of (with_calendars core cs) →
+    IsState (with_calendars (credited_core core built) (map (λ b. b.calendar) built))
+unfolding builds_of
+state_next core cs built known are is =
+    let t : Tables = core.tables in
+    let plan : List Planned = round_plan (with_calendars core cs) in
+    rw is (record {
+      clusters = left-length _ 0 core.outstanding ∙ known.clusters;
+      flows = spent-length _ 0 core.buckets ∙ known.flows;
+      paces = paces_kept t core.round plan t.channels cs (calendars_long t core.round cs are) ∙ are.paces;
+      rounds = rounds_next t core.round plan t.channels cs are.rounds;
+    })
+
+pub calendars_sum : (bs : List Built) →
+    sum_by settled_in (map (λ b. b.calendar) bs) ≡ sum_by (λ b. settled_in b.calendar) bs
+calendars_sum [] = refl
+calendars_sum (b ∷ bs) =
+    omega (
+      arith,
+      sum_by-cons settled_in b.calendar (map (λ b. b.calendar) bs),
+      sum_by-cons (λ b. settled_in b.calendar) b bs,
+      calendars_sum bs,
+    )
+
+sum_few : (bs : List Built) → AllByRecursion (λ b. IsCalendar b.calendar) bs →
+    sum_by settled_in (map (λ b. b.calendar) bs) ≤ length bs * max_settled
+sum_few [] all = omega arith
+sum_few (b ∷ bs) all =
+    let one : settled_in b.calendar ≤ max_settled = all.0.settled in
+    omega (arith, one, sum_few bs all.1, sum_by-cons settled_in b.calendar (map (λ b. b.calendar) bs))
+
+-- all calendars together have settled no more than may be
+pub settled_few : (core : Core) (cs : List Calendar) (built : List Built) → AreTables core.tables →
+    AreCalendars core.tables core.round cs → built ≡ builds_of (with_calendars core cs) → AreCounted cs built →
+    sum_by settled_in (map (λ b. b.calendar) built) ≤ max_settled_by
+settled_few core cs built lawful are is counted =
+    let long : length built ≡ length core.tables.channels =
+    ap (λ bs. length bs) is ∙ builds_long (with_calendars core cs) are in
+    let channels : length core.tables.channels ≤ 16 = lawful.some_channels.1 in
+    omega (arith, sum_few built counted.calendars, long, channels)
+
+-- What built channels tell of their calendars is what the filled ones do.
+calendars_kept : (t : Tables) (plan : List TurnShares) (fs : List Filled) → AllByRecursion (IsFilledFor t) fs →
+    AllByRecursion (λ b. IsCalendar b.calendar) (map (kept_build t plan) fs)
+unfolding kept_build
+calendars_kept t plan [] all = tt
+calendars_kept t plan (f ∷ fs) all = (all.0.calendar, calendars_kept t plan fs all.1)
+
+now_kept : (t : Tables) (plan : List TurnShares) (fs : List Filled) →
+    sum_by (λ b. length b.settled) (map (kept_build t plan) fs) ≡ settled_now fs
+unfolding kept_build
+now_kept t plan [] = refl
+now_kept t plan (f ∷ fs) =
+    omega (
+      arith,
+      sum_by-cons (λ b. length b.settled) (kept_build t plan f) (map (kept_build t plan) fs),
+      sum_by-cons (λ f. length f.settled) f fs,
+      now_kept t plan fs,
+    )
+
+then_kept : (t : Tables) (plan : List TurnShares) (fs : List Filled) →
+    sum_by (λ b. settled_in b.calendar) (map (kept_build t plan) fs) ≡ settled_then fs
+unfolding kept_build
+then_kept t plan [] = refl
+then_kept t plan (f ∷ fs) =
+    omega (
+      arith,
+      sum_by-cons (λ b. settled_in b.calendar) (kept_build t plan f) (map (kept_build t plan) fs),
+      sum_by-cons (λ f. settled_in f.calendar) f fs,
+      then_kept t plan fs,
+    )
+
+pub counted : (t : Tables) (plan : List TurnShares) (fs : List Filled) (cs : List Calendar) →
+    AllByRecursion (IsFilledFor t) fs → settled_now fs + sum_by settled_in cs ≡ settled_then fs →
+    AreCounted cs (map (kept_build t plan) fs)
+counted t plan fs cs all counts = record {
+  calendars = calendars_kept t plan fs all;
+  counts = omega (arith, counts, now_kept t plan fs, then_kept t plan fs);
+}
+
+-- Before round 0.
+
+-- one more calendar, where so many of them are made
+pub mapped_more : {X Y : Type 0} (f : X → Y) (xs : List X) (n : ℕ) (y : Y) → n < length xs →
+    IfSome (slice_get xs n) (λ x. y ≡ f x) → map f (take n xs) ++ y ∷ [] ≡ map f (take (n + 1) xs)
+mapped_more f [] n y inside is = absurd (omega (arith, inside))
+mapped_more f (x ∷ xs) zero y inside is = ap (λ y. y ∷ []) is
+mapped_more f (x ∷ xs) (suc n) y inside is =
+    let next : suc n + 1 ≡ suc (n + 1) = omega arith in
+    rw next (ap (λ more. f x ∷ more) (mapped_more f xs n y (omega (arith, inside)) is))
+
+opening_paces : (t : Tables) (channels : List Channel) →
+    map (λ calendar. calendar.pace) (map (opening t) channels) ≡ map (pace_of t) channels
+opening_paces t [] = refl
+opening_paces t (c ∷ channels) = ap (λ more. pace_of t c ∷ more) (opening_paces t channels)
+
+opening_rounds : (t : Tables) (channels : List Channel) →
+    AllByRecursion (λ calendar. calendar.next_round ≡ 0) (map (opening t) channels)
+opening_rounds t [] = tt
+opening_rounds t (c ∷ channels) = (refl, opening_rounds t channels)
+
+none_settled : (es : List Entry) →
+    sum_by (λ (row : Row). length row.settled) (map (λ e. record { entry = e; settled = [] }) es) ≡ 0
+none_settled [] = refl
+none_settled (e ∷ es) = none_settled es
+
+none_by : (t : Tables) (channels : List Channel) → sum_by settled_in (map (opening t) channels) ≡ 0
+none_by t [] = refl
+none_by t (c ∷ channels) =
+    omega (
+      arith,
+      sum_by-cons settled_in (opening t c) (map (opening t) channels),
+      none_settled (entries t c),
+      none_by t channels,
+    )
+
+pub opening_state : (t : Tables) → IsState (with_calendars (opening_core t) (map (opening t) t.channels))
+opening_state t = record {
+  clusters = length-replicate (length (clusters_of t)) 0;
+  flows = length-map t.flows (λ flow. full flow.rate flow.burst);
+  paces = opening_paces t t.channels;
+  rounds = opening_rounds t t.channels;
+}
+
+pub opening_few : (t : Tables) → sum_by settled_in (map (opening t) t.channels) ≤ max_settled_by
+opening_few t = omega (arith, none_by t t.channels)

@@ -1,0 +1,10 @@
+use Rattle.std.proofs.Common.{refl, ◌∙◌}
+use Rattle.us_round.specs.Outputs.{out_of}
+use Rattle.us_round.proofs.rounds.report.Goals as goal
+
+pub returns-clause-out : goal.returns-clause-out
+unfolding out_of
+returns-clause-out c =
+    c.new.ensures
+    ∙ rw (c.in_ok-maps.ensures.value, c.in_ok-rows.ensures, c.deref.ensures.value, c.in_ok-seats.ensures,
+    c.config-config.ensures.value, c.outstanding.ensures.value) refl

@@ -1,0 +1,98 @@
+-- Inside the crate, and of no use to a reader of the promise: a state without its calendars, which go from channel to
+-- channel by themselves; and what the channels of a round keep on the way.
+use Rattle.std.specs.Prelude.{◌≡◌, ℕ, ◌+◌, ◌≤◌, List, [], length, map, filter_map, replicate, sum_by}
+use Rattle.std.specs.List.{AllByRecursion}
+use Rattle.us_flows.specs.Tables.{Tables, map_len}
+use Rattle.us_flows.specs.Clusters.{clusters_of, turns_of}
+use Rattle.us_bucket.specs.Levels.{Level, full, bytes_in}
+use Rattle.us_calendar.specs.Calendars as calendars
+use Rattle.us_calendar.specs.Calendars.{Calendar, IsCalendar, pace_of, settled_in, granted_in}
+use Rattle.us_split.specs.Plans.{Planned, plan_for}
+use Rattle.us_round.specs.Rounds.{State, Filled, Built, Scheduled, asked, grown, idle, all_grants, left_of, spent_of}
+use Rattle.us_round.specs.Leftovers.{still_asking}
+
+-- all of a state but its calendars
+pub record Core : Type 0 where
+  pub tables : Tables
+  pub round : ℕ
+  pub outstanding : List ℕ
+  pub buckets : List Level
+
+-- the state that it is with these calendars
+abbrev pub with_calendars : Core → List Calendar → State
+with_calendars core cs = record {
+  tables = core.tables;
+  round = core.round;
+  outstanding = core.outstanding;
+  buckets = core.buckets;
+  calendars = cs;
+}
+
+-- there is a number for each cluster, and a bucket for each flow
+pub record IsCore (core : Core) : Type 0 where
+  pub clusters : length core.outstanding ≡ length (clusters_of core.tables)
+  pub flows : length core.buckets ≡ length core.tables.flows
+
+-- before round 0
+abbrev pub opening_core : Tables → Core
+opening_core t = record {
+  tables = t;
+  round = 0;
+  outstanding = replicate (length (clusters_of t)) 0;
+  buckets = map (λ flow. full flow.rate flow.burst) t.flows;
+}
+
+-- what a round begins with
+abbrev pub begun_core : Core → List ℕ → Core
+begun_core core cut = record {
+  tables = core.tables;
+  round = core.round;
+  outstanding = asked core.outstanding cut;
+  buckets = grown (with_calendars core []);
+}
+
+-- and what its channels leave
+abbrev pub credited_core : Core → List Built → Core
+credited_core core builds = record {
+  tables = core.tables;
+  round = core.round + 1;
+  outstanding = left_of (all_grants builds) 0 core.outstanding;
+  buckets = spent_of (all_grants builds) 0 core.buckets;
+}
+
+-- a calendar for each channel, at this round
+pub record AreCalendars (t : Tables) (round : ℕ) (cs : List Calendar) : Type 0 where
+  pub paces : map (λ calendar. calendar.pace) cs ≡ map (pace_of t) t.channels
+  pub rounds : AllByRecursion (λ calendar. calendar.next_round ≡ round) cs
+
+-- a channel of these tables after its calendar: its board has the length of its MAPs, and what was granted starts inside
+-- and stands there
+pub record IsFilledFor (t : Tables) (f : Filled) : Type 0 where
+  pub len : length f.board.cells ≡ map_len t f.channel
+  pub inside : AllByRecursion (calendars.StartsInside (length f.board.cells)) f.settled
+  pub few : granted_in f.settled ≤ f.board.standing
+  pub calendar : IsCalendar f.calendar
+
+-- how many occurrences the calendars of channels settled in a round, and so far
+abbrev pub settled_now : List Filled → ℕ
+settled_now fs = sum_by (λ f. length f.settled) fs
+
+abbrev pub settled_then : List Filled → ℕ
+settled_then fs = sum_by (λ f. settled_in f.calendar) fs
+
+-- the calendars of built channels: each keeps what calendars do, and they settled what the channels tell
+pub record AreCounted (before : List Calendar) (builds : List Built) : Type 0 where
+  pub calendars : AllByRecursion (λ b. IsCalendar b.calendar) builds
+  pub counts : sum_by (λ b. length b.settled) builds + sum_by settled_in before ≡ sum_by (λ b. settled_in b.calendar) builds
+
+-- the plan of a round that has begun, over these channels
+abbrev pub plan_over : Core → List Filled → List Planned
+plan_over core fs = plan_for core.tables core.outstanding (map bytes_in core.buckets) (idle fs)
+
+-- what these channels were scheduled, where so much was outstanding before, and the core tells what is left
+abbrev pub scheduled_of : Core → ℕ → List ℕ → List Built → Scheduled
+scheduled_of core round before builds = record {
+  round = round;
+  channels = builds;
+  pending = filter_map (still_asking before core.outstanding) (turns_of core.tables);
+}
