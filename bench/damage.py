@@ -20,8 +20,7 @@ from plain_reader import answer
 CONFIG = Path(__file__).parent.parent / "crates/mapsim/cases/configs/all_types.toml"
 HEAD = """\
 # What a plain second reader, written apart from the program, answers to random damage.
-# Of a run of no rounds, which is refused behind the configuration: an accepted one gives RU1, or RU7 where it isn't
-# served yet.
+# Of a run of no rounds, which is refused behind the configuration: an accepted one gives RU1.
 
 case = [
     # of configs/all_types.toml"""
