@@ -152,7 +152,8 @@ def case(number, found, changes):
         alone.append(list(unique(text, old, new)))
         text = text.replace(old, new, 1)
     last = changes[-1][1].strip().split("\n")[-1]
-    error = 'error_starts = "fault RU"' if found == "ok" else f"error = {json.dumps(f'fault {found}' + chr(10))}"
+    fault = "RU1" if found == "ok" else found
+    error = f"error = {json.dumps(f'fault {fault}' + chr(10))}"
     return (
         f"    {{ name = {json.dumps(f'{number}: {last}')}, words = [\"pipe\", \"--rounds\", \"0\"], config = \"all_types\", "
         f'change = {json.dumps(alone)}, trace = "", {error}, status = 3 }},'
