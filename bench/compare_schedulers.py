@@ -1,11 +1,11 @@
 #!/usr/bin/env python3
-"""Compares mapsim with bench/plain_scheduler.py on random configurations and traces of best effort.
+"""Compares mapsim with bench/plain_scheduler.py on random configurations and traces.
 
   bench/compare_schedulers.py FIRST LAST [PROGRAM]   the seeds from FIRST to below LAST; PROGRAM is crates/mapsim/out/mapsim
 
 Where they differ, the configuration, the trace and the number of rounds are left in a folder `schedulers-SEED` of the
 system's folder for temporary files."""
-import sys, random, subprocess, tempfile, os, pathlib, json, collections
+import sys, random, subprocess, tempfile, os, pathlib, json, collections, tomllib
 HERE = pathlib.Path(__file__).resolve().parent
 sys.path.insert(0, str(HERE))
 import plain_scheduler as sim
@@ -112,6 +112,77 @@ headers = {headers}
             for c, s in zip(chs, cl): asks.append((c, s))
     return text, P, L, asks, ids
 
+MOST_OCCURRENCES = 60_000  # in a run, about
+
+def times(rng, P, minislot):
+    """start, interval and jitter in microseconds; a round has P ticks of 6.25."""
+    a_round = P * 25 // 4
+    interval = rng.choice([100, 100, rng.randint(100, 400), rng.randint(100, 4000), a_round, a_round // 2,
+                           2 * a_round, 3 * a_round + 1, 10000, rng.randint(100, 40000), 10_000_000])
+    interval = min(max(interval, 100), 10_000_000)
+    jitter = rng.choice([0, 0, 1, rng.randint(0, 60), minislot * 25 // 4, interval // 2, interval - 1, interval - 1,
+                         rng.randint(0, interval - 1), a_round - 1, a_round, 500])
+    jitter = min(jitter, interval - 1)
+    # also such that a window ends exactly where a round does, or just before or behind
+    start = rng.choice([0, 0, rng.randint(0, 100), rng.randint(0, a_round), a_round - jitter, 2 * a_round - jitter,
+                        a_round - jitter - 1, a_round - jitter + 1, a_round, rng.randint(0, 20 * a_round), interval])
+    if rng.random() < .03: start = rng.choice([10_000_000, 5_000_000, 1_000_000])
+    return f"start_us = {min(max(start, 0), 10_000_000)}\ninterval_us = {interval}\njitter_us = {jitter}\n", interval
+
+def with_calendar(rng, text, P, asks, ids, crowded):
+    """Makes some flows polled ones, and adds flows of unsolicited grants and stations: the text, what may be asked for
+    with SIDs of these, and the occurrences of a round at most."""
+    channels = {c["id"]: sim.Channel(c, P) for c in tomllib.loads(text)["channel"]}
+    flows = tomllib.loads(text).get("flow", [])
+    used, fids = set(asks), {f["id"] for f in flows}
+    pace = 0.
+    head, *rest = text.split("\n[[flow]]\n")
+    done = [head]
+    polled = rng.choice([0, .3, .7, 1])
+    for part, f in zip(rest, flows, strict=True):
+        channel = channels[f["channels"][0]]
+        if rng.random() < polled and channel.t["request_minislots"] <= channel.len:
+            lines, interval = times(rng, P, channel.ticks)
+            part = part.replace("type = 2\n", f"type = {rng.choice([3, 4])}\n") + lines
+            pace += P * 6.25 / interval
+        done.append(part)
+    text, more = "\n[[flow]]\n".join(done), []
+    for _ in range(rng.choice([0, 1, 2, 6, 20] if not crowded else [20, 60, 110])):
+        cid = rng.choice(ids)
+        channel = channels[cid]
+        size = rng.choice([1, 16, 66, 200, rng.randint(1, 3000), rng.randint(1, 65535)]) if not crowded else rng.choice([1, 16])
+        if channel.cost(channel.unsolicited, size) > channel.len: continue
+        sid = next(s for s in iter(lambda: rng.randint(1, 15871), 0) if (cid, s) not in used)
+        fid = next(i for i in iter(lambda: rng.randint(1, rng.choice([2 * len(fids) + 4, 65535])), 0) if i not in fids)
+        used.add((cid, sid)); fids.add(fid)
+        lines, interval = times(rng, P, channel.ticks)
+        grants = rng.choice([1, 1, 1, 2, 3, 8, 127, rng.randint(1, 127)])
+        pace += P * 6.25 / interval * grants
+        if rng.random() < .3: more.append((cid, sid))
+        text += f"""
+[[flow]]
+id = {fid}
+type = 6
+channels = [{cid}]
+clusters = [[{sid}]]
+{lines}grant_bytes = {size}
+grants_per_interval = {grants}
+"""
+    sids = list(range(1, 256)); rng.shuffle(sids)
+    for number in sids[:rng.choice([0, 0, 1, 3, 10] if not crowded else [0, 30, 120])]:
+        cid = rng.choice(ids)
+        channel = channels[cid]
+        if channel.t["station_minislots"] > channel.len: continue
+        lines, interval = times(rng, P, channel.ticks)
+        pace += P * 6.25 / interval
+        text += f"""
+[[station]]
+id = {number}
+channel = {cid}
+sid = {rng.choice([rng.randint(1, 15871), *(s for c, s in used if c == cid)])}
+{lines}"""
+    return text, asks + more, pace
+
 def trace(rng, P, L, asks, ids, rounds, n=None):
     rows = []
     n = rng.choice([0, 3, 20, 100, 300, 1500]) if n is None else n
@@ -144,7 +215,7 @@ def run(text, tr, rounds):
         return p.returncode, p.stdout, p.stderr, get("m"), get("r")
 
 def compare(text, tr, rounds, name, stats):
-    maps, report, said = sim.simulate(text, tr, rounds)
+    maps, report, said = sim.simulate(text, tr, rounds, seen=stats)
     code, out, err, m, r = run(text, tr, rounds)
     ok = (code, out, err, m, r) == (0, said.encode(), b"", maps, report)
     stats["runs"] += 1; stats["rounds"] += rounds
@@ -152,7 +223,6 @@ def compare(text, tr, rounds, name, stats):
     stats["map bytes"] += len(maps)
     codes = {g.split(b",")[8] for g in report.split(b"\n") if g[:1] == b"G"}
     stats["with short"] += b"9" in codes; stats["with long"] += b"10" in codes
-    if sim.simulate.__doc__ is None: pass
     pend = False; at = 0
     import struct
     while at < len(maps):
@@ -183,7 +253,12 @@ if __name__ == "__main__":
         elif kind == 18: kw = dict(nch=rng.randint(2, 8), nfl=rng.randint(1, 3))
         elif kind == 19: kw = dict(P=4096, logs=[0] * rng.randint(1, 3), nfl=rng.randint(60, 150))
         text, P, L, asks, ids = config(rng, **kw)
+        pace = 0
+        # two of three seeds have a calendar, and some of them crowded ones
+        if seed % 3:
+            text, asks, pace = with_calendar(rng, text, P, asks, ids, rng.random() < .15)
         rounds = rng.choice([1, 2, 3, 8, 20, 60, 200, 1500 if kind < 12 else 30])
+        rounds = min(rounds, int(MOST_OCCURRENCES / max(pace, 1)) + 1)
         rounds = min(rounds, 67108864 // P)
         if kind == 19: rounds = min(rounds, 30)
         tr = trace(rng, P, L, asks, ids, rounds, n=1500 if kind in (17, 19) else None)

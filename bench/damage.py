@@ -20,8 +20,7 @@ from plain_reader import answer
 CONFIG = Path(__file__).parent.parent / "crates/mapsim/cases/configs/all_types.toml"
 HEAD = """\
 # What a plain second reader, written apart from the program, answers to random damage.
-# Of a run of no rounds, which is refused behind the configuration: an accepted one gives RU1, or RU7 where it isn't
-# served yet.
+# Of a run of no rounds, which is refused behind the configuration: an accepted one gives RU1.
 
 case = [
     # of configs/all_types.toml"""
@@ -153,7 +152,8 @@ def case(number, found, changes):
         alone.append(list(unique(text, old, new)))
         text = text.replace(old, new, 1)
     last = changes[-1][1].strip().split("\n")[-1]
-    error = 'error_starts = "fault RU"' if found == "ok" else f"error = {json.dumps(f'fault {found}' + chr(10))}"
+    fault = "RU1" if found == "ok" else found
+    error = f"error = {json.dumps(f'fault {fault}' + chr(10))}"
     return (
         f"    {{ name = {json.dumps(f'{number}: {last}')}, words = [\"pipe\", \"--rounds\", \"0\"], config = \"all_types\", "
         f'change = {json.dumps(alone)}, trace = "", {error}, status = 3 }},'

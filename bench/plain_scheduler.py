@@ -1,5 +1,5 @@
 #!/usr/bin/env python3
-"""A second scheduler, from the rules alone: best effort flows without stations.
+"""A second scheduler, from the rules alone, without activity detection and minimum rates.
   bench/plain_scheduler.py CONFIG TRACE ROUNDS MAPS REPORT   writes the maps file and the report, and prints the summary
 
 It shares nothing with the crates, and is compared with mapsim by bench/compare_schedulers.py."""
@@ -7,6 +7,8 @@ import sys, tomllib, struct
 from collections import defaultdict
 
 BYTE = 1280000  # bucket units in a byte
+TICK = 25  # quarter microseconds in a tick
+MOST = 100  # assignments in a MAP
 
 def ceil_div(a, b):
     return -(-a // b)
@@ -32,7 +34,7 @@ class Channel:
         self.symbols = 1 << (t["minislot_log2"] + t["rate_log2"])
         self.len = round_ticks // self.ticks
         assert self.len * self.ticks == round_ticks
-        self.long, self.short = Profile(t["long"]), Profile(t["short"])
+        self.long, self.short, self.unsolicited = (Profile(t[name]) for name in ("long", "short", "unsolicited"))
         self.short_max = t["short"]["max_minislots"]
         self.caps = {}
         self.costs = {}
@@ -73,6 +75,73 @@ class Board:
         self.taken.append((start, n, sid, iuc))
         self.taken.sort()
 
+class Entry:
+    """What a channel's calendar has of a flow or a station; times are in quarter microseconds."""
+    def __init__(self, word, table, sid, iuc, n, grants):
+        self.word, self.id, self.sid, self.iuc, self.n, self.grants = word, table["id"], sid, iuc, n, grants
+        self.start, self.interval, self.jitter = (4 * table[key] for key in ("start_us", "interval_us", "jitter_us"))
+        self.next = 0      # the first interval that wasn't looked at
+        self.waiting = []  # occurrences (i, k) that are not settled, in order
+    def due(self, end):
+        """All that is ideal before a time and isn't settled."""
+        while self.start + self.next * self.interval < end:
+            self.waiting += [(self.next, k) for k in range(self.grants)]
+            self.next += 1
+        return self.waiting
+
+def calendar_of(channel, flows, stations):
+    """The entries of a channel in order."""
+    here = [f for f in flows if f["type"] != 2 and f["channels"][0] == channel.id]
+    entries = []
+    for kind, word in (6, "ugs"), (4, "rtp"), (3, "nrtp"):
+        for f in sorted((f for f in here if f["type"] == kind), key=lambda f: f["id"]):
+            sid = f["clusters"][0][0]
+            if kind == 6:
+                n = channel.cost(channel.unsolicited, f["grant_bytes"])
+                entries.append(Entry(word, f, sid, 11, n, f["grants_per_interval"]))
+            else:
+                entries.append(Entry(word, f, sid, 1, channel.t["request_minislots"], 1))
+    for s in sorted((s for s in stations if s["channel"] == channel.id), key=lambda s: s["id"]):
+        entries.append(Entry("station", s, s["sid"], 4, channel.t["station_minislots"], 1))
+    return entries
+
+def earliest(board, n, first, last):
+    """The least minislot from `first` to `last` where n minislots fit."""
+    if len(board.taken) < MOST:
+        for start, m in board.runs():
+            at = max(start, first)
+            if at <= last and at + n <= start + m:
+                return at
+    return None
+
+def settle(entry, r, channel, board, granted, missed, seen):
+    """The occurrences of an entry in a round: granted, missed, or waiting on."""
+    minislot = channel.ticks * TICK
+    begin = r * channel.len
+    end = (begin + channel.len) * minislot
+    left = []
+    for i, k in entry.due(end):
+        ideal = entry.start + i * entry.interval
+        first = max(ceil_div(ideal, minislot) - begin, 0)
+        last = min((ideal + entry.jitter) // minislot - begin, channel.len - 1)
+        at = earliest(board, entry.n, first, last)
+        if at is not None:
+            board.put(at, entry.n, entry.sid, entry.iuc)
+            granted.append((at, f"G,{r},{channel.id},{entry.word},{entry.id},{i},{k},"
+                                f"{entry.sid},{entry.iuc},{at},{entry.n},0\n"))
+            seen["waited, then granted"] += ideal < begin * minislot
+            seen["granted " + entry.word] += 1
+        elif ideal + entry.jitter < end:
+            missed.append(f"M,{r},{channel.id},{entry.word},{entry.id},{i},{k}\n")
+            seen["missed without a minislot"] += ceil_div(ideal, minislot) > (ideal + entry.jitter) // minislot
+            seen["missed at a full board"] += len(board.taken) == MOST
+            seen["waited, then missed"] += ideal < begin * minislot
+            seen["missed " + entry.word] += 1
+        else:
+            left.append((i, k))
+            seen["waits to a round's very end"] += ideal + entry.jitter == end
+    entry.waiting = left
+
 def divide(x, weights):
     total = sum(weights)
     if x >= total:
@@ -86,30 +155,35 @@ def divide(x, weights):
     assert sum(shares) == x
     return shares
 
-def simulate(config_text, trace_text, rounds, notes=None):
+def simulate(config_text, trace_text, rounds, notes=None, seen=None):
+    seen = defaultdict(int) if seen is None else seen
     table = tomllib.loads(config_text)
     P, L = table["round_ticks"], table["lead_ticks"]
     channels = [Channel(c, P) for c in table["channel"]]
     by_id = {c.id: c for c in channels}
-    flows = table.get("flow", [])
+    flows, stations = table.get("flow", []), table.get("station", [])
+    calendars = {c.id: calendar_of(c, flows, stations) for c in channels}
     turns = []
-    sids = {}
+    sids = {}  # a turn, or None for unsolicited grants
     for fi, f in enumerate(flows):
-        assert f["type"] == 2
         for ci, cluster in enumerate(f["clusters"]):
-            turns.append((fi, ci))
+            if f["type"] != 6:
+                turns.append((fi, ci))
             for c, s in zip(f["channels"], cluster, strict=True):
                 assert (c, s) not in sids
-                sids[c, s] = (fi, ci)
+                sids[c, s] = (fi, ci) if f["type"] != 6 else None
     outstanding = {t: 0 for t in turns}
-    units = [f["burst"] * BYTE for f in flows]
+    units = [f["burst"] * BYTE if f["type"] != 6 else 0 for f in flows]
     turns.sort(key=lambda t: (-flows[t[0]]["priority"], flows[t[0]]["id"], t[1]))
     cuts = defaultdict(lambda: defaultdict(int))
-    unknown = late = 0
+    unknown = not_requestable = late = 0
     for line in trace_text.splitlines()[1:]:
         tick, channel, sid, n = map(int, line.split(","))
         if (channel, sid) not in sids:
             unknown += 1
+            continue
+        if sids[channel, sid] is None:
+            not_requestable += 1
             continue
         r = ceil_div(tick + L, P)
         if r >= rounds:
@@ -117,24 +191,27 @@ def simulate(config_text, trace_text, rounds, notes=None):
             continue
         t = sids[channel, sid]
         cuts[r][t] += n * flows[t[0]]["unit"]
-    maps, report, granted = bytearray(), [], 0
+    maps, report, granted, missed = bytearray(), [], 0, 0
     for r in range(rounds):
         for t, n in cuts[r].items() if r in cuts else ():
             outstanding[t] += n
         if r > 0:
             for i, f in enumerate(flows):
-                if f["rate"]:
+                if f.get("rate"):
                     units[i] = min(units[i] + P * f["rate"], f["burst"] * BYTE)
         boards = {}
+        grants, misses = defaultdict(list), defaultdict(list)
         for c in channels:
             board = boards[c.id] = Board(c.len)
             if r % c.t["maintenance_every"] == 0 and c.t["maintenance_minislots"]:
                 board.put(0, c.t["maintenance_minislots"], 0x3fff, 3)
             if c.t["contention_minislots"]:
                 board.put(c.len - c.t["contention_minislots"], c.t["contention_minislots"], 0x3fff, 1)
+            for entry in calendars[c.id]:
+                settle(entry, r, c, board, grants[c.id], misses[c.id], seen)
         # plan
         budget = {c.id: boards[c.id].idle() for c in channels}
-        allowance = [units[i] // BYTE if f["rate"] else None for i, f in enumerate(flows)]
+        allowance = [units[i] // BYTE if f.get("rate") else None for i, f in enumerate(flows)]
         planned = []
         for fi, ci in turns:
             f = flows[fi]
@@ -155,11 +232,11 @@ def simulate(config_text, trace_text, rounds, notes=None):
                     planned.append((fi, ci, at, c, share))
         # place
         credited = defaultdict(int)
-        grants = defaultdict(list)
         for fi, ci, at, c, share in planned:
             f, channel, board = flows[fi], by_id[c], boards[c]
             h = 8 if f["headers"] else 0
-            if len(board.taken) >= 100:
+            if len(board.taken) >= MOST:
+                seen["claims at a full board"] += 1
                 continue
             n, iuc = channel.grant_cost(share + h)
             start = next((s for s, m in board.runs() if m >= n), None)
@@ -173,7 +250,9 @@ def simulate(config_text, trace_text, rounds, notes=None):
                     continue
                 credit = channel.capacity(best[1]) - h
                 if credit < 1:
+                    seen["claims that no run carries"] += 1
                     continue
+                seen["claims cut to the longest run"] += 1
                 start = best[0]
                 n, iuc = channel.grant_cost(credit + h)
             sid = f["clusters"][ci][at]
@@ -205,14 +284,18 @@ def simulate(config_text, trace_text, rounds, notes=None):
             for offset, sid, iuc in elements:
                 body += struct.pack(">I", sid << 18 | iuc << 14 | offset)
             maps += struct.pack(">IH", r, len(body)) + body
-            for _, line in sorted(grants[c.id]):
-                report.append(line)
-                granted += 1
+            assert len(board.taken) <= MOST
+            seen["full boards"] += len(board.taken) == MOST
+            report += [line for _, line in sorted(grants[c.id])] + misses[c.id]
+            granted += len(grants[c.id])
+            missed += len(misses[c.id])
     for fi, f in enumerate(flows):
-        for ci in range(len(f["clusters"])):
+        for ci in range(len(f["clusters"]) if f["type"] != 6 else 0):
             report.append(f"F,{f['id']},{ci},{outstanding[fi, ci]},{units[fi] if f['rate'] else '-'}\n")
-    report.append(f"U,{unknown},0,{late}\n")
-    said = f"rounds {rounds} granted {granted} missed 0 unknown {unknown} not_requestable 0 late {late}\n"
+    seen["open at the end"] += sum(len(e.waiting) for entries in calendars.values() for e in entries)
+    report.append(f"U,{unknown},{not_requestable},{late}\n")
+    said = (f"rounds {rounds} granted {granted} missed {missed} unknown {unknown} "
+            f"not_requestable {not_requestable} late {late}\n")
     return bytes(maps), "".join(report).encode(), said
 
 def dump(maps):

@@ -1,6 +1,6 @@
 #!/usr/bin/env bash
-# Times the reading of the greatest tables: 16 channels, 1,024 flows of 8 channels and 2 clusters, 256 stations. Such a
-# configuration isn't served yet, so `mapsim` ends with `fault RU7` once it is read. A benchmark, and no test.
+# Times the reading of the greatest tables: 16 channels, 1,024 flows of 8 channels and 2 clusters, 256 stations. There is
+# no trace, so `mapsim` ends with `fault io trace` once they are read. A benchmark, and no test.
 #
 # Usage: bench/tables.sh, after `rt run` in crates/mapsim has built the program.
 set -euo pipefail

@@ -23,10 +23,9 @@ grown bytes = record { before = Some []; after = Some bytes }
 -- a replay in memory that was Ok
 pub gives : (t : Tables) (rounds : ℕ) (trace : List ℕ) (summary : Summary) (maps report : List ℕ) →
     Replayed t rounds (Some trace) (grown maps) (grown report) (Ok summary) → Gives t rounds trace maps report
-gives t rounds trace summary maps report ((served, fit), (text, is_text, sound, (to_maps, to_report, told), kept)) =
+gives t rounds trace summary maps report (fit, (text, is_text, sound, (to_maps, to_report, told), kept)) =
     let same : text ≡ trace = sym is_text.tells in
     record {
-      served = served;
       fit = fit;
       sound = subst (λ text. trace_fault text ≡ None) same sound;
       maps_whole = to_maps ∙ ap (λ text. maps_text (output_for t rounds text)) same;
@@ -36,8 +35,7 @@ gives t rounds trace summary maps report ((served, fit), (text, is_text, sound, 
 -- one that wasn't
 pub refuses_trace : (t : Tables) (rounds : ℕ) (trace : List ℕ) (to_maps to_report : Growth) (f : RunFault) →
     Replayed t rounds (Some trace) to_maps to_report (Err f) → RefusesTrace t rounds trace (fault_in_memory f)
-refuses_trace t rounds trace to_maps to_report run.NotServed (not_served, nothing) = not_served
-refuses_trace t rounds trace to_maps to_report run.Rounds (served, unfit, nothing) = (served, unfit)
+refuses_trace t rounds trace to_maps to_report run.Rounds (unfit, nothing) = unfit
 refuses_trace t rounds trace to_maps to_report (run.Trace reason) (can, reads, nothing) = (can, reads)
 refuses_trace t rounds trace to_maps to_report (run.WriteMaps done) ran = tt
 refuses_trace t rounds trace to_maps to_report (run.WriteReport done) ran = tt

@@ -9,10 +9,9 @@ use Rattle.mapsim.specs.SummaryLines.{IsSummaryOf, summary_line}
 -- the line of the summary that a replay answered
 pub summarized : (t : Tables) (rounds : ℕ) (told : Option (List ℕ)) (to_maps to_report : Growth) (summary : Summary) →
     Replayed t rounds told to_maps to_report (Ok summary) → IsSummaryOf rounds (summary_line summary ++ 10 ∷ [])
-summarized t rounds told to_maps to_report summary ((served, fit), (text, is_text, sound, (maps, report, same), kept)) = record {
+summarized t rounds told to_maps to_report summary (fit, (text, is_text, sound, (maps, report, same), kept)) = record {
   tables = t;
   trace = text;
-  served = served;
   fit = fit;
   sound = sound;
   line = ap (λ summary. summary_line summary ++ 10 ∷ []) same;

@@ -46,7 +46,6 @@ run_line (run.Trace f) = trace_line f
 run_line (run.WriteMaps rounds) = codes "fault RU4 " ++ decimal rounds
 run_line (run.WriteReport rounds) = codes "fault RU5 " ++ decimal rounds
 run_line (run.NoMemory rounds) = codes "fault memory"
-run_line run.NotServed = codes "fault RU7"
 
 abbrev pub stream_word : Stream → List ℕ
 stream_word stream.Config = codes "config"

@@ -6,8 +6,7 @@ use Rattle.us_flows.specs.Answers.{Answers}
 use Rattle.us_requests.specs.Rows.{trace_fault}
 use Rattle.us_requests.specs.Readings.{Reads}
 use Rattle.us_replay.specs.declared.faults.RunFault.TheVariants as run
-use Rattle.us_round.specs.Served.{is_served}
-use Rattle.us_replay.specs.Replays.{CanRun, maps_text, report_text, output_for}
+use Rattle.us_replay.specs.Replays.{maps_text, report_text, output_for}
 use Rattle.mapsim.specs.declared.faults.Stream.TheVariants as stream
 use Rattle.mapsim.specs.declared.faults.Fault.{Fault}
 use Rattle.mapsim.specs.declared.faults.Fault.TheVariants as fault
@@ -18,10 +17,8 @@ use Rattle.mapsim.specs.Dumps.{IsDump}
 abbrev pub max_input_bytes : ℕ
 max_input_bytes = 37748740
 
--- a replay of these tables, which are served, and of the text of a trace without a fault gives this maps file and this
--- report
+-- a replay of these tables and of the text of a trace without a fault gives this maps file and this report
 pub record Gives (t : Tables) (rounds : ℕ) (trace maps report : List ℕ) : Type 0 where
-  pub served : is_served t ≡ true
   pub fit : rounds_fit t rounds ≡ true
   pub sound : trace_fault trace ≡ None
   pub maps_whole : maps ≡ maps_text (output_for t rounds trace)
@@ -47,10 +44,9 @@ pub record IsPrintout (rounds : ℕ) (text printout : List ℕ) : Type 0 where
 
 -- why a replay of these tables and of this trace is refused, or memory was wanting
 abbrev pub RefusesTrace : Tables → ℕ → List ℕ → Fault → Type 0
-RefusesTrace t rounds trace (fault.Run run.NotServed) = is_served t ≡ false
-RefusesTrace t rounds trace (fault.Run run.Rounds) = (is_served t ≡ true) × (rounds_fit t rounds ≡ false)
+RefusesTrace t rounds trace (fault.Run run.Rounds) = rounds_fit t rounds ≡ false
 RefusesTrace t rounds trace (fault.Run (run.Trace reason)) =
-    CanRun t rounds × Reads t rounds (Some trace) (Err reason)
+    (rounds_fit t rounds ≡ true) × Reads t rounds (Some trace) (Err reason)
 RefusesTrace t rounds trace (fault.Run (run.NoMemory done)) = ⊤
 RefusesTrace t rounds trace fault.NoMemory = ⊤
 RefusesTrace t rounds trace _ = ⊥

@@ -35,7 +35,6 @@ run_status (run.Trace f) = trace_status f
 run_status (run.WriteMaps rounds) = status.DeviceFailed
 run_status (run.WriteReport rounds) = status.DeviceFailed
 run_status (run.NoMemory rounds) = status.NoMemory
-run_status run.NotServed = status.Refused
 
 abbrev pub map_status : MapFault → Status
 map_status map.NoMemory = status.NoMemory

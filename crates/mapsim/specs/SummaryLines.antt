@@ -3,7 +3,6 @@ use Rattle.std.specs.Prelude.{◌≡◌, ℕ, true, List, [], ◌∷◌, ◌++�
 use Rattle.us_flows.specs.Tables.{Tables, rounds_fit}
 use Rattle.us_requests.specs.Asks.{counts_of}
 use Rattle.us_requests.specs.Rows.{trace_fault, requests_of}
-use Rattle.us_round.specs.Served.{is_served}
 use Rattle.us_replay.specs.Replays.{output_for, summary_of}
 use Rattle.us_replay.specs.declared.summaries.Summary.{Summary}
 use Rattle.mapsim.specs.Texts.{spaced}
@@ -14,12 +13,10 @@ summary_line s = spaced (
     codes "unknown" ∷ decimal s.unknown ∷ codes "not_requestable" ∷ decimal s.not_requestable ∷
     codes "late" ∷ decimal s.late ∷ [])
 
--- the text of a replay of some tables, which are served, and some trace for so many rounds: that line, with its line
--- feed
+-- the text of a replay of some tables and some trace for so many rounds: that line, with its line feed
 pub record IsSummaryOf (rounds : ℕ) (text : List ℕ) : Type 0 where
   pub tables : Tables
   pub trace : List ℕ
-  pub served : is_served tables ≡ true
   pub fit : rounds_fit tables rounds ≡ true
   pub sound : trace_fault trace ≡ None
   pub line : text ≡ summary_line

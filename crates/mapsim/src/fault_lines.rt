@@ -72,7 +72,6 @@ impl fmt::Display for RunLine {
             RunFault::WriteMaps(rounds) => ("fault RU4 ", rounds),
             RunFault::WriteReport(rounds) => ("fault RU5 ", rounds),
             RunFault::NoMemory(_) => return f.write_str("fault memory"),
-            RunFault::NotServed => return f.write_str("fault RU7"),
         };
         write!(f, "{code}{rounds}")
     }

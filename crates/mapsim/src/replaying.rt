@@ -13,7 +13,7 @@ use std::io::{self, ErrorKind};
 use std::rt::Files;
 use std::{fmt, fs};
 use us_flows::{Config, ConfigFault, MAX_CONFIG_BYTES};
-use us_replay::{RunFault, Summary, is_served, replay};
+use us_replay::{RunFault, Summary, replay};
 use us_slots::{FromRead, FromWrite, ReadFault, Sink, read_all};
 
 /// Replays a trace from files into files, and prints what it did.
@@ -44,9 +44,6 @@ fn replay_trace<R: Files>(
     ensures summary { IfOk result (λ summary. IsSummaryOf order.now.rounds (summary_line summary ++ 10 ∷ [])) }
     ensures fault { IfErr result (λ f. (f ≢ fault.Device stream.Input) × (f ≢ fault.Device stream.Output)) }
 {
-    if !is_served(config) {
-        return Err(Fault::Run(RunFault::NotServed));
-    }
     if !config.rounds_fit(order.rounds) {
         return Err(Fault::Run(RunFault::Rounds));
     }

@@ -19,7 +19,7 @@ use Rattle.us_round.specs.Outputs.{RoundOut, AreWithinLimits, out_of, final_rows
 use Rattle.us_replay.specs.Files.{records, lines, counts_row}
 use Rattle.us_replay.specs.Replays.{KeptLimits, all_rows, is_granted, is_missed, output_of, summary_of}
 use Rattle.us_replay.specs.Progress.{Progress, Along, CanMake, IsMade, cuts_in, opening_progress, out_after, output_in, step_of, summary_after, with_last, with_round}
-use Rattle.us_replay.proofs.RoundLemmas.{After, after, some-records}
+use Rattle.us_replay.proofs.RoundLemmas.{After, after, HasCalendars, opening-calendars, next-calendars, some-records}
 use Rattle.us_replay.proofs.SumLemmas.{added-below, length-cut, sum-cut}
 use Rattle.us_replay.proofs.ReplayStopLemmas.{next-of, next-part, AreTexts, AreLast}
 
@@ -136,12 +136,12 @@ along-made t v k state next p q along below made =
     let ends : After state cut (round_of state cut).state = after state cut in
     let now = next-round t v k state p along below in
     let given = next-here t v k state p along below in
-    let few = made.few in
+    let next_round : next.round ≡ state.round + 1 = ap (λ s. s.round) made.state_is ∙ ends.round_is in
     record {
       within = omega (arith, below);
       lawful = along.lawful;
       tables = ap (λ s. s.tables) made.state_is ∙ ends.tables_are ∙ along.tables;
-      round = omega (arith, ap (λ s. s.round) made.state_is, ends.round_is, along.round);
+      round = omega (arith, next_round, along.round);
       clusters = ap (λ p. length p.cut) made.progress_is ∙ length-cut (length p.cut) (asks_in v k) ∙ along.clusters;
       asked = omega (
         arith,
@@ -163,14 +163,16 @@ along-made t v k state next p q along below made =
         arith,
         ap (λ p. p.granted) made.progress_is,
         along.few_granted,
-        few,
+        made.few,
+        next_round,
         count_by-le-length is_granted here.rows,
       );
       few_missed = omega (
         arith,
         ap (λ p. p.missed) made.progress_is,
         along.few_missed,
-        few,
+        made.few,
+        next_round,
         count_by-le-length is_missed here.rows,
       );
       limits = limits-next (AreWithinLimits t) (schedule (opening t) (cuts_in t v)) k _ _ now along.limits
@@ -199,23 +201,25 @@ texts-here t v k state next p q asks maps report along below are made maps_are r
 
 -- each round has records
 some-in : (state : State) (cuts : List (List ℕ)) (k : ℕ) (next : RoundOut) (rest : List RoundOut) →
-    1 ≤ length state.tables.channels →
+    HasCalendars state → 1 ≤ length state.tables.channels →
     drop k (map (out_of state.tables) (schedule state cuts)) ≡ next ∷ rest → 0 < length (records next)
 unfolding schedule
-some-in state [] zero next rest some here = let no : [] ≡ next ∷ rest = here in cc
-some-in state [] (suc k) next rest some here = let no : [] ≡ next ∷ rest = here in cc
-some-in state (cut ∷ cuts) zero next rest some here =
+some-in state [] zero next rest calendars some here = let no : [] ≡ next ∷ rest = here in cc
+some-in state [] (suc k) next rest calendars some here = let no : [] ≡ next ∷ rest = here in cc
+some-in state (cut ∷ cuts) zero next rest calendars some here =
     let same : out_of state.tables (round_of state cut).scheduled ≡ next = cc in
-    omega (arith, some-records state cut some, ap (λ out. length (records out)) same)
-some-in state (cut ∷ cuts) (suc k) next rest some here =
+    omega (arith, some-records state cut calendars some, ap (λ out. length (records out)) same)
+some-in state (cut ∷ cuts) (suc k) next rest calendars some here =
     let same : (round_of state cut).state.tables ≡ state.tables = (after state cut).tables_are in
-    some-in (round_of state cut).state cuts k next rest (omega (arith, some, ap (λ t. length t.channels) same))
+    some-in (round_of state cut).state cuts k next rest (next-calendars state cut calendars)
+    (omega (arith, some, ap (λ t. length t.channels) same))
     (ap (λ t. drop k (map (out_of t) (schedule (round_of state cut).state cuts))) same ∙ here)
 
 pub some-next : (t : Tables) (v : TraceAsks) (k : ℕ) → AreTables t → (next : RoundOut) (rest : List RoundOut) →
     drop k (output_in t v).given ≡ next ∷ rest → 0 < length (records next)
 unfolding output_of
-some-next t v k lawful next rest here = some-in (opening t) (cuts_in t v) k next rest lawful.some_channels.0 here
+some-next t v k lawful next rest here =
+    some-in (opening t) (cuts_in t v) k next rest (opening-calendars t) lawful.some_channels.0 here
 
 -- All rounds.
 
@@ -277,9 +281,9 @@ time-next t rounds k fits below =
 
 -- what is outstanding and what is asked for stay below all that is ever asked for
 pub can-make : (t : Tables) (v : TraceAsks) (k : ℕ) (state : State) (p : Progress) (asks : List Ask) → IsTrace v →
-    Along t v k state p → rounds_fit t v.rounds ≡ true → k < v.rounds → v.rounds < 2 ^ 32 →
+    Along t v k state p → rounds_fit t v.rounds ≡ true → k < v.rounds →
     AllByRecursion (λ ask. ask.cluster < length (clusters_of t)) (asks_in v k) → asks ≡ asks_in v k → CanMake state p asks
-can-make t v k state p asks lawful along fits below short known are = record {
+can-make t v k state p asks lawful along fits below known are = record {
   lawful = subst AreTables (sym along.tables) along.lawful;
   clusters = along.clusters ∙ ap (λ t. length (clusters_of t)) (sym along.tables);
   known = subst (AllByRecursion (λ ask. ask.cluster < length p.cut)) (sym are)
@@ -287,10 +291,8 @@ can-make t v k state p asks lawful along fits below short known are = record {
   asked = omega (arith, along.asked, next-asked v k, lawful.asked (k + 1), ap (sum_by (λ ask. ask.bytes)) are);
   time = subst (λ n. (n + 1) * state.tables.round_ticks ≤ max_run_ticks) (sym along.round)
       (subst (λ t. (k + 1) * t.round_ticks ≤ max_run_ticks) (sym along.tables) (time-next t v.rounds k fits below));
-  room = record {
-    granted = omega (arith, along.few_granted, below, short);
-    missed = omega (arith, along.few_missed, below, short);
-  };
+  few_granted = along.few_granted;
+  few_missed = along.few_missed;
 }
 
 -- Making a round.

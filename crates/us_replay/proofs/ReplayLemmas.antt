@@ -1,7 +1,7 @@
 -- The run of a trace that was read is that of the requests that its text tells.
-use Rattle.std.proofs.Common.{◌≡◌, ℕ, List, length, map, Option, Result, Ok, Err, ap, subst, ◌∙◌}
+use Rattle.std.proofs.Common.{◌≡◌, ℕ, true, List, length, map, Option, Result, Ok, Err, ap, subst, ◌∙◌}
 use Rattle.std.specs.List.{range_with_len}
-use Rattle.us_flows.specs.Tables.{Tables}
+use Rattle.us_flows.specs.Tables.{Tables, rounds_fit}
 use Rattle.us_flows.specs.Clusters.{clusters_of}
 use Rattle.us_requests.specs.Asks.{Request, counts_of}
 use Rattle.us_requests.specs.Cuts.{cut_at, cut_of}
@@ -11,7 +11,7 @@ use Rattle.us_requests.specs.Readings.{Reads}
 use Rattle.us_replay.specs.declared.summaries.Summary.{Summary}
 use Rattle.us_replay.specs.declared.faults.RunFault.{RunFault}
 use Rattle.us_replay.specs.declared.faults.RunFault.TheVariants as fault
-use Rattle.us_replay.specs.Replays.{Growth, Ran, RanText, CanRun, KeptLimits, Replayed, cuts_of, output_of, output_for, rounds_done}
+use Rattle.us_replay.specs.Replays.{Growth, Ran, RanText, KeptLimits, Replayed, cuts_of, output_of, output_for, rounds_done}
 use Rattle.us_replay.specs.Progress.{RanTrace, cuts_in}
 
 -- the asks of each round add up to the cut of the rows
@@ -46,7 +46,7 @@ ran-text t rounds told v to_maps to_report result (text, is_text, no_fault, is) 
 
 -- whatever `run` answers
 pub replayed : (t : Tables) (rounds : ℕ) (told : Option (List ℕ)) (v : TraceAsks) (to_maps to_report : Growth)
-    (result : Result Summary RunFault) → CanRun t rounds → Reads t rounds told (Ok v) →
+    (result : Result Summary RunFault) → rounds_fit t rounds ≡ true → Reads t rounds told (Ok v) →
     RanTrace t v to_maps to_report result → Replayed t rounds told to_maps to_report result
 replayed t rounds told v to_maps to_report (Ok summary) can read ran =
     (can, ran-text t rounds told v to_maps to_report (Ok summary) read ran)
@@ -58,4 +58,3 @@ replayed t rounds told v to_maps to_report (Err (fault.NoMemory done)) can read 
     (can, ran-text t rounds told v to_maps to_report (Err (fault.NoMemory done)) read ran)
 replayed t rounds told v to_maps to_report (Err fault.Rounds) can read ran = absurd ran.0
 replayed t rounds told v to_maps to_report (Err (fault.Trace reason)) can read ran = absurd ran.0
-replayed t rounds told v to_maps to_report (Err fault.NotServed) can read ran = absurd ran.0

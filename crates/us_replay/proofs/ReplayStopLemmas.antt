@@ -213,7 +213,6 @@ sent-stops out counts k a b c d e f maps report (fault.WriteReport done) so_far 
 sent-stops out counts k a b c d e f maps report (fault.NoMemory done) so_far part never = absurd never
 sent-stops out counts k a b c d e f maps report fault.Rounds so_far part never = absurd never
 sent-stops out counts k a b c d e f maps report (fault.Trace reason) so_far part never = absurd never
-sent-stops out counts k a b c d e f maps report fault.NotServed so_far part never = absurd never
 
 -- the texts of the round at a place
 pub record AreTexts (out : Output) (k : ℕ) (maps report : List ℕ) : Type 0 where
@@ -327,7 +326,6 @@ flush-stops out counts k a b c d e f (fault.WriteReport done) all took (maps, re
 flush-stops out counts k a b c d e f (fault.NoMemory done) all took never = absurd never
 flush-stops out counts k a b c d e f fault.Rounds all took never = absurd never
 flush-stops out counts k a b c d e f (fault.Trace reason) all took never = absurd never
-flush-stops out counts k a b c d e f fault.NotServed all took never = absurd never
 
 -- Limits.
 
@@ -342,7 +340,6 @@ sent-kept t cuts k maps report to_maps to_report (fault.WriteReport done) kept (
 sent-kept t cuts k maps report to_maps to_report (fault.NoMemory done) kept never = absurd never
 sent-kept t cuts k maps report to_maps to_report fault.Rounds kept never = absurd never
 sent-kept t cuts k maps report to_maps to_report (fault.Trace reason) kept never = absurd never
-sent-kept t cuts k maps report to_maps to_report fault.NotServed kept never = absurd never
 
 -- and one of a flush all of them
 pub flushed-kept : (t : Tables) (cuts : List (List ℕ)) (k : ℕ) (to_maps to_report : Growth) (reason : RunFault) →
@@ -354,7 +351,6 @@ flushed-kept t cuts k to_maps to_report (fault.WriteReport done) kept (maps, rep
 flushed-kept t cuts k to_maps to_report (fault.NoMemory done) kept never = absurd never
 flushed-kept t cuts k to_maps to_report fault.Rounds kept never = absurd never
 flushed-kept t cuts k to_maps to_report (fault.Trace reason) kept never = absurd never
-flushed-kept t cuts k to_maps to_report fault.NotServed kept never = absurd never
 
 pub none-kept : (t : Tables) (cuts : List (List ℕ)) → KeptLimits t cuts 0
 unfolding KeptLimits

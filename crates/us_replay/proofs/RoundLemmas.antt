@@ -1,10 +1,13 @@
 -- Rounds: what is outstanding was asked for, and what a round gives is never nothing.
 use Rattle.std.proofs.Common.{◌≡◌, ℕ, ◌+◌, ◌-◌, ◌<◌, ◌≤◌, List, [], ◌∷◌, length, map, flat_map, sum, refl, ◌∙◌, arith, length-append}
+use Rattle.std.specs.List.{zip}
 use Rattle.std.proofs.lemmas.List.{length-map}
 use Rattle.us_codec.specs.Bodies.{MapBody, spelling}
 use Rattle.us_codec.specs.MapsFiles.{Piece, record_bytes, maps_file}
+use Rattle.us_flows.specs.Tables.{Tables}
+use Rattle.us_calendar.specs.Calendars as calendars
 use Rattle.us_round.specs.Placements.{Grant}
-use Rattle.us_round.specs.Rounds.{State, Filled, all_grants, asked, begun, build_on, builds_of, credits, filled, is_of_cluster, left_of, round_from, round_of, round_plan}
+use Rattle.us_round.specs.Rounds.{State, all_grants, asked, begun, build_on, builds_of, credits, fills_of, is_of_cluster, left_of, opening, round_from, round_of, round_plan}
 use Rattle.us_round.specs.Outputs.{RoundOut, built_map, out_of}
 use Rattle.us_replay.specs.Files.{records}
 use Rattle.us_replay.proofs.SumLemmas.{sum-cons, sum-added}
@@ -40,15 +43,39 @@ after state cut =
 
 -- Records.
 
--- a round has a MAP for each channel
-length-maps : (state : State) (cut : List ℕ) →
+-- a state has a calendar for each channel
+abbrev pub HasCalendars : State → Type 0
+HasCalendars state = length state.calendars ≡ length state.tables.channels
+
+pub opening-calendars : (t : Tables) → HasCalendars (opening t)
+opening-calendars t = length-map t.channels (calendars.opening t)
+
+length-pairs : {A B : Type 0} (xs : List A) (ys : List B) → length ys ≡ length xs → length (zip xs ys) ≡ length xs
+length-pairs [] ys same = refl
+length-pairs (x ∷ xs) [] same = omega (arith, same)
+length-pairs (x ∷ xs) (y ∷ ys) same = omega (arith, length-pairs xs ys (omega (arith, same)))
+
+-- so a round builds each channel
+length-builds : (state : State) (cut : List ℕ) → HasCalendars state →
+    length (builds_of (begun state cut)) ≡ length state.tables.channels
+unfolding builds_of
+length-builds state cut has =
+    length-map (fills_of (begun state cut)) (build_on (round_plan (begun state cut))) ∙
+    length-map (zip state.tables.channels state.calendars) _ ∙
+    length-pairs state.tables.channels state.calendars has
+
+pub next-calendars : (state : State) (cut : List ℕ) → HasCalendars state → HasCalendars (round_of state cut).state
+unfolding round_of round_from
+next-calendars state cut has =
+    length-map (builds_of (begun state cut)) (λ b. b.calendar) ∙ length-builds state cut has
+
+-- and has a MAP for each channel
+length-maps : (state : State) (cut : List ℕ) → HasCalendars state →
     length (out_of state.tables (round_of state cut).scheduled).maps ≡ length state.tables.channels
-unfolding round_of round_from builds_of out_of
-length-maps state cut =
-    let now : State = begun state cut in
-    let fs : List Filled = filled state.tables state.round in
-    length-map (map (build_on (round_plan now)) fs) (built_map state.tables state.round (round_of state cut).scheduled.pending) ∙
-    length-map fs (build_on (round_plan now)) ∙ length-map state.tables.channels _
+unfolding round_of round_from out_of
+length-maps state cut has =
+    length-map (builds_of (begun state cut)) (built_map state.tables state.round (round_of state cut).scheduled.pending) ∙
+    length-builds state cut has
 
 length-record : (p : Piece) → 6 ≤ length (record_bytes p)
 unfolding record_bytes
@@ -64,9 +91,9 @@ some-file round (body ∷ maps) h =
     omega (arith, length-append (record_bytes first) (flat_map record_bytes rest), length-record first)
 
 -- so its records have bytes
-pub some-records : (state : State) (cut : List ℕ) → 1 ≤ length state.tables.channels →
+pub some-records : (state : State) (cut : List ℕ) → HasCalendars state → 1 ≤ length state.tables.channels →
     0 < length (records (out_of state.tables (round_of state cut).scheduled))
 unfolding records
-some-records state cut some =
+some-records state cut calendars some =
     let out : RoundOut = out_of state.tables (round_of state cut).scheduled in
-    some-file out.round out.maps (omega (arith, length-maps state cut, some))
+    some-file out.round out.maps (omega (arith, length-maps state cut calendars, some))

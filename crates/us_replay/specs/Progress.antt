@@ -12,6 +12,7 @@ use Rattle.us_requests.specs.declared.asks.Counts.{Counts}
 use Rattle.us_requests.specs.Cuts.{cut_of}
 use Rattle.us_requests.specs.Traces.{TraceAsks, asks_in, asked_before, max_asked}
 use Rattle.us_round.specs.Rounds.{State, Step, opening, round_of, schedule, final}
+use Rattle.us_round.specs.States.{settled_by}
 use Rattle.us_round.specs.Outputs.{RoundOut, AreWithinLimits, final_rows, out_of}
 use Rattle.us_replay.specs.declared.summaries.Summary.{Summary}
 use Rattle.us_replay.specs.declared.faults.RunFault.{RunFault}
@@ -51,14 +52,19 @@ abbrev pub opening_progress : ℕ → Progress
 opening_progress clusters =
     record { cut = replicate clusters 0; to_maps = []; to_report = []; granted = 0; missed = 0 }
 
--- the most lines of a round: of 16 channels with 100 assignments each
-abbrev pub max_rows : ℕ
-max_rows = 1600
+-- the most lines of requested grants in a round: of 16 channels with 100 assignments each
+abbrev pub max_requested : ℕ
+max_requested = 1600
 
--- there is room to count the lines of one more round
-pub record HasRoom (p : Progress) : Type 0 where
-  pub granted : p.granted + max_rows < 2 ^ 64
-  pub missed : p.missed + max_rows < 2 ^ 64
+-- lines so far, before the round of a state: beside those of requested grants there is at most one for each occurrence
+-- that the calendars settled
+abbrev pub AreFewBefore : State → ℕ → Type 0
+AreFewBefore state lines = lines ≤ max_requested * state.round + settled_by state
+
+-- there is room to count so many lines more
+pub record HasRoom (p : Progress) (more : ℕ) : Type 0 where
+  pub granted : p.granted + more < 2 ^ 64
+  pub missed : p.missed + more < 2 ^ 64
 
 -- the asks of the next round were added up
 abbrev pub with_asks : Progress → List Ask → Progress
@@ -110,7 +116,8 @@ pub record CanMake (state : State) (p : Progress) (asks : List Ask) : Type 0 whe
   pub known : AllByRecursion (λ ask. ask.cluster < length p.cut) asks
   pub asked : sum state.outstanding + sum_by (λ ask. ask.bytes) asks ≤ max_asked
   pub time : (state.round + 1) * state.tables.round_ticks ≤ max_run_ticks
-  pub room : HasRoom p
+  pub few_granted : AreFewBefore state p.granted
+  pub few_missed : AreFewBefore state p.missed
 
 -- the round of a state and these asks
 abbrev pub step_of : State → Progress → List Ask → Step
@@ -124,7 +131,7 @@ pub record IsMade (state : State) (p : Progress) (asks : List Ask) (next : State
   pub state_is : next ≡ (step_of state p asks).state
   pub progress_is : after ≡ with_round (with_asks p asks) (out_after state p asks)
   pub limits : AreWithinLimits state.tables (step_of state p asks).scheduled
-  pub few : length (out_after state p asks).rows ≤ max_rows
+  pub few : length (out_after state p asks).rows + settled_by state ≤ max_requested + settled_by next
 
 -- how a replay stands after k rounds
 pub record Along (t : Tables) (v : TraceAsks) (k : ℕ) (state : State) (p : Progress) : Type 0 where
@@ -140,8 +147,8 @@ pub record Along (t : Tables) (v : TraceAsks) (k : ℕ) (state : State) (p : Pro
   -- the lines so far
   pub granted : p.granted ≡ count_by is_granted (all_rows (take k (output_in t v).given))
   pub missed : p.missed ≡ count_by is_missed (all_rows (take k (output_in t v).given))
-  pub few_granted : p.granted ≤ max_rows * k
-  pub few_missed : p.missed ≤ max_rows * k
+  pub few_granted : AreFewBefore state p.granted
+  pub few_missed : AreFewBefore state p.missed
   pub limits : KeptLimits t (cuts_in t v) k
 
 -- Writing.
@@ -156,7 +163,6 @@ Sent maps report done to_maps to_report (Err (fault.WriteReport rounds)) =
 Sent maps report done to_maps to_report (Err (fault.NoMemory rounds)) = ⊥
 Sent maps report done to_maps to_report (Err fault.Rounds) = ⊥
 Sent maps report done to_maps to_report (Err (fault.Trace reason)) = ⊥
-Sent maps report done to_maps to_report (Err fault.NotServed) = ⊥
 
 -- a flush keeps what was taken, and a fault of it names these rounds
 abbrev pub Flushed : ℕ → Growth → Growth → Result (Unit {0}) RunFault → Type 0
@@ -168,4 +174,3 @@ Flushed done to_maps to_report (Err (fault.WriteReport rounds)) =
 Flushed done to_maps to_report (Err (fault.NoMemory rounds)) = ⊥
 Flushed done to_maps to_report (Err fault.Rounds) = ⊥
 Flushed done to_maps to_report (Err (fault.Trace reason)) = ⊥
-Flushed done to_maps to_report (Err fault.NotServed) = ⊥

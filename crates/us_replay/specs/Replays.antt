@@ -8,7 +8,6 @@ use Rattle.us_requests.specs.Asks.{Request, counts_of}
 use Rattle.us_requests.specs.Cuts.{cut_at}
 use Rattle.us_requests.specs.Rows.{trace_fault, requests_of}
 use Rattle.us_requests.specs.Readings.{IsTextOf, Reads}
-use Rattle.us_round.specs.Served.{is_served}
 use Rattle.us_round.specs.Rounds.{opening, schedule, final}
 use Rattle.us_round.specs.Outputs.{RoundOut, AreWithinLimits, final_rows, out_of}
 use Rattle.us_round.specs.declared.rows.Row.{Row}
@@ -119,7 +118,6 @@ Ran out counts to_maps to_report (Err (fault.NoMemory done)) =
     TookRounds out done to_maps to_report × Stopped out to_maps to_report done
 Ran out counts to_maps to_report (Err fault.Rounds) = ⊥
 Ran out counts to_maps to_report (Err (fault.Trace reason)) = ⊥
-Ran out counts to_maps to_report (Err fault.NotServed) = ⊥
 
 -- Limits.
 
@@ -131,7 +129,6 @@ rounds_done (Err (fault.WriteReport done)) = done
 rounds_done (Err (fault.NoMemory done)) = done
 rounds_done (Err fault.Rounds) = 0
 rounds_done (Err (fault.Trace reason)) = 0
-rounds_done (Err fault.NotServed) = 0
 
 -- no MAP of the first `done` rounds passes a limit of MAPs
 unfoldable pub KeptLimits : Tables → List (List ℕ) → ℕ → Type 0
@@ -153,32 +150,25 @@ RanText t rounds told to_maps to_report result =
 abbrev pub TookNothing : Growth → Growth → Type 0
 TookNothing to_maps to_report = Took to_maps [] × Took to_report []
 
--- a configuration that is served, and a number of rounds that fits
-abbrev pub CanRun : Tables → ℕ → Type 0
-CanRun t rounds = (is_served t ≡ true) × (rounds_fit t rounds ≡ true)
-
--- a replay: what stands by its answer. A configuration that isn't served is answered first, then a number of rounds
--- that doesn't fit, and then a fault of the trace
+-- a replay: what stands by its answer. A number of rounds that doesn't fit is answered first, and then a fault of the
+-- trace
 abbrev pub Replayed : Tables → ℕ → Option (List ℕ) → Growth → Growth → Result Summary RunFault → Type 0
-Replayed t rounds told to_maps to_report (Err fault.NotServed) =
-    (is_served t ≡ false) × TookNothing to_maps to_report
 Replayed t rounds told to_maps to_report (Err fault.Rounds) =
-    (is_served t ≡ true) × (rounds_fit t rounds ≡ false) × TookNothing to_maps to_report
+    (rounds_fit t rounds ≡ false) × TookNothing to_maps to_report
 Replayed t rounds told to_maps to_report (Err (fault.Trace reason)) =
-    CanRun t rounds × Reads t rounds told (Err reason) × TookNothing to_maps to_report
+    (rounds_fit t rounds ≡ true) × Reads t rounds told (Err reason) × TookNothing to_maps to_report
 Replayed t rounds told to_maps to_report (Ok summary) =
-    CanRun t rounds × RanText t rounds told to_maps to_report (Ok summary)
+    (rounds_fit t rounds ≡ true) × RanText t rounds told to_maps to_report (Ok summary)
 Replayed t rounds told to_maps to_report (Err (fault.WriteMaps done)) =
-    CanRun t rounds × RanText t rounds told to_maps to_report (Err (fault.WriteMaps done))
+    (rounds_fit t rounds ≡ true) × RanText t rounds told to_maps to_report (Err (fault.WriteMaps done))
 Replayed t rounds told to_maps to_report (Err (fault.WriteReport done)) =
-    CanRun t rounds × RanText t rounds told to_maps to_report (Err (fault.WriteReport done))
+    (rounds_fit t rounds ≡ true) × RanText t rounds told to_maps to_report (Err (fault.WriteReport done))
 Replayed t rounds told to_maps to_report (Err (fault.NoMemory done)) =
-    CanRun t rounds × RanText t rounds told to_maps to_report (Err (fault.NoMemory done))
+    (rounds_fit t rounds ≡ true) × RanText t rounds told to_maps to_report (Err (fault.NoMemory done))
 
 -- which answers come before anything is written
 abbrev pub comes_before : {A : Type 0} → Result A RunFault → Bool
 comes_before (Ok done) = false
-comes_before (Err fault.NotServed) = true
 comes_before (Err fault.Rounds) = true
 comes_before (Err (fault.Trace reason)) = true
 comes_before (Err (fault.WriteMaps done)) = false
@@ -191,7 +181,6 @@ blames_maps (Ok done) = false
 blames_maps (Err (fault.WriteMaps done)) = true
 blames_maps (Err (fault.WriteReport done)) = false
 blames_maps (Err (fault.NoMemory done)) = false
-blames_maps (Err fault.NotServed) = false
 blames_maps (Err fault.Rounds) = false
 blames_maps (Err (fault.Trace reason)) = false
 
@@ -200,6 +189,5 @@ blames_report (Ok done) = false
 blames_report (Err (fault.WriteMaps done)) = false
 blames_report (Err (fault.WriteReport done)) = true
 blames_report (Err (fault.NoMemory done)) = false
-blames_report (Err fault.NotServed) = false
 blames_report (Err fault.Rounds) = false
 blames_report (Err (fault.Trace reason)) = false

@@ -4,18 +4,23 @@ use Rattle.std.specs.Int.{to_be_bytes, w16, w32}
 use Rattle.std.specs.Fmt.{digits}
 use Rattle.us_codec.specs.Bodies.{spelling, front, element_bytes}
 use Rattle.us_codec.specs.MapsFiles.{record_bytes, maps_file}
+use Rattle.us_flows.specs.declared.flows.SchedulingType.TheVariants.{UnsolicitedGrant}
 use Rattle.us_flows.specs.Tables.{Tables}
 use Rattle.us_flows.specs.Clusters.{lookup}
 use Rattle.us_requests.specs.Asks.{Request, round_of_tick, counts_of}
 use Rattle.us_requests.specs.Cuts.{cut, cut_at}
+use Rattle.us_calendar.specs.Entries.{entries}
+use Rattle.us_calendar.specs.Occurrences.{due}
+use Rattle.us_calendar.specs.Settling.{settle_each, settle_row}
+use Rattle.us_calendar.specs.Calendars.{run_rows}
 use Rattle.us_round.specs.RoundExamples.{base, base_channel, base_flow, round_steps, tables, without_flows}
 use Rattle.us_replay.specs.Files.{records, lines}
 use Rattle.us_replay.specs.Replays.{Output, cuts_of, output_of, summary_of, maps_text, report_text}
 
 -- what these computations unfold
 unfoldable all_steps : ⊤
-unfolding round_steps lookup round_of_tick counts_of cut cut_at cuts_of output_of summary_of lines digits element_bytes
-    front spelling record_bytes records maps_file
+unfolding round_steps entries due settle_each settle_row run_rows lookup round_of_tick counts_of cut cut_at cuts_of
+    output_of summary_of lines digits element_bytes front spelling record_bytes records maps_file
 all_steps = tt
 
 -- at a tick this SID asks for so many units on channel 1
@@ -74,3 +79,24 @@ limited_run :
     codes "G,3,1,req,1,0,0,291,10,0,11,320\nF,1,0,7838,0\nU,0,0,0\n")
 unfolding all_steps
 limited_run = refl
+
+-- a grant of 16 bytes, ideal at 1,900 microseconds; round 0 ends at 2,000, and its last minislots are contention
+abbrev granted_later : ℕ → Tables
+granted_later jitter_us = tables (base_channel ∷ []) (record base_flow {
+  kind = UnsolicitedGrant;
+  clusters = (513 ∷ []) ∷ [];
+  start_us = 1900;
+  interval_us = 10000;
+  jitter_us = jitter_us;
+  grant_bytes = 16;
+  grants_per_interval = 1;
+} ∷ [])
+
+-- it waits for round 1 where its window reaches there, and is missed where not
+unsolicited_runs :
+    (report_text (run (granted_later 800) 2 []) ≡ codes "G,1,1,ugs,1,0,0,513,11,0,1,0\nU,0,0,0\n") ×
+    (report_text (run (granted_later 80) 2 []) ≡ codes "M,0,1,ugs,1,0,0\nU,0,0,0\n") ×
+    (summary_of (run (granted_later 80) 2 []) (counts_of (granted_later 80) 2 []) ≡
+    record { rounds = 2; granted = 0; missed = 1; unknown = 0; not_requestable = 0; late = 0 })
+unfolding all_steps
+unsolicited_runs = (refl, refl, refl)

@@ -16,9 +16,6 @@ pub enum RunFault {
     WriteReport(u32),
     /// RU6: want of memory, after so many rounds were done as in RU4.
     NoMemory(u32),
-    /// RU7: a configuration that is not served yet: with a station, or with a flow of another type than 2 (best effort).
-    /// This is looked at before RU1; nothing was read or written.
-    NotServed,
 }
 
 impl fmt::Display for RunFault {
@@ -29,7 +26,6 @@ impl fmt::Display for RunFault {
             RunFault::WriteMaps(done) => ("RU4: the maps file failed", Some(done)),
             RunFault::WriteReport(done) => ("RU5: the report failed", Some(done)),
             RunFault::NoMemory(done) => ("RU6: out of memory", Some(done)),
-            RunFault::NotServed => ("RU7: the configuration is not served yet", None),
         };
         match rounds {
             Some(done) => write!(f, "{text} after {done} rounds"),

@@ -32,7 +32,7 @@ mod replays;
 pub use faults::RunFault;
 pub use replays::replay;
 pub use summaries::Summary;
-pub use us_round::{Entry, Row, is_served};
+pub use us_round::{Entry, Row};
 
 #[cfg(test)]
 mod tests;

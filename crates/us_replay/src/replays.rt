@@ -1,11 +1,10 @@
-ghost use Rattle.std.specs.Prelude.{◌≡◌, ◌↔◌, ◌⊎◌, ℕ, ◌<◌, true, false, length, IfOk};
+ghost use Rattle.std.specs.Prelude.{◌≡◌, ◌↔◌, ℕ, ◌<◌, true, false, length, IfOk};
 ghost use Rattle.std.specs.List.{AllByRecursion};
 ghost use Rattle.us_flows.specs.Tables;
 ghost use Rattle.us_flows.specs.Clusters.{clusters_of};
 ghost use Rattle.us_slots.specs.Devices.{TookAtMost};
 ghost use Rattle.us_requests.specs.Readings.{max_bytes};
 ghost use Rattle.us_requests.specs.Traces.{asks_in};
-ghost use Rattle.us_round.specs.Served.{is_served};
 ghost use Rattle.us_round.specs.Rounds.{opening};
 ghost use Rattle.us_replay.specs.Replays.{Growth, Replayed, comes_before, blames_maps, blames_report};
 ghost use Rattle.us_replay.specs.Progress.{Along, CanMake, IsMade, RanTrace};
@@ -17,7 +16,7 @@ use sending::{flush, send};
 use std::alloc::Global;
 use us_flows::Config;
 use us_requests::{Ask, Trace, TraceFault};
-use us_round::{State, is_served, round};
+use us_round::{State, round};
 use us_slots::{NoMemory, Sink, Source};
 
 mod progress;
@@ -26,10 +25,9 @@ mod tallies;
 
 /// Replays the trace of `trace` with a configuration, for so many rounds: writes the maps file and the report.
 ///
-/// The configuration is looked at first (RU7) and then the number of rounds (RU1), and then the trace is read to its
-/// end (RU3). Each round writes its records and then its lines, the channels in table order; after the last one the F
-/// lines and the U line are written, and both writers are flushed, the maps file's first. The first fault ends the
-/// replay (RU4, RU5, RU6).
+/// The number of rounds is looked at first (RU1), and then the trace is read to its end (RU3). Each round writes its
+/// records and then its lines, the channels in table order; after the last one the F lines and the U line are written,
+/// and both writers are flushed, the maps file's first. The first fault ends the replay (RU4, RU5, RU6).
 pub fn replay<R: Source, W1: Sink, W2: Sink>(
     alloc: Global,
     config: &Config,
@@ -44,11 +42,8 @@ pub fn replay<R: Source, W1: Sink, W2: Sink>(
     ensures replayed { let to_maps : Growth = record { before = W1.contents maps.old; after = W1.contents maps.new } in
         let to_report : Growth = record { before = W2.contents report.old; after = W2.contents report.new } in
         Replayed config.now rounds (R.remaining trace.old) to_maps to_report result }
-    ensures served { (result ≡ Err RunFault.NotServed) ↔ (is_served config.now ≡ false) }
-    ensures rounds { (result ≡ Err RunFault.Rounds) ↔
-        ((is_served config.now ≡ true) × (Tables.rounds_fit config.now rounds ≡ false)) }
-    ensures nothing_read { ((result ≡ Err RunFault.NotServed) ⊎ (result ≡ Err RunFault.Rounds)) →
-        trace.new ≡ trace.old }
+    ensures rounds { (result ≡ Err RunFault.Rounds) ↔ (Tables.rounds_fit config.now rounds ≡ false) }
+    ensures nothing_read { result ≡ Err RunFault.Rounds → trace.new ≡ trace.old }
     ensures nothing_written { comes_before result ≡ true → (maps.new ≡ maps.old) × (report.new ≡ report.old) }
     ensures trace_failed { (R.failed trace.new ≡ true) ↔ (result ≡ Err (RunFault.Trace TraceFault.Read)) }
     ensures trace_taken { result ≡ Err (RunFault.Trace TraceFault.Read) →
@@ -56,9 +51,6 @@ pub fn replay<R: Source, W1: Sink, W2: Sink>(
     ensures maps_failed { W1.failed maps.new ≡ blames_maps result }
     ensures report_failed { W2.failed report.new ≡ blames_report result }
 {
-    if !is_served(config) {
-        return Err(RunFault::NotServed);
-    }
     if !config.rounds_fit(rounds) {
         return Err(RunFault::Rounds);
     }
@@ -74,7 +66,6 @@ fn run<W1: Sink, W2: Sink>(
     maps: &mut W1,
     report: &mut W2,
 ) -> Result<Summary, RunFault>
-    requires served { is_served config.now ≡ true }
     requires fits { Tables.rounds_fit config.now trace.now.rounds ≡ true }
     requires known { (round : ℕ) →
         AllByRecursion (λ ask. ask.cluster < length (clusters_of config.now)) (asks_in trace.now round) }
@@ -97,7 +88,6 @@ fn run<W1: Sink, W2: Sink>(
 
 /// The state before round 0, of a copy of the configuration.
 fn opened(alloc: Global, config: &Config) -> Result<State, NoMemory>
-    requires { is_served config.now ≡ true }
     ensures { IfOk result (λ state. state ≡ opening config.now) }
 {
     let copy = config.copy(alloc)?;
@@ -166,6 +156,8 @@ fn make_round(
     let Ok((next, out)) = round(alloc, state, progress.cut()) else {
         return Err(NoMemory);
     };
+    // Its clauses bound how many rounds there were and how much the calendars settled, so that no count of lines wraps.
+    let _ = next.round();
     progress.take_round(&out)?;
     Ok(next)
 }

@@ -2,7 +2,7 @@ ghost use Rattle.std.specs.Prelude.{◌≡◌, ◌<◌, ◌≤◌, length, sum_b
 ghost use Rattle.std.specs.List.{AllByRecursion};
 ghost use Rattle.us_requests.specs.Traces.{max_asked};
 ghost use Rattle.us_replay.specs.Progress as spec;
-ghost use Rattle.us_replay.specs.Progress.{HasRoom, max_rows, summary_after, with_asks, with_last, with_round};
+ghost use Rattle.us_replay.specs.Progress.{HasRoom, summary_after, with_asks, with_last, with_round};
 
 use super::tallies::Tally;
 use crate::cuts::cut_round;
@@ -71,8 +71,7 @@ impl Progress {
     /// Makes all that is to be written of a round. After want of memory nothing is said of what stands here.
     #[tactic(auto, unfolding(crate::specs::Progress::with_round))]
     pub(crate) fn take_round(&mut self, out: &RoundOut) -> Result<(), NoMemory>
-        requires room { HasRoom self.old }
-        requires few { length out.now.rows ≤ max_rows }
+        requires { HasRoom self.old (length out.now.rows) }
         ensures { OnOk result (self.new ≡ with_round self.old out.now) }
     {
         self.tally.add(out.rows());

@@ -96,13 +96,12 @@ fn a_line_of_each_kind_and_word(rt: HostRuntime) {
     }
 }
 
-const FAULTS: [RunFault; 6] = [
+const FAULTS: [RunFault; 5] = [
     RunFault::Rounds,
     RunFault::Trace(TraceFault::Header),
     RunFault::WriteMaps(0),
     RunFault::WriteReport(7),
     RunFault::NoMemory(1),
-    RunFault::NotServed,
 ];
 
 const TEXTS: &str = "\
@@ -111,7 +110,6 @@ RU3: the trace is refused
 RU4: the maps file failed after 0 rounds
 RU5: the report failed after 7 rounds
 RU6: out of memory after 1 rounds
-RU7: the configuration is not served yet
 ";
 
 /// The texts of all these faults, one a line.

@@ -12,7 +12,6 @@ make_round-requires g c =
     can-make c.args.state.tables c.args.trace.now c.loop-done.done c.loop-done.state c.loop-done.progress c.asks.result.now
     c.loop-done.invariant.0 c.loop-done.invariant.1 c.requires.fits
     (omega (arith, c.loop-done-test.true, c.rounds-rounds.ensures.value))
-    (omega (arith, c.rounds-rounds.ensures.value, c.rounds-rounds.type_inv))
     (c.requires.known c.loop-done.done) c.asks.ensures.value
 
 pub returns-in_default-clause-ran : goal.returns-in_default-clause-ran
