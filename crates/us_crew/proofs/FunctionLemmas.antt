@@ -1,7 +1,6 @@
 -- Where the faults of items are a function, so is what is answered.
-use Rattle.std.proofs.Common.{◌≡◌, ℕ, ◌+◌, List, [], ◌∷◌, refl, sym, ap, ◌∙◌, inl, inr, Option, None, Some, IsSome, Result, Ok, Err}
+use Rattle.std.proofs.Common.{◌≡◌, ℕ, ◌+◌, List, [], ◌∷◌, refl, sym, ap, inl, inr, Option, None, Some, IsSome, Result, Ok, Err}
 use Rattle.us_crew.specs.Faults.{AreFaults, NamesFault, first_fault_from}
-use Rattle.us_crew.specs.Values.{values_from}
 use Rattle.us_crew.specs.Parts.{EachFrom, FaultFrom, Tells}
 use Rattle.us_crew.specs.declared.faults.CrewFault.{CrewFault}
 use Rattle.us_crew.specs.declared.faults.CrewFault.TheVariants as fault

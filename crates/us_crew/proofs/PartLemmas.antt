@@ -1,5 +1,5 @@
 -- What is answered for two parts of a list, one after the other, is answered for the list.
-use Rattle.std.proofs.Common.{◌≡◌, ℕ, suc, ◌+◌, List, [], ◌∷◌, ◌++◌, length, take, drop, refl, sym, ap, ◌∙◌, subst, inl, inr, arith, Result, Ok, Err}
+use Rattle.std.proofs.Common.{◌≡◌, ℕ, suc, ◌+◌, List, [], ◌∷◌, ◌++◌, length, take, drop, sym, ap, ◌∙◌, subst, inl, inr, arith, Result, Ok, Err}
 use Rattle.std.proofs.lemmas.List.{take-append-drop}
 use Rattle.us_crew.specs.Values.{values_from}
 use Rattle.us_crew.specs.Parts.{EachFrom, FaultFrom, Tells, Together}

@@ -1,5 +1,5 @@
 -- Small inputs, computed by the definitions alone.
-use Rattle.std.specs.Prelude.{◌≡◌, ℕ, ◌+◌, ◌*◌, ◌<◌, nat_lt, if◌then◌else◌, List, [], ◌∷◌, Option, None, Some, refl}
+use Rattle.std.specs.Prelude.{◌≡◌, ℕ, ◌+◌, ◌*◌, ◌<◌, nat_lt, if◌then◌else◌, [], ◌∷◌, Option, None, Some, refl}
 use Rattle.std.proofs.Common.{arith}
 use Rattle.us_crew.specs.Values.{values_of}
 use Rattle.us_crew.specs.Faults.{IsFirstFault, first_fault}

@@ -1,8 +1,7 @@
 use borrow.Author.Rules.{rules}
 use denote.Param.{param}
 use denote.Param.Send.{IsSync, IsSend, sendable}
-use Rattle.std.proofs.Common.{arith, ◌≡◌, ◌+◌, ◌/◌, ◌<◌, ◌^◌, ℕ, refl, sym, ap, ◌∙◌, subst, length, vec_len}
-use Rattle.us_crew.specs.Parts.{EachFrom, Tells}
+use Rattle.std.proofs.Common.{arith, ◌≡◌, ◌+◌, ◌/◌, ◌<◌, ◌^◌, ℕ, length, vec_len}
 use Rattle.us_crew.proofs.PartLemmas.{each-cut, tells-cut}
 use Rattle.us_crew.proofs.halves.+halves.Goals as goal
 
