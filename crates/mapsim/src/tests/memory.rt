@@ -2,7 +2,7 @@ use super::base::{INPUT, OUTPUT};
 use crate::programs::run;
 use us_slots::{FromRead, FromWrite};
 
-/// No test of its own: run with `--fail-alloc`, where each allocation is refused in turn. A refused one is answered as
+/// Run by `tools/refuse-memory` too, where each allocation is refused in turn. A refused one is answered as
 /// want of memory, and never as another fault or a wrong report. Nothing here but the program takes memory.
 #[test]
 fn refused_memory(rt: HostRuntime) {

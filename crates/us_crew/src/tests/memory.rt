@@ -2,8 +2,8 @@ use super::answers::DOUBLED;
 use super::base::{map_case, same, tell};
 use crate::OpenGate;
 
-/// Run with `--fail-alloc`, where each allocation is refused in turn: the items are answered whole, or it is want of
-/// memory.
+/// Run by `tools/refuse-memory` too, where each allocation is refused in turn: the items are answered whole, or it is
+/// want of memory.
 #[test]
 fn refused_memory(rt: HostRuntime) {
     let Ok(answer) = map_case(rt.alloc(), &rt, &DOUBLED, &OpenGate) else {

@@ -1,7 +1,7 @@
 use super::base::{place, same};
 use crate::Board;
 
-/// No test of its own: run with `--fail-alloc`, where each allocation is refused in turn: of the board's lists, and of
+/// Run by `tools/refuse-memory` too, where each allocation is refused in turn: of the board's lists, and of
 /// the list of its runs. A refused one is answered as want of memory, and never as a list of fewer runs; and placements
 /// take none, so that none is refused.
 #[test]

@@ -28,7 +28,7 @@ fn life(alloc: Global) -> Option<IntakeFault> {
     fault.or(intake.close(alloc, seat).err())
 }
 
-/// No test of its own: run with `--fail-alloc`, where each allocation is refused in turn. A refused one is answered as
+/// Run by `tools/refuse-memory` too, where each allocation is refused in turn. A refused one is answered as
 /// want of memory, and after a split the seat is whole still.
 #[test]
 fn refused_memory(rt: HostRuntime) {

@@ -164,9 +164,9 @@ fn is_right(alloc: Global, config: &Config) -> bool {
     blameless && as_wanted && right
 }
 
-/// Run with `--fail-alloc` too, where each allocation is refused in turn.
+/// Run by `tools/refuse-memory` too, where each allocation is refused in turn.
 #[test]
-fn replay_without_memory(rt: HostRuntime) {
+fn refused_memory(rt: HostRuntime) {
     if let Ok(config) = base(rt.alloc()) {
         same(&rt, &is_right(rt.alloc(), &config), &true, "without memory");
     }

@@ -1,8 +1,8 @@
 use super::base::{answer_of, same};
 use super::rounds::BONDED;
 
-/// Run with `--fail-alloc`, where each allocation is refused in turn: rounds and final lines are answered whole, or as
-/// want of memory.
+/// Run by `tools/refuse-memory` too, where each allocation is refused in turn: rounds and final lines are answered
+/// whole, or as want of memory.
 #[test]
 fn refused_memory(rt: HostRuntime) {
     // else it was refused to the answer's text
