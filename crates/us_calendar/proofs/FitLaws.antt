@@ -82,7 +82,7 @@ run_fits pace round (row ∷ rows) board =
 
 pub grants_fit : (pace : Pace) (round : ℕ) (rows : List Row) (board : Board) →
     ((run_rows pace round rows board).board ≡
-        assign_all board (flat_map intervals_of (run_rows pace round rows board).settled))
+    assign_all board (flat_map intervals_of (run_rows pace round rows board).settled))
     × AllFit board (flat_map intervals_of (run_rows pace round rows board).settled)
 grants_fit pace round rows board =
     let fitting = run_fits pace round rows board in

@@ -27,5 +27,5 @@ intervals_of (told.Missed kind id i k) = []
 abbrev pub GrantsFit : Type 0
 GrantsFit = (pace : Pace) (round : ℕ) (rows : List Row) (board : Board) →
     ((run_rows pace round rows board).board ≡
-        assign_all board (flat_map intervals_of (run_rows pace round rows board).settled))
+    assign_all board (flat_map intervals_of (run_rows pace round rows board).settled))
     × AllFit board (flat_map intervals_of (run_rows pace round rows board).settled)

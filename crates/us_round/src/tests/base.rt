@@ -292,7 +292,11 @@ fn tell_words(answer: &mut String, map: &Map) -> Result<(), NoMemory> {
     let elements = map.elements();
     for element in &elements[..elements.len().min(6)] {
         let owner = u64::from(element.sid()) * 16 + u64::from(element.iuc().number());
-        write!(answer, "{:08x} ", owner * 16384 + u64::from(element.offset()))?;
+        write!(
+            answer,
+            "{:08x} ",
+            owner * 16384 + u64::from(element.offset())
+        )?;
     }
     write!(answer, "; ")?;
     Ok(())

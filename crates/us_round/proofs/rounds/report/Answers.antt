@@ -6,5 +6,11 @@ pub returns-clause-out : goal.returns-clause-out
 unfolding out_of
 returns-clause-out c =
     c.new.ensures
-    ∙ rw (c.in_ok-maps.ensures.value, c.in_ok-rows.ensures, c.deref.ensures.value, c.in_ok-seats.ensures,
-    c.config-config.ensures.value, c.outstanding.ensures.value) refl
+    ∙ rw (
+      c.in_ok-maps.ensures.value,
+      c.in_ok-rows.ensures,
+      c.deref.ensures.value,
+      c.in_ok-seats.ensures,
+      c.config-config.ensures.value,
+      c.outstanding.ensures.value,
+    ) refl
