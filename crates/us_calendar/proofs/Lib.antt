@@ -5,6 +5,7 @@ pub mod SpotLemmas
 pub mod RowLemmas
 pub mod KeyLemmas
 pub mod RunLemmas
+pub mod RunTimes
 pub mod AgendaLemmas
 pub mod NotedLemmas
 pub mod RunLaws

@@ -1,5 +1,4 @@
-ghost use Rattle.std.specs.Prelude.{◌≡◌, ◌≤◌, ◌+◌, length};
-ghost use Rattle.us_calendar.specs.Calendars.{Calendar};
+ghost use Rattle.std.specs.Prelude.{◌≡◌, ◌≤◌, length, IfOk, OnOk};
 
 use crate::{Calendar, Settled};
 use std::alloc::{AllocError, Global};
@@ -37,6 +36,7 @@ unsolicited = { bits = 4, preamble = 24, guard = 8, fec_t = 0, fec_k = 200, shor
 ";
 
 /// So many rounds of a calendar, from round 0 on.
+#[derive(Drop)]
 pub(super) struct Case<'a> {
     pub(super) name: &'a str,
     /// The flows and stations.
@@ -46,32 +46,32 @@ pub(super) struct Case<'a> {
 }
 
 /// Makes the rounds of each case, and compares what is settled.
-pub(super) fn compare(
-    rt: &impl Abort,
-    alloc: Global,
-    cases: &[Case<'_>],
-) -> Result<(), AllocError> {
+pub(super) fn compare(rt: &impl Abort, alloc: Global, cases: &[Case<'_>]) {
     for case in cases {
-        let answer = answer_of(alloc, case)?;
-        same(rt, case.name, answer.as_str(), case.answer);
+        match answer_of(alloc, case) {
+            Some(answer) => same(rt, case.name, answer.as_str(), case.answer),
+            None => same(rt, case.name, "none", case.answer),
+        }
     }
-    Ok(())
 }
 
-/// What is settled, for each round in which something is.
-pub(super) fn answer_of(alloc: Global, case: &Case<'_>) -> Result<String, AllocError> {
-    let mut text = String::new(alloc);
-    write!(text, "{CHANNEL}{}", case.tables)?;
+/// What is settled, for each round in which something is; none where the tables are refused, or memory is.
+pub(super) fn answer_of(alloc: Global, case: &Case<'_>) -> Option<String> {
     let mut answer = String::new(alloc);
-    match Config::read(alloc, text.as_bytes()) {
-        Ok(config) => {
-            if let Err(fault) = run(alloc, &mut answer, &config, case.rounds) {
-                write!(answer, "{fault}")?;
-            }
-        }
-        Err(fault) => write!(answer, "{fault}")?,
+    let config = config_of(alloc, case)?;
+    match run(alloc, &mut answer, &config, case.rounds) {
+        Ok(()) => Some(answer),
+        Err(_) => None,
     }
-    Ok(answer)
+}
+
+/// The configuration of a case.
+fn config_of(alloc: Global, case: &Case<'_>) -> Option<Config> {
+    let mut text = String::new(alloc);
+    match write!(text, "{CHANNEL}{}", case.tables) {
+        Ok(()) => Config::read(alloc, text.as_bytes()).ok(),
+        Err(_) => None,
+    }
 }
 
 /// The rounds of a case.
@@ -82,18 +82,59 @@ fn run(alloc: Global, answer: &mut String, config: &Config, rounds: u32) -> Resu
     let len = config.map_len(&config.channels()[0]);
     let mut calendar = Calendar::new(alloc, config, 0)?;
     for _ in 0..rounds {
-        let round = calendar.next_round();
-        let mut board = Board::new(alloc, len)?;
-        if len == 160 {
-            board.place_earliest(150, 150, 10, Owner::new(16_383, Iuc::request()));
-        }
-        let settled = calendar.run(alloc, round, &mut board)?;
-        if settled.len() > 0 {
-            write!(answer, "{round}: ")?;
-            tell(answer, &settled)?;
-        }
+        next(alloc, answer, &mut calendar, len)?;
     }
     Ok(())
+}
+
+/// The next round of a calendar.
+fn next(
+    alloc: Global,
+    answer: &mut String,
+    calendar: &mut Calendar,
+    len: u32,
+) -> Result<(), NoMemory>
+    requires { (calendar.old.pace.len ≡ len) × (len ≤ 4096) }
+    ensures { OnOk result (calendar.new.pace ≡ calendar.old.pace) }
+{
+    let round = calendar.next_round();
+    let settled = settled_next(alloc, calendar, len)?;
+    if settled.len() > 0 {
+        write!(answer, "{round}: ")?;
+        tell(answer, &settled)?;
+    }
+    Ok(())
+}
+
+/// What the next round settles: nothing where it might end too late for a run, of 2^26 ticks, since a MAP has 4,096 at
+/// most.
+#[tactic(auto, using(crate::proofs::RunTimes::run_facts))]
+fn settled_next(
+    alloc: Global,
+    calendar: &mut Calendar,
+    len: u32,
+) -> Result<Vec<Settled>, NoMemory>
+    requires { (calendar.old.pace.len ≡ len) × (len ≤ 4096) }
+    ensures { OnOk result (calendar.new.pace ≡ calendar.old.pace) }
+{
+    let round = calendar.next_round();
+    if round >= 16_384 {
+        return Ok(Vec::new(alloc));
+    }
+    let mut board = board_of(alloc, len)?;
+    calendar.run(alloc, round, &mut board)
+}
+
+/// A board whose last 10 minislots are for contention, where it has 160.
+fn board_of(alloc: Global, len: u32) -> Result<Board, NoMemory>
+    requires { (1 ≤ len) × (len ≤ 4096) }
+    ensures { IfOk result (λ board. length board.cells ≡ len) }
+{
+    let mut board = Board::new(alloc, len)?;
+    if len == 160 {
+        board.place_earliest(150, 150, 10, Owner::new(16_383, Iuc::request()));
+    }
+    Ok(board)
 }
 
 /// The first three and the last three that a round settled.
