@@ -109,11 +109,7 @@ fn next(
 /// What the next round settles: nothing where it might end too late for a run, of 2^26 ticks, since a MAP has 4,096 at
 /// most.
 #[tactic(auto, using(crate::proofs::RunTimes::run_facts))]
-fn settled_next(
-    alloc: Global,
-    calendar: &mut Calendar,
-    len: u32,
-) -> Result<Vec<Settled>, NoMemory>
+fn settled_next(alloc: Global, calendar: &mut Calendar, len: u32) -> Result<Vec<Settled>, NoMemory>
     requires { (calendar.old.pace.len ≡ len) × (len ≤ 4096) }
     ensures { OnOk result (calendar.new.pace ≡ calendar.old.pace) }
 {
