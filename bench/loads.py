@@ -162,7 +162,7 @@ def main():
     words.add_argument("folder", type=pathlib.Path)
     words.add_argument("--part", type=int, default=1)
     words.add_argument("kinds", nargs="*", metavar="KIND", help=", ".join(KINDS))
-    given = words.parse_args()
+    given = words.parse_intermixed_args()
     unknown = [kind for kind in given.kinds if kind not in KINDS]
     if unknown or given.part < 1:
         words.error(f"no kind: {' '.join(unknown)}" if unknown else "--part is 1 or more")
