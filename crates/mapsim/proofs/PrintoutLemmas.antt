@@ -1,8 +1,8 @@
 -- What a replay in memory and what is printed of it come to.
-use Rattle.std.proofs.Common.{◌≡◌, ℕ, List, [], ◌++◌, Option, Some, None, Result, Ok, Err, IfSome, OnOk, refl, ap, sym, subst, ◌∙◌}
+use Rattle.std.proofs.Common.{◌≡◌, ℕ, ◌<◌, ◌⊎◌, true, List, [], ◌++◌, Option, Some, None, Result, Ok, Err, IfSome, OnOk, refl, ap, sym, subst, ◌∙◌}
 use Rattle.std.specs.Io.KnownBytes.{Appends}
 use Rattle.us_slots.proofs.DeviceLemmas.{appends_join}
-use Rattle.us_flows.specs.Tables.{Tables}
+use Rattle.us_flows.specs.Tables.{Tables, rounds_fit}
 use Rattle.us_flows.specs.Answers.{Answers}
 use Rattle.us_requests.specs.Rows.{trace_fault}
 use Rattle.us_replay.specs.declared.summaries.Summary.{Summary}

@@ -131,8 +131,12 @@ fn rounds_option<'a>(alloc: Global) -> Arg<'a> {
 }
 
 fn workers_option<'a>(alloc: Global) -> Arg<'a> {
-    number(alloc, "workers", "How many workers share the channels of a round, 1 to 64")
-        .default_value(DEFAULT_WORKERS_WORD)
+    number(
+        alloc,
+        "workers",
+        "How many workers share the channels of a round, 1 to 64",
+    )
+    .default_value(DEFAULT_WORKERS_WORD)
 }
 
 fn number<'a>(alloc: Global, name: &'a str, help: &'a str) -> Arg<'a> {
