@@ -46,6 +46,7 @@ pub fn pipe<H: Threads + Sync, I: Source, O: Sink>(
     requires output_ready { O.failed output.old ≡ false }
     ensures printed { OnOk result
         (Prints rounds (I.remaining input.old) (O.contents output.old) (O.contents output.new)) }
+    ensures workers { OnOk result ((1 ≤ workers) × (workers ≤ 64)) }
     ensures stopped { IfErr result (Stops rounds workers (I.remaining input.old)) }
     ensures early { IsErrAnd result IsEarly → output.new ≡ output.old }
     ensures unmarked { IfSome (I.remaining input.old) (λ text.
@@ -92,6 +93,7 @@ fn replay_text<H: Threads + Sync>(
     text: &[u8],
 ) -> Result<Texts, Fault>
     ensures replayed { IfOk result (λ texts. Replays rounds text.now texts.maps.items texts.report.items) }
+    ensures workers { OnOk result ((1 ≤ workers) × (workers ≤ 64)) }
     ensures refused { IfErr result (Refuses rounds workers text.now) }
 {
     let Some((config, trace)) = split_at_mark(text) else {
@@ -112,6 +114,7 @@ fn replay_trace<H: Threads + Sync>(
     trace: &[u8],
 ) -> Result<Texts, Fault>
     ensures given { IfOk result (λ texts. Gives config.now rounds trace.now texts.maps.items texts.report.items) }
+    ensures workers { OnOk result ((1 ≤ workers) × (workers ≤ 64)) }
     ensures refused { IfErr result (RefusesTrace config.now rounds workers trace.now) }
 {
     let mut maps = FromWrite::new(Vec::new(alloc));

@@ -1,4 +1,4 @@
-ghost use Rattle.std.specs.Prelude.{◌≡◌, ◌≢◌, ◌⊎◌, ◌↔◌, ℕ, List, [], ◌∷◌, ◌++◌, true, false, Err, IfOk, IfErr, OnOk};
+ghost use Rattle.std.specs.Prelude.{◌≡◌, ◌≢◌, ◌⊎◌, ◌↔◌, ◌≤◌, ℕ, List, [], ◌∷◌, ◌++◌, true, false, Err, IfOk, IfErr, OnOk};
 ghost use Rattle.std.specs.Io.KnownBytes.{Appends};
 ghost use Rattle.mapsim.specs.Inputs.{IsConfigFault, IsPrintFault};
 ghost use Rattle.mapsim.specs.SummaryLines.{IsSummaryOf, summary_line};
@@ -28,6 +28,7 @@ pub fn replay_files<R: Files + Threads + Sync, O: Sink>(
     requires { O.failed output.old ≡ false }
     ensures printed { OnOk result ((line : List ℕ) × IsSummaryOf order.now.rounds line ×
         Appends (O.contents output.old) (O.contents output.new) line) }
+    ensures workers { OnOk result ((1 ≤ order.now.workers) × (order.now.workers ≤ 64)) }
     ensures input { IfErr result (λ f. f ≢ fault.Device stream.Input) }
     ensures output { (O.failed output.new ≡ true) ↔ (result ≡ Err (fault.Device stream.Output)) }
 {
@@ -44,6 +45,7 @@ fn replay_trace<R: Files + Threads + Sync>(
     order: &FileReplay<'_>,
 ) -> Result<Summary, Fault>
     ensures summary { IfOk result (λ summary. IsSummaryOf order.now.rounds (summary_line summary ++ 10 ∷ [])) }
+    ensures workers { OnOk result ((1 ≤ order.now.workers) × (order.now.workers ≤ 64)) }
     ensures fault { IfErr result (λ f. (f ≢ fault.Device stream.Input) × (f ≢ fault.Device stream.Output)) }
 {
     check_run(config, order.rounds, order.workers)?;

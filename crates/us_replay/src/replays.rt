@@ -1,4 +1,4 @@
-ghost use Rattle.std.specs.Prelude.{◌≡◌, ◌↔◌, ◌⊎◌, ℕ, ◌<◌, true, false, length, Err, IfOk, OnOk, IfErr};
+ghost use Rattle.std.specs.Prelude.{◌≡◌, ◌↔◌, ◌⊎◌, ℕ, ◌<◌, ◌≤◌, true, false, length, Err, IfOk, OnOk, IfErr};
 ghost use Rattle.std.specs.List.{AllByRecursion};
 ghost use Rattle.us_flows.specs.Tables;
 ghost use Rattle.us_flows.specs.Clusters.{clusters_of};
@@ -72,7 +72,7 @@ pub fn check_run(config: &Config, rounds: u32, workers: usize) -> Result<(), Run
     ensures rounds { (result ≡ Err RunFault.Rounds) ↔ (Tables.rounds_fit config.now rounds ≡ false) }
     ensures workers { (result ≡ Err RunFault.Workers) ↔
         (Tables.rounds_fit config.now rounds ≡ true) × ((workers ≡ 0) ⊎ (64 < workers)) }
-    ensures fit { OnOk result (Tables.rounds_fit config.now rounds ≡ true) }
+    ensures fine { OnOk result ((Tables.rounds_fit config.now rounds ≡ true) × (1 ≤ workers) × (workers ≤ 64)) }
     ensures fault { IfErr result (λ f. (f ≡ RunFault.Rounds) ⊎ (f ≡ RunFault.Workers)) }
 {
     if !config.rounds_fit(rounds) {
