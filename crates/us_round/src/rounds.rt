@@ -1,4 +1,4 @@
-ghost use Rattle.std.specs.Prelude.{◌≡◌, ◌+◌, ◌*◌, ◌^◌, ◌<◌, ◌≤◌, ◌⊎◌, ◌↔◌, length, map, sum_by, zip, Err, IfOk, OnOk};
+ghost use Rattle.std.specs.Prelude.{◌≡◌, ◌+◌, ◌*◌, ◌^◌, ◌<◌, ◌≤◌, length, map, sum_by, zip, IfOk, OnOk};
 ghost use Rattle.std.specs.List.{AllByRecursion};
 ghost use Rattle.us_flows.specs.Tables.{max_run_ticks};
 ghost use Rattle.us_flows.specs.Clusters.{clusters_of};
@@ -23,9 +23,7 @@ use crate::reporting::rows_of;
 use crate::round_outs::RoundOut;
 use crate::states::State;
 use std::alloc::Global;
-use std::thread::Threads;
 use us_calendar::Calendar;
-use us_crew::{Gate, MAX_WORKERS};
 use us_slots::NoMemory;
 use us_split::{Plan, plan};
 
@@ -34,18 +32,10 @@ use us_split::{Plan, plan};
 ///
 /// Each cluster's outstanding bytes and its cut together have to be below 2^62, and the round has to end at tick 2^26
 /// or before. The fault is want of memory, and the state is given up then.
-pub fn round<H: Threads + Sync, G: Gate + Sync>(
-    alloc: Global,
-    _threads: &H,
-    state: State,
-    cuts: &[u64],
-    workers: usize,
-    _gate: &G,
-) -> Result<(State, RoundOut), RoundFault>
+pub fn round(alloc: Global, state: State, cuts: &[u64]) -> Result<(State, RoundOut), RoundFault>
     requires clusters { length cuts.now ≡ length (clusters_of state.tables) }
     requires room { AllByRecursion (λ pair. pair.0 + pair.1 < 2 ^ 62) (zip state.outstanding cuts.now) }
     requires time { (state.round + 1) * state.tables.round_ticks ≤ max_run_ticks }
-    ensures workers { (result ≡ Err RoundFault.Workers) ↔ ((workers ≡ 0) ⊎ (64 < workers)) }
     ensures state { IfOk result (λ done. done.0 ≡ (spec.round_of state cuts.now).state) }
     ensures out { IfOk result (λ done. done.1 ≡ out_of state.tables (spec.round_of state cuts.now).scheduled) }
 
@@ -61,9 +51,6 @@ pub fn round<H: Threads + Sync, G: Gate + Sync>(
     ensures few { IfOk result (λ done. length done.1.rows + settled_by state ≤
         100 * length state.tables.channels + settled_by done.0) }
 {
-    if workers == 0 || workers > MAX_WORKERS {
-        return Err(RoundFault::Workers);
-    }
     let (mut core, calendars) = state.into_parts();
     core.begin(cuts);
     let done = run(alloc, core, calendars)?;
