@@ -40,12 +40,11 @@ impl Meeting {
         }
     }
 
-    /// Waits until an even number has entered.
+    /// Waits until both of two have entered: the first finds an even number, and the second the odd one above it.
     fn meet(&self, entered: &AtomicUsize) {
-        let before = entered.fetch_add(1, Ordering::SeqCst);
-        let wanted = before / 2 * 2 + 2;
+        let second = entered.fetch_add(1, Ordering::SeqCst) | 1;
         for _ in 0..100_000_000_u64 {
-            if entered.load(Ordering::SeqCst) >= wanted {
+            if entered.load(Ordering::SeqCst) > second {
                 return;
             }
             yield_now();
@@ -72,14 +71,11 @@ fn workers_meet(rt: HostRuntime) -> Result<(), Fail> {
     let gate = Meeting::new();
     let answer = answer_of(rt.alloc(), &rt, &BONDED, 2, &gate)?;
     same(&rt, "two workers", answer.as_str(), BONDED.answer);
-    assert!(&rt; !gate.missed.load(Ordering::SeqCst), "a worker came alone");
-    assert!(&rt;
-        gate.fills.load(Ordering::SeqCst) == 4,
-        "not each channel was filled behind the gate"
+    let entered = (
+        gate.fills.load(Ordering::SeqCst),
+        gate.builds.load(Ordering::SeqCst),
     );
-    assert!(&rt;
-        gate.builds.load(Ordering::SeqCst) == 4,
-        "not each channel was built behind the gate"
-    );
+    let met = entered == (4, 4) && !gate.missed.load(Ordering::SeqCst);
+    assert!(&rt; met, "a worker came alone, or not at all");
     Ok(())
 }
