@@ -1,8 +1,8 @@
 -- What a replay in memory and what is printed of it come to.
-use Rattle.std.proofs.Common.{◌≡◌, ℕ, List, [], ◌++◌, Option, Some, None, Result, Ok, Err, IfSome, OnOk, refl, ap, sym, subst, ◌∙◌}
+use Rattle.std.proofs.Common.{◌≡◌, ℕ, ◌<◌, ◌⊎◌, true, List, [], ◌++◌, Option, Some, None, Result, Ok, Err, IfSome, OnOk, refl, ap, sym, subst, ◌∙◌}
 use Rattle.std.specs.Io.KnownBytes.{Appends}
 use Rattle.us_slots.proofs.DeviceLemmas.{appends_join}
-use Rattle.us_flows.specs.Tables.{Tables}
+use Rattle.us_flows.specs.Tables.{Tables, rounds_fit}
 use Rattle.us_flows.specs.Answers.{Answers}
 use Rattle.us_requests.specs.Rows.{trace_fault}
 use Rattle.us_replay.specs.declared.summaries.Summary.{Summary}
@@ -33,13 +33,16 @@ gives t rounds trace summary maps report (fit, (text, is_text, sound, (to_maps, 
     }
 
 -- one that wasn't
-pub refuses_trace : (t : Tables) (rounds : ℕ) (trace : List ℕ) (to_maps to_report : Growth) (f : RunFault) →
-    Replayed t rounds (Some trace) to_maps to_report (Err f) → RefusesTrace t rounds trace (fault_in_memory f)
-refuses_trace t rounds trace to_maps to_report run.Rounds (unfit, nothing) = unfit
-refuses_trace t rounds trace to_maps to_report (run.Trace reason) (can, reads, nothing) = (can, reads)
-refuses_trace t rounds trace to_maps to_report (run.WriteMaps done) ran = tt
-refuses_trace t rounds trace to_maps to_report (run.WriteReport done) ran = tt
-refuses_trace t rounds trace to_maps to_report (run.NoMemory done) ran = tt
+pub refuses_trace : (t : Tables) (rounds workers : ℕ) (trace : List ℕ) (to_maps to_report : Growth) (f : RunFault) →
+    Replayed t rounds (Some trace) to_maps to_report (Err f) →
+    (f ≡ run.Workers → (rounds_fit t rounds ≡ true) × ((workers ≡ 0) ⊎ (64 < workers))) →
+    RefusesTrace t rounds workers trace (fault_in_memory f)
+refuses_trace t rounds workers trace to_maps to_report run.Rounds (unfit, nothing) few = unfit
+refuses_trace t rounds workers trace to_maps to_report run.Workers ran few = few refl
+refuses_trace t rounds workers trace to_maps to_report (run.Trace reason) (can, reads, nothing) few = (can, reads)
+refuses_trace t rounds workers trace to_maps to_report (run.WriteMaps done) ran few = tt
+refuses_trace t rounds workers trace to_maps to_report (run.WriteReport done) ran few = tt
+refuses_trace t rounds workers trace to_maps to_report (run.NoMemory done) ran few = tt
 
 -- the same of a text
 pub replays : (rounds : ℕ) (text config trace : List ℕ) (t : Tables) (maps report : List ℕ) →
@@ -54,15 +57,16 @@ replays rounds text config trace t maps report split accepted given = record {
   gives = given;
 }
 
-pub refuses : (rounds : ℕ) (text config trace : List ℕ) (t : Tables) (f : Fault) →
-    IsSplit text config trace → Answers config (Ok t) → RefusesTrace t rounds trace f → Refuses rounds text f
-refuses rounds text config trace t (fault.Usage said) split accepted refused = absurd refused
-refuses rounds text config trace t fault.Pipe split accepted refused = absurd refused
-refuses rounds text config trace t (fault.Config f) split accepted refused = absurd refused
-refuses rounds text config trace t (fault.Run f) split accepted refused = (config, trace, split, t, accepted, refused)
-refuses rounds text config trace t (fault.Map f index) split accepted refused = absurd refused
-refuses rounds text config trace t (fault.Device stream) split accepted refused = absurd refused
-refuses rounds text config trace t fault.NoMemory split accepted refused = tt
+pub refuses : (rounds workers : ℕ) (text config trace : List ℕ) (t : Tables) (f : Fault) →
+    IsSplit text config trace → Answers config (Ok t) → RefusesTrace t rounds workers trace f →
+    Refuses rounds workers text f
+refuses rounds workers text config trace t (fault.Usage said) split accepted refused = absurd refused
+refuses rounds workers text config trace t fault.Pipe split accepted refused = absurd refused
+refuses rounds workers text config trace t (fault.Config f) split accepted refused = absurd refused
+refuses rounds workers text config trace t (fault.Run f) split accepted refused = (config, trace, split, t, accepted, refused)
+refuses rounds workers text config trace t (fault.Map f index) split accepted refused = absurd refused
+refuses rounds workers text config trace t (fault.Device stream) split accepted refused = absurd refused
+refuses rounds workers text config trace t fault.NoMemory split accepted refused = tt
 
 -- the lines of the MAPs, and then the report, as far as that was taken
 pub prints : {T E : Type 0} (rounds : ℕ) (told : Option (List ℕ)) (items read maps file report piece : List ℕ)

@@ -55,11 +55,12 @@ refused :
     (ends (fault.Config config.Text) ≡ (codes "fault C1", 3)) ×
     (ends (fault.Config (config.RoundNotMultiple channel)) ≡ (codes "fault C8 channel 0", 3)) ×
     (ends (fault.Run run.Rounds) ≡ (codes "fault RU1", 3)) ×
+    (ends (fault.Run run.Workers) ≡ (codes "fault RU2", 3)) ×
     (ends (fault.Run (run.Trace trace.Header)) ≡ (codes "fault TR1", 3)) ×
     (ends (fault.Run (run.Trace (trace.Number 1000001))) ≡ (codes "fault TR3 1000001", 3)) ×
     (ends (fault.Map map_fault.Order 4) ≡ (codes "fault M6 4", 3))
 unfolding digits
-refused = (refl, refl, refl, refl, refl, refl, refl)
+refused = (refl, refl, refl, refl, refl, refl, refl, refl)
 
 failed :
     (ends (fault.Device stream.Config) ≡ (codes "fault io config", 4)) ×

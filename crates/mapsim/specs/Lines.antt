@@ -42,6 +42,7 @@ trace_line trace.NoMemory = codes "fault memory"
 -- of a run with the rounds done
 abbrev pub run_line : RunFault → List ℕ
 run_line run.Rounds = codes "fault RU1"
+run_line run.Workers = codes "fault RU2"
 run_line (run.Trace f) = trace_line f
 run_line (run.WriteMaps rounds) = codes "fault RU4 " ++ decimal rounds
 run_line (run.WriteReport rounds) = codes "fault RU5 " ++ decimal rounds

@@ -42,24 +42,27 @@ pub record IsPrintout (rounds : ℕ) (text printout : List ℕ) : Type 0 where
   pub dumped : IsDump maps dump
   pub whole : printout ≡ dump ++ report
 
--- why a replay of these tables and of this trace is refused, or memory was wanting
-abbrev pub RefusesTrace : Tables → ℕ → List ℕ → Fault → Type 0
-RefusesTrace t rounds trace (fault.Run run.Rounds) = rounds_fit t rounds ≡ false
-RefusesTrace t rounds trace (fault.Run (run.Trace reason)) =
+-- why a replay of these tables and of this trace by so many workers is refused, or memory was wanting
+abbrev pub RefusesTrace : Tables → ℕ → ℕ → List ℕ → Fault → Type 0
+RefusesTrace t rounds workers trace (fault.Run run.Rounds) = rounds_fit t rounds ≡ false
+RefusesTrace t rounds workers trace (fault.Run run.Workers) =
+    (rounds_fit t rounds ≡ true) × ((workers ≡ 0) ⊎ (64 < workers))
+RefusesTrace t rounds workers trace (fault.Run (run.Trace reason)) =
     (rounds_fit t rounds ≡ true) × Reads t rounds (Some trace) (Err reason)
-RefusesTrace t rounds trace (fault.Run (run.NoMemory done)) = ⊤
-RefusesTrace t rounds trace fault.NoMemory = ⊤
-RefusesTrace t rounds trace _ = ⊥
+RefusesTrace t rounds workers trace (fault.Run (run.NoMemory done)) = ⊤
+RefusesTrace t rounds workers trace fault.NoMemory = ⊤
+RefusesTrace t rounds workers trace _ = ⊥
 
 -- why a text is refused, or memory was wanting; no device has to do with it
-abbrev pub Refuses : ℕ → List ℕ → Fault → Type 0
-Refuses rounds text fault.Pipe = (at : ℕ) → ¬ IsMark text at
-Refuses rounds text (fault.Config f) = (config trace : List ℕ) × IsSplit text config trace × Answers config (Err f)
-Refuses rounds text (fault.Run f) =
+abbrev pub Refuses : ℕ → ℕ → List ℕ → Fault → Type 0
+Refuses rounds workers text fault.Pipe = (at : ℕ) → ¬ IsMark text at
+Refuses rounds workers text (fault.Config f) =
+    (config trace : List ℕ) × IsSplit text config trace × Answers config (Err f)
+Refuses rounds workers text (fault.Run f) =
     (config trace : List ℕ) × IsSplit text config trace ×
-    (t : Tables) × Answers config (Ok t) × RefusesTrace t rounds trace (fault.Run f)
-Refuses rounds text fault.NoMemory = ⊤
-Refuses rounds text _ = ⊥
+    (t : Tables) × Answers config (Ok t) × RefusesTrace t rounds workers trace (fault.Run f)
+Refuses rounds workers text fault.NoMemory = ⊤
+Refuses rounds workers text _ = ⊥
 
 -- Streams, which may not tell their bytes.
 
@@ -69,12 +72,13 @@ Prints rounds told before after =
     IfSome told (λ text. (printout : List ℕ) × IsPrintout rounds text printout × Appends before after printout)
 
 -- where the input tells its text, a fault comes of that. A stream that fails is another clause's
-abbrev pub Stops : ℕ → Option (List ℕ) → Fault → Type 0
-Stops rounds told (fault.Device stream.Input) = ⊤
-Stops rounds told (fault.Device stream.Output) = ⊤
-Stops rounds told (fault.Map f index) = ⊤
-Stops rounds told fault.Pipe = IfSome told (λ text. (max_input_bytes < length text) ⊎ Refuses rounds text fault.Pipe)
-Stops rounds told f = IfSome told (λ text. Refuses rounds text f)
+abbrev pub Stops : ℕ → ℕ → Option (List ℕ) → Fault → Type 0
+Stops rounds workers told (fault.Device stream.Input) = ⊤
+Stops rounds workers told (fault.Device stream.Output) = ⊤
+Stops rounds workers told (fault.Map f index) = ⊤
+Stops rounds workers told fault.Pipe =
+    IfSome told (λ text. (max_input_bytes < length text) ⊎ Refuses rounds workers text fault.Pipe)
+Stops rounds workers told f = IfSome told (λ text. Refuses rounds workers text f)
 
 -- a fault that comes before anything is printed
 abbrev pub IsEarly : Fault → Type 0

@@ -31,6 +31,7 @@ trace_status _ = status.Refused
 
 abbrev pub run_status : RunFault → Status
 run_status run.Rounds = status.Refused
+run_status run.Workers = status.Refused
 run_status (run.Trace f) = trace_status f
 run_status (run.WriteMaps rounds) = status.DeviceFailed
 run_status (run.WriteReport rounds) = status.DeviceFailed

@@ -68,6 +68,7 @@ impl fmt::Display for RunLine {
     fn fmt<W: fmt::Write>(&self, f: &mut fmt::Formatter<W>) -> fmt::Result {
         let (code, rounds) = match self.0 {
             RunFault::Rounds => return f.write_str("fault RU1"),
+            RunFault::Workers => return f.write_str("fault RU2"),
             RunFault::Trace(fault) => return write!(f, "{}", TraceLine(fault)),
             RunFault::WriteMaps(rounds) => ("fault RU4 ", rounds),
             RunFault::WriteReport(rounds) => ("fault RU5 ", rounds),

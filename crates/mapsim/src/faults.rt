@@ -96,7 +96,7 @@ fn run_status(fault: RunFault) -> Status
     ensures { result ≡ statuses.run_status fault }
 {
     match fault {
-        RunFault::Rounds => Status::Refused,
+        RunFault::Rounds | RunFault::Workers => Status::Refused,
         RunFault::Trace(TraceFault::Read) => Status::DeviceFailed,
         RunFault::Trace(TraceFault::NoMemory) => Status::NoMemory,
         RunFault::Trace(_) => Status::Refused,

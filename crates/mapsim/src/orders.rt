@@ -3,8 +3,8 @@
 pub enum Order<'a> {
     /// A replay from files into files.
     Replay(FileReplay<'a>),
-    /// A replay of standard input, for so many rounds.
-    Pipe { rounds: u32 },
+    /// A replay of standard input, for so many rounds, by so many workers.
+    Pipe { rounds: u32, workers: usize },
     /// Help: its text, with all line feeds.
     Help(String),
 }
@@ -18,6 +18,8 @@ pub struct FileReplay<'a> {
     pub trace: &'a str,
     /// How many rounds are replayed.
     pub rounds: u32,
+    /// How many workers replay them.
+    pub workers: usize,
     /// Path of the maps file, which is made.
     pub maps: &'a str,
     /// Path of the report, which is made.

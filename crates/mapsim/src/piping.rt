@@ -15,7 +15,9 @@ use crate::map_lines::map_lines;
 use crate::marks::split_at_mark;
 use crate::printing::print;
 use std::alloc::Global;
+use std::thread::Threads;
 use us_codec::{Record, decode, records};
+use us_crew::OpenGate;
 use us_flows::Config;
 use us_replay::{RunFault, replay};
 use us_slots::{FromRead, FromWrite, ReadFault, Sink, Source, read_all};
@@ -31,10 +33,12 @@ struct Texts {
     report: Vec<u8>,
 }
 
-/// Replays the input in memory, for so many rounds, and prints each MAP's elements and the report.
-pub fn pipe<I: Source, O: Sink>(
+/// Replays the input in memory, for so many rounds and by so many workers, and prints each MAP's elements and the report.
+pub fn pipe<H: Threads + Sync, I: Source, O: Sink>(
     alloc: Global,
+    threads: &H,
     rounds: u32,
+    workers: usize,
     input: &mut I,
     output: &mut O,
 ) -> Result<(), Fault>
@@ -42,7 +46,8 @@ pub fn pipe<I: Source, O: Sink>(
     requires output_ready { O.failed output.old ≡ false }
     ensures printed { OnOk result
         (Prints rounds (I.remaining input.old) (O.contents output.old) (O.contents output.new)) }
-    ensures stopped { IfErr result (Stops rounds (I.remaining input.old)) }
+    ensures workers { OnOk result ((1 ≤ workers) × (workers ≤ 64)) }
+    ensures stopped { IfErr result (Stops rounds workers (I.remaining input.old)) }
     ensures early { IsErrAnd result IsEarly → output.new ≡ output.old }
     ensures unmarked { IfSome (I.remaining input.old) (λ text.
         ((at : ℕ) → ¬ IsMark text at) → IsErrAnd result IsInputFault) }
@@ -54,7 +59,7 @@ pub fn pipe<I: Source, O: Sink>(
     ensures output { (O.failed output.new ≡ true) ↔ (result ≡ Err (fault.Device stream.Output)) }
 {
     let text = read_input(alloc, input)?;
-    let texts = replay_text(alloc, rounds, &text)?;
+    let texts = replay_text(alloc, threads, rounds, workers, &text)?;
     print_maps(alloc, &texts.maps, output)?;
     print(output, &texts.report)
 }
@@ -80,30 +85,48 @@ fn read_input<I: Source>(alloc: Global, input: &mut I) -> Result<Vec<u8>, Fault>
 
 /// Replays a text: a configuration, the mark and a trace.
 #[tactic(auto, using(crate::proofs::PrintoutLemmas::replays, crate::proofs::PrintoutLemmas::refuses))]
-fn replay_text(alloc: Global, rounds: u32, text: &[u8]) -> Result<Texts, Fault>
+fn replay_text<H: Threads + Sync>(
+    alloc: Global,
+    threads: &H,
+    rounds: u32,
+    workers: usize,
+    text: &[u8],
+) -> Result<Texts, Fault>
     ensures replayed { IfOk result (λ texts. Replays rounds text.now texts.maps.items texts.report.items) }
-    ensures refused { IfErr result (Refuses rounds text.now) }
+    ensures workers { OnOk result ((1 ≤ workers) × (workers ≤ 64)) }
+    ensures refused { IfErr result (Refuses rounds workers text.now) }
 {
     let Some((config, trace)) = split_at_mark(text) else {
         return Err(Fault::Pipe);
     };
     let config = Config::read(alloc, config)?;
-    replay_trace(alloc, rounds, &config, trace)
+    replay_trace(alloc, threads, rounds, workers, &config, trace)
 }
 
 /// Replays the text of a trace.
 #[tactic(auto, using(crate::proofs::PrintoutLemmas::gives, crate::proofs::PrintoutLemmas::refuses_trace))]
-fn replay_trace(alloc: Global, rounds: u32, config: &Config, trace: &[u8]) -> Result<Texts, Fault>
+fn replay_trace<H: Threads + Sync>(
+    alloc: Global,
+    threads: &H,
+    rounds: u32,
+    workers: usize,
+    config: &Config,
+    trace: &[u8],
+) -> Result<Texts, Fault>
     ensures given { IfOk result (λ texts. Gives config.now rounds trace.now texts.maps.items texts.report.items) }
-    ensures refused { IfErr result (RefusesTrace config.now rounds trace.now) }
+    ensures workers { OnOk result ((1 ≤ workers) × (workers ≤ 64)) }
+    ensures refused { IfErr result (RefusesTrace config.now rounds workers trace.now) }
 {
     let mut maps = FromWrite::new(Vec::new(alloc));
     let mut report = FromWrite::new(Vec::new(alloc));
     match replay(
         alloc,
+        threads,
         config,
         &mut FromRead::new(trace),
         rounds,
+        workers,
+        &OpenGate,
         &mut maps,
         &mut report,
     ) {

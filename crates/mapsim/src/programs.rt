@@ -14,13 +14,14 @@ use crate::words::order_of;
 use std::convert::AsStr;
 use std::io::Write;
 use std::rt::Files;
+use std::thread::Threads;
 use us_slots::{Sink, Source};
 
 /// The program: it does what the words ask for (its name is the first), with `input` as its standard input and `output`
 /// and `errors` as its standard output and standard error, and answers how it ends.
 pub fn run<R, S, I, O, E>(rt: &R, words: &[S], input: &mut I, output: &mut O, errors: E) -> Status
 where
-    R: Files + AllocGlobal,
+    R: Files + AllocGlobal + Threads + Sync,
     S: AsStr,
     I: Source,
     O: Sink,
@@ -54,7 +55,7 @@ pub fn end_by<E: Write + Drop>(fault: &Fault, mut errors: E) -> Status
 /// Does what the words ask for.
 fn obey<R, S, I, O>(rt: &R, words: &[S], input: &mut I, output: &mut O) -> Result<(), Fault>
 where
-    R: Files + AllocGlobal,
+    R: Files + AllocGlobal + Threads + Sync,
     S: AsStr,
     I: Source,
     O: Sink,
@@ -62,13 +63,15 @@ where
     requires output_ready { O.failed output.old ≡ false }
     ensures printed { length words.now < 2 → OnOk result
         (Prints 2 (I.remaining input.old) (O.contents output.old) (O.contents output.new)) }
-    ensures stopped { length words.now < 2 → IfErr result (Stops 2 (I.remaining input.old)) }
+    ensures stopped { length words.now < 2 → IfErr result (Stops 2 1 (I.remaining input.old)) }
     ensures input_failed { I.failed input.new ≡ true → result ≡ Err (fault.Device stream.Input) }
     ensures output_failed { (O.failed output.new ≡ true) ↔ (result ≡ Err (fault.Device stream.Output)) }
 {
     match order_of(rt.alloc(), words)? {
         Order::Help(text) => print(output, text.as_str().as_bytes())?,
-        Order::Pipe { rounds } => pipe(rt.alloc(), rounds, input, output)?,
+        Order::Pipe { rounds, workers } => {
+            pipe(rt.alloc(), rt, rounds, workers, input, output)?;
+        }
         Order::Replay(order) => replay_files(rt, rt.alloc(), &order, output)?,
     }
     match output.flush() {

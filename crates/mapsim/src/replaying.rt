@@ -1,4 +1,4 @@
-ghost use Rattle.std.specs.Prelude.{◌≡◌, ◌≢◌, ◌⊎◌, ◌↔◌, ℕ, List, [], ◌∷◌, ◌++◌, true, false, Err, IfOk, IfErr, OnOk};
+ghost use Rattle.std.specs.Prelude.{◌≡◌, ◌≢◌, ◌⊎◌, ◌↔◌, ◌≤◌, ℕ, List, [], ◌∷◌, ◌++◌, true, false, Err, IfOk, IfErr, OnOk};
 ghost use Rattle.std.specs.Io.KnownBytes.{Appends};
 ghost use Rattle.mapsim.specs.Inputs.{IsConfigFault, IsPrintFault};
 ghost use Rattle.mapsim.specs.SummaryLines.{IsSummaryOf, summary_line};
@@ -11,13 +11,15 @@ use crate::printing::print;
 use std::alloc::Global;
 use std::io::{self, ErrorKind};
 use std::rt::Files;
+use std::thread::Threads;
 use std::{fmt, fs};
+use us_crew::OpenGate;
 use us_flows::{Config, ConfigFault, MAX_CONFIG_BYTES};
-use us_replay::{RunFault, Summary, replay};
+use us_replay::{Summary, check_run, replay};
 use us_slots::{FromRead, FromWrite, ReadFault, Sink, read_all};
 
 /// Replays a trace from files into files, and prints what it did.
-pub fn replay_files<R: Files, O: Sink>(
+pub fn replay_files<R: Files + Threads + Sync, O: Sink>(
     rt: &R,
     alloc: Global,
     order: &FileReplay<'_>,
@@ -26,6 +28,7 @@ pub fn replay_files<R: Files, O: Sink>(
     requires { O.failed output.old ≡ false }
     ensures printed { OnOk result ((line : List ℕ) × IsSummaryOf order.now.rounds line ×
         Appends (O.contents output.old) (O.contents output.new) line) }
+    ensures workers { OnOk result ((1 ≤ order.now.workers) × (order.now.workers ≤ 64)) }
     ensures input { IfErr result (λ f. f ≢ fault.Device stream.Input) }
     ensures output { (O.failed output.new ≡ true) ↔ (result ≡ Err (fault.Device stream.Output)) }
 {
@@ -35,26 +38,28 @@ pub fn replay_files<R: Files, O: Sink>(
 }
 
 /// Replays a trace from a file into files.
-fn replay_trace<R: Files>(
+fn replay_trace<R: Files + Threads + Sync>(
     rt: &R,
     alloc: Global,
     config: &Config,
     order: &FileReplay<'_>,
 ) -> Result<Summary, Fault>
     ensures summary { IfOk result (λ summary. IsSummaryOf order.now.rounds (summary_line summary ++ 10 ∷ [])) }
+    ensures workers { OnOk result ((1 ≤ order.now.workers) × (order.now.workers ≤ 64)) }
     ensures fault { IfErr result (λ f. (f ≢ fault.Device stream.Input) × (f ≢ fault.Device stream.Output)) }
 {
-    if !config.rounds_fit(order.rounds) {
-        return Err(Fault::Run(RunFault::Rounds));
-    }
+    check_run(config, order.rounds, order.workers)?;
     let mut trace = FromRead::new(opened(fs::open(rt, order.trace), Stream::Trace)?);
     let mut maps = FromWrite::new(opened(fs::create(rt, order.maps), Stream::Maps)?);
     let mut report = FromWrite::new(opened(fs::create(rt, order.report), Stream::Report)?);
     let summary = replay(
         alloc,
+        rt,
         config,
         &mut trace,
         order.rounds,
+        order.workers,
+        &OpenGate,
         &mut maps,
         &mut report,
     )?;

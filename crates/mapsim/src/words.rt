@@ -15,6 +15,12 @@ const DEFAULT_ROUNDS: u32 = 2;
 /// The same as a word.
 const DEFAULT_ROUNDS_WORD: &str = "2";
 
+/// The workers where none are given.
+const DEFAULT_WORKERS: usize = 1;
+
+/// The same as a word.
+const DEFAULT_WORKERS_WORD: &str = "1";
+
 /// What the help says behind the options.
 const AFTER_HELP: &str = "\
 Without words it does what `pipe` does.
@@ -22,12 +28,13 @@ Status: 0 done, 2 usage, 3 what was read is refused, 4 a file or stream failed, 
 
 /// What these words ask for, the program's name first. The faults are a usage fault and want of memory.
 pub fn order_of<'a, S: AsStr>(alloc: Global, words: &'a [S]) -> Result<Order<'a>, Fault>
-    ensures no_words { length words.now < 2 → result ≡ Ok (order.Pipe 2) }
+    ensures no_words { length words.now < 2 → result ≡ Ok (order.Pipe 2 1) }
     ensures fault { IfErr result IsWordsFault }
 {
     if words.len() < 2 {
         return Ok(Order::Pipe {
             rounds: DEFAULT_ROUNDS,
+            workers: DEFAULT_WORKERS,
         });
     }
     let given = match matches_of(alloc, words) {
@@ -64,18 +71,20 @@ fn matches_of<'a, S: AsStr>(alloc: Global, words: &'a [S]) -> Result<ArgMatches<
 fn order_in<'a>(given: &ArgMatches<'a>) -> Option<Order<'a>> {
     let (name, options) = given.subcommand()?;
     let rounds = options.get_one::<u32>("rounds")?;
+    let workers = options.get_one::<u32>("workers")? as usize;
     if name == "replay" {
-        file_replay(options, rounds)
+        file_replay(options, rounds, workers)
     } else {
-        Some(Order::Pipe { rounds })
+        Some(Order::Pipe { rounds, workers })
     }
 }
 
-fn file_replay<'a>(options: &ArgMatches<'a>, rounds: u32) -> Option<Order<'a>> {
+fn file_replay<'a>(options: &ArgMatches<'a>, rounds: u32, workers: usize) -> Option<Order<'a>> {
     Some(Order::Replay(FileReplay {
         config: options.get_str("config")?,
         trace: options.get_str("trace")?,
         rounds,
+        workers,
         maps: options.get_str("maps")?,
         report: options.get_str("report")?,
     }))
@@ -97,13 +106,15 @@ fn replay_command<'a>(alloc: Global) -> Result<Command<'a>, AllocError> {
         .arg(path(alloc, "trace", "The trace, CSV"))?
         .arg(rounds_option(alloc).required(true))?
         .arg(path(alloc, "maps", "The maps file, which is made"))?
-        .arg(path(alloc, "report", "The report, which is made"))
+        .arg(path(alloc, "report", "The report, which is made"))?
+        .arg(workers_option(alloc))
 }
 
 fn pipe_command<'a>(alloc: Global) -> Result<Command<'a>, AllocError> {
     Command::new(alloc, "pipe")
         .about("Replays standard input: the configuration, a line `%%`, the trace")
-        .arg(rounds_option(alloc).default_value(DEFAULT_ROUNDS_WORD))
+        .arg(rounds_option(alloc).default_value(DEFAULT_ROUNDS_WORD))?
+        .arg(workers_option(alloc))
 }
 
 fn path<'a>(alloc: Global, name: &'a str, help: &'a str) -> Arg<'a> {
@@ -116,10 +127,23 @@ fn path<'a>(alloc: Global, name: &'a str, help: &'a str) -> Arg<'a> {
 }
 
 fn rounds_option<'a>(alloc: Global) -> Arg<'a> {
-    Arg::new(alloc, "rounds")
-        .long("rounds")
+    number(alloc, "rounds", "How many rounds to replay")
+}
+
+fn workers_option<'a>(alloc: Global) -> Arg<'a> {
+    number(
+        alloc,
+        "workers",
+        "How many workers share the channels of a round, 1 to 64",
+    )
+    .default_value(DEFAULT_WORKERS_WORD)
+}
+
+fn number<'a>(alloc: Global, name: &'a str, help: &'a str) -> Arg<'a> {
+    Arg::new(alloc, name)
+        .long(name)
         .value_name("N")
-        .help("How many rounds to replay")
+        .help(help)
         .value_parser(value_parser!(u32))
         .action(ArgAction::Set)
 }

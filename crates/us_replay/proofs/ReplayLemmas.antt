@@ -57,4 +57,5 @@ replayed t rounds told v to_maps to_report (Err (fault.WriteReport done)) can re
 replayed t rounds told v to_maps to_report (Err (fault.NoMemory done)) can read ran =
     (can, ran-text t rounds told v to_maps to_report (Err (fault.NoMemory done)) read ran)
 replayed t rounds told v to_maps to_report (Err fault.Rounds) can read ran = absurd ran.0
+replayed t rounds told v to_maps to_report (Err fault.Workers) can read ran = absurd ran.0
 replayed t rounds told v to_maps to_report (Err (fault.Trace reason)) can read ran = absurd ran.0

@@ -212,6 +212,7 @@ sent-stops out counts k a b c d e f maps report (fault.WriteReport done) so_far 
     }) (part.short_report n below))
 sent-stops out counts k a b c d e f maps report (fault.NoMemory done) so_far part never = absurd never
 sent-stops out counts k a b c d e f maps report fault.Rounds so_far part never = absurd never
+sent-stops out counts k a b c d e f maps report fault.Workers so_far part never = absurd never
 sent-stops out counts k a b c d e f maps report (fault.Trace reason) so_far part never = absurd never
 
 -- the texts of the round at a place
@@ -325,6 +326,7 @@ flush-stops out counts k a b c d e f (fault.WriteReport done) all took (maps, re
     stops-after out done (grown a c) (grown d f) (is ∙ all) (flushed-all out a b c d e f took maps report)
 flush-stops out counts k a b c d e f (fault.NoMemory done) all took never = absurd never
 flush-stops out counts k a b c d e f fault.Rounds all took never = absurd never
+flush-stops out counts k a b c d e f fault.Workers all took never = absurd never
 flush-stops out counts k a b c d e f (fault.Trace reason) all took never = absurd never
 
 -- Limits.
@@ -339,6 +341,7 @@ sent-kept t cuts k maps report to_maps to_report (fault.WriteReport done) kept (
     subst (KeptLimits t cuts) (sym is) kept
 sent-kept t cuts k maps report to_maps to_report (fault.NoMemory done) kept never = absurd never
 sent-kept t cuts k maps report to_maps to_report fault.Rounds kept never = absurd never
+sent-kept t cuts k maps report to_maps to_report fault.Workers kept never = absurd never
 sent-kept t cuts k maps report to_maps to_report (fault.Trace reason) kept never = absurd never
 
 -- and one of a flush all of them
@@ -350,6 +353,7 @@ flushed-kept t cuts k to_maps to_report (fault.WriteReport done) kept (maps, rep
     subst (KeptLimits t cuts) (sym is) kept
 flushed-kept t cuts k to_maps to_report (fault.NoMemory done) kept never = absurd never
 flushed-kept t cuts k to_maps to_report fault.Rounds kept never = absurd never
+flushed-kept t cuts k to_maps to_report fault.Workers kept never = absurd never
 flushed-kept t cuts k to_maps to_report (fault.Trace reason) kept never = absurd never
 
 pub none-kept : (t : Tables) (cuts : List (List ℕ)) → KeptLimits t cuts 0

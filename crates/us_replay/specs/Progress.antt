@@ -162,6 +162,7 @@ Sent maps report done to_maps to_report (Err (fault.WriteReport rounds)) =
     (rounds ≡ done) × Took to_maps maps × AppendsFront to_report.before to_report.after report
 Sent maps report done to_maps to_report (Err (fault.NoMemory rounds)) = ⊥
 Sent maps report done to_maps to_report (Err fault.Rounds) = ⊥
+Sent maps report done to_maps to_report (Err fault.Workers) = ⊥
 Sent maps report done to_maps to_report (Err (fault.Trace reason)) = ⊥
 
 -- a flush keeps what was taken, and a fault of it names these rounds
@@ -173,4 +174,5 @@ Flushed done to_maps to_report (Err (fault.WriteReport rounds)) =
     Keeps to_maps.before to_maps.after × Keeps to_report.before to_report.after × (rounds ≡ done)
 Flushed done to_maps to_report (Err (fault.NoMemory rounds)) = ⊥
 Flushed done to_maps to_report (Err fault.Rounds) = ⊥
+Flushed done to_maps to_report (Err fault.Workers) = ⊥
 Flushed done to_maps to_report (Err (fault.Trace reason)) = ⊥

@@ -117,6 +117,7 @@ Ran out counts to_maps to_report (Err (fault.WriteReport done)) = Stopped out to
 Ran out counts to_maps to_report (Err (fault.NoMemory done)) =
     TookRounds out done to_maps to_report × Stopped out to_maps to_report done
 Ran out counts to_maps to_report (Err fault.Rounds) = ⊥
+Ran out counts to_maps to_report (Err fault.Workers) = ⊥
 Ran out counts to_maps to_report (Err (fault.Trace reason)) = ⊥
 
 -- Limits.
@@ -128,6 +129,7 @@ rounds_done (Err (fault.WriteMaps done)) = done
 rounds_done (Err (fault.WriteReport done)) = done
 rounds_done (Err (fault.NoMemory done)) = done
 rounds_done (Err fault.Rounds) = 0
+rounds_done (Err fault.Workers) = 0
 rounds_done (Err (fault.Trace reason)) = 0
 
 -- no MAP of the first `done` rounds passes a limit of MAPs
@@ -150,11 +152,13 @@ RanText t rounds told to_maps to_report result =
 abbrev pub TookNothing : Growth → Growth → Type 0
 TookNothing to_maps to_report = Took to_maps [] × Took to_report []
 
--- a replay: what stands by its answer. A number of rounds that doesn't fit is answered first, and then a fault of the
--- trace
+-- a replay: what stands by its answer. A number of rounds that doesn't fit is answered first, then a number of workers
+-- that can't be had, and then a fault of the trace
 abbrev pub Replayed : Tables → ℕ → Option (List ℕ) → Growth → Growth → Result Summary RunFault → Type 0
 Replayed t rounds told to_maps to_report (Err fault.Rounds) =
     (rounds_fit t rounds ≡ false) × TookNothing to_maps to_report
+Replayed t rounds told to_maps to_report (Err fault.Workers) =
+    (rounds_fit t rounds ≡ true) × TookNothing to_maps to_report
 Replayed t rounds told to_maps to_report (Err (fault.Trace reason)) =
     (rounds_fit t rounds ≡ true) × Reads t rounds told (Err reason) × TookNothing to_maps to_report
 Replayed t rounds told to_maps to_report (Ok summary) =
@@ -170,6 +174,7 @@ Replayed t rounds told to_maps to_report (Err (fault.NoMemory done)) =
 abbrev pub comes_before : {A : Type 0} → Result A RunFault → Bool
 comes_before (Ok done) = false
 comes_before (Err fault.Rounds) = true
+comes_before (Err fault.Workers) = true
 comes_before (Err (fault.Trace reason)) = true
 comes_before (Err (fault.WriteMaps done)) = false
 comes_before (Err (fault.WriteReport done)) = false
@@ -182,6 +187,7 @@ blames_maps (Err (fault.WriteMaps done)) = true
 blames_maps (Err (fault.WriteReport done)) = false
 blames_maps (Err (fault.NoMemory done)) = false
 blames_maps (Err fault.Rounds) = false
+blames_maps (Err fault.Workers) = false
 blames_maps (Err (fault.Trace reason)) = false
 
 abbrev pub blames_report : {A : Type 0} → Result A RunFault → Bool
@@ -190,4 +196,5 @@ blames_report (Err (fault.WriteMaps done)) = false
 blames_report (Err (fault.WriteReport done)) = true
 blames_report (Err (fault.NoMemory done)) = false
 blames_report (Err fault.Rounds) = false
+blames_report (Err fault.Workers) = false
 blames_report (Err (fault.Trace reason)) = false

@@ -2,11 +2,13 @@ use std::fmt;
 use thiserror::Error;
 use us_requests::TraceFault;
 
-/// Why a replay ended early: the first fault that was met. RU2 is kept for the number of workers, to come.
+/// Why a replay ended early: the first fault that was met.
 #[derive(Clone, Copy, Debug, PartialEq, Eq, Hash, Error)]
 pub enum RunFault {
     /// RU1: no rounds, or together over 67,108,864 ticks. Nothing was read or written.
     Rounds,
+    /// RU2: no worker, or over 64. Nothing was read or written.
+    Workers,
     /// RU3: the trace has a fault. Nothing was written.
     Trace(TraceFault),
     /// RU4: a write or flush of the maps file failed, after so many rounds. These are done: their records and their
@@ -22,6 +24,7 @@ impl fmt::Display for RunFault {
     fn fmt<W: fmt::Write>(&self, f: &mut fmt::Formatter<W>) -> fmt::Result {
         let (text, rounds) = match *self {
             RunFault::Rounds => ("RU1: no rounds, or more than a run has ticks for", None),
+            RunFault::Workers => ("RU2: the workers are not 1 to 64", None),
             RunFault::Trace(_) => ("RU3: the trace is refused", None),
             RunFault::WriteMaps(done) => ("RU4: the maps file failed", Some(done)),
             RunFault::WriteReport(done) => ("RU5: the report failed", Some(done)),

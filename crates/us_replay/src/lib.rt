@@ -5,7 +5,8 @@
 //! let mut trace = FromRead::new(trace_file);
 //! let mut maps = FromWrite::new(maps_file);
 //! let mut report = FromWrite::new(report_file);
-//! let summary = replay(alloc, &config, &mut trace, 2, &mut maps, &mut report)?; // 2 rounds
+//! // 2 rounds by 4 workers
+//! let summary = replay(alloc, threads, &config, &mut trace, 2, 4, &OpenGate, &mut maps, &mut report)?;
 //! ```
 //!
 //! What these bytes are stands in `specs/`, in the order of its `Lib.antt`.
@@ -30,7 +31,7 @@ mod summaries;
 mod replays;
 
 pub use faults::RunFault;
-pub use replays::replay;
+pub use replays::{check_run, replay};
 pub use summaries::Summary;
 pub use us_round::{Entry, Row};
 

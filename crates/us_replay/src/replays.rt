@@ -1,4 +1,4 @@
-ghost use Rattle.std.specs.Prelude.{◌≡◌, ◌↔◌, ℕ, ◌<◌, true, false, length, IfOk};
+ghost use Rattle.std.specs.Prelude.{◌≡◌, ◌↔◌, ◌⊎◌, ℕ, ◌<◌, ◌≤◌, true, false, length, Err, IfOk, OnOk, IfErr};
 ghost use Rattle.std.specs.List.{AllByRecursion};
 ghost use Rattle.us_flows.specs.Tables;
 ghost use Rattle.us_flows.specs.Clusters.{clusters_of};
@@ -14,6 +14,8 @@ use crate::summaries::Summary;
 use progress::Progress;
 use sending::{flush, send};
 use std::alloc::Global;
+use std::thread::Threads;
+use us_crew::{Gate, MAX_WORKERS};
 use us_flows::Config;
 use us_requests::{Ask, Trace, TraceFault};
 use us_round::{State, round};
@@ -23,16 +25,22 @@ mod progress;
 mod sending;
 mod tallies;
 
-/// Replays the trace of `trace` with a configuration, for so many rounds: writes the maps file and the report.
+/// Replays the trace of `trace` with a configuration, for so many rounds: writes the maps file and the report. The
+/// channels of each round are shared among so many workers, each of which enters the gate before each channel. How many
+/// there are, and which comes when, changes nothing of what is written.
 ///
-/// The number of rounds is looked at first (RU1), and then the trace is read to its end (RU3). Each round writes its
-/// records and then its lines, the channels in table order; after the last one the F lines and the U line are written,
-/// and both writers are flushed, the maps file's first. The first fault ends the replay (RU4, RU5, RU6).
-pub fn replay<R: Source, W1: Sink, W2: Sink>(
+/// The number of rounds is looked at first (RU1), then that of workers (RU2), and then the trace is read to its end
+/// (RU3). Each round writes its records and then its lines, the channels in table order; after the last one the F lines
+/// and the U line are written, and both writers are flushed, the maps file's first. The first fault ends the replay
+/// (RU4, RU5, RU6).
+pub fn replay<H: Threads + Sync, R: Source, W1: Sink, W2: Sink, G: Gate + Sync>(
     alloc: Global,
+    threads: &H,
     config: &Config,
     trace: &mut R,
     rounds: u32,
+    workers: usize,
+    gate: &G,
     maps: &mut W1,
     report: &mut W2,
 ) -> Result<Summary, RunFault>
@@ -43,7 +51,9 @@ pub fn replay<R: Source, W1: Sink, W2: Sink>(
         let to_report : Growth = record { before = W2.contents report.old; after = W2.contents report.new } in
         Replayed config.now rounds (R.remaining trace.old) to_maps to_report result }
     ensures rounds { (result ≡ Err RunFault.Rounds) ↔ (Tables.rounds_fit config.now rounds ≡ false) }
-    ensures nothing_read { result ≡ Err RunFault.Rounds → trace.new ≡ trace.old }
+    ensures workers { (result ≡ Err RunFault.Workers) ↔
+        (Tables.rounds_fit config.now rounds ≡ true) × ((workers ≡ 0) ⊎ (64 < workers)) }
+    ensures nothing_read { (result ≡ Err RunFault.Rounds) ⊎ (result ≡ Err RunFault.Workers) → trace.new ≡ trace.old }
     ensures nothing_written { comes_before result ≡ true → (maps.new ≡ maps.old) × (report.new ≡ report.old) }
     ensures trace_failed { (R.failed trace.new ≡ true) ↔ (result ≡ Err (RunFault.Trace TraceFault.Read)) }
     ensures trace_taken { result ≡ Err (RunFault.Trace TraceFault.Read) →
@@ -51,18 +61,37 @@ pub fn replay<R: Source, W1: Sink, W2: Sink>(
     ensures maps_failed { W1.failed maps.new ≡ blames_maps result }
     ensures report_failed { W2.failed report.new ≡ blames_report result }
 {
+    check_run(config, rounds, workers)?;
+    let trace = Trace::read(alloc, trace, config, rounds)?;
+    run(alloc, threads, config, &trace, workers, gate, maps, report)
+}
+
+/// Looks at the numbers of a replay: RU1 where the rounds don't fit, and else RU2 where the workers are 0 or over 64.
+/// `replay` does it first; a caller that opens files for it does it before them.
+pub fn check_run(config: &Config, rounds: u32, workers: usize) -> Result<(), RunFault>
+    ensures rounds { (result ≡ Err RunFault.Rounds) ↔ (Tables.rounds_fit config.now rounds ≡ false) }
+    ensures workers { (result ≡ Err RunFault.Workers) ↔
+        (Tables.rounds_fit config.now rounds ≡ true) × ((workers ≡ 0) ⊎ (64 < workers)) }
+    ensures fine { OnOk result ((Tables.rounds_fit config.now rounds ≡ true) × (1 ≤ workers) × (workers ≤ 64)) }
+    ensures fault { IfErr result (λ f. (f ≡ RunFault.Rounds) ⊎ (f ≡ RunFault.Workers)) }
+{
     if !config.rounds_fit(rounds) {
         return Err(RunFault::Rounds);
     }
-    let trace = Trace::read(alloc, trace, config, rounds)?;
-    run(alloc, config, &trace, maps, report)
+    if workers == 0 || workers > MAX_WORKERS {
+        return Err(RunFault::Workers);
+    }
+    Ok(())
 }
 
 /// Replays a trace that was read.
-fn run<W1: Sink, W2: Sink>(
+fn run<H: Threads + Sync, W1: Sink, W2: Sink, G: Gate + Sync>(
     alloc: Global,
+    threads: &H,
     config: &Config,
     trace: &Trace,
+    workers: usize,
+    gate: &G,
     maps: &mut W1,
     report: &mut W2,
 ) -> Result<Summary, RunFault>
@@ -83,7 +112,17 @@ fn run<W1: Sink, W2: Sink>(
     let Ok(state) = opened(alloc, config) else {
         return Err(RunFault::NoMemory(0));
     };
-    run_on(alloc, trace, state, &mut progress, maps, report)
+    run_on(
+        alloc,
+        threads,
+        trace,
+        state,
+        &mut progress,
+        workers,
+        gate,
+        maps,
+        report,
+    )
 }
 
 /// The state before round 0, of a copy of the configuration.
@@ -99,11 +138,14 @@ fn opened(alloc: Global, config: &Config) -> Result<State, NoMemory>
 
 /// Replays a trace from before round 0 on. That the progress stands with the caller spares each way out of here to give
 /// it up.
-fn run_on<W1: Sink, W2: Sink>(
+fn run_on<H: Threads + Sync, W1: Sink, W2: Sink, G: Gate + Sync>(
     alloc: Global,
+    threads: &H,
     trace: &Trace,
     state: State,
     progress: &mut Progress,
+    workers: usize,
+    gate: &G,
     maps: &mut W1,
     report: &mut W2,
 ) -> Result<Summary, RunFault>
@@ -122,7 +164,8 @@ fn run_on<W1: Sink, W2: Sink>(
     let mut state = state;
     let rounds = trace.rounds();
     for done in 0..rounds {
-        let Ok(next) = make_round(alloc, state, progress, trace.asks(done)) else {
+        let asks = trace.asks(done);
+        let Ok(next) = make_round(alloc, threads, state, progress, asks, workers, gate) else {
             return Err(RunFault::NoMemory(done));
         };
         state = next;
@@ -143,17 +186,21 @@ fn run_on<W1: Sink, W2: Sink>(
 }
 
 /// Makes the round of a state and these asks, and its texts. After want of memory nothing is said of `progress`.
-fn make_round(
+fn make_round<H: Threads + Sync, G: Gate + Sync>(
     alloc: Global,
+    threads: &H,
     state: State,
     progress: &mut Progress,
     asks: &[Ask],
+    workers: usize,
+    gate: &G,
 ) -> Result<State, NoMemory>
-    requires { CanMake state progress.old asks.now }
+    requires ready { CanMake state progress.old asks.now }
     ensures { IfOk result (λ next. IsMade state progress.old asks.now next progress.new) }
 {
     progress.take_asks(asks);
-    let Ok((next, out)) = round(alloc, state, progress.cut()) else {
+    let Ok((next, out)) = round(alloc, threads, state, progress.cut(), workers, gate) else {
+        // The number of workers was looked at before the first round.
         return Err(NoMemory);
     };
     // Its clauses bound how many rounds there were and how much the calendars settled, so that no count of lines wraps.

@@ -1,5 +1,5 @@
 -- The calendars that a round leaves: one for each channel still, at the next round, and none has settled too much.
-use Rattle.std.proofs.Common.{◌≡◌, ℕ, zero, suc, ◌+◌, ◌*◌, ◌<◌, ◌≤◌, ◌++◌, take, List, [], ◌∷◌, length, map, refl, ap, sym, ◌∙◌, arith}
+use Rattle.std.proofs.Common.{◌≡◌, ℕ, zero, suc, ◌+◌, ◌*◌, ◌<◌, ◌≤◌, ◌++◌, take, List, [], ◌∷◌, length, map, refl, ap, ◌∙◌, arith}
 use Rattle.std.specs.Prelude.{zip, sum_by, slice_get, IfSome}
 use Rattle.std.specs.List.{AllByRecursion}
 use Rattle.std.proofs.lemmas.List.{length-map, length-replicate}
@@ -15,8 +15,8 @@ use Rattle.us_flows.specs.Clusters.{clusters_of}
 use Rattle.us_split.specs.Plans.{Planned}
 use Rattle.us_split.specs.Shares.{TurnShares}
 use Rattle.us_round.specs.Claims.{kept_build}
-use Rattle.us_round.specs.Rounds.{State, Filled, Built, fill, build_on, fills_of, round_plan, builds_of}
-use Rattle.us_round.specs.Cores.{Core, IsCore, opening_core, IsFilledFor, AreCalendars, AreCounted, settled_now, settled_then, with_calendars, credited_core}
+use Rattle.us_round.specs.Rounds.{State, Filled, Built, fill, build_on, round_plan, builds_of}
+use Rattle.us_round.specs.Cores.{Core, IsCore, opening_core, AreCalendars, AreCounted, settled_now, settled_then, with_calendars, credited_core}
 use Rattle.us_round.specs.States.{IsState, max_settled_by}
 use Rattle.us_round.proofs.FillLemmas.{calendars_long}
 use Rattle.us_round.proofs.StateLemmas.{left-length, spent-length}
@@ -86,30 +86,24 @@ calendars_sum (b ∷ bs) =
       calendars_sum bs,
     )
 
-sum_few : (bs : List Built) → AllByRecursion (λ b. IsCalendar b.calendar) bs →
-    sum_by settled_in (map (λ b. b.calendar) bs) ≤ length bs * max_settled
+sum_few : (cs : List Calendar) → AllByRecursion IsCalendar cs → sum_by settled_in cs ≤ length cs * max_settled
 sum_few [] all = omega arith
-sum_few (b ∷ bs) all =
-    let one : settled_in b.calendar ≤ max_settled = all.0.settled in
-    omega (arith, one, sum_few bs all.1, sum_by-cons settled_in b.calendar (map (λ b. b.calendar) bs))
+sum_few (calendar ∷ cs) all =
+    let one : settled_in calendar ≤ max_settled = all.0.settled in
+    omega (arith, one, sum_few cs all.1, sum_by-cons settled_in calendar cs)
 
 -- all calendars together have settled no more than may be
-pub settled_few : (core : Core) (cs : List Calendar) (built : List Built) → AreTables core.tables →
-    AreCalendars core.tables core.round cs → built ≡ builds_of (with_calendars core cs) → AreCounted cs built →
-    sum_by settled_in (map (λ b. b.calendar) built) ≤ max_settled_by
-settled_few core cs built lawful are is counted =
-    let long : length built ≡ length core.tables.channels =
-    ap (λ bs. length bs) is ∙ builds_long (with_calendars core cs) are in
+pub settled_few : (core : Core) (cs left : List Calendar) (built : List Built) → AreTables core.tables →
+    AreCalendars core.tables core.round cs → built ≡ builds_of (with_calendars core cs) →
+    left ≡ map (λ b. b.calendar) built → AllByRecursion IsCalendar left → sum_by settled_in left ≤ max_settled_by
+settled_few core cs left built lawful are is those known =
+    let long : length left ≡ length core.tables.channels =
+    ap (λ cs. length cs) those ∙ length-map built (λ b. b.calendar) ∙ ap (λ bs. length bs) is
+    ∙ builds_long (with_calendars core cs) are in
     let channels : length core.tables.channels ≤ 16 = lawful.some_channels.1 in
-    omega (arith, sum_few built counted.calendars, long, channels)
+    omega (arith, sum_few left known, long, channels)
 
 -- What built channels tell of their calendars is what the filled ones do.
-calendars_kept : (t : Tables) (plan : List TurnShares) (fs : List Filled) → AllByRecursion (IsFilledFor t) fs →
-    AllByRecursion (λ b. IsCalendar b.calendar) (map (kept_build t plan) fs)
-unfolding kept_build
-calendars_kept t plan [] all = tt
-calendars_kept t plan (f ∷ fs) all = (all.0.calendar, calendars_kept t plan fs all.1)
-
 now_kept : (t : Tables) (plan : List TurnShares) (fs : List Filled) →
     sum_by (λ b. length b.settled) (map (kept_build t plan) fs) ≡ settled_now fs
 unfolding kept_build
@@ -135,12 +129,8 @@ then_kept t plan (f ∷ fs) =
     )
 
 pub counted : (t : Tables) (plan : List TurnShares) (fs : List Filled) (cs : List Calendar) →
-    AllByRecursion (IsFilledFor t) fs → settled_now fs + sum_by settled_in cs ≡ settled_then fs →
-    AreCounted cs (map (kept_build t plan) fs)
-counted t plan fs cs all counts = record {
-  calendars = calendars_kept t plan fs all;
-  counts = omega (arith, counts, now_kept t plan fs, then_kept t plan fs);
-}
+    settled_now fs + sum_by settled_in cs ≡ settled_then fs → AreCounted cs (map (kept_build t plan) fs)
+counted t plan fs cs counts = omega (arith, counts, now_kept t plan fs, then_kept t plan fs)
 
 -- Before round 0.
 

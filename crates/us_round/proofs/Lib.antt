@@ -21,3 +21,4 @@ pub mod StateLemmas
 pub mod CalendarLemmas
 pub mod RoundLemmas
 pub mod SoundLemmas
+pub mod PhaseLemmas

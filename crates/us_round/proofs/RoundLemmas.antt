@@ -1,5 +1,5 @@
 -- That the parts of a round are the round.
-use Rattle.std.proofs.Common.{◌≡◌, ℕ, ◌+◌, ◌*◌, ◌<◌, ◌≤◌, ◌++◌, suc, Bool, List, [], ◌∷◌, length, map, refl, ap, subst, ◌∙◌, inl, inr, arith}
+use Rattle.std.proofs.Common.{◌≡◌, ℕ, ◌+◌, ◌*◌, ◌<◌, ◌≤◌, ◌++◌, Bool, List, [], ◌∷◌, length, map, refl, ap, subst, ◌∙◌, inl, inr, arith}
 use Rattle.std.specs.Prelude.{filter, filter_map, flat_map, not, sum_by}
 use Rattle.std.specs.List.{AllByRecursion}
 use Rattle.std.proofs.lemmas.Bool.{cases_Bool}
@@ -139,4 +139,4 @@ run_few core cs left built out are is sound limits counted made calendars =
     ap (λ bs. sum_by (λ b. length b.settled) bs) is in
     let then : sum_by settled_in left ≡ sum_by (λ b. settled_in b.calendar) built =
     ap (λ cs. sum_by settled_in cs) calendars ∙ calendars_sum built in
-    omega (arith, rows, few, now, then, counted.counts, builds_long s are)
+    omega (arith, rows, few, now, then, counted, builds_long s are)

@@ -5,7 +5,6 @@ use Rattle.std.proofs.lemmas.Bool.{cases_Bool}
 use Rattle.std.proofs.lemmas.List.{length-map}
 use Rattle.std.proofs.lemmas.Option.{slice_get-map}
 use Rattle.us_slots.specs.Bursts.{ChannelBursts, IsChannelBursts}
-use Rattle.us_flows.specs.declared.channels.Channel.{Channel}
 use Rattle.us_flows.specs.Tables.{Tables}
 use Rattle.us_flows.specs.Clusters.{Turn, IsTurnIn, clusters_of, turns_of}
 use Rattle.us_flows.specs.Lawful.{AreTables, IsChannel, AreApart}

@@ -1,12 +1,14 @@
 -- Inside the crate, and of no use to a reader of the promise: a state without its calendars, which go from channel to
 -- channel by themselves; and what the channels of a round keep on the way.
-use Rattle.std.specs.Prelude.{◌≡◌, ℕ, ◌+◌, ◌≤◌, List, [], length, map, filter_map, replicate, sum_by}
+use Rattle.std.specs.Prelude.{◌≡◌, ℕ, ◌+◌, ◌*◌, ◌≤◌, List, [], length, map, filter_map, replicate, sum_by}
 use Rattle.std.specs.List.{AllByRecursion}
-use Rattle.us_flows.specs.Tables.{Tables, map_len}
+use Rattle.us_flows.specs.declared.channels.Channel.{Channel}
+use Rattle.us_flows.specs.Tables.{Tables, map_len, max_run_ticks}
+use Rattle.us_flows.specs.Lawful.{IsChannel}
 use Rattle.us_flows.specs.Clusters.{clusters_of, turns_of}
 use Rattle.us_bucket.specs.Levels.{Level, full, bytes_in}
 use Rattle.us_calendar.specs.Calendars as calendars
-use Rattle.us_calendar.specs.Calendars.{Calendar, IsCalendar, pace_of, settled_in, granted_in}
+use Rattle.us_calendar.specs.Calendars.{Calendar, pace_of, settled_in, granted_in}
 use Rattle.us_split.specs.Plans.{Planned, plan_for}
 use Rattle.us_round.specs.Rounds.{State, Filled, Built, Scheduled, asked, grown, idle, all_grants, left_of, spent_of}
 use Rattle.us_round.specs.Leftovers.{still_asking}
@@ -65,13 +67,19 @@ pub record AreCalendars (t : Tables) (round : ℕ) (cs : List Calendar) : Type 0
   pub paces : map (λ calendar. calendar.pace) cs ≡ map (pace_of t) t.channels
   pub rounds : AllByRecursion (λ calendar. calendar.next_round ≡ round) cs
 
+-- a channel of these tables with its calendar, in a round that may be made
+pub record IsReady (t : Tables) (round : ℕ) (item : Channel × Calendar) : Type 0 where
+  pub channel : IsChannel t item.0
+  pub pace : item.1.pace ≡ pace_of t item.0
+  pub next : item.1.next_round ≡ round
+  pub time : (round + 1) * t.round_ticks ≤ max_run_ticks
+
 -- a channel of these tables after its calendar: its board has the length of its MAPs, and what was granted starts inside
 -- and stands there
 pub record IsFilledFor (t : Tables) (f : Filled) : Type 0 where
   pub len : length f.board.cells ≡ map_len t f.channel
   pub inside : AllByRecursion (calendars.StartsInside (length f.board.cells)) f.settled
   pub few : granted_in f.settled ≤ f.board.standing
-  pub calendar : IsCalendar f.calendar
 
 -- how many occurrences the calendars of channels settled in a round, and so far
 abbrev pub settled_now : List Filled → ℕ
@@ -80,10 +88,10 @@ settled_now fs = sum_by (λ f. length f.settled) fs
 abbrev pub settled_then : List Filled → ℕ
 settled_then fs = sum_by (λ f. settled_in f.calendar) fs
 
--- the calendars of built channels: each keeps what calendars do, and they settled what the channels tell
-pub record AreCounted (before : List Calendar) (builds : List Built) : Type 0 where
-  pub calendars : AllByRecursion (λ b. IsCalendar b.calendar) builds
-  pub counts : sum_by (λ b. length b.settled) builds + sum_by settled_in before ≡ sum_by (λ b. settled_in b.calendar) builds
+-- the calendars of built channels settled what the channels tell
+abbrev pub AreCounted : List Calendar → List Built → Type 0
+AreCounted before builds =
+    sum_by (λ b. length b.settled) builds + sum_by settled_in before ≡ sum_by (λ b. settled_in b.calendar) builds
 
 -- the plan of a round that has begun, over these channels
 abbrev pub plan_over : Core → List Filled → List Planned

@@ -20,6 +20,8 @@ pub mod OutputExamples
 pub mod RoundExamples
 -- what a round's grants take, and what a state keeps
 pub mod States
+-- the texts of faults
+pub mod Faults
 -- who is pending, by what is outstanding before and after the grants; what boards keep
 pub mod Leftovers
 -- inside the crate, and of no use to a reader of the promise: the claims of a plan as it is kept

@@ -1,12 +1,11 @@
-ghost use Rattle.std.specs.Prelude.{◌≡◌, ◌+◌, ◌*◌, ◌++◌, ◌≤◌, length, map, option_to_list, sum_by, IfOk, OnOk};
+ghost use Rattle.std.specs.Prelude.{◌≡◌, ◌+◌, ◌*◌, ◌++◌, ◌≤◌, length, map, option_to_list, IfOk, OnOk};
 ghost use Rattle.std.specs.List.{AllByRecursion};
 ghost use Rattle.us_slots.specs.Times.{minislot_ticks};
 ghost use Rattle.us_flows.specs.Lawful.{IsChannel};
 ghost use Rattle.us_flows.specs.Tables.{max_run_ticks};
-ghost use Rattle.us_calendar.specs.Calendars.{pace_of, settled_in};
+ghost use Rattle.us_calendar.specs.Calendars.{IsCalendar, pace_of};
 ghost use Rattle.us_holes.specs.Boards.{free_count};
 ghost use Rattle.us_round.specs.Claims as kept;
-ghost use Rattle.us_round.specs.Cores.{AreCalendars, IsFilledFor, settled_now, settled_then};
 ghost use Rattle.us_round.specs.Placements.{with_grant};
 ghost use Rattle.us_round.specs.Rounds as spec;
 
@@ -81,29 +80,6 @@ impl Built {
     }
 }
 
-/// The channels of a round in table order, each after its reserves and its calendar.
-pub(crate) fn fill_all(
-    alloc: Global,
-    config: &Config,
-    round: u32,
-    calendars: Vec<Calendar>,
-) -> Result<Vec<Filled>, NoMemory>
-    requires calendars { AreCalendars config.now round calendars.items }
-    requires time { (round + 1) * config.now.round_ticks ≤ max_run_ticks }
-    ensures value { IfOk result (λ all. all.items ≡ spec.filled config.now round calendars.items) }
-    ensures sound { IfOk result (λ all. AllByRecursion (IsFilledFor config.now) all.items) }
-    ensures counts { IfOk result (λ all.
-        settled_now all.items + sum_by settled_in calendars.items ≡ settled_then all.items) }
-{
-    let channels = config.channels();
-    let mut all = Vec::with_capacity(alloc, channels.len())?;
-    for calendar in calendars {
-        let place = all.len();
-        all.push(fill(alloc, config, &channels[place], calendar, round)?)?;
-    }
-    Ok(all)
-}
-
 /// A channel with the reserves of a round, and with what its calendar settles then.
 pub(crate) fn fill(
     alloc: Global,
@@ -117,39 +93,16 @@ pub(crate) fn fill(
     requires next { calendar.next_round ≡ round }
     requires time { (round + 1) * config.now.round_ticks ≤ max_run_ticks }
     ensures value { IfOk result (λ filled. filled ≡ spec.fill config.now round channel.now calendar) }
-    ensures sound { IfOk result (IsFilledFor config.now) }
-    ensures counts { IfOk result (λ filled.
-        length filled.settled + settled_in calendar ≡ settled_in filled.calendar) }
 {
     let mut calendar = calendar;
     let mut board = reserves(alloc, channel, config.map_len(channel), round)?;
     let settled = calendar.run(alloc, round, &mut board)?;
-    // Asked for what it tells of the calendar: how much it may have settled.
-    let _ = calendar.next_round();
     Ok(Filled {
         channel: *channel,
         board,
         calendar,
         settled,
     })
-}
-
-/// Places the claims of a plan on all channels.
-pub(crate) fn build_all(
-    alloc: Global,
-    config: &Config,
-    plan: &[TurnShares],
-    all: Vec<Filled>,
-) -> Result<Vec<Built>, NoMemory>
-    requires bursts { AllByRecursion (kept.AreKeptBursts config.now) plan.now }
-    requires ticks { AllByRecursion (kept.HasFewTicks) all.items }
-    ensures { IfOk result (λ builds. builds.items ≡ map (kept.kept_build config.now plan.now) all.items) }
-{
-    let mut builds = Vec::with_capacity(alloc, all.len())?;
-    for filled in all {
-        builds.push(build_on(alloc, config, plan, filled)?)?;
-    }
-    Ok(builds)
 }
 
 /// Places the claims of a plan on a channel, one turn after another.
@@ -208,11 +161,14 @@ fn grant_turn(
 
 /// The calendars of channels, which are given up.
 pub(crate) fn calendars_of(alloc: Global, built: Vec<Built>) -> Result<Vec<Calendar>, NoMemory>
-    ensures { IfOk result (λ all. all.items ≡ map (λ b. b.calendar) built.items) }
+    ensures value { IfOk result (λ all. all.items ≡ map (λ b. b.calendar) built.items) }
+    ensures known { IfOk result (λ all. AllByRecursion IsCalendar all.items) }
 {
     let mut all = Vec::with_capacity(alloc, built.len())?;
     for part in built {
         let Built { calendar, .. } = part;
+        // Asked for what it tells of the calendar: how much it may have settled.
+        let _ = calendar.next_round();
         all.push(calendar)?;
     }
     Ok(all)

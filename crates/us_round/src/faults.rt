@@ -1,21 +1,28 @@
-ghost use Rattle.std.specs.Prelude.{Some, codes};
-
 use std::fmt;
 use thiserror::Error;
 use us_slots::NoMemory;
 
-/// Why a round was not made. RO1 is kept for the number of workers, to come.
+/// Why a round was not made. The state was given up.
 #[derive(Clone, Copy, Debug, PartialEq, Eq, Error)]
 pub enum RoundFault {
-    /// RO2: want of memory. The state was given up.
+    /// RO1: no worker, or over 64. It is looked for before all else.
+    Workers,
+    /// RO2: want of memory.
     NoMemory,
 }
 
+/// Writes the text of a fault.
 impl fmt::Display for RoundFault {
-    ghost output = { λ _. Some (codes "RO2: out of memory") };
+    ghost use Rattle.std.specs.Prelude.{Some};
+    ghost use Rattle.us_round.specs.Faults.{fault_text};
+
+    ghost output = { λ fault. Some (fault_text fault) };
 
     fn fmt<W: fmt::Write>(&self, f: &mut fmt::Formatter<W>) -> fmt::Result {
-        f.write_str("RO2: out of memory")
+        f.write_str(match self {
+            RoundFault::Workers => "RO1: the workers are not 1 to 64",
+            RoundFault::NoMemory => "RO2: out of memory",
+        })
     }
 }
 

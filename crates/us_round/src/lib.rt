@@ -3,7 +3,8 @@
 //!
 //! ```
 //! let state = State::new(alloc, config)?; // nothing is outstanding, and every bucket is full
-//! let (state, out) = round(alloc, state, &[1_000])?; // the first cluster asks for 1,000 bytes
+//! // the first cluster asks for 1,000 bytes, and two workers make the channels
+//! let (state, out) = round(alloc, threads, state, &[1_000], 2, &OpenGate)?;
 //! let maps = out.maps(); // a MAP for each channel, in table order
 //! let finals = state.finals(alloc)?; // what is outstanding, and the units of the buckets
 //! ```
@@ -31,6 +32,9 @@ mod placing;
 
 // and all claims of a channel.
 mod building;
+
+// Channels moved to workers and back.
+mod phases;
 
 // Who is pending.
 mod pendings;

@@ -1,4 +1,4 @@
-ghost use Rattle.std.specs.Prelude.{◌≡◌, ◌+◌, ◌*◌, ◌^◌, ◌<◌, ◌≤◌, length, map, sum_by, zip, IfOk, OnOk};
+ghost use Rattle.std.specs.Prelude.{◌≡◌, ◌+◌, ◌*◌, ◌^◌, ◌<◌, ◌≤◌, ◌⊎◌, ◌↔◌, length, map, sum_by, zip, Err, IfOk, OnOk};
 ghost use Rattle.std.specs.List.{AllByRecursion};
 ghost use Rattle.us_flows.specs.Tables.{max_run_ticks};
 ghost use Rattle.us_flows.specs.Clusters.{clusters_of};
@@ -14,28 +14,43 @@ ghost use Rattle.us_round.specs.Rounds as spec;
 ghost use Rattle.us_round.specs.Outputs.{out_of, AreWithinLimits};
 ghost use Rattle.us_round.specs.States.{AreSound, settled_by};
 
-use crate::building::{Built, Filled, build_all, calendars_of, fill_all};
+use crate::building::{Built, Filled, calendars_of};
 use crate::cores::Core;
 use crate::faults::RoundFault;
 use crate::mapping::maps_of;
 use crate::pendings::pending_seats;
+use crate::phases::{build_all, fill_all};
 use crate::reporting::rows_of;
 use crate::round_outs::RoundOut;
 use crate::states::State;
 use std::alloc::Global;
+use std::thread::Threads;
 use us_calendar::Calendar;
+use us_crew::{Gate, MAX_WORKERS};
 use us_slots::NoMemory;
 use us_split::{Plan, plan};
 
 /// Schedules the round of a state, in which the clusters ask for the bytes of `cuts`, one number for each cluster in
 /// the order of their numbers. The answer has the state that the next round starts from.
 ///
+/// Channels are moved to workers and back twice: in phase `Fill` for reserves and calendars, then, once all boards are
+/// planned together, in phase `Build`. Each worker enters the gate before each channel. What is answered is the same
+/// for every number of workers. RO1 is looked for before all else.
+///
 /// Each cluster's outstanding bytes and its cut together have to be below 2^62, and the round has to end at tick 2^26
-/// or before. The fault is want of memory, and the state is given up then.
-pub fn round(alloc: Global, state: State, cuts: &[u64]) -> Result<(State, RoundOut), RoundFault>
+/// or before. On a fault the state is given up.
+pub fn round<H: Threads + Sync, G: Gate + Sync>(
+    alloc: Global,
+    threads: &H,
+    state: State,
+    cuts: &[u64],
+    workers: usize,
+    gate: &G,
+) -> Result<(State, RoundOut), RoundFault>
     requires clusters { length cuts.now ≡ length (clusters_of state.tables) }
     requires room { AllByRecursion (λ pair. pair.0 + pair.1 < 2 ^ 62) (zip state.outstanding cuts.now) }
     requires time { (state.round + 1) * state.tables.round_ticks ≤ max_run_ticks }
+    ensures workers { (result ≡ Err RoundFault.Workers) ↔ ((workers ≡ 0) ⊎ (64 < workers)) }
     ensures state { IfOk result (λ done. done.0 ≡ (spec.round_of state cuts.now).state) }
     ensures out { IfOk result (λ done. done.1 ≡ out_of state.tables (spec.round_of state cuts.now).scheduled) }
 
@@ -51,14 +66,24 @@ pub fn round(alloc: Global, state: State, cuts: &[u64]) -> Result<(State, RoundO
     ensures few { IfOk result (λ done. length done.1.rows + settled_by state ≤
         100 * length state.tables.channels + settled_by done.0) }
 {
+    if workers == 0 || workers > MAX_WORKERS {
+        return Err(RoundFault::Workers);
+    }
     let (mut core, calendars) = state.into_parts();
     core.begin(cuts);
-    let done = run(alloc, core, calendars)?;
+    let done = run(alloc, threads, core, calendars, workers, gate)?;
     Ok(done)
 }
 
 /// Runs a round that has begun.
-fn run(alloc: Global, core: Core, calendars: Vec<Calendar>) -> Result<(State, RoundOut), NoMemory>
+fn run<H: Threads + Sync, G: Gate + Sync>(
+    alloc: Global,
+    threads: &H,
+    core: Core,
+    calendars: Vec<Calendar>,
+    workers: usize,
+    gate: &G,
+) -> Result<(State, RoundOut), NoMemory>
     requires lawful { AreTables core.tables }
     requires time { (core.round + 1) * core.tables.round_ticks ≤ max_run_ticks }
     requires calendars { AreCalendars core.tables core.round calendars.items }
@@ -74,7 +99,7 @@ fn run(alloc: Global, core: Core, calendars: Vec<Calendar>) -> Result<(State, Ro
     let mut core = core;
     let round = core.round();
     let before = core.demands(alloc)?;
-    let built = build(alloc, &core, &before, calendars)?;
+    let built = build(alloc, threads, &core, &before, calendars, workers, gate)?;
     core.close(&built);
     let out = report(alloc, &core, round, &before, &built)?;
     let calendars = calendars_of(alloc, built)?;
@@ -105,11 +130,14 @@ fn report(
 
 /// The channels of a round that has begun, with all claims placed: boards are planned together, once reserves and
 /// calendars have their minislots, and built one by one.
-fn build(
+fn build<H: Threads + Sync, G: Gate + Sync>(
     alloc: Global,
+    threads: &H,
     core: &Core,
     demands: &[u64],
     calendars: Vec<Calendar>,
+    workers: usize,
+    gate: &G,
 ) -> Result<Vec<Built>, NoMemory>
     requires demands { demands.now ≡ core.now.outstanding }
     requires calendars { AreCalendars core.now.tables core.now.round calendars.items }
@@ -119,9 +147,17 @@ fn build(
     ensures counts { IfOk result (λ built. AreCounted calendars.items built.items) }
 {
     let config = core.config();
-    let filled = fill_all(alloc, config, core.round(), calendars)?;
+    let filled = fill_all(
+        alloc,
+        threads,
+        config,
+        core.round(),
+        calendars,
+        workers,
+        gate,
+    )?;
     let plan = plan_round(alloc, core, demands, &filled)?;
-    build_all(alloc, config, plan.turns(), filled)
+    build_all(alloc, threads, config, plan.turns(), filled, workers, gate)
 }
 
 /// The plan of a round that has begun, over boards with reserves and calendars.

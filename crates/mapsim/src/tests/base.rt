@@ -1,9 +1,12 @@
 use crate::programs::run;
 use crate::statuses::Status;
+use std::alloc::Global;
 use std::fmt::Write as _;
 use std::io::{self, ErrorKind, Read, Write};
 use std::process::Abort;
+use std::rt::Files;
 use std::str;
+use std::thread::Threads;
 use us_slots::{FromRead, FromWrite};
 
 /// The input of the stored run: the base configuration, and a request of 1,000 bytes at tick 0.
@@ -125,9 +128,9 @@ struct NarrowWriter {
 }
 
 impl NarrowWriter {
-    fn new(rt: &HostRuntime, limits: Limits) -> NarrowWriter {
+    fn new(alloc: Global, limits: Limits) -> NarrowWriter {
         NarrowWriter {
-            held: Vec::new(rt.alloc()),
+            held: Vec::new(alloc),
             limits,
         }
     }
@@ -155,7 +158,10 @@ impl Write for NarrowWriter {
 
 /// Runs the program in these settings, and tells each in a line: its name, the status, how many bytes the output took,
 /// whether the stored run's begins with them, and what the errors took.
-pub fn told_of(rt: &HostRuntime, settings: &[Setting<'_>]) -> String {
+pub fn told_of(
+    rt: &(impl Files + AllocGlobal + Threads + Sync),
+    settings: &[Setting<'_>],
+) -> String {
     let mut told = String::new(rt.alloc());
     for setting in settings {
         tell(rt, &mut told, setting);
@@ -163,9 +169,13 @@ pub fn told_of(rt: &HostRuntime, settings: &[Setting<'_>]) -> String {
     told
 }
 
-fn tell(rt: &HostRuntime, told: &mut String, setting: &Setting<'_>) {
-    let mut output = NarrowWriter::new(rt, setting.output);
-    let mut errors = NarrowWriter::new(rt, setting.errors);
+fn tell(
+    rt: &(impl Files + AllocGlobal + Threads + Sync),
+    told: &mut String,
+    setting: &Setting<'_>,
+) {
+    let mut output = NarrowWriter::new(rt.alloc(), setting.output);
+    let mut errors = NarrowWriter::new(rt.alloc(), setting.errors);
     let input = Tape {
         left: setting.input.as_bytes(),
         fails: setting.input_fails,

@@ -96,8 +96,9 @@ fn a_line_of_each_kind_and_word(rt: HostRuntime) {
     }
 }
 
-const FAULTS: [RunFault; 5] = [
+const FAULTS: [RunFault; 6] = [
     RunFault::Rounds,
+    RunFault::Workers,
     RunFault::Trace(TraceFault::Header),
     RunFault::WriteMaps(0),
     RunFault::WriteReport(7),
@@ -106,6 +107,7 @@ const FAULTS: [RunFault; 5] = [
 
 const TEXTS: &str = "\
 RU1: no rounds, or more than a run has ticks for
+RU2: the workers are not 1 to 64
 RU3: the trace is refused
 RU4: the maps file failed after 0 rounds
 RU5: the report failed after 7 rounds

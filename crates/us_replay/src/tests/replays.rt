@@ -3,6 +3,8 @@ use super::devices::{FakeReader, FakeWriter, reader, short_writer, stuck_writer,
 use crate::{RunFault, Summary, replay};
 use std::alloc::Global;
 use std::process::Abort;
+use std::thread::Threads;
+use us_crew::{Gate, OpenGate};
 use us_flows::Config;
 use us_requests::TraceFault;
 use us_slots::{FromRead, FromWrite, Sink, Source};
@@ -19,11 +21,11 @@ const STORED: Summary = Summary {
 
 /// What a writer did: whether it is marked as failed, how many bytes it took, whether they are those that are wanted,
 /// how often it was called without room, and how often it was flushed.
-type Deeds = (bool, usize, bool, usize, usize);
+pub(super) type Deeds = (bool, usize, bool, usize, usize);
 
 /// The answer of a replay, whether the trace is marked as failed and how often it was called at its end, and what the
 /// writers did.
-type Outcome = (Result<Summary, RunFault>, (bool, usize), Deeds, Deeds);
+pub(super) type Outcome = (Result<Summary, RunFault>, (bool, usize), Deeds, Deeds);
 
 fn deeds(writer: FromWrite<FakeWriter>) -> Deeds {
     let failed = writer.has_failed();
@@ -37,10 +39,13 @@ fn deeds(writer: FromWrite<FakeWriter>) -> Deeds {
     )
 }
 
-/// A replay of 2 rounds on these devices.
-fn outcome(
+/// A replay of 2 rounds by so many workers on these devices.
+pub(super) fn outcome(
     alloc: Global,
+    threads: &(impl Threads + Sync),
     config: &Config,
+    workers: usize,
+    gate: &(impl Gate + Sync),
     trace: FakeReader<'_>,
     maps: FakeWriter,
     report: FakeWriter,
@@ -48,7 +53,17 @@ fn outcome(
     let mut trace = FromRead::new(trace);
     let mut maps = FromWrite::new(maps);
     let mut report = FromWrite::new(report);
-    let answer = replay(alloc, config, &mut trace, 2, &mut maps, &mut report);
+    let answer = replay(
+        alloc,
+        threads,
+        config,
+        &mut trace,
+        2,
+        workers,
+        gate,
+        &mut maps,
+        &mut report,
+    );
     let failed = trace.has_failed();
     (
         answer,
@@ -60,7 +75,7 @@ fn outcome(
 
 /// Compares what a replay of the base configuration on these devices comes to with an outcome.
 fn expect(
-    rt: &impl Abort,
+    rt: &(impl Abort + Threads + Sync),
     alloc: Global,
     trace: FakeReader<'_>,
     maps: FakeWriter,
@@ -68,7 +83,7 @@ fn expect(
     wanted: Outcome,
 ) {
     let found = match base(alloc) {
-        Ok(config) => Some(outcome(alloc, &config, trace, maps, report)),
+        Ok(config) => Some(outcome(alloc, rt, &config, 1, &OpenGate, trace, maps, report)),
         Err(_) => None,
     };
     same(rt, &found, &Some(wanted), "outcome");
@@ -151,9 +166,12 @@ fn trace_that_fails(rt: HostRuntime) {
 }
 
 /// Whether a replay answers what it may where memory is refused, and blames no device.
-fn is_right(alloc: Global, config: &Config) -> bool {
+fn is_right(alloc: Global, threads: &(impl Threads + Sync), config: &Config) -> bool {
     let (maps, report) = (writer(MAPS, 100), writer(REPORT, 100));
-    let (answer, trace, maps, report) = outcome(alloc, config, reader(TRACE, false), maps, report);
+    let trace = reader(TRACE, false);
+    let (answer, trace, maps, report) = outcome(
+        alloc, threads, config, 1, &OpenGate, trace, maps, report,
+    );
     let blameless = !trace.0 && !maps.0 && !report.0;
     let as_wanted = maps.2 && report.2;
     let right = match answer {
@@ -168,6 +186,11 @@ fn is_right(alloc: Global, config: &Config) -> bool {
 #[test]
 fn refused_memory(rt: HostRuntime) {
     if let Ok(config) = base(rt.alloc()) {
-        same(&rt, &is_right(rt.alloc(), &config), &true, "without memory");
+        same(
+            &rt,
+            &is_right(rt.alloc(), &rt, &config),
+            &true,
+            "without memory",
+        );
     }
 }

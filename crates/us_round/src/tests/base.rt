@@ -4,7 +4,9 @@ ghost use Rattle.std.specs.List.{AllByRecursion};
 use crate::{RoundFault, RoundOut, Row, State, round};
 use std::alloc::{AllocError, Global};
 use std::process::Abort;
+use std::thread::Threads;
 use us_codec::Map;
+use us_crew::{Gate, OpenGate};
 use us_flows::{Config, ConfigFault};
 use us_requests::ClusterState;
 use us_slots::NoMemory;
@@ -53,14 +55,14 @@ pub(super) struct Case<'a> {
     pub(super) answer: &'a str,
 }
 
-/// Makes the run of each case, and compares what is answered.
+/// Makes the run of each case with one worker, and compares what is answered.
 pub(super) fn compare(
-    rt: &impl Abort,
+    rt: &(impl Abort + Threads + Sync),
     alloc: Global,
     cases: &[Case<'_>],
 ) -> Result<(), AllocError> {
     for case in cases {
-        let answer = answer_of(alloc, case)?;
+        let answer = answer_of(alloc, rt, case, 1, &OpenGate)?;
         same(rt, case.name, answer.as_str(), case.answer);
     }
     Ok(())
@@ -68,11 +70,17 @@ pub(super) fn compare(
 
 /// What is answered: of each round its first grants, how many there are, and how many elements and pendings each MAP
 /// has; then the first final lines. A fault stands behind what was answered before it.
-pub(super) fn answer_of(alloc: Global, case: &Case<'_>) -> Result<String, AllocError> {
+pub(super) fn answer_of<H: Threads + Sync, G: Gate + Sync>(
+    alloc: Global,
+    threads: &H,
+    case: &Case<'_>,
+    workers: usize,
+    gate: &G,
+) -> Result<String, AllocError> {
     let mut answer = String::new(alloc);
     match config_of(alloc, case) {
         Ok(config) => {
-            if let Err(fault) = run(alloc, &mut answer, config, case) {
+            if let Err(fault) = run(alloc, threads, &mut answer, config, case, workers, gate) {
                 write!(answer, "{fault}")?;
             }
         }
@@ -131,17 +139,20 @@ fn cut_of(
 }
 
 /// Makes the rounds of a case. What can only be wrong with the case is said to be want of memory.
-fn run(
+fn run<H: Threads + Sync, G: Gate + Sync>(
     alloc: Global,
+    threads: &H,
     answer: &mut String,
     config: Config,
     case: &Case<'_>,
+    workers: usize,
+    gate: &G,
 ) -> Result<(), RoundFault> {
     let clusters = config.clusters();
     let mut state = State::new(alloc, config)?;
     for number in 0..case.rounds {
         let cut = cut_of(alloc, case, number, clusters)?;
-        let (next, out) = next_round(alloc, state, &cut)?;
+        let (next, out) = next_round(alloc, threads, state, &cut, workers, gate)?;
         state = next;
         if case.whole {
             tell_whole(answer, &out)?;
@@ -155,16 +166,19 @@ fn run(
 }
 
 /// The round of a state, if it may be made.
-pub(super) fn next_round(
+fn next_round<H: Threads + Sync, G: Gate + Sync>(
     alloc: Global,
+    threads: &H,
     state: State,
     cut: &[u64],
+    workers: usize,
+    gate: &G,
 ) -> Result<(State, RoundOut), RoundFault> {
     let core = state.core();
     let config = core.config();
     let end = (u64::from(state.round()) + 1) * u64::from(config.round_ticks());
     if cut.len() == config.clusters() && end <= 1 << 26 && have_room(core.outstanding(), cut) {
-        round(alloc, state, cut)
+        round(alloc, threads, state, cut, workers, gate)
     } else {
         Err(RoundFault::NoMemory)
     }

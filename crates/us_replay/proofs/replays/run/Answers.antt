@@ -29,12 +29,12 @@ returns-in_default-opened-clause-ran g c =
     )
 
 pub run_on-requires-clause-known : goal.run_on-requires-clause-known
-run_on-requires-clause-known g c = λ round.
+run_on-requires-clause-known g c = λ κs live round.
     subst (λ t. AllByRecursion (λ ask. ask.cluster < length (clusters_of t)) (asks_in c.args.trace.now round))
     (sym (ap (λ s. s.tables) c.in-Ok-opened.ensures)) (c.requires.known round)
 
 pub run_on-requires-clause-along : goal.run_on-requires-clause-along
-run_on-requires-clause-along g c =
+run_on-requires-clause-along g c = λ κs live.
     subst (λ t. Along t c.args.trace.now 0 c.in-Ok-opened.state c.in-Ok.progress)
     (sym (ap (λ s. s.tables) c.in-Ok-opened.ensures))
     (along-opening c.args.config.now c.args.trace.now c.in-Ok-opened.state c.in-Ok.progress c.clusters.ensures.lawful

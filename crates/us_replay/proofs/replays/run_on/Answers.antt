@@ -7,12 +7,12 @@ use Rattle.us_replay.proofs.ReplayStopLemmas.{passed-on, so-far-at, EndsBetween,
 use Rattle.us_replay.proofs.LoopLemmas.{along-next, can-make, last-made, texts-here, some-next, texts-last, length-given, summary-is}
 use Rattle.us_replay.proofs.replays.run_on.Goals as goal
 
-pub make_round-requires : goal.make_round-requires
-make_round-requires g c =
-    can-make c.args.state.tables c.args.trace.now c.loop-done.done c.loop-done.state c.loop-done.progress c.asks.result.now
+pub make_round-requires-clause-ready : goal.make_round-requires-clause-ready
+make_round-requires-clause-ready g c = λ κs live.
+    can-make c.args.state.tables c.args.trace.now c.loop-done.done c.loop-done.state c.loop-done.progress c.asks-asks.result.now
     c.loop-done.invariant.0 c.loop-done.invariant.1 c.requires.fits
     (omega (arith, c.loop-done-test.true, c.rounds-rounds.ensures.value))
-    (c.requires.known c.loop-done.done) c.asks.ensures.value
+    (c.requires.known c.loop-done.done) c.asks-asks.ensures.value
 
 pub returns-in_default-clause-ran : goal.returns-in_default-clause-ran
 returns-in_default-clause-ran g c =
@@ -31,7 +31,7 @@ returns-in_err-send-clause-ran g c =
     let along : Along t v k c.loop-done.state c.loop-done.progress = c.loop-done.invariant.1 in
     let below : k < v.rounds = omega (arith, c.loop-done-test.true, c.rounds-rounds.ensures.value) in
     let texts = texts-here t v k c.loop-done.state c.in-Ok.next c.loop-done.progress c.make_round.new.progress
-    c.asks.result.now c.to_maps.result.now c.to_report.result.now along below c.asks.ensures.value c.in-Ok.ensures
+    c.asks-asks.result.now c.to_maps.result.now c.to_report.result.now along below c.asks-asks.ensures.value c.in-Ok.ensures
     c.to_maps.ensures c.to_report.ensures in
     subst (RanTrace t v _ _) (sym (passed-on c.from_residual.result c.from_residual.ensures.1)) (
       sent-stops (output_in t v) v.counts k _ _ _ _ _ _ c.to_maps.result.now c.to_report.result.now c.in_err-send.field-0.0
@@ -49,11 +49,11 @@ loop-done-preserved g c =
     let along : Along t v k c.loop-done.state c.loop-done.progress = c.loop-done.invariant.1 in
     let below : k < v.rounds = omega (arith, c.loop-done-test.true, c.rounds-rounds.ensures.value) in
     let texts = texts-here t v k c.loop-done.state c.in-Ok.next c.loop-done.progress c.make_round.new.progress
-    c.asks.result.now c.to_maps.result.now c.to_report.result.now along below c.asks.ensures.value c.in-Ok.ensures
+    c.asks-asks.result.now c.to_maps.result.now c.to_report.result.now along below c.asks-asks.ensures.value c.in-Ok.ensures
     c.to_maps.ensures c.to_report.ensures in (
       c.loop-done.invariant.0,
-      along-next t v k c.loop-done.state c.in-Ok.next c.loop-done.progress c.make_round.new.progress c.asks.result.now
-          along below c.asks.ensures.value c.in-Ok.ensures,
+      along-next t v k c.loop-done.state c.in-Ok.next c.loop-done.progress c.make_round.new.progress c.asks-asks.result.now
+          along below c.asks-asks.ensures.value c.in-Ok.ensures,
       sent-round (output_in t v) k _ _ _ _ _ _ c.to_maps.result.now c.to_report.result.now c.loop-done.invariant.2 texts
           c.in_ok-send.ensures.sent.0 c.in_ok-send.ensures.sent.1,
       c.in_ok-send.ensures.maps_failed,

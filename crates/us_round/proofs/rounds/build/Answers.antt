@@ -1,4 +1,4 @@
-use Rattle.std.proofs.Common.{◌≡◌, ◌+◌, ◌*◌, ◌≤◌, List, map, sym, ap, subst, ◌∙◌}
+use Rattle.std.proofs.Common.{◌≡◌, ◌+◌, ◌*◌, ◌≤◌, map, sym, ap, subst, ◌∙◌}
 use Rattle.std.specs.List.{AllByRecursion}
 use Rattle.std.proofs.lemmas.Result.{IfOk-weaker}
 use Rattle.us_bucket.specs.Levels.{bytes_in}
@@ -6,7 +6,7 @@ use Rattle.us_flows.specs.Tables.{max_run_ticks}
 use Rattle.us_split.specs.Plans.{IsIdle}
 use Rattle.us_split.specs.PlanLaws.{IsLawfulPlan}
 use Rattle.us_split.specs.Shares.{with_shares}
-use Rattle.us_round.specs.Rounds.{State, Filled, filled, fills_of, idle, builds_of, round_plan}
+use Rattle.us_round.specs.Rounds.{filled, fills_of, idle, builds_of, round_plan}
 use Rattle.us_round.specs.Claims.{AreKeptBursts, kept_build}
 use Rattle.us_round.specs.Cores.{AreCalendars, AreCounted, IsFilledFor, plan_over, with_calendars}
 use Rattle.us_round.specs.States.{AreSound}
@@ -17,17 +17,17 @@ use Rattle.us_round.proofs.CalendarLemmas.{counted}
 use Rattle.us_round.proofs.rounds.build.Goals as goal
 
 pub fill_all-requires-clause-calendars : goal.fill_all-requires-clause-calendars
-fill_all-requires-clause-calendars c =
+fill_all-requires-clause-calendars g c κs within =
     subst (λ t. AreCalendars t c.round.result c.args.calendars.items) (sym c.config-config.ensures.value)
     (subst (λ n. AreCalendars c.args.core.now.tables n c.args.calendars.items) (sym c.round.ensures) c.requires.calendars)
 
 pub fill_all-requires-clause-time : goal.fill_all-requires-clause-time
-fill_all-requires-clause-time c =
+fill_all-requires-clause-time g c κs within =
     subst (λ t. (c.round.result + 1) * t.round_ticks ≤ max_run_ticks) (sym c.config-config.ensures.value)
     (subst (λ n. (n + 1) * c.args.core.now.tables.round_ticks ≤ max_run_ticks) (sym c.round.ensures) c.requires.time)
 
 pub plan_round-requires-clause-room : goal.plan_round-requires-clause-room
-plan_round-requires-clause-room c =
+plan_round-requires-clause-room g c =
     let cs = c.args.calendars.items in
     let are : c.in_ok-filled.filled.items ≡ fills_of (with_calendars c.args.core.now cs) =
     c.in_ok-filled.ensures.value ∙ ap (λ t. filled t c.round.result cs) c.config-config.ensures.value
@@ -39,7 +39,7 @@ plan_round-requires-clause-room c =
     (filled_idle c.args.core.now.tables c.args.core.now.round cs c.in_ok-filled.filled.items c.requires.calendars are all)
 
 pub build_all-requires-clause-bursts : goal.build_all-requires-clause-bursts
-build_all-requires-clause-bursts c =
+build_all-requires-clause-bursts g c κs within =
     let cs = c.args.calendars.items in
     let s = with_calendars c.args.core.now cs in
     let are : c.in_ok-filled.filled.items ≡ fills_of s =
@@ -55,7 +55,7 @@ build_all-requires-clause-bursts c =
     (kept_bursts s.tables (round_plan s) (turns_planned s) law.bursts))
 
 pub build_all-requires-clause-ticks : goal.build_all-requires-clause-ticks
-build_all-requires-clause-ticks c =
+build_all-requires-clause-ticks g c κs within =
     let cs = c.args.calendars.items in
     let are : c.in_ok-filled.filled.items ≡ fills_of (with_calendars c.args.core.now cs) =
     c.in_ok-filled.ensures.value ∙ ap (λ t. filled t c.round.result cs) c.config-config.ensures.value
@@ -67,7 +67,7 @@ build_all-requires-clause-ticks c =
     c.requires.calendars are all
 
 pub returns-clause-value : goal.returns-clause-value
-returns-clause-value c =
+returns-clause-value g c =
     let cs = c.args.calendars.items in
     let s = with_calendars c.args.core.now cs in
     let are : c.in_ok-filled.filled.items ≡ fills_of s =
@@ -82,7 +82,7 @@ returns-clause-value c =
     c.build_all.ensures
 
 pub returns-clause-sound : goal.returns-clause-sound
-returns-clause-sound c =
+returns-clause-sound g c =
     let cs = c.args.calendars.items in
     let s = with_calendars c.args.core.now cs in
     let are : c.in_ok-filled.filled.items ≡ fills_of s =
@@ -102,10 +102,10 @@ returns-clause-sound c =
     c.config-config.ensures.known.flows law (turns_planned s) all) c.build_all.ensures
 
 pub returns-clause-counts : goal.returns-clause-counts
-returns-clause-counts c =
+returns-clause-counts g c =
     IfOk-weaker c.build_all.result
     (λ built. built.items ≡ map (kept_build c.config-config.result.now c.turns.result.now) c.in_ok-filled.filled.items)
     (λ built. AreCounted c.args.calendars.items built.items)
     (λ built is. subst (λ bs. AreCounted c.args.calendars.items bs) (sym is)
     (counted c.config-config.result.now c.turns.result.now c.in_ok-filled.filled.items c.args.calendars.items
-    c.in_ok-filled.ensures.sound c.in_ok-filled.ensures.counts)) c.build_all.ensures
+    c.in_ok-filled.ensures.counts)) c.build_all.ensures

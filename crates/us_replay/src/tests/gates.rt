@@ -1,0 +1,79 @@
+ghost use Rattle.std.specs.Prelude.{⊤};
+
+use super::base::same;
+use super::workers::{BONDED_OUTCOME, expect};
+use std::alloc::Global;
+use std::process::Abort;
+use std::sync::atomic::{AtomicBool, AtomicUsize, Ordering};
+use std::thread::{Threads, yield_now};
+use us_crew::{Gate, Phase};
+
+/// A gate that holds the first two items of a phase, each until the other has entered as often, for at most so many
+/// turns.
+#[derive(Drop)]
+struct Meeting {
+    phase: Phase,
+    turns: u64,
+    first: AtomicUsize,
+    second: AtomicUsize,
+    missed: AtomicBool,
+}
+
+impl Meeting {
+    fn new(phase: Phase) -> Meeting {
+        Meeting {
+            phase,
+            turns: 100_000_000,
+            first: AtomicUsize::new(0),
+            second: AtomicUsize::new(0),
+            missed: AtomicBool::new(false),
+        }
+    }
+
+    /// Enters by one counter, and waits for the other.
+    fn meet(&self, own: &AtomicUsize, other: &AtomicUsize) {
+        let before = own.fetch_add(1, Ordering::SeqCst);
+        for _ in 0..self.turns {
+            if other.load(Ordering::SeqCst) > before {
+                return;
+            }
+            yield_now();
+        }
+        self.missed.store(true, Ordering::SeqCst);
+    }
+}
+
+impl Gate for Meeting {
+    ghost entered = { λ _ _ _. ⊤ };
+
+    fn enter(&self, phase: Phase, index: usize) {
+        if phase == self.phase {
+            match index {
+                0 => self.meet(&self.first, &self.second),
+                _ => self.meet(&self.second, &self.first),
+            }
+        }
+    }
+}
+
+/// Two workers meet in each round of the bonded run.
+fn meet_in(rt: &(impl Abort + Threads + Sync), alloc: Global, phase: Phase) {
+    let gate = Meeting::new(phase);
+    expect(rt, alloc, 2, &gate, BONDED_OUTCOME);
+    let met = (
+        gate.first.load(Ordering::SeqCst),
+        gate.second.load(Ordering::SeqCst),
+        gate.missed.load(Ordering::SeqCst),
+    );
+    same(rt, &met, &(2, 2, false), "met");
+}
+
+#[test]
+fn workers_meet_in_fill(rt: HostRuntime) {
+    meet_in(&rt, rt.alloc(), Phase::Fill);
+}
+
+#[test]
+fn workers_meet_in_build(rt: HostRuntime) {
+    meet_in(&rt, rt.alloc(), Phase::Build);
+}

@@ -1,0 +1,135 @@
+ghost use Rattle.std.specs.Prelude.{◌≡◌, ◌+◌, ◌*◌, ◌≤◌, ⊤, length, map, sum_by, zip, IfOk, Ok, OnOk};
+ghost use Rattle.std.specs.List.{AllByRecursion};
+ghost use Rattle.us_flows.specs.Tables.{max_run_ticks};
+ghost use Rattle.us_flows.specs.Lawful.{AreTables};
+ghost use Rattle.us_calendar.specs.Calendars.{settled_in};
+ghost use Rattle.us_round.specs.Claims as kept;
+ghost use Rattle.us_round.specs.Cores.{AreCalendars, IsFilledFor, IsReady, settled_now, settled_then};
+ghost use Rattle.us_round.specs.Rounds as spec;
+
+use crate::building::{Built, Filled, build_on, fill};
+use std::alloc::Global;
+use std::thread::Threads;
+use us_calendar::Calendar;
+use us_crew::{CrewFault, Gate, Phase, Work, map_owned};
+use us_flows::{Channel, Config};
+use us_slots::NoMemory;
+use us_split::TurnShares;
+
+/// Does the reserves and the calendar of a channel.
+#[derive(Clone, Copy)]
+struct Filling<'a> {
+    config: &'a Config,
+    round: u32,
+}
+
+impl<'a> Work<(Channel, Calendar), Filled, NoMemory> for Filling<'a> {
+    ghost accepts = { λ work _ item. IsReady work.config.now work.round item };
+
+    ghost value = { λ work _ item. spec.fill work.config.now work.round item.0 item.1 };
+
+    ghost may_fail = { λ _ _ _ _. ⊤ };
+
+    ghost must_fail = { λ _ _ _. ⊥ };
+
+    fn run(
+        &self,
+        alloc: Global,
+        _index: usize,
+        item: (Channel, Calendar),
+    ) -> Result<Filled, NoMemory> {
+        let (channel, calendar) = item;
+        fill(alloc, self.config, &channel, calendar, self.round)
+    }
+}
+
+/// Places the claims of a plan on a channel.
+#[derive(Clone, Copy)]
+struct Building<'a> {
+    config: &'a Config,
+    plan: &'a [TurnShares],
+}
+
+impl<'a> Work<Filled, Built, NoMemory> for Building<'a> {
+    ghost accepts = { λ work _ item.
+        AllByRecursion (kept.AreKeptBursts work.config.now) work.plan.now × kept.HasFewTicks item };
+
+    ghost value = { λ work _ item. kept.kept_build work.config.now work.plan.now item };
+
+    ghost may_fail = { λ _ _ _ _. ⊤ };
+
+    ghost must_fail = { λ _ _ _. ⊥ };
+
+    fn run(&self, alloc: Global, _index: usize, item: Filled) -> Result<Built, NoMemory> {
+        build_on(alloc, self.config, self.plan, item)
+    }
+}
+
+/// The channels of a round in table order, each after its reserves and its calendar, which workers do.
+pub(crate) fn fill_all<H: Threads + Sync, G: Gate + Sync>(
+    alloc: Global,
+    threads: &H,
+    config: &Config,
+    round: u32,
+    calendars: Vec<Calendar>,
+    workers: usize,
+    gate: &G,
+) -> Result<Vec<Filled>, NoMemory>
+    requires calendars { AreCalendars config.now round calendars.items }
+    requires time { (round + 1) * config.now.round_ticks ≤ max_run_ticks }
+    ensures value { IfOk result (λ all. all.items ≡ spec.filled config.now round calendars.items) }
+    ensures sound { IfOk result (λ all. AllByRecursion (IsFilledFor config.now) all.items) }
+    ensures counts { IfOk result (λ all.
+        settled_now all.items + sum_by settled_in calendars.items ≡ settled_then all.items) }
+{
+    let items = with_channels(alloc, config, calendars)?;
+    let work = Filling { config, round };
+    answers(map_owned(alloc, threads, &work, Phase::Fill, items, workers, gate))
+}
+
+/// The channels in table order, each with its calendar.
+fn with_channels(
+    alloc: Global,
+    config: &Config,
+    calendars: Vec<Calendar>,
+) -> Result<Vec<(Channel, Calendar)>, NoMemory>
+    requires { length calendars.items ≡ length config.now.channels }
+    ensures value { IfOk result (λ all. all.items ≡ zip config.now.channels calendars.items) }
+    ensures lawful { OnOk result (AreTables config.now) }
+{
+    let channels = config.channels();
+    let mut all = Vec::with_capacity(alloc, channels.len())?;
+    for calendar in calendars {
+        let place = all.len();
+        all.push((channels[place], calendar))?;
+    }
+    Ok(all)
+}
+
+/// Places the claims of a plan on all channels, which workers do.
+pub(crate) fn build_all<H: Threads + Sync, G: Gate + Sync>(
+    alloc: Global,
+    threads: &H,
+    config: &Config,
+    plan: &[TurnShares],
+    all: Vec<Filled>,
+    workers: usize,
+    gate: &G,
+) -> Result<Vec<Built>, NoMemory>
+    requires bursts { AllByRecursion (kept.AreKeptBursts config.now) plan.now }
+    requires ticks { AllByRecursion (kept.HasFewTicks) all.items }
+    ensures { IfOk result (λ builds. builds.items ≡ map (kept.kept_build config.now plan.now) all.items) }
+{
+    let work = Building { config, plan };
+    answers(map_owned(alloc, threads, &work, Phase::Build, all, workers, gate))
+}
+
+/// What workers answered, or want of memory.
+fn answers<R: Drop>(answered: Result<Vec<R>, CrewFault<NoMemory>>) -> Result<Vec<R>, NoMemory>
+    ensures { IfOk result (λ all. answered ≡ Ok all) }
+{
+    match answered {
+        Ok(all) => Ok(all),
+        Err(_) => Err(NoMemory),
+    }
+}
