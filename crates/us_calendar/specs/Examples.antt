@@ -1,5 +1,5 @@
 -- Small calendars, computed by the definitions alone.
-use Rattle.std.specs.Prelude.{◌≡◌, ℕ, [], ◌∷◌, Option, Some, None, refl}
+use Rattle.std.specs.Prelude.{◌≡◌, ℕ, [], ◌∷◌, Some, None, refl}
 use Rattle.us_holes.specs.Boards.{Owner, Board, empty_board, assign, first_of}
 use Rattle.us_calendar.specs.Entries.{Entry, in_order}
 use Rattle.us_calendar.specs.Occurrences.{Pace, due}
