@@ -1,18 +1,18 @@
 -- What a round grants fits, and is what it assigns.
-use Rattle.std.proofs.Common.{◌≡◌, ℕ, ◌+◌, ◌*◌, ◌&&◌, Bool, true, false, List, [], ◌∷◌, ◌++◌, map, flat_map, Option, Some, None, IfSome, refl, ap, sym, ◌∙◌, inl, inr, subst}
+use Rattle.std.proofs.Common.{◌≡◌, ℕ, ◌+◌, ◌*◌, ◌&&◌, true, List, [], ◌∷◌, ◌++◌, map, flat_map, Option, Some, None, IfSome, refl, ap, sym, ◌∙◌, inl, inr, subst}
 use Rattle.std.proofs.lemmas.Bool.{cases_Bool, and_parts}
 use Rattle.std.proofs.lemmas.Grind.{flat_map-append}
 use Rattle.us_holes.specs.Boards.{Board, Interval, fits, assign_all, AllFit}
 use Rattle.us_holes.proofs.LawLemmas.{first_of-is, assign_all-append, AllFit-append}
 use Rattle.us_calendar.specs.Entries.{Entry}
 use Rattle.us_calendar.specs.Occurrences.{Pace, is_over, starts_within, due, end_of}
-use Rattle.us_calendar.specs.Settling.{Mark, Outcome, Row, spot, mark, with_spot, settle_each, settle_row, told_as}
+use Rattle.us_calendar.specs.Settling.{Outcome, Row, spot, with_spot, settle_each, settle_row, told_as}
 use Rattle.us_calendar.specs.Calendars.{Ran, run_rows}
 use Rattle.us_calendar.specs.declared.settled.Settled.{Settled}
-use Rattle.us_calendar.specs.Laws.{intervals_of}
+use Rattle.us_calendar.specs.Runs.{intervals_of}
 use Rattle.us_calendar.proofs.SettleLemmas.{then_settle}
 
-record Fitting (before : Board) (told : List Settled) (after : Board) : Type 0 where
+pub record Fitting (before : Board) (told : List Settled) (after : Board) : Type 0 where
   pub board : after ≡ assign_all before (flat_map intervals_of told)
   pub fit : AllFit before (flat_map intervals_of told)
 
@@ -50,7 +50,7 @@ each_fits pace round e (n ∷ ns) board =
     one_fits pace round e n found board (settle_each pace round e ns) (spot_fits pace round e n board found refl)
     (each_fits pace round e ns (with_spot e found board))
 
-row_fits : (pace : Pace) (round : ℕ) (row : Row) (board : Board) →
+pub row_fits : (pace : Pace) (round : ℕ) (row : Row) (board : Board) →
     Fitting board (map (told_as row.entry) (settle_row pace round row board).marks)
     (settle_row pace round row board).board
 unfolding settle_row

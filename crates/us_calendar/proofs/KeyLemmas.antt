@@ -1,10 +1,10 @@
 -- What is noted: rounds and places, in the order of their keys.
-use Rattle.std.proofs.Common.{◌≡◌, ◌≢◌, ℕ, zero, suc, ◌+◌, ◌<◌, ◌≤◌, ◌⊎◌, nat_le, Bool, true, false, cond, List, [], ◌∷◌, length, count_by, nat_cmp, Less, Equal, Greater, is_lt, eqb, ltb, refl, ap, ap₂, sym, ◌∙◌, inl, inr, le-ltb, lt-ltb, eq-eqb, ne_eqb, arith}
-use Rattle.std.specs.Ordering.{ordering_then, is_gt, is_eq, match_ordering}
+use Rattle.std.proofs.Common.{◌≡◌, ◌≢◌, ℕ, ◌+◌, ◌<◌, ◌≤◌, ◌⊎◌, nat_le, true, false, cond, List, [], ◌∷◌, nat_cmp, Less, Equal, Greater, refl, ap, ◌∙◌, inl, inr, le-ltb, lt-ltb, eq-eqb, ne_eqb, arith}
+use Rattle.std.specs.Ordering.{is_gt, match_ordering}
 use Rattle.std.specs.declared.cmp.Ordering.{Ordering}
 use Rattle.std.specs.BTreeMap.{is_at}
-use Rattle.std.specs.BTreeSet.{BTreeSet, contains, Updates, IsLowerBound, insert_key}
-use Rattle.std.proofs.lemmas.Bool.{cases_order, cases_lt, cases_eq, cases_Bool, lt-leb, le-leb}
+use Rattle.std.specs.BTreeSet.{insert_key}
+use Rattle.std.proofs.lemmas.Bool.{cases_order, cases_Bool, lt-leb, le-leb}
 use Rattle.us_calendar.specs.Kept.{key_cmp}
 
 -- how two numbers compare

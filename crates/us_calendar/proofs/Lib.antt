@@ -11,3 +11,6 @@ pub mod NotedLemmas
 pub mod RunLaws
 pub mod OrderLemmas
 pub mod FitLaws
+pub mod OnceLemmas
+pub mod OnceLaws
+pub mod SortedLemmas

@@ -1,7 +1,6 @@
 -- How entries are listed and noted before round 0.
-use Rattle.std.proofs.Common.{◌≡◌, ℕ, zero, suc, ◌+◌, ◌<◌, ◌≤◌, ◌⊎◌, Bool, true, false, cond, List, [], ◌∷◌, ◌++◌, length, Option, Some, None, slice_get, get_or, map, drop, add-one, drop-cons, append_assoc, refl, ap, sym, ◌∙◌, inl, inr, subst, arith}
+use Rattle.std.proofs.Common.{◌≡◌, ℕ, zero, suc, ◌+◌, ◌<◌, ◌≤◌, ◌⊎◌, Bool, true, false, cond, List, [], ◌∷◌, ◌++◌, length, Some, None, slice_get, get_or, map, drop, add-one, drop-cons, append_assoc, refl, ap, sym, ◌∙◌, inl, inr, subst, arith}
 use Rattle.std.specs.BTreeMap.{is_at}
-use Rattle.std.specs.List.{AllByRecursion}
 use Rattle.std.proofs.lemmas.Bool.{cases_Bool}
 use Rattle.std.proofs.lemmas.List.{length-append}
 use Rattle.us_calendar.specs.Entries.{Entry}
@@ -10,7 +9,7 @@ use Rattle.us_calendar.specs.Settling.{Row}
 use Rattle.us_calendar.specs.Kept.{IsQuiet, IsAgenda, key_cmp}
 use Rattle.us_calendar.proofs.KeyLemmas.{at_key, at_itself}
 use Rattle.us_calendar.proofs.RunLemmas.{the_some}
-use Rattle.us_calendar.proofs.AgendaLemmas.{within, is_there}
+use Rattle.us_calendar.proofs.AgendaLemmas.{is_there}
 
 found_in : (rows : List Row) (row other : Row) (p : ℕ) → slice_get (rows ++ row ∷ []) p ≡ Some other →
     (slice_get rows p ≡ Some other) ⊎ ((length rows ≡ p) × (row ≡ other))

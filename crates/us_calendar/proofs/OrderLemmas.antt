@@ -1,5 +1,5 @@
 -- Entries that are sorted by kind and id stand in order.
-use Rattle.std.proofs.Common.{◌≡◌, ◌≢◌, ℕ, zero, suc, ◌+◌, ◌*◌, ◌<◌, ◌≤◌, ◌⊎◌, ◌==◌, ◌||◌, ◌&&◌, nat_lt, Bool, true, false, List, [], ◌∷◌, ◌++◌, length, map, filter_map, get_or, Option, Some, None, IfSome, slice_index, if◌then◌else◌, ltb, eqb, nat_cmp, is_lt, IsPermutation, refl, ap, sym, ◌∙◌, inl, inr, subst, le-ltb, lt-ltb, eq-eqb, ne_eqb, arith}
+use Rattle.std.proofs.Common.{◌≡◌, ◌≢◌, ℕ, zero, suc, ◌+◌, ◌*◌, ◌<◌, ◌≤◌, ◌==◌, ◌||◌, ◌&&◌, nat_lt, Bool, true, false, List, [], ◌∷◌, ◌++◌, length, map, filter_map, get_or, Option, Some, None, IfSome, slice_index, if◌then◌else◌, ltb, eqb, nat_cmp, is_lt, IsPermutation, refl, sym, ◌∙◌, inl, inr, le-ltb, lt-ltb, eq-eqb, ne_eqb, arith}
 use Rattle.std.specs.Ordering.{ordering_then}
 use Rattle.std.specs.List.{AllByRecursion, IsDistinct, cons_option}
 use Rattle.std.specs.List.Sorted.{IsNonDecreasing, IsNonDecreasingBy}
@@ -14,7 +14,7 @@ use Rattle.us_flows.specs.declared.channels.Channel.{Channel}
 use Rattle.us_flows.specs.declared.stations.Station.{Station}
 use Rattle.us_flows.specs.declared.flows.SchedulingType.{SchedulingType}
 use Rattle.us_flows.specs.declared.flows.SchedulingType.TheVariants.{BestEffort, NonRealTimePolling, RealTimePolling, UnsolicitedGrant}
-use Rattle.us_flows.proofs.RankLemmas.{all_more, all_map, sorted-in_place}
+use Rattle.us_flows.proofs.RankLemmas.{all_more, sorted-in_place}
 use Rattle.us_flows.proofs.TurnLemmas.{all-append}
 use Rattle.us_slots.specs.UsageCodes as codes
 use Rattle.us_calendar.specs.declared.kinds.Kind.TheVariants as kinds
@@ -22,13 +22,13 @@ use Rattle.us_calendar.specs.Entries.{Entry, quarters, rank_of, goes_before, in_
 use Rattle.us_calendar.proofs.KeyLemmas.{order_of}
 
 -- what entries are sorted by, as one number
-abbrev number : Entry → ℕ
+abbrev pub number : Entry → ℕ
 number e = rank_of e.kind * 65536 + e.id
 
-abbrev HasId : Entry → Type 0
+abbrev pub HasId : Entry → Type 0
 HasId e = e.id ≤ 65535
 
-before_number : (r i s j : ℕ) → i ≤ 65535 → j ≤ 65535 →
+pub before_number : (r i s j : ℕ) → i ≤ 65535 → j ≤ 65535 →
     (nat_lt r s || ((r == s) && nat_lt i j)) ≡ ltb (r * 65536 + i) (s * 65536 + j)
 before_number r i s j li lj = elim (cases_order r s) [
   | inl e ↦ elim (cases_lt i j) [
@@ -235,10 +235,10 @@ few_stations : (t : Tables) (ss : List Station) → AllByRecursion (IsStation t)
 few_stations t ss all = all_more (IsStation t) (λ s. s.id ≤ 65535) (λ s is. is.id.1) ss all
 
 module _ (t : Tables) (c : Channel) (lawful : AreTables t) where
-  abbrev flows_first : List Entry
+  abbrev pub flows_first : List Entry
   flows_first = filter_map (entry_of_flow c) t.flows
 
-  abbrev stations_then : List Entry
+  abbrev pub stations_then : List Entry
   stations_then = filter_map (entry_of_station c) t.stations
 
   flow_entries : AllByRecursion (λ e. HasId e × (rank_of e.kind ≤ 2)) flows_first
@@ -258,20 +258,25 @@ module _ (t : Tables) (c : Channel) (lawful : AreTables t) where
       (λ d is_d. ne_eqb (number e) (number d) (λ same. omega (arith, same, is_e.0, is_e.1, is_d.1))) stations_then
       station_entries) flows_first flow_entries
 
+  pub all_ids : AllByRecursion HasId (flows_first ++ stations_then)
+  all_ids =
+      all-append HasId flows_first stations_then
+      (all_more (λ e. HasId e × (rank_of e.kind ≤ 2)) HasId (λ e is. is.0) flows_first flow_entries)
+      (all_more (λ e. HasId e × (rank_of e.kind ≡ 3)) HasId (λ e is. is.0) stations_then station_entries)
+
+  pub all_apart : IsDistinct eqb (map number (flows_first ++ stations_then))
+  all_apart =
+      rw (map-append number flows_first stations_then) (distinct-append (map number flows_first) (map number stations_then)
+      (distinct (λ f. f.id) (entry_of_flow c) (λ r. r ≤ 2) (flow_made c) t.flows
+      (few_flows t t.flows lawful.flows) lawful.flows_apart)
+      (distinct (λ s. s.id) (entry_of_station c) (λ r. r ≡ 3) (station_made c) t.stations
+      (few_stations t t.stations lawful.stations) lawful.stations_apart) cross)
+
   pub entries-are : (now : List Entry) → IsPermutation (flows_first ++ stations_then) now →
       ((k : ℕ) (d : Entry) → 0 ≤ k → k + 1 < length now → compares (get_or now (k + 1) d) (get_or now k d) ≡ false) →
       now ≡ entries t c
   unfolding entries
-  entries-are now moved sorted =
-      let ids = all-append HasId flows_first stations_then
-      (all_more (λ e. HasId e × (rank_of e.kind ≤ 2)) HasId (λ e is. is.0) flows_first flow_entries)
-      (all_more (λ e. HasId e × (rank_of e.kind ≡ 3)) HasId (λ e is. is.0) stations_then station_entries) in
-      let apart : IsDistinct eqb (map number (flows_first ++ stations_then)) = rw (map-append number flows_first stations_then) (distinct-append (map number flows_first) (map number stations_then)
-      (distinct (λ f. f.id) (entry_of_flow c) (λ r. r ≤ 2) (flow_made c) t.flows
-      (few_flows t t.flows lawful.flows) lawful.flows_apart)
-      (distinct (λ s. s.id) (entry_of_station c) (λ r. r ≡ 3) (station_made c) t.stations
-      (few_stations t t.stations lawful.stations) lawful.stations_apart) cross) in
-      in_order-is (flows_first ++ stations_then) now ids apart moved sorted
+  entries-are now moved sorted = in_order-is (flows_first ++ stations_then) now all_ids all_apart moved sorted
 
   pub entries-few : (now : List Entry) → IsPermutation (flows_first ++ stations_then) now → length now ≤ 1280
   entries-few now moved =

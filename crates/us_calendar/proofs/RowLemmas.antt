@@ -1,13 +1,13 @@
 -- The row of an entry: what settling makes of it, and when it is due next.
-use Rattle.std.proofs.Common.{◌≡◌, ℕ, ◌+◌, ◌*◌, ◌/◌, ◌^◌, ◌<◌, ◌≤◌, max, List, [], ◌++◌, length, map, refl, ap, ap₂, sym, ◌∙◌, subst, arith}
+use Rattle.std.proofs.Common.{◌≡◌, ℕ, ◌+◌, ◌*◌, ◌/◌, ◌^◌, ◌<◌, ◌≤◌, max, length, ap, ap₂, sym, ◌∙◌, arith}
 use Rattle.std.specs.List.{range_with_len}
 use Rattle.std.proofs.lemmas.List.FromFn.{length-range_with_len}
 use Rattle.std.proofs.lemmas.Nat.{mul-le}
 use Rattle.std.proofs.Math.Nat.{div-mul-le_self}
 use Rattle.us_slots.specs.Times.{minislot_ticks}
 use Rattle.us_calendar.specs.Entries.{Entry}
-use Rattle.us_calendar.specs.Occurrences.{Pace, ideal, end_of, due}
-use Rattle.us_calendar.specs.Settling.{Mark, Row, after_marks, settle_row}
+use Rattle.us_calendar.specs.Occurrences.{Pace, ideal, end_of}
+use Rattle.us_calendar.specs.Settling.{Row}
 use Rattle.us_calendar.specs.Kept.{IsEntry, IsRow, IsQuiet, row_from}
 use Rattle.us_calendar.proofs.IdealLemmas.{windows}
 use Rattle.us_calendar.proofs.DueLemmas.{due-none}

@@ -1,17 +1,17 @@
 -- What a round keeps: what is granted starts inside the MAP and is one more assignment each, and all is counted.
-use Rattle.std.proofs.Common.{◌≡◌, ℕ, zero, suc, ◌+◌, ◌*◌, ◌^◌, ◌<◌, ◌≤◌, Bool, true, false, List, [], ◌∷◌, ◌++◌, length, map, take, drop, sum_by, Option, Some, None, IfSome, ◌&&◌, refl, ap, sym, ◌∙◌, inl, inr, subst, arith}
+use Rattle.std.proofs.Common.{◌≡◌, ℕ, ◌+◌, ◌*◌, ◌^◌, ◌<◌, ◌≤◌, Bool, List, [], ◌∷◌, ◌++◌, length, map, take, drop, sum_by, Option, Some, None, IfSome, ◌&&◌, refl, ap, sym, ◌∙◌, inl, inr, subst, arith}
 use Rattle.std.specs.List.{AllByRecursion}
 use Rattle.std.proofs.lemmas.Bool.{cases_Bool}
-use Rattle.std.proofs.lemmas.List.{map-append, length-append, length-map}
+use Rattle.std.proofs.lemmas.List.{length-append, length-map}
 use Rattle.std.proofs.lemmas.List.Sums.{sum_by-cons, sum_by-append}
 use Rattle.us_slots.specs.Times.{minislot_ticks}
-use Rattle.us_holes.specs.Boards.{Board, fits, first_of}
+use Rattle.us_holes.specs.Boards.{Board, fits}
 use Rattle.us_holes.proofs.LawLemmas.{first_of-is}
 use Rattle.us_flows.proofs.TurnLemmas.{all-append}
 use Rattle.us_calendar.specs.Entries.{Entry}
 use Rattle.us_calendar.specs.Occurrences.{Pace, is_over, starts_within, due, end_of}
-use Rattle.us_calendar.specs.Settling.{Mark, Outcome, Row, spot, mark, with_spot, settle_each, settle_row, after_marks, told_as}
-use Rattle.us_calendar.specs.Calendars.{Calendar, Ran, run_rows, StartsInside, granted_in, one_if_granted, IsCalendar}
+use Rattle.us_calendar.specs.Settling.{Outcome, Row, spot, with_spot, settle_each, settle_row, after_marks, told_as}
+use Rattle.us_calendar.specs.Calendars.{Calendar, Ran, run_rows, StartsInside, granted_in, one_if_granted}
 use Rattle.us_calendar.specs.declared.settled.Settled.{Settled}
 use Rattle.us_calendar.specs.Kept.{IsRow, IsKept, IsAgenda}
 use Rattle.us_calendar.proofs.SettleLemmas.{then_settle}

@@ -1,9 +1,9 @@
 -- A round from some entry on: those before it have had their turn.
-use Rattle.std.proofs.Common.{◌≡◌, ℕ, zero, suc, ◌+◌, ◌<◌, ◌≤◌, List, [], ◌∷◌, ◌++◌, length, map, Option, Some, None, slice_get, refl, ap, sym, ◌∙◌, arith}
+use Rattle.std.proofs.Common.{◌≡◌, ℕ, zero, suc, ◌+◌, ◌<◌, ◌≤◌, List, [], ◌∷◌, ◌++◌, length, map, Some, None, slice_get, refl, ap, ◌∙◌, arith}
 use Rattle.std.proofs.Math.ListN.{set}
 use Rattle.std.proofs.lemmas.List.{append-nil}
 use Rattle.us_holes.specs.Boards.{Board}
-use Rattle.us_calendar.specs.Occurrences.{Pace, due, end_of}
+use Rattle.us_calendar.specs.Occurrences.{Pace}
 use Rattle.us_calendar.specs.Settling.{Row, Outcome, settle_each, settle_row, after_marks, told_as}
 use Rattle.us_calendar.specs.Calendars.{Ran, run_rows}
 use Rattle.us_calendar.specs.Kept.{IsQuiet}

@@ -1,15 +1,15 @@
 -- An entry in a round, one occurrence after another.
-use Rattle.std.proofs.Common.{◌≡◌, ℕ, zero, suc, ◌+◌, ◌*◌, ◌-◌, ◌/◌, ◌^◌, ◌<◌, ◌≤◌, nat_le, nat_lt, ◌&&◌, Bool, true, false, cond, List, [], ◌∷◌, ◌++◌, length, map, Option, Some, None, refl, ap, sym, ◌∙◌, inl, inr, subst, append_assoc, add-one, le-ltb, lt-ltb, arith}
+use Rattle.std.proofs.Common.{◌≡◌, ℕ, zero, suc, ◌+◌, ◌*◌, ◌^◌, ◌<◌, ◌≤◌, nat_le, nat_lt, ◌&&◌, false, List, [], ◌∷◌, ◌++◌, length, map, Option, Some, None, refl, ap, sym, ◌∙◌, inl, inr, subst, append_assoc, add-one, arith}
 use Rattle.std.specs.List.{range_with_len, AllByRecursion}
 use Rattle.std.proofs.lemmas.List.{map-append, append-nil}
 use Rattle.std.proofs.lemmas.Bool.{cases_lt, cases_Bool, ltb-false}
 use Rattle.us_slots.specs.Times.{start_of}
 use Rattle.us_holes.specs.Boards.{Board, fits, first_of}
 use Rattle.us_calendar.specs.Entries.{Entry}
-use Rattle.us_calendar.specs.Occurrences.{Pace, ideal, end_of, is_over, due, starts_within}
-use Rattle.us_calendar.specs.Settling.{Mark, Outcome, Row, spot, mark, with_spot, settle_each, settle_row, after_marks, told_as}
+use Rattle.us_calendar.specs.Occurrences.{Pace, ideal, end_of, is_over, due}
+use Rattle.us_calendar.specs.Settling.{Mark, Outcome, spot, mark, with_spot, settle_each, settle_row, told_as}
 use Rattle.us_calendar.specs.declared.settled.Settled.{Settled}
-use Rattle.us_calendar.specs.Kept.{row_from, settle_from}
+use Rattle.us_calendar.specs.Kept.{settle_from}
 use Rattle.us_calendar.proofs.IdealLemmas.{HasWindows, ideal-apart, number-below}
 use Rattle.us_calendar.proofs.DueLemmas.{due-none, due-next, due-all}
 
@@ -32,7 +32,7 @@ abbrev pub nothing : Board → Outcome
 nothing board = record { board = board; marks = [] }
 
 -- an occurrence that waits changes nothing
-abbrev Waits : Pace → ℕ → Entry → Board → ℕ → Type 0
+abbrev pub Waits : Pace → ℕ → Entry → Board → ℕ → Type 0
 Waits pace round e board n = (spot pace round e n board ≡ None) × (is_over pace round e n ≡ false)
 
 marks_waiting : (pace : Pace) (round : ℕ) (e : Entry) (n : ℕ) → is_over pace round e n ≡ false →
@@ -74,7 +74,7 @@ WaitsFrom pace round e board at =
     && nat_le (start_of pace.time (round * pace.len + i)) (at + e.jitter)) && fits board e.slots i) 0 pace.len ≡ None)
     × (nat_lt (at + e.jitter) (end_of pace round) ≡ false)
 
-wait_too : (pace : Pace) (round : ℕ) (e : Entry) (n m : ℕ) (board : Board) → HasWindows e → Waits pace round e board n →
+pub wait_too : (pace : Pace) (round : ℕ) (e : Entry) (n m : ℕ) (board : Board) → HasWindows e → Waits pace round e board n →
     n ≤ m → ideal e m < end_of pace round → Waits pace round e board m
 wait_too pace round e n m board is waits after before = elim (ideal-apart e n m is after) [
   | inl same ↦ subst (WaitsFrom pace round e board) (sym same) waits
@@ -186,7 +186,7 @@ module _ (pace : Pace) (round : ℕ) (e : Entry) (n : ℕ) (board now : Board) (
 
 -- The first occurrences stay the first ones.
 
-numbers_on : (pace : Pace) (round : ℕ) (e : Entry) (n : ℕ) (board : Board) (found : Option ℕ) → HasWindows e →
+pub numbers_on : (pace : Pace) (round : ℕ) (e : Entry) (n : ℕ) (board : Board) (found : Option ℕ) → HasWindows e →
     ideal e n < end_of pace round → spot pace round e n board ≡ found → numbers_of (mark pace round e n found) ≡ n ∷ [] →
     range_with_len 0 n ++ numbers_of (settle_from pace round e n board).marks ≡
     range_with_len 0 (n + 1) ++ numbers_of (settle_from pace round e (n + 1) (with_spot e found board)).marks
@@ -200,7 +200,7 @@ numbers_on pace round e n board found is due found_is number =
     sym (append_assoc (range_with_len 0 n) (n ∷ []) (numbers_of rest.marks)) ∙
     ap (λ ns. ns ++ numbers_of rest.marks) (sym (range-more n))
 
-stop_here : (pace : Pace) (round : ℕ) (e : Entry) (n : ℕ) (board : Board) →
+pub stop_here : (pace : Pace) (round : ℕ) (e : Entry) (n : ℕ) (board : Board) →
     settle_from pace round e n board ≡ nothing board →
     range_with_len 0 n ++ numbers_of (settle_from pace round e n board).marks ≡ range_with_len 0 n
 stop_here pace round e n board last =

@@ -1,11 +1,11 @@
 -- Where an occurrence is granted: its window as minislots of the MAP, and the board's answer there.
-use Rattle.std.proofs.Common.{◌≡◌, ℕ, zero, suc, ◌+◌, ◌*◌, ◌-◌, ◌<◌, ◌≤◌, max, min, nat_le, nat_lt, ◌&&◌, Bool, true, false, cond, Option, Some, None, length, refl, ap, sym, ◌∙◌, inl, inr, arith}
-use Rattle.std.proofs.lemmas.Bool.{cases_lt, cases_Bool, and_from, and_right, and_parts, leb-true, le-leb, false_from_ne_true, leb-false, le-ltb}
+use Rattle.std.proofs.Common.{◌≡◌, ℕ, ◌+◌, ◌*◌, ◌-◌, ◌<◌, ◌≤◌, max, min, nat_le, ◌&&◌, Bool, true, false, Some, None, ap, sym, ◌∙◌, inl, inr, arith}
+use Rattle.std.proofs.lemmas.Bool.{cases_Bool, and_from, and_right, and_parts, leb-true, le-leb, false_from_ne_true, le-ltb}
 use Rattle.std.proofs.lemmas.Bool.Decides.{nat_tests}
 use Rattle.std.proofs.lemmas.Nat.{mul-le, pow_pos}
 use Rattle.us_slots.specs.Times.{Timing, minislot_ticks, start_of}
 use Rattle.us_slots.specs.Windows.{StartsWithin, AreEnds}
-use Rattle.us_holes.specs.Boards.{Board, is_full, is_idle_at, fits, first_of, IsLeastWithin}
+use Rattle.us_holes.specs.Boards.{Board, is_full, is_idle_at, fits}
 use Rattle.us_holes.specs.Placements.{IsPlacedAt, HasNoRoom}
 use Rattle.us_holes.proofs.IdleLemmas.{first_of-least, first_of-none}
 use Rattle.us_holes.proofs.FitLemmas.{fits-held}
@@ -18,7 +18,7 @@ use Rattle.us_calendar.specs.Settling.{spot}
 false_if : (b : Bool) → (b ≡ true → ⊥) → b ≡ false
 false_if b h = false_from_ne_true b (λ t. h t)
 
-later_start : (time : Timing) (i j : ℕ) → i ≤ j → start_of time i ≤ start_of time j
+pub later_start : (time : Timing) (i j : ℕ) → i ≤ j → start_of time i ≤ start_of time j
 later_start time i j h =
     let product : i * minislot_ticks time ≤ j * minislot_ticks time =
     mul-le i (minislot_ticks time) j (minislot_ticks time) h (omega arith) in

@@ -1,9 +1,8 @@
 -- The calendar of a channel, from round to round.
-use Rattle.std.specs.Prelude.{◌≡◌, ℕ, ◌+◌, ◌*◌, ◌<◌, ◌≤◌, ◌^◌, ⊤, List, [], ◌∷◌, ◌++◌, length, map, sum_by, slice_get, Option, Some, None}
-use Rattle.std.specs.List.{AllByRecursion}
+use Rattle.std.specs.Prelude.{ℕ, ◌+◌, ◌*◌, ◌<◌, ◌≤◌, ◌^◌, ⊤, List, [], ◌∷◌, ◌++◌, length, map, sum_by, Option, Some, None}
 use Rattle.us_slots.specs.Times.{minislot_ticks}
 use Rattle.us_flows.specs.declared.channels.Channel.{Channel}
-use Rattle.us_flows.specs.Tables.{Tables, map_len, max_run_ticks}
+use Rattle.us_flows.specs.Tables.{Tables, map_len}
 use Rattle.us_holes.specs.Boards.{Board}
 use Rattle.us_calendar.specs.Entries.{entries}
 use Rattle.us_calendar.specs.Occurrences.{Pace}

@@ -1,5 +1,5 @@
 -- What a channel's calendar has (ours, where nothing else is said): unsolicited grants, polls and station maintenance.
-use Rattle.std.specs.Prelude.{ℕ, ◌+◌, ◌*◌, ◌==◌, nat_lt, ◌&&◌, ◌||◌, Bool, if◌then◌else◌, List, [], ◌++◌, length, flat_map, filter, filter_map, map, count_by, slice_get, slice_index, Option, Some, None, unwrap_or}
+use Rattle.std.specs.Prelude.{ℕ, ◌*◌, ◌==◌, nat_lt, ◌&&◌, ◌||◌, Bool, if◌then◌else◌, List, [], ◌++◌, length, flat_map, filter, filter_map, count_by, slice_get, slice_index, Option, Some, None, unwrap_or}
 use Rattle.std.specs.List.{range_with_len}
 use Rattle.us_slots.specs.Bursts.{burst_cost}
 use Rattle.us_slots.specs.UsageCodes as codes

@@ -1,9 +1,11 @@
 -- Small calendars, computed by the definitions alone.
-use Rattle.std.specs.Prelude.{◌≡◌, ℕ, [], ◌∷◌, Option, Some, None, refl}
+use Rattle.std.specs.Prelude.{◌≡◌, ℕ, [], ◌∷◌, Some, None, refl}
 use Rattle.us_holes.specs.Boards.{Owner, Board, empty_board, assign, first_of}
 use Rattle.us_calendar.specs.Entries.{Entry, in_order}
 use Rattle.us_calendar.specs.Occurrences.{Pace, due}
 use Rattle.us_calendar.specs.Settling.{Row, Mark, settle_each, settle_row}
+use Rattle.us_calendar.specs.Calendars.{Calendar, run_rows}
+use Rattle.us_calendar.specs.Runs.{rounds_on, times, grants, misses}
 use Rattle.us_calendar.specs.declared.kinds.Kind.{Kind}
 use Rattle.us_calendar.specs.declared.kinds.Kind.TheVariants as kinds
 
@@ -57,6 +59,18 @@ granted_later = refl
 taken_before : (settle_row pace 0 (row 0 30 1) (assign idle 0 2 grant)).marks ≡ missed 0 ∷ []
 unfolding settle_row settle_each due first_of
 taken_before = refl
+
+-- over both rounds it is granted once, and never missed
+abbrev calendar : Calendar
+calendar = record { pace = pace; next_round = 0; rows = row 90 20 1 ∷ [] }
+
+once : times (grants (entry 90 20 1) 0) (rounds_on calendar (idle ∷ idle ∷ [])) ≡ 1
+unfolding run_rows settle_row settle_each due first_of
+once = refl
+
+never : times (misses (entry 90 20 1) 0) (rounds_on calendar (idle ∷ idle ∷ [])) ≡ 0
+unfolding run_rows settle_row settle_each due first_of
+never = refl
 
 -- three grants of an interval for which there are two minislots
 some_missed : (settle_row pace 0 (row 0 75 3) (assign idle 0 2 grant)).marks ≡

@@ -11,6 +11,8 @@ pub mod Occurrences
 pub mod Settling
 -- the calendar of a channel, from round to round
 pub mod Calendars
+-- what becomes of an occurrence over a run
+pub mod Runs
 -- how a calendar is kept
 pub mod Kept
 -- laws of settling

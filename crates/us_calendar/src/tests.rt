@@ -1,5 +1,7 @@
 //! What no clause says: that there are answers at all, and worked rounds.
 
 mod base;
+mod compared;
 mod memory;
+mod plain;
 mod rounds;

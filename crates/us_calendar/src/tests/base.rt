@@ -58,17 +58,17 @@ pub(super) fn compare(rt: &impl Abort, alloc: Global, cases: &[Case<'_>]) {
 /// What is settled, for each round in which something is; none where the tables are refused, or memory is.
 pub(super) fn answer_of(alloc: Global, case: &Case<'_>) -> Option<String> {
     let mut answer = String::new(alloc);
-    let config = config_of(alloc, case)?;
+    let config = config_of(alloc, case.tables)?;
     match run(alloc, &mut answer, &config, case.rounds) {
         Ok(()) => Some(answer),
         Err(_) => None,
     }
 }
 
-/// The configuration of a case.
-fn config_of(alloc: Global, case: &Case<'_>) -> Option<Config> {
+/// The configuration with these flows and stations.
+pub(super) fn config_of(alloc: Global, tables: &str) -> Option<Config> {
     let mut text = String::new(alloc);
-    match write!(text, "{CHANNEL}{}", case.tables) {
+    match write!(text, "{CHANNEL}{tables}") {
         Ok(()) => Config::read(alloc, text.as_bytes()).ok(),
         Err(_) => None,
     }
@@ -109,7 +109,11 @@ fn next(
 /// What the next round settles: nothing where it might end too late for a run, of 2^26 ticks, since a MAP has 4,096 at
 /// most.
 #[tactic(auto, using(crate::proofs::RunTimes::run_facts))]
-fn settled_next(alloc: Global, calendar: &mut Calendar, len: u32) -> Result<Vec<Settled>, NoMemory>
+pub(super) fn settled_next(
+    alloc: Global,
+    calendar: &mut Calendar,
+    len: u32,
+) -> Result<Vec<Settled>, NoMemory>
     requires { (calendar.old.pace.len ≡ len) × (len ≤ 4096) }
     ensures { OnOk result (calendar.new.pace ≡ calendar.old.pace) }
 {
@@ -144,7 +148,7 @@ fn tell(answer: &mut String, settled: &[Settled]) -> Result<(), AllocError> {
 }
 
 /// Of each the id, the interval and the place in it, and the minislots.
-fn tell_all(answer: &mut String, settled: &[Settled]) -> Result<(), AllocError> {
+pub(super) fn tell_all(answer: &mut String, settled: &[Settled]) -> Result<(), AllocError> {
     for one in settled {
         match one {
             Settled::Granted {

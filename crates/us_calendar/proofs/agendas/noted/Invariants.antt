@@ -1,8 +1,6 @@
-use Rattle.std.proofs.Common.{◌≡◌, [], ◌++◌, map, drop}
+use Rattle.std.proofs.Common.{◌≡◌, ◌++◌, map, drop}
 use Rattle.std.specs.BTreeSet.{contains}
 use Rattle.std.specs.List.{AllByRecursion}
-use Rattle.us_calendar.specs.Entries.{Entry}
-use Rattle.us_calendar.specs.Settling.{Row}
 use Rattle.us_calendar.specs.Kept.{IsRow, IsAgenda, key_cmp, row_from}
 use Rattle.us_calendar.proofs.agendas.noted.Given as goal
 

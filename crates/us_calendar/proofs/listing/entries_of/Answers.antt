@@ -1,4 +1,4 @@
-use Rattle.std.proofs.Common.{◌≡◌, ◌++◌, [], rules, IsPermutation, filter_map, subst, sym, ap, ◌∙◌}
+use Rattle.std.proofs.Common.{◌++◌, rules, IsPermutation, filter_map, subst, sym, ap, ◌∙◌}
 use Rattle.std.proofs.lemmas.Fn.{always_returns_same}
 use Rattle.us_flows.specs.Lawful.{IsFlow, IsStation}
 use Rattle.std.specs.List.{AllByRecursion}

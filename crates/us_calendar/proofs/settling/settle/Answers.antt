@@ -1,9 +1,7 @@
-use Rattle.std.proofs.Common.{◌≡◌, ◌∙◌, ◌<◌, ◌≤◌, ◌*◌, sym, Some, None, false, arith}
-use Rattle.us_calendar.specs.Occurrences.{ideal, end_of, is_over}
-use Rattle.us_calendar.specs.Settling.{spot}
-use Rattle.us_calendar.specs.Kept.{settle_from}
+use Rattle.std.proofs.Common.{◌∙◌, ◌<◌, ◌≤◌, ◌*◌, arith}
+use Rattle.us_calendar.specs.Occurrences.{ideal, end_of}
 use Rattle.us_calendar.proofs.IdealLemmas.{number-most, windows}
-use Rattle.us_calendar.proofs.SettleLemmas.{Reached, reached-next, last_board, last_numbers, last_told, nothing, settle-waits, settle-none, stands, stands_told}
+use Rattle.us_calendar.proofs.SettleLemmas.{reached-next, last_board, last_numbers, last_told, settle-waits, settle-none, stands, stands_told}
 use Rattle.us_calendar.proofs.settling.settle.Goals as goal
 
 pub loop-entry-preserved : goal.loop-entry-preserved

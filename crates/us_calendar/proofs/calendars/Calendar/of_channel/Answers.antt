@@ -1,4 +1,4 @@
-use Rattle.std.proofs.Common.{◌≡◌, ◌*◌, ◌≤◌, [], length, map, ap, sym, ◌∙◌, arith}
+use Rattle.std.proofs.Common.{◌*◌, ◌≤◌, map, ap, ◌∙◌, arith}
 use Rattle.std.specs.BTreeSet.{contains}
 use Rattle.us_slots.specs.Times.{minislot_ticks}
 use Rattle.us_calendar.specs.Kept.{key_cmp, row_from}

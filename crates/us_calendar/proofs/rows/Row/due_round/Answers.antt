@@ -1,4 +1,4 @@
-use Rattle.std.proofs.Common.{◌≡◌, ◌∙◌, ◌/◌, max, length, ap}
+use Rattle.std.proofs.Common.{◌∙◌, ◌/◌, max, length, ap}
 use Rattle.us_calendar.specs.Occurrences.{ideal, end_of}
 use Rattle.us_calendar.proofs.RowLemmas.{row-few, due_round-is}
 use Rattle.us_calendar.proofs.rows.Row.due_round.Goals as goal

@@ -1,0 +1,371 @@
+-- What a round tells of an occurrence of an entry.
+use Rattle.std.proofs.Common.{◌≡◌, ℕ, zero, suc, ◌+◌, ◌*◌, ◌/◌, ◌%◌, ◌<◌, ◌≤◌, nat_lt, ◌&&◌, Bool, true, false, cond, List, [], ◌∷◌, ◌++◌, map, flat_map, filter, count_by, Option, Some, None, refl, ap, sym, ◌∙◌, inl, inr, subst, le-ltb, lt-ltb, eq-eqb, ne_eqb, arith}
+use Rattle.std.specs.List.{AllByRecursion, range_with_len}
+use Rattle.std.proofs.lemmas.Bool.{cases_lt, cases_eq, cases_order, cases_Bool, and_parts, ltb-true, ltb-false}
+use Rattle.std.proofs.lemmas.List.Sums.{sum_by-cons}
+use Rattle.std.proofs.lemmas.Nat.{div-add-mod', pow_pos}
+use Rattle.us_slots.specs.Times.{minislot_ticks}
+use Rattle.us_holes.specs.Boards.{Board, fits, assign_all}
+use Rattle.us_holes.proofs.LawLemmas.{first_of-is, assign_all-append}
+use Rattle.us_calendar.specs.Entries.{Entry, rank_of}
+use Rattle.us_calendar.specs.Occurrences.{Pace, ideal, starts_within, end_of, is_over}
+use Rattle.us_calendar.specs.Settling.{Mark, Outcome, spot, mark, with_spot, told_as}
+use Rattle.us_calendar.specs.Runs.{grants, misses, is_name, is_earlier, has_turn_before, intervals_of, window_end, end_after, IsRight}
+use Rattle.us_calendar.specs.declared.settled.Settled.{Settled}
+use Rattle.us_calendar.specs.Kept.{settle_from}
+use Rattle.us_calendar.proofs.IdealLemmas.{HasWindows, ideal-rises, number-below}
+use Rattle.us_calendar.proofs.SpotLemmas.{spot-outside, none-within, later_start}
+use Rattle.us_calendar.proofs.SettleLemmas.{nothing, then_settle, numbers_of, numbers_on, stop_here, wait_too, settle-next, settle-none, settle-waits}
+
+-- the name of an entry's own occurrence, and when it has its turn
+
+own_name : (e : Entry) (n m : ℕ) → m ≡ n →
+    is_name e n (rank_of e.kind) e.id (m / e.grants) (m % e.grants) ≡ true
+own_name e n m same =
+    rw (same, eq-eqb (rank_of e.kind) (rank_of e.kind) refl, eq-eqb e.id e.id refl, eq-eqb (n / e.grants) (n / e.grants) refl, eq-eqb (n % e.grants) (n % e.grants) refl) refl
+
+other_name : (e : Entry) (n m : ℕ) → (m ≡ n → ⊥) →
+    is_name e n (rank_of e.kind) e.id (m / e.grants) (m % e.grants) ≡ false
+other_name e n m other =
+    rw (eq-eqb (rank_of e.kind) (rank_of e.kind) refl, eq-eqb e.id e.id refl) (elim (cases_eq (m / e.grants) (n / e.grants)) [
+      | inr apart ↦ rw (ne_eqb (m / e.grants) (n / e.grants) apart) refl
+      | inl same ↦ rw (eq-eqb (m / e.grants) (n / e.grants) same) (ne_eqb (m % e.grants) (n % e.grants) (λ rest. other (
+          sym (div-add-mod' m e.grants) ∙ ap (λ i. i * e.grants + m % e.grants) same ∙
+          ap (λ k. n / e.grants * e.grants + k) rest ∙ div-add-mod' n e.grants)))
+    ])
+
+own_turn : (e : Entry) (n m : ℕ) →
+    has_turn_before e n (rank_of e.kind) e.id (m / e.grants * e.grants + m % e.grants) ≡ nat_lt m n
+own_turn e n m =
+    rw (le-ltb (rank_of e.kind) (rank_of e.kind) (omega arith), eq-eqb (rank_of e.kind) (rank_of e.kind) refl, le-ltb e.id e.id (omega arith), eq-eqb e.id e.id refl, div-add-mod' m e.grants) refl
+
+-- where a window lies outside of a round, it has no fit there
+
+pub not_yet : (pace : Pace) (round : ℕ) (e : Entry) (n : ℕ) (board : Board) → end_of pace round ≤ ideal e n →
+    spot pace round e n board ≡ None
+not_yet pace round e n board later =
+    sym (spot-outside pace round e n board (λ at inside. none-within pace.time e n (round * pace.len + at) (λ is.
+    let last : round * pace.len + at + 1 ≤ (round + 1) * pace.len = grind arith in
+    let below = later_start pace.time (round * pace.len + at + 1) ((round + 1) * pace.len) last in
+    let ticks = pow_pos pace.time.minislot_log2 in
+    let product : (round * pace.len + at + 1) * minislot_ticks pace.time ≡
+    (round * pace.len + at) * minislot_ticks pace.time + minislot_ticks pace.time = grind arith in
+    omega (arith, is.0, later, below, ticks, product))))
+
+pub no_more : (pace : Pace) (round : ℕ) (e : Entry) (n : ℕ) (board : Board) →
+    window_end e n < end_after pace round → spot pace round e n board ≡ None
+no_more pace round e n board past =
+    sym (spot-outside pace round e n board (λ at inside. none-within pace.time e n (round * pace.len + at) (λ is.
+    let above = later_start pace.time (round * pace.len) (round * pace.len + at) (omega arith) in
+    omega (arith, is.1, past, above))))
+
+abbrev pub one_if : Bool → ℕ
+one_if b = cond b 1 0
+
+module _ (pace : Pace) (r : ℕ) (e : Entry) (n : ℕ) where
+  abbrev pub counted : List Settled → ℕ
+  counted told = count_by (grants e n) told + count_by (misses e n) told
+
+  abbrev pub met : Board → List Settled → Board
+  met board told = assign_all board (flat_map intervals_of (filter (is_earlier e n) told))
+
+  -- what a round told of occurrence `n`, where the first ones up to `first` were settled before it, and those up to
+  -- `next` are behind it
+  pub record InRound (first next : ℕ) (board : Board) (told : List Settled) : Type 0 where
+    pub rises : first ≤ next
+    pub before : n < first → counted told ≡ 0
+    pub once : first ≤ n → n < next → counted told ≡ 1
+    pub behind : next ≤ n → counted told ≡ 0
+    pub over : window_end e n < end_after pace (r + 1) → n < next
+    pub still : end_after pace (r + 1) ≤ window_end e n → count_by (misses e n) told ≡ 0
+    pub right : AllByRecursion (IsRight pace r e n (met board told)) told
+    pub room : first ≤ n → count_by (grants e n) told ≡ 0 → spot pace r e n (met board told) ≡ None
+
+  -- the same of its own entry's turn, which has nothing to tell before the first
+  pub record OwnRound (first next : ℕ) (board : Board) (told : List Settled) : Type 0 where
+    pub of : InRound first next board told
+    pub none : n ≤ first → filter (is_earlier e n) told ≡ []
+    pub any : n < first → (b : Board) → AllByRecursion (IsRight pace r e n b) told
+
+  -- one that is settled first
+  record Head (first : ℕ) (board : Board) (one : Settled) (after : Board) : Type 0 where
+    pub here : n ≡ first → one_if (grants e n one) + one_if (misses e n one) ≡ 1
+    pub away : (n ≡ first → ⊥) → (grants e n one ≡ false) × (misses e n one ≡ false)
+    pub earlier : is_earlier e n one ≡ nat_lt first n
+    pub leaves : after ≡ assign_all board (intervals_of one)
+    pub right : n ≡ first → IsRight pace r e n board one
+    pub any : (n ≡ first → ⊥) → (b : Board) → IsRight pace r e n b one
+    pub room : n ≡ first → grants e n one ≡ false → spot pace r e n board ≡ None
+    pub still : end_after pace (r + 1) ≤ window_end e n → misses e n one ≡ false
+
+  count-granted : (one : Settled) (rest : List Settled) →
+      count_by (grants e n) (one ∷ rest) ≡ one_if (grants e n one) + count_by (grants e n) rest
+  count-granted one rest = sum_by-cons (λ s. one_if (grants e n s)) one rest
+
+  count-missed : (one : Settled) (rest : List Settled) →
+      count_by (misses e n) (one ∷ rest) ≡ one_if (misses e n one) + count_by (misses e n) rest
+  count-missed one rest = sum_by-cons (λ s. one_if (misses e n s)) one rest
+
+  granted_head : (first at : ℕ) (board : Board) → spot pace r e first board ≡ Some at →
+      Head first board (told_as e (record { number = first; start = Some at })) (with_spot e (Some at) board)
+  unfolding assign_all
+  granted_head first at board is =
+      let found = first_of-is (λ i. starts_within pace.time e first (r * pace.len + i) && fits board e.slots i) 0 pace.len at is in
+      let both = and_parts (starts_within pace.time e first (r * pace.len + at)) (fits board e.slots at) found.passing in
+      record {
+        here = λ same. rw (own_name e n first (sym same)) refl;
+        away = λ other. (other_name e n first (λ same. other (sym same)), refl);
+        earlier = own_turn e n first;
+        leaves = refl;
+        right = λ same named. (
+          omega (arith, found.below),
+          subst (λ m. starts_within pace.time e m (r * pace.len + at) ≡ true) (sym same) both.0,
+          both.1,
+          refl,
+          refl,
+        );
+        any = λ other b named.
+            let never : false ≡ true = sym (other_name e n first (λ same. other (sym same))) ∙ named in absurd cc;
+        room = λ same isnt.
+            let never : true ≡ false = sym (own_name e n first (sym same)) ∙ isnt in absurd cc;
+        still = λ late. refl;
+      }
+
+  missed_head : (first : ℕ) (board : Board) → spot pace r e first board ≡ None → is_over pace r e first ≡ true →
+      (first ≤ n → end_after pace r ≤ window_end e n) →
+      Head first board (told_as e (record { number = first; start = None })) board
+  unfolding assign_all
+  missed_head first board is over fresh =
+      let past = ltb-true (window_end e first) (end_of pace r) over in
+      record {
+        here = λ same. rw (own_name e n first (sym same)) refl;
+        away = λ other. (refl, other_name e n first (λ same. other (sym same)));
+        earlier = own_turn e n first;
+        leaves = refl;
+        right = λ same named. (
+          fresh (omega (arith, same)),
+          subst (λ m. window_end e m < end_after pace (r + 1)) (sym same) past,
+        );
+        any = λ other b named.
+            let never : false ≡ true = sym (other_name e n first (λ same. other (sym same))) ∙ named in absurd cc;
+        room = λ same isnt. subst (λ m. spot pace r e m board ≡ None) (sym same) is;
+        still = λ late. other_name e n first (λ same.
+            let here : window_end e n < end_after pace (r + 1) =
+            subst (λ m. window_end e m < end_after pace (r + 1)) same past in
+            omega (arith, here, late));
+      }
+
+  module _ (first next : ℕ) (board after : Board) (one : Settled) (rest : List Settled)
+      (head : Head first board one after) (others : OwnRound (first + 1) next after rest) where
+    kept_out : n ≤ first → filter (is_earlier e n) (one ∷ rest) ≡ []
+    kept_out h =
+        rw (head.earlier ∙ le-ltb first n h) (others.none (omega (arith, h)))
+
+    met_here : n ≤ first → met board (one ∷ rest) ≡ board
+    unfolding assign_all
+    met_here h = ap (λ told. assign_all board (flat_map intervals_of told)) (kept_out h)
+
+    met_later : first < n → met board (one ∷ rest) ≡ met after rest
+    met_later h =
+        rw (head.earlier ∙ lt-ltb first n h)
+        (assign_all-append board (intervals_of one) (flat_map intervals_of (filter (is_earlier e n) rest)) ∙
+        ap (λ b. assign_all b (flat_map intervals_of (filter (is_earlier e n) rest))) (sym head.leaves))
+
+    granted_is : count_by (grants e n) (one ∷ rest) ≡ one_if (grants e n one) + count_by (grants e n) rest
+    granted_is = count-granted one rest
+
+    missed_is : count_by (misses e n) (one ∷ rest) ≡ one_if (misses e n one) + count_by (misses e n) rest
+    missed_is = count-missed one rest
+
+    no_head : (n ≡ first → ⊥) →
+        (count_by (grants e n) (one ∷ rest) ≡ count_by (grants e n) rest) ×
+        (count_by (misses e n) (one ∷ rest) ≡ count_by (misses e n) rest)
+    no_head other =
+        let granted_none = ap one_if (head.away other).0 in
+        let missed_none = ap one_if (head.away other).1 in
+        (omega (arith, granted_is, granted_none), omega (arith, missed_is, missed_none))
+
+    its_own : n ≡ first → OwnRound first next board (one ∷ rest)
+    its_own same =
+        let here = head.here same in
+        let after_it = others.of.before (omega (arith, same)) in
+        let rises = others.of.rises in
+        let board_is = met_here (omega (arith, same)) in
+        record {
+          of = record {
+            rises = omega (arith, rises);
+            before = λ less. absurd (omega (arith, less, same));
+            once = λ low high. omega (arith, here, after_it, granted_is, missed_is);
+            behind = λ past. absurd (omega (arith, past, same, rises));
+            over = λ over. omega (arith, same, rises);
+            still = λ late.
+                let isnt = ap one_if (head.still late) in omega (arith, missed_is, isnt, after_it);
+            right = (
+              subst (λ b. IsRight pace r e n b one) (sym board_is) (head.right same),
+              others.any (omega (arith, same)) (met board (one ∷ rest)),
+            );
+            room = λ low none. ap (λ b. spot pace r e n b) board_is ∙ head.room same (not_granted none);
+          };
+          none = kept_out;
+          any = λ less. absurd (omega (arith, less, same));
+        }
+      where
+        not_granted : count_by (grants e n) (one ∷ rest) ≡ 0 → grants e n one ≡ false
+        not_granted none = elim (cases_Bool (grants e n one)) [
+          | inr f ↦ f
+          | inl t ↦ let one_is = ap one_if t in absurd (omega (arith, none, granted_is, one_is))
+        ]
+
+    of_earlier : n < first → OwnRound first next board (one ∷ rest)
+    of_earlier less =
+        let apart : n ≡ first → ⊥ = λ same. omega (arith, same, less) in
+        let counts = no_head apart in
+        let others_none = others.of.before (omega (arith, less)) in
+        let rises = others.of.rises in
+        record {
+          of = record {
+            rises = omega (arith, rises);
+            before = λ _. omega (arith, counts.0, counts.1, others_none);
+            once = λ low high. absurd (omega (arith, low, less));
+            behind = λ past. absurd (omega (arith, past, less, rises));
+            over = λ over. omega (arith, less, rises);
+            still = λ late. omega (arith, counts.1, others_none);
+            right = (
+              head.any apart (met board (one ∷ rest)),
+              others.any (omega (arith, less)) (met board (one ∷ rest)),
+            );
+            room = λ low none. absurd (omega (arith, low, less));
+          };
+          none = kept_out;
+          any = λ _ b. (head.any apart b, others.any (omega (arith, less)) b);
+        }
+
+    of_later : first < n → OwnRound first next board (one ∷ rest)
+    of_later more =
+        let apart : n ≡ first → ⊥ = λ same. omega (arith, same, more) in
+        let counts = no_head apart in
+        let rises = others.of.rises in
+        let board_is = met_later more in
+        record {
+          of = record {
+            rises = omega (arith, rises);
+            before = λ less. absurd (omega (arith, less, more));
+            once = λ low high.
+                let it = others.of.once (omega (arith, more)) high in omega (arith, counts.0, counts.1, it);
+            behind = λ past. let it = others.of.behind past in omega (arith, counts.0, counts.1, it);
+            over = others.of.over;
+            still = λ late. counts.1 ∙ others.of.still late;
+            right = (
+              head.any apart (met board (one ∷ rest)),
+              subst (λ b. AllByRecursion (IsRight pace r e n b) rest) (sym board_is) others.of.right,
+            );
+            room = λ low none. ap (λ b. spot pace r e n b) board_is ∙
+                others.of.room (omega (arith, more)) (sym counts.0 ∙ none);
+          };
+          none = kept_out;
+          any = λ less. absurd (omega (arith, less, more));
+        }
+
+    step : OwnRound first next board (one ∷ rest)
+    step = elim (cases_order n first) [
+      | inl same ↦ its_own same
+      | inr other ↦ elim other [ inl less ↦ of_earlier less | inr more ↦ of_later more ]
+    ]
+
+  -- where nothing more is settled
+  stopped : (first : ℕ) (board : Board) → HasWindows e → end_of pace r ≤ window_end e first →
+      ((m : ℕ) → first ≤ m → spot pace r e m board ≡ None) → OwnRound first first board []
+  unfolding assign_all
+  stopped first board is late none =
+      record {
+        of = record {
+          rises = omega arith;
+          before = λ _. refl;
+          once = λ low high. absurd (omega (arith, low, high));
+          behind = λ _. refl;
+          over = λ over. elim (cases_lt n first) [
+            | inl less ↦ less
+            | inr low ↦ absurd (omega (arith, ideal-rises e first n is low, over, late))
+          ];
+          still = λ _. refl;
+          right = tt;
+          room = λ low _. none n low;
+        };
+        none = λ _. refl;
+        any = λ _ b. tt;
+      }
+
+  abbrev Turn : ℕ → Board → Type 0
+  Turn first board =
+      (next : ℕ) ×
+      (range_with_len 0 first ++ numbers_of (settle_from pace r e first board).marks ≡ range_with_len 0 next) ×
+      OwnRound first next board (map (told_as e) (settle_from pace r e first board).marks)
+
+  halt : (first : ℕ) (board : Board) → settle_from pace r e first board ≡ nothing board → OwnRound first first board [] →
+      Turn first board
+  halt first board last round = (
+    first,
+    stop_here pace r e first board last,
+    subst (λ (o : Outcome). OwnRound first first board (map (told_as e) o.marks)) (sym last) round,
+  )
+
+  go : (first : ℕ) (board : Board) (found : Option ℕ) (one : Mark) → HasWindows e → ideal e first < end_of pace r →
+      spot pace r e first board ≡ found → mark pace r e first found ≡ one ∷ [] → one.number ≡ first →
+      Head first board (told_as e one) (with_spot e found board) → Turn (first + 1) (with_spot e found board) →
+      Turn first board
+  go first board found one is due found_is marked number head rest =
+      let after : Board = with_spot e found board in
+      let others : Outcome = settle_from pace r e (first + 1) after in
+      let told : List Settled = map (told_as e) others.marks in
+      let last : settle_from pace r e first board ≡
+      then_settle pace r e first found (settle_from pace r e (first + 1)) board =
+      settle-next pace r e first board is due ∙
+      ap (λ f. then_settle pace r e first f (settle_from pace r e (first + 1)) board) found_is in
+      let marks : (settle_from pace r e first board).marks ≡ one ∷ others.marks =
+      ap (λ (o : Outcome). o.marks) last ∙ ap (λ ms. ms ++ others.marks) marked in (
+        rest.0,
+        numbers_on pace r e first board found is due found_is
+            (ap numbers_of marked ∙ ap (λ m. m ∷ []) number) ∙ rest.1,
+        subst (λ ms. OwnRound first rest.0 board (map (told_as e) ms)) (sym marks)
+            (step first rest.0 board after (told_as e one) told head rest.2),
+      )
+
+  idle : (first : ℕ) (board : Board) → HasWindows e → end_of pace r ≤ ideal e first → Turn first board
+  idle first board is late =
+      halt first board (settle-none pace r e first board is late) (stopped first board is (omega (arith, late))
+      (λ m low. not_yet pace r e m board (omega (arith, late, ideal-rises e first m is low))))
+
+  pub own_round : (left first : ℕ) (board : Board) → HasWindows e →
+      (first ≤ n → end_after pace r ≤ window_end e n) → end_of pace r * e.grants ≤ first + left → Turn first board
+  own_round zero first board is fresh all = elim (cases_lt (ideal e first) (end_of pace r)) [
+    | inl due ↦ let below = number-below e first (end_of pace r) is due in absurd (omega (arith, below, all))
+    | inr late ↦ idle first board is late
+  ]
+  own_round (suc left) first board is fresh all = elim (cases_lt (ideal e first) (end_of pace r)) [
+    | inr late ↦ idle first board is late
+    | inl due ↦
+        more due (spot pace r e first board) refl
+        (λ next. own_round left (first + 1) next is (λ low. fresh (omega (arith, low))) (omega (arith, all)))
+  ]
+    where
+      waiting : is_over pace r e first ≡ false → spot pace r e first board ≡ None → (m : ℕ) → first ≤ m →
+          spot pace r e m board ≡ None
+      waiting open_yet none m low = elim (cases_lt (ideal e m) (end_of pace r)) [
+        | inl due ↦ (wait_too pace r e first m board is (none, open_yet) low due).0
+        | inr late ↦ not_yet pace r e m board late
+      ]
+
+      more : ideal e first < end_of pace r → (found : Option ℕ) → spot pace r e first board ≡ found →
+          ((next : Board) → Turn (first + 1) next) → Turn first board
+      more due (Some at) found_is rest =
+          go first board (Some at) (record { number = first; start = Some at }) is due found_is refl refl
+          (granted_head first at board found_is) (rest (with_spot e (Some at) board))
+      more due None found_is rest = elim (cases_Bool (is_over pace r e first)) [
+        | inl over ↦
+            go first board None (record { number = first; start = None }) is due found_is (rw over refl) refl
+            (missed_head first board found_is over fresh) (rest board)
+        | inr open_yet ↦
+            let late = ltb-false (window_end e first) (end_of pace r) open_yet in
+            halt first board (settle-waits pace r e first board is found_is open_yet)
+            (stopped first board is late (waiting open_yet found_is))
+      ]
