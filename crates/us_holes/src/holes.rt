@@ -61,6 +61,21 @@ pub(crate) fn whole(alloc: Global, len: u32) -> Result<Vec<Hole>, NoMemory>
     Ok(holes)
 }
 
+/// Makes it the one hole of an idle board of `len` minislots again. It needs no memory.
+pub(crate) fn refill(holes: &mut Vec<Hole>, len: u32)
+    requires some { 1 ≤ len }
+    requires most { len ≤ spec.max_minislots }
+    requires room { 1 ≤ vec_capacity holes.old }
+    ensures items { holes.new.items ≡ lists.hole_in 0 len }
+    ensures capacity { vec_capacity holes.old ≤ vec_capacity holes.new }
+{
+    holes.clear();
+    match holes.push(Hole::between(0, len)) {
+        Ok(()) => {}
+        Err(_) => unreachable!(),
+    }
+}
+
 /// Whether `start` is no later than `to`, and `slots` minislots from there on end in the hole, or where it does.
 fn fits_in(hole: Hole, start: u32, to: u32, slots: u32) -> bool
     ensures { result ≡ lists.fits_in hole start to slots }
