@@ -95,11 +95,7 @@ impl Board {
         }
         match holes::earliest(&self.holes, from, to, slots) {
             Some((place, start)) => {
-                let one = Assignment {
-                    start,
-                    slots,
-                    owner,
-                };
+                let one = Assignment::new(start, slots, owner);
                 assign(
                     &mut self.assigned,
                     &mut self.holes,
