@@ -66,8 +66,7 @@ impl Assignment {
     }
 }
 
-/// Puts an assignment among the others, by its start: behind the last that begins no later, since most come in the
-/// order of their starts. It needs no memory.
+/// Puts an assignment among the others, by its start: from behind, before all that begin later. It needs no memory.
 pub(crate) fn put(assigned: &mut Vec<Assignment>, one: Assignment)
     requires room { vec_len assigned.old < vec_capacity assigned.old }
     requires order { lists.InOrder 0 assigned.old.items spec.max_minislots }

@@ -1,4 +1,4 @@
-ghost use Rattle.std.specs.Prelude.{◌≡◌, ◌+◌, ◌-◌, ◌<◌, ◌≤◌, length, slice_index_or, IfOk, vec_len, vec_capacity};
+ghost use Rattle.std.specs.Prelude.{◌≡◌, ◌+◌, ◌-◌, ◌<◌, ◌≤◌, max, length, slice_index_or, IfOk, vec_len, vec_capacity};
 ghost use Rattle.std.specs.List.{insert};
 ghost use Rattle.us_holes.specs.Boards as spec;
 ghost use Rattle.us_holes.specs.Lists as lists;
@@ -91,12 +91,14 @@ pub(crate) fn refill(holes: &mut Vec<Hole>, len: u32)
     }
 }
 
-/// Whether `start` is no later than `to`, and `slots` minislots from there on end in the hole, or where it does.
-fn fits_in(hole: Hole, start: u32, to: u32, slots: u32) -> bool
-    ensures { result ≡ lists.fits_in hole start to slots }
+/// Whether `slots` minislots fit in the hole from its first start on that is no earlier than `from`, and this start is
+/// no later than `to`. The first test passes over holes that end too early.
+fn fits_in(hole: Hole, from: u32, to: u32, slots: u32) -> bool
+    ensures { result ≡ lists.fits_in hole (max from hole.start) to slots }
 {
-    let end = hole.end();
-    start <= to && start as u64 + slots as u64 <= end as u64
+    let end = hole.end() as u64;
+    let start = from.max(hole.start());
+    from as u64 + slots as u64 <= end && start <= to && start as u64 + slots as u64 <= end
 }
 
 /// The first hole where `slots` minislots fit from a start from `from` to `to` on: its place, and the least such start.
@@ -106,9 +108,8 @@ pub(crate) fn earliest(holes: &[Hole], from: u32, to: u32, slots: u32) -> Option
 {
     for i in 0..holes.len() {
         let hole = holes[i];
-        let start = from.max(hole.start());
-        if fits_in(hole, start, to, slots) {
-            return Some((i, start));
+        if fits_in(hole, from, to, slots) {
+            return Some((i, from.max(hole.start())));
         }
     }
     None
