@@ -1,6 +1,6 @@
 -- Holes: where an assignment fits, and what it leaves of them.
-use Rattle.std.proofs.Common.{◌≡◌, ℕ, zero, suc, ◌+◌, ◌-◌, ◌<◌, ◌≤◌, nat_le, max, List, [], ◌∷◌, ◌++◌, length, take, drop, get_or, true, false, Some, None, refl, ap, sym, ◌∙◌, inl, inr, arith}
-use Rattle.std.specs.List.{remove}
+use Rattle.std.proofs.Common.{◌≡◌, ℕ, zero, suc, ◌+◌, ◌-◌, ◌<◌, ◌≤◌, nat_le, max, List, [], ◌∷◌, ◌++◌, length, get_or, set, true, false, Some, None, refl, ap, sym, ◌∙◌, inl, inr, arith}
+use Rattle.std.specs.List.{insert, remove}
 use Rattle.std.proofs.lemmas.Bool.{cases_Bool, cases_lt, and_parts, and_from, leb-true, le-leb, lt-ltb, le-ltb}
 use Rattle.std.proofs.lemmas.List.{append-nil}
 use Rattle.us_holes.specs.Boards.{Interval}
@@ -8,19 +8,49 @@ use Rattle.us_holes.specs.Lists.{end_of, InOrder, put, Hole, hole_end, hole_from
 use Rattle.us_holes.proofs.CellLemmas.{HasRoom, room_inside, hole_alone}
 use Rattle.us_holes.proofs.PutLemmas.{put_first, put_later, put_alone}
 
--- A hole that is taken out, and what is left of it put back, is cut.
-abbrev put_at : ℕ → List Hole → List Hole → List Hole
-put_at place gap holes = take place holes ++ (gap ++ drop place holes)
+-- A hole is cut: what is left of it stands in its place,
+pub cut_left : (holes : List Hole) (place start slots : ℕ) (hole : Hole) → place < length holes →
+    hole ≡ get_or holes place hole → hole.start < start → hole_end hole ≤ start + slots →
+    set holes place (hole_from hole.start start) ≡ cut_at place start slots holes
+unfolding cut_at
+cut_left [] place start slots hole inside is some none = absurd (omega (arith, inside))
+cut_left (one ∷ more) zero start slots hole inside is some none =
+    rw (sym is, lt-ltb hole.start start some, le-ltb (start + slots) (hole_end hole) none) refl
+cut_left (one ∷ more) (suc place) start slots hole inside is some none =
+    ap (λ holes. one ∷ holes) (cut_left more place start slots hole (omega (arith, inside)) is some none)
 
-pub cut_is : (holes : List Hole) (place start slots : ℕ) (hole : Hole) → place < length holes →
-    hole ≡ get_or holes place hole →
-    put_at place (hole_in hole.start start) (put_at place (hole_in (start + slots) (hole_end hole)) (remove holes place)) ≡
+pub cut_right : (holes : List Hole) (place start slots : ℕ) (hole : Hole) → place < length holes →
+    hole ≡ get_or holes place hole → start ≤ hole.start → start + slots < hole_end hole →
+    set holes place (hole_from (start + slots) (hole_end hole)) ≡ cut_at place start slots holes
+unfolding cut_at
+cut_right [] place start slots hole inside is none some = absurd (omega (arith, inside))
+cut_right (one ∷ more) zero start slots hole inside is none some =
+    rw (sym is, le-ltb hole.start start none, lt-ltb (start + slots) (hole_end hole) some) refl
+cut_right (one ∷ more) (suc place) start slots hole inside is none some =
+    ap (λ holes. one ∷ holes) (cut_right more place start slots hole (omega (arith, inside)) is none some)
+
+-- two holes do,
+pub cut_both : (holes : List Hole) (place start slots : ℕ) (hole : Hole) → place < length holes →
+    hole ≡ get_or holes place hole → hole.start < start → start + slots < hole_end hole →
+    insert (set holes place (hole_from hole.start start)) (suc place) (hole_from (start + slots) (hole_end hole)) ≡
     cut_at place start slots holes
 unfolding cut_at
-cut_is [] place start slots hole inside is = absurd (omega (arith, inside))
-cut_is (one ∷ more) zero start slots hole inside is = rw is refl
-cut_is (one ∷ more) (suc place) start slots hole inside is =
-    ap (λ holes. one ∷ holes) (cut_is more place start slots hole (omega (arith, inside)) is)
+cut_both [] place start slots hole inside is left right = absurd (omega (arith, inside))
+cut_both (one ∷ more) zero start slots hole inside is left right =
+    rw (sym is, lt-ltb hole.start start left, lt-ltb (start + slots) (hole_end hole) right) refl
+cut_both (one ∷ more) (suc place) start slots hole inside is left right =
+    ap (λ holes. one ∷ holes) (cut_both more place start slots hole (omega (arith, inside)) is left right)
+
+-- or none.
+pub cut_whole : (holes : List Hole) (place start slots : ℕ) (hole : Hole) → place < length holes →
+    hole ≡ get_or holes place hole → start ≤ hole.start → hole_end hole ≤ start + slots →
+    remove holes place ≡ cut_at place start slots holes
+unfolding cut_at
+cut_whole [] place start slots hole inside is none nil = absurd (omega (arith, inside))
+cut_whole (one ∷ more) zero start slots hole inside is none nil =
+    rw (sym is, le-ltb hole.start start none, le-ltb (start + slots) (hole_end hole) nil) refl
+cut_whole (one ∷ more) (suc place) start slots hole inside is none nil =
+    ap (λ holes. one ∷ holes) (cut_whole more place start slots hole (omega (arith, inside)) is none nil)
 
 -- Holes by start.
 unfoldable pub AreApart : ℕ → List Hole → Type 0

@@ -37,6 +37,12 @@ pub kept_length : (assigned : List Interval) (holes ranked : List Hole) (len fre
     AreLists assigned holes ranked len free → len ≡ length (cells_of 0 assigned len)
 kept_length assigned holes ranked len free lists = omega (arith, cells_length 0 assigned len lists.order)
 
+pub kept_range : (assigned : List Interval) (holes ranked : List Hole) (len free : ℕ) →
+    AreLists assigned holes ranked len free → (1 ≤ len) × (len ≤ 4096)
+kept_range assigned holes ranked len free lists =
+    let is = kept_length assigned holes ranked len free lists in
+    (omega (arith, is, lists.board.some), omega (arith, is, lists.board.most))
+
 -- One hole more than assignments at most.
 gap_length : (from to : ℕ) (holes : List Hole) → length (hole_in from to ++ holes) ≤ length holes + 1
 gap_length from to holes = elim (cases_lt from to) [

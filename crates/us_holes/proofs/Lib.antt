@@ -1,3 +1,4 @@
+pub mod ShiftLemmas
 pub mod RunLemmas
 pub mod IdleLemmas
 pub mod BoardLemmas

@@ -4,16 +4,22 @@ use Rattle.us_holes.specs.Boards.{Board, Interval, is_full, is_idle_at, assign, 
 use Rattle.us_holes.specs.Placements.{placed, IsPlacedAt, HasNoRoom}
 use Rattle.us_holes.specs.declared.placements.Placed.TheVariants as answer
 use Rattle.us_holes.specs.declared.boards.Board.TheInside.{Inside}
-use Rattle.us_holes.specs.Lists.{cells_of, board_of, put, fit, HasAt, cut_at, rank, AreLists}
+use Rattle.us_holes.specs.Lists.{InOrder, cells_of, board_of, put, fit, HasAt, cut_at, rank, AreLists}
 use Rattle.us_holes.proofs.FitLemmas.{not_full, placed-at, says-at, placed-none}
 use Rattle.us_holes.proofs.CellLemmas.{cells_length}
-use Rattle.us_holes.proofs.KeptLemmas.{kept_few, kept_length, kept_found, kept_none, kept_put, kept_assigned, kept_free}
+use Rattle.us_holes.proofs.PutLemmas.{order_within}
+use Rattle.us_holes.proofs.KeptLemmas.{kept_few, kept_length, kept_range, kept_found, kept_none, kept_put, kept_assigned, kept_free}
 
 abbrev pub AreFields : Inside → Type 0
 AreFields f = AreLists f.assigned.items f.holes.items f.ranked.items f.len f.free
 
 abbrev pub board_in : Inside → Board
 board_in f = board_of f.assigned.items f.len
+
+pub kept_order : (f : Inside) → AreFields f → InOrder 0 f.assigned.items 4096
+kept_order f lists =
+    order_within 0 f.assigned.items f.len 4096 lists.order
+    (kept_range f.assigned.items f.holes.items f.ranked.items f.len f.free lists).1
 
 -- The lists with a search's answer,
 pub record IsPlacing (f : Inside) (before : Board) (from to place : ℕ) (one : Interval) : Type 0 where

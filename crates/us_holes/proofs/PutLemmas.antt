@@ -62,6 +62,13 @@ pub put_alone : (one : Interval) → put one [] ≡ one ∷ []
 unfolding place_among
 put_alone one = refl
 
+pub order_within : (from : ℕ) (assigned : List Interval) (to beyond : ℕ) → InOrder from assigned to → to ≤ beyond →
+    InOrder from assigned beyond
+unfolding InOrder
+order_within from [] to beyond order h = omega (arith, order, h)
+order_within from (one ∷ more) to beyond order h =
+    (order.0, order.1, order_within (end_of one) more to beyond order.2 h)
+
 pub put_order : (from : ℕ) (assigned : List Interval) (to : ℕ) (one : Interval) → InOrder from assigned to →
     0 < one.slots → HasRoom (holes_of from assigned to) one.slots one.start → InOrder from (put one assigned) to
 unfolding InOrder holes_of

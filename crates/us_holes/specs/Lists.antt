@@ -1,5 +1,5 @@
 -- Inside the crate, and of no use to a reader of the promise: a board as its assignments and the holes between them.
-use Rattle.std.specs.Prelude.{◌≡◌, ℕ, zero, suc, ◌+◌, ◌-◌, ◌<◌, ◌≤◌, nat_le, nat_lt, nat_eq, max, Bool, ◌&&◌, ◌||◌, if◌then◌else◌, List, [], ◌∷◌, ◌++◌, length, replicate, slice_index_or, Option, Some, None}
+use Rattle.std.specs.Prelude.{◌≡◌, ℕ, zero, suc, ◌+◌, ◌-◌, ◌<◌, ◌≤◌, nat_le, nat_lt, nat_eq, max, Bool, ◌&&◌, ◌||◌, if◌then◌else◌, List, [], ◌∷◌, ◌++◌, length, take, drop, replicate, slice_index_or, Option, Some, None}
 use Rattle.std.specs.List.{insert, remove}
 use Rattle.us_holes.specs.Boards.{Holder, Board, Interval, max_assignments, free_count}
 use Rattle.us_holes.specs.Runs.{Run}
@@ -98,6 +98,10 @@ rise hole ranked = insert ranked (place_for hole ranked) hole
 
 abbrev pub lift : Hole → List Hole → List Hole
 lift hole ranked = remove ranked (place_for hole ranked)
+
+-- one in the stead of the one at this place
+abbrev pub sunk : ℕ → Hole → List Hole → List Hole
+sunk place hole ranked = take place ranked ++ rise hole (drop (suc place) ranked)
 
 unfoldable pub rank : List Hole → List Hole
 rank [] = []

@@ -17,6 +17,8 @@ pub(crate) fn assign(
     requires few { length assigned.old.items < spec.max_assignments }
     requires holes { length holes.old.items ≤ spec.max_assignments }
     requires by_rank { ranked.old.items ≡ lists.rank holes.old.items }
+    requires order { lists.InOrder 0 assigned.old.items spec.max_minislots }
+    requires some { 1 ≤ one.slots }
     requires has { lists.HasAt holes.old.items place one.start one.slots }
     requires room { lists.HaveRoom (vec_capacity assigned.old) (vec_capacity holes.old) (vec_capacity ranked.old) }
     ensures assigned { assigned.new.items ≡ lists.put one assigned.old.items }
@@ -25,7 +27,7 @@ pub(crate) fn assign(
     ensures room { lists.HaveRoom (vec_capacity assigned.new) (vec_capacity holes.new) (vec_capacity ranked.new) }
 {
     let hole = holes[place];
-    ranks::cut(ranked, hole, one.start, one.slots);
-    holes::cut(holes, place, one.start, one.slots);
+    ranks::cut(ranked, hole, one.start(), one.slots());
+    holes::cut(holes, place, one.start(), one.slots());
     assignments::put(assigned, one);
 }

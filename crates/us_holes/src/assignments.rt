@@ -1,4 +1,4 @@
-ghost use Rattle.std.specs.Prelude.{◌≡◌, ◌+◌, ◌<◌, ◌≤◌, length, vec_len, vec_capacity};
+ghost use Rattle.std.specs.Prelude.{◌≡◌, ◌+◌, ◌<◌, ◌≤◌, vec_len, vec_capacity};
 ghost use Rattle.us_holes.specs.Boards as spec;
 ghost use Rattle.us_holes.specs.Lists as lists;
 
@@ -8,9 +8,9 @@ use std::marker::Model;
 /// An assignment: its first minislot, how many it has, and whose they are.
 #[derive(Clone, Copy)]
 pub(crate) struct Assignment {
-    pub(crate) start: u32,
-    pub(crate) slots: u32,
-    pub(crate) owner: Owner,
+    start: u16,
+    slots: u16,
+    owner: Owner,
 }
 
 impl Model for Assignment {
@@ -24,39 +24,67 @@ impl Model for Assignment {
 }
 
 impl Assignment {
+    /// The assignment of `slots` minislots from `start` on.
+    pub(crate) fn new(start: u32, slots: u32, owner: Owner) -> Assignment
+        requires { start + slots ≤ spec.max_minislots }
+        ensures { result ≡ (record { start = start; slots = slots; owner = owner }) }
+    {
+        Assignment {
+            start: start as u16,
+            slots: slots as u16,
+            owner,
+        }
+    }
+
+    /// Its first minislot.
+    pub(crate) fn start(self) -> u32
+        ensures { result ≡ self.start }
+    {
+        self.start as u32
+    }
+
+    /// How many minislots it has.
+    pub(crate) fn slots(self) -> u32
+        ensures { result ≡ self.slots }
+    {
+        self.slots as u32
+    }
+
+    /// Whose they are.
+    pub(crate) fn owner(self) -> Owner
+        ensures { result ≡ self.owner }
+    {
+        self.owner
+    }
+
     /// The minislot behind it.
     pub(crate) fn end(self) -> u32
         ensures value { result ≡ lists.end_of self }
         ensures inside { lists.end_of self ≤ spec.max_minislots }
     {
-        self.start + self.slots
+        self.start() + self.slots()
     }
 }
 
-/// How many assignments begin no later than `start`.
-#[tactic(auto, unfolding(crate::specs::Lists::place_among))]
-fn place_among(assigned: &[Assignment], start: u32) -> usize
-    ensures value { result ≡ lists.place_among start assigned.now }
-    ensures inside { result ≤ length assigned.now }
-{
-    for i in 0..assigned.len() {
-        let one = assigned[i];
-        if start < one.start {
-            return i;
-        }
-    }
-    assigned.len()
-}
-
-/// Puts an assignment among the others, by its start. It needs no memory.
+/// Puts an assignment among the others, by its start: from behind, before all that begin later. It needs no memory.
 pub(crate) fn put(assigned: &mut Vec<Assignment>, one: Assignment)
-    requires { vec_len assigned.old < vec_capacity assigned.old }
+    requires room { vec_len assigned.old < vec_capacity assigned.old }
+    requires order { lists.InOrder 0 assigned.old.items spec.max_minislots }
     ensures items { assigned.new.items ≡ lists.put one assigned.old.items }
     ensures capacity { vec_capacity assigned.old ≤ vec_capacity assigned.new }
 {
-    let place = place_among(assigned, one.start);
-    match assigned.insert(place, one) {
+    let mut at = assigned.len();
+    match assigned.push(one) {
         Ok(()) => {}
         Err(_) => unreachable!(),
     }
+    while at > 0 {
+        let other = assigned[at - 1];
+        if other.start() <= one.start() {
+            break;
+        }
+        assigned[at] = other;
+        at -= 1;
+    }
+    assigned[at] = one;
 }

@@ -68,6 +68,16 @@ impl Board {
         })
     }
 
+    /// All minislots are idle again. It needs no memory.
+    pub fn clear(&mut self)
+        ensures { self.new ≡ spec.empty_board (length self.old.cells) }
+    {
+        self.assigned.clear();
+        holes::refill(&mut self.holes, self.len);
+        holes::refill(&mut self.ranked, self.len);
+        self.free = self.len;
+    }
+
     /// Assigns `slots` minislots to `owner` at the earliest start from `from` to `to` where so many are idle. A board
     /// that is full is told before one that has no room. It needs no memory.
     #[tactic(auto, using(crate::proofs::FitLemmas::full_facts))]
@@ -85,11 +95,7 @@ impl Board {
         }
         match holes::earliest(&self.holes, from, to, slots) {
             Some((place, start)) => {
-                let one = Assignment {
-                    start,
-                    slots,
-                    owner,
-                };
+                let one = Assignment::new(start, slots, owner);
                 assign(
                     &mut self.assigned,
                     &mut self.holes,

@@ -1,4 +1,5 @@
-ghost use Rattle.std.specs.Prelude.{◌≡◌, ◌+◌, ◌-◌, ◌<◌, ◌≤◌, ◌++◌, take, drop, length, slice_index_or, IfOk, vec_len, vec_capacity};
+ghost use Rattle.std.specs.Prelude.{◌≡◌, ◌+◌, ◌-◌, ◌<◌, ◌≤◌, max, length, slice_index_or, IfOk, vec_len, vec_capacity};
+ghost use Rattle.std.specs.List.{insert};
 ghost use Rattle.us_holes.specs.Boards as spec;
 ghost use Rattle.us_holes.specs.Lists as lists;
 
@@ -10,8 +11,8 @@ use us_slots::NoMemory;
 /// A hole: idle minislots between held ones, or the ends of the board.
 #[derive(Clone, Copy)]
 pub(crate) struct Hole {
-    pub(crate) start: u32,
-    pub(crate) slots: u32,
+    start: u16,
+    slots: u16,
 }
 
 impl Model for Hole {
@@ -32,9 +33,23 @@ impl Hole {
         ensures { result ≡ lists.hole_from from to }
     {
         Hole {
-            start: from,
-            slots: to - from,
+            start: from as u16,
+            slots: (to - from) as u16,
         }
+    }
+
+    /// Its first minislot.
+    pub(crate) fn start(self) -> u32
+        ensures { result ≡ self.start }
+    {
+        self.start as u32
+    }
+
+    /// How many minislots it has.
+    pub(crate) fn slots(self) -> u32
+        ensures { result ≡ self.slots }
+    {
+        self.slots as u32
     }
 
     /// The minislot behind it.
@@ -42,7 +57,7 @@ impl Hole {
         ensures value { result ≡ lists.hole_end self }
         ensures inside { lists.hole_end self ≤ spec.max_minislots }
     {
-        self.start + self.slots
+        self.start() + self.slots()
     }
 }
 
@@ -61,12 +76,29 @@ pub(crate) fn whole(alloc: Global, len: u32) -> Result<Vec<Hole>, NoMemory>
     Ok(holes)
 }
 
-/// Whether `start` is no later than `to`, and `slots` minislots from there on end in the hole, or where it does.
-fn fits_in(hole: Hole, start: u32, to: u32, slots: u32) -> bool
-    ensures { result ≡ lists.fits_in hole start to slots }
+/// Makes it the one hole of an idle board of `len` minislots again. It needs no memory.
+pub(crate) fn refill(holes: &mut Vec<Hole>, len: u32)
+    requires some { 1 ≤ len }
+    requires most { len ≤ spec.max_minislots }
+    requires room { 1 ≤ vec_capacity holes.old }
+    ensures items { holes.new.items ≡ lists.hole_in 0 len }
+    ensures capacity { vec_capacity holes.old ≤ vec_capacity holes.new }
 {
-    let end = hole.end();
-    start <= to && start <= end && slots <= end - start
+    holes.clear();
+    match holes.push(Hole::between(0, len)) {
+        Ok(()) => {}
+        Err(_) => unreachable!(),
+    }
+}
+
+/// Whether `slots` minislots fit in the hole from its first start on that is no earlier than `from`, and this start is
+/// no later than `to`. The first test passes over holes that end too early.
+fn fits_in(hole: Hole, from: u32, to: u32, slots: u32) -> bool
+    ensures { result ≡ lists.fits_in hole (max from hole.start) to slots }
+{
+    let end = hole.end() as u64;
+    let start = from.max(hole.start());
+    from as u64 + slots as u64 <= end && start <= to && start as u64 + slots as u64 <= end
 }
 
 /// The first hole where `slots` minislots fit from a start from `from` to `to` on: its place, and the least such start.
@@ -76,29 +108,31 @@ pub(crate) fn earliest(holes: &[Hole], from: u32, to: u32, slots: u32) -> Option
 {
     for i in 0..holes.len() {
         let hole = holes[i];
-        let start = from.max(hole.start);
-        if fits_in(hole, start, to, slots) {
-            return Some((i, start));
+        if fits_in(hole, from, to, slots) {
+            return Some((i, from.max(hole.start())));
         }
     }
     None
 }
 
-/// Puts the hole from `from` to `to` at a place, where it has a minislot. It needs no memory.
-fn add(holes: &mut Vec<Hole>, place: usize, from: u32, to: u32)
+/// Puts a hole at a place, and moves those from there on one further. It needs no memory.
+pub(crate) fn put_at(holes: &mut Vec<Hole>, place: usize, hole: Hole)
     requires place { place ≤ vec_len holes.old }
     requires room { vec_len holes.old < vec_capacity holes.old }
-    requires inside { to ≤ spec.max_minislots }
-    ensures items { holes.new.items
-        ≡ take place holes.old.items ++ (lists.hole_in from to ++ drop place holes.old.items) }
+    ensures items { holes.new.items ≡ insert holes.old.items place hole }
     ensures capacity { vec_capacity holes.old ≤ vec_capacity holes.new }
 {
-    if from < to {
-        match holes.insert(place, Hole::between(from, to)) {
-            Ok(()) => {}
-            Err(_) => unreachable!(),
-        }
+    let mut at = holes.len();
+    match holes.push(hole) {
+        Ok(()) => {}
+        Err(_) => unreachable!(),
     }
+    while place < at {
+        let one = holes[at - 1];
+        holes[at] = one;
+        at -= 1;
+    }
+    holes[at] = hole;
 }
 
 /// Takes the `slots` minislots from `start` on out of the hole at a place. It needs no memory.
@@ -109,7 +143,17 @@ pub(crate) fn cut(holes: &mut Vec<Hole>, place: usize, start: u32, slots: u32)
     ensures items { holes.new.items ≡ lists.cut_at place start slots holes.old.items }
     ensures capacity { vec_capacity holes.old ≤ vec_capacity holes.new }
 {
-    let hole = holes.remove(place);
-    add(holes, place, start + slots, hole.end());
-    add(holes, place, hole.start, start);
+    let hole = holes[place];
+    let (first, last) = (hole.start(), hole.end());
+    let end = start + slots;
+    if first < start {
+        holes[place] = Hole::between(first, start);
+        if end < last {
+            put_at(holes, place + 1, Hole::between(end, last));
+        }
+    } else if end < last {
+        holes[place] = Hole::between(end, last);
+    } else {
+        let _ = holes.remove(place);
+    }
 }

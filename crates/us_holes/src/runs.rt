@@ -54,9 +54,9 @@ impl Run {
         ensures { result ≡ lists.run_of one }
     {
         Run {
-            start: one.start,
-            len: one.slots,
-            owner: Some(one.owner),
+            start: one.start(),
+            len: one.slots(),
+            owner: Some(one.owner()),
         }
     }
 }
@@ -89,7 +89,7 @@ pub(crate) fn runs_of(
     let mut from = 0;
     for i in 0..assigned.len() {
         let one = assigned[i];
-        push_idle(&mut found, from, one.start)?;
+        push_idle(&mut found, from, one.start())?;
         found.push(Run::of(one))?;
         from = one.end();
     }

@@ -140,26 +140,26 @@ fn agree(alloc: Global, board: &mut Board, cells: &mut Cells, wish: Wish, number
     )
 }
 
-/// After how many of 30 wishes a board and a plain list tell the same.
-fn wishes_agree(alloc: Global, seed: &mut u32) -> usize {
-    let Ok(mut board) = Board::new(alloc, 64) else {
-        return 0;
-    };
+/// After how many of 30 wishes an idle board and a plain list tell the same.
+fn wishes_agree(alloc: Global, board: &mut Board, seed: &mut u32) -> usize {
     let mut cells = [0; 64];
     let mut count = 0usize;
     for number in 1..31u32 {
         let wish = wish_of(seed, number);
-        count = count.saturating_add(usize::from(agree(
-            alloc, &mut board, &mut cells, wish, number,
-        )));
+        count = count.saturating_add(usize::from(agree(alloc, board, &mut cells, wish, number)));
     }
     count
 }
 
+/// One board, which is cleared for each next row of wishes.
 #[test]
 fn plain_program_agrees(rt: HostRuntime) {
+    let Ok(mut board) = Board::new(rt.alloc(), 64) else {
+        return same(&rt, 0, 64);
+    };
     let mut seed = 1;
     for _ in 0..40u32 {
-        same(&rt, wishes_agree(rt.alloc(), &mut seed), 30);
+        same(&rt, wishes_agree(rt.alloc(), &mut board, &mut seed), 30);
+        board.clear();
     }
 }

@@ -16,8 +16,7 @@ cut-requires-clause-room c =
 
 pub returns-clause-by_rank : goal.returns-clause-by_rank
 returns-clause-by_rank c =
-    let start : c.one.inside.start ≡ c.args.one.start = ap (λ one. one.start) c.one.view_is in
-    let slots : c.one.inside.slots ≡ c.args.one.slots = ap (λ one. one.slots) c.one.view_is in
     let cut = rank_of_cut c.args.holes.now.items c.args.place c.args.one.start c.args.one.slots c.index-hole.result.now
     c.requires.has.inside (search rules) in
-    c.cut.ensures.items ∙ rw (c.requires.by_rank, c.cut-2.ensures.items, start, slots) cut
+    c.cut.ensures.items
+    ∙ rw (c.requires.by_rank, c.cut-2.ensures.items, c.start.ensures, c.slots.ensures, c.start-2.ensures, c.slots-2.ensures) cut
