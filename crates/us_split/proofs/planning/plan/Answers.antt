@@ -2,6 +2,7 @@ use Rattle.std.proofs.Common.{◌≡◌, ℕ, List, None, refl, ◌+◌, ◌++�
 use Rattle.std.specs.Prelude.{slice_index, sum}
 use Rattle.std.proofs.lemmas.List.{drop_all}
 use Rattle.us_flows.specs.Clusters.{Turn, turns_of}
+use Rattle.us_flows.specs.Lawful.{AreApart}
 use Rattle.us_flows.specs.declared.turns.Turn as places
 use Rattle.us_split.specs.Plans.{Planned, plan_of, plan_for, shares_of}
 use Rattle.us_split.specs.Shares.{with_shares, share_of}
@@ -9,7 +10,7 @@ use Rattle.us_split.specs.Grants.{IsTurnOf, IsGrant}
 use Rattle.us_split.proofs.GrantLemmas.{plan_step, grants_nothing}
 use Rattle.us_split.proofs.KeptLemmas.{share_of-kept}
 use Rattle.us_split.proofs.PlanLawLemmas.{shares_of-asked}
-use Rattle.us_split.proofs.TurnAtLemmas.{turn_of, no_turns, few_channels}
+use Rattle.us_split.proofs.TurnAtLemmas.{turn_of, no_turns, few_channels, channels_apart}
 use Rattle.us_split.proofs.planning.plan.Goals as goal
 use Rattle.us_split.proofs.planning.plan.Goals.{in-Some+in_ok-push-in-Some, in-None}
 
@@ -44,6 +45,13 @@ grant-requires-clause-few c =
     let turn = turn_of c.args.config.now c.turns-turns.result.now c.loop-place.place blank c.turns-turns.ensures.value c.loop-place-test.true in
     let few = few_channels c.args.config.now u.flow c.index-flows-turn.result c.turns-turns.ensures.lawful turn.within in
     subst (λ f. length f.channels ≤ 8) (sym (c.index-flows-turn.is ∙ ap (λ flows. get_or flows u.flow c.index-flows-turn.result) c.flows.ensures.value)) few
+
+pub grant-requires-clause-apart : goal.grant-requires-clause-apart
+grant-requires-clause-apart c =
+    let u : places.Turn = get_or c.turns-turns.result.now c.loop-place.place blank in
+    let turn = turn_of c.args.config.now c.turns-turns.result.now c.loop-place.place blank c.turns-turns.ensures.value c.loop-place-test.true in
+    let apart = channels_apart c.args.config.now u.flow c.index-flows-turn.result c.turns-turns.ensures.lawful turn.within in
+    subst (λ f. AreApart f.channels) (sym (c.index-flows-turn.is ∙ ap (λ flows. get_or flows u.flow c.index-flows-turn.result) c.flows.ensures.value)) apart
 
 -- what the ledger gave
 given : (c : goal.Joined-grant) → (turn : Turn) ×
