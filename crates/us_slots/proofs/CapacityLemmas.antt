@@ -108,5 +108,33 @@ room_most symbols bits few h =
     let product : symbols * bits ≤ 131072 * 6 = mul-le symbols bits 131072 6 few h in
     (omega arith, omega arith)
 
+-- Bytes whose own bits don't fit cost more than these minislots.
+pub bits_past : (t : Timing) (p : BurstProfile) (slots bytes : ℕ) → IsBurstProfile p →
+    (slots * symbols_per_minislot t - overhead_of p) * p.bits < 8 * bytes → slots < burst_cost t p bytes
+bits_past t p slots bytes lawful past = elim (cases_lt slots (burst_cost t p bytes)) [
+  | inl longer ↦ longer
+  | inr fits ↦
+      let bits : ℕ = (slots * symbols_per_minislot t - overhead_of p) * p.bits in
+      let room : coded_length p bytes ≤ bits / 8 = (within-burst_cost t p slots bytes lawful fits).1 in
+      absurd (omega (arith, room, (coded_length-bounds p bytes lawful).0))
+]
+
+-- The symbols of a short data grant are few.
+pub short_symbols : (t : Timing) (slots symbols : ℕ) → IsTiming t → slots ≤ 255 → symbols ≡ symbols_per_minislot t →
+    slots * symbols ≤ 1044480
+short_symbols t slots symbols timing few e =
+    let log2 : t.minislot_log2 + t.rate_log2 ≤ 12 = omega (arith, timing.longest_minislot, timing.highest_rate) in
+    let each : symbols_per_minislot t ≤ 2 ^ 12 = pow-le-pow_right (lit< tt) log2 in
+    let product : slots * symbols_per_minislot t ≤ 255 * 2 ^ 12 = mul-le slots (symbols_per_minislot t) 255 (2 ^ 12) few each in
+    rw e (omega arith)
+
+pub short_bits : (symbols bits : ℕ) → symbols ≤ 1044480 → bits ≤ 6 → symbols * bits < 2 ^ 32
+short_bits symbols bits few h =
+    let product : symbols * bits ≤ 1044480 * 6 = mul-le symbols bits 1044480 6 few h in
+    omega arith
+
+-- what the proof of `surely_past` rests on
+pub ruleset past_facts = (bits_past, short_symbols, short_bits)
+
 -- what the proof of `capacity` rests on
 pub ruleset capacity_facts = (is_capacity, capacity_value, symbols_most, room_most, sent_most)

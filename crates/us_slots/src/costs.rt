@@ -1,4 +1,4 @@
-ghost use Rattle.std.specs.Prelude.{◌≡◌, ℕ, ◌≤◌, ◌<◌};
+ghost use Rattle.std.specs.Prelude.{◌≡◌, ℕ, ◌≤◌, ◌<◌, IsTrue};
 ghost use Rattle.us_slots.specs.Bursts;
 ghost use Rattle.us_slots.specs.Bursts.{coded_length, burst_cost};
 
@@ -55,6 +55,19 @@ pub fn cost(time: &ChannelTime, profile: &Profile, bytes: u32) -> u32
     symbols.div_ceil(time.symbols_per_minislot())
 }
 
+/// Whether bytes, at most [`MAX_BURST_BYTES`], surely take more than so many minislots: their own bits do already,
+/// without a code.
+#[tactic(auto, using(crate::proofs::CapacityLemmas::past_facts))]
+fn surely_past(time: &ChannelTime, profile: &Profile, slots: u32, bytes: u32) -> bool
+    requires few { slots ≤ 255 }
+    requires bytes { bytes ≤ MAX_BURST_BYTES }
+    ensures { IsTrue result → slots < burst_cost time.now profile.now bytes }
+{
+    let overhead = u32::from(profile.preamble()) + u32::from(profile.guard());
+    let symbols = (slots * time.symbols_per_minislot()).saturating_sub(overhead);
+    symbols * u32::from(profile.bits()) < 8 * bytes
+}
+
 /// The minislots and the IUC of a data grant of `bytes` bytes, at most [`MAX_BURST_BYTES`]: short (IUC 9) where
 /// that takes at most the short maximum and at most what a long one takes, else long (IUC 10).
 pub fn grant_cost(set: &BurstSet, bytes: u32) -> (u32, Iuc)
@@ -63,9 +76,13 @@ pub fn grant_cost(set: &BurstSet, bytes: u32) -> (u32, Iuc)
     ensures positive { 0 < bytes → 0 < result.0 }
     ensures within_long { result.0 ≤ burst_cost set.now.time set.now.long bytes }
 {
-    let short = cost(set.time(), set.short(), bytes);
     let long = cost(set.time(), set.long(), bytes);
-    if short <= u32::from(set.short_max()) && short <= long {
+    let most = long.min(u32::from(set.short_max()));
+    if surely_past(set.time(), set.short(), most, bytes) {
+        return (long, Iuc::long_data_grant());
+    }
+    let short = cost(set.time(), set.short(), bytes);
+    if short <= most {
         (short, Iuc::short_data_grant())
     } else {
         (long, Iuc::long_data_grant())

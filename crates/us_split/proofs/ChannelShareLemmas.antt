@@ -16,7 +16,7 @@ first_place p x xs t =
     let within : nat_lt 0 (suc (length xs)) ≡ true = lt-ltb 0 (suc (length xs)) (omega arith) in
     rw (t, within) refl
 
-later_place : (p : ℕ → Bool) (x : ℕ) (xs : List ℕ) → p x ≡ false → position p (x ∷ xs) ≡ option_map suc (position p xs)
+pub later_place : (p : ℕ → Bool) (x : ℕ) (xs : List ℕ) → p x ≡ false → position p (x ∷ xs) ≡ option_map suc (position p xs)
 later_place p x xs f =
     let k : ℕ = position_or_len p xs in
     let next : 1 + k ≡ suc k = omega arith in
@@ -37,14 +37,14 @@ later_share share shares None = refl
 later_share share shares (Some k) = refl
 
 -- the share on the channel with an id, of shares on these channels
-abbrev share_for : List ℕ → List ℕ → Channel → ℕ
+abbrev pub share_for : List ℕ → List ℕ → Channel → ℕ
 share_for ids shares c = share_at shares (position (λ id. id == c.id) ids)
 
-first_share : (id share : ℕ) (ids shares : List ℕ) (c : Channel) → c.id ≡ id → share_for (id ∷ ids) (share ∷ shares) c ≡ share
+pub first_share : (id share : ℕ) (ids shares : List ℕ) (c : Channel) → c.id ≡ id → share_for (id ∷ ids) (share ∷ shares) c ≡ share
 first_share id share ids shares c same =
     ap (share_at (share ∷ shares)) (first_place (λ i. i == c.id) id ids (eq-eqb id c.id (sym same)))
 
-other_share : (id share : ℕ) (ids shares : List ℕ) (c : Channel) → c.id ≢ id →
+pub other_share : (id share : ℕ) (ids shares : List ℕ) (c : Channel) → c.id ≢ id →
     share_for (id ∷ ids) (share ∷ shares) c ≡ share_for ids shares c
 other_share id share ids shares c other =
     ap (share_at (share ∷ shares)) (later_place (λ i. i == c.id) id ids (ne_eqb id c.id (λ same. other (sym same)))) ∙

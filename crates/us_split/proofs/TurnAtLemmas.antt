@@ -5,7 +5,7 @@ use Rattle.std.proofs.lemmas.List.Elements.{All-from_recursion}
 use Rattle.us_flows.specs.Tables.{Tables, FlowTable}
 use Rattle.us_flows.specs.Clusters.{Turn, turns_of}
 use Rattle.us_flows.specs.Turns.{turn_at, in_flow}
-use Rattle.us_flows.specs.Lawful.{AreTables, IsFlow}
+use Rattle.us_flows.specs.Lawful.{AreApart, AreTables, IsFlow}
 use Rattle.us_flows.specs.declared.turns.Turn as places
 use Rattle.us_split.specs.Grants.{IsTurnOf}
 
@@ -92,3 +92,9 @@ pub few_channels : (t : Tables) (place : ℕ) (d : FlowTable) → AreTables t �
     length (get_or t.flows place d).channels ≤ 8
 few_channels t place d lawful within =
     (All-from_recursion (IsFlow t) t.flows lawful.flows place d within).some_channels.1
+
+-- which are apart
+pub channels_apart : (t : Tables) (place : ℕ) (d : FlowTable) → AreTables t → place < length t.flows →
+    AreApart (get_or t.flows place d).channels
+channels_apart t place d lawful within =
+    (All-from_recursion (IsFlow t) t.flows lawful.flows place d within).apart

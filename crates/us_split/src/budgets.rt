@@ -1,7 +1,9 @@
-ghost use Rattle.std.specs.Prelude.{◌≡◌, ℕ, ◌+◌, ◌-◌, ◌*◌, ◌==◌, ◌≤◌, length, map, position, slice_index, Some};
+ghost use Rattle.std.specs.Prelude.{◌≡◌, ℕ, ◌+◌, ◌-◌, ◌*◌, ◌≤◌, length, map, slice_index, Some, None, MatchOption};
 ghost use Rattle.us_slots.specs.Times.{minislot_ticks};
 ghost use Rattle.us_split.specs.Plans;
-ghost use Rattle.us_split.specs.Plans.{budget_of, weight, share_at, share_cost};
+ghost use Rattle.us_flows.specs.Lawful.{AreApart};
+ghost use Rattle.us_split.specs.Plans.{budget_of, weight, share_cost};
+ghost use Rattle.us_split.specs.Grants.{IsPlaceOf, lowered_at, lowered_on};
 
 use std::marker::Model;
 use us_flows::Channel;
@@ -68,40 +70,50 @@ impl Budget {
             self.slots = self.slots.saturating_sub(minislots);
         }
     }
+}
 
-    /// Takes off what the share on this channel costs, of shares on these channels.
-    #[tactic(auto, using(crate::proofs::BudgetLemmas::share_fits))]
-    fn lower_on(&mut self, channels: &[u8], header: u32, shares: &[u32])
-        requires same_length { length shares.now ≡ length channels.now }
-        requires header { header ≤ 8 }
-        requires bursts { (k : ℕ) → slice_index shares.now k + header ≤ 98304 }
-        ensures { let lower : Plans.Budget = record {
-          channel = self.old.channel;
-          slots = self.old.slots -
-              share_cost self.old.channel header
-              (share_at shares.now (position (λ channel. channel == self.old.channel.id) channels.now));
-        } in self.new ≡ lower }
-    {
-        self.lower(header, share_on(channels, shares, self.id()));
+/// Where the budget of the channel with this id stands. Ids mostly follow one another in table order, so that place is
+/// tried first.
+fn place_of(budgets: &[Budget], id: u8) -> Option<usize>
+    ensures { MatchOption result (budget_of budgets.now id ≡ None) (IsPlaceOf budgets.now id) }
+{
+    if let Some(first) = budgets.first() {
+        let place = usize::from(id.saturating_sub(first.id()));
+        if place < budgets.len() && budgets[place].id() == id {
+            return Some(place);
+        }
     }
+    searched(budgets, id)
+}
+
+/// Where the budget of the channel with this id stands, looked for among all.
+fn searched(budgets: &[Budget], id: u8) -> Option<usize>
+    ensures { MatchOption result (budget_of budgets.now id ≡ None) (IsPlaceOf budgets.now id) }
+{
+    for (place, budget) in budgets.iter().enumerate() {
+        if budget.id() == id {
+            return Some(place);
+        }
+    }
+    None
 }
 
 /// The most bytes that the channel with this id can carry behind a header; 0 where there is no such channel.
 fn weight_of(budgets: &[Budget], id: u8, header: u32) -> u32
-    requires { header ≤ 8 }
+    requires apart { AreApart (map (λ b. b.channel.id) budgets.now) }
+    requires header { header ≤ 8 }
     ensures value { result ≡ weight header (budget_of budgets.now id) }
     ensures burst { result + header ≤ 98304 }
 {
-    for budget in budgets {
-        if budget.id() == id {
-            return budget.weight(header);
-        }
+    match place_of(budgets, id) {
+        Some(place) => budgets[place].weight(header),
+        None => 0,
     }
-    0
 }
 
 /// Writes the most bytes that each channel can carry behind a header.
 pub(crate) fn weigh(budgets: &[Budget], channels: &[u8], header: u32, weights: &mut [u32])
+    requires apart { AreApart (map (λ b. b.channel.id) budgets.now) }
     requires same_length { length weights.old ≡ length channels.now }
     requires header { header ≤ 8 }
     ensures value { weights.new ≡ map (λ id. weight header (budget_of budgets.now id)) channels.now }
@@ -112,37 +124,26 @@ pub(crate) fn weigh(budgets: &[Budget], channels: &[u8], header: u32, weights: &
     }
 }
 
-/// The share on the channel with this id; 0 where the flow has no such channel.
-fn share_on(channels: &[u8], shares: &[u32], id: u8) -> u32
-    requires { length shares.now ≡ length channels.now }
-    ensures { result ≡ share_at shares.now (position (λ channel. channel == id) channels.now) }
+/// Lowers the budget of the channel with this id by what a share on it costs behind a header.
+fn lower_one(budgets: &mut [Budget], id: u8, header: u32, share: u32)
+    requires apart { AreApart (map (λ b. b.channel.id) budgets.old) }
+    requires burst { share + header ≤ 98304 }
+    ensures { budgets.new ≡ map (lowered_at id header share) budgets.old }
 {
-    match place_of(channels, id) {
-        Some(place) => shares[place],
-        None => 0,
+    if let Some(place) = place_of(budgets, id) {
+        budgets[place].lower(header, share);
     }
 }
 
-/// Where a channel stands among these.
-fn place_of(channels: &[u8], id: u8) -> Option<usize>
-    ensures { result ≡ position (λ channel. channel == id) channels.now }
-{
-    channels.iter().position(|channel| *channel == id)
-}
-
-/// Lowers each budget by what the share on its channel costs behind a header.
+/// Lowers the budget of each of these channels by what the share on it costs behind a header.
 pub(crate) fn lower_all(budgets: &mut [Budget], channels: &[u8], header: u32, shares: &[u32])
+    requires apart { AreApart (map (λ b. b.channel.id) budgets.old) }
+    requires channels_apart { AreApart channels.now }
     requires same_length { length shares.now ≡ length channels.now }
-    requires header { header ≤ 8 }
     requires bursts { (k : ℕ) → slice_index shares.now k + header ≤ 98304 }
-    ensures { let lower : Plans.Budget → Plans.Budget = λ b. record {
-      channel = b.channel;
-      slots = b.slots -
-          share_cost b.channel header
-          (share_at shares.now (position (λ channel. channel == b.channel.id) channels.now));
-    } in budgets.new ≡ map lower budgets.old }
+    ensures { budgets.new ≡ map (lowered_on channels.now header shares.now) budgets.old }
 {
-    for budget in budgets.iter_mut() {
-        budget.lower_on(channels, header, shares);
+    for i in 0..channels.len() {
+        lower_one(budgets, channels[i], header, shares[i]);
     }
 }

@@ -1,6 +1,7 @@
 ghost use Rattle.std.specs.Prelude.{◌≡◌, ℕ, List, ◌+◌, ◌-◌, ◌<◌, ◌≤◌, length, map, set, sum, zip, slice_index, slice_index_or, Option, None, option_map, IfOk, MatchOption};
 ghost use Rattle.us_flows.specs.Tables.{FlowTable};
 ghost use Rattle.us_flows.specs.declared.channels.Channel.{Channel};
+ghost use Rattle.us_flows.specs.Lawful.{AreApart};
 ghost use Rattle.us_flows.specs.Clusters;
 ghost use Rattle.us_split.specs.Divisions.{divided};
 ghost use Rattle.us_split.specs.Plans;
@@ -27,6 +28,8 @@ impl Model for Ledger {
     ghost Value = { Plans.Ledger };
 
     ghost view = { λ l. record { budgets = l.budgets.items; allowances = l.allowances.items } };
+
+    ghost invariant = { λ l. AreApart (map (λ b. b.channel.id) l.budgets.items) };
 }
 
 /// Gives both lists up. It is written out so that it is one step wherever a ledger ends.
@@ -63,6 +66,7 @@ impl Ledger {
     pub(crate) fn grant(&mut self, outstanding: u64, place: usize, flow: &Flow) -> Option<Row>
         requires place { place < length self.old.allowances }
         requires few { length flow.now.channels ≤ 8 }
+        requires apart { AreApart flow.now.channels }
         ensures value { (turn : Clusters.Turn) (all : List ℕ) → IsTurnOf place flow.now turn →
             slice_index all turn.number ≡ outstanding →
             IsGrant result self.new self.old (record { turn = turn; shares = shares_of all self.old turn }) }
@@ -95,7 +99,8 @@ impl Ledger {
 
     /// The minislots of each channel.
     fn budgets(&self) -> &[Budget]
-        ensures { result.now ≡ self.now.budgets }
+        ensures value { result.now ≡ self.now.budgets }
+        ensures apart { AreApart (map (λ b. b.channel.id) self.now.budgets) }
     {
         &self.budgets
     }
@@ -113,6 +118,7 @@ impl Ledger {
 
     /// Takes off the minislots that shares of a flow cost.
     fn lower(&mut self, flow: &Flow, shares: &Row)
+        requires apart { AreApart flow.now.channels }
         requires bursts { (k : ℕ) → slice_index shares.now k + header_bytes flow.now ≤ 98304 }
         requires one_each { length shares.now ≡ length flow.now.channels }
         ensures budgets { self.new.budgets ≡ lowered_by flow.now shares.now self.old.budgets }
@@ -150,8 +156,9 @@ fn header_of(flow: &Flow) -> u32
 /// The idle minislots of each channel.
 fn budgets_of(alloc: Global, config: &Config, idle: &[u32]) -> Result<Vec<Budget>, NoMemory>
     requires { IsIdle config.now idle.now }
-    ensures { let budget : Channel × ℕ → Plans.Budget = λ pair. record { channel = pair.0; slots = pair.1 } in
+    ensures value { let budget : Channel × ℕ → Plans.Budget = λ pair. record { channel = pair.0; slots = pair.1 } in
         IfOk result (λ budgets. budgets.items ≡ map budget (zip config.now.channels idle.now)) }
+    ensures apart { IfOk result (λ budgets. AreApart (map (λ b. b.channel.id) budgets.items)) }
 {
     let mut budgets = Vec::new(alloc);
     for (place, channel) in config.channels().iter().enumerate() {

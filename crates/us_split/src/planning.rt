@@ -46,8 +46,12 @@ pub fn plan(
     let mut ledger = Ledger::new(alloc, config, allowances, idle)?;
     let mut plan = Plan::new(alloc);
     for (place, turn) in turns.iter().enumerate() {
+        let bytes = outstanding[turn.cluster];
+        if bytes == 0 {
+            continue;
+        }
         let flow = &config.flows()[turn.flow];
-        match ledger.grant(outstanding[turn.cluster], turn.flow, flow) {
+        match ledger.grant(bytes, turn.flow, flow) {
             Some(shares) => plan.push(TurnShares::new(place, shares))?,
             None => {}
         }

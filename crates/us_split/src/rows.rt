@@ -1,5 +1,6 @@
 ghost use Rattle.std.specs.Prelude.{◌≡◌, ℕ, ◌+◌, ◌≤◌, length, map, take, slice_index, sum, List};
 ghost use Rattle.std.specs.List.{AllByRecursion};
+ghost use Rattle.us_flows.specs.Lawful.{AreApart};
 ghost use Rattle.us_split.specs.Divisions.{divided};
 ghost use Rattle.us_split.specs.Plans.{budget_of, weight};
 
@@ -40,6 +41,7 @@ impl Row {
 
     /// The bytes that each channel can carry behind a header.
     pub(crate) fn weights(budgets: &[Budget], channels: &[u8], header: u32) -> Row
+        requires apart { AreApart (map (λ b. b.channel.id) budgets.now) }
         requires few { length channels.now ≤ 8 }
         requires header { header ≤ 8 }
         ensures value { result ≡ map (λ id. weight header (budget_of budgets.now id)) channels.now }

@@ -1,15 +1,13 @@
-use Rattle.std.proofs.Common.{◌≡◌, ◌-◌, ◌==◌, ◌++◌, take, drop, map}
-use Rattle.std.specs.Prelude.{position}
-use Rattle.us_split.specs.Plans.{Budget, share_at, share_cost}
+use Rattle.std.proofs.Common.{◌≡◌, drop, map}
+use Rattle.us_flows.specs.Lawful.{AreApart}
+use Rattle.us_split.specs.Grants.{lowered_on}
 use Rattle.us_split.proofs.budgets.lower_all.Given as goal
 
--- the budgets so far are lowered
-abbrev pub invariant-loop-budget : goal.invariant-loop-budget
-invariant-loop-budget l =
-    let lower : Budget → Budget = λ b. record {
-      channel = b.channel;
-      slots = b.slots -
-          share_cost b.channel l.header
-          (share_at l.shares (position (λ channel. channel == b.channel.id) l.channels));
-    } in
-    l.budgets ≡ map lower (take l.budget-index l.fn.budgets) ++ drop l.budget-index l.fn.budgets
+-- the shares on the other channels are still to be taken off
+abbrev pub invariant-loop-i : goal.invariant-loop-i
+invariant-loop-i l = record {
+  lowered : map (lowered_on (drop l.i l.channels) l.header (drop l.i l.shares)) l.budgets ≡
+      map (lowered_on l.channels l.header l.shares) l.fn.budgets;
+  apart : AreApart (map (λ b. b.channel.id) l.budgets);
+  others : AreApart (drop l.i l.channels);
+}

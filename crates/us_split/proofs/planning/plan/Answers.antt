@@ -1,14 +1,16 @@
-use Rattle.std.proofs.Common.{◌≡◌, List, ◌+◌, ◌++◌, [], ◌∷◌, ◌≤◌, length, drop, get_or, MatchOption, ap, ap₂, ◌∙◌, sym, subst, append-nil, arith}
-use Rattle.std.specs.Prelude.{slice_index}
+use Rattle.std.proofs.Common.{◌≡◌, ℕ, List, None, refl, ◌+◌, ◌++◌, [], ◌∷◌, ◌≤◌, length, drop, get_or, MatchOption, ap, ap₂, ◌∙◌, sym, subst, append-nil, arith}
+use Rattle.std.specs.Prelude.{slice_index, sum}
 use Rattle.std.proofs.lemmas.List.{drop_all}
 use Rattle.us_flows.specs.Clusters.{Turn, turns_of}
+use Rattle.us_flows.specs.Lawful.{AreApart}
 use Rattle.us_flows.specs.declared.turns.Turn as places
 use Rattle.us_split.specs.Plans.{Planned, plan_of, plan_for, shares_of}
 use Rattle.us_split.specs.Shares.{with_shares, share_of}
 use Rattle.us_split.specs.Grants.{IsTurnOf, IsGrant}
-use Rattle.us_split.proofs.GrantLemmas.{plan_step}
+use Rattle.us_split.proofs.GrantLemmas.{plan_step, grants_nothing}
 use Rattle.us_split.proofs.KeptLemmas.{share_of-kept}
-use Rattle.us_split.proofs.TurnAtLemmas.{turn_of, no_turns, few_channels}
+use Rattle.us_split.proofs.PlanLawLemmas.{shares_of-asked}
+use Rattle.us_split.proofs.TurnAtLemmas.{turn_of, no_turns, few_channels, channels_apart}
 use Rattle.us_split.proofs.planning.plan.Goals as goal
 use Rattle.us_split.proofs.planning.plan.Goals.{in-Some+in_ok-push-in-Some, in-None}
 
@@ -44,6 +46,13 @@ grant-requires-clause-few c =
     let few = few_channels c.args.config.now u.flow c.index-flows-turn.result c.turns-turns.ensures.lawful turn.within in
     subst (λ f. length f.channels ≤ 8) (sym (c.index-flows-turn.is ∙ ap (λ flows. get_or flows u.flow c.index-flows-turn.result) c.flows.ensures.value)) few
 
+pub grant-requires-clause-apart : goal.grant-requires-clause-apart
+grant-requires-clause-apart c =
+    let u : places.Turn = get_or c.turns-turns.result.now c.loop-place.place blank in
+    let turn = turn_of c.args.config.now c.turns-turns.result.now c.loop-place.place blank c.turns-turns.ensures.value c.loop-place-test.true in
+    let apart = channels_apart c.args.config.now u.flow c.index-flows-turn.result c.turns-turns.ensures.lawful turn.within in
+    subst (λ f. AreApart f.channels) (sym (c.index-flows-turn.is ∙ ap (λ flows. get_or flows u.flow c.index-flows-turn.result) c.flows.ensures.value)) apart
+
 -- what the ledger gave
 given : (c : goal.Joined-grant) → (turn : Turn) ×
     (drop c.loop-place.place (turns_of c.args.config.now) ≡ turn ∷ drop (c.loop-place.place + 1) (turns_of c.args.config.now)) ×
@@ -66,6 +75,21 @@ kept c = elim c.match-grant.branch [
       subst (λ o. MatchOption o (c.match-grant.plan ≡ c.loop-place.plan) (λ shares. c.match-grant.plan ≡ c.loop-place.plan ++ record { turn = c.loop-place.place; shares = shares } ∷ [])) (sym w.in-None.is)
       w.plan-is
 ]
+
+-- a cluster of which nothing is outstanding gets nothing
+pub loop-place-preserved-then-bytes-eq0 : goal.loop-place-preserved-then-bytes-eq0
+loop-place-preserved-then-bytes-eq0 c =
+    let turn = turn_of c.args.config.now c.turns-turns.result.now c.loop-place.place blank c.turns-turns.ensures.value c.loop-place-test.true in
+    let planned : Planned = record { turn = turn.turn; shares = shares_of c.args.outstanding.now c.loop-place.ledger turn.turn } in
+    let asked = ap (slice_index c.args.outstanding.now) turn.number in
+    let none : sum planned.shares ≡ 0 = omega (arith, shares_of-asked c.args.outstanding.now c.loop-place.ledger turn.turn, asked, c.if-bytes-eq0.true) in
+    let step = plan_step c.args.outstanding.now c.loop-place.ledger c.loop-place.ledger turn.turn (drop (c.loop-place.place + 1) (turns_of c.args.config.now)) c.loop-place.place None c.loop-place.plan c.loop-place.plan (grants_nothing c.loop-place.ledger planned none) refl in
+    record {
+      shares = step ∙
+          ap (λ rest. c.loop-place.plan ++ with_shares c.loop-place.place (plan_of c.args.outstanding.now c.loop-place.ledger rest)) (sym turn.rest) ∙
+          c.loop-place.invariant.shares;
+      flows = c.loop-place.invariant.flows;
+    }
 
 pub loop-place-preserved : goal.loop-place-preserved
 loop-place-preserved c =

@@ -11,7 +11,7 @@ unfolding weights
 weighed c =
     c.weights-weights.ensures.value ∙
     ap (λ h. map (λ id. weight h (budget_of c.budgets.result.now id)) c.channels.result.now) c.header_of.ensures.value ∙
-    ap₂ (λ bs ids. map (λ id. weight (header_bytes c.args.flow.now) (budget_of bs id)) ids) c.budgets.ensures c.channels.ensures.value
+    ap₂ (λ bs ids. map (λ id. weight (header_bytes c.args.flow.now) (budget_of bs id)) ids) c.budgets.ensures.value c.channels.ensures.value
 
 pub returns-clause-value : goal.returns-clause-value
 returns-clause-value c = c.divided.ensures.value ∙ ap (divided c.args.bytes) (weighed c)
