@@ -3,7 +3,7 @@ ghost use Rattle.us_codec.specs.Bodies.{spelling};
 ghost use Rattle.us_codec.specs.MapsFiles.{Piece, record_bytes};
 ghost use Rattle.us_replay.specs.Files.{records, lines};
 
-use crate::lines::push_line;
+use crate::lines::{LINE_BYTES, push_line};
 use us_codec::{MAX_BODY_BYTES, Map, encode_into};
 use us_round::{RoundOut, Row};
 use us_slots::NoMemory;
@@ -48,8 +48,9 @@ fn push_record(text: &mut Vec<u8>, round: u32, body: &[u8]) -> Result<(), NoMemo
 pub(crate) fn push_lines(text: &mut Vec<u8>, rows: &[Row]) -> Result<(), NoMemory>
     ensures { OnOk result (text.new.items ≡ text.old.items ++ lines rows.now) }
 {
+    let mut line = [0; LINE_BYTES];
     for row in rows {
-        push_line(text, row)?;
+        push_line(text, &mut line, row)?;
     }
     Ok(())
 }

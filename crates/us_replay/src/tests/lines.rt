@@ -1,5 +1,4 @@
 use super::base::same;
-use crate::lines::push_line;
 use crate::texts::push_lines;
 use crate::{Entry, Row, RunFault};
 use std::alloc::Global;
@@ -83,7 +82,7 @@ fn text_of_rows(alloc: Global) -> Result<Vec<u8>, NoMemory> {
             i: 4,
             k: 5,
         };
-        push_line(&mut text, &row)?;
+        push_lines(&mut text, &[row])?;
     }
     Ok(text)
 }
