@@ -15,20 +15,6 @@ const FEED: usize = LINE_BYTES - 1;
 /// The most bytes of a comma and a number: the greatest has twenty digits.
 const FIELD_BYTES: usize = 21;
 
-/// The word of an entry.
-fn word(entry: Entry) -> &'static str
-    ensures value { result.now ≡ spec.entry_word entry }
-    ensures short { length result.now ≤ 7 }
-{
-    match entry {
-        Entry::Unsolicited => "ugs",
-        Entry::RealTimePoll => "rtp",
-        Entry::NonRealTimePoll => "nrtp",
-        Entry::Station => "station",
-        Entry::Requested => "req",
-    }
-}
-
 /// Adds a row's line, with its line feed. What stood in `line` doesn't matter: the line is put together there from its last
 /// byte to its first, as digits are found, and then copied once.
 pub(crate) fn push_line(
@@ -115,7 +101,7 @@ fn put_event(
         (spec.entry_word entry ++ (spec.numbers numbers.now ++ drop FEED line.old)))) }
 {
     let end = put_numbers(line, FEED, numbers);
-    let end = put_word(line, end, word(entry));
+    let end = put_entry(line, end, entry);
     put_front(line, end, letter, place)
 }
 
@@ -140,6 +126,23 @@ fn put_units(line: &mut [u8; LINE_BYTES], units: Option<u64>) -> usize
     match units {
         Some(units) => put_number(line, FEED, units),
         None => put_word(line, FEED, "-"),
+    }
+}
+
+/// Puts a comma and the word of an entry before what stands from `end` on.
+fn put_entry(line: &mut [u8; LINE_BYTES], end: usize, entry: Entry) -> usize
+    requires room { 8 ≤ end }
+    requires end { end ≤ LINE_BYTES }
+    ensures start { result ≤ end }
+    ensures size { end ≤ result + 8 }
+    ensures line { drop result line.new ≡ 44 ∷ (spec.entry_word entry ++ drop end line.old) }
+{
+    match entry {
+        Entry::Unsolicited => put_word(line, end, "ugs"),
+        Entry::RealTimePoll => put_word(line, end, "rtp"),
+        Entry::NonRealTimePoll => put_word(line, end, "nrtp"),
+        Entry::Station => put_word(line, end, "station"),
+        Entry::Requested => put_word(line, end, "req"),
     }
 }
 
@@ -181,8 +184,22 @@ fn put_number(line: &mut [u8; LINE_BYTES], end: usize, number: u64) -> usize
     ensures size { end ≤ result + FIELD_BYTES }
     ensures line { drop result line.new ≡ 44 ∷ (decimal number ++ drop end line.old) }
 {
-    let start = itoa::write_digits(number, line, end);
+    let start = put_digits(line, end, number);
     put_byte(line, start, b',')
+}
+
+/// Puts a number in decimal before what stands from `end` on. Many numbers of a line have one digit, and are found first.
+fn put_digits(line: &mut [u8; LINE_BYTES], end: usize, number: u64) -> usize
+    requires room { FIELD_BYTES ≤ end }
+    requires end { end ≤ LINE_BYTES }
+    ensures start { result < end }
+    ensures size { end < result + FIELD_BYTES }
+    ensures line { drop result line.new ≡ decimal number ++ drop end line.old }
+{
+    if number < 10 {
+        return put_byte(line, end, b'0' + number as u8);
+    }
+    itoa::write_digits(number, line, end)
 }
 
 /// Puts a byte before what stands from `end` on.
