@@ -15,6 +15,20 @@ const FEED: usize = LINE_BYTES - 1;
 /// The most bytes of a comma and a number: the greatest has twenty digits.
 const FIELD_BYTES: usize = 21;
 
+/// The word of an entry.
+fn word(entry: Entry) -> &'static str
+    ensures value { result.now ≡ spec.entry_word entry }
+    ensures short { length result.now ≤ 7 }
+{
+    match entry {
+        Entry::Unsolicited => "ugs",
+        Entry::RealTimePoll => "rtp",
+        Entry::NonRealTimePoll => "nrtp",
+        Entry::Station => "station",
+        Entry::Requested => "req",
+    }
+}
+
 /// Adds a row's line, with its line feed. What stood in `line` doesn't matter: the line is put together there from its last
 /// byte to its first, as digits are found, and then copied once.
 pub(crate) fn push_line(
@@ -101,7 +115,7 @@ fn put_event(
         (spec.entry_word entry ++ (spec.numbers numbers.now ++ drop FEED line.old)))) }
 {
     let end = put_numbers(line, FEED, numbers);
-    let end = put_entry(line, end, entry);
+    let end = put_word(line, end, word(entry));
     put_front(line, end, letter, place)
 }
 
@@ -126,23 +140,6 @@ fn put_units(line: &mut [u8; LINE_BYTES], units: Option<u64>) -> usize
     match units {
         Some(units) => put_number(line, FEED, units),
         None => put_word(line, FEED, "-"),
-    }
-}
-
-/// Puts a comma and the word of an entry before what stands from `end` on.
-fn put_entry(line: &mut [u8; LINE_BYTES], end: usize, entry: Entry) -> usize
-    requires room { 8 ≤ end }
-    requires end { end ≤ LINE_BYTES }
-    ensures start { result ≤ end }
-    ensures size { end ≤ result + 8 }
-    ensures line { drop result line.new ≡ 44 ∷ (spec.entry_word entry ++ drop end line.old) }
-{
-    match entry {
-        Entry::Unsolicited => put_word(line, end, "ugs"),
-        Entry::RealTimePoll => put_word(line, end, "rtp"),
-        Entry::NonRealTimePoll => put_word(line, end, "nrtp"),
-        Entry::Station => put_word(line, end, "station"),
-        Entry::Requested => put_word(line, end, "req"),
     }
 }
 
@@ -176,7 +173,8 @@ fn put_numbers(line: &mut [u8; LINE_BYTES], end: usize, numbers: &[u64]) -> usiz
     start
 }
 
-/// Puts a comma and a number in decimal before what stands from `end` on.
+/// Puts a comma and a number in decimal before what stands from `end` on. Inlined, as its call costs about as much as itself.
+#[inline(always)]
 fn put_number(line: &mut [u8; LINE_BYTES], end: usize, number: u64) -> usize
     requires room { FIELD_BYTES ≤ end }
     requires end { end ≤ LINE_BYTES }
@@ -189,6 +187,7 @@ fn put_number(line: &mut [u8; LINE_BYTES], end: usize, number: u64) -> usize
 }
 
 /// Puts a number in decimal before what stands from `end` on. Many numbers of a line have one digit, and are found first.
+#[inline(always)]
 fn put_digits(line: &mut [u8; LINE_BYTES], end: usize, number: u64) -> usize
     requires room { FIELD_BYTES ≤ end }
     requires end { end ≤ LINE_BYTES }
