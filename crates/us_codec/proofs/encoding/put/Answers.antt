@@ -1,4 +1,4 @@
-use Rattle.std.proofs.Common.{◌≡◌, ◌∷◌, [], get_or, refl, arith}
+use Rattle.std.proofs.Common.{get_or, arith}
 use Rattle.us_codec.proofs.PutLemmas.{four-put, four-bytes}
 use Rattle.us_codec.proofs.encoding.put.Goals as goal
 
