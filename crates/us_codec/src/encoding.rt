@@ -1,4 +1,4 @@
-ghost use Rattle.std.specs.Prelude.{◌≡◌, ◌+◌, ◌*◌, ◌≤◌, ◌++◌, length, take, drop};
+ghost use Rattle.std.specs.Prelude.{◌≡◌, ◌+◌, ◌*◌, ◌<◌, ◌≤◌, ◌∷◌, ◌++◌, length, take, drop};
 ghost use Rattle.us_codec.specs.Bodies.{MapBody, IsMapBody, front, spelling};
 
 use crate::elements::ELEMENT_BYTES;
@@ -27,7 +27,7 @@ pub fn encode_into(map: &Map, out: &mut [u8; MAX_BODY_BYTES]) -> usize
     put_front(out, map.head(), elements.len() as u8);
     let mut at = HEAD_BYTES;
     for element in elements {
-        put(out, at, &element.word().to_be_bytes());
+        put(out, at, element.word().to_be_bytes());
         at += ELEMENT_BYTES;
     }
     at
@@ -38,16 +38,29 @@ fn put_front(out: &mut [u8], head: &Head, count: u8)
     requires { HEAD_BYTES ≤ length out.old }
     ensures { out.new ≡ front head.now count ++ drop HEAD_BYTES out.old }
 {
-    put(out, 0, &[head.channel, head.ucd_count, count, 0]);
-    put(out, 4, &head.alloc_start.to_be_bytes());
-    put(out, 8, &head.ack.to_be_bytes());
-    put(out, 12, &head.backoffs);
+    put(out, 0, [head.channel, head.ucd_count, count, 0]);
+    put(out, 4, head.alloc_start.to_be_bytes());
+    put(out, 8, head.ack.to_be_bytes());
+    put(out, 12, head.backoffs);
 }
 
-/// Puts `bytes` into `out` from `at` on.
-fn put(out: &mut [u8], at: usize, bytes: &[u8])
-    requires { at + length bytes.now ≤ length out.old }
-    ensures { out.new ≡ take at out.old ++ bytes.now ++ drop (at + length bytes.now) out.old }
+/// Puts four bytes into `out` from `at` on, one by one: so they are stored at once, where a copy of a slice would first ask
+/// whether the two overlap.
+fn put(out: &mut [u8], at: usize, bytes: [u8; 4])
+    requires { at + 4 ≤ length out.old }
+    ensures { out.new ≡ take at out.old ++ bytes ++ drop (at + length bytes) out.old }
 {
-    out[at..at + bytes.len()].copy_from_slice(bytes);
+    let [first, second, third, fourth] = bytes;
+    put_byte(out, at, first);
+    put_byte(out, at + 1, second);
+    put_byte(out, at + 2, third);
+    put_byte(out, at + 3, fourth);
+}
+
+/// Puts a byte into `out` at `at`.
+fn put_byte(out: &mut [u8], at: usize, byte: u8)
+    requires { at < length out.old }
+    ensures { out.new ≡ take at out.old ++ (byte ∷ drop (at + 1) out.old) }
+{
+    out[at] = byte;
 }

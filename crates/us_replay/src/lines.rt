@@ -1,13 +1,24 @@
-ghost use Rattle.std.specs.Prelude.{◌≡◌, ◌∷◌, ◌++◌, OnOk};
+ghost use Rattle.std.specs.Prelude.{◌≡◌, ◌+◌, ◌*◌, ◌<◌, ◌≤◌, [], ◌∷◌, ◌++◌, length, drop, OnOk};
 ghost use Rattle.std.specs.Fmt.{decimal};
 ghost use Rattle.us_replay.specs.Lines as spec;
 
 use std::alloc::AllocError;
 use us_round::{Entry, Row};
 
+/// The bytes in which a line is put together, more than any line has: a letter, ten numbers, a word of seven letters behind a
+/// comma and the line feed are 220.
+pub(crate) const LINE_BYTES: usize = 256;
+
+/// Where the line feed stands.
+const FEED: usize = LINE_BYTES - 1;
+
+/// The most bytes of a comma and a number: the greatest has twenty digits.
+const FIELD_BYTES: usize = 21;
+
 /// The word of an entry.
 fn word(entry: Entry) -> &'static str
-    ensures { result.now ≡ spec.entry_word entry }
+    ensures value { result.now ≡ spec.entry_word entry }
+    ensures short { length result.now ≤ 7 }
 {
     match entry {
         Entry::Unsolicited => "ugs",
@@ -18,11 +29,26 @@ fn word(entry: Entry) -> &'static str
     }
 }
 
-/// Adds a row's line, with its line feed. Without memory a front of the line may be left.
-pub(crate) fn push_line(text: &mut Vec<u8>, row: &Row) -> Result<(), AllocError>
+/// Adds a row's line, with its line feed. What stood in `line` doesn't matter: the line is put together there from its last
+/// byte to its first, as digits are found, and then copied once.
+pub(crate) fn push_line(
+    text: &mut Vec<u8>,
+    line: &mut [u8; LINE_BYTES],
+    row: &Row,
+) -> Result<(), AllocError>
     ensures { OnOk result (text.new.items ≡ text.old.items ++ spec.text_of row.now) }
 {
-    let pushed = match *row {
+    let start = put_line(line, row);
+    text.extend_from_slice(&line[start..])
+}
+
+/// Puts a row's line, with its line feed, to the end of `line`, and answers where it begins.
+fn put_line(line: &mut [u8; LINE_BYTES], row: &Row) -> usize
+    ensures start { result ≤ LINE_BYTES }
+    ensures line { drop result line.new ≡ spec.text_of row.now }
+{
+    put_feed(line);
+    match *row {
         Row::Granted {
             round,
             channel,
@@ -35,9 +61,9 @@ pub(crate) fn push_line(text: &mut Vec<u8>, row: &Row) -> Result<(), AllocError>
             start,
             slots,
             credit,
-        } => push_event(
-            text,
-            b"G",
+        } => put_event(
+            line,
+            b'G',
             &[round, channel],
             entry,
             &[id, i, k, sid, iuc, start, slots, credit],
@@ -49,97 +75,140 @@ pub(crate) fn push_line(text: &mut Vec<u8>, row: &Row) -> Result<(), AllocError>
             id,
             i,
             k,
-        } => push_event(text, b"M", &[round, channel], entry, &[id, i, k]),
+        } => put_event(line, b'M', &[round, channel], entry, &[id, i, k]),
         Row::Final {
             flow,
             cluster,
             outstanding,
             units,
-        } => push_final(text, &[flow, cluster, outstanding], units),
+        } => {
+            let end = put_units(line, units);
+            put_front(line, end, b'F', &[flow, cluster, outstanding])
+        }
         Row::Counts {
             unknown,
             not_requestable,
             late,
-        } => push_counts(text, &[unknown, not_requestable, late]),
-    };
-    pushed?;
-    text.extend_from_slice(b"\n")
+        } => put_front(line, FEED, b'U', &[unknown, not_requestable, late]),
+    }
 }
 
-/// Adds a G or M line without its line feed: its letter, round and channel, its entry, and numbers.
-fn push_event(
-    text: &mut Vec<u8>,
-    letter: &[u8],
+/// Puts the line feed.
+fn put_feed(line: &mut [u8; LINE_BYTES])
+    ensures { drop FEED line.new ≡ 10 ∷ [] }
+{
+    put_byte(line, LINE_BYTES, b'\n');
+}
+
+/// Puts a G or M line before its line feed: its letter, round and channel, its entry, and numbers.
+fn put_event(
+    line: &mut [u8; LINE_BYTES],
+    letter: u8,
     place: &[u64],
     entry: Entry,
     numbers: &[u64],
-) -> Result<(), AllocError>
-    ensures { OnOk result (text.new.items ≡ text.old.items ++ (letter.now ++
-        (spec.numbers place.now ++ (44 ∷ (spec.entry_word entry ++ spec.numbers numbers.now))))) }
+) -> usize
+    requires place { length place.now ≤ 3 }
+    requires numbers { length numbers.now ≤ 8 }
+    ensures start { result ≤ LINE_BYTES }
+    ensures line { drop result line.new ≡ letter ∷ (spec.numbers place.now ++ (44 ∷
+        (spec.entry_word entry ++ (spec.numbers numbers.now ++ drop FEED line.old)))) }
 {
-    push_front(text, letter, place, word(entry))?;
-    push_numbers(text, numbers)
+    let end = put_numbers(line, FEED, numbers);
+    let end = put_word(line, end, word(entry));
+    put_front(line, end, letter, place)
 }
 
-/// Adds an F line without its line feed.
-fn push_final(text: &mut Vec<u8>, numbers: &[u64], units: Option<u64>) -> Result<(), AllocError>
-    ensures { OnOk result (text.new.items ≡
-        text.old.items ++ (70 ∷ (spec.numbers numbers.now ++ (44 ∷ spec.units_text units)))) }
+/// Puts the letter of a line and numbers before what stands from `end` on.
+fn put_front(line: &mut [u8; LINE_BYTES], end: usize, letter: u8, numbers: &[u64]) -> usize
+    requires few { length numbers.now ≤ 3 }
+    requires room { 64 ≤ end }
+    requires end { end ≤ LINE_BYTES }
+    ensures start { result ≤ LINE_BYTES }
+    ensures line { drop result line.new ≡ letter ∷ (spec.numbers numbers.now ++ drop end line.old) }
 {
-    text.extend_from_slice(b"F")?;
-    push_numbers(text, numbers)?;
-    push_units(text, units)
+    let start = put_numbers(line, end, numbers);
+    put_byte(line, start, letter)
 }
 
-/// Adds a U line without its line feed.
-fn push_counts(text: &mut Vec<u8>, numbers: &[u64]) -> Result<(), AllocError>
-    ensures { OnOk result (text.new.items ≡ text.old.items ++ (85 ∷ spec.numbers numbers.now)) }
-{
-    text.extend_from_slice(b"U")?;
-    push_numbers(text, numbers)
-}
-
-/// Adds the letter of a line, numbers and a word.
-fn push_front(
-    text: &mut Vec<u8>,
-    letter: &[u8],
-    numbers: &[u64],
-    word: &str,
-) -> Result<(), AllocError>
-    ensures { OnOk result (text.new.items ≡
-        text.old.items ++ (letter.now ++ (spec.numbers numbers.now ++ (44 ∷ word.now)))) }
-{
-    text.extend_from_slice(letter)?;
-    push_numbers(text, numbers)?;
-    text.extend_from_slice(b",")?;
-    text.extend_from_slice(word.as_bytes())
-}
-
-/// Adds the units of a bucket, a dash where there is none.
-fn push_units(text: &mut Vec<u8>, units: Option<u64>) -> Result<(), AllocError>
-    ensures { OnOk result (text.new.items ≡ text.old.items ++ (44 ∷ spec.units_text units)) }
+/// Puts the units of a bucket before the line feed, a dash where there is none.
+fn put_units(line: &mut [u8; LINE_BYTES], units: Option<u64>) -> usize
+    ensures room { 64 ≤ result }
+    ensures start { result ≤ LINE_BYTES }
+    ensures line { drop result line.new ≡ 44 ∷ (spec.units_text units ++ drop FEED line.old) }
 {
     match units {
-        Some(units) => push_number(text, units),
-        None => text.extend_from_slice(b",-"),
+        Some(units) => put_number(line, FEED, units),
+        None => put_word(line, FEED, "-"),
     }
 }
 
-/// Adds numbers, each behind a comma.
-fn push_numbers(text: &mut Vec<u8>, numbers: &[u64]) -> Result<(), AllocError>
-    ensures { OnOk result (text.new.items ≡ text.old.items ++ spec.numbers numbers.now) }
+/// Puts a comma and a word before what stands from `end` on.
+fn put_word(line: &mut [u8; LINE_BYTES], end: usize, word: &str) -> usize
+    requires short { length word.now ≤ 7 }
+    requires room { 8 ≤ end }
+    requires end { end ≤ LINE_BYTES }
+    ensures start { result + (length word.now + 1) ≡ end }
+    ensures line { drop result line.new ≡ 44 ∷ (word.now ++ drop end line.old) }
 {
-    for number in numbers {
-        push_number(text, *number)?;
-    }
-    Ok(())
+    let start = end - word.len();
+    line[start..end].copy_from_slice(word.as_bytes());
+    put_byte(line, start, b',')
 }
 
-/// Adds a comma and a number in decimal.
-fn push_number(text: &mut Vec<u8>, number: u64) -> Result<(), AllocError>
-    ensures { OnOk result (text.new.items ≡ text.old.items ++ 44 ∷ decimal number) }
+/// Puts numbers, each behind a comma, before what stands from `end` on.
+fn put_numbers(line: &mut [u8; LINE_BYTES], end: usize, numbers: &[u64]) -> usize
+    requires room { FIELD_BYTES * length numbers.now ≤ end }
+    requires end { end ≤ LINE_BYTES }
+    ensures start { result ≤ end }
+    ensures size { end ≤ result + FIELD_BYTES * length numbers.now }
+    ensures line { drop result line.new ≡ spec.numbers numbers.now ++ drop end line.old }
 {
-    let mut buffer = itoa::Buffer::new();
-    text.extend_from_slice(b",")?;
-    text.extend_from_slice(buffer.format(number).as_bytes())
+    let mut left = numbers.len();
+    let mut start = end;
+    while left > 0 {
+        left -= 1;
+        start = put_number(line, start, numbers[left]);
+    }
+    start
+}
+
+/// Puts a comma and a number in decimal before what stands from `end` on. Inlined, as its call costs about as much as itself.
+#[inline(always)]
+fn put_number(line: &mut [u8; LINE_BYTES], end: usize, number: u64) -> usize
+    requires room { FIELD_BYTES ≤ end }
+    requires end { end ≤ LINE_BYTES }
+    ensures start { result < end }
+    ensures size { end ≤ result + FIELD_BYTES }
+    ensures line { drop result line.new ≡ 44 ∷ (decimal number ++ drop end line.old) }
+{
+    let start = put_digits(line, end, number);
+    put_byte(line, start, b',')
+}
+
+/// Puts a number in decimal before what stands from `end` on. Many numbers of a line have one digit, and are found first.
+#[inline(always)]
+fn put_digits(line: &mut [u8; LINE_BYTES], end: usize, number: u64) -> usize
+    requires room { FIELD_BYTES ≤ end }
+    requires end { end ≤ LINE_BYTES }
+    ensures start { result < end }
+    ensures size { end < result + FIELD_BYTES }
+    ensures line { drop result line.new ≡ decimal number ++ drop end line.old }
+{
+    if number < 10 {
+        return put_byte(line, end, b'0' + number as u8);
+    }
+    itoa::write_digits(number, line, end)
+}
+
+/// Puts a byte before what stands from `end` on.
+fn put_byte(line: &mut [u8; LINE_BYTES], end: usize, byte: u8) -> usize
+    requires room { 0 < end }
+    requires end { end ≤ LINE_BYTES }
+    ensures start { result + 1 ≡ end }
+    ensures line { drop result line.new ≡ byte ∷ drop end line.old }
+{
+    let start = end - 1;
+    line[start] = byte;
+    start
 }

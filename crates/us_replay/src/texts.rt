@@ -3,30 +3,38 @@ ghost use Rattle.us_codec.specs.Bodies.{spelling};
 ghost use Rattle.us_codec.specs.MapsFiles.{Piece, record_bytes};
 ghost use Rattle.us_replay.specs.Files.{records, lines};
 
-use crate::lines::push_line;
+use crate::lines::{LINE_BYTES, push_line};
 use us_codec::{MAX_BODY_BYTES, Map, encode_into};
 use us_round::{RoundOut, Row};
 use us_slots::NoMemory;
 
-/// Adds the records of a round: one for each MAP, in table order.
-pub(crate) fn push_records(text: &mut Vec<u8>, out: &RoundOut) -> Result<(), NoMemory>
+/// Adds the records of a round: one for each MAP, in table order. What stood in `body` doesn't matter.
+pub(crate) fn push_records(
+    text: &mut Vec<u8>,
+    body: &mut [u8; MAX_BODY_BYTES],
+    out: &RoundOut,
+) -> Result<(), NoMemory>
     ensures { OnOk result (text.new.items ≡ text.old.items ++ records out.now) }
 {
     for map in out.maps() {
-        push_map(text, out.round(), map)?;
+        push_map(text, body, out.round(), map)?;
     }
     Ok(())
 }
 
 /// Adds the record of a MAP.
 #[tactic(auto, using(crate::proofs::TextLemmas::taken_front))]
-fn push_map(text: &mut Vec<u8>, round: u32, map: &Map) -> Result<(), NoMemory>
+fn push_map(
+    text: &mut Vec<u8>,
+    body: &mut [u8; MAX_BODY_BYTES],
+    round: u32,
+    map: &Map,
+) -> Result<(), NoMemory>
     ensures { let piece : Piece = record { round = round; body = spelling map.now } in
         OnOk result (text.new.items ≡ text.old.items ++ record_bytes piece) }
 {
-    let mut buffer = [0; MAX_BODY_BYTES];
-    let length = encode_into(map, &mut buffer);
-    push_record(text, round, &buffer[..length])
+    let length = encode_into(map, body);
+    push_record(text, round, &body[..length])
 }
 
 /// Adds a record: the round, the length of the body, the body.
@@ -43,13 +51,17 @@ fn push_record(text: &mut Vec<u8>, round: u32, body: &[u8]) -> Result<(), NoMemo
     Ok(())
 }
 
-/// Adds the lines of some rows.
+/// Adds the lines of some rows. What stood in `line` doesn't matter.
 #[tactic(auto, unfolding(crate::specs::Files::lines))]
-pub(crate) fn push_lines(text: &mut Vec<u8>, rows: &[Row]) -> Result<(), NoMemory>
+pub(crate) fn push_lines(
+    text: &mut Vec<u8>,
+    line: &mut [u8; LINE_BYTES],
+    rows: &[Row],
+) -> Result<(), NoMemory>
     ensures { OnOk result (text.new.items ≡ text.old.items ++ lines rows.now) }
 {
     for row in rows {
-        push_line(text, row)?;
+        push_line(text, line, row)?;
     }
     Ok(())
 }

@@ -6,10 +6,12 @@ ghost use Rattle.us_replay.specs.Progress.{HasRoom, summary_after, with_asks, wi
 
 use super::tallies::Tally;
 use crate::cuts::cut_round;
+use crate::lines::LINE_BYTES;
 use crate::summaries::Summary;
 use crate::texts::{push_lines, push_records};
 use std::alloc::Global;
 use std::marker::Model;
+use us_codec::MAX_BODY_BYTES;
 use us_requests::{Ask, Counts};
 use us_round::{RoundOut, Row, State};
 use us_slots::NoMemory;
@@ -22,6 +24,9 @@ pub(crate) struct Progress {
     to_maps: Vec<u8>,
     to_report: Vec<u8>,
     tally: Tally,
+    // Where a MAP is encoded, and where a line is put together.
+    body: [u8; MAX_BODY_BYTES],
+    line: [u8; LINE_BYTES],
 }
 
 impl Model for Progress {
@@ -49,6 +54,8 @@ impl Progress {
                 granted: 0,
                 missed: 0,
             },
+            body: [0; MAX_BODY_BYTES],
+            line: [0; LINE_BYTES],
         })
     }
 
@@ -76,9 +83,9 @@ impl Progress {
     {
         self.tally.add(out.rows());
         self.to_maps.clear();
-        push_records(&mut self.to_maps, out)?;
+        push_records(&mut self.to_maps, &mut self.body, out)?;
         self.to_report.clear();
-        push_lines(&mut self.to_report, out.rows())
+        push_lines(&mut self.to_report, &mut self.line, out.rows())
     }
 
     /// Makes the end of the report, of the state after all rounds. After want of memory nothing is said of what stands
@@ -102,7 +109,7 @@ impl Progress {
         })?;
         self.to_maps.clear();
         self.to_report.clear();
-        push_lines(&mut self.to_report, &rows)
+        push_lines(&mut self.to_report, &mut self.line, &rows)
     }
 
     /// What is to be written to the maps file.

@@ -1,5 +1,5 @@
 use super::base::same;
-use crate::lines::push_line;
+use crate::lines::LINE_BYTES;
 use crate::texts::push_lines;
 use crate::{Entry, Row, RunFault};
 use std::alloc::Global;
@@ -73,7 +73,8 @@ M,9,2,req,3,4,5
 /// A line of each kind, and one of a missed occurrence for each entry.
 fn text_of_rows(alloc: Global) -> Result<Vec<u8>, NoMemory> {
     let mut text = Vec::new(alloc);
-    push_lines(&mut text, &ROWS)?;
+    let mut line = [0; LINE_BYTES];
+    push_lines(&mut text, &mut line, &ROWS)?;
     for entry in &ENTRIES {
         let row = Row::Missed {
             round: 9,
@@ -83,7 +84,7 @@ fn text_of_rows(alloc: Global) -> Result<Vec<u8>, NoMemory> {
             i: 4,
             k: 5,
         };
-        push_line(&mut text, &row)?;
+        push_lines(&mut text, &mut line, &[row])?;
     }
     Ok(text)
 }
