@@ -63,26 +63,22 @@ impl Map {
     }
 
     /// The MAP of the parts that [`Map::new`] takes, where the caller knows that they make a lawful body, so that none of
-    /// M4 to M9 stands. Nothing is judged, and want of memory is the one fault.
+    /// M4 to M9 stands. Nothing is judged, and want of memory is the one fault. The Null and the pendings are put behind
+    /// `elements`: where that list has room for them, no memory is taken.
     #[tactic(auto, using(crate::proofs::BodyLemmas::putting))]
     pub fn from_parts(
-        alloc: Global,
         head: Head,
-        elements: &[Element],
+        elements: Vec<Element>,
         len: u16,
         pendings: &[Element],
     ) -> Result<Map, NoMemory>
-        requires { IsMapBody (body_of head elements.now len pendings.now) }
-        ensures { IfOk result (λ map. map ≡ body_of head elements.now len pendings.now) }
+        requires { IsMapBody (body_of head elements.items len pendings.now) }
+        ensures { IfOk result (λ map. map ≡ body_of head elements.items len pendings.now) }
     {
-        let mut all = Vec::with_capacity(alloc, elements.len() + 1 + pendings.len())?;
-        all.extend_from_slice(elements)?;
-        all.push(Element::null_at(len))?;
-        all.extend_from_slice(pendings)?;
-        Ok(Map {
-            head,
-            elements: all,
-        })
+        let mut elements = elements;
+        elements.push(Element::null_at(len))?;
+        elements.extend_from_slice(pendings)?;
+        Ok(Map { head, elements })
     }
 
     /// The same: what `found` and `complete` say follows of this function's clauses alone.

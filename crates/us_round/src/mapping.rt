@@ -79,10 +79,10 @@ pub(crate) fn map_of(
     ensures standing { IfOk result (λ _. board.now.standing ≤ 100) }
 {
     let head = head_of(config, channel, round);
-    let elements = elements_of(alloc, channel, board)?;
+    let elements = elements_of(alloc, channel, board, 1 + sids.len())?;
     let len = board.len() as u16;
     let pendings = pendings_of(alloc, sids, len)?;
-    Map::from_parts(alloc, head, &elements, len, &pendings)
+    Map::from_parts(head, elements, len, &pendings)
 }
 
 /// What stands before the elements of a MAP.
@@ -106,9 +106,14 @@ fn head_of(config: &Config, channel: &Channel, round: u32) -> Head
     }
 }
 
-/// What stands before the Null: an element for each assignment and each idle run.
+/// What stands before the Null: an element for each assignment and each idle run. There is room for so many `more`.
 #[tactic(auto, using(crate::proofs::MapLemmas::follow_starts), unfolding(crate::specs::Outputs::elements_of))]
-fn elements_of(alloc: Global, channel: &Channel, board: &Board) -> Result<Vec<Element>, NoMemory>
+fn elements_of(
+    alloc: Global,
+    channel: &Channel,
+    board: &Board,
+    more: usize,
+) -> Result<Vec<Element>, NoMemory>
     requires { length board.now.cells ≤ 4096 }
     ensures value { IfOk result (λ elements. elements.items ≡ spec.elements_of channel.now board.now) }
     ensures other { IfOk result (λ elements. AllByRecursion (λ e. e.iuc ≢ codes.null) elements.items) }
@@ -117,17 +122,22 @@ fn elements_of(alloc: Global, channel: &Channel, board: &Board) -> Result<Vec<El
     ensures few { length (runs_of board.now.cells) ≤ 2 * board.now.standing + 1 }
 {
     let runs = board.runs(alloc)?;
-    elements_in(alloc, channel, &runs)
+    elements_in(alloc, channel, &runs, more)
 }
 
-/// The elements of some runs.
-fn elements_in(alloc: Global, channel: &Channel, runs: &[Run]) -> Result<Vec<Element>, NoMemory>
+/// The elements of some runs, with room for so many `more`.
+fn elements_in(
+    alloc: Global,
+    channel: &Channel,
+    runs: &[Run],
+    more: usize,
+) -> Result<Vec<Element>, NoMemory>
     requires { AllByRecursion (λ run. run.start < 2 ^ 14) runs.now }
     ensures value { IfOk result (λ elements. elements.items ≡ map (spec.run_element channel.now) runs.now) }
     ensures other { IfOk result (λ elements. AllByRecursion (λ e. e.iuc ≢ codes.null) elements.items) }
     ensures fields { IfOk result (λ elements. AllByRecursion IsMapElement elements.items) }
 {
-    let mut elements = Vec::with_capacity(alloc, runs.len())?;
+    let mut elements = Vec::with_capacity(alloc, runs.len().saturating_add(more))?;
     for run in runs {
         elements.push(element_of(channel, *run))?;
     }

@@ -36,7 +36,7 @@ fn made(
     let elements = elements_of(alloc, elements)?;
     let pendings = elements_of(alloc, pendings)?;
     let _judged = Map::new(alloc, head, &elements, 160, &pendings)?;
-    match Map::from_parts(alloc, head, &elements, 160, &pendings) {
+    match Map::from_parts(head, elements, 160, &pendings) {
         Ok(map) => Ok(written(&map, body)),
         Err(_) => Err(MapFault::NoMemory),
     }
