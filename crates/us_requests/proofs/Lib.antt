@@ -2,6 +2,8 @@
 pub mod RecordLemmas
 -- fields and numbers of a record
 pub mod RowLemmas
+-- asks that are nearly in the order of their rounds
+pub mod SettlingLemmas
 -- the asks in the order of their rounds
 pub mod SpanLemmas
 -- what a sort keeps, and what a search finds

@@ -41,6 +41,9 @@ mod outcomes;
 // Rows, filed as asks and counts.
 mod filing;
 
+// Asks that are nearly in the order of their rounds.
+mod settling;
+
 // The asks in the order of their rounds, and where those of a round stand.
 mod by_round;
 
