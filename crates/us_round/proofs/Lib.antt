@@ -21,3 +21,5 @@ pub mod StateLemmas
 pub mod CalendarLemmas
 pub mod RoundLemmas
 pub mod SoundLemmas
+pub mod FlagLemmas
+pub mod LedgerLemmas

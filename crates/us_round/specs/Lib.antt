@@ -22,7 +22,15 @@ pub mod RoundExamples
 pub mod States
 -- who is pending, by what is outstanding before and after the grants; what boards keep
 pub mod Leftovers
+-- the steps that a round is made of: when a list of them is complete, and the cut that it makes,
+pub mod Steps
+-- the machine that goes through them,
+pub mod Machines
+-- and the round that they come to
+pub mod Plays
 -- inside the crate, and of no use to a reader of the promise: the claims of a plan as it is kept
 pub mod Claims
--- and of no use either: a state without its calendars
+-- what a ledger of steps keeps,
+pub mod Accounts
+-- and a state without its calendars
 pub mod Cores
