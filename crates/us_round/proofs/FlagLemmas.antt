@@ -15,6 +15,12 @@ unset-at flags i clear = ap (λ b. if b then 0 else 1) clear
 pub unset-past : (flags : List Bool) (i : ℕ) → get_or flags i true ≡ true → unset flags i ≡ 0
 unset-past flags i full = ap (λ b. if b then 0 else 1) full
 
+pub unset-full : (flags : List Bool) (i : ℕ) → unset flags i ≡ 0 → get_or flags i true ≡ true
+unset-full flags i none = elim (cases_Bool (get_or flags i true)) [
+  | inl full ↦ full
+  | inr clear ↦ absurd (omega (arith, unset-at flags i clear, none))
+]
+
 pub unset-few : (flags : List Bool) (i : ℕ) → unset flags i ≤ 1
 unset-few flags i = elim (cases_Bool (get_or flags i true)) [
   | inl full ↦ rw full (omega arith)

@@ -76,7 +76,7 @@ raised-in words rows row q all = by (slice_get rows row) refl
     by None is = omega arith
     by (Some ask) is = raised-at words ask q (all_found (λ a. a.cluster < length words) rows row ask all is)
 
-raised-length : (words : List ℕ) (found : Option Ask) → length (raised words found) ≡ length words
+pub raised-length : (words : List ℕ) (found : Option Ask) → length (raised words found) ≡ length words
 raised-length words None = refl
 raised-length words (Some ask) = length-set words ask.cluster (slice_index words ask.cluster + ask.bytes)
 

@@ -23,3 +23,6 @@ pub mod RoundLemmas
 pub mod SoundLemmas
 pub mod FlagLemmas
 pub mod LedgerLemmas
+pub mod StepLemmas
+pub mod CutLemmas
+pub mod PlayLemmas
