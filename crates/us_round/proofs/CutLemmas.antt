@@ -11,8 +11,8 @@ use Rattle.us_round.specs.declared.steps.Step.{Step}
 use Rattle.us_round.specs.declared.steps.Step.TheVariants as step
 use Rattle.us_round.specs.Steps.{bytes_for, bytes_in, added_by, total, takes, ahead, behind, cut_at, left_at, cut_of, left_of}
 use Rattle.us_round.specs.Machines.{Ledger, opening_ledger, raised, with_row, without_word, with_open, with_built, after, are_set, is_done, run}
-use Rattle.us_round.specs.Accounts.{IsReady, unadded}
-use Rattle.us_round.proofs.LedgerLemmas.{placed, neither, raised-in, raised-length, balance, balance_after, ready_after}
+use Rattle.us_round.specs.Accounts.{IsSized, unadded}
+use Rattle.us_round.proofs.LedgerLemmas.{placed, neither, raised-in, raised-length, balance, balance_after, sized_after}
 use Rattle.us_round.proofs.StepLemmas.{found-true}
 use Rattle.us_round.proofs.FlagLemmas.{unset-full, set-none, clear-inside, set-other}
 
@@ -29,7 +29,7 @@ left_to asks l steps q =
 
 -- A step changes neither.
 
-row_to : (asks : List Ask) (l : Ledger) (row seat q : ℕ) (steps : List Step) → IsReady asks l →
+row_to : (asks : List Ask) (l : Ledger) (row seat q : ℕ) (steps : List Step) → IsSized asks l →
     (cut_to asks (with_row asks l row) steps q ≡ cut_to asks l (step.Add row seat ∷ steps) q)
     × (left_to asks (with_row asks l row) steps q ≡ left_to asks l (step.Add row seat ∷ steps) q)
 row_to asks l row seat q steps ready =
@@ -40,7 +40,7 @@ row_to asks l row seat q steps ready =
       | inr clear ↦ rw clear (omega (arith, more), refl)
     ]
 
-word_to : (asks : List Ask) (l : Ledger) (word seat q : ℕ) (steps : List Step) → IsReady asks l →
+word_to : (asks : List Ask) (l : Ledger) (word seat q : ℕ) (steps : List Step) → IsSized asks l →
     get_or l.taken word true ≡ false →
     (cut_to asks (without_word l word) steps q ≡ cut_to asks l (step.Take word seat ∷ steps) q)
     × (left_to asks (without_word l word) steps q ≡ left_to asks l (step.Take word seat ∷ steps) q)
@@ -90,7 +90,7 @@ built_to asks l channel q steps = elim (cases_Bool (get_or l.taken q true)) [
   | inr free ↦ rw free (omega arith, refl)
 ]
 
-kept_to : (asks : List Ask) (l next : Ledger) (s : Step) (q : ℕ) (steps : List Step) → IsReady asks l →
+kept_to : (asks : List Ask) (l next : Ledger) (s : Step) (q : ℕ) (steps : List Step) → IsSized asks l →
     after asks l s ≡ Some next → IsKept asks l next s steps q
 unfolding after
 kept_to asks l next (step.Add row seat) q steps ready to =
@@ -125,7 +125,7 @@ first-two true true c is = (refl, refl)
 first-two true false c is = absurd (cc is)
 first-two false b c is = absurd (cc is)
 
-none-unadded : (q : ℕ) (asks : List Ask) (flags : List Bool) → are_set flags ≡ true → unadded q asks flags ≡ 0
+pub none-unadded : (q : ℕ) (asks : List Ask) (flags : List Bool) → are_set flags ≡ true → unadded q asks flags ≡ 0
 none-unadded q [] flags all = refl
 none-unadded q (ask ∷ asks) [] all = refl
 none-unadded q (ask ∷ asks) (true ∷ flags) all = omega (arith, none-unadded q asks flags all)
@@ -146,7 +146,7 @@ words-long asks l next (step.Built channel) to =
     let at = placed (not (get_or l.opened channel false) || get_or l.built channel true) (with_built l channel) next to in
     ap (λ n. length n.words) (sym at.1)
 
-done-end : (asks : List Ask) (l : Ledger) → IsReady asks l → is_done l ≡ true → IsEnd asks l l []
+done-end : (asks : List Ask) (l : Ledger) → IsSized asks l → is_done l ≡ true → IsEnd asks l l []
 done-end asks l ready done =
     let both = first-two (are_set l.added) (are_set l.taken) (are_set l.opened && are_set l.built) done in
     record {
@@ -157,7 +157,7 @@ done-end asks l ready done =
       same = refl;
     }
 
-pub run_end_is : (asks : List Ask) (l end : Ledger) (steps : List Step) → IsReady asks l → run asks l steps ≡ Some end →
+pub run_end_is : (asks : List Ask) (l end : Ledger) (steps : List Step) → IsSized asks l → run asks l steps ≡ Some end →
     IsEnd asks l end steps
 unfolding run
 run_end_is asks l end [] ready to =
@@ -167,12 +167,12 @@ run_end_is asks l end (s ∷ steps) ready to =
     by (after asks l s) refl (λ next. run_end_is asks next end steps)
   where
     by : (found : Option Ledger) → after asks l s ≡ found →
-        ((next : Ledger) → IsReady asks next → run asks next steps ≡ Some end → IsEnd asks next end steps) →
+        ((next : Ledger) → IsSized asks next → run asks next steps ≡ Some end → IsEnd asks next end steps) →
         IsEnd asks l end (s ∷ steps)
     by None none rest = absurd (cc (ap (λ o. option_and_then (λ n. run asks n steps) o) (sym none) ∙ to))
     by (Some next) made rest =
         let more : IsEnd asks next end steps =
-        rest next (ready_after asks l next s ready made)
+        rest next (sized_after asks l next s ready made)
         (ap (λ o. option_and_then (λ n. run asks n steps) o) (sym made) ∙ to) in
         record {
           cut = λ q. more.cut q ∙ (kept_to asks l next s q steps ready made).0;

@@ -10,7 +10,7 @@ use Rattle.us_round.specs.declared.steps.Step.{Step}
 use Rattle.us_round.specs.declared.steps.Step.TheVariants as step
 use Rattle.us_round.specs.Steps.{bytes_for, bytes_in, total}
 use Rattle.us_round.specs.Machines.{Ledger, opening_ledger, raised, with_row, without_word, with_open, with_built, after, is_done, run}
-use Rattle.us_round.specs.Accounts.{IsReady, unadded}
+use Rattle.us_round.specs.Accounts.{IsReady, IsSized, unadded}
 use Rattle.us_round.proofs.PartLemmas.{all_found, all_weaker}
 use Rattle.us_round.proofs.StateLemmas.{eqb-self}
 use Rattle.us_round.proofs.FlagLemmas.{clear-inside}
@@ -107,20 +107,20 @@ moved cut words w q inside long = elim (cases_Bool (w == q)) [
 abbrev pub balance : List Ask → Ledger → ℕ → ℕ
 balance rows l q = slice_index l.cut q + (slice_index l.words q + unadded q rows l.added)
 
-pub row_balance : (rows : List Ask) (l : Ledger) (row q : ℕ) → IsReady rows l → get_or l.added row true ≡ false →
+pub row_balance : (rows : List Ask) (l : Ledger) (row q : ℕ) → IsSized rows l → get_or l.added row true ≡ false →
     balance rows (with_row rows l row) q ≡ balance rows l q
 row_balance rows l row q ready clear =
     omega (arith, raised-in l.words rows row q ready.clusters, unadded-set q rows l.added row ready.added clear)
 
-pub word_balance : (rows : List Ask) (l : Ledger) (word q : ℕ) → IsReady rows l → get_or l.taken word true ≡ false →
+pub word_balance : (rows : List Ask) (l : Ledger) (word q : ℕ) → IsSized rows l → get_or l.taken word true ≡ false →
     balance rows (without_word l word) q ≡ balance rows l q
 word_balance rows l word q ready clear =
     let inside : word < length l.words = omega (arith, clear-inside l.taken word clear, ready.taken) in
     omega (arith, moved l.cut l.words word q inside ready.cut)
 
-ready_row : (rows : List Ask) (l : Ledger) (row : ℕ) → IsReady rows l → get_or l.added row true ≡ false →
-    IsReady rows (with_row rows l row)
-ready_row rows l row ready clear =
+sized_row : (rows : List Ask) (l : Ledger) (row : ℕ) → IsSized rows l → get_or l.added row true ≡ false →
+    IsSized rows (with_row rows l row)
+sized_row rows l row ready clear =
     let long : length (raised l.words (slice_get rows row)) ≡ length l.words = raised-length l.words (slice_get rows row) in
     record {
       added = length-set l.added row true ∙ ready.added;
@@ -128,12 +128,11 @@ ready_row rows l row ready clear =
       cut = ready.cut ∙ sym long;
       taken = ready.taken ∙ sym long;
       built = ready.built;
-      room = λ q. omega (arith, ready.room q, row_balance rows l row q ready clear);
     }
 
-ready_word : (rows : List Ask) (l : Ledger) (word : ℕ) → IsReady rows l → get_or l.taken word true ≡ false →
-    IsReady rows (without_word l word)
-ready_word rows l word ready clear =
+sized_word : (rows : List Ask) (l : Ledger) (word : ℕ) → IsSized rows l → get_or l.taken word true ≡ false →
+    IsSized rows (without_word l word)
+sized_word rows l word ready clear =
     let long : length (slice_set l.words word 0) ≡ length l.words = length-set l.words word 0 in
     record {
       added = ready.added;
@@ -141,48 +140,45 @@ ready_word rows l word ready clear =
       cut = length-set l.cut word (slice_index l.cut word + slice_index l.words word) ∙ ready.cut ∙ sym long;
       taken = length-set l.taken word true ∙ ready.taken ∙ sym long;
       built = ready.built;
-      room = λ q. omega (arith, ready.room q, word_balance rows l word q ready clear);
     }
 
-ready_open : (rows : List Ask) (l : Ledger) (channel : ℕ) → IsReady rows l → IsReady rows (with_open l channel)
-ready_open rows l channel ready = record {
+sized_open : (rows : List Ask) (l : Ledger) (channel : ℕ) → IsSized rows l → IsSized rows (with_open l channel)
+sized_open rows l channel ready = record {
   added = ready.added;
   clusters = ready.clusters;
   cut = ready.cut;
   taken = ready.taken;
   built = ready.built ∙ sym (length-set l.opened channel true);
-  room = ready.room;
 }
 
-ready_built : (rows : List Ask) (l : Ledger) (channel : ℕ) → IsReady rows l → IsReady rows (with_built l channel)
-ready_built rows l channel ready = record {
+sized_built : (rows : List Ask) (l : Ledger) (channel : ℕ) → IsSized rows l → IsSized rows (with_built l channel)
+sized_built rows l channel ready = record {
   added = ready.added;
   clusters = ready.clusters;
   cut = ready.cut;
   taken = ready.taken;
   built = length-set l.built channel true ∙ ready.built;
-  room = ready.room;
 }
 
--- a ledger is ready for one more step after each,
-pub ready_after : (rows : List Ask) (l next : Ledger) (s : Step) → IsReady rows l → after rows l s ≡ Some next →
-    IsReady rows next
+-- no step changes how many there are,
+pub sized_after : (rows : List Ask) (l next : Ledger) (s : Step) → IsSized rows l → after rows l s ≡ Some next →
+    IsSized rows next
 unfolding after
-ready_after rows l next (step.Add row seat) ready is =
+sized_after rows l next (step.Add row seat) ready is =
     let at = placed (get_or l.added row true) (with_row rows l row) next is in
-    subst (λ n. IsReady rows n) at.1 (ready_row rows l row ready at.0)
-ready_after rows l next (step.Take word seat) ready is =
+    subst (λ n. IsSized rows n) at.1 (sized_row rows l row ready at.0)
+sized_after rows l next (step.Take word seat) ready is =
     let at = placed (l.settled || get_or l.taken word true) (without_word l word) next is in
-    subst (λ n. IsReady rows n) at.1 (ready_word rows l word ready (neither l.settled (get_or l.taken word true) at.0).1)
-ready_after rows l next (step.Open channel) ready is =
+    subst (λ n. IsSized rows n) at.1 (sized_word rows l word ready (neither l.settled (get_or l.taken word true) at.0).1)
+sized_after rows l next (step.Open channel) ready is =
     let at = placed (get_or l.opened channel true) (with_open l channel) next is in
-    subst (λ n. IsReady rows n) at.1 (ready_open rows l channel ready)
-ready_after rows l next (step.Built channel) ready is =
+    subst (λ n. IsSized rows n) at.1 (sized_open rows l channel ready)
+sized_after rows l next (step.Built channel) ready is =
     let at = placed (not (get_or l.opened channel false) || get_or l.built channel true) (with_built l channel) next is in
-    subst (λ n. IsReady rows n) at.1 (ready_built rows l channel ready)
+    subst (λ n. IsSized rows n) at.1 (sized_built rows l channel ready)
 
 -- and no byte is lost
-pub balance_after : (rows : List Ask) (l next : Ledger) (s : Step) (q : ℕ) → IsReady rows l → after rows l s ≡ Some next →
+pub balance_after : (rows : List Ask) (l next : Ledger) (s : Step) (q : ℕ) → IsSized rows l → after rows l s ≡ Some next →
     balance rows next q ≡ balance rows l q
 unfolding after
 balance_after rows l next (step.Add row seat) q ready is =
@@ -199,16 +195,24 @@ balance_after rows l next (step.Built channel) q ready is =
     let at = placed (not (get_or l.opened channel false) || get_or l.built channel true) (with_built l channel) next is in
     ap (λ n. balance rows n q) (sym at.1)
 
+-- so there is room still
+pub ready_after : (rows : List Ask) (l next : Ledger) (s : Step) → IsReady rows l → after rows l s ≡ Some next →
+    IsReady rows next
+ready_after rows l next s ready is = record {
+  sized = sized_after rows l next s ready.sized is;
+  room = λ q. omega (arith, ready.room q, balance_after rows l next s q ready.sized is);
+}
+
 -- a row's bytes have room in its word
 pub row_room : (rows : List Ask) (l : Ledger) (row : ℕ) (d : Ask) → IsReady rows l → get_or l.added row true ≡ false →
     slice_index l.words (get_or rows row d).cluster + (get_or rows row d).bytes < 2 ^ 62
 row_room rows l row d ready clear =
     let ask : Ask = get_or rows row d in
-    let inside : row < length rows = omega (arith, clear-inside l.added row clear, ready.added) in
+    let inside : row < length rows = omega (arith, clear-inside l.added row clear, ready.sized.added) in
     let own : bytes_in ask.cluster (slice_get rows row) ≡ ask.bytes =
     ap (λ found. bytes_in ask.cluster found) (slice_get-get_or rows row d inside)
     ∙ ap (λ b. if b then ask.bytes else 0) (eqb-self ask.cluster ask.cluster refl) in
-    omega (arith, ready.room ask.cluster, unadded-set ask.cluster rows l.added row ready.added clear, own)
+    omega (arith, ready.room ask.cluster, unadded-set ask.cluster rows l.added row ready.sized.added clear, own)
 
 -- what adding a row leaves
 pub row_added : (rows : List Ask) (l m : Ledger) (row : ℕ) (d : Ask) (words : List ℕ) (added : List Bool) → m ≡ l →

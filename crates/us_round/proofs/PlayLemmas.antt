@@ -1,17 +1,21 @@
 -- From a ledger before the first step to a round.
-use Rattle.std.proofs.Common.{◌≡◌, ℕ, zero, suc, ◌+◌, ◌^◌, ◌<◌, ◌≤◌, ◌==◌, eqb, Bool, true, false, cond, if◌then◌else◌, List, [], ◌∷◌, length, map, replicate, get_or, slice_index, Some, None, refl, ap, sym, subst, ◌∙◌, inl, inr, arith}
+use Rattle.std.proofs.Common.{◌≡◌, ℕ, zero, suc, ◌+◌, ◌^◌, ◌<◌, ◌≤◌, ◌==◌, eqb, Bool, true, false, cond, if◌then◌else◌, List, [], ◌∷◌, length, map, replicate, get_or, slice_index, slice_set, Some, None, refl, ap, sym, subst, ◌∙◌, inl, inr, arith}
 use Rattle.std.specs.Prelude.{sum_by, filter, zip}
 use Rattle.std.specs.List.{AllByRecursion, range_with_len}
 use Rattle.std.proofs.lemmas.Bool.{cases_Bool, cases_lt, eqb-true, eqb-false}
-use Rattle.std.proofs.lemmas.List.{get_or-replicate, get_or_past, length-replicate}
+use Rattle.std.proofs.lemmas.List.{length-set, get_or-replicate, get_or_past, length-replicate}
 use Rattle.std.proofs.lemmas.List.Sums.{sum_by-cons}
 use Rattle.us_requests.specs.declared.asks.Ask.{Ask}
 use Rattle.us_requests.specs.Cuts as requests
 use Rattle.us_round.specs.declared.steps.Step.{Step}
-use Rattle.us_round.specs.Steps.{bytes_for, total, IsComplete, cut_at, left_at, cut_of, left_of}
+use Rattle.us_round.specs.declared.steps.Step.TheVariants as step
+use Rattle.us_round.specs.Steps.{bytes_for, added_by, total, count, adds, takes, ahead, behind, IsThere, IsComplete, cut_at, left_at, cut_of, left_of}
 use Rattle.us_round.specs.Machines.{Ledger, opening_ledger, run}
-use Rattle.us_round.specs.Accounts.{IsReady, unadded}
-use Rattle.us_round.proofs.CutLemmas.{IsEnd, cut_to, left_to, run_end_is}
+use Rattle.us_round.specs.Accounts.{IsReady, IsSized, unadded}
+use Rattle.std.proofs.lemmas.List.FromFn.{length-map-range_with_len, get_or-map-range_with_len}
+use Rattle.us_round.proofs.FlagLemmas.{unset, unset-fresh, set-counted, set-over, none-set}
+use Rattle.us_round.proofs.LedgerLemmas.{unadded-set}
+use Rattle.us_round.proofs.CutLemmas.{IsEnd, cut_to, left_to, none-unadded}
 
 -- the bytes of a cluster's rows, counted one by one
 pub asked-total : (asks : List Ask) (q : ℕ) → requests.asked asks q ≡ total (bytes_for q) asks
@@ -44,20 +48,22 @@ zeros zero q = refl
 zeros (suc n) zero = refl
 zeros (suc n) (suc q) = zeros n q
 
--- the bytes that a cluster has in its word and in its rows
-abbrev pub AreSmall : List ℕ → List ℕ → List Ask → Type 0
-AreSmall outstanding words asks = (q : ℕ) → q < length words →
-    slice_index outstanding q + (slice_index words q + requests.asked asks q) < 2 ^ 62
-
-pub opening-ready : (outstanding words : List ℕ) (asks : List Ask) (channels : ℕ) →
-    AllByRecursion (λ ask. ask.cluster < length words) asks → AreSmall outstanding words asks →
-    IsReady asks (opening_ledger words (length asks) channels)
-opening-ready outstanding words asks channels known small = record {
+pub opening-sized : (words : List ℕ) (asks : List Ask) (channels : ℕ) →
+    AllByRecursion (λ ask. ask.cluster < length words) asks →
+    IsSized asks (opening_ledger words (length asks) channels)
+opening-sized words asks channels known = record {
   added = length-replicate (length asks) false;
   clusters = known;
   cut = length-replicate (length words) 0;
   taken = length-replicate (length words) false;
   built = refl;
+}
+
+pub opening-ready : (words : List ℕ) (asks : List Ask) (channels : ℕ) →
+    AllByRecursion (λ ask. ask.cluster < length words) asks → ((q : ℕ) → q < length words → slice_index words q + requests.asked asks q < 2 ^ 62) →
+    IsReady asks (opening_ledger words (length asks) channels)
+opening-ready words asks channels known small = record {
+  sized = opening-sized words asks channels known;
   room = λ q. elim (cases_lt q (length words)) [
     | inl below ↦
       omega (arith, small q below, asked-total asks q, unadded-fresh q asks, zeros (length words) q)
@@ -116,12 +122,72 @@ end-words asks words channels end steps is =
         rw (not-taken words q below) refl in
         is.words q ∙ at)
 
--- and both together
-pub end-sum : (asks : List Ask) (words : List ℕ) (channels : ℕ) (end : Ledger) (steps : List Step) (q : ℕ) →
-    IsEnd asks (opening_ledger words (length asks) channels) end steps →
-    slice_index end.cut q + slice_index end.words q ≡ slice_index words q + requests.asked asks q
-end-sum asks words channels end steps q is =
-    omega (arith, is.balance q, asked-total asks q, unadded-fresh q asks, zeros (length words) q)
+-- All rows of a complete list are added.
+
+pub all-added : (asks : List Ask) (flags : List Bool) (steps : List Step) (words channels q : ℕ) →
+    length flags ≡ length asks → AllByRecursion (IsThere (length asks) words channels) steps →
+    ((r : ℕ) → r < length asks → count (adds r) steps ≡ unset flags r) →
+    total (added_by asks q) steps ≡ unadded q asks flags
+all-added asks flags [] words channels q long there each =
+    sym (none-unadded q asks flags (none-set flags (λ i below. each i (omega (arith, below, long)))))
+all-added asks flags (step.Add row seat ∷ steps) words channels q long there each = elim (cases_Bool (get_or flags row true)) [
+  | inl full ↦ absurd (set-over flags row (count (adds row) steps) full (each row there.0))
+  | inr clear ↦
+    let rest : total (added_by asks q) steps ≡ unadded q asks (slice_set flags row true) =
+    all-added asks (slice_set flags row true) steps words channels q (length-set flags row true ∙ long) there.1
+    (λ r below. set-counted flags row r (count (adds r) steps) clear (each r below)) in
+    omega (arith, rest, unadded-set q asks flags row long clear)
+]
+all-added asks flags (step.Take word seat ∷ steps) words channels q long there each =
+    omega (arith, all-added asks flags steps words channels q long there.1 each)
+all-added asks flags (step.Open channel ∷ steps) words channels q long there each =
+    omega (arith, all-added asks flags steps words channels q long there.1 each)
+all-added asks flags (step.Built channel ∷ steps) words channels q long there each =
+    omega (arith, all-added asks flags steps words channels q long there.1 each)
+
+-- before or after the Take, which adds nothing
+parts-total : (asks : List Ask) (q : ℕ) (steps : List Step) →
+    total (added_by asks q) (ahead (takes q) steps) + total (added_by asks q) (behind (takes q) steps)
+    ≡ total (added_by asks q) steps
+parts-total asks q [] = refl
+parts-total asks q (step.Add row seat ∷ steps) = omega (arith, parts-total asks q steps)
+parts-total asks q (step.Take word seat ∷ steps) = elim (cases_Bool (word == q)) [
+  | inl same ↦ rw same (omega arith)
+  | inr other ↦ rw other (omega (arith, parts-total asks q steps))
+]
+parts-total asks q (step.Open channel ∷ steps) = omega (arith, parts-total asks q steps)
+parts-total asks q (step.Built channel ∷ steps) = omega (arith, parts-total asks q steps)
+
+at-mapped : (f : ℕ → ℕ) (n q : ℕ) → q < n → slice_index (map f (range_with_len 0 n)) q ≡ f q
+at-mapped f n q below = get_or-map-range_with_len f 0 n q q 0 below (omega arith)
+
+-- the cut and what is left are what was there, and all rows
+pub conserved : (asks : List Ask) (words : List ℕ) (channels : ℕ) (steps : List Step) (q : ℕ) →
+    IsComplete (length asks) (length words) channels steps → q < length words →
+    slice_index (cut_of words asks steps) q + slice_index (left_of words asks steps) q
+    ≡ slice_index words q + requests.asked asks q
+unfolding cut_of left_of
+conserved asks words channels steps q all below =
+    let every : total (added_by asks q) steps ≡ unadded q asks (replicate (length asks) false) =
+    all-added asks (replicate (length asks) false) steps (length words) channels q (length-replicate (length asks) false)
+    all.there (λ r below. all.added r below ∙ sym (unset-fresh (length asks) r below)) in
+    omega (
+      arith,
+      every,
+      parts-total asks q steps,
+      at-mapped (cut_at words asks steps) (length words) q below,
+      at-mapped (left_at asks steps) (length words) q below,
+      asked-total asks q,
+      unadded-fresh q asks,
+    )
+
+pub cut-long : (asks : List Ask) (words : List ℕ) (steps : List Step) → length (cut_of words asks steps) ≡ length words
+unfolding cut_of
+cut-long asks words steps = length-map-range_with_len (cut_at words asks steps) 0 (length words)
+
+pub left-long : (asks : List Ask) (words : List ℕ) (steps : List Step) → length (left_of words asks steps) ≡ length words
+unfolding left_of
+left-long asks words steps = length-map-range_with_len (left_at asks steps) 0 (length words)
 
 zipped : (os cs : List ℕ) → ((q : ℕ) → q < length cs → slice_index os q + slice_index cs q < 2 ^ 62) →
     AllByRecursion (λ pair. pair.0 + pair.1 < 2 ^ 62) (zip os cs)
@@ -130,10 +196,12 @@ zipped (o ∷ os) [] each = tt
 zipped (o ∷ os) (c ∷ cs) each =
     (each 0 (omega arith), zipped os cs (λ q below. each (suc q) (omega (arith, below))))
 
--- the cut has room beside what is outstanding
-pub end-room : (outstanding words : List ℕ) (asks : List Ask) (channels : ℕ) (end : Ledger) (steps : List Step) →
-    AreSmall outstanding words asks → IsEnd asks (opening_ledger words (length asks) channels) end steps →
-    AllByRecursion (λ pair. pair.0 + pair.1 < 2 ^ 62) (zip outstanding end.cut)
-end-room outstanding words asks channels end steps small is =
-    zipped outstanding end.cut (λ q below.
-        omega (arith, small q (omega (arith, below, is.long, is.same)), end-sum asks words channels end steps q is))
+-- so a cut has room beside what is outstanding
+pub cut-room : (outstanding words : List ℕ) (asks : List Ask) (channels : ℕ) (steps : List Step) →
+    ((q : ℕ) → q < length words → slice_index outstanding q + (slice_index words q + requests.asked asks q) < 2 ^ 62) →
+    IsComplete (length asks) (length words) channels steps →
+    AllByRecursion (λ pair. pair.0 + pair.1 < 2 ^ 62) (zip outstanding (cut_of words asks steps))
+cut-room outstanding words asks channels steps small all =
+    zipped outstanding (cut_of words asks steps) (λ q below.
+        let inside : q < length words = omega (arith, below, cut-long asks words steps) in
+        omega (arith, small q inside, conserved asks words channels steps q all inside))

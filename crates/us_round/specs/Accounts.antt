@@ -11,11 +11,15 @@ unadded q [] flags = 0
 unadded q (row ∷ rows) [] = 0
 unadded q (row ∷ rows) (flag ∷ flags) = (if flag then 0 else bytes_for q row) + unadded q rows flags
 
--- there are as many flags as rows, words and channels; each row is of a word that is there; and no number grows too large
-pub record IsReady (rows : List Ask) (l : Ledger) : Type 0 where
+-- there are as many flags as rows, words and channels, and each row is of a word that is there
+pub record IsSized (rows : List Ask) (l : Ledger) : Type 0 where
   pub added : length l.added ≡ length rows
   pub clusters : AllByRecursion (λ ask. ask.cluster < length l.words) rows
   pub cut : length l.cut ≡ length l.words
   pub taken : length l.taken ≡ length l.words
   pub built : length l.built ≡ length l.opened
+
+-- and no number grows too large
+pub record IsReady (rows : List Ask) (l : Ledger) : Type 0 where
+  pub sized : IsSized rows l
   pub room : (q : ℕ) → slice_index l.cut q + (slice_index l.words q + unadded q rows l.added) < 2 ^ 62

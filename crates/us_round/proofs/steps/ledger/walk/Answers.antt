@@ -1,4 +1,4 @@
-use Rattle.us_round.proofs.PlayLemmas.{end-room}
+use Rattle.us_round.proofs.PlayLemmas.{cut-room}
 use Rattle.us_round.proofs.StepLemmas.{incomplete}
 use Rattle.std.proofs.Common.{◌≡◌, ◌+◌, ap, sym, ◌∙◌, Some, None, drop, if◌then◌else◌}
 use Rattle.us_round.specs.Machines.{run, after}

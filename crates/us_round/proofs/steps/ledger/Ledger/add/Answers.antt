@@ -27,6 +27,6 @@ returns c =
     rw (
       with_items_is c.self.inside.words c.raise.new.words (search (rules, places)),
       with_items_is c.self.inside.added c.mark.new.flags (search (rules, places)),
-    ) (row_added c.args.rows.now l _ c.args.row none _ _ c.self.view_is c.requires.ready.added clear
+    ) (row_added c.args.rows.now l _ c.args.row none _ _ c.self.view_is c.requires.ready.sized.added clear
     (c.raise.ensures ∙ ap (λ ws. spec.raised ws (Some (get_or c.args.rows.now c.args.row none))) c.as_mut_slice-words.ensures.value)
     (c.mark.ensures.flags c.if-not-mark.false ∙ ap (λ fs. slice_set fs c.args.row true) c.as_mut_slice-added.ensures.value))
