@@ -15,14 +15,14 @@ use crate::states::State;
 use std::alloc::Global;
 use us_requests::Ask;
 
-// What stands after each step.
+// What stands after each step,
 mod ledger;
 
-// The round of a ledger.
+// and the round of the cut that it comes to.
 mod playing;
 
-use ledger::{Ledger, walk};
-use playing::play_round;
+use ledger::tally;
+use playing::play_cut;
 
 /// A step of a round. A seat is who adds or takes: its number plays no part in what is answered.
 #[derive(Clone, Copy, Debug, PartialEq, Eq, Hash)]
@@ -77,14 +77,10 @@ pub fn play(
     ensures { IfOk result (λ found. Plays state words.now rows.now steps.now
         (option_map (λ done. record { state = done.0; words = done.1.items; out = done.2 }) found)) }
 {
-    let (mut core, calendars) = state.into_parts();
-    let channels = core.config().channels().len();
-    let mut ledger = Ledger::new(alloc, words, rows.len(), channels)?;
-    if !walk(&mut ledger, rows, steps) {
+    let channels = state.core().config().channels().len();
+    let Some((cut, left)) = tally(alloc, words, rows, channels, steps)? else {
         return Ok(None);
-    }
-    let (cut, left) = ledger.into_parts();
-    core.begin(&cut);
-    let (state, out) = play_round(alloc, core, calendars, steps)?;
+    };
+    let (state, out) = play_cut(alloc, state, &cut)?;
     Ok(Some((state, left, out)))
 }

@@ -1,7 +1,8 @@
-ghost use Rattle.std.specs.Prelude.{◌≡◌, ◌+◌, ◌^◌, ◌<◌, ℕ, Bool, not, ◌||◌, if◌then◌else◌, length, get_or, slice_index, slice_get, slice_set, replicate, Option, Some, None, true, false, IfOk, IfSome, IsTrue};
+ghost use Rattle.std.specs.Prelude.{◌≡◌, ◌+◌, ◌^◌, ◌<◌, ℕ, Bool, not, ◌||◌, if◌then◌else◌, length, get_or, slice_index, slice_set, Some, None, true, false, option_map, IfOk, IsTrue};
 ghost use Rattle.std.specs.List.{AllByRecursion};
 ghost use Rattle.us_round.specs.Machines as spec;
-ghost use Rattle.us_round.specs.Accounts.{IsReady};
+ghost use Rattle.us_requests.specs.Cuts as requests;
+ghost use Rattle.us_round.specs.Accounts.{IsReady, Tallies};
 ghost use Rattle.us_round.specs.declared.steps.Step.TheVariants as step;
 
 use super::Step;
@@ -11,7 +12,7 @@ use us_requests::Ask;
 use us_slots::NoMemory;
 
 /// What stands after each step: the words, the cut, and what was done so far.
-pub(super) struct Ledger {
+struct Ledger {
     words: Vec<u64>,
     cut: Vec<u64>,
     added: Vec<bool>,
@@ -52,7 +53,7 @@ impl Drop for Ledger {
 
 impl Ledger {
     /// Before the first step.
-    pub(super) fn new(
+    fn new(
         alloc: Global,
         words: &[u64],
         rows: usize,
@@ -78,7 +79,7 @@ impl Ledger {
     }
 
     /// The cut and the words.
-    pub(super) fn into_parts(self) -> (Vec<u64>, Vec<u64>)
+    fn into_parts(self) -> (Vec<u64>, Vec<u64>)
         ensures cut { result.0.items ≡ self.cut }
         ensures words { result.1.items ≡ self.words }
     {
@@ -177,8 +178,30 @@ impl Ledger {
     }
 }
 
+/// The cut of these steps, and what they leave in the words, if they are complete.
+pub(super) fn tally(
+    alloc: Global,
+    words: &[u64],
+    rows: &[Ask],
+    channels: usize,
+    steps: &[Step],
+) -> Result<Option<(Vec<u64>, Vec<u64>)>, NoMemory>
+    requires rows { AllByRecursion (λ ask. ask.cluster < length words.now) rows.now }
+    requires room { (q : ℕ) → q < length words.now →
+        slice_index words.now q + requests.asked rows.now q < 2 ^ 62 }
+    ensures { IfOk result (λ found. Tallies words.now rows.now channels steps.now
+        (option_map (λ parts. (parts.0.items, parts.1.items)) found)) }
+{
+    let mut ledger = Ledger::new(alloc, words, rows.len(), channels)?;
+    if walk(&mut ledger, rows, steps) {
+        Ok(Some(ledger.into_parts()))
+    } else {
+        Ok(None)
+    }
+}
+
 /// Makes these steps, and tells whether each has a place there, and all is done then.
-pub(super) fn walk(ledger: &mut Ledger, rows: &[Ask], steps: &[Step]) -> bool
+fn walk(ledger: &mut Ledger, rows: &[Ask], steps: &[Step]) -> bool
     requires { IsReady rows.now ledger.old }
     ensures { spec.run rows.now ledger.old steps.now ≡ (if result then Some ledger.new else None) }
 {

@@ -1,5 +1,3 @@
-use Rattle.us_round.proofs.PlayLemmas.{cut-room}
-use Rattle.us_round.proofs.StepLemmas.{incomplete}
 use Rattle.std.proofs.Common.{◌≡◌, ◌+◌, ap, sym, ◌∙◌, Some, None, drop, if◌then◌else◌}
 use Rattle.us_round.specs.Machines.{run, after}
 use Rattle.us_round.proofs.LedgerLemmas.{ready_after, run_first, run_end}
