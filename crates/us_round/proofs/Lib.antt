@@ -26,3 +26,4 @@ pub mod LedgerLemmas
 pub mod StepLemmas
 pub mod CutLemmas
 pub mod PlayLemmas
+pub mod PlayLaws

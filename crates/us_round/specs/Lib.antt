@@ -26,8 +26,10 @@ pub mod Leftovers
 pub mod Steps
 -- the machine that goes through them,
 pub mod Machines
--- and the round that they come to
+-- the round that they come to, and runs of such rounds
 pub mod Plays
+-- and the laws of all these
+pub mod PlayLaws
 -- inside the crate, and of no use to a reader of the promise: the claims of a plan as it is kept
 pub mod Claims
 -- what a ledger of steps keeps,

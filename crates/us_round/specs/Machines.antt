@@ -140,3 +140,8 @@ counted rows l seats (step.Built channel) = seats
 -- the machine after a step
 unfoldable pub after_step : List Ask → Machine → Step → Option Machine
 after_step rows m s = option_map (λ l. record { ledger = l; seats = counted rows m.ledger m.seats s }) (after rows m.ledger s)
+
+-- the machine after all steps; none where its ledger doesn't come to an end
+unfoldable pub run_machine : List Ask → Machine → List Step → Option Machine
+run_machine rows m [] = if is_done m.ledger then Some m else None
+run_machine rows m (s ∷ steps) = option_and_then (λ next. run_machine rows next steps) (after_step rows m s)

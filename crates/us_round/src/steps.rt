@@ -21,6 +21,10 @@ mod ledger;
 // and the round of the cut that it comes to.
 mod playing;
 
+// Laws of steps.
+mod laws;
+
+pub use laws::{machine_makes_cuts, nothing_is_lost, plays_are_rounds, seats_change_nothing};
 use ledger::tally;
 use playing::play_cut;
 
