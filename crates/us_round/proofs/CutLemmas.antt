@@ -49,24 +49,24 @@ word_to asks l word seat q steps ready clear =
     let all : ℕ = slice_index l.cut word + slice_index l.words word in
     elim (cases_Bool (word == q)) [
       | inl same ↦
-        let at : word ≡ q = eqb-true word q same in
-        let was : get_or l.taken q true ≡ false = ap (λ n. get_or l.taken n true) (sym at) ∙ clear in
-        let now : get_or (slice_set l.taken word true) q true ≡ true =
-        ap (λ n. get_or (set l.taken word true) n true) (sym at)
-        ∙ get_or-set_same l.taken word true true (clear-inside l.taken word clear) in
-        let cut : slice_index (slice_set l.cut word all) q ≡ slice_index l.cut q + slice_index l.words q =
-        ap (λ n. get_or (set l.cut word all) n 0) (sym at)
-        ∙ get_or-set_same l.cut word all 0 (omega (arith, inside, ready.cut))
-        ∙ ap (λ n. slice_index l.cut n + slice_index l.words n) at in
-        let left : slice_index (slice_set l.words word 0) q ≡ 0 =
-        ap (λ n. get_or (set l.words word 0) n 0) (sym at) ∙ get_or-set_same l.words word 0 0 inside in
-        rw (was, now, same) (omega (arith, cut), omega (arith, left))
+          let at : word ≡ q = eqb-true word q same in
+          let was : get_or l.taken q true ≡ false = ap (λ n. get_or l.taken n true) (sym at) ∙ clear in
+          let now : get_or (slice_set l.taken word true) q true ≡ true =
+          ap (λ n. get_or (set l.taken word true) n true) (sym at)
+          ∙ get_or-set_same l.taken word true true (clear-inside l.taken word clear) in
+          let cut : slice_index (slice_set l.cut word all) q ≡ slice_index l.cut q + slice_index l.words q =
+          ap (λ n. get_or (set l.cut word all) n 0) (sym at)
+          ∙ get_or-set_same l.cut word all 0 (omega (arith, inside, ready.cut))
+          ∙ ap (λ n. slice_index l.cut n + slice_index l.words n) at in
+          let left : slice_index (slice_set l.words word 0) q ≡ 0 =
+          ap (λ n. get_or (set l.words word 0) n 0) (sym at) ∙ get_or-set_same l.words word 0 0 inside in
+          rw (was, now, same) (omega (arith, cut), omega (arith, left))
       | inr other ↦
-        let apart : q ≡ word → ⊥ = λ at. eqb-false word q other (sym at) in
-        let flag : get_or (slice_set l.taken word true) q true ≡ get_or l.taken q true = set-other l.taken word q true apart in
-        let cut : slice_index (slice_set l.cut word all) q ≡ slice_index l.cut q = get_or-set_other l.cut word q all 0 apart in
-        let left : slice_index (slice_set l.words word 0) q ≡ slice_index l.words q = get_or-set_other l.words word q 0 0 apart in
-        rw (flag, cut, left, other) (elim (cases_Bool (get_or l.taken q true)) [
+          let apart : q ≡ word → ⊥ = λ at. eqb-false word q other (sym at) in
+          let flag : get_or (slice_set l.taken word true) q true ≡ get_or l.taken q true = set-other l.taken word q true apart in
+          let cut : slice_index (slice_set l.cut word all) q ≡ slice_index l.cut q = get_or-set_other l.cut word q all 0 apart in
+          let left : slice_index (slice_set l.words word 0) q ≡ slice_index l.words q = get_or-set_other l.words word q 0 0 apart in
+          rw (flag, cut, left, other) (elim (cases_Bool (get_or l.taken q true)) [
             | inl full ↦ rw full (refl, omega arith)
             | inr free ↦ rw free (omega arith, refl)
           ])

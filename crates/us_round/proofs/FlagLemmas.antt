@@ -47,27 +47,27 @@ pub set-counted : (flags : List Bool) (i r n : ℕ) → get_or flags i true ≡ 
     (if i == r then suc n else n) ≡ unset flags r → n ≡ unset (slice_set flags i true) r
 set-counted flags i r n clear is = elim (cases_Bool (i == r)) [
   | inl same ↦
-    let at : i ≡ r = eqb-true i r same in
-    let one : unset flags r ≡ 1 = unset-at flags r (ap (λ k. get_or flags k true) (sym at) ∙ clear) in
-    let all : suc n ≡ unset flags r = rw same at is in
-    omega (arith, one, all, set-same flags i r clear (sym at))
+      let at : i ≡ r = eqb-true i r same in
+      let one : unset flags r ≡ 1 = unset-at flags r (ap (λ k. get_or flags k true) (sym at) ∙ clear) in
+      let all : suc n ≡ unset flags r = rw same at is in
+      omega (arith, one, all, set-same flags i r clear (sym at))
   | inr other ↦
-    let all : n ≡ unset flags r = rw other at is in
-    all ∙ ap (λ b. if b then 0 else 1) (sym (set-other flags i r true (λ at. eqb-false i r other (sym at))))
+      let all : n ≡ unset flags r = rw other at is in
+      all ∙ ap (λ b. if b then 0 else 1) (sym (set-other flags i r true (λ at. eqb-false i r other (sym at))))
 ]
 
 pub counted-set : (flags : List Bool) (i r n : ℕ) → get_or flags i true ≡ false →
     n ≡ unset (slice_set flags i true) r → (if i == r then suc n else n) ≡ unset flags r
 counted-set flags i r n clear is = elim (cases_Bool (i == r)) [
   | inl same ↦
-    let at : i ≡ r = eqb-true i r same in
-    let one : unset flags r ≡ 1 = unset-at flags r (ap (λ k. get_or flags k true) (sym at) ∙ clear) in
-    let all : suc n ≡ unset flags r = omega (arith, one, is, set-same flags i r clear (sym at)) in
-    rw same all
+      let at : i ≡ r = eqb-true i r same in
+      let one : unset flags r ≡ 1 = unset-at flags r (ap (λ k. get_or flags k true) (sym at) ∙ clear) in
+      let all : suc n ≡ unset flags r = omega (arith, one, is, set-same flags i r clear (sym at)) in
+      rw same all
   | inr other ↦
-    let all : n ≡ unset flags r =
-    is ∙ ap (λ b. if b then 0 else 1) (set-other flags i r true (λ at. eqb-false i r other (sym at))) in
-    rw other all
+      let all : n ≡ unset flags r =
+      is ∙ ap (λ b. if b then 0 else 1) (set-other flags i r true (λ at. eqb-false i r other (sym at))) in
+      rw other all
 ]
 
 -- a flag that is set already is counted no more
@@ -75,8 +75,8 @@ pub set-over : (flags : List Bool) (i n : ℕ) → get_or flags i true ≡ true 
     (if i == i then suc n else n) ≡ unset flags i → ⊥
 set-over flags i n full is = elim (cases_Bool (i == i)) [
   | inl same ↦
-    let all : suc n ≡ unset flags i = rw same at is in
-    omega (arith, unset-past flags i full, all)
+      let all : suc n ≡ unset flags i = rw same at is in
+      omega (arith, unset-past flags i full, all)
   | inr other ↦ eqb-false i i other refl
 ]
 
@@ -102,9 +102,9 @@ behind-few p q [] = omega arith
 behind-few p q (x ∷ xs) = elim (cases_Bool (q x)) [
   | inl here ↦ rw here (more (p x))
   | inr later ↦ rw later (elim (cases_Bool (p x)) [
-      | inl passes ↦ rw passes (omega (arith, behind-few p q xs))
-      | inr fails ↦ rw fails (behind-few p q xs)
-    ])
+    | inl passes ↦ rw passes (omega (arith, behind-few p q xs))
+    | inr fails ↦ rw fails (behind-few p q xs)
+  ])
 ]
   where
     more : (b : Bool) → count p xs ≤ (if b then suc (count p xs) else count p xs)

@@ -55,15 +55,15 @@ pub raised-at : (words : List ℕ) (ask : Ask) (q : ℕ) → ask.cluster < lengt
     slice_index (raised words (Some ask)) q ≡ slice_index words q + bytes_for q ask
 raised-at words ask q inside = elim (cases_Bool (ask.cluster == q)) [
   | inl same ↦
-    let at : ask.cluster ≡ q = eqb-true ask.cluster q same in
-    let now : slice_index (raised words (Some ask)) q ≡ slice_index words ask.cluster + ask.bytes =
-    ap (λ n. get_or (raised words (Some ask)) n 0) (sym at)
-    ∙ get_or-set_same words ask.cluster (slice_index words ask.cluster + ask.bytes) 0 inside in
-    rw same (now ∙ ap (λ n. slice_index words n + ask.bytes) at)
+      let at : ask.cluster ≡ q = eqb-true ask.cluster q same in
+      let now : slice_index (raised words (Some ask)) q ≡ slice_index words ask.cluster + ask.bytes =
+      ap (λ n. get_or (raised words (Some ask)) n 0) (sym at)
+      ∙ get_or-set_same words ask.cluster (slice_index words ask.cluster + ask.bytes) 0 inside in
+      rw same (now ∙ ap (λ n. slice_index words n + ask.bytes) at)
   | inr other ↦
-    let now : slice_index (raised words (Some ask)) q ≡ slice_index words q =
-    get_or-set_other words ask.cluster q (slice_index words ask.cluster + ask.bytes) 0 (λ at. eqb-false ask.cluster q other (sym at)) in
-    rw other (omega (arith, now))
+      let now : slice_index (raised words (Some ask)) q ≡ slice_index words q =
+      get_or-set_other words ask.cluster q (slice_index words ask.cluster + ask.bytes) 0 (λ at. eqb-false ask.cluster q other (sym at)) in
+      rw other (omega (arith, now))
 ]
 
 pub raised-in : (words : List ℕ) (rows : List Ask) (row q : ℕ) →
@@ -86,21 +86,21 @@ pub moved : (cut words : List ℕ) (w q : ℕ) → w < length words → length c
     ≡ slice_index cut q + slice_index words q
 moved cut words w q inside long = elim (cases_Bool (w == q)) [
   | inl same ↦
-    let at : w ≡ q = eqb-true w q same in
-    let first : slice_index (slice_set cut w (slice_index cut w + slice_index words w)) q ≡ slice_index cut w + slice_index words w =
-    ap (λ n. get_or (set cut w (slice_index cut w + slice_index words w)) n 0) (sym at)
-    ∙ get_or-set_same cut w (slice_index cut w + slice_index words w) 0 (omega (arith, inside, long)) in
-    let after_it : slice_index (slice_set words w 0) q ≡ 0 =
-    ap (λ n. get_or (set words w 0) n 0) (sym at) ∙ get_or-set_same words w 0 0 inside in
-    let whole : slice_index cut w + slice_index words w ≡ slice_index cut q + slice_index words q =
-    ap (λ n. slice_index cut n + slice_index words n) at in
-    omega (arith, first, after_it, whole)
+      let at : w ≡ q = eqb-true w q same in
+      let first : slice_index (slice_set cut w (slice_index cut w + slice_index words w)) q ≡ slice_index cut w + slice_index words w =
+      ap (λ n. get_or (set cut w (slice_index cut w + slice_index words w)) n 0) (sym at)
+      ∙ get_or-set_same cut w (slice_index cut w + slice_index words w) 0 (omega (arith, inside, long)) in
+      let after_it : slice_index (slice_set words w 0) q ≡ 0 =
+      ap (λ n. get_or (set words w 0) n 0) (sym at) ∙ get_or-set_same words w 0 0 inside in
+      let whole : slice_index cut w + slice_index words w ≡ slice_index cut q + slice_index words q =
+      ap (λ n. slice_index cut n + slice_index words n) at in
+      omega (arith, first, after_it, whole)
   | inr other ↦
-    let first : slice_index (slice_set cut w (slice_index cut w + slice_index words w)) q ≡ slice_index cut q =
-    get_or-set_other cut w q (slice_index cut w + slice_index words w) 0 (λ at. eqb-false w q other (sym at)) in
-    let after_it : slice_index (slice_set words w 0) q ≡ slice_index words q =
-    get_or-set_other words w q 0 0 (λ at. eqb-false w q other (sym at)) in
-    omega (arith, first, after_it)
+      let first : slice_index (slice_set cut w (slice_index cut w + slice_index words w)) q ≡ slice_index cut q =
+      get_or-set_other cut w q (slice_index cut w + slice_index words w) 0 (λ at. eqb-false w q other (sym at)) in
+      let after_it : slice_index (slice_set words w 0) q ≡ slice_index words q =
+      get_or-set_other words w q 0 0 (λ at. eqb-false w q other (sym at)) in
+      omega (arith, first, after_it)
 ]
 
 -- the bytes of a cluster in all places: its cut, its word, and its rows that aren't added yet
@@ -219,25 +219,25 @@ pub row_added : (rows : List Ask) (l m : Ledger) (row : ℕ) (d : Ask) (words : 
     length l.added ≡ length rows → get_or l.added row true ≡ false →
     words ≡ raised m.words (Some (get_or rows row d)) → added ≡ slice_set m.added row true →
     (if get_or l.added row true then None else Some (with_row rows l row)) ≡ Some (record {
-        words = words;
-        cut = m.cut;
-        added = added;
-        taken = m.taken;
-        opened = m.opened;
-        built = m.built;
-        settled = m.settled;
+      words = words;
+      cut = m.cut;
+      added = added;
+      taken = m.taken;
+      opened = m.opened;
+      built = m.built;
+      settled = m.settled;
     })
 row_added rows l m row d words added same long clear more flag =
     let inside : row < length rows = omega (arith, clear-inside l.added row clear, long) in
     rw (clear, more, flag, same) (ap (λ found. Some (record {
-            words = raised l.words found;
-            cut = l.cut;
-            added = slice_set l.added row true;
-            taken = l.taken;
-            opened = l.opened;
-            built = l.built;
-            settled = l.settled;
-        })) (slice_get-get_or rows row d inside))
+      words = raised l.words found;
+      cut = l.cut;
+      added = slice_set l.added row true;
+      taken = l.taken;
+      opened = l.opened;
+      built = l.built;
+      settled = l.settled;
+    })) (slice_get-get_or rows row d inside))
 
 -- All steps.
 

@@ -22,7 +22,7 @@ pub asked-total : (asks : List Ask) (q : ℕ) → requests.asked asks q ≡ tota
 asked-total [] q = refl
 asked-total (ask ∷ asks) q = elim (cases_Bool (ask.cluster == q)) [
   | inl same ↦
-    rw same (omega (
+      rw same (omega (
         arith,
         sum_by-cons (λ (a : Ask). a.bytes) ask (filter (λ a. a.cluster == q) asks),
         asked-total asks q,
@@ -66,15 +66,15 @@ opening-ready words asks channels known small = record {
   sized = opening-sized words asks channels known;
   room = λ q. elim (cases_lt q (length words)) [
     | inl below ↦
-      omega (arith, small q below, asked-total asks q, unadded-fresh q asks, zeros (length words) q)
+        omega (arith, small q below, asked-total asks q, unadded-fresh q asks, zeros (length words) q)
     | inr past ↦
-      omega (
-        arith,
-        none-past q (length words) asks known past,
-        unadded-fresh q asks,
-        zeros (length words) q,
-        get_or_past words q 0 past,
-      )
+        omega (
+          arith,
+          none-past q (length words) asks known past,
+          unadded-fresh q asks,
+          zeros (length words) q,
+          get_or_past words q 0 past,
+        )
   ];
 }
 
@@ -108,9 +108,9 @@ pub end-cut : (asks : List Ask) (words : List ℕ) (channels : ℕ) (end : Ledge
 unfolding cut_of
 end-cut asks words channels end steps is =
     mapped-at (cut_at words asks steps) end.cut (length words) (is.long ∙ is.same) (λ q below.
-        let at : cut_to asks (opening_ledger words (length asks) channels) steps q ≡ cut_at words asks steps q =
-        rw (not-taken words q below) (omega (arith, zeros (length words) q)) in
-        is.cut q ∙ at)
+    let at : cut_to asks (opening_ledger words (length asks) channels) steps q ≡ cut_at words asks steps q =
+    rw (not-taken words q below) (omega (arith, zeros (length words) q)) in
+    is.cut q ∙ at)
 
 -- what is left in the words,
 pub end-words : (asks : List Ask) (words : List ℕ) (channels : ℕ) (end : Ledger) (steps : List Step) →
@@ -118,9 +118,9 @@ pub end-words : (asks : List Ask) (words : List ℕ) (channels : ℕ) (end : Led
 unfolding left_of
 end-words asks words channels end steps is =
     mapped-at (left_at asks steps) end.words (length words) is.same (λ q below.
-        let at : left_to asks (opening_ledger words (length asks) channels) steps q ≡ left_at asks steps q =
-        rw (not-taken words q below) refl in
-        is.words q ∙ at)
+    let at : left_to asks (opening_ledger words (length asks) channels) steps q ≡ left_at asks steps q =
+    rw (not-taken words q below) refl in
+    is.words q ∙ at)
 
 -- All rows of a complete list are added.
 
@@ -133,10 +133,10 @@ all-added asks flags [] words channels q long there each =
 all-added asks flags (step.Add row seat ∷ steps) words channels q long there each = elim (cases_Bool (get_or flags row true)) [
   | inl full ↦ absurd (set-over flags row (count (adds row) steps) full (each row there.0))
   | inr clear ↦
-    let rest : total (added_by asks q) steps ≡ unadded q asks (slice_set flags row true) =
-    all-added asks (slice_set flags row true) steps words channels q (length-set flags row true ∙ long) there.1
-    (λ r below. set-counted flags row r (count (adds r) steps) clear (each r below)) in
-    omega (arith, rest, unadded-set q asks flags row long clear)
+      let rest : total (added_by asks q) steps ≡ unadded q asks (slice_set flags row true) =
+      all-added asks (slice_set flags row true) steps words channels q (length-set flags row true ∙ long) there.1
+      (λ r below. set-counted flags row r (count (adds r) steps) clear (each r below)) in
+      omega (arith, rest, unadded-set q asks flags row long clear)
 ]
 all-added asks flags (step.Take word seat ∷ steps) words channels q long there each =
     omega (arith, all-added asks flags steps words channels q long there.1 each)
@@ -203,5 +203,5 @@ pub cut-room : (outstanding words : List ℕ) (asks : List Ask) (channels : ℕ)
     AllByRecursion (λ pair. pair.0 + pair.1 < 2 ^ 62) (zip outstanding (cut_of words asks steps))
 cut-room outstanding words asks channels steps small all =
     zipped outstanding (cut_of words asks steps) (λ q below.
-        let inside : q < length words = omega (arith, below, cut-long asks words steps) in
-        omega (arith, small q inside, conserved asks words channels steps q all inside))
+    let inside : q < length words = omega (arith, below, cut-long asks words steps) in
+    omega (arith, small q inside, conserved asks words channels steps q all inside))

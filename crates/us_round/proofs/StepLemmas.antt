@@ -72,15 +72,15 @@ builds-open : (c channel : ℕ) (flags : List Bool) (steps : List Step) → get_
     ≡ late_builds c (get_or (slice_set flags channel true) c true) steps
 builds-open c channel flags steps clear = elim (cases_Bool (channel == c)) [
   | inl same ↦
-    let at : channel ≡ c = eqb-true channel c same in
-    let was : get_or flags c true ≡ false = ap (λ n. get_or flags n true) (sym at) ∙ clear in
-    let none : unset (slice_set flags channel true) c ≡ 0 = set-same flags channel c clear (sym at) in
-    let now : get_or (slice_set flags channel true) c true ≡ true = unset-full (slice_set flags channel true) c none in
-    rw (was, now, same) refl
+      let at : channel ≡ c = eqb-true channel c same in
+      let was : get_or flags c true ≡ false = ap (λ n. get_or flags n true) (sym at) ∙ clear in
+      let none : unset (slice_set flags channel true) c ≡ 0 = set-same flags channel c clear (sym at) in
+      let now : get_or (slice_set flags channel true) c true ≡ true = unset-full (slice_set flags channel true) c none in
+      rw (was, now, same) refl
   | inr other ↦
-    let now : get_or (slice_set flags channel true) c true ≡ get_or flags c true =
-    set-other flags channel c true (λ at. eqb-false channel c other (sym at)) in
-    rw now (apart (get_or flags c true) other)
+      let now : get_or (slice_set flags channel true) c true ≡ get_or flags c true =
+      set-other flags channel c true (λ at. eqb-false channel c other (sym at)) in
+      rw now (apart (get_or flags c true) other)
 ]
   where
     apart : (opened : Bool) → (channel == c) ≡ false →
@@ -273,26 +273,26 @@ refused asks rows words channels l (step.Add row seat) steps is none all =
 refused asks rows words channels l (step.Take word seat) steps is none all = elim (cases_Bool l.settled) [
   | inl late ↦ absurd (cc (rw late at all.settled))
   | inr early ↦
-    let full : get_or l.taken word true ≡ true =
-    rw early at (unplaced (l.settled || get_or l.taken word true) (without_word l word) none) in
-    set-over l.taken word (count (takes word) steps) full (all.taken word all.there.0)
+      let full : get_or l.taken word true ≡ true =
+      rw early at (unplaced (l.settled || get_or l.taken word true) (without_word l word) none) in
+      set-over l.taken word (count (takes word) steps) full (all.taken word all.there.0)
 ]
 refused asks rows words channels l (step.Open channel) steps is none all =
     set-over l.opened channel (count (opens channel) steps)
     (unplaced (get_or l.opened channel true) (with_open l channel) none) (all.opened channel all.there.0)
 refused asks rows words channels l (step.Built channel) steps is none all = elim (cases_Bool (get_or l.opened channel true)) [
   | inl begun ↦
-    let out : get_or l.opened channel false ≡ true =
-    get_or_default l.opened channel false true (omega (arith, is.opened, all.there.0)) ∙ begun in
-    let full : get_or l.built channel true ≡ true =
-    rw out at (unplaced (not (get_or l.opened channel false) || get_or l.built channel true) (with_built l channel) none) in
-    set-over l.built channel (count (builds channel) steps) full (all.built channel all.there.0)
+      let out : get_or l.opened channel false ≡ true =
+      get_or_default l.opened channel false true (omega (arith, is.opened, all.there.0)) ∙ begun in
+      let full : get_or l.built channel true ≡ true =
+      rw out at (unplaced (not (get_or l.opened channel false) || get_or l.built channel true) (with_built l channel) none) in
+      set-over l.built channel (count (builds channel) steps) full (all.built channel all.there.0)
   | inr home ↦
-    let one : suc (count (builds channel) steps) ≡ unset l.built channel =
-    counted-here l.built channel (count (builds channel) steps) (all.built channel all.there.0) in
-    let later : count (builds channel) (behind (opens channel) steps) ≡ unset l.built channel =
-    rw home at (all.later channel all.there.0) in
-    omega (arith, one, later, unset-few l.built channel, behind-few (builds channel) (opens channel) steps)
+      let one : suc (count (builds channel) steps) ≡ unset l.built channel =
+      counted-here l.built channel (count (builds channel) steps) (all.built channel all.there.0) in
+      let later : count (builds channel) (behind (opens channel) steps) ≡ unset l.built channel =
+      rw home at (all.later channel all.there.0) in
+      omega (arith, one, later, unset-few l.built channel, behind-few (builds channel) (opens channel) steps)
 ]
 
 -- All steps.
@@ -337,6 +337,7 @@ none-done rows words channels l done =
     no-takes : (settled : Bool) → late_takes settled [] ≡ 0
     no-takes true = refl
     no-takes false = refl
+
     no-builds : (c : ℕ) (opened : Bool) → late_builds c opened [] ≡ 0
     no-builds c true = refl
     no-builds c false = refl

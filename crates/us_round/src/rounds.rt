@@ -58,7 +58,11 @@ pub fn round(alloc: Global, state: State, cuts: &[u64]) -> Result<(State, RoundO
 }
 
 /// Runs a round that has begun.
-pub(crate) fn run(alloc: Global, core: Core, calendars: Vec<Calendar>) -> Result<(State, RoundOut), NoMemory>
+pub(crate) fn run(
+    alloc: Global,
+    core: Core,
+    calendars: Vec<Calendar>,
+) -> Result<(State, RoundOut), NoMemory>
     requires lawful { AreTables core.tables }
     requires time { (core.round + 1) * core.tables.round_ticks ≤ max_run_ticks }
     requires calendars { AreCalendars core.tables core.round calendars.items }

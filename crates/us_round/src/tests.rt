@@ -4,3 +4,4 @@ mod base;
 mod calendars;
 mod memory;
 mod rounds;
+mod steps;

@@ -53,12 +53,7 @@ impl Drop for Ledger {
 
 impl Ledger {
     /// Before the first step.
-    fn new(
-        alloc: Global,
-        words: &[u64],
-        rows: usize,
-        channels: usize,
-    ) -> Result<Ledger, NoMemory>
+    fn new(alloc: Global, words: &[u64], rows: usize, channels: usize) -> Result<Ledger, NoMemory>
         ensures { IfOk result (λ ledger. ledger ≡ spec.opening_ledger words.now rows channels) }
     {
         let cut = vec![in alloc; 0; words.len()]?;
@@ -174,7 +169,10 @@ impl Ledger {
     fn is_done(&self) -> bool
         ensures { result ≡ spec.is_done self.now }
     {
-        are_set(&self.added) && are_set(&self.taken) && are_set(&self.opened) && are_set(&self.built)
+        are_set(&self.added)
+            && are_set(&self.taken)
+            && are_set(&self.opened)
+            && are_set(&self.built)
     }
 }
 

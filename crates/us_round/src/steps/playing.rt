@@ -12,7 +12,11 @@ use std::alloc::Global;
 use us_slots::NoMemory;
 
 /// The round of a state and a cut, which the calling thread makes by itself.
-pub(super) fn play_cut(alloc: Global, state: State, cut: &[u64]) -> Result<(State, RoundOut), NoMemory>
+pub(super) fn play_cut(
+    alloc: Global,
+    state: State,
+    cut: &[u64],
+) -> Result<(State, RoundOut), NoMemory>
     requires clusters { length cut.now ≡ length (clusters_of state.tables) }
     requires room { AllByRecursion (λ pair. pair.0 + pair.1 < 2 ^ 62) (zip state.outstanding cut.now) }
     requires time { (state.round + 1) * state.tables.round_ticks ≤ max_run_ticks }
