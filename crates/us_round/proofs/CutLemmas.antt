@@ -1,16 +1,13 @@
 -- What the machine cuts of each word, and what it leaves there.
-use Rattle.std.proofs.Common.{◌≡◌, ℕ, zero, suc, ◌+◌, ◌^◌, ◌<◌, ◌≤◌, ◌==◌, eqb, Bool, true, false, cond, not, ◌&&◌, ◌||◌, if◌then◌else◌, List, [], ◌∷◌, length, map, replicate, set, get_or, slice_index, slice_get, slice_set, Option, Some, None, refl, ap, sym, subst, ◌∙◌, inl, inr, arith}
-use Rattle.std.specs.Prelude.{option_and_then, sum_by, filter, zip}
-use Rattle.std.specs.List.{AllByRecursion, range_with_len}
+use Rattle.std.proofs.Common.{◌≡◌, ℕ, ◌+◌, ◌<◌, ◌==◌, Bool, true, false, not, ◌&&◌, ◌||◌, if◌then◌else◌, List, [], ◌∷◌, length, set, get_or, slice_index, slice_get, slice_set, Option, Some, None, refl, ap, sym, subst, ◌∙◌, inl, inr, arith}
+use Rattle.std.specs.Prelude.{option_and_then}
 use Rattle.std.proofs.lemmas.Bool.{cases_Bool, eqb-true, eqb-false}
-use Rattle.std.proofs.lemmas.List.{length-set, get_or-set_same, get_or-set_other, get_or-replicate, length-replicate}
-use Rattle.std.proofs.lemmas.List.Sums.{sum_by-cons}
+use Rattle.std.proofs.lemmas.List.{length-set, get_or-set_same, get_or-set_other}
 use Rattle.us_requests.specs.declared.asks.Ask.{Ask}
-use Rattle.us_requests.specs.Cuts as requests
 use Rattle.us_round.specs.declared.steps.Step.{Step}
 use Rattle.us_round.specs.declared.steps.Step.TheVariants as step
-use Rattle.us_round.specs.Steps.{bytes_for, bytes_in, added_by, total, takes, ahead, behind, cut_at, left_at, cut_of, left_of}
-use Rattle.us_round.specs.Machines.{Ledger, opening_ledger, raised, with_row, without_word, with_open, with_built, after, are_set, is_done, run}
+use Rattle.us_round.specs.Steps.{bytes_in, added_by, total, takes, ahead, behind}
+use Rattle.us_round.specs.Machines.{Ledger, raised, with_row, without_word, with_open, with_built, after, are_set, is_done, run}
 use Rattle.us_round.specs.Accounts.{IsSized, unadded}
 use Rattle.us_round.proofs.LedgerLemmas.{placed, neither, raised-in, raised-length, balance, balance_after, sized_after}
 use Rattle.us_round.proofs.StepLemmas.{found-true}

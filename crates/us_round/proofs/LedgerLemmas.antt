@@ -1,17 +1,17 @@
 -- What a ledger keeps from step to step: nothing is lost, and no number grows too large.
-use Rattle.std.proofs.Common.{◌≡◌, ℕ, zero, suc, ◌+◌, ◌^◌, ◌<◌, ◌≤◌, ◌==◌, eqb, Bool, true, false, cond, not, ◌&&◌, ◌||◌, if◌then◌else◌, List, [], ◌∷◌, length, drop, replicate, set, get_or, slice_index, slice_get, slice_set, Option, Some, None, refl, ap, sym, subst, ◌∙◌, inl, inr, arith}
+use Rattle.std.proofs.Common.{◌≡◌, ℕ, zero, suc, ◌+◌, ◌^◌, ◌<◌, ◌≤◌, ◌==◌, Bool, true, false, not, ◌||◌, if◌then◌else◌, List, [], ◌∷◌, length, drop, set, get_or, slice_index, slice_get, slice_set, Option, Some, None, refl, ap, sym, subst, ◌∙◌, inl, inr, arith}
 use Rattle.std.specs.Prelude.{option_and_then}
 use Rattle.std.specs.List.{AllByRecursion}
 use Rattle.std.proofs.lemmas.Bool.{cases_Bool, eqb-true, eqb-false}
-use Rattle.std.proofs.lemmas.List.{length-set, get_or-set_same, get_or-set_other, get_or-replicate, get_or_past, drop_more, drop_all, length-replicate}
+use Rattle.std.proofs.lemmas.List.{length-set, get_or-set_same, get_or-set_other, drop_more, drop_all}
 use Rattle.std.proofs.lemmas.Option.{slice_get-get_or}
 use Rattle.us_requests.specs.declared.asks.Ask.{Ask}
 use Rattle.us_round.specs.declared.steps.Step.{Step}
 use Rattle.us_round.specs.declared.steps.Step.TheVariants as step
-use Rattle.us_round.specs.Steps.{bytes_for, bytes_in, total}
-use Rattle.us_round.specs.Machines.{Ledger, opening_ledger, raised, with_row, without_word, with_open, with_built, after, is_done, run}
+use Rattle.us_round.specs.Steps.{bytes_for, bytes_in}
+use Rattle.us_round.specs.Machines.{Ledger, raised, with_row, without_word, with_open, with_built, after, is_done, run}
 use Rattle.us_round.specs.Accounts.{IsReady, IsSized, unadded}
-use Rattle.us_round.proofs.PartLemmas.{all_found, all_weaker}
+use Rattle.us_round.proofs.PartLemmas.{all_found}
 use Rattle.us_round.proofs.StateLemmas.{eqb-self}
 use Rattle.us_round.proofs.FlagLemmas.{clear-inside}
 

@@ -1,11 +1,9 @@
 -- The laws of steps and plays.
-use Rattle.std.proofs.Common.{◌≡◌, ℕ, zero, suc, ◌+◌, ◌<◌, Bool, true, false, if◌then◌else◌, List, [], ◌∷◌, length, map, slice_index, Option, Some, None, refl, ap, sym, subst, ◌∙◌, arith}
+use Rattle.std.proofs.Common.{◌≡◌, ℕ, ◌+◌, ◌<◌, Bool, true, false, if◌then◌else◌, List, [], ◌∷◌, length, map, slice_index, Option, Some, None, refl, ap, sym, subst, ◌∙◌, arith}
 use Rattle.std.specs.Prelude.{option_map, option_and_then}
 use Rattle.std.specs.List.{AllByRecursion}
 use Rattle.us_flows.specs.Tables.{Tables}
-use Rattle.us_requests.specs.declared.asks.Ask.{Ask}
 use Rattle.us_requests.specs.Cuts as requests
-use Rattle.us_round.specs.declared.steps.Step.{Step}
 use Rattle.us_round.specs.Rounds.{State, opening, round_of, round_from, schedule, final}
 use Rattle.us_round.specs.Outputs.{out_of}
 use Rattle.us_round.specs.Steps.{IsComplete, total, cut_of, left_of}

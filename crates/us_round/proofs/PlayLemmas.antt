@@ -1,8 +1,8 @@
 -- From a ledger before the first step to a round.
-use Rattle.std.proofs.Common.{◌≡◌, ℕ, zero, suc, ◌+◌, ◌^◌, ◌<◌, ◌≤◌, ◌==◌, eqb, Bool, true, false, cond, if◌then◌else◌, List, [], ◌∷◌, length, map, replicate, get_or, slice_index, slice_set, Some, None, refl, ap, sym, subst, ◌∙◌, inl, inr, arith}
-use Rattle.std.specs.Prelude.{sum_by, filter, zip}
+use Rattle.std.proofs.Common.{◌≡◌, ℕ, zero, suc, ◌+◌, ◌^◌, ◌<◌, ◌≤◌, ◌==◌, Bool, true, false, List, [], ◌∷◌, length, map, replicate, get_or, slice_index, slice_set, refl, ap, sym, ◌∙◌, inl, inr, arith}
+use Rattle.std.specs.Prelude.{filter, zip}
 use Rattle.std.specs.List.{AllByRecursion, range_with_len}
-use Rattle.std.proofs.lemmas.Bool.{cases_Bool, cases_lt, eqb-true, eqb-false}
+use Rattle.std.proofs.lemmas.Bool.{cases_Bool, cases_lt, eqb-true}
 use Rattle.std.proofs.lemmas.List.{length-set, get_or-replicate, get_or_past, length-replicate}
 use Rattle.std.proofs.lemmas.List.Sums.{sum_by-cons}
 use Rattle.us_requests.specs.declared.asks.Ask.{Ask}
@@ -10,7 +10,7 @@ use Rattle.us_requests.specs.Cuts as requests
 use Rattle.us_round.specs.declared.steps.Step.{Step}
 use Rattle.us_round.specs.declared.steps.Step.TheVariants as step
 use Rattle.us_round.specs.Steps.{bytes_for, added_by, total, count, adds, takes, ahead, behind, IsThere, IsComplete, cut_at, left_at, cut_of, left_of}
-use Rattle.us_round.specs.Machines.{Ledger, opening_ledger, run}
+use Rattle.us_round.specs.Machines.{Ledger, opening_ledger}
 use Rattle.us_round.specs.Accounts.{IsReady, IsSized, unadded}
 use Rattle.std.proofs.lemmas.List.FromFn.{length-map-range_with_len, get_or-map-range_with_len}
 use Rattle.us_round.proofs.FlagLemmas.{unset, unset-fresh, set-counted, set-over, none-set}

@@ -1,17 +1,17 @@
 -- That the machine goes through a list of steps where the list is complete, and nowhere else.
-use Rattle.std.proofs.Common.{◌≡◌, ℕ, zero, suc, ◌+◌, ◌^◌, ◌<◌, ◌≤◌, ◌==◌, eqb, Bool, true, false, cond, not, ◌&&◌, ◌||◌, if◌then◌else◌, List, [], ◌∷◌, length, replicate, set, get_or, slice_index, slice_get, slice_set, Option, Some, None, refl, ap, sym, subst, ◌∙◌, inl, inr, arith}
+use Rattle.std.proofs.Common.{◌≡◌, ℕ, zero, suc, ◌<◌, ◌==◌, Bool, true, false, not, ◌&&◌, ◌||◌, if◌then◌else◌, List, [], ◌∷◌, length, replicate, get_or, slice_set, Option, Some, None, refl, ap, sym, subst, ◌∙◌, inl, inr, arith}
 use Rattle.std.specs.Prelude.{option_and_then}
 use Rattle.std.specs.List.{AllByRecursion}
 use Rattle.std.proofs.lemmas.Bool.{cases_Bool, eqb-true, eqb-false}
-use Rattle.std.proofs.lemmas.List.{length-set, get_or-replicate, length-replicate, get_or_past, get_or_default}
+use Rattle.std.proofs.lemmas.List.{length-set, get_or-replicate, length-replicate, get_or_default}
 use Rattle.us_requests.specs.declared.asks.Ask.{Ask}
 use Rattle.us_round.specs.declared.steps.Step.{Step}
 use Rattle.us_round.specs.declared.steps.Step.TheVariants as step
 use Rattle.us_round.specs.Steps.{count, behind, adds, takes, opens, builds, takes_one, opens_one, IsThere, IsComplete}
-use Rattle.us_round.specs.Machines.{Ledger, opening_ledger, raised, with_row, without_word, with_open, with_built, after, are_set, is_done, run}
+use Rattle.us_round.specs.Machines.{Ledger, opening_ledger, with_row, without_word, with_open, with_built, after, are_set, is_done, run}
 use Rattle.us_round.proofs.StateLemmas.{eqb-self}
 use Rattle.us_round.proofs.LedgerLemmas.{placed, unplaced, neither, not-false}
-use Rattle.us_round.proofs.FlagLemmas.{unset, unset-at, unset-past, unset-few, unset-full, clear-inside, set-same, set-other, set-counted, counted-set, set-over, set-none, none-set, unset-fresh, behind-few}
+use Rattle.us_round.proofs.FlagLemmas.{unset, unset-few, unset-full, clear-inside, set-same, set-other, set-counted, counted-set, set-over, set-none, none-set, unset-fresh, behind-few}
 
 -- How many steps take a word too late, and how many tell that an opened channel is built: the ones behind its opening, all
 -- of them where it is open already.

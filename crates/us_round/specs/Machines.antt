@@ -1,5 +1,5 @@
 -- The step machine: what stands after each step, and what each seat added and took.
-use Rattle.std.specs.Prelude.{◌≡◌, ℕ, ◌+◌, ◌==◌, Bool, true, false, not, ◌&&◌, ◌||◌, if◌then◌else◌, List, [], ◌∷◌, length, replicate, get_or, slice_index, slice_get, slice_set, Option, Some, None, option_map, option_and_then}
+use Rattle.std.specs.Prelude.{ℕ, ◌+◌, ◌==◌, Bool, true, false, not, ◌&&◌, ◌||◌, if◌then◌else◌, List, [], ◌∷◌, length, replicate, get_or, slice_index, slice_get, slice_set, Option, Some, None, option_map, option_and_then}
 use Rattle.us_requests.specs.declared.asks.Ask.{Ask}
 use Rattle.us_round.specs.Steps.{bytes_in}
 use Rattle.us_round.specs.declared.steps.Step.{Step}

@@ -5,10 +5,10 @@ use Rattle.us_flows.specs.Tables.{Tables}
 use Rattle.us_requests.specs.declared.asks.Ask.{Ask}
 use Rattle.us_requests.specs.Cuts as requests
 use Rattle.us_round.specs.declared.steps.Step.{Step}
-use Rattle.us_round.specs.Rounds.{State, opening, schedule, final}
+use Rattle.us_round.specs.Rounds.{opening, schedule, final}
 use Rattle.us_round.specs.Outputs.{out_of}
 use Rattle.us_round.specs.Steps.{IsComplete, total, cut_of, left_of}
-use Rattle.us_round.specs.Machines.{Ledger, Machine, opening_ledger, opening_machine, run, run_machine}
+use Rattle.us_round.specs.Machines.{Ledger, Machine, opening_ledger, run, run_machine}
 use Rattle.us_round.specs.Plays.{Play, run_of, state_after, cuts_of, words_after}
 
 -- plays one after another, from the opening on, are the schedule over their cuts

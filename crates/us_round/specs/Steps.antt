@@ -1,6 +1,6 @@
 -- The steps of a round, one by one: rows of requests are added to the words of their clusters, each word is taken into the
 -- cut, and each channel is opened and built. A seat is who adds or takes; its number plays no part in what is answered.
-use Rattle.std.specs.Prelude.{◌≡◌, ℕ, zero, suc, ◌+◌, ◌<◌, ◌==◌, Bool, true, false, if◌then◌else◌, List, [], ◌∷◌, length, map, slice_index, slice_get, Option, Some, None}
+use Rattle.std.specs.Prelude.{◌≡◌, ℕ, suc, ◌+◌, ◌<◌, ◌==◌, Bool, true, false, if◌then◌else◌, List, [], ◌∷◌, length, map, slice_index, slice_get, Option, Some, None}
 use Rattle.std.specs.List.{AllByRecursion, range_with_len}
 use Rattle.us_requests.specs.declared.asks.Ask.{Ask}
 use Rattle.us_round.specs.declared.steps.Step.{Step}

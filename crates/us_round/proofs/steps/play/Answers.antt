@@ -1,8 +1,7 @@
-use Rattle.std.proofs.Common.{◌≡◌, ◌+◌, ◌<◌, ◌^◌, List, length, ap, sym, subst, ◌∙◌, arith, zip, refl}
-use Rattle.std.specs.List.{AllByRecursion}
+use Rattle.std.proofs.Common.{length, ap, subst, ◌∙◌, arith, refl}
 use Rattle.us_round.specs.Rounds.{round_of}
 use Rattle.us_round.specs.Outputs.{out_of}
-use Rattle.us_round.specs.Steps.{IsComplete, cut_of, left_of}
+use Rattle.us_round.specs.Steps.{IsComplete}
 use Rattle.us_round.proofs.PlayLemmas.{cut-long, cut-room}
 use Rattle.us_round.proofs.steps.play.Goals as goal
 

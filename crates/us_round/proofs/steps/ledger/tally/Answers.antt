@@ -1,4 +1,4 @@
-use Rattle.std.proofs.Common.{◌≡◌, ap, sym, subst, ◌∙◌, Some, None, length}
+use Rattle.std.proofs.Common.{◌≡◌, ap, sym, subst, ◌∙◌, Some, length}
 use Rattle.us_round.specs.Machines.{run, opening_ledger}
 use Rattle.us_round.specs.Accounts.{IsReady}
 use Rattle.us_round.proofs.StepLemmas.{complete, incomplete}

@@ -1,5 +1,4 @@
-use Rattle.std.proofs.Common.{◌≡◌, ◌+◌, ap, sym, ◌∙◌, Some, None, drop, if◌then◌else◌}
-use Rattle.us_round.specs.Machines.{run, after}
+use Rattle.std.proofs.Common.{ap, sym, ◌∙◌, Some, None, if◌then◌else◌}
 use Rattle.us_round.proofs.LedgerLemmas.{ready_after, run_first, run_end}
 use Rattle.us_round.proofs.steps.ledger.walk.Goals as goal
 

@@ -1,4 +1,4 @@
-use Rattle.std.proofs.Common.{◌≡◌, ◌+◌, ◌^◌, ◌<◌, not, get_or, slice_index, slice_set, false, true, ap, sym, ◌∙◌, arith, rules, Some}
+use Rattle.std.proofs.Common.{◌≡◌, not, get_or, slice_set, false, true, ap, sym, ◌∙◌, arith, rules, Some}
 use Rattle.std.proofs.lemmas.List.{with_items_is, places}
 use Rattle.us_requests.specs.declared.asks.Ask.{Ask}
 use Rattle.us_round.specs.Machines as spec
