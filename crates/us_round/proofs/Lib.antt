@@ -22,3 +22,9 @@ pub mod CalendarLemmas
 pub mod RoundLemmas
 pub mod SoundLemmas
 pub mod PhaseLemmas
+pub mod FlagLemmas
+pub mod LedgerLemmas
+pub mod StepLemmas
+pub mod CutLemmas
+pub mod PlayLemmas
+pub mod PlayLaws

@@ -34,7 +34,7 @@ eqb-not m n differ = elim (cases_Bool (eqb m n)) [
   | inr other ↦ other
 ]
 
-eqb-self : (m n : ℕ) → m ≡ n → eqb m n ≡ true
+pub eqb-self : (m n : ℕ) → m ≡ n → eqb m n ≡ true
 eqb-self m n same = elim (cases_Bool (eqb m n)) [
   | inl is ↦ is
   | inr other ↦ absurd (eqb-false m n other same)

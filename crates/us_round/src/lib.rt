@@ -60,6 +60,9 @@ mod states;
 // The round.
 mod rounds;
 
+// A round, step by step.
+pub mod steps;
+
 pub use faults::RoundFault;
 pub use output_laws::{lines_are_of_grants, lines_bear_round};
 pub use round_outs::RoundOut;

@@ -5,4 +5,5 @@ mod base;
 mod calendars;
 mod memory;
 mod rounds;
+mod steps;
 mod workers;

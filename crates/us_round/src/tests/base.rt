@@ -200,7 +200,7 @@ fn have_room(outstanding: &[ClusterState], cut: &[u64]) -> bool
 }
 
 /// The round's first grants, how many there are, and of each MAP its elements and its pendings.
-fn tell_round(answer: &mut String, out: &RoundOut) -> Result<(), NoMemory> {
+pub(super) fn tell_round(answer: &mut String, out: &RoundOut) -> Result<(), NoMemory> {
     write!(answer, "{}: ", out.round())?;
     tell_rows(answer, out.rows())?;
     for map in out.maps() {

@@ -1,0 +1,42 @@
+-- Laws of steps and plays.
+use Rattle.std.specs.Prelude.{◌≡◌, ℕ, ◌+◌, ◌<◌, List, length, map, slice_index, Option, Some, None, option_map}
+use Rattle.std.specs.List.{AllByRecursion}
+use Rattle.us_flows.specs.Tables.{Tables}
+use Rattle.us_requests.specs.declared.asks.Ask.{Ask}
+use Rattle.us_requests.specs.Cuts as requests
+use Rattle.us_round.specs.declared.steps.Step.{Step}
+use Rattle.us_round.specs.Rounds.{opening, schedule, final}
+use Rattle.us_round.specs.Outputs.{out_of}
+use Rattle.us_round.specs.Steps.{IsComplete, total, cut_of, left_of}
+use Rattle.us_round.specs.Machines.{Ledger, Machine, opening_ledger, run, run_machine}
+use Rattle.us_round.specs.Plays.{Play, run_of, state_after, cuts_of, words_after}
+
+-- plays one after another, from the opening on, are the schedule over their cuts
+abbrev pub PlaysAreRounds : Type 0
+PlaysAreRounds = (t : Tables) (words : List ℕ) (plays : List Play) →
+    (run_of (opening t) words plays ≡ map (out_of t) (schedule (opening t) (cuts_of words plays)))
+    × (state_after (opening t) words plays ≡ final (opening t) (cuts_of words plays))
+
+-- all cuts of a cluster and what is left in its word are what its word had at first, and all its rows
+abbrev pub NothingIsLost : Type 0
+NothingIsLost = (channels : ℕ) (words : List ℕ) (plays : List Play) (q : ℕ) →
+    AllByRecursion (λ (p : Play). IsComplete (length p.rows) (length words) channels p.steps) plays → q < length words →
+    total (λ cut. slice_index cut q) (cuts_of words plays) + slice_index (words_after words plays) q
+    ≡ slice_index words q + total (λ (p : Play). requests.asked p.rows q) plays
+
+-- the machine goes through complete lists, and has their cut and what they leave then, and through no others
+abbrev pub Makes : List ℕ → List Ask → ℕ → List Step → Option Ledger → Type 0
+Makes words rows channels steps None = IsComplete (length rows) (length words) channels steps → ⊥
+Makes words rows channels steps (Some l) =
+    IsComplete (length rows) (length words) channels steps
+    × (l.cut ≡ cut_of words rows steps) × (l.words ≡ left_of words rows steps)
+
+abbrev pub MachineMakesCuts : Type 0
+MachineMakesCuts = (words : List ℕ) (rows : List Ask) (channels : ℕ) (steps : List Step) →
+    AllByRecursion (λ ask. ask.cluster < length words) rows →
+    Makes words rows channels steps (run rows (opening_ledger words (length rows) channels) steps)
+
+-- the account of the seats changes nothing of a ledger,
+abbrev pub SeatsChangeNothing : Type 0
+SeatsChangeNothing = (rows : List Ask) (m : Machine) (steps : List Step) →
+    option_map (λ (end : Machine). end.ledger) (run_machine rows m steps) ≡ run rows m.ledger steps

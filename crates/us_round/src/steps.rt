@@ -1,0 +1,92 @@
+//! A round, step by step: what workers do to its words and channels, in an order that a list tells.
+//!
+//! Whatever the order is, a complete list makes the round of the cut that stands in it.
+
+ghost use Rattle.std.specs.Prelude.{◌≡◌, ◌+◌, ◌*◌, ◌^◌, ◌<◌, ◌≤◌, ℕ, length, slice_index, option_map, IfOk};
+ghost use Rattle.std.specs.List.{AllByRecursion};
+ghost use Rattle.us_flows.specs.Tables.{max_run_ticks};
+ghost use Rattle.us_flows.specs.Clusters.{clusters_of};
+ghost use Rattle.us_requests.specs.Cuts as requests;
+ghost use Rattle.us_round.specs.Plays.{Plays};
+
+use crate::faults::RoundFault;
+use crate::round_outs::RoundOut;
+use crate::states::State;
+use std::alloc::Global;
+use std::thread::Threads;
+use us_requests::Ask;
+
+// What stands after each step,
+mod ledger;
+
+// and the round of the cut that it comes to.
+mod playing;
+
+// Laws of steps.
+mod laws;
+
+pub use laws::{machine_makes_cuts, nothing_is_lost, plays_are_rounds, seats_change_nothing};
+use ledger::tally;
+use playing::play_cut;
+
+/// A step of a round. A seat is who adds or takes: its number plays no part in what is answered.
+#[derive(Clone, Copy, Debug, PartialEq, Eq, Hash)]
+pub enum Step {
+    /// The bytes of a row are added to the word of its cluster.
+    Add {
+        /// The place of the row among all rows.
+        row: usize,
+        /// Who adds it.
+        seat: usize,
+    },
+    /// What a word has moves into the cut, and the word is 0 then.
+    Take {
+        /// The number of the word's cluster.
+        word: usize,
+        /// Who takes it.
+        seat: usize,
+    },
+    /// A channel is given to a worker.
+    Open {
+        /// The place of the channel in the table.
+        channel: usize,
+    },
+    /// A channel's claims are placed.
+    Built {
+        /// The place of the channel in the table.
+        channel: usize,
+    },
+}
+
+/// Makes the round of a state by these steps, from these words, one for each cluster in the order of their numbers. The
+/// answer has the state that the next round starts from, what is left in the words, and what the round gives.
+///
+/// None: the steps aren't complete, and the state is given up. They are complete when none names a row, a word or a
+/// channel that isn't there; each row is added once, at any point; each word is taken once; and each channel is opened
+/// once after the last word is taken, and later built once.
+///
+/// Each cluster's outstanding bytes, its word and the bytes of its rows together have to be below 2^62, and the round
+/// has to end at tick 2^26 or before. The fault is want of memory, and the state is given up then.
+pub fn play<H: Threads + Sync>(
+    alloc: Global,
+    threads: &H,
+    state: State,
+    words: &[u64],
+    rows: &[Ask],
+    steps: &[Step],
+) -> Result<Option<(State, Vec<u64>, RoundOut)>, RoundFault>
+    requires clusters { length words.now ≡ length (clusters_of state.tables) }
+    requires rows { AllByRecursion (λ ask. ask.cluster < length words.now) rows.now }
+    requires room { (q : ℕ) → q < length words.now →
+        slice_index state.outstanding q + (slice_index words.now q + requests.asked rows.now q) < 2 ^ 62 }
+    requires time { (state.round + 1) * state.tables.round_ticks ≤ max_run_ticks }
+    ensures { IfOk result (λ found. Plays state words.now rows.now steps.now
+        (option_map (λ done. record { state = done.0; words = done.1.items; out = done.2 }) found)) }
+{
+    let channels = state.core().config().channels().len();
+    let Some((cut, left)) = tally(alloc, words, rows, channels, steps)? else {
+        return Ok(None);
+    };
+    let (state, out) = play_cut(alloc, threads, state, &cut)?;
+    Ok(Some((state, left, out)))
+}

@@ -1,0 +1,23 @@
+//! Laws of the definitions of steps and plays, each as the contract of a function that does nothing.
+
+ghost use Rattle.us_round.specs.PlayLaws.{PlaysAreRounds, NothingIsLost, MachineMakesCuts, SeatsChangeNothing};
+
+/// Plays one after another, each from the state and the words that the last one left, are the schedule over their cuts.
+pub fn plays_are_rounds()
+    ensures { PlaysAreRounds }
+{}
+
+/// The cuts of a cluster and what is left in its word are what its word had at first, and all its rows.
+pub fn nothing_is_lost()
+    ensures { NothingIsLost }
+{}
+
+/// The machine goes through complete lists alone, and has the cut that `play` schedules.
+pub fn machine_makes_cuts()
+    ensures { MachineMakesCuts }
+{}
+
+/// What each seat added and took is told beside, and changes nothing.
+pub fn seats_change_nothing()
+    ensures { SeatsChangeNothing }
+{}
