@@ -28,6 +28,8 @@ pub mod Leftovers
 pub mod Steps
 -- the machine that goes through them,
 pub mod Machines
+-- the channels that they open and build,
+pub mod Parts
 -- the round that they come to, and runs of such rounds
 pub mod Plays
 -- and the laws of all these
@@ -36,5 +38,7 @@ pub mod PlayLaws
 pub mod Claims
 -- what a ledger of steps keeps,
 pub mod Accounts
--- and a state without its calendars
+-- a state without its calendars,
 pub mod Cores
+-- and the stages of a round
+pub mod Stages
