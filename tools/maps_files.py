@@ -49,15 +49,15 @@ class Plant:
 
 
 def plant_of(path):
-    """Reads a configuration that mapsim accepts. What mapsim would refuse isn't looked for."""
+    """Reads a configuration. What else mapsim would refuse isn't looked for, and Python's TOML is version 1.0."""
     try:
-        with open(path, "rb") as file:
-            table = tomllib.load(file)
+        with open(path, encoding="utf-8-sig") as file:
+            table = tomllib.loads(file.read())
         return Plant(table["round_ticks"], {it["id"]: 1 << it["minislot_log2"] for it in table["channel"]})
     except OSError as error:
         raise Refused(f"{path}: {error.strerror}") from None
     except (ValueError, KeyError, TypeError):
-        raise Refused(f"{path}: no configuration that mapsim accepts") from None
+        raise Refused(f"{path}: no configuration in TOML 1.0") from None
 
 
 def map_of(round_number, body, where):
