@@ -81,21 +81,20 @@ def maps_of(path, plant):
     """Reads a maps file that was written with this configuration, MAP by MAP."""
     try:
         with open(path, "rb") as file:
-            rest = file.read()
+            text = file.read()
     except OSError as error:
         raise Refused(f"{path}: {error.strerror}") from None
-    index = 0
-    while rest:
+    at, index = 0, 0
+    while at < len(text):
         where = f"{path}: record {index}"
-        if len(rest) < 6 or len(rest) < 6 + int.from_bytes(rest[4:6]):
+        end = at + 6 + int.from_bytes(text[at + 4 : at + 6])
+        if len(text) < at + 6 or len(text) < end:
             raise Refused(f"{where}: the file ends inside it")
-        end = 6 + int.from_bytes(rest[4:6])
-        one = map_of(int.from_bytes(rest[:4]), rest[6:end], where)
+        one = map_of(int.from_bytes(text[at : at + 4]), text[at + 6 : end], where)
         if one.channel not in plant.minislot_ticks:
             raise Refused(f"{where}: the configuration has no channel {one.channel}")
         ticks = plant.minislot_ticks[one.channel]
         if one.alloc_start * ticks != one.round * plant.round_ticks or one.length * ticks != plant.round_ticks:
             raise Refused(f"{where}: its minislots aren't those of its round in this configuration")
         yield one
-        rest = rest[end:]
-        index += 1
+        at, index = end, index + 1
