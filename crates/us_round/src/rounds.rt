@@ -28,7 +28,7 @@ use std::thread::Threads;
 use us_calendar::Calendar;
 use us_crew::{Gate, MAX_WORKERS};
 use us_slots::NoMemory;
-use us_split::{Plan, plan};
+use us_split::{Plan, plan_with};
 
 /// Schedules the round of a state, in which the clusters ask for the bytes of `cuts`, one number for each cluster in
 /// the order of their numbers. The answer has the state that the next round starts from.
@@ -176,7 +176,7 @@ fn plan_round(
 {
     let allowances = core.allowances(alloc)?;
     let idle = idle_of(alloc, filled)?;
-    plan(alloc, core.config(), demands, &allowances, &idle)
+    plan_with(alloc, core.config(), demands, allowances, &idle)
 }
 
 /// The idle minislots of each channel.
