@@ -1,0 +1,2 @@
+pub mod ScheduleLemmas
+pub mod LogLemmas
