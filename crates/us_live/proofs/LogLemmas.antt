@@ -1,0 +1,125 @@
+-- What a log has of each cluster, and what seats took of it.
+use Rattle.std.proofs.Common.{◌≡◌, ℕ, zero, ◌+◌, ◌≤◌, ◌||◌, Bool, true, false, List, [], ◌∷◌, ◌++◌, sum, slice_index, refl, ap, sym, subst, ◌∙◌, arith}
+use Rattle.std.specs.Prelude.{sum_by}
+use Rattle.std.proofs.lemmas.List.Sums.{sum_by-append}
+use Rattle.us_intake.specs.Tallies.{added}
+use Rattle.us_intake.specs.Seats.{Intake, Seat, IsSeat, joined_seat, seat_after_cut}
+use Rattle.us_intake.proofs.TallyLemmas.{index-added, index-empty}
+use Rattle.us_live.specs.Lives.{Live, logged, with_entry, Feeds, IsCut}
+use Rattle.us_live.specs.Laws.{TookLog, LogBalances, SeatsFeed}
+
+pub logged-more : (log : List (List ℕ)) (cut : List ℕ) (cluster : ℕ) →
+    logged (log ++ cut ∷ []) cluster ≡ logged log cluster + slice_index cut cluster
+logged-more log cut cluster = omega (arith, sum_by-append (λ entry. slice_index entry cluster) log (cut ∷ []))
+
+-- what a seat took, once it cut
+taken-more : (seat after : Seat) (cut : List ℕ) → IsCut seat after cut → (cluster : ℕ) →
+    slice_index after.taken cluster ≡ slice_index seat.taken cluster + slice_index cut cluster
+taken-more seat after cut is cluster =
+    ap (λ (s : Seat). slice_index s.taken cluster) is.grown ∙ index-added seat.taken cut cluster
+
+-- Fit to be cut by.
+
+-- after a round that was made,
+pub feeds-made : (live after : Live) (intake : Intake) (seat next : Seat) (cut : List ℕ) → Feeds live intake seat →
+    IsCut seat next cut → after ≡ with_entry live cut → Feeds after intake next
+feeds-made live after intake seat next cut feeds is logs = record {
+  clusters = feeds.clusters ∙ sym (ap (λ (l : Live). l.clusters) logs);
+  own = ap (λ (s : Seat). s.intake) is.grown ∙ feeds.own;
+  takes = ap (λ (s : Seat). s.takes) is.grown ∙ feeds.takes;
+  took = λ cluster. omega (
+    arith,
+    ap (λ (l : Live). logged l.log cluster) logs,
+    logged-more live.log cut cluster,
+    taken-more seat next cut is cluster,
+    feeds.took cluster,
+  );
+}
+
+-- and after one that wasn't
+pub feeds-cut : (live after : Live) (intake : Intake) (seat next : Seat) (cut : List ℕ) → Feeds live intake seat →
+    IsCut seat next cut → after.clusters ≡ live.clusters → after.log ≡ live.log → Feeds after intake next
+feeds-cut live after intake seat next cut feeds is clusters log = record {
+  clusters = feeds.clusters ∙ sym clusters;
+  own = ap (λ (s : Seat). s.intake) is.grown ∙ feeds.own;
+  takes = ap (λ (s : Seat). s.takes) is.grown ∙ feeds.takes;
+  took = λ cluster. omega (
+    arith,
+    ap (λ (l : List (List ℕ)). logged l cluster) log,
+    taken-more seat next cut is cluster,
+    feeds.took cluster,
+  );
+}
+
+pub feeds-same : (live after : Live) (intake : Intake) (seat next : Seat) → Feeds live intake seat → next ≡ seat →
+    after.clusters ≡ live.clusters → after.log ≡ live.log → Feeds after intake next
+feeds-same live after intake seat next feeds same clusters log = record {
+  clusters = feeds.clusters ∙ sym clusters;
+  own = ap (λ (s : Seat). s.intake) same ∙ feeds.own;
+  takes = ap (λ (s : Seat). s.takes) same ∙ feeds.takes;
+  took = λ cluster. omega (
+    arith,
+    ap (λ (l : List (List ℕ)). logged l cluster) log,
+    ap (λ (s : Seat). slice_index s.taken cluster) same,
+    feeds.took cluster,
+  );
+}
+
+or-true : (b : Bool) → b || true ≡ true
+or-true true = refl
+or-true false = refl
+
+pub seats-feed : SeatsFeed
+seats-feed = record {
+  submitting = λ live intake seat cluster bytes feeds. record {
+    clusters = feeds.clusters;
+    own = feeds.own;
+    takes = feeds.takes;
+    took = feeds.took;
+  };
+  splitting = λ live intake seat quota feeds. record {
+    clusters = feeds.clusters;
+    own = feeds.own;
+    takes = feeds.takes;
+    took = feeds.took;
+  };
+  joining = λ live intake seat other feeds own. (
+    record {
+      clusters = feeds.clusters;
+      own = feeds.own;
+      takes = ap (λ b. b || other.takes) feeds.takes;
+      took = λ cluster. omega (arith, feeds.took cluster, index-added seat.taken other.taken cluster);
+    },
+    record {
+      clusters = feeds.clusters;
+      own = own;
+      takes = ap (λ b. other.takes || b) feeds.takes ∙ or-true other.takes;
+      took = λ cluster. omega (arith, feeds.took cluster, index-added other.taken seat.taken cluster);
+    },
+  );
+}
+
+-- The account of the log.
+
+pub log-balances : LogBalances
+log-balances = record {
+  opening = λ intake cluster. index-empty intake.clusters cluster;
+  submitting = λ log seat cluster bytes took. took;
+  splitting = λ log seat quota took. took;
+  joining = λ log seat other took known idle. (
+    λ cluster. omega (arith, took cluster, index-added seat.taken other.taken cluster, known.idle idle cluster),
+    λ cluster. omega (arith, took cluster, index-added other.taken seat.taken cluster, known.idle idle cluster),
+  );
+  making = λ live seat after cut took is cluster. omega (
+    arith,
+    took cluster,
+    taken-more seat after cut is cluster,
+    logged-more live.log cut cluster,
+  );
+  closing = λ log seat left took balanced cluster. omega (
+    arith,
+    took cluster,
+    ap (λ tally. slice_index tally cluster) balanced,
+    index-added seat.taken left cluster,
+  );
+}
