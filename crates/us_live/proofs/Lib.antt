@@ -1,2 +1,3 @@
 pub mod ScheduleLemmas
 pub mod LogLemmas
+pub mod LiveLemmas

@@ -1,9 +1,9 @@
 -- What a log has of each cluster, and what seats took of it.
-use Rattle.std.proofs.Common.{◌≡◌, ℕ, zero, ◌+◌, ◌≤◌, ◌||◌, Bool, true, false, List, [], ◌∷◌, ◌++◌, sum, slice_index, refl, ap, sym, subst, ◌∙◌, arith}
+use Rattle.std.proofs.Common.{◌≡◌, ℕ, ◌+◌, ◌≤◌, ◌⊎◌, ◌||◌, Bool, true, false, List, [], ◌∷◌, ◌++◌, slice_index, refl, ap, sym, inl, inr, ◌∙◌, arith}
 use Rattle.std.specs.Prelude.{sum_by}
 use Rattle.std.proofs.lemmas.List.Sums.{sum_by-append}
 use Rattle.us_intake.specs.Tallies.{added}
-use Rattle.us_intake.specs.Seats.{Intake, Seat, IsSeat, joined_seat, seat_after_cut}
+use Rattle.us_intake.specs.Seats.{Intake, Seat, IsSeat, first_seat, joined_seat}
 use Rattle.us_intake.proofs.TallyLemmas.{index-added, index-empty}
 use Rattle.us_live.specs.Lives.{Live, logged, with_entry, Feeds, IsCut}
 use Rattle.us_live.specs.Laws.{TookLog, LogBalances, SeatsFeed}
@@ -36,8 +36,8 @@ feeds-made live after intake seat next cut feeds is logs = record {
   );
 }
 
--- and after one that wasn't
-pub feeds-cut : (live after : Live) (intake : Intake) (seat next : Seat) (cut : List ℕ) → Feeds live intake seat →
+-- and after one that wasn't,
+feeds-cut : (live after : Live) (intake : Intake) (seat next : Seat) (cut : List ℕ) → Feeds live intake seat →
     IsCut seat next cut → after.clusters ≡ live.clusters → after.log ≡ live.log → Feeds after intake next
 feeds-cut live after intake seat next cut feeds is clusters log = record {
   clusters = feeds.clusters ∙ sym clusters;
@@ -51,7 +51,7 @@ feeds-cut live after intake seat next cut feeds is clusters log = record {
   );
 }
 
-pub feeds-same : (live after : Live) (intake : Intake) (seat next : Seat) → Feeds live intake seat → next ≡ seat →
+feeds-same : (live after : Live) (intake : Intake) (seat next : Seat) → Feeds live intake seat → next ≡ seat →
     after.clusters ≡ live.clusters → after.log ≡ live.log → Feeds after intake next
 feeds-same live after intake seat next feeds same clusters log = record {
   clusters = feeds.clusters ∙ sym clusters;
@@ -63,6 +63,24 @@ feeds-same live after intake seat next feeds same clusters log = record {
     ap (λ (s : Seat). slice_index s.taken cluster) same,
     feeds.took cluster,
   );
+}
+
+pub feeds-left : (live after : Live) (intake : Intake) (seat next : Seat) → Feeds live intake seat →
+    (next ≡ seat) ⊎ ((cut : List ℕ) × IsCut seat next cut) → after.clusters ≡ live.clusters → after.log ≡ live.log →
+    Feeds after intake next
+feeds-left live after intake seat next feeds (inl same) clusters log =
+    feeds-same live after intake seat next feeds same clusters log
+feeds-left live after intake seat next feeds (inr is) clusters log =
+    feeds-cut live after intake seat next is.0 feeds is.1 clusters log
+
+-- and at first
+pub feeds-first : (live : Live) (intake : Intake) (seat : Seat) → live.log ≡ [] → intake.clusters ≡ live.clusters →
+    seat ≡ first_seat intake → Feeds live intake seat
+feeds-first live intake seat none clusters first = record {
+  clusters = clusters;
+  own = ap (λ (s : Seat). s.intake) first;
+  takes = ap (λ (s : Seat). s.takes) first;
+  took = λ cluster. omega (arith, ap (λ (log : List (List ℕ)). logged log cluster) none);
 }
 
 or-true : (b : Bool) → b || true ≡ true

@@ -1,4 +1,4 @@
-ghost use Rattle.std.specs.Prelude.{◌≡◌, ◌^◌, ◌<◌, ◌≤◌, ◌⊎◌, ◌↔◌, ℕ, true, false, List, length, map, Err, None, IsSome, IfOk, IfErr};
+ghost use Rattle.std.specs.Prelude.{◌≡◌, ◌^◌, ◌<◌, ◌≤◌, ◌⊎◌, ◌↔◌, ℕ, true, false, List, length, map, Err, None, IsSome, IfOk, OnOk, IfErr};
 ghost use Rattle.us_flows.specs.Tables as tables;
 ghost use Rattle.us_flows.specs.Clusters.{clusters_of};
 ghost use Rattle.us_intake.specs.Seats.{first_seat};
@@ -144,6 +144,7 @@ impl Live {
             × (length self.now.log < self.now.rounds) × ((workers ≡ 0) ⊎ (64 < workers))) }
         ensures faults { IfErr result (λ given. (given ≡ fault.Failed) ⊎ ((given ≡ fault.Done)
             ⊎ (given ≡ fault.Workers))) }
+        ensures fine { OnOk result ((length self.now.log < self.now.rounds) × (1 ≤ workers) × (workers ≤ 64)) }
     {
         if self.state.is_none() {
             return Err(LiveFault::Failed);
