@@ -29,9 +29,11 @@ inside-opening entry clusters rounds entries t state none first same fits =
 
 -- What a round asks for.
 
-pub running : (clusters rounds : ℕ) (log : List (List ℕ)) (kept : Option State) (state : State) →
-    IfSome kept (IsRunning clusters rounds log) → kept ≡ Some state → IsRunning clusters rounds log state
-running clusters rounds log kept state is some = subst (λ s. IfSome s (IsRunning clusters rounds log)) some is
+-- of a state that was taken out of where it was kept
+pub running : (clusters rounds : ℕ) (log : List (List ℕ)) (kept taken : Option State) (state : State) →
+    IfSome kept (IsRunning clusters rounds log) → taken ≡ kept → taken ≡ Some state → IsRunning clusters rounds log state
+running clusters rounds log kept taken state is same some =
+    subst (λ s. IfSome s (IsRunning clusters rounds log)) (sym same ∙ some) is
 
 pub running-took : (clusters rounds : ℕ) (log : List (List ℕ)) (state : State) (taken : List ℕ) →
     IsRunning clusters rounds log state → ((cluster : ℕ) → logged log cluster ≤ slice_index taken cluster) →

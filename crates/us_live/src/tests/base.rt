@@ -6,7 +6,7 @@ use std::alloc::{AllocError, Global};
 use std::process::Abort;
 use std::thread::Threads;
 use us_codec::Map;
-use us_crew::{Gate, OpenGate};
+use us_crew::Gate;
 use us_flows::Config;
 use us_intake::{Intake, Seat};
 use us_round::RoundOut;
@@ -48,7 +48,6 @@ pub(super) fn open(
 ) -> Result<(Live, Intake, Seat), LiveFault>
     ensures feeds { IfOk result (λ opened. Feeds opened.0 opened.1 opened.2) }
     ensures some { IfOk result (λ opened. 1 ≤ opened.1.clusters) }
-    ensures takes { IfOk result (λ opened. opened.2.quota ≡ opened.1.quota) }
 {
     let Ok(text) = text_of(alloc, flow) else {
         return Err(LiveFault::NoMemory);
@@ -75,24 +74,26 @@ fn text_of(alloc: Global, flow: &str) -> Result<String, AllocError> {
     Ok(text)
 }
 
-/// Tells of the next round, or why there is none.
-pub(super) fn tell_next<H: Threads + Sync, G: Gate + Sync>(
+/// Tells of the next rounds, each by so many workers, or why there is none.
+pub(super) fn tell_rounds<H: Threads + Sync, G: Gate + Sync>(
     alloc: Global,
     threads: &H,
     text: &mut String,
     live: &mut Live,
     intake: &Intake,
     seat: &mut Seat,
-    workers: usize,
+    workers: &[usize],
     gate: &G,
 ) -> Result<(), AllocError>
     requires { Feeds live.old intake.now seat.old }
-    ensures { Feeds live.new intake.now seat.new }
 {
-    match live.next_round(alloc, threads, intake, seat, workers, gate) {
-        Ok(out) => tell(text, &out),
-        Err(fault) => write!(text, "{fault}; "),
+    for workers in workers {
+        match live.next_round(alloc, threads, intake, seat, *workers, gate) {
+            Ok(out) => tell(text, &out)?,
+            Err(fault) => write!(text, "{fault}; ")?,
+        }
     }
+    write!(text, "{:?}", live.cut_log())
 }
 
 /// The round's number, and the words of the elements of its MAPs.

@@ -19,8 +19,7 @@ fn all_rounds<H: Threads + Sync>(
 ) -> bool
     requires feeds { Feeds live.old intake.now seat.old }
     requires some { 1 ≤ intake.now.clusters }
-    ensures own { seat.new.intake ≡ intake.now }
-    ensures quota { seat.new.quota ≡ seat.old.quota }
+    ensures { seat.new.intake ≡ intake.now }
 {
     for made in 0..4_usize {
         let _ = intake.submit(seat, 0, 1_000);

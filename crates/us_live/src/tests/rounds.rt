@@ -1,12 +1,7 @@
-ghost use Rattle.std.specs.Prelude.{◌≡◌, ◌≤◌};
-ghost use Rattle.us_live.specs.Lives.{Feeds};
-
-use super::base::{ONE, open, same, tell_next};
-use crate::Live;
+use super::base::{ONE, open, same, tell_rounds};
 use std::alloc::{AllocError, Global};
 use std::thread::Threads;
 use us_crew::OpenGate;
-use us_intake::{Intake, Seat};
 
 /// A seat that was split off submits 1,000 bytes and is joined. Then three rounds are asked for, of which the
 /// scheduler has two, after one by no worker.
@@ -23,12 +18,10 @@ fn joined<H: Threads + Sync>(
     };
     let _ = intake.submit(&mut second, 0, 1_000);
     let mut seat = intake.join(first, second);
-    for workers in [0, 1, 1, 1] {
-        tell_next(
-            alloc, threads, text, &mut live, &intake, &mut seat, workers, &OpenGate,
-        )?;
-    }
-    write!(text, "{:?}", live.cut_log())
+    let workers = &[0, 1, 1, 1];
+    tell_rounds(
+        alloc, threads, text, &mut live, &intake, &mut seat, workers, &OpenGate,
+    )
 }
 
 #[test]
@@ -58,14 +51,27 @@ fn not_joined<H: Threads + Sync>(
         return Ok(());
     };
     let _ = intake.submit(&mut second, 0, 500);
-    let _ = live.next_round(alloc, threads, &intake, &mut first, 1, &OpenGate);
-    write!(text, "{:?}", live.cut_log())
+    tell_rounds(
+        alloc,
+        threads,
+        text,
+        &mut live,
+        &intake,
+        &mut first,
+        &[1],
+        &OpenGate,
+    )
 }
 
 #[test]
 fn other_seats_are_cut(rt: HostRuntime) -> Result<(), AllocError> {
     let mut text = String::new(rt.alloc());
     not_joined(rt.alloc(), &rt, &mut text)?;
-    same(&rt, "a seat not joined", text.as_str(), "[[500]]");
+    same(
+        &rt,
+        "a seat not joined",
+        text.as_str(),
+        "0: 048e8000 fffc4011 fffc4096 0001c0a0 ; [[500]]",
+    );
     Ok(())
 }

@@ -96,8 +96,12 @@ pub(super) fn logged_and_left(log: &[Vec<u64>], left: &[u64]) -> u64 {
 /// Whether the log and what is left are all that two threads submitted.
 fn balances<R: Threads + Sync>(rt: &R, alloc: Global) -> Option<bool> {
     let (live, intake, seat) = open(alloc, ONE, 20, 10_000).ok()?;
-    let (first, second) = intake.split(alloc, seat, 6_000).ok()?;
-    let (second, third) = intake.split(alloc, second, 3_000).ok()?;
+    let Ok((first, second)) = intake.split(alloc, seat, 6_000) else {
+        return None;
+    };
+    let Ok((second, third)) = intake.split(alloc, second, 3_000) else {
+        return None;
+    };
     let (live, seat) = run(rt, alloc, live, &intake, first, second, third);
     if !seat.is_whole(&intake) {
         return Some(false);

@@ -1,6 +1,6 @@
 ghost use Rattle.std.specs.Prelude.{⊤};
 
-use super::base::{TWO, open, same, tell_next};
+use super::base::{TWO, open, same, tell_rounds};
 use std::alloc::{AllocError, Global};
 use std::sync::atomic::{AtomicBool, AtomicUsize, Ordering};
 use std::thread::{Threads, yield_now};
@@ -56,10 +56,19 @@ fn round_of_two<H: Threads + Sync>(
     text: &mut String,
     gate: &Meeting,
 ) -> Result<(), AllocError> {
-    if let Ok((mut live, intake, mut seat)) = open(alloc, TWO, 1, 10_000) {
-        tell_next(alloc, threads, text, &mut live, &intake, &mut seat, 2, gate)?;
-    }
-    Ok(())
+    let Ok((mut live, intake, mut seat)) = open(alloc, TWO, 1, 10_000) else {
+        return Ok(());
+    };
+    tell_rounds(
+        alloc,
+        threads,
+        text,
+        &mut live,
+        &intake,
+        &mut seat,
+        &[2],
+        gate,
+    )
 }
 
 /// Each of two channels is held by its worker until the other is, in phase `Fill` and in phase `Build`.
@@ -72,12 +81,12 @@ fn workers_meet(rt: HostRuntime) -> Result<(), AllocError> {
         gate.fills.load(Ordering::SeqCst),
         gate.builds.load(Ordering::SeqCst),
     );
-    write!(text, "{entered:?} {}", gate.missed.load(Ordering::SeqCst))?;
+    write!(text, " {entered:?} {}", gate.missed.load(Ordering::SeqCst))?;
     same(
         &rt,
         "two workers",
         text.as_str(),
-        "0: fffc4000 fffc4096 0001c0a0 ; fffc4000 fffc4096 0001c0a0 ; (2, 2) false",
+        "0: fffc4000 fffc4096 0001c0a0 ; fffc4000 fffc4096 0001c0a0 ; [[0]] (2, 2) false",
     );
     Ok(())
 }
