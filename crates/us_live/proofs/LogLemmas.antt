@@ -1,12 +1,12 @@
 -- What a log has of each cluster, and what seats took of it.
-use Rattle.std.proofs.Common.{◌≡◌, ℕ, ◌+◌, ◌≤◌, ◌⊎◌, ◌||◌, Bool, true, false, List, [], ◌∷◌, ◌++◌, slice_index, refl, ap, sym, inl, inr, ◌∙◌, arith}
+use Rattle.std.proofs.Common.{◌≡◌, ℕ, ◌+◌, ◌≤◌, ◌⊎◌, ◌||◌, Bool, true, false, List, [], ◌∷◌, ◌++◌, slice_index, refl, ap, sym, subst, inl, inr, ◌∙◌, arith}
 use Rattle.std.specs.Prelude.{sum_by}
 use Rattle.std.proofs.lemmas.List.Sums.{sum_by-append}
 use Rattle.us_intake.specs.Tallies.{added}
 use Rattle.us_intake.specs.Seats.{Intake, Seat, IsSeat, first_seat, joined_seat}
 use Rattle.us_intake.proofs.TallyLemmas.{index-added, index-empty}
 use Rattle.us_live.specs.Lives.{Live, logged, with_entry, Feeds, IsCut}
-use Rattle.us_live.specs.Laws.{TookLog, LogBalances, SeatsFeed}
+use Rattle.us_live.specs.Laws.{CutByRounds, opened, submitted, split, joined, joined_to, made, LogBalances, SeatsFeed}
 
 pub logged-more : (log : List (List ℕ)) (cut : List ℕ) (cluster : ℕ) →
     logged (log ++ cut ∷ []) cluster ≡ logged log cluster + slice_index cut cluster
@@ -117,26 +117,31 @@ seats-feed = record {
   );
 }
 
+pub feeds-joined : (live : Live) (intake : Intake) (seat other both : Seat) → Feeds live intake seat →
+    other.intake ≡ intake → both ≡ joined_seat seat other → Feeds live intake both
+feeds-joined live intake seat other both feeds own same =
+    subst (λ (s : Seat). Feeds live intake s) (sym same) (seats-feed.joining live intake seat other feeds own).0
+
 -- The account of the log.
+
+took-log : {intake : Intake} {log : List (List ℕ)} {seat : Seat} → CutByRounds intake log seat → (cluster : ℕ) →
+    slice_index seat.taken cluster ≡ logged log cluster
+took-log {intake} opened cluster = index-empty intake.clusters cluster
+took-log (submitted log seat at bytes so_far) cluster = took-log so_far cluster
+took-log (split log seat quota so_far) cluster = took-log so_far cluster
+took-log (joined log seat other so_far known idle) cluster =
+    omega (arith, took-log so_far cluster, index-added seat.taken other.taken cluster, known.idle idle cluster)
+took-log (joined_to log seat other so_far known idle) cluster =
+    omega (arith, took-log so_far cluster, index-added other.taken seat.taken cluster, known.idle idle cluster)
+took-log (made log seat after cut so_far is) cluster =
+    omega (arith, took-log so_far cluster, taken-more seat after cut is cluster, logged-more log cut cluster)
 
 pub log-balances : LogBalances
 log-balances = record {
-  opening = λ intake cluster. index-empty intake.clusters cluster;
-  submitting = λ log seat cluster bytes took. took;
-  splitting = λ log seat quota took. took;
-  joining = λ log seat other took known idle. (
-    λ cluster. omega (arith, took cluster, index-added seat.taken other.taken cluster, known.idle idle cluster),
-    λ cluster. omega (arith, took cluster, index-added other.taken seat.taken cluster, known.idle idle cluster),
-  );
-  making = λ live seat after cut took is cluster. omega (
+  took = λ intake log seat rounds. took-log rounds;
+  closed = λ intake log seat left rounds balanced cluster. omega (
     arith,
-    took cluster,
-    taken-more seat after cut is cluster,
-    logged-more live.log cut cluster,
-  );
-  closing = λ log seat left took balanced cluster. omega (
-    arith,
-    took cluster,
+    took-log rounds cluster,
     ap (λ tally. slice_index tally cluster) balanced,
     index-added seat.taken left cluster,
   );

@@ -95,7 +95,9 @@ pub(super) fn logged_and_left(log: &[Vec<u64>], left: &[u64]) -> u64 {
 
 /// Whether the log and what is left are all that two threads submitted.
 fn balances<R: Threads + Sync>(rt: &R, alloc: Global) -> Option<bool> {
-    let (live, intake, seat) = open(alloc, ONE, 20, 10_000).ok()?;
+    let Ok((live, intake, seat)) = open(alloc, ONE, 20, 10_000) else {
+        return None;
+    };
     let Ok((first, second)) = intake.split(alloc, seat, 6_000) else {
         return None;
     };
