@@ -1,6 +1,7 @@
 pub mod TextLemmas
 pub mod CutLemmas
 pub mod SumLemmas
+pub mod CollectingLemmas
 pub mod RoundLemmas
 pub mod ReplayStopLemmas
 pub mod LoopLemmas

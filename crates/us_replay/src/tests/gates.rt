@@ -56,8 +56,8 @@ impl Gate for Meeting {
     }
 }
 
-/// Two workers meet in each round of the bonded run.
-fn meet_in(rt: &(impl Abort + Threads + Sync), alloc: Global, phase: Phase) {
+/// Two workers meet so often in the bonded run.
+fn meet_in(rt: &(impl Abort + Threads + Sync), alloc: Global, phase: Phase, times: usize) {
     let gate = Meeting::new(phase);
     expect(rt, alloc, 2, &gate, BONDED_OUTCOME);
     let met = (
@@ -65,15 +65,21 @@ fn meet_in(rt: &(impl Abort + Threads + Sync), alloc: Global, phase: Phase) {
         gate.second.load(Ordering::SeqCst),
         gate.missed.load(Ordering::SeqCst),
     );
-    same(rt, &met, &(2, 2, false), "met");
+    same(rt, &met, &(times, times, false), "met");
+}
+
+/// Round 0 has no requests.
+#[test]
+fn workers_meet_in_collect(rt: HostRuntime) {
+    meet_in(&rt, rt.alloc(), Phase::Collect, 1);
 }
 
 #[test]
 fn workers_meet_in_fill(rt: HostRuntime) {
-    meet_in(&rt, rt.alloc(), Phase::Fill);
+    meet_in(&rt, rt.alloc(), Phase::Fill, 2);
 }
 
 #[test]
 fn workers_meet_in_build(rt: HostRuntime) {
-    meet_in(&rt, rt.alloc(), Phase::Build);
+    meet_in(&rt, rt.alloc(), Phase::Build, 2);
 }
