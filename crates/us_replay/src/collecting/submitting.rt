@@ -33,7 +33,7 @@ impl<'a> Work<(Seat, &'a [Ask]), Seat, IntakeFault> for Submitting<'a> {
 }
 
 /// Submits each of these asks.
-fn submit_all(intake: &Intake, seat: Seat, asks: &[Ask]) -> Result<Seat, IntakeFault>
+pub(super) fn submit_all(intake: &Intake, seat: Seat, asks: &[Ask]) -> Result<Seat, IntakeFault>
     requires { IsChunk intake.now seat asks.now }
     ensures value { IfOk result (λ after. after ≡ seat_after_asks seat asks.now) }
     ensures fine { IsOk result }
