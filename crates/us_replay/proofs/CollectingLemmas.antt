@@ -1,23 +1,20 @@
 -- Collecting: what chunks submit is what their asks name, and seats that are joined have it all.
-use Rattle.std.proofs.Common.{◌≡◌, ℕ, zero, suc, ◌+◌, ◌-◌, ◌*◌, ◌/◌, ◌==◌, ◌<◌, ◌≤◌, Bool, List, [], ◌∷◌, ◌++◌, length, map, filter, flat_map, take, drop, get_or, replicate, sum, sum_by, refl, ap, sym, subst, ◌∙◌, arith, Option, Some, slice_get}
+use Rattle.std.proofs.Common.{◌≡◌, ℕ, zero, suc, ◌+◌, ◌-◌, ◌*◌, ◌==◌, ◌<◌, ◌≤◌, Bool, List, [], ◌∷◌, ◌++◌, length, map, filter, flat_map, take, drop, get_or, sum, sum_by, refl, ap, sym, subst, ◌∙◌, arith, Some, slice_get}
 use Rattle.std.specs.List.{AllByRecursion, range_with_len}
 use Rattle.std.proofs.Math.Bool.{or-false}
-use Rattle.std.proofs.Math.Nat.{div-mul-le_self, div-one}
-use Rattle.std.proofs.lemmas.Nat.{le-div}
 use Rattle.std.proofs.lemmas.Option.{none-some, same_Some}
-use Rattle.std.proofs.lemmas.List.{append-nil, append_assoc, length-append, length-drop, length-take-le, take-append-drop}
-use Rattle.std.proofs.lemmas.Grind.{flat_map-append}
+use Rattle.std.proofs.lemmas.List.{length-append}
 use Rattle.std.proofs.lemmas.List.Elements.{filter-append}
 use Rattle.std.proofs.lemmas.List.Sums.{sum_by-append, sum_by-cons}
 use Rattle.us_crew.specs.Items.{AreAccepted}
 use Rattle.us_crew.specs.Values.{values_from, values_of}
 use Rattle.us_intake.specs.Tallies.{empty_tally, raised, added}
-use Rattle.us_intake.specs.Seats.{Intake, Seat, new_seat, joined_seat, seat_after_submit, seat_after_split, seat_after_cut, spent, IsWhole}
+use Rattle.us_intake.specs.Seats.{Intake, Seat, new_seat, joined_seat, seat_after_submit, seat_after_split, spent}
 use Rattle.us_intake.proofs.TallyLemmas.{sum-added, sum-empty, length-added, length-empty}
 use Rattle.us_requests.specs.declared.asks.Ask.{Ask}
 use Rattle.us_requests.specs.Cuts.{asked, cut_of}
 use Rattle.us_requests.specs.Traces.{max_ask}
-use Rattle.us_replay.specs.Collecting.{AreAsks, AreSettled, Collector, IsChunk, IsSettled, chunk_quota, collected_by, joined_seats, run_quota, seat_after_asks, with_asks}
+use Rattle.us_replay.specs.Collecting.{AreAsks, IsChunk, chunk_quota, joined_seats, seat_after_asks}
 use Rattle.us_replay.proofs.CutLemmas.{cut-none, cut-more}
 use Rattle.us_replay.proofs.SumLemmas.{length-cut, sum-cut}
 
@@ -85,6 +82,10 @@ cut-append n asks others =
     sum_by-append (λ (ask : Ask). ask.bytes) (filter (λ (ask : Ask). ask.cluster == cluster) asks)
     (filter (λ (ask : Ask). ask.cluster == cluster) others))
     (range_with_len 0 n)
+
+pub no-items : {T : Type 0} (items : List T) → length items ≡ 0 → items ≡ []
+no-items [] none = refl
+no-items (item ∷ items) none = absurd (omega (arith, none))
 
 -- asks of which two things are known
 pub are-asks : (n : ℕ) (asks : List Ask) → AllByRecursion (λ (ask : Ask). ask.cluster < n) asks →
@@ -190,7 +191,7 @@ submitted-more intake seat now asks i cluster bytes d chunk so_far below is has 
 
 -- Joining.
 
-abbrev with_all : Seat → ℕ → Bool → List ℕ → List ℕ → Seat
+abbrev pub with_all : Seat → ℕ → Bool → List ℕ → List ℕ → Seat
 with_all seat quota takes submitted taken =
     record { intake = seat.intake; quota = quota; takes = takes; submitted = submitted; taken = taken }
 
@@ -268,184 +269,6 @@ module _ {T : Type 0} (seat_of : T → Seat) (asks_of : T → List Ask) where
   of-intake intake (item ∷ items) place chunks =
       (ap (λ (s : Seat). s.intake) chunks.0.0, of-intake intake items (place + 1) chunks.1)
 
--- Dividing.
-
-corner : (a b : ℕ) → suc a + b ≤ suc a * suc b
-corner zero b = omega arith
-corner (suc a) b = omega (arith, corner a b)
-
--- one of `left` shares of so many asks: there is one at least, enough are left for the others, and the last share is all
-pub share : (asks left : ℕ) → 1 ≤ left → left ≤ asks →
-    (1 ≤ asks / left) × (asks / left + (left - 1) ≤ asks) × (left ≡ 1 → asks / left ≡ asks)
-share asks zero some few = absurd (omega (arith, some))
-share asks (suc b) some few =
-    let one : 1 ≤ asks / suc b = le-div 1 asks (suc b) (omega arith) (omega (arith, few)) in (
-      one,
-      others (asks / suc b) one (div-mul-le_self asks (suc b)),
-      λ last. ap (λ k. asks / k) last ∙ div-one asks,
-    )
-  where
-    others : (q : ℕ) → 1 ≤ q → q * suc b ≤ asks → q + (suc b - 1) ≤ asks
-    others zero one all = absurd (omega (arith, one))
-    others (suc a) one all = omega (arith, corner a b, all)
-
-no-items : {T : Type 0} (items : List T) → length items ≡ 0 → items ≡ []
-no-items [] none = refl
-no-items (item ∷ items) none = absurd (omega (arith, none))
-
-all-more : {T : Type 0} (P : T → Type 0) (items : List T) (item : T) → AllByRecursion P items → P item →
-    AllByRecursion P (items ++ item ∷ [])
-all-more P [] item all here = (here, tt)
-all-more P (x ∷ items) item all here = (all.0, all-more P items item all.1 here)
-
-no-quota : (quota : ℕ) → quota ≡ quota - chunk_quota []
-no-quota quota = omega arith
-
--- how far the asks of a round are divided: what is left of the seat, the chunks, the asks behind them, and how many chunks
--- are still to come
-pub record AreDivided {T : Type 0} (seat_of : T → Seat) (asks_of : T → List Ask) (intake : Intake) (whole : Seat)
-    (asks : List Ask) (parts : ℕ) (seat : Seat) (items : List T) (rest : List Ask) (left : ℕ) : Type 0 where
-  pub all : flat_map asks_of items ++ rest ≡ asks
-  pub seat_is : seat ≡ seat_after_split whole (chunk_quota (flat_map asks_of items))
-  pub chunks : AllByRecursion (λ item. IsChunk intake (seat_of item) (asks_of item)) items
-  pub rest_are : AreAsks intake.clusters rest
-  pub enough : left ≤ length rest
-  pub last : left ≡ 0 → length rest ≡ 0
-  pub count : length items + left ≡ parts
-
-module _ {T : Type 0} (seat_of : T → Seat) (asks_of : T → List Ask) (intake : Intake) (whole : Seat) (asks : List Ask)
-    (parts : ℕ) where
-  pub none-divided : AreAsks intake.clusters asks → 1 ≤ parts → parts ≤ length asks →
-      AreDivided seat_of asks_of intake whole asks parts whole [] asks parts
-  none-divided are some few = record {
-    all = refl;
-    seat_is = ap (λ q. with_all whole q whole.takes whole.submitted whole.taken) (no-quota whole.quota);
-    chunks = tt;
-    rest_are = are;
-    enough = few;
-    last = λ none. absurd (omega (arith, some, none));
-    count = omega arith;
-  }
-
-  -- the next chunk has some asks, and the seat has enough for it
-  pub chunk-room : (seat : Seat) (items : List T) (rest chunk : List Ask) (left : ℕ) →
-      AreDivided seat_of asks_of intake whole asks parts seat items rest left → 1 ≤ left →
-      chunk ≡ take (length rest / left) rest → spent whole + chunk_quota asks < whole.quota →
-      (1 ≤ length chunk) × (length chunk ≤ length asks) × (spent seat + chunk_quota chunk < seat.quota)
-  chunk-room seat items rest chunk left so_far some is room =
-      let shares = share (length rest) left some so_far.enough in
-      let len : length chunk ≡ length rest / left =
-      ap length is ∙ length-take-le (length rest / left) rest (omega (arith, shares.1)) in
-      let all : length (flat_map asks_of items) + length rest ≡ length asks =
-      sym (length-append (flat_map asks_of items) rest) ∙ ap length so_far.all in (
-        omega (arith, len, shares.0),
-        omega (arith, len, shares.1, all),
-        omega (
-          arith,
-          len,
-          shares.1,
-          all,
-          ap (λ (s : Seat). s.quota) so_far.seat_is,
-          ap (λ (s : Seat). sum s.submitted) so_far.seat_is,
-          room,
-        ),
-      )
-
-  pub next-divided : (seat kept : Seat) (items : List T) (item : T) (rest chunk behind : List Ask) (left : ℕ) →
-      AreDivided seat_of asks_of intake whole asks parts seat items rest left → 1 ≤ left →
-      chunk ≡ take (length rest / left) rest → behind ≡ drop (length rest / left) rest →
-      kept ≡ seat_after_split seat (chunk_quota chunk) → seat_of item ≡ new_seat intake (chunk_quota chunk) →
-      asks_of item ≡ chunk →
-      AreDivided seat_of asks_of intake whole asks parts kept (items ++ item ∷ []) behind (left - 1)
-  next-divided seat kept items item rest chunk behind left so_far some is behind_is kept_is new_is chunk_is =
-      let k : ℕ = length rest / left in
-      let done : List Ask = flat_map asks_of items in
-      let shares = share (length rest) left some so_far.enough in
-      let more : flat_map asks_of (items ++ item ∷ []) ≡ done ++ chunk =
-      flat_map-append asks_of items (item ∷ []) ∙ ap (λ l. done ++ l) (append-nil (asks_of item) ∙ chunk_is) in
-      let parts_are : chunk ++ behind ≡ rest =
-      ap (λ l. l ++ behind) is ∙ ap (λ l. take k rest ++ l) behind_is ∙ take-append-drop k rest in
-      let both = are-append intake.clusters chunk behind (subst (AreAsks intake.clusters) (sym parts_are) so_far.rest_are) in
-      let len : length behind ≡ length rest - k = ap length behind_is ∙ length-drop k rest in
-      let quota : whole.quota - chunk_quota done - chunk_quota chunk ≡ whole.quota - chunk_quota (done ++ chunk) =
-      omega (arith, length-append done chunk) in
-      record {
-        all = ap (λ l. l ++ behind) more ∙ append_assoc done chunk behind ∙ ap (λ l. done ++ l) parts_are ∙ so_far.all;
-        seat_is = kept_is ∙ ap (λ (s : Seat). seat_after_split s (chunk_quota chunk)) so_far.seat_is ∙
-            ap (λ q. with_all whole q whole.takes whole.submitted whole.taken) quota ∙
-            ap (λ l. seat_after_split whole (chunk_quota l)) (sym more);
-        chunks = all-more (λ item. IsChunk intake (seat_of item) (asks_of item)) items item so_far.chunks
-            (new_is ∙ ap (λ l. new_seat intake (chunk_quota l)) (sym chunk_is), subst (AreAsks intake.clusters) (sym chunk_is) both.0);
-        rest_are = both.1;
-        enough = omega (arith, len, shares.1);
-        last = λ none. omega (arith, len, shares.2 (omega (arith, some, none)));
-        count = omega (arith, length-append items (item ∷ []), so_far.count, some);
-      }
-
-  -- all asks are in chunks
-  pub all-divided : (seat : Seat) (items : List T) (rest : List Ask) (left : ℕ) →
-      AreDivided seat_of asks_of intake whole asks parts seat items rest left → left ≡ 0 → flat_map asks_of items ≡ asks
-  all-divided seat items rest left so_far none =
-      sym (append-nil (flat_map asks_of items)) ∙
-      ap (λ l. flat_map asks_of items ++ l) (sym (no-items rest (so_far.last none))) ∙ so_far.all
-
--- Rounds.
-
--- the seat that was cut, and is settled again
-pub record IsNext (clusters : ℕ) (intake : Intake) (seat next : Seat) (asks : List Ask) (cut : List ℕ) : Type 0 where
-  pub settled : IsSettled clusters intake next
-  pub cut_is : cut ≡ cut_of clusters asks
-  pub more : spent next ≡ spent seat + sum (cut_of clusters asks)
-
-pub next-settled : (clusters : ℕ) (intake : Intake) (seat full next : Seat) (asks : List Ask) (cut : List ℕ) →
-    IsSettled clusters intake seat → full ≡ seat_after_asks seat asks → next ≡ seat_after_cut full cut →
-    (IsWhole full → next.taken ≡ next.submitted) → length cut ≡ clusters → IsNext clusters intake seat next asks cut
-next-settled clusters intake seat full next asks cut settled full_is next_is even row =
-    let n : seat.intake.clusters ≡ clusters = ap (λ (i : Intake). i.clusters) settled.own ∙ settled.clusters_are in
-    let submitted : next.submitted ≡ added seat.submitted (cut_of clusters asks) =
-    ap (λ (s : Seat). s.submitted) next_is ∙ ap (λ (s : Seat). s.submitted) full_is ∙
-    ap (λ m. added seat.submitted (cut_of m asks)) n in
-    let taken : next.taken ≡ added seat.submitted cut =
-    ap (λ (s : Seat). s.taken) next_is ∙ ap (λ (s : Seat). added s.taken cut) full_is ∙ ap (λ l. added l cut) settled.even in
-    let own : next.intake ≡ intake =
-    ap (λ (s : Seat). s.intake) next_is ∙ ap (λ (s : Seat). s.intake) full_is ∙ settled.own in
-    let quota : next.quota ≡ run_quota =
-    ap (λ (s : Seat). s.quota) next_is ∙ ap (λ (s : Seat). s.quota) full_is ∙ settled.whole in
-    let whole : IsWhole full =
-    ap (λ (s : Seat). s.quota) full_is ∙ settled.whole ∙ sym settled.quota_is ∙
-    sym (ap (λ (i : Intake). i.quota) (ap (λ (s : Seat). s.intake) full_is ∙ settled.own)) in
-    let its : length (cut_of clusters asks) ≡ length seat.submitted = length-cut clusters asks ∙ sym settled.row in
-    let all : next.taken ≡ next.submitted = even whole in
-    record {
-      settled = record {
-        clusters_are = settled.clusters_are;
-        quota_is = settled.quota_is;
-        own = own;
-        whole = quota;
-        takes = ap (λ (s : Seat). s.takes) next_is ∙ ap (λ (s : Seat). s.takes) full_is ∙ settled.takes;
-        row = ap length submitted ∙ length-added seat.submitted (cut_of clusters asks) (sym its) ∙ settled.row;
-        even = all;
-      };
-      cut_is = added-same seat.submitted cut (cut_of clusters asks) (row ∙ sym settled.row) its
-          (sym taken ∙ all ∙ submitted);
-      more = ap sum submitted ∙ sum-added seat.submitted (cut_of clusters asks);
-    }
-
--- what stands in a collector whose intake and seat are these
-pub settled-here : (clusters : ℕ) (held : Option (Intake × Seat)) (intake : Intake) (seat : Seat) → AreSettled clusters held →
-    held ≡ Some (intake, seat) → IsSettled clusters intake seat
-settled-here clusters held intake seat are is = subst (AreSettled clusters) is are
-
-pub collected-here : (held : Option (Intake × Seat)) (intake : Intake) (seat : Seat) → held ≡ Some (intake, seat) →
-    collected_by held ≡ spent seat
-collected-here held intake seat is = ap collected_by is
-
--- where nobody asks
-pub none-asked : (n : ℕ) (asks : List Ask) → length asks ≡ 0 → (replicate n 0 ≡ cut_of n asks) × (sum (cut_of n asks) ≡ 0)
-none-asked n asks none =
-    let is : replicate n 0 ≡ cut_of n asks = cut-none n ∙ ap (cut_of n) (sym (no-items asks none)) in
-    (is, ap sum (sym is) ∙ sum-empty n)
-
 -- Workers.
 
 all-found : {T : Type 0} (P : T → Type 0) (items : List T) (place : ℕ) (item : T) → AllByRecursion P items →
@@ -457,22 +280,3 @@ all-found P (x ∷ items) (suc place) item all at = all-found P items place item
 pub accepted : {T : Type 0} (entered : ℕ → Type 0) (P : T → Type 0) (items : List T) → AllByRecursion P items →
     AreAccepted entered (λ _ item. P item) items
 accepted entered P items all place item at inside = all-found P items place item all at
-
-abbrev collector : List ℕ → ℕ → Collector
-collector cut collected = record { cut = cut; collected = collected }
-
-pub empty-round : (old cut : List ℕ) (collected : ℕ) (asks : List Ask) → length asks ≡ 0 →
-    cut ≡ replicate (length old) 0 →
-    record { cut = cut; collected = collected } ≡ with_asks (record { cut = old; collected = collected }) asks
-empty-round old cut collected asks none is =
-    let nothing = none-asked (length old) asks none in
-    let same : collected ≡ collected + sum (cut_of (length old) asks) = omega (arith, nothing.1) in
-    ap (λ l. collector l collected) (is ∙ nothing.0) ∙ ap (collector (cut_of (length old) asks)) same
-
-pub full-round : (old cut : List ℕ) (held : Option (Intake × Seat)) (intake : Intake) (seat next : Seat) (asks : List Ask) →
-    held ≡ Some (intake, seat) → IsNext (length old) intake seat next asks cut →
-    record { cut = cut; collected = spent next } ≡ with_asks (record { cut = old; collected = collected_by held }) asks
-full-round old cut held intake seat next asks held_is made =
-    let same : spent next ≡ collected_by held + sum (cut_of (length old) asks) =
-    omega (arith, made.more, collected-here held intake seat held_is) in
-    ap (λ l. collector l (spent next)) made.cut_is ∙ ap (collector (cut_of (length old) asks)) same

@@ -76,6 +76,7 @@ impl Collector {
             self.cut.fill(0);
             return Ok(());
         }
+        // With no cluster nobody asks, so where there is no intake, memory was wanting before.
         let Some((intake, seat)) = self.intake.take() else {
             return Err(NoMemory);
         };

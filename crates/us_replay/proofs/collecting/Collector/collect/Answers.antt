@@ -1,7 +1,7 @@
 use Rattle.std.proofs.Common.{length, replicate, ap, sym, ◌∙◌}
 use Rattle.std.proofs.lemmas.Bool.{eqb-true}
 use Rattle.us_replay.specs.Collecting.{with_asks}
-use Rattle.us_replay.proofs.CollectingLemmas.{empty-round, full-round, next-settled, settled-here}
+use Rattle.us_replay.proofs.SettledLemmas.{empty-round, full-round, next-settled, settled-here}
 use Rattle.us_replay.proofs.collecting.Collector.collect.Goals as goal
 
 pub returns-then-is_empty : goal.returns-then-is_empty

@@ -1,5 +1,5 @@
 use Rattle.std.proofs.Common.{◌+◌, ◌≤◌, vec_len, vec_capacity}
-use Rattle.us_replay.proofs.CollectingLemmas.{AreDivided}
+use Rattle.us_replay.proofs.ChunkLemmas.{AreDivided}
 use Rattle.us_replay.proofs.collecting.seats.split_all.Given as goal
 
 abbrev pub invariant-loop-left : goal.invariant-loop-left
