@@ -1,10 +1,10 @@
--- Cuts: what one more ask changes, and that no sum of asks wraps.
+-- Cuts: what one more ask changes.
 use Rattle.std.proofs.Common.{◌≡◌, ℕ, ◌+◌, ◌<◌, ◌≤◌, List, [], ◌∷◌, ◌++◌, length, map, filter, take, get_or, set, replicate, cond, eqb, true, false, zero, suc, sum_by, refl, ap, sym, ◌∙◌, inl, inr, arith}
 use Rattle.std.specs.List.{AllByRecursion, range_with_len}
 use Rattle.std.proofs.lemmas.Bool.{cases_Bool, eq-eqb, ne_eqb}
 use Rattle.std.proofs.lemmas.List.{take_more}
 use Rattle.std.proofs.lemmas.List.Elements.{filter-append}
-use Rattle.std.proofs.lemmas.List.Sums.{sum_by-append, sum_by-cons, sum_by_more_le}
+use Rattle.std.proofs.lemmas.List.Sums.{sum_by-append, sum_by-cons}
 use Rattle.std.proofs.lemmas.List.FromFn.{get_or-map-range_with_len}
 use Rattle.us_requests.specs.declared.asks.Ask.{Ask}
 use Rattle.us_requests.specs.Cuts.{asked, cut_of}
@@ -89,26 +89,3 @@ cut-more cut asks n i cluster bytes d so_far below is has known =
     (asked (take i asks) cluster + bytes)
     (λ j e. ap (asked (take i asks ++ ask ∷ [])) (omega (arith, e)) ∙ added)
     (λ j other. sym (asked-elsewhere (take i asks) ask j (λ e. other (omega (arith, e, is))))))
-
-asked-le : (asks : List Ask) (cluster : ℕ) → asked asks cluster ≤ bytes_in asks
-asked-le [] cluster = omega arith
-asked-le (ask ∷ asks) cluster =
-    let all = sum_by-cons (λ ask. ask.bytes) ask asks in
-    elim (cases_Bool (eqb ask.cluster cluster)) [
-      | inl t ↦
-          let taken = sum_by-cons (λ ask. ask.bytes) ask (filter (λ ask. eqb ask.cluster cluster) asks) in
-          rw t (omega (arith, all, taken, asked-le asks cluster))
-      | inr f ↦ rw f (omega (arith, all, asked-le asks cluster))
-    ]
-
--- the sum of a cluster's bytes so far, and of one more ask, is that of some of the asks
-pub cut-room : (cut : List ℕ) (asks : List Ask) (n i cluster bytes : ℕ) (d : Ask) → cut ≡ cut_of n (take i asks) →
-    i < length asks → cluster ≡ (get_or asks i d).cluster → bytes ≡ (get_or asks i d).bytes →
-    AllByRecursion (λ ask. ask.cluster < n) asks → get_or cut cluster 0 + bytes ≤ bytes_in asks
-unfolding cut_of
-cut-room cut asks n i cluster bytes d so_far below is has known =
-    let room : cluster < n = omega (arith, is, known-at n asks i d known below) in
-    let before : get_or cut cluster 0 ≡ asked (take i asks) cluster =
-    ap (λ xs. get_or xs cluster 0) so_far ∙
-    get_or-map-range_with_len (asked (take i asks)) 0 n cluster cluster 0 room (omega arith) in
-    omega (arith, before, has, asked-le (take i asks) cluster, sum_by_more_le (λ ask. ask.bytes) asks i d below)

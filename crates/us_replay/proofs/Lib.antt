@@ -1,6 +1,9 @@
 pub mod TextLemmas
 pub mod CutLemmas
 pub mod SumLemmas
+pub mod CollectingLemmas
+pub mod ChunkLemmas
+pub mod SettledLemmas
 pub mod RoundLemmas
 pub mod ReplayStopLemmas
 pub mod LoopLemmas

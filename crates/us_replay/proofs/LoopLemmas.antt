@@ -12,14 +12,16 @@ use Rattle.us_flows.specs.Lawful.{AreTables}
 use Rattle.us_requests.specs.declared.asks.Ask.{Ask}
 use Rattle.us_requests.specs.declared.asks.Counts.{Counts}
 use Rattle.us_requests.specs.Cuts.{cut_of}
-use Rattle.us_requests.specs.Traces.{TraceAsks, asks_in, asked_before, max_asked, IsTrace}
+use Rattle.us_requests.specs.Traces.{TraceAsks, asks_in, asked_before, asks_before, max_asked, IsTrace}
 use Rattle.us_round.specs.declared.rows.Row.{Row}
 use Rattle.us_round.specs.Rounds.{State, Scheduled, round_of, opening, schedule, final}
 use Rattle.us_round.specs.Outputs.{RoundOut, AreWithinLimits, out_of, final_rows}
+use Rattle.us_replay.specs.Collecting.{AreAsks}
 use Rattle.us_replay.specs.Files.{records, lines, counts_row}
 use Rattle.us_replay.specs.Replays.{KeptLimits, all_rows, is_granted, is_missed, output_of, summary_of}
 use Rattle.us_replay.specs.Progress.{Progress, Along, CanMake, IsMade, cuts_in, opening_progress, out_after, output_in, step_of, summary_after, with_last, with_round}
 use Rattle.us_replay.proofs.RoundLemmas.{After, after, HasCalendars, opening-calendars, next-calendars, some-records}
+use Rattle.us_replay.proofs.CollectingLemmas.{all-within, are-asks}
 use Rattle.us_replay.proofs.SumLemmas.{added-below, length-cut, sum-cut}
 use Rattle.us_replay.proofs.ReplayStopLemmas.{next-of, next-part, AreTexts, AreLast}
 
@@ -39,6 +41,7 @@ along-opening t v state p lawful opened empty = record {
   round = ap (λ s. s.round) opened;
   clusters = ap (λ p. length p.cut) empty ∙ length-replicate (length (clusters_of t)) 0;
   asked = omega (arith, ap (λ s. sum s.outstanding) opened, no-sum (length (clusters_of t)));
+  collected = omega (arith, ap (λ p. p.collected) empty);
   rest = ap (λ s. schedule s (cuts_in t v)) opened;
   ends = ap (λ s. final s (cuts_in t v)) opened;
   granted = ap (λ p. p.granted) empty;
@@ -86,6 +89,13 @@ next-asked : (v : TraceAsks) (k : ℕ) → asked_before v (k + 1) ≡ asked_befo
 next-asked v k =
     let here : 0 + k ≡ k = omega arith in omega (arith, sum-more (bytes_in v) 0 k, ap (bytes_in v) here)
 
+abbrev count_in : TraceAsks → ℕ → ℕ
+count_in v round = length (asks_in v round)
+
+next-count : (v : TraceAsks) (k : ℕ) → asks_before v (k + 1) ≡ asks_before v k + count_in v k
+next-count v k =
+    let here : 0 + k ≡ k = omega arith in omega (arith, sum-more (count_in v) 0 k, ap (count_in v) here)
+
 next-cut-of : (t : Tables) (v : TraceAsks) (k : ℕ) (state : State) (p : Progress) → Along t v k state p → k < v.rounds →
     drop k (cuts_in t v) ≡ cut_of (length p.cut) (asks_in v k) ∷ drop (k + 1) (cuts_in t v)
 next-cut-of t v k state p along below =
@@ -127,10 +137,10 @@ limits-next P (y ∷ ys) (suc k) x rest is kept here =
     let back : suc (k + 1) ≡ suc k + 1 = omega arith in
     subst (λ n. AllByRecursion P (take n (y ∷ ys))) back (kept.0, limits-next P ys k x rest is kept.1 here)
 
-along-made : (t : Tables) (v : TraceAsks) (k : ℕ) (state next : State) (p q : Progress) → Along t v k state p →
+along-made : (t : Tables) (v : TraceAsks) (k : ℕ) (state next : State) (p q : Progress) → IsTrace v → Along t v k state p →
     k < v.rounds → IsMade state p (asks_in v k) next q → Along t v (k + 1) next q
 unfolding with_round final KeptLimits
-along-made t v k state next p q along below made =
+along-made t v k state next p q lawful along below made =
     let cut : List ℕ = cut_of (length p.cut) (asks_in v k) in
     let here : RoundOut = out_after state p (asks_in v k) in
     let ends : After state cut (round_of state cut).state = after state cut in
@@ -150,6 +160,14 @@ along-made t v k state next p q along below made =
         sum-cut (length p.cut) (asks_in v k),
         along.asked,
         next-asked v k,
+      );
+      collected = omega (
+        arith,
+        ap (λ p. p.collected) made.progress_is,
+        sum-cut (length p.cut) (asks_in v k),
+        all-within (asks_in v k) (lawful.small k),
+        along.collected,
+        next-count v k,
       );
       rest = ap (λ s. schedule s (drop (k + 1) (cuts_in t v))) made.state_is ∙
           sym (next-of (schedule (opening t) (cuts_in t v)) k _ _ now).behind;
@@ -180,9 +198,10 @@ along-made t v k state next p q along below made =
     }
 
 pub along-next : (t : Tables) (v : TraceAsks) (k : ℕ) (state next : State) (p q : Progress) (asks : List Ask) →
-    Along t v k state p → k < v.rounds → asks ≡ asks_in v k → IsMade state p asks next q → Along t v (k + 1) next q
-along-next t v k state next p q asks along below are made =
-    along-made t v k state next p q along below (subst (λ xs. IsMade state p xs next q) are made)
+    IsTrace v → Along t v k state p → k < v.rounds → asks ≡ asks_in v k → IsMade state p asks next q →
+    Along t v (k + 1) next q
+along-next t v k state next p q asks lawful along below are made =
+    along-made t v k state next p q lawful along below (subst (λ xs. IsMade state p xs next q) are made)
 
 -- the texts that were made of it
 pub texts-here : (t : Tables) (v : TraceAsks) (k : ℕ) (state next : State) (p q : Progress) (asks : List Ask)
@@ -286,8 +305,11 @@ pub can-make : (t : Tables) (v : TraceAsks) (k : ℕ) (state : State) (p : Progr
 can-make t v k state p asks lawful along fits below known are = record {
   lawful = subst AreTables (sym along.tables) along.lawful;
   clusters = along.clusters ∙ ap (λ t. length (clusters_of t)) (sym along.tables);
-  known = subst (AllByRecursion (λ ask. ask.cluster < length p.cut)) (sym are)
-      (subst (λ n. AllByRecursion (λ ask. ask.cluster < n) (asks_in v k)) (sym along.clusters) known);
+  asks_are = subst (AreAsks (length p.cut)) (sym are)
+      (subst (λ n. AreAsks n (asks_in v k)) (sym along.clusters)
+      (are-asks (length (clusters_of t)) (asks_in v k) known (lawful.small k)));
+  few_asks = omega (arith, next-count v k, lawful.few (k + 1), ap length are);
+  room = omega (arith, along.collected, next-count v k, lawful.few (k + 1), ap length are);
   asked = omega (arith, along.asked, next-asked v k, lawful.asked (k + 1), ap (sum_by (λ ask. ask.bytes)) are);
   time = subst (λ n. (n + 1) * state.tables.round_ticks ≤ max_run_ticks) (sym along.round)
       (subst (λ t. (k + 1) * t.round_ticks ≤ max_run_ticks) (sym along.tables) (time-next t v.rounds k fits below));

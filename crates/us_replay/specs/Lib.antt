@@ -12,5 +12,7 @@ pub mod Replays
 -- the definitions at small inputs
 pub mod LineExamples
 pub mod RunExamples
--- inside the crate, and of no use to a reader of the promise: what a replay keeps from one round to the next
+-- inside the crate, and of no use to a reader of the promise: how requests are collected; what a replay keeps from one
+-- round to the next
+pub mod Collecting
 pub mod Progress

@@ -1,7 +1,7 @@
 -- A replay on its way: the cuts of the trace that was read, what is kept from one round to the next, and what one writing
 -- of texts leaves.
 use Rattle.std.specs.Prelude.{◌≡◌, ℕ, ◌+◌, ◌*◌, ◌^◌, ◌<◌, ◌≤◌, List, [], ◌∷◌, ◌++◌, length, map, drop, take, replicate, sum, sum_by, count_by, Result, Ok, Err}
-use Rattle.std.specs.List.{AllByRecursion, range_with_len}
+use Rattle.std.specs.List.{range_with_len}
 use Rattle.std.specs.Io.KnownBytes.{Keeps}
 use Rattle.us_slots.specs.Devices.{AppendsFront}
 use Rattle.us_flows.specs.Tables.{Tables, max_run_ticks}
@@ -10,13 +10,14 @@ use Rattle.us_flows.specs.Lawful.{AreTables}
 use Rattle.us_requests.specs.declared.asks.Ask.{Ask}
 use Rattle.us_requests.specs.declared.asks.Counts.{Counts}
 use Rattle.us_requests.specs.Cuts.{cut_of}
-use Rattle.us_requests.specs.Traces.{TraceAsks, asks_in, asked_before, max_asked}
+use Rattle.us_requests.specs.Traces.{TraceAsks, asks_in, asked_before, asks_before, max_ask, max_asked, max_asks}
 use Rattle.us_round.specs.Rounds.{State, Step, opening, round_of, schedule, final}
 use Rattle.us_round.specs.States.{settled_by}
 use Rattle.us_round.specs.Outputs.{RoundOut, AreWithinLimits, final_rows, out_of}
 use Rattle.us_replay.specs.declared.summaries.Summary.{Summary}
 use Rattle.us_replay.specs.declared.faults.RunFault.{RunFault}
 use Rattle.us_replay.specs.declared.faults.RunFault.TheVariants as fault
+use Rattle.us_replay.specs.Collecting.{AreAsks, chunk_quota}
 use Rattle.us_replay.specs.Files.{records, round_lines, lines, counts_row}
 use Rattle.us_replay.specs.Replays.{Growth, Output, Took, Ran, KeptLimits, all_rows, is_granted, is_missed, output_of, rounds_done}
 
@@ -40,6 +41,8 @@ RanTrace t v to_maps to_report result =
 pub record Progress : Type 0 where
   -- what each cluster newly asks for
   pub cut : List ℕ
+  -- the bytes that were collected so far
+  pub collected : ℕ
   -- the texts that are to be written next
   pub to_maps : List ℕ
   pub to_report : List ℕ
@@ -50,7 +53,7 @@ pub record Progress : Type 0 where
 -- before round 0 of so many clusters
 abbrev pub opening_progress : ℕ → Progress
 opening_progress clusters =
-    record { cut = replicate clusters 0; to_maps = []; to_report = []; granted = 0; missed = 0 }
+    record { cut = replicate clusters 0; collected = 0; to_maps = []; to_report = []; granted = 0; missed = 0 }
 
 -- the most lines of requested grants in a round: of 16 channels with 100 assignments each
 abbrev pub max_requested : ℕ
@@ -66,10 +69,11 @@ pub record HasRoom (p : Progress) (more : ℕ) : Type 0 where
   pub granted : p.granted + more < 2 ^ 64
   pub missed : p.missed + more < 2 ^ 64
 
--- the asks of the next round were added up
+-- the asks of the next round were collected
 abbrev pub with_asks : Progress → List Ask → Progress
 with_asks p asks = record {
   cut = cut_of (length p.cut) asks;
+  collected = p.collected + sum (cut_of (length p.cut) asks);
   to_maps = p.to_maps;
   to_report = p.to_report;
   granted = p.granted;
@@ -80,6 +84,7 @@ with_asks p asks = record {
 unfoldable pub with_round : Progress → RoundOut → Progress
 with_round p out = record {
   cut = p.cut;
+  collected = p.collected;
   to_maps = records out;
   to_report = round_lines out;
   granted = p.granted + count_by is_granted out.rows;
@@ -90,6 +95,7 @@ with_round p out = record {
 unfoldable pub with_last : Progress → State → Counts → Progress
 with_last p state counts = record {
   cut = p.cut;
+  collected = p.collected;
   to_maps = [];
   to_report = lines (final_rows state ++ counts_row counts ∷ []);
   granted = p.granted;
@@ -113,7 +119,9 @@ summary_after p rounds counts = record {
 pub record CanMake (state : State) (p : Progress) (asks : List Ask) : Type 0 where
   pub lawful : AreTables state.tables
   pub clusters : length p.cut ≡ length (clusters_of state.tables)
-  pub known : AllByRecursion (λ ask. ask.cluster < length p.cut) asks
+  pub asks_are : AreAsks (length p.cut) asks
+  pub few_asks : length asks ≤ max_asks
+  pub room : p.collected + chunk_quota asks ≤ max_asked
   pub asked : sum state.outstanding + sum_by (λ ask. ask.bytes) asks ≤ max_asked
   pub time : (state.round + 1) * state.tables.round_ticks ≤ max_run_ticks
   pub few_granted : AreFewBefore state p.granted
@@ -141,6 +149,7 @@ pub record Along (t : Tables) (v : TraceAsks) (k : ℕ) (state : State) (p : Pro
   pub round : state.round ≡ k
   pub clusters : length p.cut ≡ length (clusters_of t)
   pub asked : sum state.outstanding ≤ asked_before v k
+  pub collected : p.collected ≤ max_ask * asks_before v k
   -- what is still to be scheduled
   pub rest : schedule state (drop k (cuts_in t v)) ≡ drop k (schedule (opening t) (cuts_in t v))
   pub ends : final state (drop k (cuts_in t v)) ≡ final (opening t) (cuts_in t v)

@@ -18,8 +18,8 @@ mod lines;
 // The bytes of a round: its records and its lines.
 mod texts;
 
-// What the trace asks of a round.
-mod cuts;
+// The requests of a round, which workers collect.
+mod collecting;
 
 // Every refusal, in order.
 mod faults;

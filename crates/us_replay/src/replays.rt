@@ -98,6 +98,7 @@ fn run<H: Threads + Sync, W1: Sink, W2: Sink, G: Gate + Sync>(
     requires fits { Tables.rounds_fit config.now trace.now.rounds ≡ true }
     requires known { (round : ℕ) →
         AllByRecursion (λ ask. ask.cluster < length (clusters_of config.now)) (asks_in trace.now round) }
+    requires workers { 1 ≤ workers }
     requires maps_ready { W1.failed maps.old ≡ false }
     requires report_ready { W2.failed report.old ≡ false }
     ensures ran { let to_maps : Growth = record { before = W1.contents maps.old; after = W1.contents maps.new } in
@@ -153,6 +154,7 @@ fn run_on<H: Threads + Sync, W1: Sink, W2: Sink, G: Gate + Sync>(
     requires known { (round : ℕ) →
         AllByRecursion (λ ask. ask.cluster < length (clusters_of state.tables)) (asks_in trace.now round) }
     requires along { Along state.tables trace.now 0 state progress.old }
+    requires workers { 1 ≤ workers }
     requires maps_ready { W1.failed maps.old ≡ false }
     requires report_ready { W2.failed report.old ≡ false }
     ensures ran { let to_maps : Growth = record { before = W1.contents maps.old; after = W1.contents maps.new } in
@@ -196,9 +198,10 @@ fn make_round<H: Threads + Sync, G: Gate + Sync>(
     gate: &G,
 ) -> Result<State, NoMemory>
     requires ready { CanMake state progress.old asks.now }
+    requires workers { 1 ≤ workers }
     ensures { IfOk result (λ next. IsMade state progress.old asks.now next progress.new) }
 {
-    progress.take_asks(asks);
+    progress.take_asks(alloc, threads, asks, workers, gate)?;
     let Ok((next, out)) = round(alloc, threads, state, progress.cut(), workers, gate) else {
         // The number of workers was looked at before the first round.
         return Err(NoMemory);

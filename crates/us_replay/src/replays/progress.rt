@@ -1,26 +1,29 @@
-ghost use Rattle.std.specs.Prelude.{◌≡◌, ◌<◌, ◌≤◌, length, sum_by, IfOk, OnOk};
-ghost use Rattle.std.specs.List.{AllByRecursion};
-ghost use Rattle.us_requests.specs.Traces.{max_asked};
+ghost use Rattle.std.specs.Prelude.{◌≡◌, ◌+◌, ◌≤◌, length, IfOk, OnOk};
+ghost use Rattle.us_requests.specs.Traces.{max_asked, max_asks};
+ghost use Rattle.us_replay.specs.Collecting.{AreAsks, chunk_quota};
 ghost use Rattle.us_replay.specs.Progress as spec;
 ghost use Rattle.us_replay.specs.Progress.{HasRoom, summary_after, with_asks, with_last, with_round};
 
 use super::tallies::Tally;
-use crate::cuts::cut_round;
+use crate::collecting::Collector;
 use crate::lines::LINE_BYTES;
 use crate::summaries::Summary;
 use crate::texts::{push_lines, push_records};
 use std::alloc::Global;
 use std::marker::Model;
+use std::thread::Threads;
 use us_codec::MAX_BODY_BYTES;
+use us_crew::Gate;
+use us_intake::MAX_CLUSTERS;
 use us_requests::{Ask, Counts};
 use us_round::{RoundOut, Row, State};
 use us_slots::NoMemory;
 
-/// What a replay keeps from one round to the next beside the state: the buffers that every round uses again, and how
-/// many lines there were.
+/// What a replay keeps from one round to the next beside the state: what collects requests, the buffers that every round
+/// uses again, and how many lines there were.
 #[derive(Drop)]
 pub(crate) struct Progress {
-    cut: Vec<u64>,
+    collector: Collector,
     to_maps: Vec<u8>,
     to_report: Vec<u8>,
     tally: Tally,
@@ -33,7 +36,8 @@ impl Model for Progress {
     ghost Value = { spec.Progress };
 
     ghost view = { λ p. record {
-      cut = p.cut.items;
+      cut = p.collector.cut;
+      collected = p.collector.collected;
       to_maps = p.to_maps.items;
       to_report = p.to_report.items;
       granted = p.tally.granted;
@@ -44,10 +48,11 @@ impl Model for Progress {
 impl Progress {
     /// Before round 0 of so many clusters.
     pub(crate) fn opening(alloc: Global, clusters: usize) -> Result<Progress, NoMemory>
+        requires { clusters ≤ MAX_CLUSTERS }
         ensures { IfOk result (λ p. p ≡ spec.opening_progress clusters) }
     {
         Ok(Progress {
-            cut: vec![in alloc; 0; clusters]?,
+            collector: Collector::open(alloc, clusters)?,
             to_maps: Vec::new(alloc),
             to_report: Vec::new(alloc),
             tally: Tally {
@@ -59,20 +64,29 @@ impl Progress {
         })
     }
 
-    /// Adds the asks of the next round up, cluster by cluster.
-    pub(crate) fn take_asks(&mut self, asks: &[Ask])
-        requires known { AllByRecursion (λ ask. ask.cluster < length self.old.cut) asks.now }
-        requires few { sum_by (λ ask. ask.bytes) asks.now ≤ max_asked }
-        ensures { self.new ≡ with_asks self.old asks.now }
+    /// Collects the asks of the next round. After want of memory nothing is said of what stands here.
+    pub(crate) fn take_asks<H: Threads + Sync, G: Gate + Sync>(
+        &mut self,
+        alloc: Global,
+        threads: &H,
+        asks: &[Ask],
+        workers: usize,
+        gate: &G,
+    ) -> Result<(), NoMemory>
+        requires workers { 1 ≤ workers }
+        requires asks { AreAsks (length self.old.cut) asks.now }
+        requires few { length asks.now ≤ max_asks }
+        requires room { self.old.collected + chunk_quota asks.now ≤ max_asked }
+        ensures { OnOk result (self.new ≡ with_asks self.old asks.now) }
     {
-        cut_round(self.cut.as_mut_slice(), asks);
+        self.collector.collect(alloc, threads, asks, workers, gate)
     }
 
     /// What each cluster newly asks for.
     pub(crate) fn cut(&self) -> &[u64]
         ensures { result.now ≡ self.now.cut }
     {
-        &self.cut
+        self.collector.cut()
     }
 
     /// Makes all that is to be written of a round. After want of memory nothing is said of what stands here.

@@ -8,6 +8,9 @@ use std::sync::atomic::{AtomicBool, AtomicUsize, Ordering};
 use std::thread::{Threads, yield_now};
 use us_crew::{Gate, Phase};
 
+/// The turns that a worker waits where another one is sure to come.
+const MANY: u64 = 100_000_000;
+
 /// A gate that holds the first two items of a phase, each until the other has entered as often, for at most so many
 /// turns.
 #[derive(Drop)]
@@ -20,10 +23,10 @@ struct Meeting {
 }
 
 impl Meeting {
-    fn new(phase: Phase) -> Meeting {
+    fn new(phase: Phase, turns: u64) -> Meeting {
         Meeting {
             phase,
-            turns: 100_000_000,
+            turns,
             first: AtomicUsize::new(0),
             second: AtomicUsize::new(0),
             missed: AtomicBool::new(false),
@@ -56,24 +59,44 @@ impl Gate for Meeting {
     }
 }
 
-/// Two workers meet in each round of the bonded run.
-fn meet_in(rt: &(impl Abort + Threads + Sync), alloc: Global, phase: Phase) {
-    let gate = Meeting::new(phase);
-    expect(rt, alloc, 2, &gate, BONDED_OUTCOME);
+/// How often the first two items of a phase are entered in the bonded run, and whether one went on alone: workers wait for
+/// each other so many turns.
+fn enter(
+    rt: &(impl Abort + Threads + Sync),
+    alloc: Global,
+    phase: Phase,
+    workers: usize,
+    turns: u64,
+    wanted: (usize, usize, bool),
+) {
+    let gate = Meeting::new(phase, turns);
+    expect(rt, alloc, workers, &gate, BONDED_OUTCOME);
     let met = (
         gate.first.load(Ordering::SeqCst),
         gate.second.load(Ordering::SeqCst),
         gate.missed.load(Ordering::SeqCst),
     );
-    same(rt, &met, &(2, 2, false), "met");
+    same(rt, &met, &wanted, "met");
+}
+
+/// Round 0 has no requests.
+#[test]
+fn workers_meet_in_collect(rt: HostRuntime) {
+    enter(&rt, rt.alloc(), Phase::Collect, 2, MANY, (1, 1, false));
+}
+
+/// One worker has all requests of a round.
+#[test]
+fn one_worker_enters_collect(rt: HostRuntime) {
+    enter(&rt, rt.alloc(), Phase::Collect, 1, 0, (1, 0, true));
 }
 
 #[test]
 fn workers_meet_in_fill(rt: HostRuntime) {
-    meet_in(&rt, rt.alloc(), Phase::Fill);
+    enter(&rt, rt.alloc(), Phase::Fill, 2, MANY, (2, 2, false));
 }
 
 #[test]
 fn workers_meet_in_build(rt: HostRuntime) {
-    meet_in(&rt, rt.alloc(), Phase::Build);
+    enter(&rt, rt.alloc(), Phase::Build, 2, MANY, (2, 2, false));
 }

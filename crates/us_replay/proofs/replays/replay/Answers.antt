@@ -1,4 +1,3 @@
-use Rattle.std.proofs.Common.{sym}
 use Rattle.us_replay.proofs.ReplayLemmas.{replayed}
 use Rattle.us_replay.proofs.replays.replay.Goals as goal
 

@@ -53,7 +53,7 @@ loop-done-preserved g c =
     c.to_maps.ensures c.to_report.ensures in (
       c.loop-done.invariant.0,
       along-next t v k c.loop-done.state c.in-Ok.next c.loop-done.progress c.make_round.new.progress c.asks-asks.result.now
-          along below c.asks-asks.ensures.value c.in-Ok.ensures,
+          c.loop-done.invariant.0 along below c.asks-asks.ensures.value c.in-Ok.ensures,
       sent-round (output_in t v) k _ _ _ _ _ _ c.to_maps.result.now c.to_report.result.now c.loop-done.invariant.2 texts
           c.in_ok-send.ensures.sent.0 c.in_ok-send.ensures.sent.1,
       c.in_ok-send.ensures.maps_failed,

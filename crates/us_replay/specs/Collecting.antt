@@ -1,0 +1,78 @@
+-- How the requests of a round are collected: chunks of asks, the seats that submit them, and what stands between rounds.
+use Rattle.std.specs.Prelude.{◌≡◌, ℕ, ◌+◌, ◌*◌, ◌<◌, ◌≤◌, ⊤, true, List, [], ◌∷◌, length, replicate, sum, Option, Some, None}
+use Rattle.std.specs.List.{AllByRecursion}
+use Rattle.us_intake.specs.Tallies.{added}
+use Rattle.us_intake.specs.Seats.{Intake, Seat, new_seat, joined_seat, spent}
+use Rattle.us_requests.specs.declared.asks.Ask.{Ask}
+use Rattle.us_requests.specs.Cuts.{cut_of}
+use Rattle.us_requests.specs.Traces.{max_ask, max_asked}
+
+-- Chunks.
+
+-- asks of so many clusters, none of them too great
+abbrev pub AreAsks : ℕ → List Ask → Type 0
+AreAsks clusters asks = AllByRecursion (λ ask. (ask.cluster < clusters) × (ask.bytes ≤ max_ask)) asks
+
+-- the bytes for which a seat is split off for a chunk: as many as its asks can name
+abbrev pub chunk_quota : List Ask → ℕ
+chunk_quota asks = max_ask * length asks
+
+-- a seat and its chunk
+abbrev pub IsChunk : Intake → Seat → List Ask → Type 0
+IsChunk intake seat asks = (seat ≡ new_seat intake (chunk_quota asks)) × AreAsks intake.clusters asks
+
+-- the seat that submitted these asks
+abbrev pub seat_after_asks : Seat → List Ask → Seat
+seat_after_asks seat asks = record {
+  intake = seat.intake;
+  quota = seat.quota;
+  takes = seat.takes;
+  submitted = added seat.submitted (cut_of seat.intake.clusters asks);
+  taken = seat.taken;
+}
+
+-- a seat and others made one
+abbrev pub joined_seats : Seat → List Seat → Seat
+joined_seats seat [] = seat
+joined_seats seat (other ∷ others) = joined_seats (joined_seat seat other) others
+
+-- Between rounds.
+
+-- the bytes that may be submitted in a run: one more than the asks of a trace can name
+abbrev pub run_quota : ℕ
+run_quota = max_asked + 1
+
+-- the cut of the last round, and the bytes that were collected so far
+pub record Collector : Type 0 where
+  pub cut : List ℕ
+  pub collected : ℕ
+
+-- before round 0 of so many clusters
+abbrev pub opening_collector : ℕ → Collector
+opening_collector clusters = record { cut = replicate clusters 0; collected = 0 }
+
+-- the asks of a round were collected
+abbrev pub with_asks : Collector → List Ask → Collector
+with_asks c asks = record {
+  cut = cut_of (length c.cut) asks;
+  collected = c.collected + sum (cut_of (length c.cut) asks);
+}
+
+-- the bytes that were collected by an intake and its seat
+abbrev pub collected_by : Option (Intake × Seat) → ℕ
+collected_by None = 0
+collected_by (Some both) = spent both.1
+
+-- the seat is whole, and all that was submitted was taken
+pub record IsSettled (clusters : ℕ) (intake : Intake) (seat : Seat) : Type 0 where
+  pub clusters_are : intake.clusters ≡ clusters
+  pub quota_is : intake.quota ≡ run_quota
+  pub own : seat.intake ≡ intake
+  pub whole : seat.quota ≡ run_quota
+  pub takes : seat.takes ≡ true
+  pub row : length seat.submitted ≡ clusters
+  pub even : seat.taken ≡ seat.submitted
+
+abbrev pub AreSettled : ℕ → Option (Intake × Seat) → Type 0
+AreSettled clusters None = ⊤
+AreSettled clusters (Some both) = IsSettled clusters both.0 both.1

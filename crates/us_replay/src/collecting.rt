@@ -1,0 +1,120 @@
+//! How the requests of a round are collected: workers submit them to an intake, each with a seat of its own, and the
+//! intake is cut once all seats are one again.
+
+ghost use Rattle.std.specs.Prelude.{◌≡◌, ◌+◌, ◌≤◌, true, length, vec_len, IfOk, OnOk};
+ghost use Rattle.us_intake.specs.Seats.{IsWhole, first_seat, seat_after_cut};
+ghost use Rattle.us_requests.specs.Traces.{max_asked, max_asks};
+ghost use Rattle.us_replay.specs.Collecting as spec;
+
+use gathering::gather;
+use std::alloc::Global;
+use std::marker::Model;
+use std::thread::Threads;
+use us_crew::Gate;
+use us_intake::{Intake, MAX_CLUSTERS, Seat};
+use us_requests::Ask;
+use us_slots::NoMemory;
+
+mod gathering;
+mod seats;
+mod submitting;
+
+/// The bytes that may be submitted in a run: one more than 1,000,000 rows can name.
+const RUN_QUOTA: u64 = 1_048_560_000_001;
+
+/// What collects the requests of a run, and the cut of the last round. With no cluster it has no intake, and after want
+/// of memory none any more. Between rounds the seat is whole, and all that was submitted was taken.
+#[derive(Drop)]
+pub(crate) struct Collector {
+    cut: Vec<u64>,
+    intake: Option<(Intake, Seat)>,
+}
+
+impl Model for Collector {
+    ghost use Rattle.std.specs.Prelude.{length};
+    ghost use Rattle.us_replay.specs.Collecting.{AreSettled, Collector, collected_by};
+
+    ghost Value = { Collector };
+
+    ghost view = { λ c. record { cut = c.cut.items; collected = collected_by c.intake } };
+
+    ghost invariant = { λ c. AreSettled (length c.cut.items) c.intake };
+}
+
+impl Collector {
+    /// Before round 0 of so many clusters.
+    pub(crate) fn open(alloc: Global, clusters: usize) -> Result<Collector, NoMemory>
+        requires { clusters ≤ MAX_CLUSTERS }
+        ensures { IfOk result (λ c. c ≡ spec.opening_collector clusters) }
+    {
+        let cut = vec![in alloc; 0; clusters]?;
+        let intake = if clusters == 0 {
+            None
+        } else {
+            Some(open_intake(alloc, clusters as u16)?)
+        };
+        Ok(Collector { cut, intake })
+    }
+
+    /// Collects the asks of the next round, by so many workers, each of which enters the gate before each chunk. After
+    /// want of memory nothing is said of what stands here.
+    pub(crate) fn collect<H: Threads + Sync, G: Gate + Sync>(
+        &mut self,
+        alloc: Global,
+        threads: &H,
+        asks: &[Ask],
+        workers: usize,
+        gate: &G,
+    ) -> Result<(), NoMemory>
+        requires workers { 1 ≤ workers }
+        requires asks { spec.AreAsks (length self.old.cut) asks.now }
+        requires few { length asks.now ≤ max_asks }
+        requires room { self.old.collected + spec.chunk_quota asks.now ≤ max_asked }
+        ensures { OnOk result (self.new ≡ spec.with_asks self.old asks.now) }
+    {
+        if asks.is_empty() {
+            self.cut.fill(0);
+            return Ok(());
+        }
+        // With no cluster nobody asks, so where there is no intake, memory was wanting before.
+        let Some((intake, seat)) = self.intake.take() else {
+            return Err(NoMemory);
+        };
+        let mut seat = gather(alloc, threads, &intake, seat, asks, workers, gate)?;
+        cut_words(&intake, &mut seat, &mut self.cut);
+        self.intake = Some((intake, seat));
+        Ok(())
+    }
+
+    /// What each cluster newly asks for.
+    pub(crate) fn cut(&self) -> &[u64]
+        ensures { result.now ≡ self.now.cut }
+    {
+        &self.cut
+    }
+}
+
+/// Takes what an intake's words hold, into a list of numbers that is there.
+fn cut_words(intake: &Intake, seat: &mut Seat, cut: &mut Vec<u64>)
+    requires own { seat.old.intake ≡ intake.now }
+    requires row { vec_len cut.old ≡ intake.now.clusters }
+    requires takes { seat.old.takes ≡ true }
+    ensures seat { seat.new ≡ seat_after_cut seat.old cut.new.items }
+    ensures row { length cut.new.items ≡ intake.now.clusters }
+    ensures whole { IsWhole seat.old → seat.new.taken ≡ seat.new.submitted }
+{
+    intake.cut(seat, cut);
+}
+
+/// Opens the intake of a run.
+fn open_intake(alloc: Global, clusters: u16) -> Result<(Intake, Seat), NoMemory>
+    requires some { 1 ≤ clusters }
+    requires most { clusters ≤ MAX_CLUSTERS }
+    ensures { IfOk result (λ opened. (opened.0.clusters ≡ clusters) × (opened.0.quota ≡ spec.run_quota)
+        × (opened.1 ≡ first_seat opened.0)) }
+{
+    match Intake::open(alloc, clusters, RUN_QUOTA) {
+        Ok(opened) => Ok(opened),
+        Err(_) => Err(NoMemory),
+    }
+}

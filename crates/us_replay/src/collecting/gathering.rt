@@ -1,0 +1,76 @@
+ghost use Rattle.std.specs.Prelude.{◌≡◌, ◌+◌, ◌<◌, ◌≤◌, length, IfOk, Ok};
+ghost use Rattle.us_intake.specs.Seats.{spent};
+ghost use Rattle.us_requests.specs.Traces.{max_asks};
+ghost use Rattle.us_replay.specs.Collecting.{AreAsks, chunk_quota, seat_after_asks};
+
+use super::seats::{join_all, split_all, split_off};
+use super::submitting::{Submitting, submit_all};
+use std::alloc::Global;
+use std::thread::Threads;
+use us_crew::{CrewFault, Gate, Phase, map_owned};
+use us_intake::{Intake, IntakeFault, Seat};
+use us_requests::Ask;
+use us_slots::NoMemory;
+
+/// Has workers submit asks, with seats that are split off a seat and joined to it again.
+pub(super) fn gather<H: Threads + Sync, G: Gate + Sync>(
+    alloc: Global,
+    threads: &H,
+    intake: &Intake,
+    seat: Seat,
+    asks: &[Ask],
+    workers: usize,
+    gate: &G,
+) -> Result<Seat, NoMemory>
+    requires own { seat.intake ≡ intake.now }
+    requires rows { (length seat.submitted ≡ intake.now.clusters) × (length seat.taken ≡ intake.now.clusters) }
+    requires workers { 1 ≤ workers }
+    requires some { 1 ≤ length asks.now }
+    requires asks { AreAsks intake.now.clusters asks.now }
+    requires few { length asks.now ≤ max_asks }
+    requires room { spent seat + chunk_quota asks.now < seat.quota }
+    ensures { IfOk result (λ after. after ≡ seat_after_asks seat asks.now) }
+{
+    let parts = workers.min(asks.len());
+    if parts == 1 {
+        return gather_alone(alloc, intake, seat, asks, gate);
+    }
+    let (seat, chunks) = split_all(alloc, intake, seat, asks, parts)?;
+    let work = Submitting { intake };
+    let seats = answers(map_owned(alloc, threads, &work, Phase::Collect, chunks, workers, gate))?;
+    Ok(join_all(intake, seat, seats))
+}
+
+/// The same with one chunk, which the calling thread submits: no list is made of it.
+fn gather_alone<G: Gate>(
+    alloc: Global,
+    intake: &Intake,
+    seat: Seat,
+    asks: &[Ask],
+    gate: &G,
+) -> Result<Seat, NoMemory>
+    requires own { seat.intake ≡ intake.now }
+    requires rows { (length seat.submitted ≡ intake.now.clusters) × (length seat.taken ≡ intake.now.clusters) }
+    requires some { 1 ≤ length asks.now }
+    requires asks { AreAsks intake.now.clusters asks.now }
+    requires few { length asks.now ≤ max_asks }
+    requires room { spent seat + chunk_quota asks.now < seat.quota }
+    ensures { IfOk result (λ after. after ≡ seat_after_asks seat asks.now) }
+{
+    let (seat, new) = split_off(alloc, intake, seat, asks)?;
+    gate.enter(Phase::Collect, 0);
+    match submit_all(intake, new, asks) {
+        Ok(new) => Ok(intake.join(seat, new)),
+        Err(_) => Err(NoMemory),
+    }
+}
+
+/// The seats that come back, or want of memory.
+fn answers(answered: Result<Vec<Seat>, CrewFault<IntakeFault>>) -> Result<Vec<Seat>, NoMemory>
+    ensures { IfOk result (λ seats. answered ≡ Ok seats) }
+{
+    match answered {
+        Ok(seats) => Ok(seats),
+        Err(_) => Err(NoMemory),
+    }
+}

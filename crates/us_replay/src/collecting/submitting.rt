@@ -1,0 +1,46 @@
+ghost use Rattle.std.specs.Prelude.{◌≡◌, IfOk, IsOk};
+ghost use Rattle.us_replay.specs.Collecting.{IsChunk, seat_after_asks};
+
+use std::alloc::Global;
+use us_crew::Work;
+use us_intake::{Intake, IntakeFault, Seat};
+use us_requests::Ask;
+
+/// Submits asks that stand side by side, with the seat that was split off for them. The seat comes back.
+#[derive(Clone, Copy)]
+pub(super) struct Submitting<'a> {
+    pub(super) intake: &'a Intake,
+}
+
+impl<'a> Work<(Seat, &'a [Ask]), Seat, IntakeFault> for Submitting<'a> {
+    ghost accepts = { λ work _ item. IsChunk work.intake.now item.0 item.1.now };
+
+    ghost value = { λ _ _ item. seat_after_asks item.0 item.1.now };
+
+    ghost may_fail = { λ _ _ _ _. ⊥ };
+
+    ghost must_fail = { λ _ _ _. ⊥ };
+
+    fn run(
+        &self,
+        _alloc: Global,
+        _index: usize,
+        item: (Seat, &'a [Ask]),
+    ) -> Result<Seat, IntakeFault> {
+        let (seat, asks) = item;
+        submit_all(self.intake, seat, asks)
+    }
+}
+
+/// Submits each of these asks.
+pub(super) fn submit_all(intake: &Intake, seat: Seat, asks: &[Ask]) -> Result<Seat, IntakeFault>
+    requires { IsChunk intake.now seat asks.now }
+    ensures value { IfOk result (λ after. after ≡ seat_after_asks seat asks.now) }
+    ensures fine { IsOk result }
+{
+    let mut seat = seat;
+    for ask in asks {
+        intake.submit(&mut seat, ask.cluster, ask.bytes)?;
+    }
+    Ok(seat)
+}
