@@ -10,13 +10,14 @@ ghost use Rattle.us_round.specs.Placements.{with_grant};
 ghost use Rattle.us_round.specs.Rounds as spec;
 
 use crate::claims::claim_on;
+use crate::lanes::Lane;
 use crate::placing::{Grant, place};
 use crate::reserving::reserves;
 use std::alloc::Global;
 use std::marker::Model;
 use us_calendar::{Calendar, Settled};
 use us_flows::{Channel, Config};
-use us_holes::Board;
+use us_holes::{Board, MAX_ASSIGNMENTS};
 use us_slots::{MAX_MAP_TICKS, NoMemory};
 use us_split::TurnShares;
 
@@ -38,6 +39,8 @@ impl Model for Filled {
       calendar = f.calendar;
       settled = f.settled.items;
     } };
+
+    ghost invariant = { λ f. length f.board.cells ≡ f.calendar.pace.len };
 }
 
 /// A channel whose claims are placed.
@@ -60,6 +63,8 @@ impl Model for Built {
       settled = b.settled.items;
       grants = b.grants.items;
     } };
+
+    ghost invariant = { λ b. length b.board.cells ≡ b.calendar.pace.len };
 }
 
 impl Filled {
@@ -80,22 +85,22 @@ impl Built {
     }
 }
 
-/// A channel with the reserves of a round, and with what its calendar settles then.
+/// A channel with the reserves of a round on its board, and with what its calendar settles then.
 pub(crate) fn fill(
     alloc: Global,
     config: &Config,
     channel: &Channel,
-    calendar: Calendar,
+    lane: Lane,
     round: u32,
 ) -> Result<Filled, NoMemory>
     requires channel { IsChannel config.now channel.now }
-    requires pace { calendar.pace ≡ pace_of config.now channel.now }
-    requires next { calendar.next_round ≡ round }
+    requires pace { lane.pace ≡ pace_of config.now channel.now }
+    requires next { lane.next_round ≡ round }
     requires time { (round + 1) * config.now.round_ticks ≤ max_run_ticks }
-    ensures value { IfOk result (λ filled. filled ≡ spec.fill config.now round channel.now calendar) }
+    ensures value { IfOk result (λ filled. filled ≡ spec.fill config.now round channel.now lane) }
 {
-    let mut calendar = calendar;
-    let mut board = reserves(alloc, channel, config.map_len(channel), round)?;
+    let (mut calendar, mut board) = lane.into_parts();
+    reserves(&mut board, channel, round);
     let settled = calendar.run(alloc, round, &mut board)?;
     Ok(Filled {
         channel: *channel,
@@ -123,7 +128,7 @@ pub(crate) fn build_on(
         calendar,
         settled,
     } = filled;
-    let mut grants = Vec::new(alloc);
+    let mut grants = Vec::with_capacity(alloc, plan.len().min(MAX_ASSIGNMENTS as usize))?;
     for turn in plan {
         grant_turn(config, &channel, turn, &mut board, &mut grants)?;
     }
@@ -159,17 +164,19 @@ fn grant_turn(
     Ok(())
 }
 
-/// The calendars of channels, which are given up.
-pub(crate) fn calendars_of(alloc: Global, built: Vec<Built>) -> Result<Vec<Calendar>, NoMemory>
+/// The calendars and boards of channels, which are given up.
+pub(crate) fn lanes_of(alloc: Global, built: Vec<Built>) -> Result<Vec<Lane>, NoMemory>
     ensures value { IfOk result (λ all. all.items ≡ map (λ b. b.calendar) built.items) }
     ensures known { IfOk result (λ all. AllByRecursion IsCalendar all.items) }
 {
     let mut all = Vec::with_capacity(alloc, built.len())?;
     for part in built {
-        let Built { calendar, .. } = part;
-        // Asked for what it tells of the calendar: how much it may have settled.
-        let _ = calendar.next_round();
-        all.push(calendar)?;
+        let Built {
+            calendar,
+            board,
+            ..
+        } = part;
+        all.push(Lane::of(calendar, board))?;
     }
     Ok(all)
 }

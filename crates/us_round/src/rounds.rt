@@ -14,9 +14,10 @@ ghost use Rattle.us_round.specs.Rounds as spec;
 ghost use Rattle.us_round.specs.Outputs.{out_of, AreWithinLimits};
 ghost use Rattle.us_round.specs.States.{AreSound, settled_by};
 
-use crate::building::{Built, Filled, calendars_of};
+use crate::building::{Built, Filled, lanes_of};
 use crate::cores::Core;
 use crate::faults::RoundFault;
+use crate::lanes::Lane;
 use crate::mapping::maps_of;
 use crate::pendings::pending_seats;
 use crate::phases::{build_all, fill_all};
@@ -25,7 +26,6 @@ use crate::round_outs::RoundOut;
 use crate::states::State;
 use std::alloc::Global;
 use std::thread::Threads;
-use us_calendar::Calendar;
 use us_crew::{Gate, MAX_WORKERS};
 use us_slots::NoMemory;
 use us_split::{Plan, plan};
@@ -80,7 +80,7 @@ fn run<H: Threads + Sync, G: Gate + Sync>(
     alloc: Global,
     threads: &H,
     core: Core,
-    calendars: Vec<Calendar>,
+    calendars: Vec<Lane>,
     workers: usize,
     gate: &G,
 ) -> Result<(State, RoundOut), NoMemory>
@@ -102,7 +102,7 @@ fn run<H: Threads + Sync, G: Gate + Sync>(
     let built = build(alloc, threads, &core, &before, calendars, workers, gate)?;
     core.close(&built);
     let out = report(alloc, &core, round, &before, &built)?;
-    let calendars = calendars_of(alloc, built)?;
+    let calendars = lanes_of(alloc, built)?;
     Ok((State::of(core, calendars), out))
 }
 
@@ -135,7 +135,7 @@ fn build<H: Threads + Sync, G: Gate + Sync>(
     threads: &H,
     core: &Core,
     demands: &[u64],
-    calendars: Vec<Calendar>,
+    calendars: Vec<Lane>,
     workers: usize,
     gate: &G,
 ) -> Result<Vec<Built>, NoMemory>
