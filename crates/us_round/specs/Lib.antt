@@ -36,5 +36,7 @@ pub mod PlayLaws
 pub mod Claims
 -- what a ledger of steps keeps,
 pub mod Accounts
--- and a state without its calendars
+-- a state without its calendars,
 pub mod Cores
+-- and the memory of a channel
+pub mod Tracks

@@ -1,5 +1,6 @@
 ghost use Rattle.std.specs.Prelude.{◌≡◌, ◌<◌, length, slice_get, IfOk, IfSome};
 ghost use Rattle.us_calendar.specs.Calendars as spec;
+ghost use Rattle.us_round.specs.Tracks.{IsTrack};
 
 use std::alloc::Global;
 use std::marker::Model;
@@ -8,23 +9,30 @@ use us_flows::Config;
 use us_holes::Board;
 use us_slots::NoMemory;
 
+/// What a channel has of its own in memory: its calendar, and a board of the length of its MAPs. It stays where it stands
+/// while the channel goes from list to list.
+#[derive(Drop)]
+pub(crate) struct Track {
+    pub calendar: Calendar,
+    pub board: Board,
+}
+
 /// What a channel keeps from round to round: its calendar, and the memory of its board, whatever stands on that. Its value
 /// is the calendar's.
 #[derive(Drop)]
 pub(crate) struct Lane {
-    calendar: Calendar,
-    board: Board,
+    track: Box<Track>,
 }
 
 impl Model for Lane {
-    ghost use Rattle.std.specs.Prelude.{◌≡◌, length};
     ghost use Rattle.us_calendar.specs.Calendars as spec;
+    ghost use Rattle.us_round.specs.Tracks.{IsTrack};
 
     ghost Value = { spec.Calendar };
 
-    ghost view = { λ lane. lane.calendar };
+    ghost view = { λ lane. lane.track.value.calendar };
 
-    ghost invariant = { λ lane. length lane.board.cells ≡ lane.calendar.pace.len };
+    ghost invariant = { λ lane. IsTrack lane.track.value };
 }
 
 impl Lane {
@@ -36,26 +44,27 @@ impl Lane {
     {
         let calendar = Calendar::new(alloc, config, channel)?;
         let board = Board::new(alloc, config.map_len(&config.channels()[channel]))?;
-        Ok(Lane { calendar, board })
+        let track = Box::new(alloc, Track { calendar, board })?;
+        Ok(Lane { track })
     }
 
-    /// The lane of a calendar and of a board that has the length of the channel's MAPs.
-    pub(crate) fn of(calendar: Calendar, board: Board) -> Lane
-        requires { length board.cells ≡ calendar.pace.len }
-        ensures value { result ≡ calendar }
+    /// The lane of a track.
+    pub(crate) fn of(track: Box<Track>) -> Lane
+        requires { IsTrack track.value }
+        ensures value { result ≡ track.value.calendar }
         ensures known { spec.IsCalendar result }
     {
         // Asked for what it tells of the calendar: how much it may have settled.
-        let _ = calendar.next_round();
-        Lane { calendar, board }
+        let _ = track.calendar.next_round();
+        Lane { track }
     }
 
-    /// Its calendar and its board.
-    pub(crate) fn into_parts(self) -> (Calendar, Board)
-        ensures calendar { result.0 ≡ self }
-        ensures board { length result.1.cells ≡ self.pace.len }
+    /// Its track.
+    pub(crate) fn into_track(self) -> Box<Track>
+        ensures calendar { result.value.calendar ≡ self }
+        ensures known { IsTrack result.value }
     {
-        let Lane { calendar, board } = self;
-        (calendar, board)
+        let Lane { track } = self;
+        track
     }
 }

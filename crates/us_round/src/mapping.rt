@@ -63,7 +63,7 @@ fn built_map(
         config,
         round,
         &part.channel,
-        &part.board,
+        part.board(),
         &sids,
         runs,
     )
