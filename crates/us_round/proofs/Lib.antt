@@ -22,9 +22,11 @@ pub mod CalendarLemmas
 pub mod RoundLemmas
 pub mod SoundLemmas
 pub mod PhaseLemmas
+pub mod StageLemmas
 pub mod FlagLemmas
 pub mod LedgerLemmas
 pub mod StepLemmas
 pub mod CutLemmas
 pub mod PlayLemmas
 pub mod PlayLaws
+pub mod PartLaws

@@ -28,6 +28,8 @@ pub mod Leftovers
 pub mod Steps
 -- the machine that goes through them,
 pub mod Machines
+-- the channels that they open and build,
+pub mod Parts
 -- the round that they come to, and runs of such rounds
 pub mod Plays
 -- and the laws of all these
@@ -38,5 +40,7 @@ pub mod Claims
 pub mod Accounts
 -- a state without its calendars,
 pub mod Cores
--- and the memory of a channel
+-- the memory of a channel,
 pub mod Tracks
+-- and the stages of a round
+pub mod Stages

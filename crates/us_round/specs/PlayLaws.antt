@@ -5,10 +5,11 @@ use Rattle.us_flows.specs.Tables.{Tables}
 use Rattle.us_requests.specs.declared.asks.Ask.{Ask}
 use Rattle.us_requests.specs.Cuts as requests
 use Rattle.us_round.specs.declared.steps.Step.{Step}
-use Rattle.us_round.specs.Rounds.{opening, schedule, final}
+use Rattle.us_round.specs.Rounds.{State, opening, fills_of, round_plan, builds_of, schedule, final}
 use Rattle.us_round.specs.Outputs.{out_of}
 use Rattle.us_round.specs.Steps.{IsComplete, total, cut_of, left_of}
 use Rattle.us_round.specs.Machines.{Ledger, Machine, opening_ledger, run, run_machine}
+use Rattle.us_round.specs.Parts.{Home, Done, parts_after}
 use Rattle.us_round.specs.Plays.{Play, run_of, state_after, cuts_of, words_after}
 
 -- plays one after another, from the opening on, are the schedule over their cuts
@@ -40,3 +41,9 @@ MachineMakesCuts = (words : List ℕ) (rows : List Ask) (channels : ℕ) (steps 
 abbrev pub SeatsChangeNothing : Type 0
 SeatsChangeNothing = (rows : List Ask) (m : Machine) (steps : List Step) →
     option_map (λ (end : Machine). end.ledger) (run_machine rows m steps) ≡ run rows m.ledger steps
+
+-- in whichever order complete steps open and build the channels of a round that has begun, each of them stands in the end
+-- as the round has it
+abbrev pub AnyOrderBuilds : Type 0
+AnyOrderBuilds = (s : State) (rows words : ℕ) (steps : List Step) → IsComplete rows words (length (fills_of s)) steps →
+    parts_after (round_plan s) steps (map (λ f. Home f) (fills_of s)) ≡ map (λ b. Done b) (builds_of s)

@@ -60,8 +60,11 @@ mod cores;
 // and all of it.
 mod states;
 
-// The round.
+// The round,
 mod rounds;
+
+// and a round that no worker has a part in.
+mod alone;
 
 // A round, step by step.
 pub mod steps;

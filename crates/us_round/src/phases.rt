@@ -1,13 +1,14 @@
-ghost use Rattle.std.specs.Prelude.{◌≡◌, ◌+◌, ◌*◌, ◌≤◌, ⊤, length, map, sum_by, zip, IfOk, Ok, OnOk};
+ghost use Rattle.std.specs.Prelude.{◌≡◌, ◌+◌, ◌*◌, ◌≤◌, ⊤, length, map, zip, IfOk, Ok, OnOk};
 ghost use Rattle.std.specs.List.{AllByRecursion};
 ghost use Rattle.us_flows.specs.Tables.{max_run_ticks};
 ghost use Rattle.us_flows.specs.Lawful.{AreTables};
-ghost use Rattle.us_calendar.specs.Calendars.{settled_in};
 ghost use Rattle.us_round.specs.Claims as kept;
-ghost use Rattle.us_round.specs.Cores.{AreCalendars, IsFilledFor, IsReady, settled_now, settled_then};
+ghost use Rattle.us_round.specs.Cores.{AreCalendars, IsReady};
 ghost use Rattle.us_round.specs.Rounds as spec;
+ghost use Rattle.us_round.specs.Stages.{AreFilled};
 
 use crate::building::{Built, Filled, build_on, fill};
+use crate::cores::Core;
 use crate::lanes::Lane;
 use std::alloc::Global;
 use std::thread::Threads;
@@ -64,26 +65,24 @@ impl<'a> Work<Filled, Built, NoMemory> for Building<'a> {
 pub(crate) fn fill_all<H: Threads + Sync, G: Gate + Sync>(
     alloc: Global,
     threads: &H,
-    config: &Config,
-    round: u32,
+    core: &Core,
     calendars: Vec<Lane>,
     workers: usize,
     gate: &G,
 ) -> Result<Vec<Filled>, NoMemory>
-    requires calendars { AreCalendars config.now round calendars.items }
-    requires time { (round + 1) * config.now.round_ticks ≤ max_run_ticks }
-    ensures value { IfOk result (λ all. all.items ≡ spec.filled config.now round calendars.items) }
-    ensures sound { IfOk result (λ all. AllByRecursion (IsFilledFor config.now) all.items) }
-    ensures counts { IfOk result (λ all.
-        settled_now all.items + sum_by settled_in calendars.items ≡ settled_then all.items) }
+    requires calendars { AreCalendars core.now.tables core.now.round calendars.items }
+    requires time { (core.now.round + 1) * core.now.tables.round_ticks ≤ max_run_ticks }
+    ensures { IfOk result (λ all. AreFilled core.now calendars.items all.items) }
 {
+    let config = core.config();
+    let round = core.round();
     let items = with_channels(alloc, config, calendars)?;
     let work = Filling { config, round };
     answers(map_owned(alloc, threads, &work, Phase::Fill, items, workers, gate))
 }
 
 /// The channels in table order, each with its calendar.
-fn with_channels(
+pub(crate) fn with_channels(
     alloc: Global,
     config: &Config,
     calendars: Vec<Lane>,

@@ -1,17 +1,14 @@
-ghost use Rattle.std.specs.Prelude.{◌≡◌, ◌+◌, ◌*◌, ◌^◌, ◌<◌, ◌≤◌, ◌⊎◌, ◌↔◌, length, map, sum_by, zip, Err, IfOk, OnOk};
+ghost use Rattle.std.specs.Prelude.{◌≡◌, ◌+◌, ◌*◌, ◌^◌, ◌<◌, ◌≤◌, ◌⊎◌, ◌↔◌, length, zip, Err, IfOk, OnOk};
 ghost use Rattle.std.specs.List.{AllByRecursion};
 ghost use Rattle.us_flows.specs.Tables.{max_run_ticks};
 ghost use Rattle.us_flows.specs.Clusters.{clusters_of};
-ghost use Rattle.us_bucket.specs.Levels.{bytes_in};
 ghost use Rattle.us_flows.specs.Lawful.{AreTables};
 ghost use Rattle.us_split.specs.Plans.{IsIdle};
-ghost use Rattle.us_split.specs.PlanLaws.{IsLawfulPlan};
-ghost use Rattle.us_split.specs.Shares.{with_shares};
-ghost use Rattle.us_calendar.specs.Calendars.{settled_in};
-ghost use Rattle.us_round.specs.Cores.{AreCalendars, AreCounted, with_calendars, plan_over, scheduled_of};
+ghost use Rattle.us_round.specs.Cores.{AreCalendars, scheduled_of};
 ghost use Rattle.us_round.specs.Leftovers.{AreInside, IsBuiltFor};
 ghost use Rattle.us_round.specs.Rounds as spec;
 ghost use Rattle.us_round.specs.Outputs.{out_of, AreWithinLimits};
+ghost use Rattle.us_round.specs.Stages.{IsBegun, IsPlanned, AreBuilt, AreAllBuilt, IsOverFor};
 ghost use Rattle.us_round.specs.States.{AreSound, settled_by};
 
 use crate::building::{Built, Filled, lanes_of};
@@ -69,37 +66,100 @@ pub fn round<H: Threads + Sync, G: Gate + Sync>(
     if workers == 0 || workers > MAX_WORKERS {
         return Err(RoundFault::Workers);
     }
-    let (mut core, calendars) = state.into_parts();
-    core.begin(cuts);
-    let done = run(alloc, threads, core, calendars, workers, gate)?;
+    let (core, before, calendars) = begin(alloc, state, cuts)?;
+    let built = build(alloc, threads, &core, &before, calendars, workers, gate)?;
+    let done = finish(alloc, core, before, built)?;
     Ok(done)
 }
 
-/// Runs a round that has begun.
-fn run<H: Threads + Sync, G: Gate + Sync>(
+/// Begins the round of a state: what the clusters ask for is outstanding too, and the buckets grow. The answer has what
+/// is outstanding then.
+pub(crate) fn begin(
+    alloc: Global,
+    state: State,
+    cuts: &[u64],
+) -> Result<(Core, Vec<u64>, Vec<Lane>), NoMemory>
+    requires clusters { length cuts.now ≡ length (clusters_of state.tables) }
+    requires room { AllByRecursion (λ pair. pair.0 + pair.1 < 2 ^ 62) (zip state.outstanding cuts.now) }
+    ensures { IfOk result (λ parts. IsBegun (spec.begun state cuts.now) parts.0 parts.1.items parts.2.items) }
+{
+    let (mut core, calendars) = state.into_parts();
+    core.begin(cuts);
+    let before = core.demands(alloc)?;
+    Ok((core, before, calendars))
+}
+
+/// The channels of a round that has begun, with all claims placed: boards are planned together, once reserves and
+/// calendars have their minislots, and built one by one.
+fn build<H: Threads + Sync, G: Gate + Sync>(
     alloc: Global,
     threads: &H,
-    core: Core,
+    core: &Core,
+    demands: &[u64],
     calendars: Vec<Lane>,
     workers: usize,
     gate: &G,
+) -> Result<Vec<Built>, NoMemory>
+    requires demands { demands.now ≡ core.now.outstanding }
+    requires calendars { AreCalendars core.now.tables core.now.round calendars.items }
+    requires time { (core.now.round + 1) * core.now.tables.round_ticks ≤ max_run_ticks }
+    ensures { IfOk result (λ built. AreBuilt core.now calendars.items built.items) }
+{
+    let filled = fill_all(alloc, threads, core, calendars, workers, gate)?;
+    let plan = plan_round(alloc, core, demands, &filled)?;
+    build_all(
+        alloc,
+        threads,
+        core.config(),
+        plan.turns(),
+        filled,
+        workers,
+        gate,
+    )
+}
+
+/// The plan of a round that has begun, over boards with reserves and calendars.
+pub(crate) fn plan_round(
+    alloc: Global,
+    core: &Core,
+    demands: &[u64],
+    filled: &[Filled],
+) -> Result<Plan, NoMemory>
+    requires demands { demands.now ≡ core.now.outstanding }
+    requires room { IsIdle core.now.tables (spec.idle filled.now) }
+    ensures { IfOk result (λ plan. IsPlanned core.now filled.now plan) }
+{
+    let allowances = core.allowances(alloc)?;
+    let idle = idle_of(alloc, filled)?;
+    plan(alloc, core.config(), demands, &allowances, &idle)
+}
+
+/// The idle minislots of each channel.
+fn idle_of(alloc: Global, filled: &[Filled]) -> Result<Vec<u32>, NoMemory>
+    ensures { IfOk result (λ idle. idle.items ≡ spec.idle filled.now) }
+{
+    let mut idle = Vec::with_capacity(alloc, filled.len())?;
+    for channel in filled {
+        idle.push(channel.idle())?;
+    }
+    Ok(idle)
+}
+
+/// Ends a round whose claims are all placed, with so much outstanding before them.
+pub(crate) fn finish(
+    alloc: Global,
+    core: Core,
+    before: Vec<u64>,
+    built: Vec<Built>,
 ) -> Result<(State, RoundOut), NoMemory>
+    requires before { before.items ≡ core.outstanding }
     requires lawful { AreTables core.tables }
     requires time { (core.round + 1) * core.tables.round_ticks ≤ max_run_ticks }
-    requires calendars { AreCalendars core.tables core.round calendars.items }
-    ensures state { IfOk result (λ done. done.0 ≡ (spec.round_from (with_calendars core calendars.items)).state) }
-    ensures out { IfOk result (λ done. done.1 ≡
-        out_of core.tables (spec.round_from (with_calendars core calendars.items)).scheduled) }
-    ensures sound { let s : spec.State = with_calendars core calendars.items in OnOk result (AreSound s (spec.builds_of s)) }
-    ensures limits { OnOk result
-        (AreWithinLimits core.tables (spec.round_from (with_calendars core calendars.items)).scheduled) }
-    ensures few { IfOk result (λ done. length done.1.rows + sum_by settled_in calendars.items ≤
-        100 * length core.tables.channels + settled_by done.0) }
+    requires built { AreAllBuilt core built.items }
+    ensures { IfOk result (λ done. IsOverFor core built.items done.0 done.1) }
 {
     let mut core = core;
     let round = core.round();
-    let before = core.demands(alloc)?;
-    let built = build(alloc, threads, &core, &before, calendars, workers, gate)?;
     core.close(&built);
     let out = report(alloc, &core, round, &before, &built)?;
     let calendars = lanes_of(alloc, built)?;
@@ -126,66 +186,4 @@ fn report(
     let maps = maps_of(alloc, config, round, built, &seats)?;
     let rows = rows_of(alloc, round, built)?;
     Ok(RoundOut::new(round, maps, rows))
-}
-
-/// The channels of a round that has begun, with all claims placed: boards are planned together, once reserves and
-/// calendars have their minislots, and built one by one.
-fn build<H: Threads + Sync, G: Gate + Sync>(
-    alloc: Global,
-    threads: &H,
-    core: &Core,
-    demands: &[u64],
-    calendars: Vec<Lane>,
-    workers: usize,
-    gate: &G,
-) -> Result<Vec<Built>, NoMemory>
-    requires demands { demands.now ≡ core.now.outstanding }
-    requires calendars { AreCalendars core.now.tables core.now.round calendars.items }
-    requires time { (core.now.round + 1) * core.now.tables.round_ticks ≤ max_run_ticks }
-    ensures value { IfOk result (λ built. built.items ≡ spec.builds_of (with_calendars core.now calendars.items)) }
-    ensures sound { let s : spec.State = with_calendars core.now calendars.items in OnOk result (AreSound s (spec.builds_of s)) }
-    ensures counts { IfOk result (λ built. AreCounted calendars.items built.items) }
-{
-    let config = core.config();
-    let filled = fill_all(
-        alloc,
-        threads,
-        config,
-        core.round(),
-        calendars,
-        workers,
-        gate,
-    )?;
-    let plan = plan_round(alloc, core, demands, &filled)?;
-    build_all(alloc, threads, config, plan.turns(), filled, workers, gate)
-}
-
-/// The plan of a round that has begun, over boards with reserves and calendars.
-fn plan_round(
-    alloc: Global,
-    core: &Core,
-    demands: &[u64],
-    filled: &[Filled],
-) -> Result<Plan, NoMemory>
-    requires demands { demands.now ≡ core.now.outstanding }
-    requires room { IsIdle core.now.tables (spec.idle filled.now) }
-    ensures value { IfOk result (λ plan. plan ≡ with_shares 0 (plan_over core.now filled.now)) }
-    ensures law { OnOk result (IsLawfulPlan core.now.tables core.now.outstanding (map bytes_in core.now.buckets)
-        (spec.idle filled.now) (plan_over core.now filled.now)) }
-    ensures lawful { OnOk result (AreTables core.now.tables) }
-{
-    let allowances = core.allowances(alloc)?;
-    let idle = idle_of(alloc, filled)?;
-    plan(alloc, core.config(), demands, &allowances, &idle)
-}
-
-/// The idle minislots of each channel.
-fn idle_of(alloc: Global, filled: &[Filled]) -> Result<Vec<u32>, NoMemory>
-    ensures { IfOk result (λ idle. idle.items ≡ spec.idle filled.now) }
-{
-    let mut idle = Vec::with_capacity(alloc, filled.len())?;
-    for channel in filled {
-        idle.push(channel.idle())?;
-    }
-    Ok(idle)
 }

@@ -9,25 +9,23 @@ ghost use Rattle.us_flows.specs.Clusters.{clusters_of};
 ghost use Rattle.us_requests.specs.Cuts as requests;
 ghost use Rattle.us_round.specs.Plays.{Plays};
 
+use crate::alone::round_alone;
 use crate::faults::RoundFault;
 use crate::round_outs::RoundOut;
 use crate::states::State;
 use std::alloc::Global;
-use std::thread::Threads;
 use us_requests::Ask;
 
-// What stands after each step,
+// What stands after each step.
 mod ledger;
-
-// and the round of the cut that it comes to.
-mod playing;
 
 // Laws of steps.
 mod laws;
 
-pub use laws::{machine_makes_cuts, nothing_is_lost, plays_are_rounds, seats_change_nothing};
+pub use laws::{
+    any_order_builds, machine_makes_cuts, nothing_is_lost, plays_are_rounds, seats_change_nothing,
+};
 use ledger::tally;
-use playing::play_cut;
 
 /// A step of a round. A seat is who adds or takes: its number plays no part in what is answered.
 #[derive(Clone, Copy, Debug, PartialEq, Eq, Hash)]
@@ -67,9 +65,8 @@ pub enum Step {
 ///
 /// Each cluster's outstanding bytes, its word and the bytes of its rows together have to be below 2^62, and the round
 /// has to end at tick 2^26 or before. The fault is want of memory, and the state is given up then.
-pub fn play<H: Threads + Sync>(
+pub fn play(
     alloc: Global,
-    threads: &H,
     state: State,
     words: &[u64],
     rows: &[Ask],
@@ -87,6 +84,6 @@ pub fn play<H: Threads + Sync>(
     let Some((cut, left)) = tally(alloc, words, rows, channels, steps)? else {
         return Ok(None);
     };
-    let (state, out) = play_cut(alloc, threads, state, &cut)?;
+    let (state, out) = round_alone(alloc, state, &cut)?;
     Ok(Some((state, left, out)))
 }

@@ -1,6 +1,6 @@
 //! Laws of the definitions of steps and plays, each as the contract of a function that does nothing.
 
-ghost use Rattle.us_round.specs.PlayLaws.{PlaysAreRounds, NothingIsLost, MachineMakesCuts, SeatsChangeNothing};
+ghost use Rattle.us_round.specs.PlayLaws.{PlaysAreRounds, NothingIsLost, MachineMakesCuts, SeatsChangeNothing, AnyOrderBuilds};
 
 /// Plays one after another, each from the state and the words that the last one left, are the schedule over their cuts.
 pub fn plays_are_rounds()
@@ -20,4 +20,9 @@ pub fn machine_makes_cuts()
 /// What each seat added and took is told beside, and changes nothing.
 pub fn seats_change_nothing()
     ensures { SeatsChangeNothing }
+{}
+
+/// In whichever order the channels of a round are opened and built, each stands in the end as the round has it.
+pub fn any_order_builds()
+    ensures { AnyOrderBuilds }
 {}

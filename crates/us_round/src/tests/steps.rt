@@ -4,7 +4,6 @@ use crate::steps::{Step, play};
 use crate::{RoundFault, RoundOut, State};
 use std::alloc::{AllocError, Global};
 use std::test::Fail;
-use std::thread::Threads;
 use us_flows::Config;
 use us_requests::Ask;
 use us_slots::NoMemory;
@@ -39,15 +38,11 @@ const fn add(row: usize) -> Step {
 }
 
 /// What the first round comes to by these steps, with rows of 500 and 700 bytes.
-fn answer_of<H: Threads + Sync>(
-    alloc: Global,
-    threads: &H,
-    steps: &[Step],
-) -> Result<String, AllocError> {
+fn answer_of(alloc: Global, steps: &[Step]) -> Result<String, AllocError> {
     let mut answer = String::new(alloc);
     match config_of(alloc, &BASE) {
         Ok(config) => {
-            if let Err(fault) = tell_first(alloc, threads, &mut answer, config, steps) {
+            if let Err(fault) = tell_first(alloc, &mut answer, config, steps) {
                 write!(answer, "{fault}")?;
             }
         }
@@ -57,9 +52,8 @@ fn answer_of<H: Threads + Sync>(
 }
 
 /// What can only be wrong with the case is said to be want of memory.
-fn first_play<H: Threads + Sync>(
+fn first_play(
     alloc: Global,
-    threads: &H,
     config: Config,
     steps: &[Step],
 ) -> Result<Option<(State, Vec<u64>, RoundOut)>, RoundFault> {
@@ -77,17 +71,16 @@ fn first_play<H: Threads + Sync>(
         },
     ];
     let state = State::new(alloc, config)?;
-    play(alloc, threads, state, &[0], &rows, steps)
+    play(alloc, state, &[0], &rows, steps)
 }
 
-fn tell_first<H: Threads + Sync>(
+fn tell_first(
     alloc: Global,
-    threads: &H,
     answer: &mut String,
     config: Config,
     steps: &[Step],
 ) -> Result<(), RoundFault> {
-    let Some((_state, words, out)) = first_play(alloc, threads, config, steps)? else {
+    let Some((_state, words, out)) = first_play(alloc, config, steps)? else {
         return Ok(());
     };
     tell_play(answer, &words, &out)?;
@@ -103,22 +96,18 @@ fn tell_play(answer: &mut String, words: &[u64], out: &RoundOut) -> Result<(), N
 
 #[test]
 fn worked_steps(rt: HostRuntime) -> Result<(), Fail> {
-    let whole = answer_of(rt.alloc(), &rt, &[add(1), add(0), TAKE, OPEN, BUILT])?;
+    let whole = answer_of(rt.alloc(), &[add(1), add(0), TAKE, OPEN, BUILT])?;
     same(
         &rt,
         "all rows",
         whole.as_str(),
         "0: 1 0+39 1200, MAP 4 0; left [0]",
     );
-    let late = answer_of(rt.alloc(), &rt, &[add(1), TAKE, OPEN, add(0), BUILT])?;
+    let late = answer_of(rt.alloc(), &[add(1), TAKE, OPEN, add(0), BUILT])?;
     same(&rt, "a late row", late.as_str(), LATE);
-    let open = answer_of(rt.alloc(), &rt, &[add(1), add(0), TAKE, OPEN])?;
+    let open = answer_of(rt.alloc(), &[add(1), add(0), TAKE, OPEN])?;
     same(&rt, "a channel that isn't built", open.as_str(), "");
-    let twice = answer_of(
-        rt.alloc(),
-        &rt,
-        &[add(1), add(0), add(0), TAKE, OPEN, BUILT],
-    )?;
+    let twice = answer_of(rt.alloc(), &[add(1), add(0), add(0), TAKE, OPEN, BUILT])?;
     same(&rt, "a row that is added twice", twice.as_str(), "");
     Ok(())
 }
@@ -128,7 +117,7 @@ fn worked_steps(rt: HostRuntime) -> Result<(), Fail> {
 #[test]
 fn refused_memory(rt: HostRuntime) {
     // else it was refused to the answer's text
-    if let Ok(answer) = answer_of(rt.alloc(), &rt, &[add(1), TAKE, OPEN, add(0), BUILT]) {
+    if let Ok(answer) = answer_of(rt.alloc(), &[add(1), TAKE, OPEN, add(0), BUILT]) {
         if !answer.as_str().ends_with("out of memory") {
             same(&rt, "a late row", answer.as_str(), LATE);
         }

@@ -6,21 +6,21 @@ use Rattle.us_round.proofs.PlayLemmas.{cut-long, cut-room}
 use Rattle.us_round.proofs.steps.play.Goals as goal
 
 pub tally-requires-clause-room : goal.tally-requires-clause-room
-tally-requires-clause-room g c = λ q below. omega (arith, c.requires.room q below)
+tally-requires-clause-room c = λ q below. omega (arith, c.requires.room q below)
 
-pub play_cut-requires-clause-clusters : goal.play_cut-requires-clause-clusters
-play_cut-requires-clause-clusters g c κs within =
+pub round_alone-requires-clause-clusters : goal.round_alone-requires-clause-clusters
+round_alone-requires-clause-clusters c =
     let told = rw c.in-Some.is at c.in_ok-cut.ensures in
     rw (c.deref.ensures.value, told.1) (cut-long c.args.rows.now c.args.words.now c.args.steps.now ∙ c.requires.clusters)
 
-pub play_cut-requires-clause-room : goal.play_cut-requires-clause-room
-play_cut-requires-clause-room g c κs within =
+pub round_alone-requires-clause-room : goal.round_alone-requires-clause-room
+round_alone-requires-clause-room c =
     let told = rw c.in-Some.is at c.in_ok-cut.ensures in
     rw (c.deref.ensures.value, told.1) (cut-room c.args.state.outstanding c.args.words.now c.args.rows.now
     (length c.channels-channels.result.now) c.args.steps.now c.requires.room told.0)
 
 pub returns : goal.returns
-returns g c =
+returns c =
     let told = rw c.in-Some.is at c.in_ok-cut.ensures in
     let cut = c.deref.ensures.value ∙ told.1 in
     let channels = c.channels-channels.ensures.value ∙ ap (λ t. t.channels) (c.config.ensures.value ∙ c.core.ensures.tables) in

@@ -1,0 +1,31 @@
+use Rattle.std.proofs.Common.{◌≡◌, map}
+use Rattle.std.proofs.lemmas.Result.{IfOk-weaker}
+use Rattle.us_round.specs.Claims.{kept_build}
+use Rattle.us_round.specs.Stages.{AreBuilt}
+use Rattle.us_round.proofs.StageLemmas.{room_as, bursts_as, ticks_as, built_as}
+use Rattle.us_round.proofs.alone.build_alone.Goals as goal
+
+pub plan_round-requires-clause-room : goal.plan_round-requires-clause-room
+plan_round-requires-clause-room c =
+    room_as c.args.core.now c.args.calendars.items c.in_ok-filled.filled.items c.deref.result.now c.requires.calendars
+    c.in_ok-filled.ensures c.deref.ensures.value
+
+pub build_each-requires-clause-bursts : goal.build_each-requires-clause-bursts
+build_each-requires-clause-bursts c =
+    bursts_as c.args.core.now c.deref.result.now c.config.result.now c.in_ok-plan.plan c.turns.result.now
+    c.in_ok-plan.ensures c.config.ensures.value c.turns.ensures
+
+pub build_each-requires-clause-ticks : goal.build_each-requires-clause-ticks
+build_each-requires-clause-ticks c =
+    ticks_as c.args.core.now c.args.calendars.items c.in_ok-filled.filled.items c.deref.result.now c.in_ok-plan.plan
+    c.requires.calendars c.in_ok-filled.ensures c.in_ok-plan.ensures
+
+pub returns : goal.returns
+returns c =
+    IfOk-weaker c.build_each.result
+    (λ built. built.items ≡ map (kept_build c.config.result.now c.turns.result.now) c.in_ok-filled.filled.items)
+    (λ built. AreBuilt c.args.core.now c.args.calendars.items built.items)
+    (λ built is. built_as c.args.core.now c.args.calendars.items c.in_ok-filled.filled.items c.deref.result.now
+    c.config.result.now c.in_ok-plan.plan c.turns.result.now built.items c.config.ensures.known c.requires.calendars
+    c.in_ok-filled.ensures c.deref.ensures.value c.in_ok-plan.ensures c.config.ensures.value c.turns.ensures is)
+    c.build_each.ensures
