@@ -25,7 +25,7 @@ use std::alloc::Global;
 use std::thread::Threads;
 use us_crew::{Gate, MAX_WORKERS};
 use us_slots::NoMemory;
-use us_split::{Plan, plan};
+use us_split::{Plan, plan_with};
 
 /// Schedules the round of a state, in which the clusters ask for the bytes of `cuts`, one number for each cluster in
 /// the order of their numbers. The answer has the state that the next round starts from.
@@ -131,7 +131,7 @@ pub(crate) fn plan_round(
 {
     let allowances = core.allowances(alloc)?;
     let idle = idle_of(alloc, filled)?;
-    plan(alloc, core.config(), demands, &allowances, &idle)
+    plan_with(alloc, core.config(), demands, allowances, &idle)
 }
 
 /// The idle minislots of each channel.

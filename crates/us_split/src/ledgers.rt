@@ -47,14 +47,13 @@ impl Ledger {
     pub(crate) fn new(
         alloc: Global,
         config: &Config,
-        allowances: &[Option<u64>],
+        allowances: Vec<Option<u64>>,
         idle: &[u32],
     ) -> Result<Ledger, NoMemory>
         requires { IsIdle config.now idle.now }
-        ensures { IfOk result (λ ledger. ledger ≡ ledger_of config.now allowances.now idle.now) }
+        ensures { IfOk result (λ ledger. ledger ≡ ledger_of config.now allowances.items idle.now) }
     {
         let budgets = budgets_of(alloc, config, idle)?;
-        let allowances = copied(alloc, allowances)?;
         Ok(Ledger {
             budgets,
             allowances,
@@ -165,13 +164,4 @@ fn budgets_of(alloc: Global, config: &Config, idle: &[u32]) -> Result<Vec<Budget
         budgets.push(Budget::new(*channel, idle[place]))?;
     }
     Ok(budgets)
-}
-
-/// These allowances.
-fn copied(alloc: Global, allowances: &[Option<u64>]) -> Result<Vec<Option<u64>>, NoMemory>
-    ensures { IfOk result (λ copy. copy.items ≡ allowances.now) }
-{
-    let mut copy = Vec::new(alloc);
-    copy.extend_from_slice(allowances)?;
-    Ok(copy)
 }

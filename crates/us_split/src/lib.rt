@@ -30,7 +30,7 @@ mod plans;
 mod planning;
 
 pub use divisions::{MAX_CHANNELS, divide};
-pub use planning::plan;
+pub use planning::{plan, plan_with};
 pub use plans::Plan;
 pub use turn_shares::TurnShares;
 

@@ -42,6 +42,37 @@ pub fn plan(
         (plan_for config.now outstanding.now allowances.now idle.now)) turn []) position) }
     ensures lawful { AreTables config.now }
 {
+    let mut copy = Vec::with_capacity(alloc, config.flows().len())?;
+    copy.extend_from_slice(allowances)?;
+    plan_with(alloc, config, outstanding, copy, idle)
+}
+
+/// The same plan, where the list of allowances is given up, so that it needn't be copied: it is lowered by what turns
+/// are planned.
+#[tactic(auto, using(crate::proofs::PlanLawLemmas::plan_facts))]
+pub fn plan_with(
+    alloc: Global,
+    config: &Config,
+    outstanding: &[u64],
+    allowances: Vec<Option<u64>>,
+    idle: &[u32],
+) -> Result<Plan, NoMemory>
+    requires clusters { length outstanding.now ≡ length (clusters_of config.now) }
+    requires flows { length allowances.items ≡ length config.now.flows }
+    requires idle { IsIdle config.now idle.now }
+    ensures value { IfOk result (λ plan. plan ≡
+        with_shares 0 (plan_for config.now outstanding.now allowances.items idle.now)) }
+
+    // No channel, cluster or flow gives more than it has.
+    ensures law { IsLawfulPlan config.now outstanding.now allowances.items idle.now
+        (plan_for config.now outstanding.now allowances.items idle.now) }
+
+    // The share of each turn on each of its channels, whether it is kept or not.
+    ensures shares { IfOk result (λ plan. (turn position : ℕ) → share_of plan turn position ≡
+        slice_index (slice_index_or (map (λ planned. planned.shares)
+        (plan_for config.now outstanding.now allowances.items idle.now)) turn []) position) }
+    ensures lawful { AreTables config.now }
+{
     let turns = config.turns();
     let mut ledger = Ledger::new(alloc, config, allowances, idle)?;
     let mut plan = Plan::new(alloc);

@@ -1,4 +1,4 @@
-use Rattle.std.proofs.Common.{◌≡◌, ℕ, List, None, refl, ◌+◌, ◌++◌, [], ◌∷◌, ◌≤◌, length, drop, get_or, MatchOption, ap, ap₂, ◌∙◌, sym, subst, append-nil, arith}
+use Rattle.std.proofs.Common.{◌≡◌, List, None, refl, ◌+◌, ◌++◌, [], ◌∷◌, ◌≤◌, length, drop, get_or, MatchOption, ap, ap₂, ◌∙◌, sym, subst, append-nil, arith}
 use Rattle.std.specs.Prelude.{slice_index, sum}
 use Rattle.std.proofs.lemmas.List.{drop_all}
 use Rattle.us_flows.specs.Clusters.{Turn, turns_of}
@@ -11,8 +11,8 @@ use Rattle.us_split.proofs.GrantLemmas.{plan_step, grants_nothing}
 use Rattle.us_split.proofs.KeptLemmas.{share_of-kept}
 use Rattle.us_split.proofs.PlanLawLemmas.{shares_of-asked}
 use Rattle.us_split.proofs.TurnAtLemmas.{turn_of, no_turns, few_channels, channels_apart}
-use Rattle.us_split.proofs.planning.plan.Goals as goal
-use Rattle.us_split.proofs.planning.plan.Goals.{in-Some+in_ok-push-in-Some, in-None}
+use Rattle.us_split.proofs.planning.plan_with.Goals as goal
+use Rattle.us_split.proofs.planning.plan_with.Goals.{in-Some+in_ok-push-in-Some, in-None}
 
 abbrev blank : places.Turn
 blank = record { flow = 0; list = 0; cluster = 0 }
@@ -112,5 +112,5 @@ returns-clause-value c =
 
 pub returns-clause-shares : goal.returns-clause-shares
 returns-clause-shares c = λ turn position.
-    let whole : List Planned = plan_for c.args.config.now c.args.outstanding.now c.args.allowances.now c.args.idle.now in
+    let whole : List Planned = plan_for c.args.config.now c.args.outstanding.now c.args.allowances.items c.args.idle.now in
     ap (λ kept. share_of kept turn position) (returns-clause-value c) ∙ share_of-kept whole turn position
