@@ -1,11 +1,10 @@
 #!/usr/bin/env bash
 # Times the reading of the greatest tables: 16 channels, 1,024 flows of 8 channels and 2 clusters, 256 stations. There is
-# no trace, so `mapsim` ends with `fault io trace` once they are read. A benchmark, and no test.
-#
-# Usage: bench/tables.sh, after `rt run` in crates/mapsim has built the program.
+# no trace, so `mapsim` ends with `fault io trace` once they are read. A benchmark and no test.
+# usage: bench/tables.sh [PROGRAM], the program being crates/mapsim/out/mapsim where none is named
 set -euo pipefail
-cd "$(dirname "$0")/.."
-mapsim=crates/mapsim/out/mapsim
+top=$(cd "$(dirname "$0")/.." && pwd)
+program=${1:-$top/crates/mapsim/out/mapsim}
 folder=$(mktemp -d)
 trap 'rm -rf "$folder"' EXIT
 
@@ -35,7 +34,7 @@ profile='bits = 4, preamble = 24, guard = 8, fec_t = 0, fec_k = 200, shortened =
 
 wc -c < "$folder/tables.toml"
 read_tables() {
-    "$@" "$mapsim" replay --config "$folder/tables.toml" --trace "$folder/none" --rounds 1 --maps "$folder/maps" \
+    "$@" "$program" replay --config "$folder/tables.toml" --trace "$folder/none" --rounds 1 --maps "$folder/maps" \
         --report "$folder/report" || true
 }
 if [ -x /usr/bin/time ]; then

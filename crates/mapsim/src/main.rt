@@ -6,7 +6,13 @@
 // What the words ask for.
 mod orders;
 
-// The words.
+// What help says.
+mod helps;
+
+// The words that there are.
+mod commands;
+
+// The words that are given.
 mod words;
 
 // What ends the program early.

@@ -1,0 +1,159 @@
+use crate::helps;
+use clap::builder::ValueParser;
+use clap::{Arg, ArgAction, Command, value_parser};
+use std::alloc::{AllocError, Global};
+
+/// The rounds of `pipe` where none are given.
+pub const DEFAULT_ROUNDS: u32 = 2;
+
+/// The same as a word.
+const DEFAULT_ROUNDS_WORD: &str = "2";
+
+/// The workers where none are given.
+pub const DEFAULT_WORKERS: usize = 1;
+
+/// The same as a word.
+const DEFAULT_WORKERS_WORD: &str = "1";
+
+/// A subcommand.
+#[derive(Clone, Copy)]
+struct Subcommand {
+    name: &'static str,
+    about: &'static str,
+    /// What its help says behind the options.
+    after_help: &'static str,
+    options: &'static [CommandOption],
+}
+
+/// An option of a subcommand.
+#[derive(Clone, Copy)]
+struct CommandOption {
+    name: &'static str,
+    value: Value,
+    /// What stands for it where it isn't given. It is required where there is none.
+    default: Option<&'static str>,
+    help: &'static str,
+}
+
+/// What stands behind an option.
+#[derive(Clone, Copy)]
+enum Value {
+    Path,
+    Number,
+}
+
+const SUBCOMMANDS: &[Subcommand] = &[
+    Subcommand {
+        name: "replay",
+        about: "Replays a trace from files into files",
+        after_help: helps::REPLAY,
+        options: REPLAY_OPTIONS,
+    },
+    Subcommand {
+        name: "pipe",
+        about: "Replays standard input: the configuration, a line `%%`, the trace",
+        after_help: helps::PIPE,
+        options: PIPE_OPTIONS,
+    },
+];
+
+const REPLAY_OPTIONS: &[CommandOption] = &[
+    CommandOption {
+        name: "config",
+        value: Value::Path,
+        default: None,
+        help: "The configuration, TOML: channels, service flows, stations",
+    },
+    CommandOption {
+        name: "trace",
+        value: Value::Path,
+        default: None,
+        help: "The trace, CSV: a row `tick,channel,sid,units` for each request",
+    },
+    CommandOption {
+        name: "rounds",
+        value: Value::Number,
+        default: None,
+        help: "How many rounds to replay, each of `round_ticks` ticks",
+    },
+    CommandOption {
+        name: "maps",
+        value: Value::Path,
+        default: None,
+        help: "The maps file, which is made: the MAPs of each round",
+    },
+    CommandOption {
+        name: "report",
+        value: Value::Path,
+        default: None,
+        help: "The report, which is made: what was granted and missed",
+    },
+    CommandOption {
+        name: "workers",
+        value: Value::Number,
+        default: Some(DEFAULT_WORKERS_WORD),
+        help: "How many workers share the channels of a round, 1 to 64",
+    },
+];
+
+const PIPE_OPTIONS: &[CommandOption] = &[
+    CommandOption {
+        name: "rounds",
+        value: Value::Number,
+        default: Some(DEFAULT_ROUNDS_WORD),
+        help: "How many rounds to replay, each of `round_ticks` ticks",
+    },
+    CommandOption {
+        name: "workers",
+        value: Value::Number,
+        default: Some(DEFAULT_WORKERS_WORD),
+        help: "How many workers share the channels of a round, 1 to 64",
+    },
+];
+
+/// The program as clap is told of it.
+pub fn command<'a>(alloc: Global) -> Result<Command<'a>, AllocError> {
+    let mut command = Command::new(alloc, "mapsim")
+        .about("Replays the requests of a trace and writes the MAPs of each round")
+        .after_help(helps::PROGRAM)
+        .subcommand_required(true);
+    for subcommand in SUBCOMMANDS {
+        command = with_subcommand(alloc, command, subcommand)?;
+    }
+    Ok(command)
+}
+
+fn with_subcommand<'a>(
+    alloc: Global,
+    command: Command<'a>,
+    subcommand: &Subcommand,
+) -> Result<Command<'a>, AllocError> {
+    command.subcommand(subcommand_of(alloc, subcommand)?)
+}
+
+fn subcommand_of<'a>(alloc: Global, subcommand: &Subcommand) -> Result<Command<'a>, AllocError> {
+    let mut command = Command::new(alloc, subcommand.name)
+        .about(subcommand.about)
+        .after_help(subcommand.after_help);
+    for option in subcommand.options {
+        command = command.arg(arg_of(alloc, option))?;
+    }
+    Ok(command)
+}
+
+fn arg_of<'a>(alloc: Global, option: &CommandOption) -> Arg<'a> {
+    let (word, parser) = match option.value {
+        Value::Path => ("F", ValueParser::String),
+        Value::Number => ("N", value_parser!(u32)),
+    };
+    let arg = Arg::new(alloc, option.name)
+        .long(option.name)
+        .value_name(word)
+        .value_parser(parser)
+        .help(option.help)
+        .action(ArgAction::Set);
+    match option.default {
+        Some(value) => arg.default_value(value),
+        None => arg.required(true),
+    }
+}

@@ -1,0 +1,3 @@
+pub mod ScheduleLemmas
+pub mod LogLemmas
+pub mod LiveLemmas

@@ -1,0 +1,14 @@
+//! Laws of a log and of the seats of its intake, each as the contract of a function that does nothing.
+
+ghost use Rattle.us_live.specs.Laws.{LogBalances, SeatsFeed};
+
+/// Where only the rounds of one `Live` cut an intake, the one seat that takes took what is in the log; so what is left
+/// when the intake is closed, with the entries of the log, is all that was submitted.
+pub fn log_balances()
+    ensures { LogBalances }
+{}
+
+/// A seat by which a `Live` may cut its intake is one still after a submit, a split and a join.
+pub fn seats_feed()
+    ensures { SeatsFeed }
+{}

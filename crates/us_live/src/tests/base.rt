@@ -1,0 +1,114 @@
+ghost use Rattle.std.specs.Prelude.{◌≡◌, ◌≤◌, IfOk};
+ghost use Rattle.us_live.specs.Lives.{Feeds};
+
+use crate::{Live, LiveFault};
+use std::alloc::{AllocError, Global};
+use std::process::Abort;
+use std::thread::Threads;
+use us_codec::Map;
+use us_crew::Gate;
+use us_flows::Config;
+use us_intake::{Intake, Seat};
+use us_round::RoundOut;
+
+/// The one comparison of these tests.
+pub(super) fn same(rt: &impl Abort, name: &str, found: &str, wanted: &str) {
+    assert_eq!(rt; found, wanted, "{name}");
+}
+
+/// A channel but for its id. Its MAPs have 160 minislots; the last 10 are for contention.
+const CHANNEL: &str = "minislot_log2 = 1
+rate_log2 = 5
+ucd_count = 0
+ranging_backoff = [2, 6]
+data_backoff = [3, 8]
+request_minislots = 2
+contention_minislots = 10
+maintenance_minislots = 0
+maintenance_every = 1
+station_minislots = 4
+long = { bits = 4, preamble = 24, guard = 8, fec_t = 0, fec_k = 200, shortened = false }
+short = { bits = 4, preamble = 24, guard = 8, fec_t = 0, fec_k = 200, shortened = false, max_minislots = 10 }
+unsolicited = { bits = 4, preamble = 24, guard = 8, fec_t = 0, fec_k = 200, shortened = false }
+";
+
+/// One flow, of one channel or of two.
+pub(super) const ONE: &str = "channels = [1]\nclusters = [[291]]";
+
+pub(super) const TWO: &str = "channels = [1, 2]\nclusters = [[291, 292]]";
+
+pub(super) const NONE: &str = "";
+
+/// A scheduler of two channels, with the flow of these channels and clusters.
+pub(super) fn open(
+    alloc: Global,
+    flow: &str,
+    rounds: u32,
+    quota: u64,
+) -> Result<(Live, Intake, Seat), LiveFault>
+    ensures feeds { IfOk result (λ opened. Feeds opened.0 opened.1 opened.2) }
+    ensures some { IfOk result (λ opened. 1 ≤ opened.1.clusters) }
+{
+    let Ok(text) = text_of(alloc, flow) else {
+        return Err(LiveFault::NoMemory);
+    };
+    let Ok(config) = Config::read(alloc, text.as_bytes()) else {
+        return Err(LiveFault::NoMemory);
+    };
+    Live::open(alloc, config, rounds, quota)
+}
+
+fn text_of(alloc: Global, flow: &str) -> Result<String, AllocError> {
+    let mut text = String::new(alloc);
+    text.push_str("round_ticks = 320\nlead_ticks = 160\n")?;
+    let channels = if flow == TWO { 2_u8 } else { 1 };
+    for id in 1..=channels {
+        write!(text, "[[channel]]\nid = {id}\n{CHANNEL}")?;
+    }
+    if flow != NONE {
+        write!(
+            text,
+            "[[flow]]\nid = 1\ntype = 2\n{flow}\npriority = 0\nrate = 0\nburst = 3044\nunit = 4\nheaders = true\n"
+        )?;
+    }
+    Ok(text)
+}
+
+/// Tells of the next rounds, each by so many workers, or why there is none.
+pub(super) fn tell_rounds<H: Threads + Sync, G: Gate + Sync>(
+    alloc: Global,
+    threads: &H,
+    text: &mut String,
+    live: &mut Live,
+    intake: &Intake,
+    seat: &mut Seat,
+    workers: &[usize],
+    gate: &G,
+) -> Result<(), AllocError>
+    requires { Feeds live.old intake.now seat.old }
+{
+    for workers in workers {
+        match live.next_round(alloc, threads, intake, seat, *workers, gate) {
+            Ok(out) => tell(text, &out)?,
+            Err(fault) => write!(text, "{fault}; ")?,
+        }
+    }
+    write!(text, "{:?}", live.cut_log())
+}
+
+/// The round's number, and the words of the elements of its MAPs.
+fn tell(text: &mut String, out: &RoundOut) -> Result<(), AllocError> {
+    write!(text, "{}: ", out.round())?;
+    for map in out.maps() {
+        tell_map(text, map)?;
+    }
+    Ok(())
+}
+
+fn tell_map(text: &mut String, map: &Map) -> Result<(), AllocError> {
+    for element in map.elements() {
+        let owner = u64::from(element.sid()) * 16 + u64::from(element.iuc().number());
+        write!(text, "{:08x} ", owner * 16384 + u64::from(element.offset()))?;
+    }
+    write!(text, "; ")
+}
