@@ -1,4 +1,4 @@
-ghost use Rattle.std.specs.Prelude.{◌≡◌, ℕ, ◌+◌, ◌*◌, ◌-◌, ◌≤◌, ◌<◌, true, false, IfOk, IfSome, IfNone, Some, length, vec_capacity};
+ghost use Rattle.std.specs.Prelude.{◌≡◌, ℕ, ◌+◌, ◌*◌, ◌-◌, ◌≤◌, ◌<◌, ◌++◌, true, false, IfOk, OnOk, IfSome, IfNone, Some, length, vec_capacity};
 ghost use Rattle.std.specs.List.{flat_map};
 ghost use Rattle.us_holes.specs.Boards as spec;
 ghost use Rattle.us_holes.specs.Kept.{IsBoard};
@@ -12,7 +12,7 @@ use crate::holes::{self, Hole};
 use crate::owners::Owner;
 use crate::placements::Placed;
 use crate::ranks;
-use crate::runs::{Run, runs_of};
+use crate::runs::{Run, push_runs};
 use std::alloc::Global;
 use std::marker::Model;
 use us_slots::NoMemory;
@@ -147,7 +147,6 @@ impl Board {
     }
 
     /// The runs of minislots with one holder, in order: one for each assignment, and one for each gap.
-    #[tactic(auto, using(crate::proofs::RunLemmas::runs_facts))]
     pub fn runs(&self, alloc: Global) -> Result<Vec<Run>, NoMemory>
         ensures value { IfOk result (λ found. found.items ≡ runs.runs_of self.now.cells) }
 
@@ -158,6 +157,20 @@ impl Board {
         ensures differ { runs.Differ (runs.runs_of self.now.cells) }
         ensures few { length (runs.runs_of self.now.cells) ≤ 2 * self.now.standing + 1 }
     {
-        runs_of(alloc, &self.assigned, self.len)
+        let mut found = Vec::new(alloc);
+        self.push_runs(&mut found)?;
+        Ok(found)
+    }
+
+    /// Puts the runs behind what a list has, as `runs` gives them. Where the list has room for them, no memory is taken.
+    #[tactic(auto, using(crate::proofs::RunLemmas::runs_facts))]
+    pub fn push_runs(&self, found: &mut Vec<Run>) -> Result<(), NoMemory>
+        ensures value { OnOk result (found.new.items ≡ found.old.items ++ runs.runs_of self.now.cells) }
+        ensures follow { runs.FollowOn 0 (length self.now.cells) (runs.runs_of self.now.cells) }
+        ensures minislots { flat_map runs.minislots_of (runs.runs_of self.now.cells) ≡ self.now.cells }
+        ensures differ { runs.Differ (runs.runs_of self.now.cells) }
+        ensures few { length (runs.runs_of self.now.cells) ≤ 2 * self.now.standing + 1 }
+    {
+        push_runs(found, &self.assigned, self.len)
     }
 }

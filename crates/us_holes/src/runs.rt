@@ -1,11 +1,10 @@
-ghost use Rattle.std.specs.Prelude.{◌≡◌, ◌≤◌, ◌++◌, IfOk, OnOk, length};
+ghost use Rattle.std.specs.Prelude.{◌≡◌, ◌≤◌, ◌++◌, OnOk, length};
 ghost use Rattle.us_holes.specs.Boards.{max_assignments};
 ghost use Rattle.us_holes.specs.Lists as lists;
 ghost use Rattle.us_holes.specs.Runs as spec;
 
 use crate::assignments::Assignment;
 use crate::owners::Owner;
-use std::alloc::Global;
 use std::marker::Model;
 use us_slots::NoMemory;
 
@@ -75,24 +74,23 @@ fn push_idle(found: &mut Vec<Run>, from: u32, to: u32) -> Result<(), NoMemory>
     Ok(())
 }
 
-/// The runs of a board of `len` minislots with these assignments.
+/// Adds the runs of a board of `len` minislots with these assignments.
 #[tactic(auto, unfolding(crate::specs::Lists::runs_between))]
-pub(crate) fn runs_of(
-    alloc: Global,
+pub(crate) fn push_runs(
+    found: &mut Vec<Run>,
     assigned: &[Assignment],
     len: u32,
-) -> Result<Vec<Run>, NoMemory>
+) -> Result<(), NoMemory>
     requires { length assigned.now ≤ max_assignments }
-    ensures { IfOk result (λ found. found.items ≡ lists.runs_between 0 assigned.now len) }
+    ensures { OnOk result (found.new.items ≡ found.old.items ++ lists.runs_between 0 assigned.now len) }
 {
-    let mut found = Vec::with_capacity(alloc, 2 * assigned.len() + 1)?;
+    found.reserve(2 * assigned.len() + 1)?;
     let mut from = 0;
     for i in 0..assigned.len() {
         let one = assigned[i];
-        push_idle(&mut found, from, one.start())?;
+        push_idle(found, from, one.start())?;
         found.push(Run::of(one))?;
         from = one.end();
     }
-    push_idle(&mut found, from, len)?;
-    Ok(found)
+    push_idle(found, from, len)
 }

@@ -8,11 +8,7 @@ use Rattle.us_flows.specs.Tables.{Tables}
 use Rattle.us_holes.specs.Boards.{Board, assign_all}
 use Rattle.us_split.specs.Shares.{TurnShares}
 use Rattle.us_round.specs.Placements.{Claim, Grant, grant_of, with_grant, grants_of, intervals}
-use Rattle.us_round.specs.Claims.{kept_claim, kept_claims, kept_grant}
-
--- the grants of kept turns on a board
-abbrev pub kept_grants : Tables → Channel → Board → List TurnShares → List Grant
-kept_grants t c board plan = grants_of c.bursts board (kept_claims t c.id plan)
+use Rattle.us_round.specs.Claims.{kept_claim, kept_claims, kept_grant, kept_grants}
 
 -- one turn, and then the others
 pub grants_step : (t : Tables) (c : Channel) (board : Board) (kept : TurnShares) (plan : List TurnShares) →

@@ -33,10 +33,14 @@ kept_claims t id plan = filter_map (kept_claim t id) plan
 abbrev pub kept_grant : Tables → Channel → Board → TurnShares → Option Grant
 kept_grant t c board kept = option_and_then (grant_of c.bursts board) (kept_claim t c.id kept)
 
+-- and what all of them are
+abbrev pub kept_grants : Tables → Channel → Board → List TurnShares → List Grant
+kept_grants t c board plan = grants_of c.bursts board (kept_claims t c.id plan)
+
 -- a channel whose claims of the kept plan are placed
 unfoldable pub kept_build : Tables → List TurnShares → Filled → Built
 kept_build t plan f =
-    let grants : List Grant = grants_of f.channel.bursts f.board (kept_claims t f.channel.id plan) in
+    let grants : List Grant = kept_grants t f.channel f.board plan in
     record {
       channel = f.channel;
       board = assign_all f.board (intervals grants);

@@ -40,5 +40,7 @@ pub mod Claims
 pub mod Accounts
 -- a state without its calendars,
 pub mod Cores
+-- the memory of a channel,
+pub mod Tracks
 -- and the stages of a round
 pub mod Stages

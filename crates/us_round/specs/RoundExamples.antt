@@ -1,7 +1,7 @@
 -- Rounds in the base configuration and near it, computed by the definitions alone. Words are in hexadecimal.
-use Rattle.std.specs.Prelude.{◌≡◌, ℕ, true, List, [], ◌∷◌, length, replicate, map, Option, Some, None, option_map, ⊤, refl}
+use Rattle.std.specs.Prelude.{◌≡◌, ℕ, true, List, [], ◌∷◌, length, replicate, map, ⊤, refl}
 use Rattle.std.specs.List.{range_with_len}
-use Rattle.us_slots.specs.Bursts.{ChannelBursts, coded_length, burst_cost}
+use Rattle.us_slots.specs.Bursts.{coded_length, burst_cost}
 use Rattle.us_slots.specs.Capacities.{greatest_up_to, capacity_of}
 use Rattle.us_slots.specs.Examples.{base_profile, bursts_with}
 use Rattle.us_codec.specs.Elements.{word_of}
@@ -10,14 +10,14 @@ use Rattle.us_flows.specs.declared.flows.SchedulingType.TheVariants.{BestEffort}
 use Rattle.us_flows.specs.Tables.{FlowTable, Tables}
 use Rattle.us_flows.specs.Clusters.{Turn, table_order, turns_of}
 use Rattle.us_bucket.specs.Levels.{bytes_in, refilled, spent, units_in}
-use Rattle.us_holes.specs.Boards.{Owner, Board, assign, assign_all, empty_board, first_of, longest_up_to}
+use Rattle.us_holes.specs.Boards.{assign_all, first_of, longest_up_to}
 use Rattle.us_holes.specs.Runs.{runs_from}
 use Rattle.us_calendar.specs.Calendars.{run_rows}
 use Rattle.us_calendar.specs.Entries.{entries}
 use Rattle.us_split.specs.Divisions.{divided}
 use Rattle.us_split.specs.Plans.{after_turn, cost_on, plan_for, plan_of, shares_of, weights}
 use Rattle.us_round.specs.Reserves.{reserves}
-use Rattle.us_round.specs.Placements.{Claim, claims, grant_of, grants_of, spot}
+use Rattle.us_round.specs.Placements.{claims, grants_of, spot}
 use Rattle.us_round.specs.Rounds.{Step, build_on, builds_of, final, opening, pending_seats, pendings_on, round_from, round_of, round_plan, schedule}
 use Rattle.us_round.specs.Outputs.{RoundOut, by_start, elements_of, final_rows, head_of, map_of, out_of, rows_on}
 use Rattle.us_round.specs.declared.rows.Row.{Row}

@@ -10,12 +10,12 @@ ghost use Rattle.us_round.specs.Stages.{AreFilled, AreBuilt};
 
 use crate::building::{Built, Filled, build_on, fill};
 use crate::cores::Core;
+use crate::lanes::Lane;
 use crate::phases::with_channels;
 use crate::round_outs::RoundOut;
 use crate::rounds::{begin, finish, plan_round};
 use crate::states::State;
 use std::alloc::Global;
-use us_calendar::Calendar;
 use us_flows::Config;
 use us_slots::NoMemory;
 use us_split::TurnShares;
@@ -43,7 +43,7 @@ fn build_alone(
     alloc: Global,
     core: &Core,
     demands: &[u64],
-    calendars: Vec<Calendar>,
+    calendars: Vec<Lane>,
 ) -> Result<Vec<Built>, NoMemory>
     requires demands { demands.now ≡ core.now.outstanding }
     requires calendars { AreCalendars core.now.tables core.now.round calendars.items }
@@ -56,7 +56,7 @@ fn build_alone(
 }
 
 /// The channels of a round in table order, each after its reserves and its calendar.
-fn fill_each(alloc: Global, core: &Core, calendars: Vec<Calendar>) -> Result<Vec<Filled>, NoMemory>
+fn fill_each(alloc: Global, core: &Core, calendars: Vec<Lane>) -> Result<Vec<Filled>, NoMemory>
     requires calendars { AreCalendars core.now.tables core.now.round calendars.items }
     requires time { (core.now.round + 1) * core.now.tables.round_ticks ≤ max_run_ticks }
     ensures { IfOk result (λ all. AreFilled core.now calendars.items all.items) }
@@ -66,8 +66,8 @@ fn fill_each(alloc: Global, core: &Core, calendars: Vec<Calendar>) -> Result<Vec
     let items = with_channels(alloc, config, calendars)?;
     let mut all = Vec::with_capacity(alloc, items.len())?;
     for item in items {
-        let (channel, calendar) = item;
-        all.push(fill(alloc, config, &channel, calendar, round)?)?;
+        let (channel, lane) = item;
+        all.push(fill(alloc, config, &channel, lane, round)?)?;
     }
     Ok(all)
 }

@@ -4,19 +4,20 @@ ghost use Rattle.us_slots.specs.Times.{minislot_ticks};
 ghost use Rattle.us_flows.specs.Lawful.{IsChannel};
 ghost use Rattle.us_flows.specs.Tables.{max_run_ticks};
 ghost use Rattle.us_calendar.specs.Calendars.{IsCalendar, pace_of};
-ghost use Rattle.us_holes.specs.Boards.{free_count};
+ghost use Rattle.us_holes.specs.Boards.{assign_all, free_count};
 ghost use Rattle.us_round.specs.Claims as kept;
-ghost use Rattle.us_round.specs.Placements.{with_grant};
+ghost use Rattle.us_round.specs.Placements.{intervals, with_grant};
 ghost use Rattle.us_round.specs.Rounds as spec;
 
 use crate::claims::claim_on;
+use crate::lanes::{Lane, Track};
 use crate::placing::{Grant, place};
 use crate::reserving::reserves;
 use std::alloc::Global;
 use std::marker::Model;
-use us_calendar::{Calendar, Settled};
+use us_calendar::Settled;
 use us_flows::{Channel, Config};
-use us_holes::Board;
+use us_holes::{Board, MAX_ASSIGNMENTS};
 use us_slots::{MAX_MAP_TICKS, NoMemory};
 use us_split::TurnShares;
 
@@ -24,42 +25,50 @@ use us_split::TurnShares;
 #[derive(Drop)]
 pub(crate) struct Filled {
     pub channel: Channel,
-    pub board: Board,
-    pub calendar: Calendar,
+    pub track: Box<Track>,
     pub settled: Vec<Settled>,
 }
 
 impl Model for Filled {
+    ghost use Rattle.us_round.specs.Rounds as spec;
+    ghost use Rattle.us_round.specs.Tracks.{IsTrack};
+
     ghost Value = { spec.Filled };
 
     ghost view = { λ f. record {
       channel = f.channel;
-      board = f.board;
-      calendar = f.calendar;
+      board = f.track.value.board;
+      calendar = f.track.value.calendar;
       settled = f.settled.items;
     } };
+
+    ghost invariant = { λ f. IsTrack f.track.value };
 }
 
 /// A channel whose claims are placed.
 #[derive(Drop)]
 pub(crate) struct Built {
     pub channel: Channel,
-    pub board: Board,
-    pub calendar: Calendar,
+    pub track: Box<Track>,
     pub settled: Vec<Settled>,
     pub grants: Vec<Grant>,
 }
 
 impl Model for Built {
+    ghost use Rattle.us_round.specs.Rounds as spec;
+    ghost use Rattle.us_round.specs.Tracks.{IsTrack};
+
     ghost Value = { spec.Built };
 
     ghost view = { λ b. record {
       channel = b.channel;
-      board = b.board;
-      calendar = b.calendar;
+      board = b.track.value.board;
+      calendar = b.track.value.calendar;
       settled = b.settled.items;
       grants = b.grants.items;
     } };
+
+    ghost invariant = { λ b. IsTrack b.track.value };
 }
 
 impl Filled {
@@ -67,11 +76,18 @@ impl Filled {
     pub(crate) fn idle(&self) -> u32
         ensures { result ≡ free_count self.now.board.cells }
     {
-        self.board.free_count()
+        self.track.board.free_count()
     }
 }
 
 impl Built {
+    /// Its board.
+    pub(crate) fn board(&self) -> &Board
+        ensures { result.now ≡ self.now.board }
+    {
+        &self.track.board
+    }
+
     /// What its claims are granted, in the order of turns.
     pub(crate) fn grants(&self) -> &[Grant]
         ensures { result.now ≡ self.now.grants }
@@ -80,32 +96,32 @@ impl Built {
     }
 }
 
-/// A channel with the reserves of a round, and with what its calendar settles then.
+/// A channel with the reserves of a round on its board, and with what its calendar settles then.
 pub(crate) fn fill(
     alloc: Global,
     config: &Config,
     channel: &Channel,
-    calendar: Calendar,
+    lane: Lane,
     round: u32,
 ) -> Result<Filled, NoMemory>
     requires channel { IsChannel config.now channel.now }
-    requires pace { calendar.pace ≡ pace_of config.now channel.now }
-    requires next { calendar.next_round ≡ round }
+    requires pace { lane.pace ≡ pace_of config.now channel.now }
+    requires next { lane.next_round ≡ round }
     requires time { (round + 1) * config.now.round_ticks ≤ max_run_ticks }
-    ensures value { IfOk result (λ filled. filled ≡ spec.fill config.now round channel.now calendar) }
+    ensures value { IfOk result (λ filled. filled ≡ spec.fill config.now round channel.now lane) }
 {
-    let mut calendar = calendar;
-    let mut board = reserves(alloc, channel, config.map_len(channel), round)?;
-    let settled = calendar.run(alloc, round, &mut board)?;
+    let mut track = lane.into_track();
+    let Track { calendar, board } = track.as_mut();
+    reserves(board, channel, round);
+    let settled = calendar.run(alloc, round, board)?;
     Ok(Filled {
         channel: *channel,
-        board,
-        calendar,
+        track,
         settled,
     })
 }
 
-/// Places the claims of a plan on a channel, one turn after another.
+/// Places the claims of a plan on a channel.
 pub(crate) fn build_on(
     alloc: Global,
     config: &Config,
@@ -119,21 +135,38 @@ pub(crate) fn build_on(
 {
     let Filled {
         channel,
-        mut board,
-        calendar,
+        mut track,
         settled,
     } = filled;
-    let mut grants = Vec::new(alloc);
-    for turn in plan {
-        grant_turn(config, &channel, turn, &mut board, &mut grants)?;
-    }
+    let grants = grant_all(alloc, config, &channel, plan, &mut track.board)?;
     Ok(Built {
         channel,
-        board,
-        calendar,
+        track,
         settled,
         grants,
     })
+}
+
+/// Grants what the turns of a plan claim on a channel, one after another.
+fn grant_all(
+    alloc: Global,
+    config: &Config,
+    channel: &Channel,
+    plan: &[TurnShares],
+    board: &mut Board,
+) -> Result<Vec<Grant>, NoMemory>
+    requires bursts { AllByRecursion (kept.AreKeptBursts config.now) plan.now }
+    requires ticks { length board.old.cells * minislot_ticks channel.now.bursts.time ≤ MAX_MAP_TICKS }
+    ensures grants { IfOk result (λ grants. grants.items ≡ kept.kept_grants config.now channel.now board.old plan.now) }
+    ensures board { OnOk result
+        (board.new ≡ assign_all board.old (intervals (kept.kept_grants config.now channel.now board.old plan.now))) }
+    ensures len { length board.new.cells ≡ length board.old.cells }
+{
+    let mut grants = Vec::with_capacity(alloc, plan.len().min(MAX_ASSIGNMENTS as usize))?;
+    for turn in plan {
+        grant_turn(config, channel, turn, board, &mut grants)?;
+    }
+    Ok(grants)
 }
 
 /// Grants what a turn claims on a channel, if it has a share there. Only a grant needs memory.
@@ -159,17 +192,15 @@ fn grant_turn(
     Ok(())
 }
 
-/// The calendars of channels, which are given up.
-pub(crate) fn calendars_of(alloc: Global, built: Vec<Built>) -> Result<Vec<Calendar>, NoMemory>
+/// The calendars and boards of channels, which are given up.
+pub(crate) fn lanes_of(alloc: Global, built: Vec<Built>) -> Result<Vec<Lane>, NoMemory>
     ensures value { IfOk result (λ all. all.items ≡ map (λ b. b.calendar) built.items) }
     ensures known { IfOk result (λ all. AllByRecursion IsCalendar all.items) }
 {
     let mut all = Vec::with_capacity(alloc, built.len())?;
     for part in built {
-        let Built { calendar, .. } = part;
-        // Asked for what it tells of the calendar: how much it may have settled.
-        let _ = calendar.next_round();
-        all.push(calendar)?;
+        let Built { track, .. } = part;
+        all.push(Lane::of(track))?;
     }
     Ok(all)
 }

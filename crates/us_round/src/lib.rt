@@ -18,6 +18,9 @@ mod faults;
 // The lines of a round.
 mod rows;
 
+// What a channel keeps from round to round.
+mod lanes;
+
 // The reserves of a round's boards.
 mod reserving;
 

@@ -34,14 +34,15 @@ pub(crate) fn maps_of(
     ensures value { IfOk result (λ maps. maps.items ≡ map (spec.built_map config.now round seats.now) built.now) }
     ensures limits { IfOk result (λ _. AllByRecursion (spec.IsWithinLimits config.now round seats.now) built.now) }
 {
+    let mut runs = Vec::new(alloc);
     let mut maps = Vec::with_capacity(alloc, built.len())?;
     for part in built {
-        maps.push(built_map(alloc, config, round, part, seats)?)?;
+        maps.push(built_map(alloc, config, round, part, seats, &mut runs)?)?;
     }
     Ok(maps)
 }
 
-/// The MAP of one channel.
+/// The MAP of one channel. The list of runs is for what a board has, and nothing that stands there is kept.
 #[tactic(auto, using(crate::proofs::MapLemmas::few_bytes))]
 fn built_map(
     alloc: Global,
@@ -49,6 +50,7 @@ fn built_map(
     round: u32,
     part: &Built,
     seats: &[PendingSeat],
+    runs: &mut Vec<Run>,
 ) -> Result<Map, NoMemory>
     requires built { IsBuiltFor config.now part.now }
     requires time { (round + 1) * config.now.round_ticks ≤ max_run_ticks }
@@ -56,7 +58,15 @@ fn built_map(
     ensures limits { IfOk result (λ _. spec.IsWithinLimits config.now round seats.now part.now) }
 {
     let sids = sids_on(alloc, seats, part.channel.id)?;
-    map_of(alloc, config, round, &part.channel, &part.board, &sids)
+    map_of(
+        alloc,
+        config,
+        round,
+        &part.channel,
+        part.board(),
+        &sids,
+        runs,
+    )
 }
 
 /// The MAP of a channel's round: its head, the elements of its board, the Null and the pendings, at most 38.
@@ -68,6 +78,7 @@ pub(crate) fn map_of(
     channel: &Channel,
     board: &Board,
     sids: &[u16],
+    runs: &mut Vec<Run>,
 ) -> Result<Map, NoMemory>
     requires lawful { IsChannel config.now channel.now }
     requires len { length board.now.cells ≡ map_len config.now channel.now }
@@ -79,7 +90,7 @@ pub(crate) fn map_of(
     ensures standing { IfOk result (λ _. board.now.standing ≤ 100) }
 {
     let head = head_of(config, channel, round);
-    let elements = elements_of(alloc, channel, board, 1 + sids.len())?;
+    let elements = elements_of(alloc, channel, board, runs, 1 + sids.len())?;
     let len = board.len() as u16;
     let pendings = pendings_of(alloc, sids, len)?;
     Map::from_parts(head, elements, len, &pendings)
@@ -106,12 +117,14 @@ fn head_of(config: &Config, channel: &Channel, round: u32) -> Head
     }
 }
 
-/// What stands before the Null: an element for each assignment and each idle run. There is room for so many `more`.
+/// What stands before the Null: an element for each assignment and each idle run, which the list of runs gets.
+/// There is room for so many `more`.
 #[tactic(auto, using(crate::proofs::MapLemmas::follow_starts), unfolding(crate::specs::Outputs::elements_of))]
 fn elements_of(
     alloc: Global,
     channel: &Channel,
     board: &Board,
+    runs: &mut Vec<Run>,
     more: usize,
 ) -> Result<Vec<Element>, NoMemory>
     requires { length board.now.cells ≤ 4096 }
@@ -121,8 +134,9 @@ fn elements_of(
     ensures follow { FollowOn 0 (length board.now.cells) (runs_of board.now.cells) }
     ensures few { length (runs_of board.now.cells) ≤ 2 * board.now.standing + 1 }
 {
-    let runs = board.runs(alloc)?;
-    elements_in(alloc, channel, &runs, more)
+    runs.clear();
+    board.push_runs(runs)?;
+    elements_in(alloc, channel, runs, more)
 }
 
 /// The elements of some runs, with room for so many `more`.

@@ -9,9 +9,9 @@ ghost use Rattle.us_round.specs.Stages.{AreFilled};
 
 use crate::building::{Built, Filled, build_on, fill};
 use crate::cores::Core;
+use crate::lanes::Lane;
 use std::alloc::Global;
 use std::thread::Threads;
-use us_calendar::Calendar;
 use us_crew::{CrewFault, Gate, Phase, Work, map_owned};
 use us_flows::{Channel, Config};
 use us_slots::NoMemory;
@@ -24,7 +24,7 @@ struct Filling<'a> {
     round: u32,
 }
 
-impl<'a> Work<(Channel, Calendar), Filled, NoMemory> for Filling<'a> {
+impl<'a> Work<(Channel, Lane), Filled, NoMemory> for Filling<'a> {
     ghost accepts = { λ work _ item. IsReady work.config.now work.round item };
 
     ghost value = { λ work _ item. spec.fill work.config.now work.round item.0 item.1 };
@@ -33,14 +33,9 @@ impl<'a> Work<(Channel, Calendar), Filled, NoMemory> for Filling<'a> {
 
     ghost must_fail = { λ _ _ _. ⊥ };
 
-    fn run(
-        &self,
-        alloc: Global,
-        _index: usize,
-        item: (Channel, Calendar),
-    ) -> Result<Filled, NoMemory> {
-        let (channel, calendar) = item;
-        fill(alloc, self.config, &channel, calendar, self.round)
+    fn run(&self, alloc: Global, _index: usize, item: (Channel, Lane)) -> Result<Filled, NoMemory> {
+        let (channel, lane) = item;
+        fill(alloc, self.config, &channel, lane, self.round)
     }
 }
 
@@ -71,7 +66,7 @@ pub(crate) fn fill_all<H: Threads + Sync, G: Gate + Sync>(
     alloc: Global,
     threads: &H,
     core: &Core,
-    calendars: Vec<Calendar>,
+    calendars: Vec<Lane>,
     workers: usize,
     gate: &G,
 ) -> Result<Vec<Filled>, NoMemory>
@@ -90,8 +85,8 @@ pub(crate) fn fill_all<H: Threads + Sync, G: Gate + Sync>(
 pub(crate) fn with_channels(
     alloc: Global,
     config: &Config,
-    calendars: Vec<Calendar>,
-) -> Result<Vec<(Channel, Calendar)>, NoMemory>
+    calendars: Vec<Lane>,
+) -> Result<Vec<(Channel, Lane)>, NoMemory>
     requires { length calendars.items ≡ length config.now.channels }
     ensures value { IfOk result (λ all. all.items ≡ zip config.now.channels calendars.items) }
     ensures lawful { OnOk result (AreTables config.now) }

@@ -1,37 +1,29 @@
-ghost use Rattle.std.specs.Prelude.{◌≡◌, ◌≢◌, ◌+◌, ◌≤◌, true, length, IfOk};
+ghost use Rattle.std.specs.Prelude.{◌≡◌, ◌≢◌, ◌+◌, ◌≤◌, true, length};
 ghost use Rattle.us_holes.specs.Boards.{fits};
 ghost use Rattle.us_round.specs.Reserves as spec;
 
 use crate::assigning::assign;
-use std::alloc::Global;
 use us_flows::Channel;
-use us_holes::{Board, MAX_MINISLOTS, Owner};
-use us_slots::{Iuc, NoMemory};
+use us_holes::{Board, Owner};
+use us_slots::Iuc;
 
 /// The SID that addresses all modems (the standard's).
 pub(crate) const BROADCAST: u16 = 0x3fff;
 
-/// The board of a round's MAP, of `len` minislots, with its reserves: Initial Maintenance at the start in each
-/// `maintenance_every`-th round, and contention at the end.
+/// Clears a board for the MAP of a round, whose length it has, and puts the reserves on it: Initial Maintenance at the
+/// start in each `maintenance_every`-th round, and contention at the end. It needs no memory.
 #[tactic(auto, using(crate::proofs::ReserveLemmas::reserve_facts), unfolding(crate::specs::Reserves::reserves))]
-pub(crate) fn reserves(
-    alloc: Global,
-    channel: &Channel,
-    len: u32,
-    round: u32,
-) -> Result<Board, NoMemory>
-    requires some { 1 ≤ len }
-    requires most { len ≤ MAX_MINISLOTS }
+pub(crate) fn reserves(board: &mut Board, channel: &Channel, round: u32)
     requires every { 1 ≤ channel.now.maintenance_every }
-    requires room { channel.now.maintenance_minislots + channel.now.contention_minislots ≤ len }
-    ensures board { IfOk result (λ board. board ≡ spec.reserves channel.now len round) }
-    ensures len { IfOk result (λ board. length board.cells ≡ len) }
+    requires room { channel.now.maintenance_minislots + channel.now.contention_minislots ≤ length board.old.cells }
+    ensures board { board.new ≡ spec.reserves channel.now (length board.old.cells) round }
+    ensures len { length board.new.cells ≡ length board.old.cells }
 {
-    let mut board = Board::new(alloc, len)?;
-    maintain(&mut board, channel, round);
+    let len = board.len();
+    board.clear();
+    maintain(board, channel, round);
     let contention = u32::from(channel.contention_minislots);
-    reserve(&mut board, len - contention, contention, Iuc::request());
-    Ok(board)
+    reserve(board, len - contention, contention, Iuc::request());
 }
 
 /// Assigns the Initial Maintenance of a round that has one.

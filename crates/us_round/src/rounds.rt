@@ -11,9 +11,10 @@ ghost use Rattle.us_round.specs.Outputs.{out_of, AreWithinLimits};
 ghost use Rattle.us_round.specs.Stages.{IsBegun, IsPlanned, AreBuilt, AreAllBuilt, IsOverFor};
 ghost use Rattle.us_round.specs.States.{AreSound, settled_by};
 
-use crate::building::{Built, Filled, calendars_of};
+use crate::building::{Built, Filled, lanes_of};
 use crate::cores::Core;
 use crate::faults::RoundFault;
+use crate::lanes::Lane;
 use crate::mapping::maps_of;
 use crate::pendings::pending_seats;
 use crate::phases::{build_all, fill_all};
@@ -22,7 +23,6 @@ use crate::round_outs::RoundOut;
 use crate::states::State;
 use std::alloc::Global;
 use std::thread::Threads;
-use us_calendar::Calendar;
 use us_crew::{Gate, MAX_WORKERS};
 use us_slots::NoMemory;
 use us_split::{Plan, plan_with};
@@ -78,7 +78,7 @@ pub(crate) fn begin(
     alloc: Global,
     state: State,
     cuts: &[u64],
-) -> Result<(Core, Vec<u64>, Vec<Calendar>), NoMemory>
+) -> Result<(Core, Vec<u64>, Vec<Lane>), NoMemory>
     requires clusters { length cuts.now ≡ length (clusters_of state.tables) }
     requires room { AllByRecursion (λ pair. pair.0 + pair.1 < 2 ^ 62) (zip state.outstanding cuts.now) }
     ensures { IfOk result (λ parts. IsBegun (spec.begun state cuts.now) parts.0 parts.1.items parts.2.items) }
@@ -96,7 +96,7 @@ fn build<H: Threads + Sync, G: Gate + Sync>(
     threads: &H,
     core: &Core,
     demands: &[u64],
-    calendars: Vec<Calendar>,
+    calendars: Vec<Lane>,
     workers: usize,
     gate: &G,
 ) -> Result<Vec<Built>, NoMemory>
@@ -162,7 +162,7 @@ pub(crate) fn finish(
     let round = core.round();
     core.close(&built);
     let out = report(alloc, &core, round, &before, &built)?;
-    let calendars = calendars_of(alloc, built)?;
+    let calendars = lanes_of(alloc, built)?;
     Ok((State::of(core, calendars), out))
 }
 

@@ -7,11 +7,11 @@ ghost use Rattle.us_round.specs.States.{IsState, settled_by, max_settled_by};
 
 use crate::cores::Core;
 use crate::faults::RoundFault;
+use crate::lanes::Lane;
 use crate::reporting;
 use crate::rows::Row;
 use std::alloc::Global;
 use std::marker::Model;
-use us_calendar::Calendar;
 use us_flows::Config;
 use us_slots::NoMemory;
 
@@ -19,7 +19,7 @@ use us_slots::NoMemory;
 /// bucket of each flow, and the calendar of each channel.
 pub struct State {
     core: Core,
-    calendars: Vec<Calendar>,
+    calendars: Vec<Lane>,
 }
 
 impl Model for State {
@@ -47,13 +47,13 @@ impl State {
     pub fn new(alloc: Global, config: Config) -> Result<State, RoundFault>
         ensures { IfOk result (λ state. state ≡ spec.opening config) }
     {
-        let calendars = calendars_of(alloc, &config)?;
+        let calendars = lanes_of(alloc, &config)?;
         let core = Core::new(alloc, config)?;
         Ok(State::of(core, calendars))
     }
 
     /// The state of a core and of its calendars.
-    pub(crate) fn of(core: Core, calendars: Vec<Calendar>) -> State
+    pub(crate) fn of(core: Core, calendars: Vec<Lane>) -> State
         requires state { IsState (with_calendars core calendars.items) }
         requires few { settled_by (with_calendars core calendars.items) ≤ max_settled_by }
         ensures { result ≡ with_calendars core calendars.items }
@@ -62,7 +62,7 @@ impl State {
     }
 
     /// Its core and its calendars.
-    pub(crate) fn into_parts(self) -> (Core, Vec<Calendar>)
+    pub(crate) fn into_parts(self) -> (Core, Vec<Lane>)
         ensures value { with_calendars result.0 result.1.items ≡ self }
         ensures calendars { AreCalendars self.tables self.round result.1.items }
     {
@@ -99,15 +99,15 @@ impl State {
     }
 }
 
-/// The calendar of each channel, before round 0.
-fn calendars_of(alloc: Global, config: &Config) -> Result<Vec<Calendar>, NoMemory>
+/// The calendar of each channel, before round 0, and its board.
+fn lanes_of(alloc: Global, config: &Config) -> Result<Vec<Lane>, NoMemory>
     ensures { IfOk result (λ all. all.items ≡ map (calendars.opening config.now) config.now.channels) }
 {
     let channels = config.channels().len();
     let mut all = Vec::with_capacity(alloc, channels)?;
     for place in 0..channels {
-        let calendar = Calendar::new(alloc, config, place)?;
-        all.push(calendar)?;
+        let lane = Lane::new(alloc, config, place)?;
+        all.push(lane)?;
     }
     Ok(all)
 }

@@ -2,7 +2,7 @@ use Rattle.std.proofs.Common.{◌≡◌, ◌++◌, map}
 use Rattle.std.specs.List.{AllByRecursion}
 use Rattle.std.specs.Vec.Iter.{into_iter_items}
 use Rattle.us_calendar.specs.Calendars.{IsCalendar}
-use Rattle.us_round.proofs.building.calendars_of.Given as goal
+use Rattle.us_round.proofs.building.lanes_of.Given as goal
 
 abbrev pub invariant-loop-part : goal.invariant-loop-part
 invariant-loop-part l =

@@ -1,9 +1,9 @@
-use Rattle.std.proofs.Common.{◌∙◌, ap}
-use Rattle.std.proofs.lemmas.Result.{IfOk-weaker}
+use Rattle.std.proofs.Common.{◌++◌, ◌∙◌, ap}
+use Rattle.std.proofs.lemmas.Result.{on_ok_weaker}
 use Rattle.us_holes.specs.Runs.{runs_of}
 use Rattle.us_holes.specs.Lists.{runs_between}
 use Rattle.us_holes.proofs.RunLemmas.{runs_are}
-use Rattle.us_holes.proofs.boards.Board.runs.Goals as goal
+use Rattle.us_holes.proofs.boards.Board.push_runs.Goals as goal
 
 pub returns-clause-value : goal.returns-clause-value
 returns-clause-value c =
@@ -11,4 +11,4 @@ returns-clause-value c =
     let told = ap (λ assigned. runs_between 0 assigned f.len) c.deref.ensures.value
     ∙ runs_are 0 f.assigned.items f.len c.self.invariant.0.order
     ∙ ap (λ board. runs_of board.cells) c.self.view_is in
-    IfOk-weaker c.runs_of.result _ _ (λ found is. is ∙ told) c.runs_of.ensures
+    on_ok_weaker c.push_runs.result (λ is. is ∙ ap (λ more. c.args.found.now.items ++ more) told) c.push_runs.ensures
