@@ -1,18 +1,17 @@
 -- What is due in a round has its turn, in the order of entries, and nothing else needs one.
-use Rattle.std.proofs.Common.{◌≡◌, ◌≢◌, ℕ, zero, suc, ◌+◌, ◌-◌, ◌<◌, ◌≤◌, Bool, true, false, cond, List, [], ◌∷◌, ◌++◌, length, map, Some, None, slice_get, refl, ap, ap₂, subst, sym, ◌∙◌, inl, inr, append_assoc, arith}
-use Rattle.std.specs.Ordering.{is_gt}
-use Rattle.std.specs.BTreeMap.{is_at}
+use Rattle.std.proofs.Common.{◌≡◌, ◌≢◌, ℕ, zero, suc, ◌+◌, ◌-◌, ◌<◌, ◌≤◌, List, [], ◌∷◌, ◌++◌, length, map, drop, Some, None, slice_get, get_or, refl, ap, ap₂, subst, sym, ◌∙◌, inl, inr, append_assoc, arith}
 use Rattle.std.specs.List.{AllByRecursion}
 use Rattle.std.proofs.Math.ListN.{set, length-set}
-use Rattle.std.proofs.lemmas.List.{append-nil}
-use Rattle.std.proofs.lemmas.Bool.{cases_Bool, cases_eq, cases_lt}
+use Rattle.std.proofs.lemmas.List.{append-nil, length-drop, get_or-drop}
+use Rattle.std.proofs.lemmas.Bool.{cases_eq, cases_lt}
+use Rattle.std.proofs.lemmas.Grind.{get_or_default_zero}
 use Rattle.us_holes.specs.Boards.{Board}
 use Rattle.us_calendar.specs.Occurrences.{Pace}
 use Rattle.us_calendar.specs.Settling.{Row, Outcome, settle_row, after_marks, told_as}
 use Rattle.us_calendar.specs.Calendars.{Ran, run_rows}
 use Rattle.us_calendar.specs.declared.settled.Settled.{Settled}
-use Rattle.us_calendar.specs.Kept.{IsRow, IsQuiet, IsAgenda, key_cmp}
-use Rattle.us_calendar.proofs.KeyLemmas.{at_key, not_at_key, at_itself, no_later}
+use Rattle.us_calendar.specs.Kept.{IsRow, IsQuiet, IsAgenda, IsNoted, IsNotedIn, IsParted, key_of}
+use Rattle.us_calendar.proofs.KeyLemmas.{Put, is_put}
 use Rattle.us_calendar.proofs.RunLemmas.{run_from, run_past, skip_to, run_step, the_some}
 
 set_same : (rows : List Row) (p : ℕ) (row : Row) → p < length rows → slice_get (set rows p row) p ≡ Some row
@@ -38,61 +37,62 @@ within [] p row is = let never : None ≡ Some row = is in cc
 within (first ∷ rows) zero row is = omega arith
 within (first ∷ rows) (suc p) row is = omega (arith, within rows p row is)
 
--- what a set has after one key was taken out, or put in
+-- two keys are one only where round and place are
+pub same_place : (at place now other : ℕ) → place < 2048 → other < 2048 → key_of at place ≡ key_of now other → place ≡ other
+same_place at place now other inside other_inside same = omega (arith, inside, other_inside, same)
 
-was_there : (at place : ℕ) (has mid : ℕ × ℕ → Bool) (q : ℕ × ℕ) →
-    mid q ≡ cond (is_at (key_cmp (at, place)) q) false (has q) → mid q ≡ true →
-    (has q ≡ true) × ((at ≡ q.0) → (place ≡ q.1) → ⊥)
-was_there at place has mid q update is = elim (cases_Bool (is_at (key_cmp (at, place)) q)) [
-  | inl t ↦ let never : true ≡ false = sym is ∙ rw t at update in absurd cc
-  | inr f ↦ (
-    sym (rw f at update) ∙ is,
-    λ same_at same_place.
-        let here : is_at (key_cmp (at, place)) q ≡ true = rw (sym same_at, sym same_place) (at_itself at place) in
-        let never : true ≡ false = sym here ∙ f in absurd cc,
-  )
-]
+same_round : (at place now other : ℕ) → place < 2048 → other < 2048 → key_of at place ≡ key_of now other → at ≡ now
+same_round at place now other inside other_inside same = omega (arith, inside, other_inside, same)
 
-pub is_there : (next place : ℕ) (mid new : ℕ × ℕ → Bool) (q : ℕ × ℕ) →
-    new q ≡ cond (is_at (key_cmp (next, place)) q) true (mid q) → mid q ≡ true → new q ≡ true
-is_there next place mid new q update is = elim (cases_Bool (is_at (key_cmp (next, place)) q)) [
-  | inl t ↦ rw t at update
-  | inr f ↦ rw f at update ∙ is
-]
+-- what is read of the list
+pub first_is : (keys : List ℕ) (at key : ℕ) → at < length keys → key ≡ get_or keys at key → get_or keys at 0 ≡ key
+first_is keys at key inside is = sym (is ∙ get_or_default_zero keys at key inside)
 
 -- how far a round has come, from what it began with
 pub record Going (pace : Pace) (round : ℕ) (old_rows : List Row) (old_board : Board) (old_told : List Settled)
-    (rows : List Row) (board : Board) (told : List Settled) (has : ℕ × ℕ → Bool) : Type 0 where
+    (rows : List Row) (board : Board) (told : List Settled) (keys : List ℕ) (passed count : ℕ) : Type 0 where
   pub from : ℕ
   pub same_rows : (run_from pace round from rows board).rows ≡ (run_rows pace round old_rows old_board).rows
   pub same_board : (run_from pace round from rows board).board ≡ (run_rows pace round old_rows old_board).board
   pub same_told :
       told ++ (run_from pace round from rows board).settled ≡ old_told ++ (run_rows pace round old_rows old_board).settled
-  pub agenda : IsAgenda pace round from rows has
+  pub agenda : IsAgenda pace round from rows keys passed
+  pub parted : IsParted keys count (key_of (round + 1) 0)
+  pub within : passed ≤ count
   pub len : length board.cells ≡ length old_board.cells
   pub known : AllByRecursion IsRow old_rows → AllByRecursion IsRow rows
 
-pub going-starts : (pace : Pace) (round : ℕ) (rows : List Row) (board : Board) (told : List Settled) (has : ℕ × ℕ → Bool) →
-    IsAgenda pace round 0 rows has → Going pace round rows board told rows board told has
-going-starts pace round rows board told has agenda = record {
+pub going-starts : (pace : Pace) (round : ℕ) (rows : List Row) (board : Board) (told : List Settled) (keys : List ℕ)
+    (count : ℕ) → IsAgenda pace round 0 rows keys 0 → IsParted keys count (key_of (round + 1) 0) →
+    Going pace round rows board told rows board told keys 0 count
+going-starts pace round rows board told keys count agenda parted = record {
   from = 0;
   same_rows = refl;
   same_board = refl;
   same_told = refl;
   agenda = agenda;
+  parted = parted;
+  within = omega arith;
   len = refl;
   known = λ all. all;
 }
 
 module _ (pace : Pace) (round : ℕ) (old_rows : List Row) (old_board : Board) (old_told : List Settled)
-    (rows : List Row) (board : Board) (told : List Settled) (has : ℕ × ℕ → Bool)
-    (g : Going pace round old_rows old_board old_told rows board told has) where
+    (rows : List Row) (board : Board) (told : List Settled) (keys : List ℕ) (passed count : ℕ)
+    (g : Going pace round old_rows old_board old_told rows board told keys passed count) where
   -- Where nothing more is noted for the round, it is over:
-  module _ (none : (at place : ℕ) → has (at, place) ≡ true → round < at) where
+  module _ (all : passed ≡ count) where
+    none : (at place : ℕ) → place < 2048 → IsNoted keys passed (key_of at place) → round < at
+    none at place inside is =
+        let late = g.parted.above is.0 (omega (arith, all, is.1)) is.2 in
+        omega (arith, late, is.3, inside)
+
     rest_quiet : (i : ℕ) (row : Row) → g.from ≤ i → slice_get rows i ≡ Some row → IsQuiet pace round row
     rest_quiet i row low is =
         let noted = g.agenda.quiet i row is in
-        noted.2 round (omega arith) (λ before. absurd (omega (arith, low, before))) (none noted.0 i noted.1)
+        let inside = within rows i row is in
+        noted.2 round (omega arith) (λ before. absurd (omega (arith, low, before)))
+        (none noted.0 i (omega (arith, inside, g.agenda.few)) noted.1)
 
     nothing_left : run_from pace round g.from rows board ≡ record { rows = rows; board = board; settled = [] }
     nothing_left = elim (cases_lt g.from (length rows)) [
@@ -112,44 +112,90 @@ module _ (pace : Pace) (round : ℕ) (old_rows : List Row) (old_board : Board) (
     pub ends_told : told ≡ old_told ++ (run_rows pace round old_rows old_board).settled
     ends_told = sym (append-nil told) ∙ sym (ap (λ ran. told ++ ran.settled) nothing_left) ∙ g.same_told
 
-    pub ends_agenda : IsAgenda pace (round + 1) 0 rows has
+    left_long : length (drop count keys) + count ≡ length keys
+    left_long = let inside = g.parted.inside in omega (arith, length-drop count keys, inside)
+
+    left_at : (i : ℕ) → get_or (drop count keys) i 0 ≡ get_or keys (count + i) 0
+    left_at i = get_or-drop count keys i 0
+
+    was_noted : (key : ℕ) → IsNoted (drop count keys) 0 key → IsNoted keys passed key
+    was_noted key is =
+        (count + is.0, omega (arith, all), omega (arith, is.2, left_long), sym (left_at is.0) ∙ is.3)
+
+    still_noted : (key : ℕ) → IsNoted keys passed key → IsNoted (drop count keys) 0 key
+    still_noted key is =
+        let behind : count + (is.0 - count) ≡ is.0 = omega (arith, is.1, all) in (
+          is.0 - count,
+          omega arith,
+          omega (arith, is.2, left_long, is.1, all),
+          left_at (is.0 - count) ∙ ap (λ i. get_or keys i 0) behind ∙ is.3,
+        )
+
+    pub ends_agenda : IsAgenda pace (round + 1) 0 rows (drop count keys) 0
     ends_agenda = record {
-      noted = λ at place is.
-          let old = g.agenda.noted at place is in
-          let later = none at place is in
-          (old.0, omega arith, λ _. omega arith);
+      few = g.agenda.few;
+      rising = λ i j low inside.
+          let is = g.agenda.rising (count + i) (count + j) (omega (arith, low)) (omega (arith, inside, left_long)) in
+          omega (arith, is, left_at i, left_at j);
+      noted = λ at place inside is.
+          let was = was_noted (key_of at place) is in
+          let old = g.agenda.noted at place inside was in
+          let later = none at place inside was in
+          (old.0, omega (arith, later), λ _. omega arith);
       quiet = λ place row is.
-          let old = g.agenda.quiet place row is in
-          (old.0, old.1, λ earlier low _ high. old.2 earlier (omega (arith, low)) (λ _. omega (arith, low)) high);
+          let old = g.agenda.quiet place row is in (
+            old.0,
+            still_noted (key_of old.0 place) old.1,
+            λ earlier low _ high. old.2 earlier (omega (arith, low)) (λ _. omega (arith, low)) high,
+          );
     }
 
+  pub place_within : (key place : ℕ) → passed < count → get_or keys passed 0 ≡ key → place < 2048 →
+      (at : ℕ) × (key_of at place ≡ key) → place < length rows
+  place_within key place more is inside at =
+      (g.agenda.noted at.0 place inside
+      (passed, omega arith, omega (arith, more, g.parted.inside), is ∙ sym at.1)).0
+
   -- else the first that is noted has its turn
-  module _ (at place : ℕ) (row row_now : Row) (now : Board) (told_now : List Settled) (next : ℕ)
-      (mid new : ℕ × ℕ → Bool) (due : at ≤ round) (member : has (at, place) ≡ true)
-      (least : (q : ℕ × ℕ) → has q ≡ true → is_gt (key_cmp (at, place) q) ≡ false)
-      (took : (q : ℕ × ℕ) → mid q ≡ cond (is_at (key_cmp (at, place)) q) false (has q))
-      (put : (q : ℕ × ℕ) → new q ≡ cond (is_at (key_cmp (next, place)) q) true (mid q))
+  module _ (key place : ℕ) (row row_now : Row) (now : Board) (told_now : List Settled) (again : ℕ)
+      (new : List ℕ) (more : passed < count) (key_is : get_or keys passed 0 ≡ key) (place_in : place < 2048)
+      (has_place : (at : ℕ) × (key_of at place ≡ key))
+      (put : IsNotedIn keys (key_of again place) new)
       (row_is : slice_get rows place ≡ Some row)
       (row_now_is : row_now ≡ after_marks row (settle_row pace round row board).marks)
       (now_is : now ≡ (settle_row pace round row board).board)
       (told_is : told_now ≡ told ++ map (told_as row.entry) (settle_row pace round row board).marks)
-      (later : round + 1 ≤ next)
-      (quiet : (r : ℕ) → r < next → round + 1 ≤ r → IsQuiet pace r row_now) where
-    turn : (place < length rows) × (round ≤ at) × (at ≡ round → g.from ≤ place)
-    turn = g.agenda.noted at place member
+      (later : round + 1 ≤ again) (quiet : (r : ℕ) → r < again → round + 1 ≤ r → IsQuiet pace r row_now) where
+    here : IsNoted keys passed (key_of has_place.0 place)
+    here = (passed, omega arith, omega (arith, more, g.parted.inside), key_is ∙ sym has_place.1)
 
-    is_now : at ≡ round
-    is_now = let low = turn.1 in omega arith
+    turn : (place < length rows) × (round ≤ has_place.0) × (has_place.0 ≡ round → g.from ≤ place)
+    turn = g.agenda.noted has_place.0 place place_in here
+
+    is_now : has_place.0 ≡ round
+    is_now =
+        let low = turn.1 in
+        let below = g.parted.below passed more in
+        omega (arith, low, below, key_is, has_place.1)
+
+    -- the key of what is noted from here on is no smaller
+    no_smaller : (q : ℕ) → IsNoted keys passed q → key ≤ q
+    no_smaller q is = elim (cases_eq passed is.0) [
+      | inl same ↦
+          let level : get_or keys passed 0 ≡ get_or keys is.0 0 = ap (λ i. get_or keys i 0) same in
+          omega (arith, level, key_is, is.3)
+      | inr other ↦
+          let above = g.agenda.rising passed is.0 (omega (arith, is.1, other)) is.2 in
+          omega (arith, above, key_is, is.3)
+    ]
 
     passed_quiet : (i : ℕ) (other : Row) → g.from ≤ i → i < place → slice_get rows i ≡ Some other →
         IsQuiet pace round other
     passed_quiet i other low before is =
         let noted = g.agenda.quiet i other is in
-        let after : round ≤ noted.0 = (g.agenda.noted noted.0 i noted.1).1 in
-        let not_now : round < noted.0 = elim (no_later at place (noted.0, i) (least (noted.0, i) noted.1)) [
-          | inl l ↦ omega (arith, l, is_now)
-          | inr e ↦ absurd (omega (arith, e.1, before))
-        ] in
+        let after : round ≤ noted.0 = (g.agenda.noted noted.0 i (omega (arith, before, place_in)) noted.1).1 in
+        let above = no_smaller (key_of noted.0 i) noted.1 in
+        let not_now : round < noted.0 = omega (arith, after, above, has_place.1, is_now, before) in
         noted.2 round (omega arith) (λ early. absurd (omega (arith, low, early))) not_now
 
     step : run_from pace round g.from rows board ≡
@@ -162,71 +208,87 @@ module _ (pace : Pace) (round : ℕ) (old_rows : List Row) (old_board : Board) (
         })
     step =
         let low : g.from ≤ place = turn.2 is_now in
-        let here : g.from + (place - g.from) ≡ place = omega arith in
+        let there : g.from + (place - g.from) ≡ place = omega arith in
         skip_to pace round (place - g.from) g.from rows board (omega (arith, turn.0))
         (λ i other least_i below is. passed_quiet i other least_i (omega (arith, below)) is) ∙
-        ap (λ p. run_from pace round p rows board) here ∙ run_step pace round place rows row board row_is
+        ap (λ p. run_from pace round p rows board) there ∙ run_step pace round place rows row board row_is
 
     same : run_from pace round (suc place) (set rows place row_now) now ≡
         run_from pace round (suc place) (set rows place (after_marks row (settle_row pace round row board).marks))
         (settle_row pace round row board).board
     same = ap₂ (λ r b. run_from pace round (suc place) (set rows place r) b) row_now_is now_is
 
-    noted_now : (at_now q : ℕ) → new (at_now, q) ≡ true →
-        (q < length (set rows place row_now)) × (round ≤ at_now) × (at_now ≡ round → suc place ≤ q)
-    noted_now at_now q is = elim (cases_Bool (is_at (key_cmp (next, place)) (at_now, q))) [
+    noted_now : Put keys (passed + 1) (key_of again place) new
+    noted_now =
+        let inside = g.parted.inside in
+        is_put keys new (passed + 1) (key_of again place) g.agenda.rising (omega (arith, more, inside))
+        (λ i low.
+        let below = g.parted.below i (omega (arith, low, more)) in
+        omega (arith, below, later))
+        put
+
+    from_here : (q : ℕ) → IsNoted keys (passed + 1) q → IsNoted keys passed q
+    from_here q is = (is.0, omega (arith, is.1), is.2, is.3)
+
+    is_above : (q : ℕ) → IsNoted keys (passed + 1) q → key < q
+    is_above q is =
+        let above = g.agenda.rising passed is.0 (omega (arith, is.1)) is.2 in
+        omega (arith, above, key_is, is.3)
+
+    noted_new : (at q : ℕ) → q < 2048 → IsNoted new (passed + 1) (key_of at q) →
+        (q < length (set rows place row_now)) × (round ≤ at) × (at ≡ round → suc place ≤ q)
+    noted_new at q inside is = elim (noted_now.was (key_of at q) is) [
       | inl t ↦
-          let key = at_key next place (at_now, q) t in (
-            omega (arith, length-set rows place row_now, turn.0, key.1),
-            omega (arith, key.0, later),
-            λ e. absurd (omega (arith, key.0, later, e)),
+          let at_is = same_round at q again place inside place_in t in
+          let q_is = same_place at q again place inside place_in t in (
+            omega (arith, length-set rows place row_now, turn.0, q_is),
+            omega (arith, at_is, later),
+            λ e. absurd (omega (arith, at_is, later, e)),
           )
-      | inr f ↦
-          let update = put (at_now, q) in
-          let is_mid : mid (at_now, q) ≡ true = sym (rw f at update) ∙ is in
-          let was = was_there at place has mid (at_now, q) (took (at_now, q)) is_mid in
-          let old = g.agenda.noted at_now q was.0 in (
+      | inr was ↦
+          let old = g.agenda.noted at q inside (from_here (key_of at q) was) in
+          let above = is_above (key_of at q) was in (
             omega (arith, length-set rows place row_now, old.0),
             old.1,
-            λ e. elim (no_later at place (at_now, q) (least (at_now, q) was.0)) [
-              | inl l ↦ absurd (omega (arith, l, e, is_now))
-              | inr low ↦ elim (cases_lt place q) [
-                | inl above ↦ above
-                | inr here ↦ absurd (was.1 low.0 (omega (arith, here, low.1)))
-              ]
-            ],
+            λ e. omega (arith, above, has_place.1, is_now, e),
           )
     ]
 
-    quiet_now : (q : ℕ) (other : Row) → slice_get (set rows place row_now) q ≡ Some other →
-        (noted : ℕ) × (new (noted, q) ≡ true) × ((earlier : ℕ) → round ≤ earlier →
+    quiet_new : (q : ℕ) (other : Row) → slice_get (set rows place row_now) q ≡ Some other →
+        (noted : ℕ) × IsNoted new (passed + 1) (key_of noted q) × ((earlier : ℕ) → round ≤ earlier →
         (q < suc place → round < earlier) → earlier < noted → IsQuiet pace earlier other)
-    quiet_now q other is = elim (cases_eq place q) [
-      | inl here ↦
+    quiet_new q other is = elim (cases_eq place q) [
+      | inl place_is ↦
           let found : row_now ≡ other =
           the_some row_now other (sym (set_same rows place row_now turn.0) ∙
-          ap (slice_get (set rows place row_now)) here ∙ is) in
-          let at_next = subst (λ p. is_at (key_cmp (next, place)) (next, p) ≡ true) here (at_itself next place) in (
-            next,
-            put (next, q) ∙ ap (λ b. cond b true (mid (next, q))) at_next,
-            λ earlier low early high.
-                let after = early (omega (arith, here)) in
+          ap (slice_get (set rows place row_now)) place_is ∙ is) in (
+            again,
+            subst (λ p. IsNoted new (passed + 1) (key_of again p)) place_is noted_now.now,
+            λ earlier low before high.
+                let after = before (omega (arith, place_is)) in
                 subst (IsQuiet pace earlier) found (quiet earlier high (omega (arith, after))),
           )
       | inr elsewhere ↦
-          let old = g.agenda.quiet q other (sym (set_other rows place q row_now elsewhere) ∙ is) in
-          let stays : mid (old.0, q) ≡ true =
-          took (old.0, q) ∙ ap (λ b. cond b false (has (old.0, q))) (not_at_key at place (old.0, q) (inr elsewhere)) ∙
-          old.1 in (
+          let was = sym (set_other rows place q row_now elsewhere) ∙ is in
+          let old = g.agenda.quiet q other was in
+          let inside = within rows q other was in
+          let index = old.1 in
+          let further : passed + 1 ≤ index.0 = elim (cases_eq passed index.0) [
+            | inr not ↦ omega (arith, index.1, not)
+            | inl first ↦
+                let level : get_or keys passed 0 ≡ get_or keys index.0 0 = ap (λ i. get_or keys i 0) first in
+                let keys_same : key_of has_place.0 place ≡ key_of old.0 q = omega (arith, level, key_is, index.3, has_place.1) in
+                absurd (elsewhere (same_place has_place.0 place old.0 q place_in (omega (arith, inside, g.agenda.few)) keys_same))
+          ] in (
             old.0,
-            is_there next place mid new (old.0, q) (put (old.0, q)) stays,
-            λ earlier low early high.
-                old.2 earlier low (λ before. early (omega (arith, before, turn.2 is_now))) high,
+            noted_now.still (key_of old.0 q) (index.0, further, index.2, index.3),
+            λ earlier low before high.
+                old.2 earlier low (λ first. before (omega (arith, first, turn.2 is_now))) high,
           )
     ]
 
     pub going-step : length now.cells ≡ length board.cells → IsRow row_now →
-        Going pace round old_rows old_board old_told (set rows place row_now) now told_now new
+        Going pace round old_rows old_board old_told (set rows place row_now) now told_now new (passed + 1) count
     going-step len is_row =
         let marks = map (told_as row.entry) (settle_row pace round row board).marks in
         let rest : Ran =
@@ -239,7 +301,14 @@ module _ (pace : Pace) (round : ℕ) (old_rows : List Row) (old_board : Board) (
           same_told =
               ap (λ ran. told_now ++ ran.settled) same ∙ ap (λ ts. ts ++ rest.settled) told_is ∙
               append_assoc told marks rest.settled ∙ sym (ap (λ ran. told ++ ran.settled) step) ∙ g.same_told;
-          agenda = record { noted = noted_now; quiet = quiet_now };
+          agenda = record {
+            few = omega (arith, length-set rows place row_now, g.agenda.few);
+            rising = noted_now.rising;
+            noted = noted_new;
+            quiet = quiet_new;
+          };
+          parted = noted_now.parts count (key_of (round + 1) 0) g.parted (omega (arith, later));
+          within = omega (arith, more);
           len = len ∙ g.len;
           known = λ all. set_known rows place row_now (g.known all) is_row;
         }

@@ -1,108 +1,231 @@
--- What is noted: rounds and places, in the order of their keys.
-use Rattle.std.proofs.Common.{◌≡◌, ◌≢◌, ℕ, ◌+◌, ◌<◌, ◌≤◌, ◌⊎◌, nat_le, true, false, cond, List, [], ◌∷◌, nat_cmp, Less, Equal, Greater, refl, ap, ◌∙◌, inl, inr, le-ltb, lt-ltb, eq-eqb, ne_eqb, arith}
-use Rattle.std.specs.Ordering.{is_gt, match_ordering}
-use Rattle.std.specs.declared.cmp.Ordering.{Ordering}
-use Rattle.std.specs.BTreeMap.{is_at}
-use Rattle.std.specs.BTreeSet.{insert_key}
-use Rattle.std.proofs.lemmas.Bool.{cases_order, cases_Bool, lt-leb, le-leb}
-use Rattle.us_calendar.specs.Kept.{key_cmp}
+-- What is noted: numbers that rise.
+use Rattle.std.proofs.Common.{◌≡◌, ℕ, ◌+◌, ◌-◌, ◌<◌, ◌≤◌, ◌⊎◌, List, [], length, get_or, Ok, Err, refl, ap, sym, ◌∙◌, inl, inr, subst, arith}
+use Rattle.std.specs.List.{insert}
+use Rattle.std.specs.List.Sorted.{IsBinarySearchResult}
+use Rattle.std.specs.Ordering.{nat_cmp}
+use Rattle.std.proofs.lemmas.Bool.{cases_lt, cases_eq, cases_order}
+use Rattle.std.proofs.lemmas.List.Sorted.{searched}
+use Rattle.std.proofs.lemmas.List.Edits.{length-insert, get_or-insert_at, get_or-insert_below, get_or-insert_above}
+use Rattle.us_calendar.specs.Kept.{IsRising, IsNoted, IsNotedIn, IsParted}
 
--- how two numbers compare
-pub order_of : (x y : ℕ) →
-    ((x < y) × (nat_cmp x y ≡ Less)) ⊎ (((x ≡ y) × (nat_cmp x y ≡ Equal)) ⊎ ((y < x) × (nat_cmp x y ≡ Greater)))
-order_of x y = elim (cases_order x y) [
-  | inl e ↦ inr (inl (e, rw (le-ltb x y (omega (arith, e)), eq-eqb x y e) refl))
-  | inr other ↦ elim other [
-    | inl l ↦ inl (l, rw (lt-ltb x y l) refl)
-    | inr l ↦ inr (inr (l, rw (le-ltb x y (omega (arith, l)), ne_eqb x y (λ e. omega (arith, l, e))) refl))
-  ]
+pub none_rise : IsRising []
+none_rise = λ i j low inside. absurd (omega (arith, inside))
+
+pub none_noted_in : (first key : ℕ) → IsNoted [] first key → ⊥
+none_noted_in first key is = absurd (omega (arith, is.2))
+
+-- what a search among them finds
+no_fall : (keys : List ℕ) → IsRising keys → (i j : ℕ) → i ≤ j → j < length keys → get_or keys i 0 ≤ get_or keys j 0
+no_fall keys rising i j low inside = elim (cases_eq i j) [
+  | inl same ↦
+      let level : get_or keys i 0 ≡ get_or keys j 0 = ap (λ k. get_or keys k 0) same in
+      omega (arith, level)
+  | inr other ↦ let above = rising i j (omega (arith, low, other)) inside in omega (arith, above)
 ]
 
--- one key is the other where both numbers are
-pub at_key : (at place : ℕ) (q : ℕ × ℕ) → is_at (key_cmp (at, place)) q ≡ true → (at ≡ q.0) × (place ≡ q.1)
-at_key at place q h = elim (order_of at q.0) [
-  | inl l ↦ let never : false ≡ true = rw l.1 at h in absurd cc
-  | inr other ↦ elim other [
-    | inr l ↦ let never : false ≡ true = rw l.1 at h in absurd cc
-    | inl e ↦ elim (order_of place q.1) [
-      | inl l ↦ let never : false ≡ true = rw (e.1, l.1) at h in absurd cc
-      | inr more ↦ elim more [
-        | inr l ↦ let never : false ≡ true = rw (e.1, l.1) at h in absurd cc
-        | inl f ↦ (e.0, f.0)
+pub found : (keys : List ℕ) (key at : ℕ) → IsRising keys → IsBinarySearchResult (λ y. nat_cmp y key) keys (Ok at) →
+    IsNoted keys 0 key × IsParted keys at key
+found keys key at rising answer =
+    let is = searched keys key (Ok at) answer (no_fall keys rising) in (
+      (at, omega arith, is.0, is.1),
+      record {
+        inside = omega (arith, is.0);
+        below = λ i low. let above = rising i at low is.0 in omega (arith, above, is.1);
+        above = λ i high inside. let least = no_fall keys rising at i high inside in omega (arith, least, is.1);
+      },
+    )
+
+pub not_found : (keys : List ℕ) (key at : ℕ) → IsRising keys →
+    IsBinarySearchResult (λ y. nat_cmp y key) keys (Err at) → IsParted keys at key × (IsNoted keys 0 key → ⊥)
+not_found keys key at rising answer =
+    let is = searched keys key (Err at) answer (no_fall keys rising) in (
+      record {
+        inside = is.0;
+        below = is.1;
+        above = λ i high inside. let high = is.2 i high inside in omega (arith, high);
+      },
+      λ noted. elim (cases_lt noted.0 at) [
+        | inl low ↦ let below = is.1 noted.0 low in absurd (omega (arith, below, noted.3))
+        | inr high ↦ let above = is.2 noted.0 high noted.2 in absurd (omega (arith, above, noted.3))
+      ],
+    )
+
+-- a number that comes between those below it and those above it
+module _ (old : List ℕ) (at key : ℕ) (rising : IsRising old) (parted : IsParted old at key)
+    (fresh : IsNoted old 0 key → ⊥) where
+  long : length (insert old at key) ≡ length old + 1
+  long = length-insert old at key parted.inside
+
+  here : get_or (insert old at key) at 0 ≡ key
+  here = get_or-insert_at old at key 0 parted.inside
+
+  before : (i : ℕ) → i < at → get_or (insert old at key) i 0 ≡ get_or old i 0
+  before i low = get_or-insert_below old at key 0 i low parted.inside
+
+  behind : (i : ℕ) → at < i → get_or (insert old at key) i 0 ≡ get_or old (i - 1) 0
+  behind i high =
+      let next : i - 1 + 1 ≡ i = omega (arith, high) in
+      subst (λ k. get_or (insert old at key) k 0 ≡ get_or old (i - 1) 0) next
+      (get_or-insert_above old at key 0 (i - 1) (omega (arith, high)) parted.inside)
+
+  above : (i : ℕ) → at ≤ i → i < length old → key < get_or old i 0
+  above i high inside =
+      let least = parted.above i high inside in
+      elim (cases_order key (get_or old i 0)) [
+        | inl same ↦ absurd (fresh (i, omega arith, inside, sym same))
+        | inr other ↦ elim other [
+          | inl low ↦ low
+          | inr more ↦ absurd (omega (arith, least, more))
+        ]
+      ]
+
+  -- what stands in the new list at a place, from the old one
+  below_key : (i : ℕ) → i < at → get_or (insert old at key) i 0 < key
+  below_key i low =
+      let same = before i low in
+      let is = parted.below i low in
+      omega (arith, same, is)
+
+  above_key : (i : ℕ) → at < i → i < length (insert old at key) → key < get_or (insert old at key) i 0
+  above_key i high inside =
+      let same = behind i high in
+      let is = above (i - 1) (omega (arith, high)) (omega (arith, inside, long, high)) in
+      omega (arith, same, is)
+
+  insert_rises : IsRising (insert old at key)
+  insert_rises = λ i j low inside. elim (cases_order j at) [
+    | inl j_here ↦
+        let first = below_key i (omega (arith, low, j_here)) in
+        let second : get_or (insert old at key) j 0 ≡ key = ap (λ k. get_or (insert old at key) k 0) j_here ∙ here in
+        omega (arith, first, second)
+    | inr other ↦ elim other [
+      | inl j_low ↦
+          let first = before i (omega (arith, low, j_low)) in
+          let second = before j j_low in
+          let is = rising i j low (omega (arith, j_low, parted.inside)) in
+          omega (arith, first, second, is)
+      | inr j_high ↦ elim (cases_order i at) [
+        | inl i_here ↦
+            let first : get_or (insert old at key) i 0 ≡ key = ap (λ k. get_or (insert old at key) k 0) i_here ∙ here in
+            let second = above_key j j_high inside in
+            omega (arith, first, second)
+        | inr more ↦ elim more [
+          | inl i_low ↦
+              let first = below_key i i_low in
+              let second = above_key j j_high inside in
+              omega (arith, first, second)
+          | inr i_high ↦
+              let first = behind i i_high in
+              let second = behind j j_high in
+              let is = rising (i - 1) (j - 1) (omega (arith, low, i_high)) (omega (arith, inside, long, j_high)) in
+              omega (arith, first, second, is)
+        ]
       ]
     ]
   ]
-]
 
-pub not_at_key : (at place : ℕ) (q : ℕ × ℕ) → (at ≢ q.0) ⊎ (place ≢ q.1) → is_at (key_cmp (at, place)) q ≡ false
-not_at_key at place q h = elim (cases_Bool (is_at (key_cmp (at, place)) q)) [
-  | inr f ↦ f
-  | inl t ↦
-      let same = at_key at place q t in
-      elim h [
-        | inl other ↦ absurd (other same.0)
-        | inr other ↦ absurd (other same.1)
-      ]
-]
-
-pub at_itself : (at place : ℕ) → is_at (key_cmp (at, place)) (at, place) ≡ true
-at_itself at place = elim (order_of at at) [
-  | inl l ↦ absurd (omega (arith, l.0))
-  | inr other ↦ elim other [
-    | inr l ↦ absurd (omega (arith, l.0))
-    | inl e ↦ elim (order_of place place) [
-      | inl l ↦ absurd (omega (arith, l.0))
-      | inr more ↦ elim more [
-        | inr l ↦ absurd (omega (arith, l.0))
-        | inl f ↦ rw (e.1, f.1) refl
-      ]
+  insert_was : (first q : ℕ) → IsNoted (insert old at key) first q → first ≤ at →
+      (q ≡ key) ⊎ IsNoted old first q
+  insert_was first q is low = elim (cases_order is.0 at) [
+    | inl i_here ↦ inl (sym is.3 ∙ ap (λ k. get_or (insert old at key) k 0) i_here ∙ here)
+    | inr other ↦ elim other [
+      | inl i_low ↦ inr (is.0, is.1, omega (arith, i_low, parted.inside), sym (before is.0 i_low) ∙ is.3)
+      | inr i_high ↦ inr (
+        is.0 - 1,
+        omega (arith, low, i_high),
+        omega (arith, is.2, long, i_high),
+        sym (behind is.0 i_high) ∙ is.3,
+      )
     ]
   ]
-]
 
--- a key that is not above another is of an earlier round, or of the same and of no later place
-pub no_later : (at place : ℕ) (q : ℕ × ℕ) → is_gt (key_cmp (at, place) q) ≡ false →
-    (at < q.0) ⊎ ((at ≡ q.0) × (place ≤ q.1))
-no_later at place q h = elim (order_of at q.0) [
-  | inl l ↦ inl l.0
-  | inr other ↦ elim other [
-    | inr l ↦ let never : true ≡ false = rw l.1 at h in absurd cc
-    | inl e ↦ elim (order_of place q.1) [
-      | inl l ↦ inr (e.0, omega (arith, l.0))
-      | inr more ↦ elim more [
-        | inr l ↦ let never : true ≡ false = rw (e.1, l.1) at h in absurd cc
-        | inl f ↦ inr (e.0, omega (arith, f.0))
-      ]
-    ]
+  insert_still : (first q : ℕ) → IsNoted old first q → IsNoted (insert old at key) first q
+  insert_still first q is = elim (cases_lt is.0 at) [
+    | inl low ↦ (is.0, is.1, omega (arith, is.2, long), before is.0 low ∙ is.3)
+    | inr high ↦ (
+      is.0 + 1,
+      omega (arith, is.1),
+      omega (arith, is.2, long),
+      get_or-insert_above old at key 0 is.0 high parted.inside ∙ is.3,
+    )
   ]
+
+  insert_parts : (count end : ℕ) → IsParted old count end → end ≤ key → IsParted (insert old at key) count end
+  insert_parts count end parts late =
+      let low : count ≤ at = elim (cases_lt at count) [
+        | inr fine ↦ fine
+        | inl more ↦
+            let below = parts.below at more in
+            let high = above at (omega arith) (omega (arith, more, parts.inside)) in
+            absurd (omega (arith, below, high, late))
+      ] in
+      record {
+        inside = omega (arith, parts.inside, long);
+        below = λ i less.
+            let same = before i (omega (arith, less, low)) in
+            let is = parts.below i less in
+            omega (arith, same, is);
+        above = λ i more inside. elim (cases_order i at) [
+          | inl i_here ↦
+              let same : get_or (insert old at key) i 0 ≡ key = ap (λ k. get_or (insert old at key) k 0) i_here ∙ here in
+              omega (arith, same, late)
+          | inr other ↦ elim other [
+            | inl i_low ↦
+                let same = before i i_low in
+                let is = parts.above i more (omega (arith, i_low, parted.inside)) in
+                omega (arith, same, is)
+            | inr i_high ↦
+                let is = above_key i i_high inside in
+                omega (arith, is, late)
+          ]
+        ];
+      }
+
+-- what a list has once a number is noted in it that is above those before `first`
+pub record Put (old : List ℕ) (first key : ℕ) (new : List ℕ) : Type 0 where
+  pub rising : IsRising new
+  pub was : (q : ℕ) → IsNoted new first q → (q ≡ key) ⊎ IsNoted old first q
+  pub still : (q : ℕ) → IsNoted old first q → IsNoted new first q
+  pub now : IsNoted new first key
+  pub inside : first ≤ length new
+  pub same : (i : ℕ) → i < first → get_or new i 0 ≡ get_or old i 0
+  pub parts : (count end : ℕ) → IsParted old count end → end ≤ key → IsParted new count end
+
+pub is_put : (old new : List ℕ) (first key : ℕ) → IsRising old → first ≤ length old →
+    ((i : ℕ) → i < first → get_or old i 0 < key) → IsNotedIn old key new → Put old first key new
+is_put old new first key rising inside low put = elim put [
+  | inl there ↦
+      let is = there.0 in
+      let late : first ≤ is.0 = elim (cases_lt is.0 first) [
+        | inr fine ↦ fine
+        | inl early ↦ let less = low is.0 early in absurd (omega (arith, less, is.3))
+      ] in
+      subst (Put old first key) (sym there.1) (record {
+        rising = rising;
+        was = λ q noted. inr noted;
+        still = λ q noted. noted;
+        now = (is.0, late, is.2, is.3);
+        inside = inside;
+        same = λ i less. refl;
+        parts = λ count end parts late. parts;
+      })
+  | inr fresh ↦
+      let at = fresh.0 in
+      let parted = fresh.1 in
+      let late : first ≤ at = elim (cases_lt at first) [
+        | inr fine ↦ fine
+        | inl early ↦
+            let less = low at early in
+            let high = above old at key rising parted fresh.3 at (omega arith) (omega (arith, early, inside)) in
+            absurd (omega (arith, less, high))
+      ] in
+      subst (Put old first key) (sym fresh.2) (record {
+        rising = insert_rises old at key rising parted fresh.3;
+        was = λ q noted. insert_was old at key rising parted fresh.3 first q noted late;
+        still = λ q noted. insert_still old at key rising parted fresh.3 first q noted;
+        now = (at, late, omega (arith, parted.inside, long old at key rising parted fresh.3), here old at key rising parted fresh.3);
+        inside = omega (arith, inside, long old at key rising parted fresh.3);
+        same = λ i less. before old at key rising parted fresh.3 i (omega (arith, less, late));
+        parts = λ count end parts bound. insert_parts old at key rising parted fresh.3 count end parts bound;
+      })
 ]
-
--- how many keys are due by a round
-abbrev pub due_by : ℕ → List (ℕ × ℕ) → ℕ
-due_by round [] = 0
-due_by round (k ∷ ks) = cond (nat_le k.0 round) 1 0 + due_by round ks
-
-insert_step : (o : Ordering) (round at place : ℕ) (k : ℕ × ℕ) (ks more : List (ℕ × ℕ)) → round < at →
-    due_by round more ≤ due_by round ks →
-    due_by round (match_ordering o ((at, place) ∷ k ∷ ks) (k ∷ ks) (k ∷ more)) ≤ due_by round (k ∷ ks)
-insert_step Less round at place k ks more later h = rw (lt-leb at round later) (omega arith)
-insert_step Equal round at place k ks more later h = omega arith
-insert_step Greater round at place k ks more later h = omega (arith, h)
-
--- a later one more adds none
-pub due_by-insert : (round at place : ℕ) (ks : List (ℕ × ℕ)) → round < at →
-    due_by round (insert_key key_cmp ks (at, place)) ≤ due_by round ks
-due_by-insert round at place [] later = rw (lt-leb at round later) (omega arith)
-due_by-insert round at place (k ∷ ks) later =
-    insert_step (key_cmp (at, place) k) round at place k ks (insert_key key_cmp ks (at, place)) later
-    (due_by-insert round at place ks later)
-
--- and one of this round counts
-pub due_by-smaller : (round next place : ℕ) (key : ℕ × ℕ) (olds mids news : List (ℕ × ℕ)) → key.0 ≤ round →
-    olds ≡ key ∷ mids → news ≡ insert_key key_cmp mids (next, place) → round < next →
-    due_by round news < due_by round olds
-due_by-smaller round next place key olds mids news due took put later =
-    let more = due_by-insert round next place mids later in
-    let one : due_by round olds ≡ 1 + due_by round mids = ap (due_by round) took ∙ rw (le-leb key.0 round due) refl in
-    let same : due_by round news ≡ due_by round (insert_key key_cmp mids (next, place)) = ap (due_by round) put in
-    omega arith

@@ -1,15 +1,13 @@
 -- How entries are listed and noted before round 0.
-use Rattle.std.proofs.Common.{◌≡◌, ℕ, zero, suc, ◌+◌, ◌<◌, ◌≤◌, ◌⊎◌, Bool, true, false, cond, List, [], ◌∷◌, ◌++◌, length, Some, None, slice_get, get_or, map, drop, add-one, drop-cons, append_assoc, refl, ap, sym, ◌∙◌, inl, inr, subst, arith}
-use Rattle.std.specs.BTreeMap.{is_at}
-use Rattle.std.proofs.lemmas.Bool.{cases_Bool}
+use Rattle.std.proofs.Common.{◌≡◌, ℕ, zero, suc, ◌+◌, ◌^◌, ◌<◌, ◌≤◌, ◌⊎◌, List, [], ◌∷◌, ◌++◌, length, Some, None, slice_get, get_or, map, min, drop, add-one, drop-cons, append_assoc, refl, ap, sym, ◌∙◌, inl, inr, subst, arith}
 use Rattle.std.proofs.lemmas.List.{length-append}
 use Rattle.us_calendar.specs.Entries.{Entry}
 use Rattle.us_calendar.specs.Occurrences.{Pace}
 use Rattle.us_calendar.specs.Settling.{Row}
-use Rattle.us_calendar.specs.Kept.{IsQuiet, IsAgenda, key_cmp}
-use Rattle.us_calendar.proofs.KeyLemmas.{at_key, at_itself}
+use Rattle.us_calendar.specs.Kept.{IsQuiet, IsAgenda, IsNoted, IsNotedIn, key_of}
+use Rattle.us_calendar.proofs.KeyLemmas.{is_put}
 use Rattle.us_calendar.proofs.RunLemmas.{the_some}
-use Rattle.us_calendar.proofs.AgendaLemmas.{is_there}
+use Rattle.us_calendar.proofs.AgendaLemmas.{same_place}
 
 found_in : (rows : List Row) (row other : Row) (p : ℕ) → slice_get (rows ++ row ∷ []) p ≡ Some other →
     (slice_get rows p ≡ Some other) ⊎ ((length rows ≡ p) × (row ≡ other))
@@ -21,38 +19,42 @@ found_in (first ∷ rows) row other (suc p) is = elim (found_in rows row other p
   | inr last ↦ inr (ap suc last.0, last.1)
 ]
 
-pub none_noted : (pace : Pace) (has : ℕ × ℕ → Bool) → ((q : ℕ × ℕ) → has q ≡ false) → IsAgenda pace 0 0 [] has
-none_noted pace has none = record {
-  noted = λ at place is. let never : false ≡ true = sym (none (at, place)) ∙ is in absurd cc;
+pub none_noted : (pace : Pace) → IsAgenda pace 0 0 [] [] 0
+none_noted pace = record {
+  few = omega arith;
+  rising = λ i j low inside. absurd (omega (arith, inside));
+  noted = λ at place inside is. absurd (omega (arith, is.2));
   quiet = λ place row is. let never : None ≡ Some row = is in absurd cc;
 }
 
-pub one_noted : (pace : Pace) (rows : List Row) (row : Row) (at : ℕ) (has new : ℕ × ℕ → Bool) →
-    IsAgenda pace 0 0 rows has → ((earlier : ℕ) → earlier < at → 0 ≤ earlier → IsQuiet pace earlier row) →
-    ((q : ℕ × ℕ) → new q ≡ cond (is_at (key_cmp (at, length rows)) q) true (has q)) →
-    IsAgenda pace 0 0 (rows ++ row ∷ []) new
-one_noted pace rows row at has new agenda quiet put =
+pub one_noted : (pace : Pace) (rows : List Row) (row : Row) (at : ℕ) (keys new : List ℕ) → length rows < 1280 →
+    IsAgenda pace 0 0 rows keys 0 → ((earlier : ℕ) → earlier < at → 0 ≤ earlier → IsQuiet pace earlier row) →
+    IsNotedIn keys (key_of (min at (2 ^ 32)) (length rows)) new → IsAgenda pace 0 0 (rows ++ row ∷ []) new 0
+one_noted pace rows row at keys new room agenda quiet noted =
     let long = length-append rows (row ∷ []) in
+    let first : ℕ = min at (2 ^ 32) in
+    let put = is_put keys new 0 (key_of first (length rows)) agenda.rising (omega arith)
+    (λ i low. absurd (omega (arith, low))) noted in
     record {
-      noted = λ when place is. elim (cases_Bool (is_at (key_cmp (at, length rows)) (when, place))) [
+      few = omega (arith, long, room);
+      rising = put.rising;
+      noted = λ when place inside is. elim (put.was (key_of when place) is) [
         | inl t ↦
-            let key = at_key at (length rows) (when, place) t in
-            (omega (arith, long, key.1), omega arith, λ _. omega arith)
-        | inr f ↦
-            let update = put (when, place) in
-            let old = agenda.noted when place (sym (rw f at update) ∙ is) in
+            let place_is = same_place when place first (length rows) inside (omega (arith, room)) t in
+            (omega (arith, long, place_is), omega arith, λ _. omega arith)
+        | inr was ↦
+            let old = agenda.noted when place inside was in
             (omega (arith, long, old.0), omega arith, λ _. omega arith)
       ];
       quiet = λ place other is. elim (found_in rows row other place is) [
         | inl early ↦
             let old = agenda.quiet place other early in
-            (old.0, is_there at (length rows) has new (old.0, place) (put (old.0, place)) old.1, old.2)
-        | inr last ↦
-            let here = subst (λ p. is_at (key_cmp (at, length rows)) (at, p) ≡ true) last.0 (at_itself at (length rows)) in (
-              at,
-              put (at, place) ∙ ap (λ b. cond b true (has (at, place))) here,
-              λ earlier low _ high. subst (IsQuiet pace earlier) last.1 (quiet earlier high low),
-            )
+            (old.0, put.still (key_of old.0 place) old.1, old.2)
+        | inr last ↦ (
+          first,
+          subst (λ p. IsNoted new 0 (key_of first p)) last.0 put.now,
+          λ earlier low _ high. subst (IsQuiet pace earlier) last.1 (quiet earlier (omega (arith, high)) low),
+        )
       ];
     }
 

@@ -1,5 +1,5 @@
 -- Entries that are sorted by kind and id stand in order.
-use Rattle.std.proofs.Common.{◌≡◌, ◌≢◌, ℕ, zero, suc, ◌+◌, ◌*◌, ◌<◌, ◌≤◌, ◌==◌, ◌||◌, ◌&&◌, nat_lt, Bool, true, false, List, [], ◌∷◌, ◌++◌, length, map, filter_map, get_or, Option, Some, None, IfSome, slice_index, if◌then◌else◌, ltb, eqb, nat_cmp, is_lt, IsPermutation, refl, sym, ◌∙◌, inl, inr, le-ltb, lt-ltb, eq-eqb, ne_eqb, arith}
+use Rattle.std.proofs.Common.{◌≡◌, ◌≢◌, ℕ, zero, suc, ◌+◌, ◌*◌, ◌<◌, ◌≤◌, ◌⊎◌, ◌==◌, ◌||◌, ◌&&◌, nat_lt, Bool, true, false, List, [], ◌∷◌, ◌++◌, length, map, filter_map, get_or, Option, Some, None, IfSome, slice_index, if◌then◌else◌, ltb, eqb, nat_cmp, Less, Equal, Greater, is_lt, IsPermutation, refl, sym, ◌∙◌, inl, inr, le-ltb, lt-ltb, eq-eqb, ne_eqb, arith}
 use Rattle.std.specs.Ordering.{ordering_then}
 use Rattle.std.specs.List.{AllByRecursion, IsDistinct, cons_option}
 use Rattle.std.specs.List.Sorted.{IsNonDecreasing, IsNonDecreasingBy}
@@ -19,7 +19,6 @@ use Rattle.us_flows.proofs.TurnLemmas.{all-append}
 use Rattle.us_slots.specs.UsageCodes as codes
 use Rattle.us_calendar.specs.declared.kinds.Kind.TheVariants as kinds
 use Rattle.us_calendar.specs.Entries.{Entry, quarters, rank_of, goes_before, in_order, entries, scheduled, entry_of_flow, entry_of_station}
-use Rattle.us_calendar.proofs.KeyLemmas.{order_of}
 
 -- what entries are sorted by, as one number
 abbrev pub number : Entry → ℕ
@@ -41,6 +40,17 @@ before_number r i s j li lj = elim (cases_order r s) [
     | inl l ↦ rw (lt-ltb r s l, lt-ltb (r * 65536 + i) (s * 65536 + j) (omega (arith, l, li))) refl
     | inr l ↦
         rw (le-ltb r s (omega (arith, l)), ne_eqb r s (λ e. omega (arith, e, l)), le-ltb (r * 65536 + i) (s * 65536 + j) (omega (arith, l, lj))) refl
+  ]
+]
+
+-- how two numbers compare
+order_of : (x y : ℕ) →
+    ((x < y) × (nat_cmp x y ≡ Less)) ⊎ (((x ≡ y) × (nat_cmp x y ≡ Equal)) ⊎ ((y < x) × (nat_cmp x y ≡ Greater)))
+order_of x y = elim (cases_order x y) [
+  | inl e ↦ inr (inl (e, rw (le-ltb x y (omega (arith, e)), eq-eqb x y e) refl))
+  | inr other ↦ elim other [
+    | inl l ↦ inl (l, rw (lt-ltb x y l) refl)
+    | inr l ↦ inr (inr (l, rw (le-ltb x y (omega (arith, l)), ne_eqb x y (λ e. omega (arith, l, e))) refl))
   ]
 ]
 

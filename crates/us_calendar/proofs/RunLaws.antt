@@ -1,5 +1,5 @@
 -- What a round keeps: what is granted starts inside the MAP and is one more assignment each, and all is counted.
-use Rattle.std.proofs.Common.{◌≡◌, ℕ, ◌+◌, ◌*◌, ◌^◌, ◌<◌, ◌≤◌, Bool, List, [], ◌∷◌, ◌++◌, length, map, take, drop, sum_by, Option, Some, None, IfSome, ◌&&◌, refl, ap, sym, ◌∙◌, inl, inr, subst, arith}
+use Rattle.std.proofs.Common.{◌≡◌, ℕ, ◌+◌, ◌*◌, ◌^◌, ◌<◌, ◌≤◌, List, [], ◌∷◌, ◌++◌, length, map, take, drop, sum_by, Option, Some, None, IfSome, ◌&&◌, refl, ap, sym, ◌∙◌, inl, inr, subst, arith}
 use Rattle.std.specs.List.{AllByRecursion}
 use Rattle.std.proofs.lemmas.Bool.{cases_Bool}
 use Rattle.std.proofs.lemmas.List.{length-append, length-map}
@@ -108,16 +108,16 @@ written (o ∷ os) [] e = absurd (omega (arith, e))
 written (o ∷ os) (x ∷ xs) e = ap (λ more. x ∷ more) (written os xs (omega (arith, e)))
 
 -- and so the calendar keeps what it owes
-pub run_kept : (calendar : Calendar) (now : List Row) (next len : ℕ) (board : Board) (has had : ℕ × ℕ → Bool) →
+pub run_kept : (calendar : Calendar) (now : List Row) (next len : ℕ) (board : Board) (keys had : List ℕ) →
     IsKept calendar had → now ≡ (run_rows calendar.pace calendar.next_round calendar.rows board).rows →
     (AllByRecursion IsRow calendar.rows → AllByRecursion IsRow now) → len ≡ length calendar.rows →
-    next ≡ calendar.next_round + 1 → IsAgenda calendar.pace next 0 now has →
+    next ≡ calendar.next_round + 1 → IsAgenda calendar.pace next 0 now keys 0 →
     IsKept (record {
       pace = calendar.pace;
       next_round = next;
       rows = take len (now ++ drop (length now) calendar.rows);
-    }) has
-run_kept calendar now next len board has had kept now_is rows_kept len_is next_is agenda =
+    }) keys
+run_kept calendar now next len board keys had kept now_is rows_kept len_is next_is agenda =
     let ended = run_ended calendar.pace calendar.next_round calendar.rows board in
     let many : length now ≡ length calendar.rows = ap length now_is ∙ ended.many in
     let rows = rows_kept kept.rows in
@@ -125,7 +125,7 @@ run_kept calendar now next len board has had kept now_is rows_kept len_is next_i
     let few : length now ≤ 1280 = omega (arith, kept.few) in
     let back : take len (now ++ drop (length now) calendar.rows) ≡ now =
     ap (λ n. take n (now ++ drop (length now) calendar.rows)) len_is ∙ written calendar.rows now many in
-    subst (λ rs. IsKept (record { pace = calendar.pace; next_round = next; rows = rs }) has) (sym back) (record {
+    subst (λ rs. IsKept (record { pace = calendar.pace; next_round = next; rows = rs }) keys) (sym back) (record {
       known = record { len = kept.known.len; ticks = kept.known.ticks; settled = omega (arith, most, few) };
       few = few;
       rows = rows;
@@ -133,11 +133,11 @@ run_kept calendar now next len board has had kept now_is rows_kept len_is next_i
     })
 
 -- before round 0 too
-pub opening_kept : (pace : Pace) (rows : List Row) (es : List Entry) (has : ℕ × ℕ → Bool) → 1 ≤ pace.len →
+pub opening_kept : (pace : Pace) (rows : List Row) (es : List Entry) (keys : List ℕ) → 1 ≤ pace.len →
     pace.len * minislot_ticks pace.time ≤ 4096 → rows ≡ map (λ e. record { entry = e; settled = [] }) es →
-    length es ≤ 1280 → AllByRecursion IsRow rows → IsAgenda pace 0 0 rows has →
-    IsKept (record { pace = pace; next_round = 0; rows = rows }) has
-opening_kept pace rows es has some ticks rows_are few all agenda =
+    length es ≤ 1280 → AllByRecursion IsRow rows → IsAgenda pace 0 0 rows keys 0 →
+    IsKept (record { pace = pace; next_round = 0; rows = rows }) keys
+opening_kept pace rows es keys some ticks rows_are few all agenda =
     let fresh : Entry → Row = λ e. record { entry = e; settled = [] } in
     let many : length rows ≡ length es = ap length rows_are ∙ length-map es fresh in
     let most = settled_most rows all in

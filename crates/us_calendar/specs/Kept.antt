@@ -1,9 +1,7 @@
 -- How a calendar is kept: of each entry the number of its first occurrence that isn't settled, and in which round it is
 -- due. Nothing of this is seen from outside.
-use Rattle.std.specs.Prelude.{◌≡◌, ℕ, ◌*◌, ◌<◌, ◌≤◌, ◌^◌, Bool, true, List, [], length, Some, slice_get}
-use Rattle.std.specs.List.{AllByRecursion, range_with_len}
-use Rattle.std.specs.declared.cmp.Ordering.{Ordering}
-use Rattle.std.specs.Ordering.{ordering_then, nat_cmp}
+use Rattle.std.specs.Prelude.{◌≡◌, ℕ, ◌+◌, ◌*◌, ◌<◌, ◌≤◌, ◌^◌, ◌⊎◌, List, [], length, Some, slice_get, slice_index}
+use Rattle.std.specs.List.{AllByRecursion, range_with_len, insert}
 use Rattle.us_slots.specs.Times.{minislot_ticks, IsTiming}
 use Rattle.us_holes.specs.Boards.{Board, IsOwner}
 use Rattle.us_calendar.specs.Entries.{Entry}
@@ -48,23 +46,51 @@ settle_from pace round e next board = settle_row pace round (row_from e next) bo
 abbrev pub IsQuiet : Pace → ℕ → Row → Type 0
 IsQuiet pace round row = due row.entry (end_of pace round) row.settled ≡ []
 
--- what is noted is a round with the place of an entry: earlier rounds first, and in a round by place
-abbrev pub key_cmp : ℕ × ℕ → ℕ × ℕ → Ordering
-key_cmp a b = ordering_then (nat_cmp a.0 b.0) (nat_cmp a.1 b.1)
+-- What is noted is a round and the place of an entry, as one number: earlier rounds come first, and in a round places.
+abbrev pub places : ℕ
+places = 2048
 
--- What is noted are rounds and places of entries, none of an earlier round than this, and those of this round from the
--- place `from` on: the entries before it have had their turn. Each entry is noted for a round before which nothing of it
--- is due.
-pub record IsAgenda (pace : Pace) (round from : ℕ) (rows : List Row) (has : ℕ × ℕ → Bool) : Type 0 where
-  pub noted : (at place : ℕ) → has (at, place) ≡ true →
+abbrev pub key_of : ℕ → ℕ → ℕ
+key_of at place = at * places + place
+
+-- all rounds from this one on are noted as this one: a run has fewer
+abbrev pub last_round : ℕ
+last_round = 2 ^ 32
+
+-- each number is above those before it
+abbrev pub IsRising : List ℕ → Type 0
+IsRising keys = (i j : ℕ) → i < j → j < length keys → slice_index keys i < slice_index keys j
+
+-- it stands in the list, at `first` or behind it
+abbrev pub IsNoted : List ℕ → ℕ → ℕ → Type 0
+IsNoted keys first key = (i : ℕ) × (first ≤ i) × (i < length keys) × (slice_index keys i ≡ key)
+
+-- the first `count` are below a number, and no other
+pub record IsParted (keys : List ℕ) (count end : ℕ) : Type 0 where
+  pub inside : count ≤ length keys
+  pub below : (i : ℕ) → i < count → slice_index keys i < end
+  pub above : (i : ℕ) → count ≤ i → i < length keys → end ≤ slice_index keys i
+
+-- a number that stands there already is left there; another one comes between those below it and those above it
+abbrev pub IsNotedIn : List ℕ → ℕ → List ℕ → Type 0
+IsNotedIn old key new = (IsNoted old 0 key × (new ≡ old)) ⊎
+    ((at : ℕ) × IsParted old at key × (new ≡ insert old at key) × (IsNoted old 0 key → ⊥))
+
+-- What is noted are rounds and places of entries, in order; from place `first` of the list on, none of an earlier round
+-- than this, and those of this round from the entry at `from` on: the entries before it have had their turn. Each entry
+-- is noted for a round before which nothing of it is due.
+pub record IsAgenda (pace : Pace) (round from : ℕ) (rows : List Row) (keys : List ℕ) (first : ℕ) : Type 0 where
+  pub few : length rows ≤ places
+  pub rising : IsRising keys
+  pub noted : (at place : ℕ) → place < places → IsNoted keys first (key_of at place) →
       (place < length rows) × (round ≤ at) × (at ≡ round → from ≤ place)
   pub quiet : (place : ℕ) (row : Row) → slice_get rows place ≡ Some row →
-      (at : ℕ) × (has (at, place) ≡ true) × ((earlier : ℕ) → round ≤ earlier →
+      (at : ℕ) × IsNoted keys first (key_of at place) × ((earlier : ℕ) → round ≤ earlier →
       (place < from → round < earlier) → earlier < at → IsQuiet pace earlier row)
 
 -- what a calendar keeps, with what it notes
-pub record IsKept (calendar : Calendar) (has : ℕ × ℕ → Bool) : Type 0 where
+pub record IsKept (calendar : Calendar) (keys : List ℕ) : Type 0 where
   pub known : IsCalendar calendar
   pub few : length calendar.rows ≤ 1280
   pub rows : AllByRecursion IsRow calendar.rows
-  pub agenda : IsAgenda calendar.pace calendar.next_round 0 calendar.rows has
+  pub agenda : IsAgenda calendar.pace calendar.next_round 0 calendar.rows keys 0

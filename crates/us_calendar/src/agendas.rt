@@ -1,17 +1,16 @@
-ghost use Rattle.std.specs.Prelude.{◌≡◌, ℕ, ◌+◌, ◌*◌, ◌≤◌, ◌<◌, ◌++◌, [], ◌∷◌, true, false, length, map, OnOk, IfOk, IfSome, IfNone};
+ghost use Rattle.std.specs.Prelude.{◌≡◌, ◌+◌, ◌*◌, ◌≤◌, ◌<◌, ◌++◌, [], length, map, min, drop, vec_len, OnOk, IfOk};
 ghost use Rattle.std.specs.List.{AllByRecursion};
-ghost use Rattle.std.specs.BTreeSet.{contains, Updates, IsLowerBound};
 ghost use Rattle.us_slots.specs.Times.{minislot_ticks};
 ghost use Rattle.us_flows.specs.Tables.{max_run_ticks};
 ghost use Rattle.us_calendar.specs.Calendars.{run_rows};
-ghost use Rattle.us_calendar.specs.Kept.{IsRow, IsAgenda, key_cmp};
+ghost use Rattle.us_calendar.specs.Kept.{IsRow, IsAgenda, IsRising, IsNotedIn, IsParted, key_of as spec_key_of, places, last_round};
 
 use crate::entries::Entry;
+use crate::keys::{key_of, place_of};
 use crate::paces::Pace;
 use crate::rows::Row;
 use crate::settled::Settled;
 use std::alloc::Global;
-use std::collections::BTreeSet;
 use us_holes::Board;
 use us_slots::NoMemory;
 
@@ -20,17 +19,18 @@ pub(crate) fn noted(
     alloc: Global,
     pace: Pace,
     entries: &[Entry],
-) -> Result<(Vec<Row>, BTreeSet<(u64, usize)>), NoMemory>
+) -> Result<(Vec<Row>, Vec<u64>), NoMemory>
+    requires few { length entries.now ≤ 1280 }
     ensures rows { IfOk result
         (λ kept. kept.0.items ≡ map (λ e. record { entry = e; settled = [] }) entries.now) }
     ensures known { IfOk result (λ kept. AllByRecursion IsRow kept.0.items) }
-    ensures agenda { IfOk result (λ kept. IsAgenda pace 0 0 kept.0.items (contains key_cmp kept.1)) }
+    ensures agenda { IfOk result (λ kept. IsAgenda pace 0 0 kept.0.items kept.1.items 0) }
 {
     let mut rows = Vec::with_capacity(alloc, entries.len())?;
-    let mut due = BTreeSet::new(alloc);
+    let mut due = Vec::with_capacity(alloc, entries.len())?;
     for entry in entries {
         let row = Row::new(*entry);
-        due.insert((row.due_round(pace, 0), rows.len()))?;
+        note(&mut due, row.due_round(pace, 0), rows.len())?;
         rows.push(row)?;
     }
     Ok((rows, due))
@@ -41,41 +41,63 @@ pub(crate) fn settle_due(
     pace: Pace,
     round: u32,
     rows: &mut [Row],
-    due: &mut BTreeSet<(u64, usize)>,
+    due: &mut Vec<u64>,
     board: &mut Board,
     settled: &mut Vec<Settled>,
 ) -> Result<(), NoMemory>
     requires time { (round + 1) * (pace.len * minislot_ticks pace.time) ≤ max_run_ticks }
     requires len { length board.old.cells ≡ pace.len }
-    requires agenda { IsAgenda pace round 0 rows.old (contains key_cmp due.old) }
+    requires agenda { IsAgenda pace round 0 rows.old due.old.items 0 }
     ensures rows { OnOk result (rows.new ≡ (run_rows pace round rows.old board.old).rows) }
     ensures board { OnOk result (board.new ≡ (run_rows pace round rows.old board.old).board) }
     ensures settled { OnOk result (settled.new.items ≡
         settled.old.items ++ (run_rows pace round rows.old board.old).settled) }
-    ensures agenda { OnOk result (IsAgenda pace (round + 1) 0 rows.new (contains key_cmp due.new)) }
+    ensures agenda { OnOk result (IsAgenda pace (round + 1) 0 rows.new due.new.items 0) }
     ensures known { AllByRecursion IsRow rows.old → AllByRecursion IsRow rows.new }
     ensures len { length board.new.cells ≡ length board.old.cells }
 {
-    while let Some((_, place)) = take_due(due, u64::from(round)) {
+    let count = due_count(due, u64::from(round));
+    let mut at = 0;
+    while at < count {
+        let place = place_of(due[at]);
         let next = rows[place].run(pace, round, board, settled)?;
-        due.insert((next, place))?;
+        note(due, next, place)?;
+        at += 1;
+    }
+    drop_first(due, count);
+    Ok(())
+}
+
+/// How many are noted for this round or before: the first ones.
+fn due_count(due: &[u64], round: u64) -> usize
+    requires rising { IsRising due.now }
+    requires early { round + 1 ≤ last_round }
+    ensures { IsParted due.now result (spec_key_of (round + 1) 0) }
+{
+    match due.binary_search(&key_of(round + 1, 0)) {
+        Ok(at) => at,
+        Err(at) => at,
+    }
+}
+
+/// Notes the entry at a place for a round, among all that are noted, in order.
+fn note(due: &mut Vec<u64>, round: u64, place: usize) -> Result<(), NoMemory>
+    requires rising { IsRising due.old.items }
+    requires place { place < places }
+    ensures { OnOk result (IsNotedIn due.old.items (spec_key_of (min round last_round) place) due.new.items) }
+{
+    let key = key_of(round, place);
+    if let Err(at) = due.binary_search(&key) {
+        due.insert(at, key)?;
     }
     Ok(())
 }
 
-/// Takes out the first that is noted, if it is due in this round or before.
-fn take_due(due: &mut BTreeSet<(u64, usize)>, round: u64) -> Option<(u64, usize)>
-    ensures due { IfSome result (λ key. key.0 ≤ round) }
-    ensures removal { IfSome result (λ key. due.old.keys ≡ key ∷ due.new.keys) }
-    ensures member { IfSome result (λ key. contains key_cmp due.old key ≡ true) }
-    ensures least { IfSome result (λ key. IsLowerBound key_cmp due.old key) }
-    ensures updates { IfSome result (λ key. Updates key_cmp due.old due.new key false) }
-    ensures none { IfNone result ((at place : ℕ) → contains key_cmp due.new (at, place) ≡ true → round < at) }
-    ensures stays { IfNone result (due.new.keys ≡ due.old.keys) }
+/// Takes the first ones away.
+fn drop_first(due: &mut Vec<u64>, count: usize)
+    requires { count ≤ vec_len due.old }
+    ensures { due.new.items ≡ drop count due.old.items }
 {
-    let (at, _) = *due.first()?;
-    if at > round {
-        return None;
-    }
-    due.pop_first()
+    due.copy_within(count.., 0);
+    due.truncate(due.len() - count);
 }

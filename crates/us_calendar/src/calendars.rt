@@ -4,8 +4,7 @@ ghost use Rattle.us_slots.specs.Times.{minislot_ticks};
 ghost use Rattle.us_flows.specs.Tables.{max_run_ticks};
 ghost use Rattle.us_flows.specs.Lawful.{IsChannel};
 ghost use Rattle.us_calendar.specs.Calendars as spec;
-ghost use Rattle.us_calendar.specs.Kept.{IsKept, key_cmp};
-ghost use Rattle.std.specs.BTreeSet.{contains};
+ghost use Rattle.us_calendar.specs.Kept.{IsKept};
 
 use crate::agendas::{noted, settle_due};
 use crate::listing::entries_of;
@@ -13,7 +12,6 @@ use crate::paces::Pace;
 use crate::rows::Row;
 use crate::settled::Settled;
 use std::alloc::Global;
-use std::collections::BTreeSet;
 use std::marker::Model;
 use us_flows::{Channel, Config};
 use us_holes::Board;
@@ -24,7 +22,9 @@ pub struct Calendar {
     pace: Pace,
     next_round: u32,
     rows: Vec<Row>,
-    due: BTreeSet<(u64, usize)>,
+
+    // the rounds and entries that are noted: an ordered set, as its members in order
+    due: Vec<u64>,
 }
 
 impl Model for Calendar {
@@ -32,8 +32,7 @@ impl Model for Calendar {
 
     ghost view = { λ c. record { pace = c.pace; next_round = c.next_round; rows = c.rows.items } };
 
-    ghost invariant = { λ c. IsKept (record { pace = c.pace; next_round = c.next_round; rows = c.rows.items })
-        (contains key_cmp c.due) };
+    ghost invariant = { λ c. IsKept (record { pace = c.pace; next_round = c.next_round; rows = c.rows.items }) c.due.items };
 }
 
 /// Gives the entries up. It is written out so that it is one step wherever a calendar ends.

@@ -32,6 +32,9 @@ mod rows;
 // The entries of a channel.
 mod listing;
 
+// What is noted of an entry.
+mod keys;
+
 // The entries that are due.
 mod agendas;
 

@@ -1,77 +1,61 @@
-use Rattle.std.proofs.Common.{◌≡◌, ℕ, ◌+◌, ◌∙◌, ◌<◌, ◌≤◌, true, length, get_or, sym, ap, subst, arith}
-use Rattle.std.specs.List.{list_any}
-use Rattle.std.specs.BTreeMap.{is_at}
-use Rattle.std.specs.BTreeSet.{contains}
+use Rattle.std.proofs.Common.{◌≡◌, ℕ, ◌+◌, ◌/◌, ◌^◌, ◌<◌, min, length, get_or, sym, subst, arith}
 use Rattle.std.proofs.lemmas.Option.{slice_get-get_or}
-use Rattle.us_calendar.specs.Kept.{key_cmp, IsAgenda}
-use Rattle.us_calendar.proofs.KeyLemmas.{due_by-smaller}
-use Rattle.us_calendar.proofs.AgendaLemmas.{going-step, ends_rows, ends_board, ends_told, ends_agenda}
+use Rattle.us_calendar.specs.Kept.{IsAgenda, key_of}
+use Rattle.us_calendar.proofs.AgendaLemmas.{first_is, place_within, going-step, ends_rows, ends_board, ends_told, ends_agenda}
 use Rattle.us_calendar.proofs.agendas.settle_due.Goals as goal
 
-pub loop-place-smaller : goal.loop-place-smaller
-loop-place-smaller c =
-    let due : c.in-Some.field-0-0 ≤ c.args.round = omega (arith, c.in-Some.ensures.due, c.from.ensures) in
-    let later : c.args.round < c.in_ok-next.next = omega (arith, c.in_ok-next.ensures.later) in
-    due_by-smaller c.args.round c.in_ok-next.next c.in-Some.place (c.in-Some.field-0-0, c.in-Some.place)
-    c.loop-place.due.keys c.take_due.new.due.keys c.insert.new.self.keys due c.in-Some.ensures.removal
-    c.in_ok-insert.ensures.keys later
+pub bounds-rows-place : goal.bounds-rows-place
+bounds-rows-place c =
+    let went = c.loop-at.invariant in
+    let inside : c.loop-at.at < length c.loop-at.due.items = omega (arith, c.loop-at-test.true, went.parted.inside) in
+    place_within c.args.pace c.args.round c.args.rows.now c.args.board.now c.args.settled.now.items c.loop-at.rows
+    c.loop-at.board c.loop-at.settled.items c.loop-at.due.items c.loop-at.at c.due_count-count.result went
+    c.index.result.now c.place_of-place.result c.loop-at-test.true
+    (first_is c.loop-at.due.items c.loop-at.at c.index.result.now inside c.index.ensures)
+    c.place_of-place.ensures.place (c.index.result.now / 2048, c.place_of-place.ensures.key)
 
-pub loop-place-preserved : goal.loop-place-preserved
-loop-place-preserved c =
-    let went = c.loop-place.invariant in
-    let member = c.in-Some.ensures.member in
-    let inside : c.in-Some.place < length c.loop-place.rows =
-    (went.agenda.noted c.in-Some.field-0-0 c.in-Some.place member).0 in
-    let due : c.in-Some.field-0-0 ≤ c.args.round = omega (arith, c.in-Some.ensures.due, c.from.ensures) in
-    going-step c.args.pace c.args.round c.args.rows.now c.args.board.now c.args.settled.now.items c.loop-place.rows
-    c.loop-place.board c.loop-place.settled.items (contains key_cmp c.loop-place.due) went c.in-Some.field-0-0
-    c.in-Some.place (get_or c.loop-place.rows c.in-Some.place c.index-rows-place.result) c.run.new.self c.run.new.board
-    c.run.new.settled.items c.in_ok-next.next (contains key_cmp c.take_due.new.due)
-    (contains key_cmp c.insert.new.self) due member c.in-Some.ensures.least c.in-Some.ensures.updates.0
-    c.in_ok-insert.ensures.updates.0
-    (slice_get-get_or c.loop-place.rows c.in-Some.place c.index-rows-place.result inside) c.in_ok-next.ensures.row
-    c.in_ok-next.ensures.board c.in_ok-next.ensures.told c.in_ok-next.ensures.later c.in_ok-next.ensures.quiet
-    c.run.ensures.len c.run.ensures.known
+pub loop-at-preserved : goal.loop-at-preserved
+loop-at-preserved c =
+    let l = c.loop-at in
+    let went = l.invariant in
+    let place = c.place_of-place.result in
+    let key_in : l.at < length l.due.items = omega (arith, c.loop-at-test.true, went.parted.inside) in
+    let key_is = first_is l.due.items l.at c.index.result.now key_in c.index.ensures in
+    let at : (a : ℕ) × (key_of a place ≡ c.index.result.now) = (c.index.result.now / 2048, c.place_of-place.ensures.key) in
+    let inside = place_within c.args.pace c.args.round c.args.rows.now c.args.board.now c.args.settled.now.items l.rows
+    l.board l.settled.items l.due.items l.at c.due_count-count.result went c.index.result.now place
+    c.loop-at-test.true key_is c.place_of-place.ensures.place at in
+    let again : ℕ = min c.in_ok-next.next (2 ^ 32) in
+    going-step c.args.pace c.args.round c.args.rows.now c.args.board.now c.args.settled.now.items l.rows l.board
+    l.settled.items l.due.items l.at c.due_count-count.result went c.index.result.now place
+    (get_or l.rows place c.index-rows-place.result) c.run.new.self c.run.new.board c.run.new.settled.items again
+    c.note.new.due.items c.loop-at-test.true key_is c.place_of-place.ensures.place at c.in_ok-note.ensures
+    (slice_get-get_or l.rows place c.index-rows-place.result inside) c.in_ok-next.ensures.row
+    c.in_ok-next.ensures.board c.in_ok-next.ensures.told
+    (omega (arith, c.in_ok-next.ensures.later, c.ranges.round.fits))
+    (λ r low from. c.in_ok-next.ensures.quiet r (omega (arith, low)) from) c.run.ensures.len c.run.ensures.known
 
 pub returns-clause-rows : goal.returns-clause-rows
 returns-clause-rows c =
-    let none : (at place : ℕ) → contains key_cmp c.loop-place.due (at, place) ≡ true → c.args.round < at =
-    λ at place is.
-    let later = c.in_default.ensures.none at place
-    (ap (list_any (is_at (key_cmp (at, place)))) c.in_default.ensures.stays ∙ is) in
-    omega (arith, later, c.from.ensures) in
-    ends_rows c.args.pace c.args.round c.args.rows.now c.args.board.now c.args.settled.now.items c.loop-place.rows
-    c.loop-place.board c.loop-place.settled.items (contains key_cmp c.loop-place.due) c.loop-place.invariant none
+    ends_rows c.args.pace c.args.round c.args.rows.now c.args.board.now c.args.settled.now.items c.loop-at.rows
+    c.loop-at.board c.loop-at.settled.items c.loop-at.due.items c.loop-at.at c.due_count-count.result
+    c.loop-at.invariant (omega (arith, c.loop-at-test.false, c.loop-at.invariant.within))
 
 pub returns-clause-board : goal.returns-clause-board
 returns-clause-board c =
-    let none : (at place : ℕ) → contains key_cmp c.loop-place.due (at, place) ≡ true → c.args.round < at =
-    λ at place is.
-    let later = c.in_default.ensures.none at place
-    (ap (list_any (is_at (key_cmp (at, place)))) c.in_default.ensures.stays ∙ is) in
-    omega (arith, later, c.from.ensures) in
-    ends_board c.args.pace c.args.round c.args.rows.now c.args.board.now c.args.settled.now.items c.loop-place.rows
-    c.loop-place.board c.loop-place.settled.items (contains key_cmp c.loop-place.due) c.loop-place.invariant none
+    ends_board c.args.pace c.args.round c.args.rows.now c.args.board.now c.args.settled.now.items c.loop-at.rows
+    c.loop-at.board c.loop-at.settled.items c.loop-at.due.items c.loop-at.at c.due_count-count.result
+    c.loop-at.invariant (omega (arith, c.loop-at-test.false, c.loop-at.invariant.within))
 
 pub returns-clause-settled : goal.returns-clause-settled
 returns-clause-settled c =
-    let none : (at place : ℕ) → contains key_cmp c.loop-place.due (at, place) ≡ true → c.args.round < at =
-    λ at place is.
-    let later = c.in_default.ensures.none at place
-    (ap (list_any (is_at (key_cmp (at, place)))) c.in_default.ensures.stays ∙ is) in
-    omega (arith, later, c.from.ensures) in
-    ends_told c.args.pace c.args.round c.args.rows.now c.args.board.now c.args.settled.now.items c.loop-place.rows
-    c.loop-place.board c.loop-place.settled.items (contains key_cmp c.loop-place.due) c.loop-place.invariant none
+    ends_told c.args.pace c.args.round c.args.rows.now c.args.board.now c.args.settled.now.items c.loop-at.rows
+    c.loop-at.board c.loop-at.settled.items c.loop-at.due.items c.loop-at.at c.due_count-count.result
+    c.loop-at.invariant (omega (arith, c.loop-at-test.false, c.loop-at.invariant.within))
 
 pub returns-clause-agenda : goal.returns-clause-agenda
 returns-clause-agenda c =
-    let none : (at place : ℕ) → contains key_cmp c.loop-place.due (at, place) ≡ true → c.args.round < at =
-    λ at place is.
-    let later = c.in_default.ensures.none at place
-    (ap (list_any (is_at (key_cmp (at, place)))) c.in_default.ensures.stays ∙ is) in
-    omega (arith, later, c.from.ensures) in
-    let agenda = ends_agenda c.args.pace c.args.round c.args.rows.now c.args.board.now c.args.settled.now.items
-    c.loop-place.rows c.loop-place.board c.loop-place.settled.items (contains key_cmp c.loop-place.due)
-    c.loop-place.invariant none in
-    subst (λ keys. IsAgenda c.args.pace (c.args.round + 1) 0 c.loop-place.rows (λ q. list_any (is_at (key_cmp q)) keys))
-    (sym c.in_default.ensures.stays) agenda
+    subst (λ keys. IsAgenda c.args.pace (c.args.round + 1) 0 c.loop-at.rows keys 0) (sym c.drop_first.ensures)
+    (ends_agenda c.args.pace c.args.round c.args.rows.now c.args.board.now c.args.settled.now.items c.loop-at.rows
+    c.loop-at.board c.loop-at.settled.items c.loop-at.due.items c.loop-at.at c.due_count-count.result
+    c.loop-at.invariant (omega (arith, c.loop-at-test.false, c.loop-at.invariant.within)))

@@ -1,13 +1,10 @@
-use Rattle.std.specs.BTreeSet.{contains}
-use Rattle.us_calendar.specs.Kept.{key_cmp}
+use Rattle.std.proofs.Common.{◌-◌}
 use Rattle.us_calendar.proofs.AgendaLemmas.{Going}
-use Rattle.us_calendar.proofs.KeyLemmas.{due_by}
 use Rattle.us_calendar.proofs.agendas.settle_due.Given as goal
 
-abbrev pub invariant-loop-place : goal.invariant-loop-place
-invariant-loop-place l =
-    Going l.pace l.round l.fn.rows l.fn.board l.fn.settled.items l.rows l.board l.settled.items (contains key_cmp l.due)
+abbrev pub invariant-loop-at : goal.invariant-loop-at
+invariant-loop-at l =
+    Going l.pace l.round l.fn.rows l.fn.board l.fn.settled.items l.rows l.board l.settled.items l.due.items l.at l.count
 
--- what is noted for later stays
-abbrev pub decreases-loop-place : goal.decreases-loop-place
-decreases-loop-place l = due_by l.round l.due.keys
+abbrev pub decreases-loop-at : goal.decreases-loop-at
+decreases-loop-at l = l.count - l.at

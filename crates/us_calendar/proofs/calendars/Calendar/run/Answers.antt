@@ -1,8 +1,7 @@
 use Rattle.std.proofs.Common.{◌≡◌, ◌+◌, ◌∙◌, ◌++◌, length, take, drop, sym, ap, ap₂, subst}
-use Rattle.std.specs.BTreeSet.{contains}
 use Rattle.std.specs.List.{AllByRecursion}
 use Rattle.us_calendar.specs.Calendars.{run_rows, StartsInside, granted_in, settled_in, Ran}
-use Rattle.us_calendar.specs.Kept.{IsRow, key_cmp}
+use Rattle.us_calendar.specs.Kept.{IsRow}
 use Rattle.us_calendar.proofs.RunLaws.{run_kept, run_ended, settled_by, written}
 use Rattle.us_calendar.proofs.calendars.Calendar.run.Goals as goal
 
@@ -16,7 +15,7 @@ invariant_of-self c =
       next_round = c.self.inside.next_round;
       rows = c.self.inside.rows.items;
     }) c.settle_due.new.rows (c.args.round + 1) c.self.inside.rows.len c.args.board.now
-    (contains key_cmp c.settle_due.new.due) (contains key_cmp c.self.inside.due) c.self.invariant
+    c.settle_due.new.due.items c.self.inside.due.items c.self.invariant
     (c.in-Ok.ensures.rows ∙ ap₂ (λ r rs. (run_rows c.self.inside.pace r rs c.args.board.now).rows) round_is rows_is)
     (λ all. c.settle_due.ensures.known (subst (AllByRecursion IsRow) (sym rows_is) all)) c.self.inside.rows.ok.0
     (ap (λ r. r + 1) round_is) c.in-Ok.ensures.agenda
