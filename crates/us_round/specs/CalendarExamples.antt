@@ -6,7 +6,7 @@ use Rattle.us_codec.specs.Elements.{word_of}
 use Rattle.us_calendar.specs.Occurrences.{due}
 use Rattle.us_calendar.specs.Settling.{settle_each, settle_row}
 use Rattle.us_split.specs.Plans.{Planned}
-use Rattle.us_round.specs.Rounds.{begun, final, idle, fills_of, opening, round_of, round_plan, schedule}
+use Rattle.us_round.specs.Rounds.{begun, final, idle, fills_of, opening, round_plan, schedule}
 use Rattle.us_round.specs.Outputs.{RoundOut, out_of}
 use Rattle.us_round.specs.RoundExamples.{round_steps, channel_with, flow_with, base_flow, tables}
 use Rattle.us_round.specs.declared.rows.Row.TheVariants as rows

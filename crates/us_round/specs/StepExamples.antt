@@ -1,10 +1,10 @@
 -- Small lists of steps, computed by the definitions alone.
-use Rattle.std.specs.Prelude.{◌≡◌, ℕ, suc, ◌<◌, List, [], ◌∷◌, Option, Some, None, option_map, refl}
+use Rattle.std.specs.Prelude.{◌≡◌, ℕ, List, [], ◌∷◌, Option, Some, None, option_map, refl}
 use Rattle.std.proofs.Common.{arith}
 use Rattle.us_requests.specs.declared.asks.Ask.{Ask}
-use Rattle.us_round.specs.Steps.{count, builds, cut_of, left_of, IsComplete}
-use Rattle.us_round.specs.Machines.{Ledger, after, run, opening_ledger, after_step, run_machine, opening_machine}
-use Rattle.us_round.specs.Plays.{Play, cuts_of, words_after}
+use Rattle.us_round.specs.Steps.{adds, builds, count, cut_of, left_of, IsComplete}
+use Rattle.us_round.specs.Machines.{Ledger, Machine, after, run, opening_ledger, after_step, run_machine, opening_machine}
+use Rattle.us_round.specs.Plays.{cuts_of, words_after}
 use Rattle.us_round.specs.declared.steps.Step.{Step}
 use Rattle.us_round.specs.declared.steps.Step.TheVariants as step
 
@@ -40,17 +40,23 @@ next_cut :
 unfolding cuts_of words_after cut_of left_of
 next_cut = (refl, refl)
 
--- a channel that isn't built: the list isn't complete
-not_built : ¬ IsComplete 2 1 1 (step.Add 1 4 ∷ step.Add 0 3 ∷ step.Take 0 3 ∷ step.Open 0 ∷ [])
-not_built all =
-    let none : 0 ≡ 1 = all.built 0 (omega arith) in
-    absurd cc
+-- a list in which a channel isn't built isn't complete,
+abbrev not_built : List Step
+not_built = step.Add 1 4 ∷ step.Add 0 3 ∷ step.Take 0 3 ∷ step.Open 0 ∷ []
+
+never_built : ¬ IsComplete 2 1 1 not_built
+never_built all =
+    let none : count (builds 0) not_built ≡ 0 = refl in
+    omega (arith, none, all.built 0 (omega arith))
 
 -- nor is one in which a row is added twice
-added_twice : ¬ IsComplete 2 1 1 (step.Add 1 4 ∷ step.Add 0 3 ∷ in_time)
+abbrev twice : List Step
+twice = step.Add 1 4 ∷ in_time
+
+added_twice : ¬ IsComplete 2 1 1 twice
 added_twice all =
-    let twice : 2 ≡ 1 = all.added 1 (omega arith) in
-    absurd cc
+    let two : count (adds 1) twice ≡ 2 = refl in
+    omega (arith, two, all.added 1 (omega arith))
 
 -- The machine.
 
@@ -62,11 +68,11 @@ goes_on : (ends in_time ≡ Some (1200 ∷ [], 0 ∷ [])) × (ends one_late ≡ 
 unfolding run after
 goes_on = (refl, refl)
 
--- it stops where a channel isn't built, a row is added twice, a word is taken once a channel is out, a channel is built at
--- home, and where there is no such row
+-- it stops where a channel isn't built, a row is added twice, a word is taken once a channel is out, a channel is built
+-- at home, and where there is no such row
 stops :
-    (ends (step.Add 1 4 ∷ step.Add 0 3 ∷ step.Take 0 3 ∷ step.Open 0 ∷ []) ≡ None) ×
-    (ends (step.Add 1 4 ∷ in_time) ≡ None) ×
+    (ends not_built ≡ None) ×
+    (ends twice ≡ None) ×
     (ends (step.Add 1 4 ∷ step.Add 0 3 ∷ step.Open 0 ∷ step.Take 0 3 ∷ step.Built 0 ∷ []) ≡ None) ×
     (ends (step.Add 1 4 ∷ step.Add 0 3 ∷ step.Take 0 3 ∷ step.Built 0 ∷ step.Open 0 ∷ []) ≡ None) ×
     (ends (step.Add 2 4 ∷ in_time) ≡ None)
@@ -74,7 +80,7 @@ unfolding run after
 stops = (refl, refl, refl, refl, refl)
 
 -- what seats 3 and 4 added to the word, and what seat 3 took of it
-accounts : option_map (λ m. (m.seats.added 3 0, m.seats.added 4 0, m.seats.took 3 0))
+accounts : option_map {U = ℕ × ℕ × ℕ} (λ (m : Machine). (m.seats.added 3 0, m.seats.added 4 0, m.seats.took 3 0))
     (run_machine rows (opening_machine (0 ∷ []) 2 1) one_late) ≡ Some (500, 700, 700)
 unfolding run_machine after_step after
 accounts = refl
