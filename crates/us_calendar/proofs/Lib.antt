@@ -14,3 +14,4 @@ pub mod FitLaws
 pub mod OnceLemmas
 pub mod OnceLaws
 pub mod SortedLemmas
+pub mod NameLaws

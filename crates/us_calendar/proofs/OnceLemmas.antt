@@ -19,7 +19,7 @@ use Rattle.us_calendar.proofs.SettleLemmas.{nothing, then_settle, numbers_of, nu
 
 -- the name of an entry's own occurrence, and when it has its turn
 
-own_name : (e : Entry) (n m : ℕ) → m ≡ n →
+pub own_name : (e : Entry) (n m : ℕ) → m ≡ n →
     is_name e n (rank_of e.kind) e.id (m / e.grants) (m % e.grants) ≡ true
 own_name e n m same =
     rw (same, eq-eqb (rank_of e.kind) (rank_of e.kind) refl, eq-eqb e.id e.id refl, eq-eqb (n / e.grants) (n / e.grants) refl, eq-eqb (n % e.grants) (n % e.grants) refl) refl

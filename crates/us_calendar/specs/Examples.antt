@@ -60,6 +60,15 @@ taken_before : (settle_row pace 0 (row 0 30 1) (assign idle 0 2 grant)).marks �
 unfolding settle_row settle_each due first_of
 taken_before = refl
 
+-- a window that ends just where round 0 does isn't over in that round: it waits, and is missed in the next one
+ends_with_round : (settle_row pace 0 (row 80 20 1) (assign idle 0 4 grant)).marks ≡ []
+unfolding settle_row settle_each due first_of
+ends_with_round = refl
+
+missed_later : (settle_row pace 1 (row 80 20 1) (assign idle 0 4 grant)).marks ≡ missed 0 ∷ []
+unfolding settle_row settle_each due first_of
+missed_later = refl
+
 -- over both rounds it is granted once, and never missed
 abbrev calendar : Calendar
 calendar = record { pace = pace; next_round = 0; rows = row 90 20 1 ∷ [] }

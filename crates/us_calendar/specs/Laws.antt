@@ -9,7 +9,7 @@ use Rattle.us_calendar.specs.Entries.{Entry, entries}
 use Rattle.us_calendar.specs.Occurrences.{Pace}
 use Rattle.us_calendar.specs.Settling.{Row, settle_row, after_marks}
 use Rattle.us_calendar.specs.Calendars.{run_rows, pace_of, opening}
-use Rattle.us_calendar.specs.Runs.{intervals_of, rounds_on, IsSettledOnce}
+use Rattle.us_calendar.specs.Runs.{Round, intervals_of, rounds_on, IsOccurrence, IsSettledOnce}
 
 -- Where the settled occurrences of an entry are the first ones, as many as there are, so they are after a round: what is
 -- unsettled is all from one on. For an occurrence that waits leaves no minislot of its window to the others of its
@@ -32,3 +32,9 @@ GrantsFit = (pace : Pace) (round : ℕ) (rows : List Row) (board : Board) →
 abbrev pub SettledOnce : Type 0
 SettledOnce = (t : Tables) (c : Channel) (boards : List Board) → AreTables t →
     AllByRecursion (λ e. (n : ℕ) → IsSettledOnce (pace_of t c) (rounds_on (opening t c) boards) e n) (entries t c)
+
+-- All that the rounds of a channel settle are occurrences of its entries.
+abbrev pub AreOccurrences : Type 0
+AreOccurrences = (t : Tables) (c : Channel) (boards : List Board) →
+    AllByRecursion (λ (round : Round). AllByRecursion (IsOccurrence (entries t c)) round.settled)
+    (rounds_on (opening t c) boards)

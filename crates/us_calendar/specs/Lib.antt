@@ -17,5 +17,7 @@ pub mod Runs
 pub mod Kept
 -- laws of settling
 pub mod Laws
--- the definitions at small inputs
+-- the definitions at small inputs: entries,
+pub mod EntryExamples
+-- and what becomes of their occurrences
 pub mod Examples

@@ -1,6 +1,6 @@
 -- What becomes of an occurrence over the rounds of a run.
 use Rattle.std.specs.Prelude.{◌≡◌, ℕ, ◌+◌, ◌*◌, ◌/◌, ◌%◌, ◌<◌, ◌≤◌, ◌==◌, nat_lt, ◌&&◌, ◌||◌, Bool, true, false, List, [], ◌∷◌, length, flat_map, filter, take, sum_by, count_by, slice_get, Some, None}
-use Rattle.std.specs.List.{AllByRecursion}
+use Rattle.std.specs.List.{AllByRecursion, Contains}
 use Rattle.us_slots.specs.Times.{start_of}
 use Rattle.us_holes.specs.Boards.{Board, Interval, fits, assign_all}
 use Rattle.us_calendar.specs.Entries.{Entry, rank_of}
@@ -43,7 +43,14 @@ abbrev pub misses : Entry → ℕ → Settled → Bool
 misses e n (told.Granted kind id i k start slots owner) = false
 misses e n (told.Missed kind id i k) = is_name e n (rank_of kind) id i k
 
--- how often that is so of what these rounds settled
+-- it grants or misses an occurrence of one of these entries
+pub record IsOccurrence (es : List Entry) (s : Settled) : Type 0 where
+  pub entry : Entry
+  pub among : Contains es entry
+  pub number : ℕ
+  pub named : (grants entry number s || misses entry number s) ≡ true
+
+-- how often it is so of what these rounds settled
 abbrev pub times : (Settled → Bool) → List Round → ℕ
 times is rounds = sum_by (λ round. count_by is round.settled) rounds
 

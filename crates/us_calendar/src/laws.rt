@@ -1,6 +1,6 @@
 //! Laws of the definitions of the calendar, each as the contract of a function that does nothing.
 
-ghost use Rattle.us_calendar.specs.Laws.{FirstOnes, GrantsFit, SettledOnce};
+ghost use Rattle.us_calendar.specs.Laws.{AreOccurrences, FirstOnes, GrantsFit, SettledOnce};
 
 /// What is settled of an entry are its first occurrences, and so they are after a round.
 pub fn first_ones()
@@ -15,4 +15,9 @@ pub fn grants_fit()
 /// Each occurrence is granted in its window or missed, once, where its window ends in a run.
 pub fn settled_once()
     ensures { SettledOnce }
+{}
+
+/// All that the rounds of a channel settle are occurrences of its entries.
+pub fn all_are_occurrences()
+    ensures { AreOccurrences }
 {}

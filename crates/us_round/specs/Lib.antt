@@ -16,8 +16,10 @@ pub mod OutputLaws
 pub mod PlacementExamples
 -- what a round gives,
 pub mod OutputExamples
--- and whole rounds
+-- whole rounds,
 pub mod RoundExamples
+-- and rounds with calendars
+pub mod CalendarExamples
 -- what a round's grants take, and what a state keeps
 pub mod States
 -- the texts of faults
@@ -30,10 +32,12 @@ pub mod Steps
 pub mod Machines
 -- the channels that they open and build,
 pub mod Parts
--- the round that they come to, and runs of such rounds
+-- the round that they come to, and runs of such rounds,
 pub mod Plays
--- and the laws of all these
+-- the laws of all these
 pub mod PlayLaws
+-- and small lists of steps
+pub mod StepExamples
 -- inside the crate, and of no use to a reader of the promise: the claims of a plan as it is kept
 pub mod Claims
 -- what a ledger of steps keeps,

@@ -1,4 +1,4 @@
-ghost use Rattle.std.specs.Prelude.{◌≡◌, ◌≤◌, map, IfOk};
+ghost use Rattle.std.specs.Prelude.{◌≡◌, ◌≤◌, map, IfErr, IfOk};
 ghost use Rattle.us_calendar.specs.Calendars as calendars;
 ghost use Rattle.us_round.specs.Cores.{AreCalendars, with_calendars};
 ghost use Rattle.us_round.specs.Rounds as spec;
@@ -45,7 +45,8 @@ impl State {
     /// Before round 0: nothing is outstanding, every bucket is full, and nothing of the calendars is settled. The fault
     /// is want of memory, and the configuration is given up then.
     pub fn new(alloc: Global, config: Config) -> Result<State, RoundFault>
-        ensures { IfOk result (λ state. state ≡ spec.opening config) }
+        ensures state { IfOk result (λ state. state ≡ spec.opening config) }
+        ensures fault { IfErr result (λ given. given ≡ RoundFault.NoMemory) }
     {
         let calendars = lanes_of(alloc, &config)?;
         let core = Core::new(alloc, config)?;
@@ -79,10 +80,12 @@ impl State {
         &self.core
     }
 
-    /// The F lines: of each SID cluster in table order what is outstanding, and the units of its flow's bucket.
+    /// The F lines: of each SID cluster in table order what is outstanding, and the units of its flow's bucket. The fault
+    /// is want of memory.
     #[tactic(auto, unfolding(crate::specs::Outputs::final_rows))]
     pub fn finals(&self, alloc: Global) -> Result<Vec<Row>, RoundFault>
-        ensures { IfOk result (λ rows. rows.items ≡ final_rows self.now) }
+        ensures rows { IfOk result (λ rows. rows.items ≡ final_rows self.now) }
+        ensures fault { IfErr result (λ given. given ≡ RoundFault.NoMemory) }
     {
         let core = self.core();
         let rows = reporting::final_rows(alloc, core.config(), core.outstanding(), core.buckets())?;

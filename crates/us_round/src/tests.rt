@@ -1,9 +1,11 @@
-//! What no clause says: worked rounds, that workers are at work at the same time, and each allocation refused in
-//! turn.
+//! What no clause says: worked rounds, that workers enter the gate and are at work at the same time, and each allocation
+//! refused in turn.
 
 mod base;
 mod calendars;
+mod entering;
 mod memory;
+mod memory_of_workers;
 mod rounds;
 mod steps;
 mod workers;

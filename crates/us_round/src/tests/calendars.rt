@@ -3,7 +3,7 @@ use super::rounds::BONDED;
 use std::test::Fail;
 
 /// An unsolicited grant splits what is idle on channel 2: cluster 0 has the longer part there.
-const SPLIT: Case<'static> = Case {
+pub(super) const SPLIT: Case<'static> = Case {
     name: "an unsolicited grant between",
     more: "[[flow]]
 id = 2

@@ -1,0 +1,107 @@
+-- What stands in the calendars of two channels, computed by the definitions alone.
+use Rattle.std.specs.Prelude.{◌≡◌, ℕ, [], ◌∷◌, true, Some, None, refl}
+use Rattle.us_slots.specs.Examples.{base_profile, bursts_with}
+use Rattle.us_slots.specs.Bursts.{burst_cost, coded_length}
+use Rattle.us_flows.specs.declared.channels.Channel.{Channel}
+use Rattle.us_flows.specs.declared.stations.Station.{Station}
+use Rattle.us_flows.specs.declared.flows.SchedulingType.{SchedulingType}
+use Rattle.us_flows.specs.declared.flows.SchedulingType.TheVariants.{BestEffort, NonRealTimePolling, RealTimePolling, UnsolicitedGrant}
+use Rattle.us_flows.specs.Tables.{Tables, FlowTable}
+use Rattle.us_calendar.specs.Entries.{Entry, entry_of_flow, entry_of_station, entries}
+use Rattle.us_calendar.specs.declared.kinds.Kind.{Kind}
+use Rattle.us_calendar.specs.declared.kinds.Kind.TheVariants as kinds
+
+-- the base channel with this id: minislots of 64 symbols, of which a poll has 2 and a station 4
+abbrev channel : ℕ → Channel
+channel id = record {
+  id = id;
+  bursts = bursts_with base_profile;
+  ucd_count = 0;
+  ranging_backoff = 2 ∷ 6 ∷ [];
+  data_backoff = 3 ∷ 8 ∷ [];
+  request_minislots = 2;
+  contention_minislots = 10;
+  maintenance_minislots = 0;
+  maintenance_every = 1;
+  station_minislots = 4;
+}
+
+-- a flow with this id and type on channels 2 and 1, in this order, that has two clusters
+abbrev flow : ℕ → SchedulingType → FlowTable
+flow id kind = record {
+  id = id;
+  kind = kind;
+  channels = 2 ∷ 1 ∷ [];
+  clusters = (292 ∷ 291 ∷ []) ∷ (294 ∷ 293 ∷ []) ∷ [];
+  priority = 0;
+  rate = 0;
+  burst = 3044;
+  unit = 4;
+  headers = true;
+  start_us = 1000;
+  interval_us = 10000;
+  jitter_us = 500;
+  grant_bytes = 17;
+  grants_per_interval = 3;
+}
+
+-- the maintenance of a station on channel 2
+abbrev station : Station
+station = record { id = 5; channel = 2; sid = 300; start_us = 1000; interval_us = 10000; jitter_us = 500 }
+
+-- an entry of these times, in quarter microseconds
+abbrev entry : Kind → ℕ → ℕ → ℕ → ℕ → ℕ → Entry
+entry kind id sid iuc slots grants = record {
+  kind = kind;
+  id = id;
+  owner = record { sid = sid; iuc = iuc };
+  slots = slots;
+  start = 4000;
+  interval = 40000;
+  jitter = 2000;
+  grants = grants;
+}
+
+-- a flow is polled on its first channel, with the SID that its first cluster has there,
+poll : entry_of_flow (channel 2) (flow 7 RealTimePolling) ≡ Some (entry kinds.RealTimePoll 7 292 1 2 1)
+poll = refl
+
+-- and on no other one
+no_second_poll : entry_of_flow (channel 1) (flow 7 RealTimePolling) ≡ None
+no_second_poll = refl
+
+-- nobody polls a flow of best effort
+best_effort : entry_of_flow (channel 2) (flow 7 BestEffort) ≡ None
+best_effort = refl
+
+-- 17 bytes are two symbols over a minislot, and no header comes to them
+unsolicited : entry_of_flow (channel 2) (flow 7 UnsolicitedGrant) ≡ Some (entry kinds.Unsolicited 7 292 11 2 3)
+unfolding burst_cost coded_length
+unsolicited = refl
+
+maintenance : entry_of_station (channel 2) station ≡ Some (entry kinds.Station 5 300 4 4 1)
+maintenance = refl
+
+no_maintenance : entry_of_station (channel 1) station ≡ None
+no_maintenance = refl
+
+-- by kind, whatever the order in the tables is, and each kind by id
+abbrev tables : Tables
+tables = record {
+  round_ticks = 320;
+  lead_ticks = 160;
+  channels = channel 1 ∷ channel 2 ∷ [];
+  flows = flow 4 NonRealTimePolling ∷ flow 9 UnsolicitedGrant ∷ flow 3 RealTimePolling ∷ flow 8 UnsolicitedGrant
+      ∷ flow 1 BestEffort ∷ [];
+  stations = station ∷ [];
+}
+
+all_entries : entries tables (channel 2) ≡
+    entry kinds.Unsolicited 8 292 11 2 3 ∷ entry kinds.Unsolicited 9 292 11 2 3 ∷ entry kinds.RealTimePoll 3 292 1 2 1
+    ∷ entry kinds.NonRealTimePoll 4 292 1 2 1 ∷ entry kinds.Station 5 300 4 4 1 ∷ []
+unfolding entries burst_cost coded_length
+all_entries = refl
+
+none_there : entries tables (channel 1) ≡ []
+unfolding entries burst_cost coded_length
+none_there = refl

@@ -1,0 +1,56 @@
+-- Rounds with calendars in small, computed by the definitions alone.
+use Rattle.std.specs.Prelude.{◌≡◌, ℕ, List, [], ◌∷◌, map, refl}
+use Rattle.us_flows.specs.declared.flows.SchedulingType.TheVariants.{UnsolicitedGrant}
+use Rattle.us_flows.specs.Tables.{Tables}
+use Rattle.us_codec.specs.Elements.{word_of}
+use Rattle.us_calendar.specs.Occurrences.{due}
+use Rattle.us_calendar.specs.Settling.{settle_each, settle_row}
+use Rattle.us_split.specs.Plans.{Planned}
+use Rattle.us_round.specs.Rounds.{begun, final, idle, fills_of, opening, round_plan, schedule}
+use Rattle.us_round.specs.Outputs.{RoundOut, out_of}
+use Rattle.us_round.specs.RoundExamples.{round_steps, channel_with, flow_with, base_flow, tables}
+use Rattle.us_round.specs.declared.rows.Row.TheVariants as rows
+use Rattle.us_round.specs.declared.rows.Entry.TheVariants as words
+
+-- MAPs of 16 minislots, the last 2 of which are for contention; the base flow; and two grants of a minislot that are
+-- ideal at minislot 6 of round 1, in a window that ends with it
+abbrev split : Tables
+split = record (tables (channel_with 1 2 0 1 ∷ []) (base_flow
+    ∷ record (flow_with 2 0 (1 ∷ []) ((513 ∷ []) ∷ [])) {
+      kind = UnsolicitedGrant;
+      start_us = 275;
+      interval_us = 10000;
+      grant_bytes = 16;
+      grants_per_interval = 2;
+    } ∷ [])) { round_ticks = 32 }
+
+-- rounds 0 and 1, in the second of which the base flow asks for so many bytes
+abbrev outs : ℕ → List RoundOut
+outs bytes = map (out_of split) (schedule (opening split) ((0 ∷ []) ∷ (bytes ∷ []) ∷ []))
+
+-- The first grant has its minislot, and the second has none and is missed. 13 minislots are idle then, and carry 392
+-- bytes behind a header; but only 7 of them follow on, and these carry 200.
+lines : map (λ out. out.rows) (outs 1000) ≡
+    [] ∷ (rows.Granted 1 1 words.Unsolicited 2 0 0 513 11 6 1 0 ∷ rows.Granted 1 1 words.Requested 1 0 0 291 9 7 7 200
+    ∷ rows.Missed 1 1 words.Unsolicited 2 0 1 ∷ []) ∷ []
+unfolding round_steps due settle_each settle_row
+lines = refl
+
+-- the plan pays for the minislots that are idle once the calendar has its own
+planned :
+    (idle (fills_of (begun (final (opening split) ((0 ∷ []) ∷ [])) (1000 ∷ []))) ≡ 13 ∷ []) ×
+    (map (λ (p : Planned). p.shares) (round_plan (begun (final (opening split) ((0 ∷ []) ∷ [])) (1000 ∷ [])))
+    ≡ (392 ∷ []) ∷ [])
+unfolding round_steps due settle_each settle_row
+planned = (refl, refl)
+
+elements : map (λ out. map (λ m. map word_of m.elements) out.maps) (outs 1000) ≡
+    ((0xfffc4000 ∷ 0xfffc400e ∷ 0x0001c010 ∷ []) ∷ [])
+    ∷ ((0xfffc4000 ∷ 0x0806c006 ∷ 0x048e4007 ∷ 0xfffc400e ∷ 0x0001c010 ∷ []) ∷ []) ∷ []
+unfolding round_steps due settle_each settle_row
+elements = refl
+
+-- what is not asked for credits nothing
+left : (final (opening split) ((0 ∷ []) ∷ (1000 ∷ []) ∷ [])).outstanding ≡ 800 ∷ []
+unfolding round_steps due settle_each settle_row
+left = refl

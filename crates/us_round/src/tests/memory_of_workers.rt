@@ -1,0 +1,15 @@
+use super::base::{answer_of, same};
+use super::calendars::SPLIT;
+use us_crew::OpenGate;
+
+/// Run by `tools/refuse-memory` too, where each allocation is refused in turn: rounds in which a calendar grants, made
+/// by two workers, are answered whole, or as want of memory.
+#[test]
+fn refused_memory(rt: HostRuntime) {
+    // else it was refused to the answer's text
+    if let Ok(answer) = answer_of(rt.alloc(), &rt, &SPLIT, 2, &OpenGate) {
+        if !answer.as_str().ends_with("out of memory") {
+            same(&rt, SPLIT.name, answer.as_str(), SPLIT.answer);
+        }
+    }
+}
