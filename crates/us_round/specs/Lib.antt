@@ -34,7 +34,7 @@ pub mod Machines
 pub mod Parts
 -- the round that they come to, and runs of such rounds,
 pub mod Plays
--- the laws of all these
+-- the laws of all these,
 pub mod PlayLaws
 -- and small lists of steps
 pub mod StepExamples
