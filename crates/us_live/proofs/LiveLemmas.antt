@@ -1,5 +1,5 @@
 -- How a Live is kept, from its opening through its rounds.
-use Rattle.std.proofs.Common.{◌≡◌, ℕ, ◌+◌, ◌*◌, ◌<◌, ◌≤◌, List, [], ◌∷◌, ◌++◌, length, map, slice_index, Option, Some, true, refl, ap, subst, sym, ◌∙◌, arith, length-append}
+use Rattle.std.proofs.Common.{◌≡◌, ℕ, ◌+◌, ◌*◌, ◌<◌, ◌≤◌, List, [], ◌∷◌, ◌++◌, length, map, slice_index, Option, Some, true, ap, subst, sym, ◌∙◌, arith, length-append}
 use Rattle.std.specs.Prelude.{IfSome, IsSomeAnd}
 use Rattle.us_flows.specs.Tables.{Tables, max_run_ticks, rounds_fit}
 use Rattle.us_flows.specs.Clusters.{clusters_of}

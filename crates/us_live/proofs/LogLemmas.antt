@@ -1,9 +1,7 @@
 -- What a log has of each cluster, and what seats took of it.
-use Rattle.std.proofs.Common.{◌≡◌, ℕ, ◌+◌, ◌≤◌, ◌⊎◌, ◌||◌, Bool, true, false, List, [], ◌∷◌, ◌++◌, slice_index, refl, ap, sym, subst, inl, inr, ◌∙◌, arith}
-use Rattle.std.specs.Prelude.{sum_by}
+use Rattle.std.proofs.Common.{◌≡◌, ℕ, ◌+◌, ◌⊎◌, ◌||◌, Bool, true, false, List, [], ◌∷◌, ◌++◌, slice_index, refl, ap, sym, subst, inl, inr, ◌∙◌, arith}
 use Rattle.std.proofs.lemmas.List.Sums.{sum_by-append}
-use Rattle.us_intake.specs.Tallies.{added}
-use Rattle.us_intake.specs.Seats.{Intake, Seat, IsSeat, first_seat, joined_seat}
+use Rattle.us_intake.specs.Seats.{Intake, Seat, first_seat, joined_seat}
 use Rattle.us_intake.proofs.TallyLemmas.{index-added, index-empty}
 use Rattle.us_live.specs.Lives.{Live, logged, with_entry, Feeds, IsCut}
 use Rattle.us_live.specs.Laws.{CutByRounds, opened, submitted, split, joined, joined_to, made, LogBalances, SeatsFeed}

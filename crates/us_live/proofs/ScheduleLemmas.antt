@@ -1,6 +1,5 @@
 -- The schedule over a log with one more cut; what is outstanding was logged.
-use Rattle.std.proofs.Common.{◌≡◌, ℕ, zero, suc, ◌+◌, ◌-◌, ◌*◌, ◌^◌, ◌<◌, ◌≤◌, List, [], ◌∷◌, ◌++◌, length, replicate, map, sum, slice_index, nat_le, true, refl, ap, subst, sym, ◌∙◌, arith}
-use Rattle.std.specs.Prelude.{sum_by}
+use Rattle.std.proofs.Common.{◌≡◌, ℕ, zero, suc, ◌+◌, ◌*◌, ◌^◌, ◌<◌, ◌≤◌, List, [], ◌∷◌, ◌++◌, length, map, sum, slice_index, nat_le, true, refl, ap, ◌∙◌, arith}
 use Rattle.std.specs.List.{AllByRecursion, zip}
 use Rattle.std.proofs.lemmas.Bool.{and_parts, leb-true}
 use Rattle.std.proofs.lemmas.Nat.{mul-le}
@@ -11,8 +10,8 @@ use Rattle.us_flows.specs.Clusters.{clusters_of}
 use Rattle.us_intake.specs.Tallies.{added}
 use Rattle.us_intake.proofs.TallyLemmas.{index-added, index-empty, index_le_sum}
 use Rattle.us_round.specs.Placements.{Grant}
-use Rattle.us_round.specs.Rounds.{State, all_grants, asked, begun, builds_of, credits, final, is_of_cluster, left_of, opening, round_from, round_of, schedule}
-use Rattle.us_round.specs.Outputs.{RoundOut, out_of}
+use Rattle.us_round.specs.Rounds.{State, all_grants, asked, begun, builds_of, final, left_of, opening, round_from, round_of, schedule}
+use Rattle.us_round.specs.Outputs.{out_of}
 use Rattle.us_live.specs.Lives.{logged, rounds_of}
 
 -- One more cut.

@@ -1,6 +1,6 @@
 -- How the code's Live is kept, and what one round makes of a state.
 use Rattle.std.specs.Prelude.{◌≡◌, ℕ, ◌≤◌, ◌++◌, ◌∷◌, [], true, List, length, Option, IfSome, option_map}
-use Rattle.us_flows.specs.Tables.{Tables, rounds_fit}
+use Rattle.us_flows.specs.Tables.{rounds_fit}
 use Rattle.us_flows.specs.Clusters.{clusters_of}
 use Rattle.us_round.specs.Rounds.{State, opening, final, round_of}
 use Rattle.us_round.specs.Outputs.{RoundOut, out_of}

@@ -1,4 +1,4 @@
-use Rattle.std.proofs.Common.{ap, arith, map, rules}
+use Rattle.std.proofs.Common.{ap, map, rules}
 use Rattle.us_live.proofs.LiveLemmas.{inside-opening}
 use Rattle.us_live.proofs.LogLemmas.{feeds-first}
 use Rattle.us_live.proofs.lives.Live.open.Goals as goal
