@@ -4,7 +4,7 @@ ghost use Rattle.us_intake.specs.Tallies.{empty_tally, added};
 ghost use Rattle.us_intake.specs.declared.faults.IntakeFault.TheVariants as fault;
 
 use crate::accounts::{Bytes, Kept, Part, Terms};
-use crate::closed::{Closed, read_words};
+use crate::closing::{Closing, read_words};
 use crate::faults::IntakeFault;
 use crate::seats::Seat;
 use crate::tallies::{add_to, empty_tallies};
@@ -208,13 +208,13 @@ impl Intake {
     }
 
     /// Closes the intake by a seat that is whole. I3: want of memory, and both are given up.
-    pub fn close(self, alloc: Global, seat: Seat) -> Result<Closed, IntakeFault>
+    pub fn close(self, alloc: Global, seat: Seat) -> Result<Closing, IntakeFault>
         requires own { seat.intake ≡ self }
         requires whole { spec.IsWhole seat }
-        ensures submitted { IfOk result (λ closed. closed.submitted.items ≡ seat.submitted) }
-        ensures taken { IfOk result (λ closed. closed.taken.items ≡ seat.taken) }
-        ensures row { IfOk result (λ closed. vec_len closed.left ≡ self.clusters) }
-        ensures balanced { IfOk result (λ closed. closed.submitted.items ≡ added closed.taken.items closed.left.items) }
+        ensures submitted { IfOk result (λ closing. closing.submitted.items ≡ seat.submitted) }
+        ensures taken { IfOk result (λ closing. closing.taken.items ≡ seat.taken) }
+        ensures row { IfOk result (λ closing. vec_len closing.left ≡ self.clusters) }
+        ensures balanced { IfOk result (λ closing. closing.submitted.items ≡ added closing.taken.items closing.left.items) }
         ensures faults { IfErr result (λ given. given ≡ fault.NoMemory) }
     {
         let mut left = vec![in alloc; 0u64; seat.taken.len()]?;
@@ -230,7 +230,7 @@ impl Intake {
         let table = table.close_with(token);
         read_words(&mut left, &table);
         table.free();
-        Ok(Closed {
+        Ok(Closing {
             left,
             submitted,
             taken,

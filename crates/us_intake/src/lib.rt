@@ -8,7 +8,7 @@
 //! intake.submit(&mut second, 0, 700)?; // by another one
 //! intake.cut(&mut first, &mut cuts); // cuts is [1_200], if both came before it
 //! let seat = intake.join(first, second); // whole again
-//! let closed = intake.close(alloc, seat)?; // of each cluster, left and taken are submitted
+//! let closing = intake.close(alloc, seat)?; // of each cluster, left and taken are submitted
 //! ```
 //!
 //! What these words mean stands in `specs/`, in the order of its `Lib.antt`.
@@ -27,7 +27,7 @@ mod tallies;
 mod seats;
 
 // What an intake comes to.
-mod closed;
+mod closing;
 
 // The intake.
 mod intakes;
@@ -35,7 +35,7 @@ mod intakes;
 // What holds of the account, whatever threads do.
 pub mod laws;
 
-pub use closed::Closed;
+pub use closing::Closing;
 pub use faults::IntakeFault;
 pub use intakes::{Intake, MAX_CLUSTERS};
 pub use seats::Seat;

@@ -25,7 +25,7 @@ fn tell_cut(text: &mut String, intake: &Intake, seat: &mut Seat) -> Result<(), A
 }
 
 /// Tells what an intake comes to in its first cluster, where the seat is whole.
-fn tell_closed(
+fn tell_closing(
     alloc: Global,
     text: &mut String,
     intake: Intake,
@@ -36,8 +36,8 @@ fn tell_closed(
     if !seat.is_whole(&intake) {
         return Ok(());
     }
-    if let Ok(closed) = intake.close(alloc, seat) {
-        let (left, submitted, taken) = (&closed.left, &closed.submitted, &closed.taken);
+    if let Ok(closing) = intake.close(alloc, seat) {
+        let (left, submitted, taken) = (&closing.left, &closing.submitted, &closing.taken);
         write!(text, "{left:?} {submitted:?} {taken:?}")?;
     }
     Ok(())
@@ -56,7 +56,7 @@ fn joined(alloc: Global, text: &mut String) -> Result<(), AllocError> {
     tell(text, &seat)?;
     tell_cut(text, &intake, &mut seat)?;
     tell_cut(text, &intake, &mut seat)?;
-    tell_closed(alloc, text, intake, seat)
+    tell_closing(alloc, text, intake, seat)
 }
 
 /// The first seat cuts what the second one has submitted.

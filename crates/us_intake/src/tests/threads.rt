@@ -2,7 +2,7 @@ ghost use Rattle.std.specs.Prelude.{◌≡◌};
 ghost use Rattle.std.specs.Thread.{IsSync};
 
 use super::base::{same, two_seats};
-use crate::{Closed, Intake, Seat};
+use crate::{Closing, Intake, Seat};
 use std::alloc::Global;
 use std::thread::{Threads, join};
 
@@ -68,13 +68,13 @@ fn run<R: Threads + Sync>(rt: &R, intake: &Intake, first: Seat, second: Seat, th
 }
 
 /// Whether what is left and what was taken are what was submitted.
-fn is_balanced(closed: &Closed) -> bool {
-    let found = closed
+fn is_balanced(closing: &Closing) -> bool {
+    let found = closing
         .left
         .iter()
-        .zip(closed.taken.iter())
+        .zip(closing.taken.iter())
         .map(|(left, taken)| left.wrapping_add(*taken));
-    found.eq(closed.submitted.iter().copied())
+    found.eq(closing.submitted.iter().copied())
 }
 
 /// Whether an intake balances in the end, and was told of all that two threads submit.
@@ -85,8 +85,8 @@ fn balances<R: Threads + Sync>(rt: &R, alloc: Global) -> Option<bool> {
     if !seat.is_whole(&intake) {
         return Some(false);
     }
-    let closed = intake.close(alloc, seat).ok()?;
-    Some(is_balanced(&closed) && closed.submitted.as_slice() == [2_450, 100].as_slice())
+    let closing = intake.close(alloc, seat).ok()?;
+    Some(is_balanced(&closing) && closing.submitted.as_slice() == [2_450, 100].as_slice())
 }
 
 #[test]

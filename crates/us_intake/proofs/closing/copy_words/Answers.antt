@@ -3,7 +3,7 @@ use Rattle.std.specs.Mem.Slots.{slots_counts}
 use Rattle.std.proofs.lemmas.Option.{get_or_from_slice_get}
 use Rattle.us_intake.proofs.SumLemmas.{item_at}
 use Rattle.us_intake.proofs.TallyLemmas.{copied, same_tally}
-use Rattle.us_intake.proofs.closed.copy_words.Goals as goal
+use Rattle.us_intake.proofs.closing.copy_words.Goals as goal
 
 pub loop-at-preserved : goal.loop-at-preserved
 loop-at-preserved c =

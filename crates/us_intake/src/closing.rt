@@ -1,20 +1,20 @@
 ghost use Rattle.std.specs.Prelude.{◌≡◌, length, vec_len};
 ghost use Rattle.std.specs.Mem.Slots.{slots_items, slots_len, IsFull};
 
-use atomic_table::Closed as ClosedTable;
+use atomic_table::Closed;
 use std::alloc::Global;
 
 /// What an intake comes to, in bytes by SID cluster: what is left in its words, what was submitted by all its seats,
 /// and what was taken. Of each cluster, what is left and what was taken are what was submitted.
 #[derive(Drop)]
-pub struct Closed {
+pub struct Closing {
     pub left: Vec<u64>,
     pub submitted: Vec<u64>,
     pub taken: Vec<u64>,
 }
 
 /// Reads the words of a table that is closed, in place of as many numbers.
-pub(crate) fn read_words(left: &mut Vec<u64>, table: &ClosedTable<(), Global>)
+pub(crate) fn read_words(left: &mut Vec<u64>, table: &Closed<(), Global>)
     requires row { vec_len left.old ≡ slots_len table.now.words }
     requires full { IsFull table.now.words }
     ensures { left.new.items ≡ slots_items table.now.words }
@@ -22,7 +22,7 @@ pub(crate) fn read_words(left: &mut Vec<u64>, table: &ClosedTable<(), Global>)
     copy_words(left, table);
 }
 
-fn copy_words(left: &mut [u64], table: &ClosedTable<(), Global>)
+fn copy_words(left: &mut [u64], table: &Closed<(), Global>)
     requires row { length left.old ≡ slots_len table.now.words }
     requires full { IsFull table.now.words }
     ensures { left.new ≡ slots_items table.now.words }
