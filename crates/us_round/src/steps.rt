@@ -2,7 +2,7 @@
 //!
 //! Whatever the order is, a complete list makes the round of the cut that stands in it.
 
-ghost use Rattle.std.specs.Prelude.{◌≡◌, ◌+◌, ◌*◌, ◌^◌, ◌<◌, ◌≤◌, ℕ, length, slice_index, option_map, IfOk};
+ghost use Rattle.std.specs.Prelude.{◌≡◌, ◌+◌, ◌*◌, ◌^◌, ◌<◌, ◌≤◌, ℕ, length, slice_index, option_map, IfErr, IfOk};
 ghost use Rattle.std.specs.List.{AllByRecursion};
 ghost use Rattle.us_flows.specs.Tables.{max_run_ticks};
 ghost use Rattle.us_flows.specs.Clusters.{clusters_of};
@@ -77,8 +77,9 @@ pub fn play(
     requires room { (q : ℕ) → q < length words.now →
         slice_index state.outstanding q + (slice_index words.now q + requests.asked rows.now q) < 2 ^ 62 }
     requires time { (state.round + 1) * state.tables.round_ticks ≤ max_run_ticks }
-    ensures { IfOk result (λ found. Plays state words.now rows.now steps.now
+    ensures played { IfOk result (λ found. Plays state words.now rows.now steps.now
         (option_map (λ done. record { state = done.0; words = done.1.items; out = done.2 }) found)) }
+    ensures fault { IfErr result (λ given. given ≡ RoundFault.NoMemory) }
 {
     let channels = state.core().config().channels().len();
     let Some((cut, left)) = tally(alloc, words, rows, channels, steps)? else {

@@ -19,8 +19,8 @@ round_alone-requires-clause-room c =
     rw (c.deref.ensures.value, told.1) (cut-room c.args.state.outstanding c.args.words.now c.args.rows.now
     (length c.channels-channels.result.now) c.args.steps.now c.requires.room told.0)
 
-pub returns : goal.returns
-returns c =
+pub returns-clause-played : goal.returns-clause-played
+returns-clause-played c =
     let told = rw c.in-Some.is at c.in_ok-cut.ensures in
     let cut = c.deref.ensures.value ∙ told.1 in
     let channels = c.channels-channels.ensures.value ∙ ap (λ t. t.channels) (c.config.ensures.value ∙ c.core.ensures.tables) in
