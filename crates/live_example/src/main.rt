@@ -109,7 +109,7 @@ fn make_rounds<R: Threads + Sync>(
         // Here a CMTS would wait until the round is due, and send the MAPs of the answer to the modems. A fault here is
         // want of memory, and then no round is made any more.
         if live
-            .next_round(alloc, rt, intake, &mut seat, 2, &OpenGate)
+            .next_round(rt, alloc, intake, &mut seat, 2, &OpenGate)
             .is_err()
         {
             break;

@@ -35,8 +35,8 @@ struct Texts {
 
 /// Replays the input in memory, for so many rounds and by so many workers, and prints each MAP's elements and the report.
 pub fn pipe<H: Threads + Sync, I: Source, O: Sink>(
-    alloc: Global,
     threads: &H,
+    alloc: Global,
     rounds: u32,
     workers: usize,
     input: &mut I,
@@ -59,7 +59,7 @@ pub fn pipe<H: Threads + Sync, I: Source, O: Sink>(
     ensures output { (O.failed output.new ≡ true) ↔ (result ≡ Err (fault.Device stream.Output)) }
 {
     let text = read_input(alloc, input)?;
-    let texts = replay_text(alloc, threads, rounds, workers, &text)?;
+    let texts = replay_text(threads, alloc, rounds, workers, &text)?;
     print_maps(alloc, &texts.maps, output)?;
     print(output, &texts.report)
 }
@@ -86,8 +86,8 @@ fn read_input<I: Source>(alloc: Global, input: &mut I) -> Result<Vec<u8>, Fault>
 /// Replays a text: a configuration, the mark and a trace.
 #[tactic(auto, using(crate::proofs::PrintoutLemmas::replays, crate::proofs::PrintoutLemmas::refuses))]
 fn replay_text<H: Threads + Sync>(
-    alloc: Global,
     threads: &H,
+    alloc: Global,
     rounds: u32,
     workers: usize,
     text: &[u8],
@@ -100,14 +100,14 @@ fn replay_text<H: Threads + Sync>(
         return Err(Fault::Pipe);
     };
     let config = Config::read(alloc, config)?;
-    replay_trace(alloc, threads, rounds, workers, &config, trace)
+    replay_trace(threads, alloc, rounds, workers, &config, trace)
 }
 
 /// Replays the text of a trace.
 #[tactic(auto, using(crate::proofs::PrintoutLemmas::gives, crate::proofs::PrintoutLemmas::refuses_trace))]
 fn replay_trace<H: Threads + Sync>(
-    alloc: Global,
     threads: &H,
+    alloc: Global,
     rounds: u32,
     workers: usize,
     config: &Config,
@@ -120,8 +120,8 @@ fn replay_trace<H: Threads + Sync>(
     let mut maps = FromWrite::new(Vec::new(alloc));
     let mut report = FromWrite::new(Vec::new(alloc));
     match replay(
-        alloc,
         threads,
+        alloc,
         config,
         &mut FromRead::new(trace),
         rounds,

@@ -70,7 +70,7 @@ where
     match order_of(rt.alloc(), words)? {
         Order::Help(text) => print(output, text.as_str().as_bytes())?,
         Order::Pipe { rounds, workers } => {
-            pipe(rt.alloc(), rt, rounds, workers, input, output)?;
+            pipe(rt, rt.alloc(), rounds, workers, input, output)?;
         }
         Order::Replay(order) => replay_files(rt, rt.alloc(), &order, output)?,
     }

@@ -53,8 +53,8 @@ fn replay_trace<R: Files + Threads + Sync>(
     let mut maps = FromWrite::new(opened(fs::create(rt, order.maps), Stream::Maps)?);
     let mut report = FromWrite::new(opened(fs::create(rt, order.report), Stream::Report)?);
     let summary = replay(
-        alloc,
         rt,
+        alloc,
         config,
         &mut trace,
         order.rounds,

@@ -50,8 +50,8 @@ pub(crate) fn in_halves<
     R: Send + Drop,
     E: Send + Drop,
 >(
-    alloc: Global,
     threads: &H,
+    alloc: Global,
     work: &W,
     phase: Phase,
     start: usize,
@@ -77,14 +77,14 @@ pub(crate) fn in_halves<
             × AreReady (G.entered gate.now phase) (W.accepts work.now) start low.items }
         ensures { Tells (λ answers. answers.items) (W.value work.entry.now)
             (W.may_fail work.entry.now) (W.must_fail work.entry.now) start low.items result }
-    { in_halves(alloc, threads, work, phase, start, low, few, gate) };
+    { in_halves(threads, alloc, work, phase, start, low, few, gate) };
     let back = move || -> Result<Vec<R>, CrewFault<E>>
         requires { IsSync H.row × IsSync W.row × IsSync G.row × IsSend T.row × IsSend R.row × IsSend E.row
             × (middle + vec_len high < 2 ^ 64)
             × AreReady (G.entered gate.now phase) (W.accepts work.now) middle high.items }
         ensures { Tells (λ answers. answers.items) (W.value work.entry.now)
             (W.may_fail work.entry.now) (W.must_fail work.entry.now) middle high.items result }
-    { in_halves(alloc, threads, work, phase, middle, high, others, gate) };
+    { in_halves(threads, alloc, work, phase, middle, high, others, gate) };
     let (front, back) = join(threads, front, back);
     together(front, back)
 }

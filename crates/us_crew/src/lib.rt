@@ -2,7 +2,7 @@
 //!
 //! ```
 //! // `Doubling` answers twice its item
-//! map_owned(alloc, threads, &Doubling, Phase::Build, items, 3, &OpenGate)? // of 1, 2, 3, 4, 5: 2, 4, 6, 8, 10
+//! map_owned(threads, alloc, &Doubling, Phase::Build, items, 3, &OpenGate)? // of 1, 2, 3, 4, 5: 2, 4, 6, 8, 10
 //! ```
 //!
 //! What these words mean stands in `specs/`, in the order of its `Lib.antt`.

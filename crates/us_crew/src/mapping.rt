@@ -25,8 +25,8 @@ pub fn map_owned<
     R: Send + Drop,
     E: Send + Drop,
 >(
-    alloc: Global,
     threads: &H,
+    alloc: Global,
     work: &W,
     phase: Phase,
     items: Vec<T>,
@@ -55,5 +55,5 @@ pub fn map_owned<
     if items.is_empty() {
         return Ok(Vec::new(alloc));
     }
-    in_halves(alloc, threads, work, phase, 0, items, workers, gate)
+    in_halves(threads, alloc, work, phase, 0, items, workers, gate)
 }

@@ -98,8 +98,8 @@ impl Live {
     /// cut, if it came so far.
     pub fn next_round<H: Threads + Sync, G: Gate + Sync>(
         &mut self,
-        alloc: Global,
         threads: &H,
+        alloc: Global,
         intake: &Intake,
         seat: &mut Seat,
         workers: usize,
@@ -121,8 +121,8 @@ impl Live {
             return Err(LiveFault::Failed);
         };
         let (state, out) = make_round(
-            alloc,
             threads,
+            alloc,
             state,
             &mut self.log,
             self.clusters,

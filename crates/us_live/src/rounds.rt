@@ -14,8 +14,8 @@ use us_slots::NoMemory;
 /// Cuts the intake, makes the round of what was found, and puts the cut behind the log. After want of memory the log
 /// has the same cuts, and the state is given up.
 pub(crate) fn make_round<H: Threads + Sync, G: Gate + Sync>(
-    alloc: Global,
     threads: &H,
+    alloc: Global,
     state: State,
     log: &mut Vec<Vec<u64>>,
     clusters: usize,
@@ -39,7 +39,7 @@ pub(crate) fn make_round<H: Threads + Sync, G: Gate + Sync>(
     // Room for the entry comes before the cut, so that no cut that was scheduled goes unlogged.
     log.reserve(1)?;
     let cut = cut_intake(alloc, clusters, intake, seat)?;
-    let Ok((state, out)) = round(alloc, threads, state, &cut, workers, gate) else {
+    let Ok((state, out)) = round(threads, alloc, state, &cut, workers, gate) else {
         // The number of workers was looked at before.
         return Err(NoMemory);
     };

@@ -60,8 +60,8 @@ impl Collector {
     /// want of memory nothing is said of what stands here.
     pub(crate) fn collect<H: Threads + Sync, G: Gate + Sync>(
         &mut self,
-        alloc: Global,
         threads: &H,
+        alloc: Global,
         asks: &[Ask],
         workers: usize,
         gate: &G,
@@ -80,7 +80,7 @@ impl Collector {
         let Some((intake, seat)) = self.intake.take() else {
             return Err(NoMemory);
         };
-        let mut seat = gather(alloc, threads, &intake, seat, asks, workers, gate)?;
+        let mut seat = gather(threads, alloc, &intake, seat, asks, workers, gate)?;
         cut_words(&intake, &mut seat, &mut self.cut);
         self.intake = Some((intake, seat));
         Ok(())

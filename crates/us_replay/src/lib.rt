@@ -6,7 +6,7 @@
 //! let mut maps = FromWrite::new(maps_file);
 //! let mut report = FromWrite::new(report_file);
 //! // 2 rounds by 4 workers
-//! let summary = replay(alloc, threads, &config, &mut trace, 2, 4, &OpenGate, &mut maps, &mut report)?;
+//! let summary = replay(threads, alloc, &config, &mut trace, 2, 4, &OpenGate, &mut maps, &mut report)?;
 //! ```
 //!
 //! What these bytes are stands in `specs/`, in the order of its `Lib.antt`.

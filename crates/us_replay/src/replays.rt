@@ -34,8 +34,8 @@ mod tallies;
 /// and the U line are written, and both writers are flushed, the maps file's first. The first fault ends the replay
 /// (RU4, RU5, RU6).
 pub fn replay<H: Threads + Sync, R: Source, W1: Sink, W2: Sink, G: Gate + Sync>(
-    alloc: Global,
     threads: &H,
+    alloc: Global,
     config: &Config,
     trace: &mut R,
     rounds: u32,
@@ -63,7 +63,7 @@ pub fn replay<H: Threads + Sync, R: Source, W1: Sink, W2: Sink, G: Gate + Sync>(
 {
     check_run(config, rounds, workers)?;
     let trace = Trace::read(alloc, trace, config, rounds)?;
-    run(alloc, threads, config, &trace, workers, gate, maps, report)
+    run(threads, alloc, config, &trace, workers, gate, maps, report)
 }
 
 /// Looks at the numbers of a replay: RU1 where the rounds don't fit, and else RU2 where the workers are 0 or over 64.
@@ -86,8 +86,8 @@ pub fn check_run(config: &Config, rounds: u32, workers: usize) -> Result<(), Run
 
 /// Replays a trace that was read.
 fn run<H: Threads + Sync, W1: Sink, W2: Sink, G: Gate + Sync>(
-    alloc: Global,
     threads: &H,
+    alloc: Global,
     config: &Config,
     trace: &Trace,
     workers: usize,
@@ -114,8 +114,8 @@ fn run<H: Threads + Sync, W1: Sink, W2: Sink, G: Gate + Sync>(
         return Err(RunFault::NoMemory(0));
     };
     run_on(
-        alloc,
         threads,
+        alloc,
         trace,
         state,
         &mut progress,
@@ -140,8 +140,8 @@ fn opened(alloc: Global, config: &Config) -> Result<State, NoMemory>
 /// Replays a trace from before round 0 on. That the progress stands with the caller spares each way out of here to give
 /// it up.
 fn run_on<H: Threads + Sync, W1: Sink, W2: Sink, G: Gate + Sync>(
-    alloc: Global,
     threads: &H,
+    alloc: Global,
     trace: &Trace,
     state: State,
     progress: &mut Progress,
@@ -167,7 +167,7 @@ fn run_on<H: Threads + Sync, W1: Sink, W2: Sink, G: Gate + Sync>(
     let rounds = trace.rounds();
     for done in 0..rounds {
         let asks = trace.asks(done);
-        let Ok(next) = make_round(alloc, threads, state, progress, asks, workers, gate) else {
+        let Ok(next) = make_round(threads, alloc, state, progress, asks, workers, gate) else {
             return Err(RunFault::NoMemory(done));
         };
         state = next;
@@ -189,8 +189,8 @@ fn run_on<H: Threads + Sync, W1: Sink, W2: Sink, G: Gate + Sync>(
 
 /// Makes the round of a state and these asks, and its texts. After want of memory nothing is said of `progress`.
 fn make_round<H: Threads + Sync, G: Gate + Sync>(
-    alloc: Global,
     threads: &H,
+    alloc: Global,
     state: State,
     progress: &mut Progress,
     asks: &[Ask],
@@ -201,8 +201,8 @@ fn make_round<H: Threads + Sync, G: Gate + Sync>(
     requires workers { 1 ≤ workers }
     ensures { IfOk result (λ next. IsMade state progress.old asks.now next progress.new) }
 {
-    progress.take_asks(alloc, threads, asks, workers, gate)?;
-    let Ok((next, out)) = round(alloc, threads, state, progress.cut(), workers, gate) else {
+    progress.take_asks(threads, alloc, asks, workers, gate)?;
+    let Ok((next, out)) = round(threads, alloc, state, progress.cut(), workers, gate) else {
         // The number of workers was looked at before the first round.
         return Err(NoMemory);
     };

@@ -4,7 +4,7 @@
 //! ```
 //! let state = State::new(alloc, config)?; // nothing is outstanding, and every bucket is full
 //! // the first cluster asks for 1,000 bytes, and two workers make the channels
-//! let (state, out) = round(alloc, threads, state, &[1_000], 2, &OpenGate)?;
+//! let (state, out) = round(threads, alloc, state, &[1_000], 2, &OpenGate)?;
 //! let maps = out.maps(); // a MAP for each channel, in table order
 //! let finals = state.finals(alloc)?; // what is outstanding, and the units of the buckets
 //! ```

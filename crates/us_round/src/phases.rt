@@ -63,8 +63,8 @@ impl<'a> Work<Filled, Built, NoMemory> for Building<'a> {
 
 /// The channels of a round in table order, each after its reserves and its calendar, which workers do.
 pub(crate) fn fill_all<H: Threads + Sync, G: Gate + Sync>(
-    alloc: Global,
     threads: &H,
+    alloc: Global,
     core: &Core,
     calendars: Vec<Lane>,
     workers: usize,
@@ -78,7 +78,7 @@ pub(crate) fn fill_all<H: Threads + Sync, G: Gate + Sync>(
     let round = core.round();
     let items = with_channels(alloc, config, calendars)?;
     let work = Filling { config, round };
-    answers(map_owned(alloc, threads, &work, Phase::Fill, items, workers, gate))
+    answers(map_owned(threads, alloc, &work, Phase::Fill, items, workers, gate))
 }
 
 /// The channels in table order, each with its calendar.
@@ -102,8 +102,8 @@ pub(crate) fn with_channels(
 
 /// Places the claims of a plan on all channels, which workers do.
 pub(crate) fn build_all<H: Threads + Sync, G: Gate + Sync>(
-    alloc: Global,
     threads: &H,
+    alloc: Global,
     config: &Config,
     plan: &[TurnShares],
     all: Vec<Filled>,
@@ -115,7 +115,7 @@ pub(crate) fn build_all<H: Threads + Sync, G: Gate + Sync>(
     ensures { IfOk result (λ builds. builds.items ≡ map (kept.kept_build config.now plan.now) all.items) }
 {
     let work = Building { config, plan };
-    answers(map_owned(alloc, threads, &work, Phase::Build, all, workers, gate))
+    answers(map_owned(threads, alloc, &work, Phase::Build, all, workers, gate))
 }
 
 /// What workers answered, or want of memory.

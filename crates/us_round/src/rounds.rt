@@ -37,8 +37,8 @@ use us_split::{Plan, plan_with};
 /// Each cluster's outstanding bytes and its cut together have to be below 2^62, and the round has to end at tick 2^26
 /// or before. On a fault the state is given up.
 pub fn round<H: Threads + Sync, G: Gate + Sync>(
-    alloc: Global,
     threads: &H,
+    alloc: Global,
     state: State,
     cuts: &[u64],
     workers: usize,
@@ -67,7 +67,7 @@ pub fn round<H: Threads + Sync, G: Gate + Sync>(
         return Err(RoundFault::Workers);
     }
     let (core, before, calendars) = begin(alloc, state, cuts)?;
-    let built = build(alloc, threads, &core, &before, calendars, workers, gate)?;
+    let built = build(threads, alloc, &core, &before, calendars, workers, gate)?;
     let done = finish(alloc, core, before, built)?;
     Ok(done)
 }
@@ -92,8 +92,8 @@ pub(crate) fn begin(
 /// The channels of a round that has begun, with all claims placed: boards are planned together, once reserves and
 /// calendars have their minislots, and built one by one.
 fn build<H: Threads + Sync, G: Gate + Sync>(
-    alloc: Global,
     threads: &H,
+    alloc: Global,
     core: &Core,
     demands: &[u64],
     calendars: Vec<Lane>,
@@ -105,11 +105,11 @@ fn build<H: Threads + Sync, G: Gate + Sync>(
     requires time { (core.now.round + 1) * core.now.tables.round_ticks ≤ max_run_ticks }
     ensures { IfOk result (λ built. AreBuilt core.now calendars.items built.items) }
 {
-    let filled = fill_all(alloc, threads, core, calendars, workers, gate)?;
+    let filled = fill_all(threads, alloc, core, calendars, workers, gate)?;
     let plan = plan_round(alloc, core, demands, &filled)?;
     build_all(
-        alloc,
         threads,
+        alloc,
         core.config(),
         plan.turns(),
         filled,

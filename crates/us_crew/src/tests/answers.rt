@@ -59,7 +59,7 @@ static CASES: &[Case<'static>] = &[
 #[test]
 fn answers_and_faults(rt: HostRuntime) -> Result<(), Fail> {
     for case in CASES {
-        let answer = map_case(rt.alloc(), &rt, case, &OpenGate)?;
+        let answer = map_case(&rt, rt.alloc(), case, &OpenGate)?;
         let told = tell(rt.alloc(), &answer)?;
         same(&rt, case.name, told.as_str(), case.answer);
     }

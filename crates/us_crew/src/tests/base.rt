@@ -56,16 +56,16 @@ pub(super) fn numbers_to(alloc: Global, last: u64) -> Result<Vec<u64>, AllocErro
 
 /// What is answered for a case.
 pub(super) fn map_case<H: Threads + Sync, G: Gate + Sync>(
-    alloc: Global,
     threads: &H,
+    alloc: Global,
     case: &Case<'_>,
     gate: &G,
 ) -> Result<Result<Vec<u64>, CrewFault<u64>>, AllocError> {
     let numbers = numbers_to(alloc, case.numbers)?;
     let work = Doubling { most: case.most };
     Ok(map_owned(
-        alloc,
         threads,
+        alloc,
         &work,
         Phase::Build,
         numbers,

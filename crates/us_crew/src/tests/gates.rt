@@ -55,7 +55,7 @@ const FOUR: Case<'static> = Case {
 #[test]
 fn workers_meet(rt: HostRuntime) -> Result<(), Fail> {
     let gate = Meeting::new(4, 100_000_000);
-    let answer = map_case(rt.alloc(), &rt, &FOUR, &gate)?;
+    let answer = map_case(&rt, rt.alloc(), &FOUR, &gate)?;
     let told = tell(rt.alloc(), &answer)?;
     same(&rt, FOUR.name, told.as_str(), FOUR.answer);
     assert!(&rt; !gate.missed.load(Ordering::SeqCst), "a worker came alone");
@@ -67,7 +67,7 @@ fn workers_meet(rt: HostRuntime) -> Result<(), Fail> {
 fn one_worker_is_alone(rt: HostRuntime) -> Result<(), Fail> {
     let gate = Meeting::new(4, 1_000);
     let case = Case { workers: 1, ..FOUR };
-    let answer = map_case(rt.alloc(), &rt, &case, &gate)?;
+    let answer = map_case(&rt, rt.alloc(), &case, &gate)?;
     let told = tell(rt.alloc(), &answer)?;
     same(&rt, "one worker", told.as_str(), FOUR.answer);
     assert!(&rt; gate.missed.load(Ordering::SeqCst), "one worker met others");

@@ -6,7 +6,7 @@ use crate::OpenGate;
 /// want of memory.
 #[test]
 fn refused_memory(rt: HostRuntime) {
-    let Ok(answer) = map_case(rt.alloc(), &rt, &DOUBLED, &OpenGate) else {
+    let Ok(answer) = map_case(&rt, rt.alloc(), &DOUBLED, &OpenGate) else {
         return;
     };
     let Ok(told) = tell(rt.alloc(), &answer) else {

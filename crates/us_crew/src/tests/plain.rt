@@ -26,10 +26,10 @@ fn as_rayon_collects(rt: HostRuntime) -> Result<(), Fail> {
         workers: 7,
         ..DOUBLED
     };
-    let answer = map_case(rt.alloc(), &rt, &case, &OpenGate)?;
+    let answer = map_case(&rt, rt.alloc(), &case, &OpenGate)?;
     let told = tell(rt.alloc(), &answer)?;
     let numbers = numbers_to(rt.alloc(), case.numbers)?;
-    let by_rayon = doubled(rt.alloc(), &rt, &numbers)?;
+    let by_rayon = doubled(&rt, rt.alloc(), &numbers)?;
     let wanted = tell(rt.alloc(), &Ok(by_rayon))?;
     same(&rt, "5,000 numbers", told.as_str(), wanted.as_str());
     Ok(())

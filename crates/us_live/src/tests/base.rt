@@ -76,8 +76,8 @@ fn text_of(alloc: Global, flow: &str) -> Result<String, AllocError> {
 
 /// Tells of the next rounds, each by so many workers, or why there is none.
 pub(super) fn tell_rounds<H: Threads + Sync, G: Gate + Sync>(
-    alloc: Global,
     threads: &H,
+    alloc: Global,
     text: &mut String,
     live: &mut Live,
     intake: &Intake,
@@ -88,7 +88,7 @@ pub(super) fn tell_rounds<H: Threads + Sync, G: Gate + Sync>(
     requires { Feeds live.old intake.now seat.old }
 {
     for workers in workers {
-        match live.next_round(alloc, threads, intake, seat, *workers, gate) {
+        match live.next_round(threads, alloc, intake, seat, *workers, gate) {
             Ok(out) => tell(text, &out)?,
             Err(fault) => write!(text, "{fault}; ")?,
         }

@@ -11,8 +11,8 @@ use us_intake::{Intake, Seat};
 /// Submits and makes a round, over and over, until a fault comes. Whether the log has the rounds that were answered, and
 /// the fault is the end of all rounds, or want of memory and then LV4.
 fn all_rounds<H: Threads + Sync>(
-    alloc: Global,
     threads: &H,
+    alloc: Global,
     live: &mut Live,
     intake: &Intake,
     seat: &mut Seat,
@@ -23,11 +23,11 @@ fn all_rounds<H: Threads + Sync>(
 {
     for made in 0..4_usize {
         let _ = intake.submit(seat, 0, 1_000);
-        match live.next_round(alloc, threads, intake, seat, 1, &OpenGate) {
+        match live.next_round(threads, alloc, intake, seat, 1, &OpenGate) {
             Ok(_) => (),
             Err(LiveFault::Done) => return made == 3 && live.cut_log().len() == 3,
             Err(fault) => {
-                let again = live.next_round(alloc, threads, intake, seat, 1, &OpenGate);
+                let again = live.next_round(threads, alloc, intake, seat, 1, &OpenGate);
                 return fault == LiveFault::NoMemory
                     && again.err() == Some(LiveFault::Failed)
                     && live.cut_log().len() == made;
@@ -43,7 +43,7 @@ fn is_sound<H: Threads + Sync>(alloc: Global, threads: &H) -> bool {
         Ok(opened) => opened,
         Err(fault) => return fault == LiveFault::NoMemory,
     };
-    if !all_rounds(alloc, threads, &mut live, &intake, &mut seat) || !seat.is_whole(&intake) {
+    if !all_rounds(threads, alloc, &mut live, &intake, &mut seat) || !seat.is_whole(&intake) {
         return false;
     }
     match intake.close(alloc, seat) {

@@ -6,8 +6,8 @@ use us_crew::OpenGate;
 /// A seat that was split off submits 1,000 bytes and is joined. Then three rounds are asked for, of which the
 /// scheduler has two, after one by no worker.
 fn joined<H: Threads + Sync>(
-    alloc: Global,
     threads: &H,
+    alloc: Global,
     text: &mut String,
 ) -> Result<(), AllocError> {
     let Ok((mut live, intake, seat)) = open(alloc, ONE, 2, 10_000) else {
@@ -20,14 +20,14 @@ fn joined<H: Threads + Sync>(
     let mut seat = intake.join(first, second);
     let workers = &[0, 1, 1, 1];
     tell_rounds(
-        alloc, threads, text, &mut live, &intake, &mut seat, workers, &OpenGate,
+        threads, alloc, text, &mut live, &intake, &mut seat, workers, &OpenGate,
     )
 }
 
 #[test]
 fn worked_rounds(rt: HostRuntime) -> Result<(), AllocError> {
     let mut text = String::new(rt.alloc());
-    joined(rt.alloc(), &rt, &mut text)?;
+    joined(&rt, rt.alloc(), &mut text)?;
     same(
         &rt,
         "two rounds",
@@ -40,8 +40,8 @@ fn worked_rounds(rt: HostRuntime) -> Result<(), AllocError> {
 
 /// A seat that was split off submits 500 bytes, and isn't joined.
 fn not_joined<H: Threads + Sync>(
-    alloc: Global,
     threads: &H,
+    alloc: Global,
     text: &mut String,
 ) -> Result<(), AllocError> {
     let Ok((mut live, intake, seat)) = open(alloc, ONE, 2, 10_000) else {
@@ -52,8 +52,8 @@ fn not_joined<H: Threads + Sync>(
     };
     let _ = intake.submit(&mut second, 0, 500);
     tell_rounds(
-        alloc,
         threads,
+        alloc,
         text,
         &mut live,
         &intake,
@@ -66,7 +66,7 @@ fn not_joined<H: Threads + Sync>(
 #[test]
 fn other_seats_are_cut(rt: HostRuntime) -> Result<(), AllocError> {
     let mut text = String::new(rt.alloc());
-    not_joined(rt.alloc(), &rt, &mut text)?;
+    not_joined(&rt, rt.alloc(), &mut text)?;
     same(
         &rt,
         "a seat not joined",

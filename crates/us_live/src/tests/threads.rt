@@ -49,7 +49,7 @@ fn make_all<R: Threads + Sync>(
     ensures { Feeds result.0 intake.now result.1 }
 {
     for _ in 0..20 {
-        let _ = live.next_round(alloc, rt, intake, &mut seat, 1, &OpenGate);
+        let _ = live.next_round(rt, alloc, intake, &mut seat, 1, &OpenGate);
     }
     (live, seat)
 }

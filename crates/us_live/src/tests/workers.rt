@@ -51,8 +51,8 @@ impl Gate for Meeting {
 
 /// Makes a round of two channels by two workers.
 fn round_of_two<H: Threads + Sync>(
-    alloc: Global,
     threads: &H,
+    alloc: Global,
     text: &mut String,
     gate: &Meeting,
 ) -> Result<(), AllocError> {
@@ -60,8 +60,8 @@ fn round_of_two<H: Threads + Sync>(
         return Ok(());
     };
     tell_rounds(
-        alloc,
         threads,
+        alloc,
         text,
         &mut live,
         &intake,
@@ -76,7 +76,7 @@ fn round_of_two<H: Threads + Sync>(
 fn workers_meet(rt: HostRuntime) -> Result<(), AllocError> {
     let gate = Meeting::new();
     let mut text = String::new(rt.alloc());
-    round_of_two(rt.alloc(), &rt, &mut text, &gate)?;
+    round_of_two(&rt, rt.alloc(), &mut text, &gate)?;
     let entered = (
         gate.fills.load(Ordering::SeqCst),
         gate.builds.load(Ordering::SeqCst),

@@ -14,8 +14,8 @@ use us_slots::NoMemory;
 
 /// Has workers submit asks, with seats that are split off a seat and joined to it again.
 pub(super) fn gather<H: Threads + Sync, G: Gate + Sync>(
-    alloc: Global,
     threads: &H,
+    alloc: Global,
     intake: &Intake,
     seat: Seat,
     asks: &[Ask],
@@ -37,7 +37,7 @@ pub(super) fn gather<H: Threads + Sync, G: Gate + Sync>(
     }
     let (seat, chunks) = split_all(alloc, intake, seat, asks, parts)?;
     let work = Submitting { intake };
-    let seats = answers(map_owned(alloc, threads, &work, Phase::Collect, chunks, workers, gate))?;
+    let seats = answers(map_owned(threads, alloc, &work, Phase::Collect, chunks, workers, gate))?;
     Ok(join_all(intake, seat, seats))
 }
 

@@ -67,8 +67,8 @@ impl Progress {
     /// Collects the asks of the next round. After want of memory nothing is said of what stands here.
     pub(crate) fn take_asks<H: Threads + Sync, G: Gate + Sync>(
         &mut self,
-        alloc: Global,
         threads: &H,
+        alloc: Global,
         asks: &[Ask],
         workers: usize,
         gate: &G,
@@ -79,7 +79,7 @@ impl Progress {
         requires room { self.old.collected + chunk_quota asks.now ≤ max_asked }
         ensures { OnOk result (self.new ≡ with_asks self.old asks.now) }
     {
-        self.collector.collect(alloc, threads, asks, workers, gate)
+        self.collector.collect(threads, alloc, asks, workers, gate)
     }
 
     /// What each cluster newly asks for.

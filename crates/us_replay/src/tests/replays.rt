@@ -54,8 +54,8 @@ pub(super) fn outcome(
     let mut maps = FromWrite::new(maps);
     let mut report = FromWrite::new(report);
     let answer = replay(
-        alloc,
         threads,
+        alloc,
         config,
         &mut trace,
         2,
@@ -83,7 +83,7 @@ fn expect(
     wanted: Outcome,
 ) {
     let found = match base(alloc) {
-        Ok(config) => Some(outcome(alloc, rt, &config, 1, &OpenGate, trace, maps, report)),
+        Ok(config) => Some(outcome(rt, alloc, &config, 1, &OpenGate, trace, maps, report)),
         Err(_) => None,
     };
     same(rt, &found, &Some(wanted), "outcome");
@@ -170,7 +170,7 @@ fn is_right(alloc: Global, threads: &(impl Threads + Sync), config: &Config) -> 
     let (maps, report) = (writer(MAPS, 100), writer(REPORT, 100));
     let trace = reader(TRACE, false);
     let (answer, trace, maps, report) = outcome(
-        alloc, threads, config, 1, &OpenGate, trace, maps, report,
+        threads, alloc, config, 1, &OpenGate, trace, maps, report,
     );
     let blameless = !trace.0 && !maps.0 && !report.0;
     let as_wanted = maps.2 && report.2;
@@ -188,7 +188,7 @@ fn refused_memory(rt: HostRuntime) {
     if let Ok(config) = base(rt.alloc()) {
         same(
             &rt,
-            &is_right(rt.alloc(), &rt, &config),
+            &is_right(&rt, rt.alloc(), &config),
             &true,
             "without memory",
         );

@@ -62,7 +62,7 @@ pub(super) fn compare(
     cases: &[Case<'_>],
 ) -> Result<(), AllocError> {
     for case in cases {
-        let answer = answer_of(alloc, rt, case, 1, &OpenGate)?;
+        let answer = answer_of(rt, alloc, case, 1, &OpenGate)?;
         same(rt, case.name, answer.as_str(), case.answer);
     }
     Ok(())
@@ -71,8 +71,8 @@ pub(super) fn compare(
 /// What is answered: of each round its first grants, how many there are, and how many elements and pendings each MAP
 /// has; then the first final lines. A fault stands behind what was answered before it.
 pub(super) fn answer_of<H: Threads + Sync, G: Gate + Sync>(
-    alloc: Global,
     threads: &H,
+    alloc: Global,
     case: &Case<'_>,
     workers: usize,
     gate: &G,
@@ -80,7 +80,7 @@ pub(super) fn answer_of<H: Threads + Sync, G: Gate + Sync>(
     let mut answer = String::new(alloc);
     match config_of(alloc, case) {
         Ok(config) => {
-            if let Err(fault) = run(alloc, threads, &mut answer, config, case, workers, gate) {
+            if let Err(fault) = run(threads, alloc, &mut answer, config, case, workers, gate) {
                 write!(answer, "{fault}")?;
             }
         }
@@ -140,8 +140,8 @@ fn cut_of(
 
 /// Makes the rounds of a case. What can only be wrong with the case is said to be want of memory.
 fn run<H: Threads + Sync, G: Gate + Sync>(
-    alloc: Global,
     threads: &H,
+    alloc: Global,
     answer: &mut String,
     config: Config,
     case: &Case<'_>,
@@ -152,7 +152,7 @@ fn run<H: Threads + Sync, G: Gate + Sync>(
     let mut state = State::new(alloc, config)?;
     for number in 0..case.rounds {
         let cut = cut_of(alloc, case, number, clusters)?;
-        let (next, out) = next_round(alloc, threads, state, &cut, workers, gate)?;
+        let (next, out) = next_round(threads, alloc, state, &cut, workers, gate)?;
         state = next;
         if case.whole {
             tell_whole(answer, &out)?;
@@ -167,8 +167,8 @@ fn run<H: Threads + Sync, G: Gate + Sync>(
 
 /// The round of a state, if it may be made.
 fn next_round<H: Threads + Sync, G: Gate + Sync>(
-    alloc: Global,
     threads: &H,
+    alloc: Global,
     state: State,
     cut: &[u64],
     workers: usize,
@@ -178,7 +178,7 @@ fn next_round<H: Threads + Sync, G: Gate + Sync>(
     let config = core.config();
     let end = (u64::from(state.round()) + 1) * u64::from(config.round_ticks());
     if cut.len() == config.clusters() && end <= 1 << 26 && have_room(core.outstanding(), cut) {
-        round(alloc, threads, state, cut, workers, gate)
+        round(threads, alloc, state, cut, workers, gate)
     } else {
         Err(RoundFault::NoMemory)
     }

@@ -36,7 +36,7 @@ fn one_worker_enters(rt: HostRuntime) -> Result<(), Fail> {
         builds: AtomicUsize::new(0),
         others: AtomicUsize::new(0),
     };
-    let answer = answer_of(rt.alloc(), &rt, &BONDED, 1, &gate)?;
+    let answer = answer_of(&rt, rt.alloc(), &BONDED, 1, &gate)?;
     same(&rt, "one worker", answer.as_str(), BONDED.answer);
     let sums = (
         gate.fills.load(Ordering::SeqCst),

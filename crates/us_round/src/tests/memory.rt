@@ -7,7 +7,7 @@ use us_crew::OpenGate;
 #[test]
 fn refused_memory(rt: HostRuntime) {
     // else it was refused to the answer's text
-    if let Ok(answer) = answer_of(rt.alloc(), &rt, &BONDED, 1, &OpenGate) {
+    if let Ok(answer) = answer_of(&rt, rt.alloc(), &BONDED, 1, &OpenGate) {
         if !answer.as_str().ends_with("out of memory") {
             same(&rt, BONDED.name, answer.as_str(), BONDED.answer);
         }

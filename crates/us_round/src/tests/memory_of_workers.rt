@@ -7,7 +7,7 @@ use us_crew::OpenGate;
 #[test]
 fn refused_memory(rt: HostRuntime) {
     // else it was refused to the answer's text
-    if let Ok(answer) = answer_of(rt.alloc(), &rt, &SPLIT, 2, &OpenGate) {
+    if let Ok(answer) = answer_of(&rt, rt.alloc(), &SPLIT, 2, &OpenGate) {
         if !answer.as_str().ends_with("out of memory") {
             same(&rt, SPLIT.name, answer.as_str(), SPLIT.answer);
         }

@@ -16,7 +16,7 @@ fn numbers_of_workers(rt: HostRuntime) -> Result<(), Fail> {
         } else {
             BONDED.answer
         };
-        let answer = answer_of(rt.alloc(), &rt, &BONDED, workers, &OpenGate)?;
+        let answer = answer_of(&rt, rt.alloc(), &BONDED, workers, &OpenGate)?;
         same(&rt, "workers", answer.as_str(), wanted);
     }
     Ok(())
@@ -69,7 +69,7 @@ impl Gate for Meeting {
 #[test]
 fn workers_meet(rt: HostRuntime) -> Result<(), Fail> {
     let gate = Meeting::new();
-    let answer = answer_of(rt.alloc(), &rt, &BONDED, 2, &gate)?;
+    let answer = answer_of(&rt, rt.alloc(), &BONDED, 2, &gate)?;
     same(&rt, "two workers", answer.as_str(), BONDED.answer);
     let entered = (
         gate.fills.load(Ordering::SeqCst),
