@@ -41,8 +41,8 @@ fn deeds(writer: FromWrite<FakeWriter>) -> Deeds {
 
 /// A replay of 2 rounds by so many workers on these devices.
 pub(super) fn outcome(
-    alloc: Global,
     threads: &(impl Threads + Sync),
+    alloc: Global,
     config: &Config,
     workers: usize,
     gate: &(impl Gate + Sync),
@@ -166,7 +166,7 @@ fn trace_that_fails(rt: HostRuntime) {
 }
 
 /// Whether a replay answers what it may where memory is refused, and blames no device.
-fn is_right(alloc: Global, threads: &(impl Threads + Sync), config: &Config) -> bool {
+fn is_right(threads: &(impl Threads + Sync), alloc: Global, config: &Config) -> bool {
     let (maps, report) = (writer(MAPS, 100), writer(REPORT, 100));
     let trace = reader(TRACE, false);
     let (answer, trace, maps, report) = outcome(
