@@ -1,6 +1,7 @@
 #!/usr/bin/env bash
 # Counts the instructions of a round (valgrind's callgrind) on a channel with 10 and with 1,000 unsolicited flows, of
-# which one has a grant in each round and the others start behind the end of the run: what is far away costs nothing.
+# which one has a grant in each round and the others start behind the end of the run: in the calendar what is far away
+# costs nothing, and the bucket of each flow is gone over all the same.
 # A benchmark and no test.
 # usage: bench/entries.sh [PROGRAM], the program being crates/mapsim/out/mapsim where none is named
 set -eu
