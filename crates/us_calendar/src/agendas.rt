@@ -57,6 +57,7 @@ pub(crate) fn settle_due(
     ensures len { length board.new.cells ≡ length board.old.cells }
 {
     let count = due_count(due, u64::from(round));
+    settled.reserve(count)?;
     let mut at = 0;
     while at < count {
         let place = place_of(due[at]);

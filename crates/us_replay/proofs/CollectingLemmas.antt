@@ -9,12 +9,12 @@ use Rattle.std.proofs.lemmas.List.Sums.{sum_by-append, sum_by-cons}
 use Rattle.us_crew.specs.Items.{AreAccepted}
 use Rattle.us_crew.specs.Values.{values_from, values_of}
 use Rattle.us_intake.specs.Tallies.{empty_tally, raised, added}
-use Rattle.us_intake.specs.Seats.{Intake, Seat, new_seat, joined_seat, seat_after_submit, seat_after_split, spent}
+use Rattle.us_intake.specs.Seats.{Intake, Seat, joined_seat, seat_after_submit, seat_after_split, spent}
 use Rattle.us_intake.proofs.TallyLemmas.{sum-added, sum-empty, length-added, length-empty}
 use Rattle.us_requests.specs.declared.asks.Ask.{Ask}
 use Rattle.us_requests.specs.Cuts.{asked, cut_of}
 use Rattle.us_requests.specs.Traces.{max_ask}
-use Rattle.us_replay.specs.Collecting.{AreAsks, IsChunk, chunk_quota, joined_seats, seat_after_asks}
+use Rattle.us_replay.specs.Collecting.{AreAsks, CanSubmit, IsChunk, chunk_quota, joined_seats, seat_after_asks}
 use Rattle.us_replay.proofs.CutLemmas.{cut-none, cut-more}
 use Rattle.us_replay.proofs.SumLemmas.{length-cut, sum-cut}
 
@@ -138,56 +138,66 @@ with_submitted seat submitted = record {
   taken = seat.taken;
 }
 
--- a new seat has submitted nothing
-pub none-submitted : (intake : Intake) (quota : ℕ) (seat : Seat) → seat ≡ new_seat intake quota →
+-- the seat of a chunk may submit it
+pub chunk_submits : (intake : Intake) (seat : Seat) (asks : List Ask) → IsChunk intake seat asks →
+    CanSubmit intake seat asks
+chunk_submits intake seat asks chunk = record {
+  own = ap (λ (s : Seat). s.intake) chunk.0;
+  row = ap (λ (s : Seat). length s.submitted) chunk.0 ∙ length-empty intake.clusters;
+  room = omega (
+    arith,
+    ap (λ (s : Seat). s.quota) chunk.0,
+    ap (λ (s : Seat). sum s.submitted) chunk.0,
+    sum-empty intake.clusters,
+  );
+  asks_are = chunk.1;
+}
+
+-- before the first ask
+pub none-submitted : (intake : Intake) (seat : Seat) (asks : List Ask) → CanSubmit intake seat asks →
     seat ≡ seat_after_asks seat []
-none-submitted intake quota seat new =
+none-submitted intake seat asks can =
     let row : length seat.submitted ≡ seat.intake.clusters =
-    ap (λ (s : Seat). length s.submitted) new ∙ length-empty intake.clusters ∙
-    sym (ap (λ (s : Seat). s.intake.clusters) new) in
+    can.row ∙ sym (ap (λ (i : Intake). i.clusters) can.own) in
     ap (with_submitted seat) (sym (added-empty seat.intake.clusters seat.submitted row)) ∙
     ap (λ l. with_submitted seat (added seat.submitted l)) (cut-none seat.intake.clusters)
 
--- the quota of a chunk's seat is enough for one ask more
+-- there is room for one ask more
 pub never-over : (intake : Intake) (seat now : Seat) (asks : List Ask) (i bytes : ℕ) (d : Ask) →
-    now.quota < spent now + bytes → IsChunk intake seat asks → now ≡ seat_after_asks seat (take i asks) → i < length asks →
-    bytes ≡ (get_or asks i d).bytes → ⊥
-never-over intake seat now asks i bytes d over chunk so_far below is =
+    now.quota < spent now + bytes → CanSubmit intake seat asks → now ≡ seat_after_asks seat (take i asks) →
+    i < length asks → bytes ≡ (get_or asks i d).bytes → ⊥
+never-over intake seat now asks i bytes d over can so_far below is =
     let n : ℕ = seat.intake.clusters in
-    let clusters : n ≡ intake.clusters = ap (λ (s : Seat). s.intake.clusters) chunk.0 in
     omega (
       arith,
       over,
       ap (λ (s : Seat). sum s.submitted) so_far,
       ap (λ (s : Seat). s.quota) so_far,
-      ap (λ (s : Seat). s.quota) chunk.0,
+      can.room,
       sum-added seat.submitted (cut_of n (take i asks)),
-      ap (λ (s : Seat). sum s.submitted) chunk.0,
-      sum-empty intake.clusters,
       sum-cut n (take i asks),
-      first-within intake.clusters asks i chunk.1 (omega (arith, below)),
-      (ask-at intake.clusters asks i d chunk.1 below).1,
+      first-within intake.clusters asks i can.asks_are (omega (arith, below)),
+      (ask-at intake.clusters asks i d can.asks_are below).1,
       is,
       below,
     )
 
 -- one ask more
 pub submitted-more : (intake : Intake) (seat now : Seat) (asks : List Ask) (i cluster bytes : ℕ) (d : Ask) →
-    IsChunk intake seat asks → now ≡ seat_after_asks seat (take i asks) → i < length asks →
+    CanSubmit intake seat asks → now ≡ seat_after_asks seat (take i asks) → i < length asks →
     cluster ≡ (get_or asks i d).cluster → bytes ≡ (get_or asks i d).bytes →
     seat_after_submit now cluster bytes ≡ seat_after_asks seat (take (i + 1) asks)
-submitted-more intake seat now asks i cluster bytes d chunk so_far below is has =
+submitted-more intake seat now asks i cluster bytes d can so_far below is has =
     let n : ℕ = seat.intake.clusters in
-    let clusters : n ≡ intake.clusters = ap (λ (s : Seat). s.intake.clusters) chunk.0 in
-    let there : cluster < n = omega (arith, is, clusters, (ask-at intake.clusters asks i d chunk.1 below).0) in
-    let row : length seat.submitted ≡ intake.clusters =
-    ap (λ (s : Seat). length s.submitted) chunk.0 ∙ length-empty intake.clusters in
+    let clusters : n ≡ intake.clusters = ap (λ (i : Intake). i.clusters) can.own in
+    let there : cluster < n = omega (arith, is, clusters, (ask-at intake.clusters asks i d can.asks_are below).0) in
     ap (λ (s : Seat). seat_after_submit s cluster bytes) so_far ∙
     ap (with_submitted seat) (added-raised seat.submitted (cut_of n (take i asks)) cluster bytes
-    (omega (arith, there, row, clusters)) (omega (arith, there, length-cut n (take i asks)))) ∙
+    (omega (arith, there, can.row, clusters)) (omega (arith, there, length-cut n (take i asks)))) ∙
     ap (λ l. with_submitted seat (added seat.submitted l))
     (cut-more (cut_of n (take i asks)) asks n i cluster bytes d refl below is has
-    (subst (λ m. AllByRecursion (λ (ask : Ask). ask.cluster < m) asks) (sym clusters) (are-known intake.clusters asks chunk.1)))
+    (subst (λ m. AllByRecursion (λ (ask : Ask). ask.cluster < m) asks) (sym clusters)
+    (are-known intake.clusters asks can.asks_are)))
 
 -- Joining.
 

@@ -17,7 +17,14 @@ AreAsks clusters asks = AllByRecursion (λ ask. (ask.cluster < clusters) × (ask
 abbrev pub chunk_quota : List Ask → ℕ
 chunk_quota asks = max_ask * length asks
 
--- a seat and its chunk
+-- a seat of an intake that may submit these asks yet
+pub record CanSubmit (intake : Intake) (seat : Seat) (asks : List Ask) : Type 0 where
+  pub own : seat.intake ≡ intake
+  pub row : length seat.submitted ≡ intake.clusters
+  pub room : spent seat + chunk_quota asks ≤ seat.quota
+  pub asks_are : AreAsks intake.clusters asks
+
+-- a seat that was split off for a chunk, and the chunk
 abbrev pub IsChunk : Intake → Seat → List Ask → Type 0
 IsChunk intake seat asks = (seat ≡ new_seat intake (chunk_quota asks)) × AreAsks intake.clusters asks
 

@@ -159,7 +159,7 @@ fn budgets_of(alloc: Global, config: &Config, idle: &[u32]) -> Result<Vec<Budget
         IfOk result (λ budgets. budgets.items ≡ map budget (zip config.now.channels idle.now)) }
     ensures apart { IfOk result (λ budgets. AreApart (map (λ b. b.channel.id) budgets.items)) }
 {
-    let mut budgets = Vec::new(alloc);
+    let mut budgets = Vec::with_capacity(alloc, config.channels().len())?;
     for (place, channel) in config.channels().iter().enumerate() {
         budgets.push(Budget::new(*channel, idle[place]))?;
     }

@@ -1,9 +1,9 @@
 ghost use Rattle.std.specs.Prelude.{◌≡◌, ◌+◌, ◌<◌, ◌≤◌, length, IfOk, Ok};
 ghost use Rattle.us_intake.specs.Seats.{spent};
 ghost use Rattle.us_requests.specs.Traces.{max_asks};
-ghost use Rattle.us_replay.specs.Collecting.{AreAsks, chunk_quota, seat_after_asks};
+ghost use Rattle.us_replay.specs.Collecting.{AreAsks, CanSubmit, chunk_quota, seat_after_asks};
 
-use super::seats::{join_all, split_all, split_off};
+use super::seats::{join_all, split_all};
 use super::submitting::{Submitting, submit_all};
 use std::alloc::Global;
 use std::thread::Threads;
@@ -33,7 +33,7 @@ pub(super) fn gather<H: Threads + Sync, G: Gate + Sync>(
 {
     let parts = workers.min(asks.len());
     if parts == 1 {
-        return gather_alone(alloc, intake, seat, asks, gate);
+        return Ok(gather_alone(intake, seat, asks, gate));
     }
     let (seat, chunks) = split_all(alloc, intake, seat, asks, parts)?;
     let work = Submitting { intake };
@@ -41,27 +41,16 @@ pub(super) fn gather<H: Threads + Sync, G: Gate + Sync>(
     Ok(join_all(intake, seat, seats))
 }
 
-/// The same with one chunk, which the calling thread submits: no list is made of it.
-fn gather_alone<G: Gate>(
-    alloc: Global,
-    intake: &Intake,
-    seat: Seat,
-    asks: &[Ask],
-    gate: &G,
-) -> Result<Seat, NoMemory>
-    requires own { seat.intake ≡ intake.now }
-    requires rows { (length seat.submitted ≡ intake.now.clusters) × (length seat.taken ≡ intake.now.clusters) }
-    requires some { 1 ≤ length asks.now }
-    requires asks { AreAsks intake.now.clusters asks.now }
-    requires few { length asks.now ≤ max_asks }
-    requires room { spent seat + chunk_quota asks.now < seat.quota }
-    ensures { IfOk result (λ after. after ≡ seat_after_asks seat asks.now) }
+/// The same with one chunk, which the calling thread submits with the seat itself: none is split off, and no memory is
+/// taken.
+fn gather_alone<G: Gate>(intake: &Intake, seat: Seat, asks: &[Ask], gate: &G) -> Seat
+    requires { CanSubmit intake.now seat asks.now }
+    ensures { result ≡ seat_after_asks seat asks.now }
 {
-    let (seat, new) = split_off(alloc, intake, seat, asks)?;
     gate.enter(Phase::Collect, 0);
-    match submit_all(intake, new, asks) {
-        Ok(new) => Ok(intake.join(seat, new)),
-        Err(_) => Err(NoMemory),
+    match submit_all(intake, seat, asks) {
+        Ok(seat) => seat,
+        Err(_) => unreachable!(),
     }
 }
 

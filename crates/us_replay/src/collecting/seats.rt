@@ -48,7 +48,7 @@ pub(super) fn split_all<'a>(
 }
 
 /// Splits a seat off for a chunk.
-pub(super) fn split_off(
+fn split_off(
     alloc: Global,
     intake: &Intake,
     seat: Seat,

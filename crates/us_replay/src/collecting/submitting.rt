@@ -1,5 +1,5 @@
 ghost use Rattle.std.specs.Prelude.{◌≡◌, IfOk, IsOk};
-ghost use Rattle.us_replay.specs.Collecting.{IsChunk, seat_after_asks};
+ghost use Rattle.us_replay.specs.Collecting.{CanSubmit, IsChunk, seat_after_asks};
 
 use std::alloc::Global;
 use us_crew::Work;
@@ -21,6 +21,7 @@ impl<'a> Work<(Seat, &'a [Ask]), Seat, IntakeFault> for Submitting<'a> {
 
     ghost must_fail = { λ _ _ _. ⊥ };
 
+    #[tactic(auto, using(crate::proofs::CollectingLemmas::chunk_submits))]
     fn run(
         &self,
         _alloc: Global,
@@ -34,7 +35,7 @@ impl<'a> Work<(Seat, &'a [Ask]), Seat, IntakeFault> for Submitting<'a> {
 
 /// Submits each of these asks.
 pub(super) fn submit_all(intake: &Intake, seat: Seat, asks: &[Ask]) -> Result<Seat, IntakeFault>
-    requires { IsChunk intake.now seat asks.now }
+    requires { CanSubmit intake.now seat asks.now }
     ensures value { IfOk result (λ after. after ≡ seat_after_asks seat asks.now) }
     ensures fine { IsOk result }
 {

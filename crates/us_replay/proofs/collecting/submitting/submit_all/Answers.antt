@@ -3,7 +3,7 @@ use Rattle.us_replay.proofs.CollectingLemmas.{none-submitted, never-over, submit
 use Rattle.us_replay.proofs.collecting.submitting.submit_all.Goals as goal
 
 pub loop-ask-init : goal.loop-ask-init
-loop-ask-init c = none-submitted c.args.intake.now _ c.args.seat c.requires.0
+loop-ask-init c = none-submitted c.args.intake.now c.args.seat c.args.asks.now c.requires
 
 pub returns-in_err-submit-clause-fine : goal.returns-in_err-submit-clause-fine
 returns-in_err-submit-clause-fine c =
