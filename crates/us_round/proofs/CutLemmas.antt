@@ -117,7 +117,7 @@ pub record IsEnd (asks : List Ask) (l end : Ledger) (steps : List Step) : Type 0
 set-true : (flags : List Bool) → are_set flags ≡ true → (q : ℕ) → get_or flags q true ≡ true
 set-true flags all q = unset-full flags q (set-none flags all q)
 
-first-two : (a b c : Bool) → (a && (b && c)) ≡ true → (a ≡ true) × (b ≡ true)
+pub first-two : (a b c : Bool) → (a && (b && c)) ≡ true → (a ≡ true) × (b ≡ true)
 first-two true true c is = (refl, refl)
 first-two true false c is = absurd (cc is)
 first-two false b c is = absurd (cc is)

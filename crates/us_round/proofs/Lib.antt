@@ -29,4 +29,5 @@ pub mod StepLemmas
 pub mod CutLemmas
 pub mod PlayLemmas
 pub mod PlayLaws
+pub mod SeatLaws
 pub mod PartLaws

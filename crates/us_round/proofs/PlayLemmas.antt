@@ -30,7 +30,7 @@ asked-total (ask ∷ asks) q = elim (cases_Bool (ask.cluster == q)) [
   | inr other ↦ rw other (omega (arith, asked-total asks q))
 ]
 
-unadded-fresh : (q : ℕ) (asks : List Ask) → unadded q asks (replicate (length asks) false) ≡ total (bytes_for q) asks
+pub unadded-fresh : (q : ℕ) (asks : List Ask) → unadded q asks (replicate (length asks) false) ≡ total (bytes_for q) asks
 unadded-fresh q [] = refl
 unadded-fresh q (ask ∷ asks) = ap (λ n. bytes_for q ask + n) (unadded-fresh q asks)
 
@@ -43,7 +43,7 @@ none-past q n (ask ∷ asks) all past = elim (cases_Bool (ask.cluster == q)) [
   | inr other ↦ rw other (omega (arith, none-past q n asks all.1 past))
 ]
 
-zeros : (n q : ℕ) → slice_index (replicate n 0) q ≡ 0
+pub zeros : (n q : ℕ) → slice_index (replicate n 0) q ≡ 0
 zeros zero q = refl
 zeros (suc n) zero = refl
 zeros (suc n) (suc q) = zeros n q

@@ -1,14 +1,15 @@
 -- Laws of steps and plays.
-use Rattle.std.specs.Prelude.{◌≡◌, ℕ, ◌+◌, ◌<◌, List, length, map, slice_index, Option, Some, None, option_map}
+use Rattle.std.specs.Prelude.{◌≡◌, ℕ, ◌+◌, ◌<◌, ◌==◌, List, length, map, slice_index, Option, Some, None, option_map, IfSome, ⊤}
 use Rattle.std.specs.List.{AllByRecursion}
 use Rattle.us_flows.specs.Tables.{Tables}
 use Rattle.us_requests.specs.declared.asks.Ask.{Ask}
 use Rattle.us_requests.specs.Cuts as requests
 use Rattle.us_round.specs.declared.steps.Step.{Step}
+use Rattle.us_round.specs.declared.steps.Step.TheVariants as step
 use Rattle.us_round.specs.Rounds.{State, opening, fills_of, round_plan, builds_of, schedule, final}
 use Rattle.us_round.specs.Outputs.{out_of}
-use Rattle.us_round.specs.Steps.{IsComplete, total, cut_of, left_of}
-use Rattle.us_round.specs.Machines.{Ledger, Machine, opening_ledger, run, run_machine}
+use Rattle.us_round.specs.Steps.{IsComplete, count, total, cut_of, left_of}
+use Rattle.us_round.specs.Machines.{Ledger, Machine, opening_ledger, run, opening_machine, run_machine}
 use Rattle.us_round.specs.Parts.{Home, Done, parts_after}
 use Rattle.us_round.specs.Plays.{Play, run_of, state_after, cuts_of, words_after}
 
@@ -41,6 +42,33 @@ MachineMakesCuts = (words : List ℕ) (rows : List Ask) (channels : ℕ) (steps 
 abbrev pub SeatsChangeNothing : Type 0
 SeatsChangeNothing = (rows : List Ask) (m : Machine) (steps : List Step) →
     option_map (λ (end : Machine). end.ledger) (run_machine rows m steps) ≡ run rows m.ledger steps
+
+-- and balances. Among these seats, whoever adds or takes stands once,
+abbrev pub IsSeated : List ℕ → Step → Type 0
+IsSeated seats (step.Add row by) = count (λ seat. seat == by) seats ≡ 1
+IsSeated seats (step.Take word by) = count (λ seat. seat == by) seats ≡ 1
+IsSeated seats (step.Open channel) = ⊤
+IsSeated seats (step.Built channel) = ⊤
+
+-- and this is what all of them added to a word, and took of it
+abbrev pub all_added : List ℕ → Machine → ℕ → ℕ
+all_added seats m q = total (λ seat. m.seats.added seat q) seats
+
+abbrev pub all_took : List ℕ → Machine → ℕ → ℕ
+all_took seats m q = total (λ seat. m.seats.took seat q) seats
+
+-- what a word had and what all seats added is what all seats took and what is left; they added all its rows, and took
+-- its cut
+pub record Balances (words : List ℕ) (rows : List Ask) (seats : List ℕ) (end : Machine) (q : ℕ) : Type 0 where
+  pub whole : slice_index words q + all_added seats end q ≡ all_took seats end q + slice_index end.ledger.words q
+  pub added : all_added seats end q ≡ requests.asked rows q
+  pub took : all_took seats end q ≡ slice_index end.ledger.cut q
+
+abbrev pub SeatsBalance : Type 0
+SeatsBalance = (words : List ℕ) (rows : List Ask) (channels : ℕ) (steps : List Step) (seats : List ℕ) →
+    AllByRecursion (λ ask. ask.cluster < length words) rows → AllByRecursion (IsSeated seats) steps →
+    IfSome (run_machine rows (opening_machine words (length rows) channels) steps)
+    (λ end. (q : ℕ) → Balances words rows seats end q)
 
 -- in whichever order complete steps open and build the channels of a round that has begun, each of them stands in the end
 -- as the round has it

@@ -1,10 +1,12 @@
 -- Small lists of steps, computed by the definitions alone.
-use Rattle.std.specs.Prelude.{◌≡◌, ℕ, List, [], ◌∷◌, Option, Some, None, option_map, refl}
+use Rattle.std.specs.Prelude.{◌≡◌, ℕ, List, [], ◌∷◌, slice_index, Option, Some, None, option_map, refl}
+use Rattle.std.specs.List.{AllByRecursion}
 use Rattle.std.proofs.Common.{arith}
 use Rattle.us_requests.specs.declared.asks.Ask.{Ask}
 use Rattle.us_round.specs.Steps.{adds, builds, count, cut_of, left_of, IsComplete}
 use Rattle.us_round.specs.Machines.{Ledger, Machine, after, run, opening_ledger, after_step, run_machine, opening_machine}
 use Rattle.us_round.specs.Plays.{cuts_of, words_after}
+use Rattle.us_round.specs.PlayLaws.{IsSeated, all_added, all_took}
 use Rattle.us_round.specs.declared.steps.Step.{Step}
 use Rattle.us_round.specs.declared.steps.Step.TheVariants as step
 
@@ -84,3 +86,13 @@ accounts : option_map {U = ℕ × ℕ × ℕ} (λ (m : Machine). (m.seats.added 
     (run_machine rows (opening_machine (0 ∷ []) 2 1) one_late) ≡ Some (500, 700, 700)
 unfolding run_machine after_step after
 accounts = refl
+
+-- of a word that had 30 bytes, both together added 1200 and took 730, and 500 are left
+seated : AllByRecursion (IsSeated (3 ∷ 4 ∷ [])) one_late
+seated = (refl, (refl, (tt, (refl, (tt, tt)))))
+
+balance : option_map {U = ℕ × ℕ × ℕ}
+    (λ (m : Machine). (all_added (3 ∷ 4 ∷ []) m 0, all_took (3 ∷ 4 ∷ []) m 0, slice_index m.ledger.words 0))
+    (run_machine rows (opening_machine (30 ∷ []) 2 1) one_late) ≡ Some (1200, 730, 500)
+unfolding run_machine after_step after
+balance = refl

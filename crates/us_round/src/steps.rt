@@ -23,7 +23,8 @@ mod ledger;
 mod laws;
 
 pub use laws::{
-    any_order_builds, machine_makes_cuts, nothing_is_lost, plays_are_rounds, seats_change_nothing,
+    any_order_builds, machine_makes_cuts, nothing_is_lost, plays_are_rounds, seats_balance,
+    seats_change_nothing,
 };
 use ledger::tally;
 
