@@ -162,7 +162,8 @@ impl Board {
         Ok(found)
     }
 
-    /// Puts the runs behind what a list has, as `runs` gives them. Where the list has room for them, no memory is taken.
+    /// Puts the runs behind what a list has, as `runs` gives them. Where the list has room for two an assignment and one
+    /// more, no memory is taken.
     #[tactic(auto, using(crate::proofs::RunLemmas::runs_facts))]
     pub fn push_runs(&self, found: &mut Vec<Run>) -> Result<(), NoMemory>
         ensures value { OnOk result (found.new.items ≡ found.old.items ++ runs.runs_of self.now.cells) }
