@@ -1,4 +1,4 @@
-ghost use Rattle.std.specs.Prelude.{◌≡◌, ◌+◌, ◌/◌, ◌^◌, ◌<◌, ◌++◌, OnOk, IfOk, vec_len, take, drop};
+ghost use Rattle.std.specs.Prelude.{◌≡◌, ◌+◌, ◌/◌, ◌^◌, ◌<◌, ◌≤◌, ◌++◌, OnOk, IfOk, vec_len, take, drop};
 ghost use denote.Param.Send.{IsSync, IsSend};
 ghost use Rattle.us_crew.specs.Parts.{AreReady, Tells, Together};
 
@@ -39,6 +39,17 @@ fn together<R: Drop, E: Drop>(
     Ok(appended(front, back)?)
 }
 
+/// The workers of either half of the items: together as many as there are, of whom each half has one at least.
+fn halved(workers: usize) -> (usize, usize)
+    requires { 2 ≤ workers }
+    ensures all { result.0 + result.1 ≡ workers }
+    ensures front { result.0 ≡ workers / 2 }
+    ensures each { (1 ≤ result.0) × (1 ≤ result.1) }
+{
+    let few = workers / 2;
+    (few, workers - few)
+}
+
 /// Does the work with items by some workers, of which there is one at least: one half of the items by half of the
 /// workers, the other by the others. The first item has the number `start`.
 #[cycle(halves)]
@@ -69,8 +80,7 @@ pub(crate) fn in_halves<
     }
     let high = cut_off(&mut low)?;
     let middle = start + low.len();
-    let few = workers / 2;
-    let others = workers - few;
+    let (few, others) = halved(workers);
     let front = move || -> Result<Vec<R>, CrewFault<E>>
         requires { IsSync H.row × IsSync W.row × IsSync G.row × IsSend T.row × IsSend R.row × IsSend E.row
             × (start + vec_len low < 2 ^ 64)

@@ -9,6 +9,8 @@ pub mod Lines
 pub mod Files
 -- what a replay writes, and what stands after one that ended early
 pub mod Replays
+-- what its faults are told as
+pub mod Faults
 -- the definitions at small inputs
 pub mod LineExamples
 pub mod RunExamples

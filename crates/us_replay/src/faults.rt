@@ -20,7 +20,13 @@ pub enum RunFault {
     NoMemory(u32),
 }
 
+/// Writes the text of a fault.
 impl fmt::Display for RunFault {
+    ghost use Rattle.std.specs.Prelude.{Some};
+    ghost use Rattle.us_replay.specs.Faults.{fault_text};
+
+    ghost output = { λ fault. Some (fault_text fault) };
+
     fn fmt<W: fmt::Write>(&self, f: &mut fmt::Formatter<W>) -> fmt::Result {
         let (text, rounds) = match *self {
             RunFault::Rounds => ("RU1: no rounds, or more than a run has ticks for", None),
