@@ -9,7 +9,7 @@ use Rattle.us_flows.specs.Tables.{Tables, max_run_ticks, rounds_fit}
 use Rattle.us_flows.specs.Clusters.{clusters_of}
 use Rattle.us_intake.specs.Tallies.{added}
 use Rattle.us_intake.proofs.TallyLemmas.{index-added, index-empty, index_le_sum}
-use Rattle.us_round.specs.Placements.{Grant}
+use Rattle.us_round.specs.Placements.{PlacedClaim}
 use Rattle.us_round.specs.Rounds.{State, all_grants, asked, begun, builds_of, final, left_of, opening, round_from, round_of, schedule}
 use Rattle.us_round.specs.Outputs.{out_of}
 use Rattle.us_live.specs.Lives.{logged, rounds_of}
@@ -38,7 +38,7 @@ rounds-more t log cut =
 
 -- What a round makes of a state.
 
-index-left : (grants : List Grant) (number : ℕ) (outstanding : List ℕ) (cluster : ℕ) →
+index-left : (grants : List PlacedClaim) (number : ℕ) (outstanding : List ℕ) (cluster : ℕ) →
     slice_index (left_of grants number outstanding) cluster ≤ slice_index outstanding cluster
 index-left grants number [] cluster = omega arith
 index-left grants number (bytes ∷ more) zero = omega arith
@@ -62,7 +62,7 @@ pub after : (state : State) (cut : List ℕ) → After state cut (round_of state
 unfolding round_of round_from
 after state cut =
     let now : List ℕ = asked state.outstanding cut in
-    let grants : List Grant = all_grants (builds_of (begun state cut)) in
+    let grants : List PlacedClaim = all_grants (builds_of (begun state cut)) in
     record {
       tables_are = refl;
       round_is = refl;

@@ -6,7 +6,7 @@ use Rattle.us_codec.specs.Bodies.{MapBody, spelling}
 use Rattle.us_codec.specs.MapsFiles.{Piece, record_bytes, maps_file}
 use Rattle.us_flows.specs.Tables.{Tables}
 use Rattle.us_calendar.specs.Calendars as calendars
-use Rattle.us_round.specs.Placements.{Grant}
+use Rattle.us_round.specs.Placements.{PlacedClaim}
 use Rattle.us_round.specs.Rounds.{State, all_grants, asked, begun, build_on, builds_of, credits, fills_of, is_of_cluster, left_of, opening, round_from, round_of, round_plan}
 use Rattle.us_round.specs.Outputs.{RoundOut, built_map, out_of}
 use Rattle.us_replay.specs.Files.{records}
@@ -14,7 +14,7 @@ use Rattle.us_replay.proofs.SumLemmas.{sum-cons, sum-added}
 
 -- States.
 
-sum-left : (grants : List Grant) (number : ℕ) (xs : List ℕ) → sum (left_of grants number xs) ≤ sum xs
+sum-left : (grants : List PlacedClaim) (number : ℕ) (xs : List ℕ) → sum (left_of grants number xs) ≤ sum xs
 sum-left grants number [] = omega arith
 sum-left grants number (x ∷ xs) =
     omega (
@@ -34,7 +34,7 @@ pub after : (state : State) (cut : List ℕ) → After state cut (round_of state
 unfolding round_of round_from
 after state cut =
     let now : List ℕ = asked state.outstanding cut in
-    let grants : List Grant = all_grants (builds_of (begun state cut)) in
+    let grants : List PlacedClaim = all_grants (builds_of (begun state cut)) in
     record {
       tables_are = refl;
       round_is = refl;

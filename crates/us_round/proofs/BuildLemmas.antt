@@ -7,7 +7,7 @@ use Rattle.us_flows.specs.declared.channels.Channel.{Channel}
 use Rattle.us_flows.specs.Tables.{Tables}
 use Rattle.us_holes.specs.Boards.{Board, assign_all}
 use Rattle.us_split.specs.Shares.{TurnShares}
-use Rattle.us_round.specs.Placements.{Claim, Grant, grant_of, with_grant, grants_of, intervals}
+use Rattle.us_round.specs.Placements.{Claim, PlacedClaim, grant_of, with_grant, grants_of, intervals}
 use Rattle.us_round.specs.Claims.{kept_claim, kept_claims, kept_grant, kept_grants}
 
 -- one turn, and then the others
@@ -26,7 +26,7 @@ grants_step t c board kept plan = by (kept_claim t c.id kept)
     by (Some claim) = refl
 
 -- a grant's interval is assigned first
-pub assign_step : (board : Board) (found : Option Grant) (grants : List Grant) →
+pub assign_step : (board : Board) (found : Option PlacedClaim) (grants : List PlacedClaim) →
     assign_all board (intervals (option_to_list found ++ grants))
     ≡ assign_all (with_grant board found) (intervals grants)
 unfolding assign_all
@@ -35,7 +35,7 @@ assign_step board (Some g) grants = refl
 
 -- a turn further on, what is granted and what follows stay the same
 pub build_more : (t : Tables) (c : Channel) (plan : List TurnShares) (place : ℕ) (kept : TurnShares)
-    (board new : Board) (grants more all : List Grant) (end : Board) → place < length plan →
+    (board new : Board) (grants more all : List PlacedClaim) (end : Board) → place < length plan →
     kept ≡ get_or plan place kept → grants ++ kept_grants t c board (drop place plan) ≡ all →
     assign_all board (intervals (kept_grants t c board (drop place plan))) ≡ end →
     more ≡ grants ++ option_to_list (kept_grant t c board kept) → new ≡ with_grant board (kept_grant t c board kept) →
@@ -44,8 +44,8 @@ pub build_more : (t : Tables) (c : Channel) (plan : List TurnShares) (place : �
 build_more t c plan place kept board new grants more all end inside is granted assigned longer placed =
     let rest : drop place plan ≡ kept ∷ drop (place + 1) plan =
     drop_more plan place kept inside ∙ ap (λ first. first ∷ drop (place + 1) plan) (sym is) in
-    let found : Option Grant = kept_grant t c board kept in
-    let later : List Grant = kept_grants t c (with_grant board found) (drop (place + 1) plan) in
+    let found : Option PlacedClaim = kept_grant t c board kept in
+    let later : List PlacedClaim = kept_grants t c (with_grant board found) (drop (place + 1) plan) in
     let parts : kept_grants t c board (drop place plan) ≡ option_to_list found ++ later =
     ap (kept_grants t c board) rest ∙ grants_step t c board kept (drop (place + 1) plan) in (
       rw (longer, placed) (append_assoc grants (option_to_list found) later
@@ -56,7 +56,7 @@ build_more t c plan place kept board new grants more all end inside is granted a
 
 -- behind the last turn nothing more is granted
 pub build_end : (t : Tables) (c : Channel) (plan : List TurnShares) (place : ℕ) (board : Board)
-    (grants all : List Grant) (end : Board) → length plan ≤ place →
+    (grants all : List PlacedClaim) (end : Board) → length plan ≤ place →
     grants ++ kept_grants t c board (drop place plan) ≡ all →
     assign_all board (intervals (kept_grants t c board (drop place plan))) ≡ end → (grants ≡ all) × (board ≡ end)
 unfolding grants_of kept_claims assign_all

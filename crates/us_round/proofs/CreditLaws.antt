@@ -11,7 +11,7 @@ use Rattle.us_flows.specs.Lawful.{AreApart}
 use Rattle.us_split.proofs.ChannelShareLemmas.{channel_shares}
 use Rattle.us_split.specs.Plans.{Planned, header_bytes, share_at, share_on}
 use Rattle.us_split.specs.PlanLaws.{planned_bytes}
-use Rattle.us_round.specs.Placements.{Claimant, Claim, Grant, claimant_of, claim_at, claim_on, claims, grants_of}
+use Rattle.us_round.specs.Placements.{Claimant, Claim, PlacedClaim, claimant_of, claim_at, claim_on, claims, grants_of}
 use Rattle.us_round.specs.Rounds.{Filled, build_on, all_grants, credits}
 use Rattle.us_round.proofs.SumLemmas.{sum_passing, sum_passing_both, sum_least, sum_both, sum_none}
 use Rattle.us_round.proofs.GrantLaws.{AreShares, grants_are, credits_few}
@@ -106,8 +106,8 @@ unfolding build_on
 builds_few passes plan [] lawful = omega arith
 builds_few passes plan (f ∷ fs) lawful =
     let cs : List Claim = claims f.channel.id plan in
-    let gs : List Grant = grants_of f.channel.bursts f.board cs in
-    let more : List Grant = all_grants (map (build_on plan) fs) in
+    let gs : List PlacedClaim = grants_of f.channel.bursts f.board cs in
+    let more : List PlacedClaim = all_grants (map (build_on plan) fs) in
     let one : credits (λ g. passes g.claimant) gs ≤ passing passes plan f.channel =
     credits_few f.channel.bursts passes f.board cs gs
     (grants_are f.channel.bursts f.board cs lawful.0 (claims_some f.channel.id plan)) in

@@ -7,13 +7,13 @@ use Rattle.std.proofs.lemmas.Bool.{cases_Bool}
 use Rattle.us_slots.specs.Bursts.{ChannelBursts, IsChannelBursts, burst_cost, grant_cost}
 use Rattle.us_slots.proofs.CostLaws.{bytes_cost_minislots}
 use Rattle.us_holes.specs.Boards.{Board, fits, assign, AllFit}
-use Rattle.us_round.specs.Placements.{Claimant, Claim, Spot, Grant, spot, grant_at, grant_of, with_grant, grants_of, intervals}
+use Rattle.us_round.specs.Placements.{Claimant, Claim, Spot, PlacedClaim, spot, grant_at, grant_of, with_grant, grants_of, intervals}
 use Rattle.us_round.specs.Rounds.{credits}
 use Rattle.us_round.proofs.SumLemmas.{sum_passing}
 use Rattle.us_round.proofs.SpotLaws.{IsSpot, spot_is}
 
 -- a grant of a claim on a board
-pub record IsGrantOf (b : ChannelBursts) (board : Board) (claim : Claim) (g : Grant) : Type 0 where
+pub record IsGrantOf (b : ChannelBursts) (board : Board) (claim : Claim) (g : PlacedClaim) : Type 0 where
   pub claimant : g.claimant ≡ claim.claimant
   pub sid : g.interval.owner.sid ≡ claim.sid
   pub cost : (g.interval.slots, g.interval.owner.iuc) ≡ grant_cost b (g.credit + claim.header)
@@ -46,7 +46,7 @@ at_spot b board claim s is found =
       fits = found.fits;
     }
 
-pub grant_is : (b : ChannelBursts) (board : Board) (claim : Claim) (g : Grant) → IsChannelBursts b → 1 ≤ claim.share →
+pub grant_is : (b : ChannelBursts) (board : Board) (claim : Claim) (g : PlacedClaim) → IsChannelBursts b → 1 ≤ claim.share →
     grant_of b board claim ≡ Some g → IsGrantOf b board claim g
 grant_is b board claim g is some found = by (spot b claim.header claim.share board) refl found
   where
@@ -66,7 +66,7 @@ abbrev pub AreShares : List Claim → Type 0
 AreShares cs = AllByRecursion (λ claim. 1 ≤ claim.share) cs
 
 -- these grants are of these claims: each claim has one or none, in their order, and each fits after those before it
-unfoldable pub Granted : ChannelBursts → Board → List Claim → List Grant → Type 0
+unfoldable pub Granted : ChannelBursts → Board → List Claim → List PlacedClaim → Type 0
 Granted b board [] [] = Unit {0}
 Granted b board [] (g ∷ gs) = ⊥
 Granted b board (claim ∷ cs) [] = Granted b board cs []
@@ -74,7 +74,7 @@ Granted b board (claim ∷ cs) (g ∷ gs) =
     Granted b board cs (g ∷ gs)
     ⊎ (IsGrantOf b board claim g × Granted b (assign board g.interval.start g.interval.slots g.interval.owner) cs gs)
 
-passed : (b : ChannelBursts) (board : Board) (claim : Claim) (cs : List Claim) (gs : List Grant) →
+passed : (b : ChannelBursts) (board : Board) (claim : Claim) (cs : List Claim) (gs : List PlacedClaim) →
     Granted b board cs gs → Granted b board (claim ∷ cs) gs
 unfolding Granted
 passed b board claim cs [] rest = rest
@@ -87,7 +87,7 @@ grants_are b board [] is some = tt
 grants_are b board (claim ∷ cs) is some =
     by (grant_of b board claim) refl (λ next. grants_are b next cs is some.1)
   where
-    by : (found : Option Grant) → grant_of b board claim ≡ found →
+    by : (found : Option PlacedClaim) → grant_of b board claim ≡ found →
         ((next : Board) → Granted b next cs (grants_of b next cs)) →
         Granted b board (claim ∷ cs) (option_to_list found ++ grants_of b (with_grant board found) cs)
     by None at rest = passed b board claim cs (grants_of b board cs) (rest board)
@@ -98,7 +98,7 @@ grants_are b board (claim ∷ cs) is some =
         )
 
 -- each fits after those before it
-pub grants_fit : (b : ChannelBursts) (board : Board) (cs : List Claim) (gs : List Grant) → Granted b board cs gs →
+pub grants_fit : (b : ChannelBursts) (board : Board) (cs : List Claim) (gs : List PlacedClaim) → Granted b board cs gs →
     AllFit board (intervals gs)
 unfolding AllFit Granted
 grants_fit b board [] [] all = tt
@@ -117,7 +117,7 @@ less_passing a true less more same is = rw same is
 less_passing a false less more same is = rw same (omega arith)
 
 -- of the claimants that pass, at most the shares are credited
-pub credits_few : (b : ChannelBursts) (passes : Claimant → Bool) (board : Board) (cs : List Claim) (gs : List Grant) →
+pub credits_few : (b : ChannelBursts) (passes : Claimant → Bool) (board : Board) (cs : List Claim) (gs : List PlacedClaim) →
     Granted b board cs gs →
     credits (λ g. passes g.claimant) gs ≤ sum_by (λ c. c.share) (filter (λ c. passes c.claimant) cs)
 unfolding Granted

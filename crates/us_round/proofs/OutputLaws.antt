@@ -8,7 +8,7 @@ use Rattle.std.proofs.lemmas.List.Sorted.{IsPermutation-refl, IsPermutation-tran
 use Rattle.us_flows.specs.declared.channels.Channel.{Channel}
 use Rattle.us_calendar.specs.declared.settled.Settled.{Settled}
 use Rattle.us_calendar.specs.declared.settled.Settled.TheVariants as settled
-use Rattle.us_round.specs.Placements.{Grant}
+use Rattle.us_round.specs.Placements.{PlacedClaim}
 use Rattle.us_round.specs.declared.rows.Row.{Row}
 use Rattle.us_round.specs.Outputs.{start_of, by_start, is_granted, settled_row, grant_row, granted_rows, missed_rows, rows_on}
 use Rattle.us_round.specs.OutputLaws.{IsLineOf, ByStartMoves, LinesBearRound}
@@ -77,7 +77,7 @@ settled_lines round c passes (one ∷ all) = elim (cases_Bool (passes one)) [
     bears (settled.Granted kind id i k start slots owner) = (refl, refl)
     bears (settled.Missed kind id i k) = (refl, refl)
 
-grant_lines : (round : ℕ) (c : Channel) (grants : List Grant) →
+grant_lines : (round : ℕ) (c : Channel) (grants : List PlacedClaim) →
     AllByRecursion (IsLineOf round c) (map (grant_row round c) grants)
 grant_lines round c [] = tt
 grant_lines round c (g ∷ grants) = ((refl, refl), grant_lines round c grants)

@@ -9,7 +9,7 @@ use Rattle.us_flows.specs.Tables.{Tables, FlowTable}
 use Rattle.us_flows.specs.Turns.{turn_at, in_flow}
 use Rattle.us_flows.specs.Clusters.{Turn, turns_of}
 use Rattle.us_flows.specs.Lawful.{AreTables, IsFlow, Between}
-use Rattle.us_round.specs.Placements.{Grant}
+use Rattle.us_round.specs.Placements.{PlacedClaim}
 use Rattle.us_round.specs.Rounds.{credits, is_of_cluster, left_of, first_seat, pending_seat, pending_seats}
 use Rattle.us_round.specs.Leftovers.{still_asking, still_asking_at}
 use Rattle.us_round.proofs.PartLemmas.{all_found, all_weaker}
@@ -172,7 +172,7 @@ known_sids t place flow lawful found =
     flow.clusters is.sids
 
 -- what is left of a cluster
-left-index : (grants : List Grant) (from : ℕ) (before : List ℕ) (n : ℕ) →
+left-index : (grants : List PlacedClaim) (from : ℕ) (before : List ℕ) (n : ℕ) →
     slice_index (left_of grants from before) n ≡ slice_index before n - credits (is_of_cluster (from + n)) grants
 left-index grants from [] n = omega arith
 left-index grants from (bytes ∷ more) zero =
@@ -187,7 +187,7 @@ stays : (left before credit : ℕ) → left ≡ before - credit →
     (nat_lt 0 left && (left == before)) ≡ (nat_lt 0 left && (credit == 0))
 stays left before credit is = grind (arith, is)
 
-same_seat : (grants : List Grant) (before left : List ℕ) (turn : Turn) → left ≡ left_of grants 0 before →
+same_seat : (grants : List PlacedClaim) (before left : List ℕ) (turn : Turn) → left ≡ left_of grants 0 before →
     still_asking before left turn ≡ pending_seat grants left turn
 same_seat grants before left turn is =
     let own : 0 + turn.number ≡ turn.number = omega arith in
@@ -198,7 +198,7 @@ same_seat grants before left turn is =
     (stays (slice_index left turn.number) (slice_index before turn.number) (credits (is_of_cluster turn.number) grants) now)
 
 -- where credits leave what is left, these are the seats that are pending
-pub same_seats : (grants : List Grant) (before left : List ℕ) (turns : List Turn) → left ≡ left_of grants 0 before →
+pub same_seats : (grants : List PlacedClaim) (before left : List ℕ) (turns : List Turn) → left ≡ left_of grants 0 before →
     filter_map (still_asking before left) turns ≡ pending_seats grants left turns
 unfolding pending_seats
 same_seats grants before left [] is = refl

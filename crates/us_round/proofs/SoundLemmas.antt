@@ -20,7 +20,7 @@ use Rattle.us_round.specs.Claims.{kept_build}
 use Rattle.us_split.specs.Shares.{TurnShares, with_shares}
 use Rattle.us_round.proofs.KeptLemmas.{kept_builds_are}
 use Rattle.us_split.specs.PlanLaws.{IsLawfulPlan, planned_bytes}
-use Rattle.us_round.specs.Placements.{Claim, Claimant, Grant, Spot, claimant_of, claim_at, claim_on, claims, spot, grant_at, grants_of, with_grant, intervals}
+use Rattle.us_round.specs.Placements.{Claim, Claimant, PlacedClaim, Spot, claimant_of, claim_at, claim_on, claims, spot, grant_at, grants_of, with_grant, intervals}
 use Rattle.us_round.specs.Rounds.{State, Filled, idle, fills_of, build_on, builds_of, round_plan, all_grants, credits, is_of_flow}
 use Rattle.us_round.specs.Leftovers.{StartsInside, IsBuiltFor, AreInside}
 use Rattle.us_round.specs.States.{IsKnown, AreSound}
@@ -57,7 +57,7 @@ granted_of P b board (claim ∷ cs) h =
     by (spot b claim.header claim.share board) (λ found. granted_of P b (with_grant board found) cs h.1)
   where
     by : (at : Option Spot) →
-        ((found : Option Grant) → AllByRecursion (λ g. P g.claimant) (grants_of b (with_grant board found) cs)) →
+        ((found : Option PlacedClaim) → AllByRecursion (λ g. P g.claimant) (grants_of b (with_grant board found) cs)) →
         AllByRecursion (λ g. P g.claimant) (option_to_list (option_map (grant_at b claim) at)
         ++ grants_of b (with_grant board (option_map (grant_at b claim) at)) cs)
     by None rest = rest None
@@ -104,7 +104,7 @@ all_known t plan fs os bs turns clusters flows =
 
 -- Boards.
 
-lengths : (b : ChannelBursts) (board : Board) (cs : List Claim) (gs : List Grant) → Granted b board cs gs →
+lengths : (b : ChannelBursts) (board : Board) (cs : List Claim) (gs : List PlacedClaim) → Granted b board cs gs →
     AllByRecursion (StartsInside (length board.cells)) gs
 unfolding Granted
 lengths b board [] [] h = tt
@@ -125,7 +125,7 @@ built_sound : (t : Tables) (plan : List Planned) (f : Filled) → IsChannel t f.
 unfolding build_on
 built_sound t plan f is sound =
     let cs : List Claim = claims f.channel.id plan in
-    let gs : List Grant = grants_of f.channel.bursts f.board cs in
+    let gs : List PlacedClaim = grants_of f.channel.bursts f.board cs in
     let granted : Granted f.channel.bursts f.board cs gs = grants_are f.channel.bursts f.board cs is.bursts (claims_some f.channel.id plan) in
     let kept : length (assign_all f.board (intervals gs)).cells ≡ length f.board.cells =
     assign_all-length f.board (intervals gs) (grants_fit f.channel.bursts f.board cs gs granted) in

@@ -8,22 +8,22 @@ use Rattle.std.proofs.lemmas.Option.{slice_get-get_or, get_or_from_slice_get, sl
 use Rattle.std.proofs.lemmas.List.Sums.{sum_by-cons}
 use Rattle.us_bucket.specs.Levels.{Level, full, spent, bytes_in, units_per_byte}
 use Rattle.us_split.specs.PlanLaws.{Within}
-use Rattle.us_round.specs.Placements.{Grant}
+use Rattle.us_round.specs.Placements.{PlacedClaim}
 use Rattle.us_round.specs.Rounds.{Built, credits, all_grants, is_of_cluster, is_of_flow, left_of, spent_of}
 use Rattle.us_round.specs.States.{IsKnown, Covers}
 
 -- a grant's credit counts where it passes
-pub credits-cons : (p : Grant → Bool) (g : Grant) (gs : List Grant) →
+pub credits-cons : (p : PlacedClaim → Bool) (g : PlacedClaim) (gs : List PlacedClaim) →
     credits p (g ∷ gs) ≡ cond (p g) g.credit 0 + credits p gs
 credits-cons p g gs = elim (cases_Bool (p g)) [
   | inl t ↦ rw t (sum_by-cons (λ x. x.credit) g (filter p gs))
   | inr f ↦ rw f (omega arith)
 ]
 
-credits-in : (p : Grant → Bool) (g : Grant) (gs : List Grant) → p g ≡ true → credits p (g ∷ gs) ≡ g.credit + credits p gs
+credits-in : (p : PlacedClaim → Bool) (g : PlacedClaim) (gs : List PlacedClaim) → p g ≡ true → credits p (g ∷ gs) ≡ g.credit + credits p gs
 credits-in p g gs is = credits-cons p g gs ∙ ap (λ b. cond b g.credit 0 + credits p gs) is
 
-credits-out : (p : Grant → Bool) (g : Grant) (gs : List Grant) → p g ≡ false → credits p (g ∷ gs) ≡ credits p gs
+credits-out : (p : PlacedClaim → Bool) (g : PlacedClaim) (gs : List PlacedClaim) → p g ≡ false → credits p (g ∷ gs) ≡ credits p gs
 credits-out p g gs is =
     let nothing : cond (p g) g.credit 0 ≡ 0 = ap (λ b. cond b g.credit 0) is in
     omega (arith, credits-cons p g gs, nothing)
@@ -43,7 +43,7 @@ eqb-self m n same = elim (cases_Bool (eqb m n)) [
 -- Outstanding bytes.
 
 -- a grant takes nothing of the clusters behind its own,
-left_behind : (g : Grant) (gs : List Grant) (number : ℕ) (os : List ℕ) → g.claimant.cluster < number →
+left_behind : (g : PlacedClaim) (gs : List PlacedClaim) (number : ℕ) (os : List ℕ) → g.claimant.cluster < number →
     left_of (g ∷ gs) number os ≡ left_of gs number os
 left_behind g gs number [] h = refl
 left_behind g gs number (o ∷ os) h =
@@ -52,7 +52,7 @@ left_behind g gs number (o ∷ os) h =
     rw (none, left_behind g gs (number + 1) os (omega (arith, h))) refl
 
 -- and its credit of its own
-left_from : (g : Grant) (gs : List Grant) (number place left d : ℕ) (os : List ℕ) → g.claimant.cluster ≡ number + place →
+left_from : (g : PlacedClaim) (gs : List PlacedClaim) (number place left d : ℕ) (os : List ℕ) → g.claimant.cluster ≡ number + place →
     place < length os → left + g.credit ≡ get_or os place d →
     left_of (g ∷ gs) number os ≡ left_of gs number (set os place left)
 left_from g gs number place left d [] at inside is = absurd (omega (arith, inside))
@@ -67,7 +67,7 @@ left_from g gs number (suc place) left d (o ∷ os) at inside is =
     credits-out (is_of_cluster number) g gs (eqb-not g.claimant.cluster number (λ same. omega (arith, same, at))) in
     rw (none, left_from g gs (number + 1) place left d os (omega (arith, at)) (omega (arith, inside)) is) refl
 
-pub left_first : (g : Grant) (gs : List Grant) (left d : ℕ) (os : List ℕ) → g.claimant.cluster < length os →
+pub left_first : (g : PlacedClaim) (gs : List PlacedClaim) (left d : ℕ) (os : List ℕ) → g.claimant.cluster < length os →
     left + g.credit ≡ slice_index_or os g.claimant.cluster d →
     left_of (g ∷ gs) 0 os ≡ left_of gs 0 (slice_set os g.claimant.cluster left)
 left_first g gs left d os inside is = left_from g gs 0 g.claimant.cluster left d os (omega arith) inside is
@@ -98,7 +98,7 @@ spent-none l = elim (cases_Bool (eqb l.rate 0)) [
       rw limit (ap (λ units. record { rate = l.rate; burst = l.burst; units = units }) same)
 ]
 
-spent_behind : (g : Grant) (gs : List Grant) (place : ℕ) (bs : List Level) → g.claimant.place < place →
+spent_behind : (g : PlacedClaim) (gs : List PlacedClaim) (place : ℕ) (bs : List Level) → g.claimant.place < place →
     spent_of (g ∷ gs) place bs ≡ spent_of gs place bs
 spent_behind g gs place [] h = refl
 spent_behind g gs place (b ∷ bs) h =
@@ -106,7 +106,7 @@ spent_behind g gs place (b ∷ bs) h =
     credits-out (is_of_flow place) g gs (eqb-not g.claimant.place place (λ same. omega (arith, same, h))) in
     rw (none, spent_behind g gs (place + 1) bs (omega (arith, h))) refl
 
-spent_from : (g : Grant) (gs : List Grant) (first place : ℕ) (b d : Level) (bs : List Level) →
+spent_from : (g : PlacedClaim) (gs : List PlacedClaim) (first place : ℕ) (b d : Level) (bs : List Level) →
     g.claimant.place ≡ first + place → place < length bs → b ≡ spent g.credit (get_or bs place d) →
     spent_of (g ∷ gs) first bs ≡ spent_of gs first (set bs place b)
 spent_from g gs first place b d [] at inside is = absurd (omega (arith, inside))
@@ -122,7 +122,7 @@ spent_from g gs first (suc place) b d (x ∷ bs) at inside is =
     credits-out (is_of_flow first) g gs (eqb-not g.claimant.place first (λ same. omega (arith, same, at))) in
     rw (none, spent_from g gs (first + 1) place b d bs (omega (arith, at)) (omega (arith, inside)) is) refl
 
-pub spent_first : (g : Grant) (gs : List Grant) (b d : Level) (bs : List Level) → g.claimant.place < length bs →
+pub spent_first : (g : PlacedClaim) (gs : List PlacedClaim) (b d : Level) (bs : List Level) → g.claimant.place < length bs →
     b ≡ spent g.credit (slice_index_or bs g.claimant.place d) →
     spent_of (g ∷ gs) 0 bs ≡ spent_of gs 0 (slice_set bs g.claimant.place b)
 spent_first g gs b d bs inside is = spent_from g gs 0 g.claimant.place b d bs (omega arith) inside is
@@ -148,7 +148,7 @@ within_less None few more less h = tt
 within_less (Some most) few more less h = omega (arith, less, h)
 
 -- the bucket of a grant's flow has its credit
-pub first_allowed : (g : Grant) (gs : List Grant) (os : List ℕ) (bs : List Level) (bucket : Level) → Covers os bs (g ∷ gs) →
+pub first_allowed : (g : PlacedClaim) (gs : List PlacedClaim) (os : List ℕ) (bs : List Level) (bucket : Level) → Covers os bs (g ∷ gs) →
     slice_get bs g.claimant.place ≡ Some bucket → IfSome (bytes_in bucket) (λ most. g.credit ≤ most)
 first_allowed g gs os bs bucket h at =
     let all : Within (bytes_in bucket) (credits (is_of_flow g.claimant.place) (g ∷ gs)) = h.allowed g.claimant.place bucket at in
@@ -162,18 +162,18 @@ first_allowed g gs os bs bucket h at =
     as_some (Some most) h = h
 
 -- what is outstanding of a grant's cluster has its credit
-pub first_asked : (g : Grant) (gs : List Grant) (os : List ℕ) (bs : List Level) → Covers os bs (g ∷ gs) →
+pub first_asked : (g : PlacedClaim) (gs : List PlacedClaim) (os : List ℕ) (bs : List Level) → Covers os bs (g ∷ gs) →
     g.credit ≤ slice_index os g.claimant.cluster
 first_asked g gs os bs h =
     let own : credits (is_of_cluster g.claimant.cluster) (g ∷ gs) ≡ g.credit + credits (is_of_cluster g.claimant.cluster) gs =
     credits-in (is_of_cluster g.claimant.cluster) g gs (eqb-self g.claimant.cluster g.claimant.cluster refl) in
     omega (arith, own, h.asked g.claimant.cluster)
 
-known-set : (m n k l : ℕ) (gs : List Grant) → m ≡ k → n ≡ l → AllByRecursion (IsKnown m n) gs → AllByRecursion (IsKnown k l) gs
+known-set : (m n k l : ℕ) (gs : List PlacedClaim) → m ≡ k → n ≡ l → AllByRecursion (IsKnown m n) gs → AllByRecursion (IsKnown k l) gs
 known-set m n k l gs same also h = rw (← same, ← also) h
 
 -- and the rest is covered by what is left
-pub covers_rest : (g : Grant) (gs : List Grant) (os : List ℕ) (bs : List Level) (left d : ℕ) (b e : Level) →
+pub covers_rest : (g : PlacedClaim) (gs : List PlacedClaim) (os : List ℕ) (bs : List Level) (left d : ℕ) (b e : Level) →
     Covers os bs (g ∷ gs) → left + g.credit ≡ slice_index_or os g.claimant.cluster d →
     b ≡ spent g.credit (slice_index_or bs g.claimant.place e) →
     Covers (slice_set os g.claimant.cluster left) (slice_set bs g.claimant.place b) gs
@@ -234,7 +234,7 @@ covers_rest g gs os bs left d b e h is spends = record {
 
 -- A turn of the loop.
 
-pub may_spend : (g : Grant) (gs : List Grant) (os : List ℕ) (bs : List Level) (place credit : ℕ) (d : Level) →
+pub may_spend : (g : PlacedClaim) (gs : List PlacedClaim) (os : List ℕ) (bs : List Level) (place credit : ℕ) (d : Level) →
     Covers os bs (g ∷ gs) → place ≡ g.claimant.place → credit ≡ g.credit →
     IfSome (bytes_in (slice_index_or bs place d)) (λ most. credit ≤ most)
 may_spend g gs os bs place credit d h at is =
@@ -242,7 +242,7 @@ may_spend g gs os bs place credit d h at is =
     (slice_get-get_or bs g.claimant.place d h.known.0.place))
 
 -- what stands after a grant, where its definitions came to these before
-pub after_grant : (g : Grant) (gs : List Grant) (os wanted : List ℕ) (bs wished : List Level)
+pub after_grant : (g : PlacedClaim) (gs : List PlacedClaim) (os wanted : List ℕ) (bs wished : List Level)
     (cluster place credit left d : ℕ) (b e : Level) →
     Covers os bs (g ∷ gs) → left_of (g ∷ gs) 0 os ≡ wanted → spent_of (g ∷ gs) 0 bs ≡ wished →
     cluster ≡ g.claimant.cluster → place ≡ g.claimant.place → credit ≡ g.credit →
@@ -261,17 +261,17 @@ after_grant g gs os wanted bs wished cluster place credit left d b e h lefts spe
 
 -- Grants behind others.
 
-credits-append : (p : Grant → Bool) (xs ys : List Grant) → credits p (xs ++ ys) ≡ credits p xs + credits p ys
+credits-append : (p : PlacedClaim → Bool) (xs ys : List PlacedClaim) → credits p (xs ++ ys) ≡ credits p xs + credits p ys
 credits-append p [] ys = omega arith
 credits-append p (g ∷ xs) ys =
     omega (arith, credits-cons p g (xs ++ ys), credits-cons p g xs, credits-append p xs ys)
 
-all-front : (P : Grant → Type 0) (xs ys : List Grant) → AllByRecursion P (xs ++ ys) → AllByRecursion P xs
+all-front : (P : PlacedClaim → Type 0) (xs ys : List PlacedClaim) → AllByRecursion P (xs ++ ys) → AllByRecursion P xs
 all-front P [] ys h = tt
 all-front P (g ∷ xs) ys h = (h.0, all-front P xs ys h.1)
 
 -- what covers all covers those in front,
-pub covers_front : (xs ys : List Grant) (os : List ℕ) (bs : List Level) → Covers os bs (xs ++ ys) → Covers os bs xs
+pub covers_front : (xs ys : List PlacedClaim) (os : List ℕ) (bs : List Level) → Covers os bs (xs ++ ys) → Covers os bs xs
 covers_front xs ys os bs h = record {
   known = all-front (IsKnown (length os) (length bs)) xs ys h.known;
   asked = λ number. omega (arith, credits-append (is_of_cluster number) xs ys, h.asked number);
@@ -281,7 +281,7 @@ covers_front xs ys os bs h = record {
 }
 
 -- and what they leave covers those behind
-pub covers_back : (xs ys : List Grant) (os : List ℕ) (bs : List Level) → Covers os bs (xs ++ ys) →
+pub covers_back : (xs ys : List PlacedClaim) (os : List ℕ) (bs : List Level) → Covers os bs (xs ++ ys) →
     Covers (left_of xs 0 os) (spent_of xs 0 bs) ys
 covers_back [] ys os bs h = rw (left_none 0 os, spent_none 0 bs) h
 covers_back (g ∷ xs) ys os bs h =
@@ -295,7 +295,7 @@ covers_back (g ∷ xs) ys os bs h =
     rw (left_first g xs left 0 os h.known.0.cluster took, spent_first g xs bucket none bs h.known.0.place refl)
     (covers_back xs ys (slice_set os g.claimant.cluster left) (slice_set bs g.claimant.place bucket) rest)
 
-pub left_append : (xs ys : List Grant) (number : ℕ) (os : List ℕ) →
+pub left_append : (xs ys : List PlacedClaim) (number : ℕ) (os : List ℕ) →
     left_of (xs ++ ys) number os ≡ left_of ys number (left_of xs number os)
 left_append xs ys number [] = refl
 left_append xs ys number (o ∷ os) =
@@ -304,7 +304,7 @@ left_append xs ys number (o ∷ os) =
     omega (arith, credits-append (is_of_cluster number) xs ys) in
     rw (first, left_append xs ys (number + 1) os) refl
 
-pub spent_append : (xs ys : List Grant) (place : ℕ) (bs : List Level) →
+pub spent_append : (xs ys : List PlacedClaim) (place : ℕ) (bs : List Level) →
     spent_of (xs ++ ys) place bs ≡ spent_of ys place (spent_of xs place bs)
 spent_append xs ys place [] = refl
 spent_append xs ys place (b ∷ bs) =
@@ -314,16 +314,16 @@ spent_append xs ys place (b ∷ bs) =
     ∙ spent-twice (credits (is_of_flow place) xs) (credits (is_of_flow place) ys) b in
     rw (first, spent_append xs ys (place + 1) bs) refl
 
-pub left-length : (gs : List Grant) (number : ℕ) (os : List ℕ) → length (left_of gs number os) ≡ length os
+pub left-length : (gs : List PlacedClaim) (number : ℕ) (os : List ℕ) → length (left_of gs number os) ≡ length os
 left-length gs number [] = refl
 left-length gs number (o ∷ os) = ap (λ n. suc n) (left-length gs (number + 1) os)
 
-pub spent-length : (gs : List Grant) (place : ℕ) (bs : List Level) → length (spent_of gs place bs) ≡ length bs
+pub spent-length : (gs : List PlacedClaim) (place : ℕ) (bs : List Level) → length (spent_of gs place bs) ≡ length bs
 spent-length gs place [] = refl
 spent-length gs place (b ∷ bs) = ap (λ n. suc n) (spent-length gs (place + 1) bs)
 
 -- what stands after a channel's grants, where its definitions came to these before
-pub after_channel : (built : Built) (more : List Built) (gs : List Grant) (os wanted : List ℕ) (bs wished : List Level)
+pub after_channel : (built : Built) (more : List Built) (gs : List PlacedClaim) (os wanted : List ℕ) (bs wished : List Level)
     (left : List ℕ) (spends : List Level) → gs ≡ built.grants →
     Covers os bs (all_grants (built ∷ more)) → left_of (all_grants (built ∷ more)) 0 os ≡ wanted →
     spent_of (all_grants (built ∷ more)) 0 bs ≡ wished → left ≡ left_of gs 0 os → spends ≡ spent_of gs 0 bs →
@@ -336,6 +336,6 @@ after_channel built more gs os wanted bs wished left spends same h lefts spents 
       sym (spent_append built.grants (all_grants more) 0 bs) ∙ spents,
     )
 
-pub channel_covered : (built : Built) (more : List Built) (gs : List Grant) (os : List ℕ) (bs : List Level) →
+pub channel_covered : (built : Built) (more : List Built) (gs : List PlacedClaim) (os : List ℕ) (bs : List Level) →
     gs ≡ built.grants → Covers os bs (all_grants (built ∷ more)) → Covers os bs gs
 channel_covered built more gs os bs same h = rw same (covers_front built.grants (all_grants more) os bs h)

@@ -10,7 +10,7 @@ use Rattle.us_holes.specs.Boards.{Board, assign_all}
 use Rattle.us_split.specs.Plans.{Planned}
 use Rattle.us_split.specs.PlanLaws.{AreBursts}
 use Rattle.us_split.specs.Shares.{TurnShares}
-use Rattle.us_round.specs.Placements.{Claim, claim_on, Grant, grant_of, grants_of, intervals}
+use Rattle.us_round.specs.Placements.{Claim, claim_on, PlacedClaim, grant_of, grants_of, intervals}
 use Rattle.us_round.specs.Rounds.{Filled, Built}
 
 -- these places lead to the turn that shares are kept of
@@ -30,17 +30,17 @@ unfoldable pub kept_claims : Tables → ℕ → List TurnShares → List Claim
 kept_claims t id plan = filter_map (kept_claim t id) plan
 
 -- what such a turn is granted on a channel with this board
-abbrev pub kept_grant : Tables → Channel → Board → TurnShares → Option Grant
+abbrev pub kept_grant : Tables → Channel → Board → TurnShares → Option PlacedClaim
 kept_grant t c board kept = option_and_then (grant_of c.bursts board) (kept_claim t c.id kept)
 
 -- and what all of them are
-abbrev pub kept_grants : Tables → Channel → Board → List TurnShares → List Grant
+abbrev pub kept_grants : Tables → Channel → Board → List TurnShares → List PlacedClaim
 kept_grants t c board plan = grants_of c.bursts board (kept_claims t c.id plan)
 
 -- a channel whose claims of the kept plan are placed
 unfoldable pub kept_build : Tables → List TurnShares → Filled → Built
 kept_build t plan f =
-    let grants : List Grant = kept_grants t f.channel f.board plan in
+    let grants : List PlacedClaim = kept_grants t f.channel f.board plan in
     record {
       channel = f.channel;
       board = assign_all f.board (intervals grants);

@@ -7,7 +7,7 @@ use Rattle.us_flows.specs.Clusters.{Turn}
 use Rattle.us_flows.specs.declared.turns.Turn as places
 use Rattle.us_flows.specs.Lawful.{IsChannel}
 use Rattle.us_calendar.specs.Calendars as calendars
-use Rattle.us_round.specs.Placements.{Grant}
+use Rattle.us_round.specs.Placements.{PlacedClaim}
 use Rattle.us_calendar.specs.declared.settled.Settled.{Settled}
 use Rattle.us_round.specs.Outputs.{start_of, is_granted}
 use Rattle.us_round.specs.declared.rows.Row.{Row}
@@ -24,7 +24,7 @@ abbrev pub still_asking_at : Tables → List ℕ → List ℕ → places.Turn �
 still_asking_at t before left turn = option_and_then (still_asking before left) (turn_at t turn)
 
 -- a grant starts inside a MAP of this length
-abbrev pub StartsInside : ℕ → Grant → Type 0
+abbrev pub StartsInside : ℕ → PlacedClaim → Type 0
 StartsInside len g = g.interval.start < len
 
 -- a channel of these tables, whose board has the length of its MAPs

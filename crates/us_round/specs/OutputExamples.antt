@@ -10,7 +10,7 @@ use Rattle.us_holes.specs.Boards.{Owner, Board, empty_board, assign}
 use Rattle.us_holes.specs.Runs.{runs_from}
 use Rattle.us_calendar.specs.declared.kinds.Kind.TheVariants as kinds
 use Rattle.us_calendar.specs.declared.settled.Settled.TheVariants as settled
-use Rattle.us_round.specs.Placements.{Grant}
+use Rattle.us_round.specs.Placements.{PlacedClaim}
 use Rattle.us_round.specs.Rounds.{left_of, pending_seat, pendings_on}
 use Rattle.us_round.specs.Outputs.{elements_of, head_of, by_start, rows_on, final_row}
 use Rattle.us_round.specs.declared.rows.Row.TheVariants as rows
@@ -92,7 +92,7 @@ no_ack = refl
 -- Lines.
 
 -- a grant of the flow's first cluster at this minislot, with this credit
-abbrev grant : ℕ → ℕ → Grant
+abbrev grant : ℕ → ℕ → PlacedClaim
 grant start credit = record {
   claimant = record { cluster = 0; place = 0; flow = 7; list = 0 };
   interval = record { start = start; slots = 1; owner = long_grant };

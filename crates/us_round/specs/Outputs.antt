@@ -17,7 +17,7 @@ use Rattle.us_calendar.specs.declared.kinds.Kind.TheVariants as kinds
 use Rattle.us_calendar.specs.declared.settled.Settled.{Settled}
 use Rattle.us_calendar.specs.declared.settled.Settled.TheVariants as settled
 use Rattle.us_round.specs.Reserves.{broadcast}
-use Rattle.us_round.specs.Placements.{Grant}
+use Rattle.us_round.specs.Placements.{PlacedClaim}
 use Rattle.us_round.specs.Rounds.{State, Built, Scheduled, pendings_on}
 use Rattle.us_round.specs.declared.rows.Row.{Row}
 use Rattle.us_round.specs.declared.rows.Row.TheVariants as rows
@@ -101,7 +101,7 @@ is_granted (settled.Granted kind id i k start slots owner) = true
 is_granted (settled.Missed kind id i k) = false
 
 -- the G line of a grant that was requested
-abbrev pub grant_row : ℕ → Channel → Grant → Row
+abbrev pub grant_row : ℕ → Channel → PlacedClaim → Row
 grant_row round c g =
     rows.Granted round c.id entries.Requested g.claimant.flow g.claimant.list 0 g.interval.owner.sid
     g.interval.owner.iuc g.interval.start g.interval.slots g.credit

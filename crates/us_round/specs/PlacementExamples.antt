@@ -4,7 +4,7 @@ use Rattle.us_slots.specs.Examples.{base_profile}
 use Rattle.us_slots.specs.Bursts.{ChannelBursts, coded_length, burst_cost}
 use Rattle.us_slots.specs.Capacities.{greatest_up_to, capacity_of}
 use Rattle.us_holes.specs.Boards.{Owner, Board, empty_board, assign, first_of, longest_up_to}
-use Rattle.us_round.specs.Placements.{Claimant, Claim, Grant, spot, grant_of, grants_of}
+use Rattle.us_round.specs.Placements.{Claimant, Claim, PlacedClaim, spot, grant_of, grants_of}
 
 -- minislots of 2 ticks, at 5,120 ksym/s for a rate of 5, at half of that for 4
 abbrev bursts_at : ℕ → ChannelBursts
@@ -31,7 +31,7 @@ abbrev claim : ℕ → ℕ → Claim
 claim header share = record { claimant = claimant; sid = 291; header = header; share = share }
 
 -- a grant by its start, its minislots, its IUC and its credit
-abbrev grant : ℕ → ℕ → ℕ → ℕ → Grant
+abbrev grant : ℕ → ℕ → ℕ → ℕ → PlacedClaim
 grant start slots iuc credit = record {
   claimant = claimant;
   interval = record { start = start; slots = slots; owner = record { sid = 291; iuc = iuc } };

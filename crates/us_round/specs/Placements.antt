@@ -83,13 +83,13 @@ spot bursts header share board =
 -- Grants.
 
 -- a claim that was placed: its minislots and owner, and the bytes that it credits, without the header
-pub record Grant : Type 0 where
+pub record PlacedClaim : Type 0 where
   pub claimant : Claimant
   pub interval : Interval
   pub credit : ℕ
 
 -- the grant of a claim at a spot
-abbrev pub grant_at : ChannelBursts → Claim → Spot → Grant
+abbrev pub grant_at : ChannelBursts → Claim → Spot → PlacedClaim
 grant_at bursts claim found =
     let cost : ℕ × ℕ = grant_cost bursts (found.credit + claim.header) in
     record {
@@ -99,21 +99,21 @@ grant_at bursts claim found =
     }
 
 -- what a claim is granted on a board
-abbrev pub grant_of : ChannelBursts → Board → Claim → Option Grant
+abbrev pub grant_of : ChannelBursts → Board → Claim → Option PlacedClaim
 grant_of bursts board claim = option_map (grant_at bursts claim) (spot bursts claim.header claim.share board)
 
 -- a board with one more grant
-abbrev pub with_grant : Board → Option Grant → Board
+abbrev pub with_grant : Board → Option PlacedClaim → Board
 with_grant board None = board
 with_grant board (Some g) = assign board g.interval.start g.interval.slots g.interval.owner
 
 -- what all claims of a channel are granted, one after another
-unfoldable pub grants_of : ChannelBursts → Board → List Claim → List Grant
+unfoldable pub grants_of : ChannelBursts → Board → List Claim → List PlacedClaim
 grants_of bursts board [] = []
 grants_of bursts board (claim ∷ rest) =
-    let found : Option Grant = grant_of bursts board claim in
+    let found : Option PlacedClaim = grant_of bursts board claim in
     option_to_list found ++ grants_of bursts (with_grant board found) rest
 
 -- the intervals of grants
-abbrev pub intervals : List Grant → List Interval
+abbrev pub intervals : List PlacedClaim → List Interval
 intervals grants = map (λ g. g.interval) grants

@@ -10,7 +10,7 @@ use Rattle.us_calendar.specs.Calendars.{Calendar, Ran}
 use Rattle.us_calendar.specs.declared.settled.Settled.{Settled}
 use Rattle.us_split.specs.Plans.{Planned, plan_for}
 use Rattle.us_round.specs.Reserves.{reserves}
-use Rattle.us_round.specs.Placements.{Grant, claims, grants_of, intervals}
+use Rattle.us_round.specs.Placements.{PlacedClaim, claims, grants_of, intervals}
 
 -- what a round starts from: the tables, its number, the outstanding bytes of each cluster, the bucket of each flow, and
 -- the calendar of each channel
@@ -70,12 +70,12 @@ pub record Built : Type 0 where
   pub board : Board
   pub calendar : Calendar
   pub settled : List Settled
-  pub grants : List Grant
+  pub grants : List PlacedClaim
 
 -- each channel places its claims, and reads no other channel's board
 unfoldable pub build_on : List Planned → Filled → Built
 build_on plan f =
-    let grants : List Grant = grants_of f.channel.bursts f.board (claims f.channel.id plan) in
+    let grants : List PlacedClaim = grants_of f.channel.bursts f.board (claims f.channel.id plan) in
     record {
       channel = f.channel;
       board = assign_all f.board (intervals grants);
@@ -87,28 +87,28 @@ build_on plan f =
 -- The end of a round.
 
 -- the grants of all channels
-abbrev pub all_grants : List Built → List Grant
+abbrev pub all_grants : List Built → List PlacedClaim
 all_grants builds = flat_map (λ b. b.grants) builds
 
 -- the bytes that grants credit, of those that pass
-abbrev pub credits : (Grant → Bool) → List Grant → ℕ
+abbrev pub credits : (PlacedClaim → Bool) → List PlacedClaim → ℕ
 credits passes grants = sum_by (λ g. g.credit) (filter passes grants)
 
 -- whether a grant is of the cluster with this number, and whether it is of the flow at this place
-abbrev pub is_of_cluster : ℕ → Grant → Bool
+abbrev pub is_of_cluster : ℕ → PlacedClaim → Bool
 is_of_cluster number g = g.claimant.cluster == number
 
-abbrev pub is_of_flow : ℕ → Grant → Bool
+abbrev pub is_of_flow : ℕ → PlacedClaim → Bool
 is_of_flow place g = g.claimant.place == place
 
 -- credits leave the outstanding bytes of the clusters from `number` on,
-abbrev pub left_of : List Grant → ℕ → List ℕ → List ℕ
+abbrev pub left_of : List PlacedClaim → ℕ → List ℕ → List ℕ
 left_of grants number [] = []
 left_of grants number (bytes ∷ more) =
     (bytes - credits (is_of_cluster number) grants) ∷ left_of grants (number + 1) more
 
 -- and the buckets of the flows from `place` on
-abbrev pub spent_of : List Grant → ℕ → List Level → List Level
+abbrev pub spent_of : List PlacedClaim → ℕ → List Level → List Level
 spent_of grants place [] = []
 spent_of grants place (bucket ∷ more) =
     spent (credits (is_of_flow place) grants) bucket ∷ spent_of grants (place + 1) more
@@ -124,13 +124,13 @@ abbrev pub first_seat : Turn → Option (ℕ × ℕ)
 first_seat turn = slice_get (zip turn.cluster.flow.channels turn.cluster.sids) 0
 
 -- a turn that still has outstanding bytes and was credited nothing is pending there
-abbrev pub pending_seat : List Grant → List ℕ → Turn → Option (ℕ × ℕ)
+abbrev pub pending_seat : List PlacedClaim → List ℕ → Turn → Option (ℕ × ℕ)
 pending_seat grants left turn =
     if nat_lt 0 (slice_index left turn.number) && (credits (is_of_cluster turn.number) grants == 0)
     then first_seat turn else None
 
 -- all of them in the order of turns
-unfoldable pub pending_seats : List Grant → List ℕ → List Turn → List (ℕ × ℕ)
+unfoldable pub pending_seats : List PlacedClaim → List ℕ → List Turn → List (ℕ × ℕ)
 pending_seats grants left turns = filter_map (pending_seat grants left) turns
 
 -- the SIDs that a MAP lists: the first that are pending on its channel
@@ -175,7 +175,7 @@ builds_of state = map (build_on (round_plan state)) (fills_of state)
 -- what the channels of a round leave of a state to the next one
 abbrev pub credited : State → List Built → State
 credited state builds =
-    let grants : List Grant = all_grants builds in
+    let grants : List PlacedClaim = all_grants builds in
     record {
       tables = state.tables;
       round = state.round + 1;
@@ -187,7 +187,7 @@ credited state builds =
 -- a round that has begun
 unfoldable pub round_from : State → Step
 round_from state =
-    let grants : List Grant = all_grants (builds_of state) in
+    let grants : List PlacedClaim = all_grants (builds_of state) in
     record {
       state = credited state (builds_of state);
       scheduled = record {

@@ -5,7 +5,7 @@ use Rattle.us_flows.specs.Clusters.{clusters_of}
 use Rattle.us_bucket.specs.Levels.{Level, bytes_in}
 use Rattle.us_split.specs.PlanLaws.{Within}
 use Rattle.us_calendar.specs.Calendars.{pace_of, settled_in, max_settled, granted_in}
-use Rattle.us_round.specs.Placements.{Grant}
+use Rattle.us_round.specs.Placements.{PlacedClaim}
 use Rattle.us_round.specs.Rounds.{State, Built, credits, all_grants, is_of_cluster, is_of_flow}
 use Rattle.us_round.specs.Leftovers.{IsBuiltFor, AreInside}
 
@@ -25,12 +25,12 @@ abbrev pub max_settled_by : ℕ
 max_settled_by = 16 * max_settled
 
 -- a grant is of a cluster and a flow that are there
-pub record IsKnown (clusters flows : ℕ) (g : Grant) : Type 0 where
+pub record IsKnown (clusters flows : ℕ) (g : PlacedClaim) : Type 0 where
   pub cluster : g.claimant.cluster < clusters
   pub place : g.claimant.place < flows
 
 -- the credits of these grants are at most what is outstanding, and at most what the buckets allow
-pub record Covers (outstanding : List ℕ) (buckets : List Level) (grants : List Grant) : Type 0 where
+pub record Covers (outstanding : List ℕ) (buckets : List Level) (grants : List PlacedClaim) : Type 0 where
   pub known : AllByRecursion (IsKnown (length outstanding) (length buckets)) grants
   pub asked : (number : ℕ) → credits (is_of_cluster number) grants ≤ slice_index outstanding number
   pub allowed : (place : ℕ) (bucket : Level) → slice_get buckets place ≡ Some bucket →

@@ -11,7 +11,7 @@ ghost use Rattle.us_round.specs.Rounds as spec;
 
 use crate::claims::claim_on;
 use crate::lanes::{Lane, Track};
-use crate::placing::{Grant, place};
+use crate::placing::{PlacedClaim, place};
 use crate::reserving::reserves;
 use std::alloc::Global;
 use std::marker::Model;
@@ -51,7 +51,7 @@ pub(crate) struct Built {
     pub channel: Channel,
     pub track: Box<Track>,
     pub settled: Vec<Settled>,
-    pub grants: Vec<Grant>,
+    pub grants: Vec<PlacedClaim>,
 }
 
 impl Model for Built {
@@ -89,7 +89,7 @@ impl Built {
     }
 
     /// What its claims are granted, in the order of turns.
-    pub(crate) fn grants(&self) -> &[Grant]
+    pub(crate) fn grants(&self) -> &[PlacedClaim]
         ensures { result.now ≡ self.now.grants }
     {
         &self.grants
@@ -154,7 +154,7 @@ fn grant_all(
     channel: &Channel,
     plan: &[TurnShares],
     board: &mut Board,
-) -> Result<Vec<Grant>, NoMemory>
+) -> Result<Vec<PlacedClaim>, NoMemory>
     requires bursts { AllByRecursion (kept.AreKeptBursts config.now) plan.now }
     requires ticks { length board.old.cells * minislot_ticks channel.now.bursts.time ≤ MAX_MAP_TICKS }
     ensures grants { IfOk result (λ grants. grants.items ≡ kept.kept_grants config.now channel.now board.old plan.now) }
@@ -175,7 +175,7 @@ fn grant_turn(
     channel: &Channel,
     turn: &TurnShares,
     board: &mut Board,
-    grants: &mut Vec<Grant>,
+    grants: &mut Vec<PlacedClaim>,
 ) -> Result<(), NoMemory>
     requires bursts { kept.AreKeptBursts config.now turn.now }
     requires ticks { length board.old.cells * minislot_ticks channel.now.bursts.time ≤ MAX_MAP_TICKS }

@@ -13,7 +13,7 @@ use us_slots::{BurstSet, MAX_BURST_BYTES, MAX_MAP_TICKS, capacity, grant_cost};
 
 /// A claim that was placed.
 #[derive(Clone, Copy)]
-pub(crate) struct Grant {
+pub(crate) struct PlacedClaim {
     /// Whose it is.
     pub claimant: Claimant,
     /// The offset of its first minislot.
@@ -26,8 +26,8 @@ pub(crate) struct Grant {
     pub credit: u32,
 }
 
-impl Model for Grant {
-    ghost Value = { spec.Grant };
+impl Model for PlacedClaim {
+    ghost Value = { spec.PlacedClaim };
 
     ghost view = { λ g. record {
       claimant = g.claimant;
@@ -44,7 +44,7 @@ impl Model for Grant {
     } };
 }
 
-impl Grant {
+impl PlacedClaim {
     /// The number of its cluster.
     pub(crate) fn cluster(self) -> usize
         ensures { result ≡ self.claimant.cluster }
@@ -84,7 +84,7 @@ impl Model for Spot {
 
 /// Grants a claim: its whole share at the earliest start where that fits, else at the start of the first longest idle
 /// run as much as that carries; `None` where neither is to be had, or the board is full. It needs no memory.
-pub(crate) fn place(board: &mut Board, bursts: &BurstSet, claim: &Claim) -> Option<Grant>
+pub(crate) fn place(board: &mut Board, bursts: &BurstSet, claim: &Claim) -> Option<PlacedClaim>
     requires sid { claim.now.sid < 2 ^ 14 }
     requires some { 1 ≤ claim.now.share }
     requires bytes { claim.now.share + claim.now.header ≤ MAX_BURST_BYTES }
@@ -101,7 +101,7 @@ pub(crate) fn place(board: &mut Board, bursts: &BurstSet, claim: &Claim) -> Opti
     let (slots, iuc) = grant_cost(bursts, claim.share + claim.header);
     let owner = Owner::new(claim.sid, iuc);
     match board.place_earliest(0, board.len() - 1, slots, owner) {
-        Placed::At(start, slots) => Some(Grant {
+        Placed::At(start, slots) => Some(PlacedClaim {
             claimant: claim.claimant,
             start,
             slots,
@@ -114,7 +114,7 @@ pub(crate) fn place(board: &mut Board, bursts: &BurstSet, claim: &Claim) -> Opti
 }
 
 /// Grants what the first longest idle run carries, where the whole share has no room.
-fn place_part(board: &mut Board, bursts: &BurstSet, claim: &Claim) -> Option<Grant>
+fn place_part(board: &mut Board, bursts: &BurstSet, claim: &Claim) -> Option<PlacedClaim>
     requires sid { claim.now.sid < 2 ^ 14 }
     requires ticks { length board.old.cells * minislot_ticks bursts.now.time ≤ MAX_MAP_TICKS }
     requires room { HasNoRoom board.old 0 (length board.old.cells - 1)
@@ -130,7 +130,7 @@ fn place_part(board: &mut Board, bursts: &BurstSet, claim: &Claim) -> Option<Gra
     let (slots, iuc) = grant_cost(bursts, spot.credit + claim.header);
     let owner = Owner::new(claim.sid, iuc);
     assign(board, spot.start, slots, owner);
-    Some(Grant {
+    Some(PlacedClaim {
         claimant: claim.claimant,
         start: spot.start,
         slots,

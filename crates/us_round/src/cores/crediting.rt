@@ -3,7 +3,7 @@ ghost use Rattle.us_round.specs.Rounds.{all_grants, left_of, spent_of};
 ghost use Rattle.us_round.specs.States.{Covers};
 
 use crate::building::Built;
-use crate::placing::Grant;
+use crate::placing::PlacedClaim;
 use us_bucket::Bucket;
 use us_requests::ClusterState;
 
@@ -20,7 +20,7 @@ pub(super) fn credit_all(outstanding: &mut [ClusterState], buckets: &mut [Bucket
 }
 
 /// The same of the grants of one channel.
-fn credit_grants(outstanding: &mut [ClusterState], buckets: &mut [Bucket], grants: &[Grant])
+fn credit_grants(outstanding: &mut [ClusterState], buckets: &mut [Bucket], grants: &[PlacedClaim])
     requires { Covers outstanding.old buckets.old grants.now }
     ensures outstanding { outstanding.new ≡ left_of grants.now 0 outstanding.old }
     ensures buckets { buckets.new ≡ spent_of grants.now 0 buckets.old }

@@ -1,13 +1,13 @@
 use Rattle.std.proofs.Common.{◌≡◌, ℕ, ◌+◌, ◌<◌, ◌∷◌, List, drop, length, slice_index_or, sym, ap, subst, ◌∙◌, arith}
 use Rattle.std.proofs.lemmas.List.{drop_more, drop_all}
-use Rattle.us_round.specs.Placements.{Grant}
+use Rattle.us_round.specs.Placements.{PlacedClaim}
 use Rattle.us_round.specs.Rounds.{left_of, spent_of}
 use Rattle.us_round.specs.States.{Covers}
 use Rattle.us_round.proofs.StateLemmas.{left_none, spent_none, may_spend, after_grant}
 use Rattle.us_round.proofs.cores.crediting.credit_grants.Goals as goal
 
 -- the grants that are left begin with this one
-rest : (grants : List Grant) (at : ℕ) (g : Grant) → at < length grants → g ≡ slice_index_or grants at g →
+rest : (grants : List PlacedClaim) (at : ℕ) (g : PlacedClaim) → at < length grants → g ≡ slice_index_or grants at g →
     drop at grants ≡ g ∷ drop (at + 1) grants
 rest grants at g inside is = drop_more grants at g inside ∙ ap (λ x. x ∷ drop (at + 1) grants) (sym is)
 
