@@ -4,7 +4,7 @@ use Rattle.us_flows.specs.declared.flows.SchedulingType.TheVariants.{Unsolicited
 use Rattle.us_flows.specs.Tables.{Tables}
 use Rattle.us_codec.specs.Elements.{word_of}
 use Rattle.us_calendar.specs.Occurrences.{due}
-use Rattle.us_calendar.specs.Settling.{settle_each, settle_row}
+use Rattle.us_calendar.specs.Settling.{settle_each, settle_entry}
 use Rattle.us_split.specs.Plans.{Planned}
 use Rattle.us_round.specs.Rounds.{begun, final, idle, fills_of, opening, round_plan, schedule}
 use Rattle.us_round.specs.Outputs.{RoundOut, out_of}
@@ -33,7 +33,7 @@ outs bytes = map (out_of split) (schedule (opening split) ((0 ∷ []) ∷ (bytes
 lines : map (λ out. out.rows) (outs 1000) ≡
     [] ∷ (rows.Granted 1 1 words.Unsolicited 2 0 0 513 11 6 1 0 ∷ rows.Granted 1 1 words.Requested 1 0 0 291 9 7 7 200
     ∷ rows.Missed 1 1 words.Unsolicited 2 0 1 ∷ []) ∷ []
-unfolding round_steps due settle_each settle_row
+unfolding round_steps due settle_each settle_entry
 lines = refl
 
 -- the plan pays for the minislots that are idle once the calendar has its own
@@ -41,16 +41,16 @@ planned :
     (idle (fills_of (begun (final (opening split) ((0 ∷ []) ∷ [])) (1000 ∷ []))) ≡ 13 ∷ []) ×
     (map (λ (p : Planned). p.shares) (round_plan (begun (final (opening split) ((0 ∷ []) ∷ [])) (1000 ∷ [])))
     ≡ (392 ∷ []) ∷ [])
-unfolding round_steps due settle_each settle_row
+unfolding round_steps due settle_each settle_entry
 planned = (refl, refl)
 
 elements : map (λ out. map (λ m. map word_of m.elements) out.maps) (outs 1000) ≡
     ((0xfffc4000 ∷ 0xfffc400e ∷ 0x0001c010 ∷ []) ∷ [])
     ∷ ((0xfffc4000 ∷ 0x0806c006 ∷ 0x048e4007 ∷ 0xfffc400e ∷ 0x0001c010 ∷ []) ∷ []) ∷ []
-unfolding round_steps due settle_each settle_row
+unfolding round_steps due settle_each settle_entry
 elements = refl
 
 -- what is not asked for credits nothing
 left : (final (opening split) ((0 ∷ []) ∷ (1000 ∷ []) ∷ [])).outstanding ≡ 800 ∷ []
-unfolding round_steps due settle_each settle_row
+unfolding round_steps due settle_each settle_entry
 left = refl

@@ -12,7 +12,7 @@ use Rattle.us_flows.specs.Clusters.{Turn, table_order, turns_of}
 use Rattle.us_bucket.specs.Levels.{bytes_in, refilled, spent, units_in}
 use Rattle.us_holes.specs.Boards.{assign_all, first_of, longest_up_to}
 use Rattle.us_holes.specs.Runs.{runs_from}
-use Rattle.us_calendar.specs.Calendars.{run_rows}
+use Rattle.us_calendar.specs.Calendars.{run_entries}
 use Rattle.us_calendar.specs.Entries.{entries}
 use Rattle.us_split.specs.Divisions.{divided}
 use Rattle.us_split.specs.Plans.{after_turn, cost_on, plan_for, plan_of, shares_of, weights}
@@ -29,7 +29,7 @@ unfoldable pub round_steps : ⊤
 unfolding coded_length burst_cost greatest_up_to capacity_of turns_of bytes_in refilled spent units_in assign_all
     first_of longest_up_to runs_from divided after_turn cost_on plan_for plan_of shares_of weights reserves claims
     grants_of spot build_on builds_of final pending_seats pendings_on round_from round_of schedule by_start elements_of
-    final_rows head_of map_of out_of rows_on word_of entries run_rows
+    final_rows head_of map_of out_of rows_on word_of entries run_entries
 round_steps = tt
 
 -- Tables.
