@@ -13,6 +13,8 @@ pub mod Rows
 pub mod Traces
 -- what reading a trace answers
 pub mod Readings
+-- the code of a fault
+pub mod Codes
 -- inside the crate: what becomes of a row, and what it adds
 pub mod Outcomes
 -- inside the crate: asks in one list, and where those of a round stand
