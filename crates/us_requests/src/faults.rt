@@ -46,10 +46,8 @@ impl TraceFault {
     {
         match self {
             TraceFault::Fields(record) | TraceFault::Number(record) => Some(*record),
-            TraceFault::Header
-            | TraceFault::TooLarge
-            | TraceFault::Read
-            | TraceFault::NoMemory => None,
+            TraceFault::Header | TraceFault::TooLarge | TraceFault::Read | TraceFault::NoMemory =>
+                None,
         }
     }
 
