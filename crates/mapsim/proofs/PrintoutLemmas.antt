@@ -4,7 +4,7 @@ use Rattle.std.specs.Io.KnownBytes.{Appends}
 use Rattle.us_slots.proofs.DeviceLemmas.{appends_join}
 use Rattle.us_flows.specs.Tables.{Tables, rounds_fit}
 use Rattle.us_flows.specs.Answers.{Answers}
-use Rattle.us_requests.specs.Rows.{trace_fault}
+use Rattle.us_requests.specs.Texts.{trace_fault}
 use Rattle.us_replay.specs.declared.summaries.Summary.{Summary}
 use Rattle.us_replay.specs.declared.faults.RunFault.{RunFault}
 use Rattle.us_replay.specs.declared.faults.RunFault.TheVariants as run

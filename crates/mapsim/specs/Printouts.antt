@@ -3,7 +3,7 @@ use Rattle.std.specs.Prelude.{◌≡◌, ℕ, ◌<◌, ◌⊎◌, true, false, L
 use Rattle.std.specs.Io.KnownBytes.{Appends}
 use Rattle.us_flows.specs.Tables.{Tables, rounds_fit}
 use Rattle.us_flows.specs.Answers.{Answers}
-use Rattle.us_requests.specs.Rows.{trace_fault}
+use Rattle.us_requests.specs.Texts.{trace_fault}
 use Rattle.us_requests.specs.Readings.{Reads}
 use Rattle.us_replay.specs.declared.faults.RunFault.TheVariants as run
 use Rattle.us_replay.specs.Replays.{maps_text, report_text, output_for}

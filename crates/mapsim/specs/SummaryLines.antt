@@ -2,7 +2,7 @@
 use Rattle.std.specs.Prelude.{◌≡◌, ℕ, true, List, [], ◌∷◌, ◌++◌, None, codes, decimal}
 use Rattle.us_flows.specs.Tables.{Tables, rounds_fit}
 use Rattle.us_requests.specs.Asks.{counts_of}
-use Rattle.us_requests.specs.Rows.{trace_fault, requests_of}
+use Rattle.us_requests.specs.Texts.{trace_fault, requests_of}
 use Rattle.us_replay.specs.Replays.{output_for, summary_of}
 use Rattle.us_replay.specs.declared.summaries.Summary.{Summary}
 use Rattle.mapsim.specs.Texts.{spaced}

@@ -253,13 +253,13 @@ gives-same (Ok m) wanted e = sym e
 gives-same (Err fault) wanted e = λ known. sym e
 
 built-same : (h : Head) (before : List MapElement) (len : ℕ) (after : List MapElement) →
-    length before + 1 + length after ≤ 240 → is_some (end_of before) ≡ false →
+    length before + 1 + length after ≤ max_elements → is_some (end_of before) ≡ false →
     answer_unless (list_fault h (before ++ null_at len ∷ after))
     (record { head = h; elements = before ++ null_at len ∷ after }) ≡
     build_answer h before len after
 unfolding build_answer build_fault
 built-same h before len after few none =
-    rw (joined-fault h before len after none, le-ltb 240 (length before + 1 + length after) few, none) refl
+    rw (joined-fault h before len after none, le-ltb max_elements (length before + 1 + length after) few, none) refl
 
 -- a draft that took the elements before the Null, the Null and those after it
 pub joined-draft : (before after d0 d1 d2 d3 : List MapElement) (null : MapElement) →
@@ -270,7 +270,7 @@ joined-draft before after d0 d1 d2 d3 null e0 e1 e2 e3 = rw (e3, e2, e1, e0)
 -- its answer
 pub built-is : (r : Result MapBody MapFault) (h : Head) (before : List MapElement) (len : ℕ)
     (after items : List MapElement) →
-    items ≡ before ++ null_at len ∷ after → length before + 1 + length after ≤ 240 →
+    items ≡ before ++ null_at len ∷ after → length before + 1 + length after ≤ max_elements →
     is_some (end_of before) ≡ false →
     r ≡ answer_unless (list_fault h items) (record { head = h; elements = items }) →
     UnlessNoMemory r (build_answer h before len after)
@@ -299,7 +299,7 @@ built-again : (h : Head) (before : List MapElement) (len : ℕ) (after : List Ma
 built-again h before len after lawful =
     let all : length (before ++ null_at len ∷ after) ≡ length before + length (null_at len ∷ after) =
     length-append before (null_at len ∷ after) in
-    let few : length before + 1 + length after ≤ 240 = omega (arith, lawful.few, all) in
+    let few : length before + 1 + length after ≤ max_elements = omega (arith, lawful.few, all) in
     let passed : list_fault h (before ++ null_at len ∷ after) ≡ Ok tt =
     faultless h (before ++ null_at len ∷ after) lawful.head.backoffs lawful.list lawful.first in
     sym (built-same h before len after few (none-before before len after lawful.list)) ∙

@@ -9,7 +9,7 @@ use Rattle.us_codec.specs.declared.faults.MapFault.{MapFault}
 use Rattle.us_codec.specs.declared.faults.MapFault.TheVariants.{NoNull, Order, AfterNull, Backoff, FirstOffset}
 use Rattle.us_codec.specs.Elements.{MapElement, IsMapElement, null_at}
 use Rattle.us_codec.specs.declared.heads.Head.{Head}
-use Rattle.us_codec.specs.Bodies.{IsMapBody, IsRising, IsElementList, StartsAtZero}
+use Rattle.us_codec.specs.Bodies.{max_elements, IsMapBody, IsRising, IsElementList, StartsAtZero}
 use Rattle.us_codec.specs.Faults.{ends_list, end_of, before_end, after_end, is_null, rises, rises_to_end, is_pending, are_pending_after, ends_in_pendings, is_backoff, starts_at_zero, parts_fault, list_fault}
 
 abbrev offsets : List MapElement → List ℕ
@@ -180,7 +180,7 @@ found h es e =
 -- a MAP of a head whose fields are in range and of elements without a fault
 pub lawful : (h : Head) (es : List MapElement) →
     h.channel < 2 ^ 8 → h.ucd_count < 2 ^ 8 → h.alloc_start < 2 ^ 32 → h.ack < 2 ^ 32 → length h.backoffs ≡ 4 →
-    length es ≤ 240 → AllByRecursion IsMapElement es → list_fault h es ≡ Ok tt →
+    length es ≤ max_elements → AllByRecursion IsMapElement es → list_fault h es ≡ Ok tt →
     IsMapBody (record { head = h; elements = es })
 lawful h es channel ucd_count alloc_start ack four few fields e =
     let f : Found h es = found h es e in

@@ -1,7 +1,7 @@
 -- The body of a version 1 MAP. The standard's are its bytes, that offsets stand in order and that the Null ends the
 -- list at the MAP's length. Ours are that they rise strictly from 0, what stands behind the Null, that the count is of
--- all elements, Reserved 0, and the limit of 240.
-use Rattle.std.specs.Prelude.{◌≡◌, ◌≢◌, ℕ, ◌^◌, ◌<◌, ◌≤◌, List, [], ◌∷◌, ◌++◌, length, map, flat_map, ⊤}
+-- all elements, Reserved 0, and the limit `max_elements`.
+use Rattle.std.specs.Prelude.{◌≡◌, ◌≢◌, ℕ, ◌+◌, ◌*◌, ◌^◌, ◌<◌, ◌≤◌, List, [], ◌∷◌, ◌++◌, length, map, flat_map, ⊤}
 use Rattle.std.specs.List.{AllByRecursion}
 use Rattle.std.specs.Int.{to_be_bytes, w32}
 use Rattle.us_slots.specs.UsageCodes as codes
@@ -11,6 +11,10 @@ use Rattle.us_codec.specs.Elements.{MapElement, IsMapElement, word_of, null_at}
 -- the most elements of a MAP
 abbrev pub max_elements : ℕ
 max_elements = 240
+
+-- the most bytes of a body: sixteen before the elements, and four of each
+abbrev pub max_body_bytes : ℕ
+max_body_bytes = 16 + 4 * max_elements
 
 -- the greatest backoff, as an exponent of 2
 abbrev pub max_backoff : ℕ

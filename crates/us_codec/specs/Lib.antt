@@ -12,6 +12,8 @@ pub mod Faults
 pub mod Answers
 -- maps files: records, one behind another
 pub mod MapsFiles
+-- the code of a fault
+pub mod Codes
 -- the definitions at small inputs
 pub mod Examples
 -- what a draft asks of its next element

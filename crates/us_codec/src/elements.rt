@@ -9,7 +9,7 @@ use us_slots::Iuc;
 pub const ELEMENT_BYTES: usize = 4;
 
 /// The greatest SID: it has 14 bits (the standard's).
-const MAX_SID: u16 = 0x3fff;
+const MAX_ELEMENT_SID: u16 = 0x3fff;
 
 /// The greatest offset: it has 14 bits (the standard's).
 pub const MAX_OFFSET: u16 = 0x3fff;
@@ -48,7 +48,7 @@ impl Element {
         ensures { let element : MapElement = record { sid = sid; iuc = iuc; offset = offset } in
             SomeIff result (IsMapElement element) element }
     {
-        if sid <= MAX_SID && offset <= MAX_OFFSET {
+        if sid <= MAX_ELEMENT_SID && offset <= MAX_OFFSET {
             Some(Element::from_fields(sid, iuc, offset))
         } else {
             None

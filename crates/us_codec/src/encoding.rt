@@ -1,11 +1,11 @@
 ghost use Rattle.std.specs.Prelude.{◌≡◌, ◌+◌, ◌*◌, ◌<◌, ◌≤◌, ◌∷◌, ◌++◌, length, take, drop};
-ghost use Rattle.us_codec.specs.Bodies.{MapBody, IsMapBody, front, spelling};
+ghost use Rattle.us_codec.specs.Bodies.{MapBody, IsMapBody, front, spelling, max_body_bytes};
 
 use crate::elements::ELEMENT_BYTES;
 use crate::heads::{HEAD_BYTES, Head};
 use crate::maps::{MAX_ELEMENTS, Map};
 
-/// The most bytes of a MAP body: 976 (ours, by its most elements).
+/// The most bytes of a MAP body (ours, by its most elements).
 pub const MAX_BODY_BYTES: usize = HEAD_BYTES + ELEMENT_BYTES * MAX_ELEMENTS;
 
 /// Writes the one spelling of a MAP to the front of `out`, and answers its length in bytes. The rest of `out` stays.
@@ -17,7 +17,7 @@ pub fn encode_into(map: &Map, out: &mut [u8; MAX_BODY_BYTES]) -> usize
     ensures grammar { IsMapBody map.now }
 
     // The longest body, which is the buffer that this call asks for.
-    ensures limits { MAX_BODY_BYTES ≡ 976 }
+    ensures limits { MAX_BODY_BYTES ≡ max_body_bytes }
 
     // Two different MAPs have different spellings.
     ensures one_spelling { (other : MapBody) → IsMapBody other →

@@ -1,6 +1,6 @@
 ghost use Rattle.std.specs.Prelude.{◌≡◌, ◌+◌, ◌<◌, ◌≤◌, length, Ok, Err, IfOk};
 ghost use Rattle.us_codec.specs.declared.faults.MapFault.TheVariants.{TooManyElements};
-ghost use Rattle.us_codec.specs.Bodies.{MapBody, IsMapBody, body_of};
+ghost use Rattle.us_codec.specs.Bodies.{MapBody, IsMapBody, body_of, max_elements};
 ghost use Rattle.us_codec.specs.Faults.{list_fault, answer_unless, build_answer};
 ghost use Rattle.us_codec.specs.Answers.{UnlessNoMemory};
 
@@ -57,7 +57,7 @@ impl Map {
             result ≡ Err TooManyElements }
 
         // The limits that this crate's conditions and faults name.
-        ensures limits { (MAX_LEN ≡ 16383) × (MAX_ELEMENTS ≡ 240) }
+        ensures limits { (MAX_LEN ≡ 16383) × (MAX_ELEMENTS ≡ max_elements) }
     {
         Map::build(alloc, head, elements, len, pendings)
     }
@@ -110,7 +110,7 @@ impl Map {
         Map::of_draft(head, draft)
     }
 
-    /// The MAP of a head and of at most 240 elements, or their first fault.
+    /// The MAP of a head and of at most [`MAX_ELEMENTS`] elements, or their first fault.
     #[tactic(auto, using(crate::proofs::ListLemmas::lawful))]
     pub(crate) fn of_draft(head: Head, draft: Draft) -> Result<Map, MapFault>
         requires { length draft ≤ MAX_ELEMENTS }

@@ -8,6 +8,8 @@ pub mod Items
 pub mod Values
 -- the first item that has a fault
 pub mod Faults
+-- the code of a fault
+pub mod Codes
 -- the definitions at small inputs
 pub mod Examples
 -- inside the crate, and of no use to a reader of the promise: the same of some of the items

@@ -7,14 +7,39 @@ use us_slots::NoMemory;
 #[error_bound(E: fmt::Display)]
 pub enum CrewFault<E> {
     /// CR1: no worker, or over 64.
-    #[error("CR1: the workers are not 1 to 64")]
     Workers,
     /// CR2: want of memory.
-    #[error("CR2: out of memory")]
     NoMemory,
     /// CR3: the first item, in their order, for which the work answered a fault, by its number from 0, and that fault.
-    #[error("CR3: item {0}: {1}")]
     Item(usize, E),
+}
+
+impl<E> CrewFault<E> {
+    ghost use Rattle.std.specs.Prelude.{◌≡◌};
+    ghost use Rattle.us_crew.specs.Codes.{code_of};
+
+    /// Its code, CR1 to CR3.
+    pub fn code(&self) -> &'static str
+        ensures { result.now ≡ code_of self.now }
+    {
+        match self {
+            CrewFault::Workers => "CR1",
+            CrewFault::NoMemory => "CR2",
+            CrewFault::Item(_, _) => "CR3",
+        }
+    }
+}
+
+/// Writes a fault as its code and what it says, behind that of an item the item's own fault.
+impl<E: fmt::Display> fmt::Display for CrewFault<E> {
+    fn fmt<W: fmt::Write>(&self, f: &mut fmt::Formatter<W>) -> fmt::Result {
+        let code = self.code();
+        match self {
+            CrewFault::Workers => write!(f, "{code}: the workers are not 1 to 64"),
+            CrewFault::NoMemory => write!(f, "{code}: out of memory"),
+            CrewFault::Item(number, fault) => write!(f, "{code}: item {number}: {fault}"),
+        }
+    }
 }
 
 impl<E> From<NoMemory> for CrewFault<E> {

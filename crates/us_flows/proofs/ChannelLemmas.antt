@@ -4,7 +4,7 @@ use Rattle.std.proofs.lemmas.Bool.{or_parts, and_parts, false≢true, ltb-false,
 use Rattle.toml.specs.Data.{Data, string, integer, float, boolean, datetime, array, table, Items, no_items, item, Members, no_members}
 use Rattle.us_slots.specs.Times.{IsTiming}
 use Rattle.us_slots.specs.Bursts.{IsBurstProfile, IsChannelBursts}
-use Rattle.us_flows.specs.Ranges.{least_bits, least_fec_k, max_bits, max_channel_id, max_codeword, max_exponent, max_fec_k, max_fec_t, max_guard, max_maintenance_every, max_minislot_log2, max_preamble, max_rate_log2, max_request_minislots, max_reserve_minislots, max_short_minislots, max_station_minislots, max_ucd_count}
+use Rattle.us_flows.specs.Ranges.{min_bits, min_fec_k, max_bits, max_channel_id, max_codeword, max_exponent, max_fec_k, max_fec_t, max_guard, max_maintenance_every, max_minislot_log2, max_preamble, max_rate_log2, max_request_minislots, max_reserve_minislots, max_short_minislots, max_station_minislots, max_ucd_count}
 use Rattle.us_flows.specs.Keys.{Key, channel_keys, profile_keys, short_keys}
 use Rattle.us_flows.specs.Lawful.{Between, IsBackoff}
 use Rattle.us_flows.specs.Documents.{number_at, number_in, items_at, items_of, table_of, pair_at, table_at, read_or}
@@ -62,11 +62,11 @@ unfolding profile_keys
 profile_is t whole h =
     let parts = or_parts (strays profile_keys t) (nat_lt max_codeword (number_at (codes "fec_k") t + 2 * number_at
     (codes "fec_t") t)) h in
-    let bits = number_in_range profile_keys t (codes "bits") least_bits max_bits whole parts.0 refl (λ d. refl) in
+    let bits = number_in_range profile_keys t (codes "bits") min_bits max_bits whole parts.0 refl (λ d. refl) in
     let preamble = number_in_range profile_keys t (codes "preamble") 0 max_preamble whole parts.0 refl (λ d. refl) in
     let guard = number_in_range profile_keys t (codes "guard") 0 max_guard whole parts.0 refl (λ d. refl) in
     let fec_t = number_in_range profile_keys t (codes "fec_t") 0 max_fec_t whole parts.0 refl (λ d. refl) in
-    let fec_k = number_in_range profile_keys t (codes "fec_k") least_fec_k max_fec_k whole parts.0 refl (λ d. refl) in
+    let fec_k = number_in_range profile_keys t (codes "fec_k") min_fec_k max_fec_k whole parts.0 refl (λ d. refl) in
     record {
       least_bits = bits.0;
       most_bits = bits.1;
@@ -84,11 +84,11 @@ unfolding short_keys
 short_profile_is t whole h =
     let parts = or_parts (strays short_keys t) (nat_lt max_codeword (number_at (codes "fec_k") t + 2 * number_at
     (codes "fec_t") t)) h in
-    let bits = number_in_range short_keys t (codes "bits") least_bits max_bits whole parts.0 refl (λ d. refl) in
+    let bits = number_in_range short_keys t (codes "bits") min_bits max_bits whole parts.0 refl (λ d. refl) in
     let preamble = number_in_range short_keys t (codes "preamble") 0 max_preamble whole parts.0 refl (λ d. refl) in
     let guard = number_in_range short_keys t (codes "guard") 0 max_guard whole parts.0 refl (λ d. refl) in
     let fec_t = number_in_range short_keys t (codes "fec_t") 0 max_fec_t whole parts.0 refl (λ d. refl) in
-    let fec_k = number_in_range short_keys t (codes "fec_k") least_fec_k max_fec_k whole parts.0 refl (λ d. refl) in
+    let fec_k = number_in_range short_keys t (codes "fec_k") min_fec_k max_fec_k whole parts.0 refl (λ d. refl) in
     let profile : IsBurstProfile (profile_of t) = record {
       least_bits = bits.0;
       most_bits = bits.1;

@@ -5,7 +5,7 @@ use Rattle.std.proofs.lemmas.List.{drop_more}
 use Rattle.toml.specs.Data.{Data, string, integer, float, boolean, datetime, array, table, Members, get_member}
 use Rattle.toml.specs.declared.value.Value.{Value}
 use Rattle.toml.specs.View.{view, items_view}
-use Rattle.us_flows.specs.Ranges.{least_interval_us, max_burst, max_channel_id, max_channels_of_flow, max_clusters_of_flow, max_grant_bytes, max_grants, max_id, max_priority, max_rate, max_sid, max_unit, max_us}
+use Rattle.us_flows.specs.Ranges.{min_interval_us, max_burst, max_channel_id, max_channels_of_flow, max_clusters_of_flow, max_grant_bytes, max_grants, max_id, max_priority, max_rate, max_unicast_sid, max_unit, max_us}
 use Rattle.us_flows.specs.declared.flows.SchedulingType.{SchedulingType}
 use Rattle.us_flows.specs.declared.flows.SchedulingType.TheVariants.{BestEffort, NonRealTimePolling, RealTimePolling, UnsolicitedGrant}
 use Rattle.us_flows.specs.Keys.{Key, best_effort_keys, polling_keys, unsolicited_keys, flow_keys}
@@ -32,8 +32,8 @@ first_number least most values i value d within is h =
     (number_between least most (view value) (next_item (is_number least most) values i value d within is h).0).1
 
 pub first_sid : (values : List Value) (i : ℕ) (value d : Value) → i < length values → value ≡ get_or values i d →
-    all_items (is_number 1 max_sid) (items_view (drop i values)) ≡ true → number_of (view value) ≤ 65535
-first_sid values i value d within is h = omega (arith, first_number 1 max_sid values i value d within is h)
+    all_items (is_number 1 max_unicast_sid) (items_view (drop i values)) ≡ true → number_of (view value) ≤ 65535
+first_sid values i value d within is h = omega (arith, first_number 1 max_unicast_sid values i value d within is h)
 
 pub numbers_within : (least most : ℕ) (d : Data) → is_number_list least most d ≡ true →
     all_items (is_number least most) (items_of d) ≡ true
@@ -147,7 +147,7 @@ pub record FlowRanges (t : Members) : Type 0 where
   pub channels : Between 1 max_channels_of_flow (count (items_at (codes "channels") t))
   pub channel_ids : all_items (is_number 1 max_channel_id) (items_at (codes "channels") t) ≡ true
   pub clusters : Between 1 max_clusters_of_flow (count (items_at (codes "clusters") t))
-  pub sids : all_items (is_number_list 1 max_sid) (items_at (codes "clusters") t) ≡ true
+  pub sids : all_items (is_number_list 1 max_unicast_sid) (items_at (codes "clusters") t) ≡ true
   pub priority : number_at (codes "priority") t ≤ max_priority
   pub rate : number_at (codes "rate") t ≤ max_rate
   pub burst : number_at (codes "burst") t ≤ max_burst
@@ -166,7 +166,7 @@ pub record RequestRanges (t : Members) : Type 0 where
 pub record GrantRanges (t : Members) : Type 0 where
   pub channels : count (items_at (codes "channels") t) ≤ 1
   pub clusters : count (items_at (codes "clusters") t) ≤ 1
-  pub interval_us : least_interval_us ≤ number_at (codes "interval_us") t
+  pub interval_us : min_interval_us ≤ number_at (codes "interval_us") t
   pub grant_bytes : 1 ≤ number_at (codes "grant_bytes") t
   pub grants : 1 ≤ number_at (codes "grants_per_interval") t
 
@@ -176,7 +176,7 @@ unfolding best_effort_keys
 best_effort_ranges t w r =
     let none = best_effort_others t r in
     let channels = list_in_range best_effort_keys t (codes "channels") 1 max_channels_of_flow (is_number 1 max_channel_id) w r refl (λ d. refl) in
-    let clusters = list_in_range best_effort_keys t (codes "clusters") 1 max_clusters_of_flow (is_number_list 1 max_sid) w r refl (λ d. refl) in
+    let clusters = list_in_range best_effort_keys t (codes "clusters") 1 max_clusters_of_flow (is_number_list 1 max_unicast_sid) w r refl (λ d. refl) in
     let unit = value_kept best_effort_keys (codes "unit") t w r refl in
     let units : IsUnit (number_at (codes "unit") t) = rw unit.1 (unit_between unit.0 unit.2) in
     let burst = number_in_range best_effort_keys t (codes "burst") 1 max_burst w r refl (λ d. refl) in (
@@ -200,16 +200,16 @@ best_effort_ranges t w r =
     )
 
 polling_ranges : (t : Members) → lacks polling_keys t ≡ false → strays polling_keys t ≡ false →
-    FlowRanges t × RequestRanges t × (least_interval_us ≤ number_at (codes "interval_us") t)
+    FlowRanges t × RequestRanges t × (min_interval_us ≤ number_at (codes "interval_us") t)
 unfolding polling_keys
 polling_ranges t w r =
     let none = polling_others t r in
     let channels = list_in_range polling_keys t (codes "channels") 1 max_channels_of_flow (is_number 1 max_channel_id) w r refl (λ d. refl) in
-    let clusters = list_in_range polling_keys t (codes "clusters") 1 max_clusters_of_flow (is_number_list 1 max_sid) w r refl (λ d. refl) in
+    let clusters = list_in_range polling_keys t (codes "clusters") 1 max_clusters_of_flow (is_number_list 1 max_unicast_sid) w r refl (λ d. refl) in
     let unit = value_kept polling_keys (codes "unit") t w r refl in
     let units : IsUnit (number_at (codes "unit") t) = rw unit.1 (unit_between unit.0 unit.2) in
     let burst = number_in_range polling_keys t (codes "burst") 1 max_burst w r refl (λ d. refl) in
-    let interval = number_in_range polling_keys t (codes "interval_us") least_interval_us max_us w r refl (λ d. refl) in
+    let interval = number_in_range polling_keys t (codes "interval_us") min_interval_us max_us w r refl (λ d. refl) in
     let ranges : FlowRanges t = record {
       id = number_in_range polling_keys t (codes "id") 1 max_id w r refl (λ d. refl);
       channels = channels.0;
@@ -235,8 +235,8 @@ unfolding unsolicited_keys
 unsolicited_ranges t w r =
     let none = unsolicited_others t r in
     let channels = list_in_range unsolicited_keys t (codes "channels") 1 1 (is_number 1 max_channel_id) w r refl (λ d. refl) in
-    let clusters = list_in_range unsolicited_keys t (codes "clusters") 1 1 (is_number_list 1 max_sid) w r refl (λ d. refl) in
-    let interval = number_in_range unsolicited_keys t (codes "interval_us") least_interval_us max_us w r refl (λ d. refl) in
+    let clusters = list_in_range unsolicited_keys t (codes "clusters") 1 1 (is_number_list 1 max_unicast_sid) w r refl (λ d. refl) in
+    let interval = number_in_range unsolicited_keys t (codes "interval_us") min_interval_us max_us w r refl (λ d. refl) in
     let bytes = number_in_range unsolicited_keys t (codes "grant_bytes") 1 max_grant_bytes w r refl (λ d. refl) in
     let grants = number_in_range unsolicited_keys t (codes "grants_per_interval") 1 max_grants w r refl (λ d. refl) in (
       record {
@@ -267,8 +267,8 @@ unsolicited_ranges t w r =
 -- what a type asks of the values of its keys
 abbrev pub KindRanges : Members → SchedulingType → Type 0
 KindRanges t BestEffort = RequestRanges t
-KindRanges t NonRealTimePolling = RequestRanges t × (least_interval_us ≤ number_at (codes "interval_us") t)
-KindRanges t RealTimePolling = RequestRanges t × (least_interval_us ≤ number_at (codes "interval_us") t)
+KindRanges t NonRealTimePolling = RequestRanges t × (min_interval_us ≤ number_at (codes "interval_us") t)
+KindRanges t RealTimePolling = RequestRanges t × (min_interval_us ≤ number_at (codes "interval_us") t)
 KindRanges t UnsolicitedGrant = GrantRanges t
 
 pub kind_ranges : (t : Members) (kind : SchedulingType) → lacks (flow_keys kind) t ≡ false → strays (flow_keys kind) t ≡

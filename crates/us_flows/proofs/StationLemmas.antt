@@ -1,7 +1,7 @@
 -- A station's table without a fault in its shape: all its values are in their ranges.
 use Rattle.std.proofs.Common.{◌≡◌, ◌≤◌, false, codes, refl, arith}
 use Rattle.toml.specs.Data.{Members}
-use Rattle.us_flows.specs.Ranges.{least_interval_us, max_channel_id, max_id, max_sid, max_us}
+use Rattle.us_flows.specs.Ranges.{min_interval_us, max_channel_id, max_id, max_unicast_sid, max_us}
 use Rattle.us_flows.specs.Keys.{station_keys}
 use Rattle.us_flows.specs.Lawful.{Between}
 use Rattle.us_flows.specs.Documents.{number_at}
@@ -11,9 +11,9 @@ use Rattle.us_flows.proofs.ShapeLemmas.{number_in_range}
 pub record StationRanges (t : Members) : Type 0 where
   pub id : Between 1 max_id (number_at (codes "id") t)
   pub channel : Between 1 max_channel_id (number_at (codes "channel") t)
-  pub sid : Between 1 max_sid (number_at (codes "sid") t)
+  pub sid : Between 1 max_unicast_sid (number_at (codes "sid") t)
   pub start_us : number_at (codes "start_us") t ≤ max_us
-  pub interval_us : Between least_interval_us max_us (number_at (codes "interval_us") t)
+  pub interval_us : Between min_interval_us max_us (number_at (codes "interval_us") t)
   pub jitter_us : number_at (codes "jitter_us") t ≤ max_us
 
 pub station_ranges : (t : Members) → lacks station_keys t ≡ false → strays station_keys t ≡ false → StationRanges t
@@ -21,9 +21,9 @@ unfolding station_keys
 station_ranges t w r = record {
   id = number_in_range station_keys t (codes "id") 1 max_id w r refl (λ d. refl);
   channel = number_in_range station_keys t (codes "channel") 1 max_channel_id w r refl (λ d. refl);
-  sid = number_in_range station_keys t (codes "sid") 1 max_sid w r refl (λ d. refl);
+  sid = number_in_range station_keys t (codes "sid") 1 max_unicast_sid w r refl (λ d. refl);
   start_us = (number_in_range station_keys t (codes "start_us") 0 max_us w r refl (λ d. refl)).1;
-  interval_us = number_in_range station_keys t (codes "interval_us") least_interval_us max_us w r refl (λ d. refl);
+  interval_us = number_in_range station_keys t (codes "interval_us") min_interval_us max_us w r refl (λ d. refl);
   jitter_us = (number_in_range station_keys t (codes "jitter_us") 0 max_us w r refl (λ d. refl)).1;
 }
 

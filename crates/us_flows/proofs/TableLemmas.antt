@@ -10,7 +10,7 @@ use Rattle.toml.specs.Data.{Data, string, integer, float, boolean, datetime, arr
 use Rattle.toml.specs.declared.value.Value.{Value}
 use Rattle.toml.specs.View.{items_view}
 use Rattle.us_slots.specs.Times.{minislot_ticks}
-use Rattle.us_flows.specs.Ranges.{least_interval_us, max_channels, max_flows, max_lead_ticks, max_round_ticks, max_sid, max_stations, max_us}
+use Rattle.us_flows.specs.Ranges.{min_interval_us, max_channels, max_flows, max_lead_ticks, max_round_ticks, max_unicast_sid, max_stations, max_us}
 use Rattle.us_flows.specs.declared.channels.Channel.{Channel}
 use Rattle.us_flows.specs.declared.stations.Station.{Station}
 use Rattle.us_flows.specs.declared.flows.SchedulingType.{SchedulingType}
@@ -168,15 +168,15 @@ all_between least most (item d ds) h =
     let parts = and_parts (is_number least most d) (all_items (is_number least most) ds) h in
     (number_between least most d parts.0, all_between least most ds parts.1)
 
-all_clusters : (n : ℕ) (items : Items) → all_items (is_number_list 1 max_sid) items ≡ true →
+all_clusters : (n : ℕ) (items : Items) → all_items (is_number_list 1 max_unicast_sid) items ≡ true →
     list_all (λ sids. length sids == n) (lists_of items) ≡ true →
-    AllByRecursion (λ sids. (length sids ≡ n) × AllByRecursion (Between 1 max_sid) sids) (lists_of items)
+    AllByRecursion (λ sids. (length sids ≡ n) × AllByRecursion (Between 1 max_unicast_sid) sids) (lists_of items)
 all_clusters n no_items h k = tt
 all_clusters n (item d ds) h k =
     let sids : List ℕ = numbers_of (items_of d) in
-    let ranges = and_parts (is_number_list 1 max_sid d) (all_items (is_number_list 1 max_sid) ds) h in
+    let ranges = and_parts (is_number_list 1 max_unicast_sid d) (all_items (is_number_list 1 max_unicast_sid) ds) h in
     let lengths = and_parts (length sids == n) (list_all (λ others. length others == n) (lists_of ds)) k in (
-      (eqb-true (length sids) n lengths.0, all_between 1 max_sid (items_of d) (numbers_within 1 max_sid d ranges.0)),
+      (eqb-true (length sids) n lengths.0, all_between 1 max_unicast_sid (items_of d) (numbers_within 1 max_unicast_sid d ranges.0)),
       all_clusters n ds ranges.1 lengths.1,
     )
 
@@ -205,7 +205,7 @@ first_there : (channels : List Channel) (ids : List ℕ) → AllByRecursion (λ 
 first_there channels [] all some = absurd (omega (arith, some))
 first_there channels (id ∷ ids) all some = there channels id all.0
 
-schedule : (start interval jitter : ℕ) → start ≤ max_us → least_interval_us ≤ interval → interval ≤ max_us →
+schedule : (start interval jitter : ℕ) → start ≤ max_us → min_interval_us ≤ interval → interval ≤ max_us →
     nat_le interval jitter ≡ false → IsSchedule start interval jitter
 schedule start interval jitter few least most below = record {
   start = few;
@@ -227,7 +227,7 @@ requesting_is m ranges some headers = record {
 }
 
 polled_is : (t : Tables) (m : Members) → FlowRanges m → is_some (first_channel t.channels (flow_of m)) ≡ true →
-    least_interval_us ≤ number_at (codes "interval_us") m →
+    min_interval_us ≤ number_at (codes "interval_us") m →
     nat_le (flow_of m).interval_us (flow_of m).jitter_us ≡ false →
     is_too_long t.round_ticks (λ c. c.request_minislots) (first_channel t.channels (flow_of m)) ≡ false →
     IsPolled t (flow_of m)

@@ -2,7 +2,7 @@
 -- second the greatest.
 use Rattle.std.specs.Prelude.{ℕ, List, [], ◌∷◌, map, codes}
 use Rattle.std.specs.Borrow.{Bor}
-use Rattle.us_flows.specs.Ranges.{max_channels, max_flows, max_stations, max_round_ticks, max_lead_ticks, max_channel_id, max_minislot_log2, max_rate_log2, max_ucd_count, max_exponent, max_request_minislots, max_reserve_minislots, max_station_minislots, max_maintenance_every, least_bits, max_bits, max_preamble, max_guard, max_fec_t, least_fec_k, max_fec_k, max_short_minislots, max_id, max_sid, max_channels_of_flow, max_clusters_of_flow, max_priority, max_rate, max_burst, max_grant_bytes, max_grants, least_interval_us, max_us}
+use Rattle.us_flows.specs.Ranges.{max_channels, max_flows, max_stations, max_round_ticks, max_lead_ticks, max_channel_id, max_minislot_log2, max_rate_log2, max_ucd_count, max_exponent, max_request_minislots, max_reserve_minislots, max_station_minislots, max_maintenance_every, min_bits, max_bits, max_preamble, max_guard, max_fec_t, min_fec_k, max_fec_k, max_short_minislots, max_id, max_unicast_sid, max_channels_of_flow, max_clusters_of_flow, max_priority, max_rate, max_burst, max_grant_bytes, max_grants, min_interval_us, max_us}
 use Rattle.us_flows.specs.declared.flows.SchedulingType.{SchedulingType}
 use Rattle.us_flows.specs.declared.flows.SchedulingType.TheVariants.{BestEffort, NonRealTimePolling, RealTimePolling, UnsolicitedGrant}
 use Rattle.us_flows.specs.declared.keys.Rule.{Rule}
@@ -43,21 +43,21 @@ channel_keys =
 
 unfoldable pub profile_keys : List Key
 profile_keys =
-    (codes "bits", rule.Number least_bits max_bits) ∷
+    (codes "bits", rule.Number min_bits max_bits) ∷
     (codes "preamble", rule.Number 0 max_preamble) ∷
     (codes "guard", rule.Number 0 max_guard) ∷
     (codes "fec_t", rule.Number 0 max_fec_t) ∷
-    (codes "fec_k", rule.Number least_fec_k max_fec_k) ∷
+    (codes "fec_k", rule.Number min_fec_k max_fec_k) ∷
     (codes "shortened", rule.Flag) ∷ []
 
 -- a profile of short data grants has one key more
 unfoldable pub short_keys : List Key
 short_keys =
-    (codes "bits", rule.Number least_bits max_bits) ∷
+    (codes "bits", rule.Number min_bits max_bits) ∷
     (codes "preamble", rule.Number 0 max_preamble) ∷
     (codes "guard", rule.Number 0 max_guard) ∷
     (codes "fec_t", rule.Number 0 max_fec_t) ∷
-    (codes "fec_k", rule.Number least_fec_k max_fec_k) ∷
+    (codes "fec_k", rule.Number min_fec_k max_fec_k) ∷
     (codes "shortened", rule.Flag) ∷
     (codes "max_minislots", rule.Number 1 max_short_minislots) ∷ []
 
@@ -67,7 +67,7 @@ best_effort_keys =
     (codes "id", rule.Number 1 max_id) ∷
     (codes "type", rule.Type) ∷
     (codes "channels", rule.Numbers 1 max_channels_of_flow 1 max_channel_id) ∷
-    (codes "clusters", rule.Lists 1 max_clusters_of_flow 1 max_sid) ∷
+    (codes "clusters", rule.Lists 1 max_clusters_of_flow 1 max_unicast_sid) ∷
     (codes "priority", rule.Number 0 max_priority) ∷
     (codes "rate", rule.Number 0 max_rate) ∷
     (codes "burst", rule.Number 1 max_burst) ∷
@@ -80,14 +80,14 @@ polling_keys =
     (codes "id", rule.Number 1 max_id) ∷
     (codes "type", rule.Type) ∷
     (codes "channels", rule.Numbers 1 max_channels_of_flow 1 max_channel_id) ∷
-    (codes "clusters", rule.Lists 1 max_clusters_of_flow 1 max_sid) ∷
+    (codes "clusters", rule.Lists 1 max_clusters_of_flow 1 max_unicast_sid) ∷
     (codes "priority", rule.Number 0 max_priority) ∷
     (codes "rate", rule.Number 0 max_rate) ∷
     (codes "burst", rule.Number 1 max_burst) ∷
     (codes "unit", rule.Unit) ∷
     (codes "headers", rule.Flag) ∷
     (codes "start_us", rule.Number 0 max_us) ∷
-    (codes "interval_us", rule.Number least_interval_us max_us) ∷
+    (codes "interval_us", rule.Number min_interval_us max_us) ∷
     (codes "jitter_us", rule.Number 0 max_us) ∷ []
 
 -- a flow with unsolicited grants
@@ -96,9 +96,9 @@ unsolicited_keys =
     (codes "id", rule.Number 1 max_id) ∷
     (codes "type", rule.Type) ∷
     (codes "channels", rule.Numbers 1 1 1 max_channel_id) ∷
-    (codes "clusters", rule.Lists 1 1 1 max_sid) ∷
+    (codes "clusters", rule.Lists 1 1 1 max_unicast_sid) ∷
     (codes "start_us", rule.Number 0 max_us) ∷
-    (codes "interval_us", rule.Number least_interval_us max_us) ∷
+    (codes "interval_us", rule.Number min_interval_us max_us) ∷
     (codes "jitter_us", rule.Number 0 max_us) ∷
     (codes "grant_bytes", rule.Number 1 max_grant_bytes) ∷
     (codes "grants_per_interval", rule.Number 1 max_grants) ∷ []
@@ -114,7 +114,7 @@ unfoldable pub station_keys : List Key
 station_keys =
     (codes "id", rule.Number 1 max_id) ∷
     (codes "channel", rule.Number 1 max_channel_id) ∷
-    (codes "sid", rule.Number 1 max_sid) ∷
+    (codes "sid", rule.Number 1 max_unicast_sid) ∷
     (codes "start_us", rule.Number 0 max_us) ∷
-    (codes "interval_us", rule.Number least_interval_us max_us) ∷
+    (codes "interval_us", rule.Number min_interval_us max_us) ∷
     (codes "jitter_us", rule.Number 0 max_us) ∷ []

@@ -3,7 +3,7 @@ use Rattle.std.specs.Prelude.{◌≡◌, ◌≢◌, ◌⊎◌, ℕ, ◌+◌, ◌
 use Rattle.std.specs.List.{AllByRecursion}
 use Rattle.us_slots.specs.Times.{minislot_ticks}
 use Rattle.us_slots.specs.Bursts.{IsChannelBursts, burst_cost}
-use Rattle.us_flows.specs.Ranges.{max_channels, max_flows, max_stations, max_round_ticks, max_lead_ticks, max_channel_id, max_ucd_count, max_exponent, max_request_minislots, max_station_minislots, max_maintenance_every, max_id, max_sid, max_channels_of_flow, max_clusters_of_flow, max_priority, max_rate, max_burst, max_unit, max_grant_bytes, max_grants, least_interval_us, max_us}
+use Rattle.us_flows.specs.Ranges.{max_channels, max_flows, max_stations, max_round_ticks, max_lead_ticks, max_channel_id, max_ucd_count, max_exponent, max_request_minislots, max_station_minislots, max_maintenance_every, max_id, max_unicast_sid, max_channels_of_flow, max_clusters_of_flow, max_priority, max_rate, max_burst, max_unit, max_grant_bytes, max_grants, min_interval_us, max_us}
 use Rattle.us_flows.specs.declared.channels.Channel.{Channel}
 use Rattle.us_flows.specs.declared.stations.Station.{Station}
 use Rattle.us_flows.specs.declared.flows.SchedulingType.{SchedulingType}
@@ -51,7 +51,7 @@ IsUnit n = (n ≡ 1) ⊎ ((n ≡ 2) ⊎ ((n ≡ 4) ⊎ ((n ≡ 8) ⊎ (n ≡ 16)
 -- when intervals begin, how long they are, and the jitter, which is below that, in microseconds
 pub record IsSchedule (start_us interval_us jitter_us : ℕ) : Type 0 where
   pub start : start_us ≤ max_us
-  pub interval : Between least_interval_us max_us interval_us
+  pub interval : Between min_interval_us max_us interval_us
   pub jitter : jitter_us < interval_us
 
 -- a flow that makes requests; without segment headers it has one channel
@@ -117,7 +117,7 @@ pub record IsFlow (t : Tables) (f : FlowTable) : Type 0 where
   -- a cluster has a SID for each channel
   pub some_clusters : Between 1 max_clusters_of_flow (length f.clusters)
   pub sids : AllByRecursion
-      (λ sids. (length sids ≡ length f.channels) × AllByRecursion (Between 1 max_sid) sids) f.clusters
+      (λ sids. (length sids ≡ length f.channels) × AllByRecursion (Between 1 max_unicast_sid) sids) f.clusters
   -- whatever its type is,
   pub priority : f.priority ≤ max_priority
   pub rate : f.rate ≤ max_rate
@@ -135,7 +135,7 @@ pub record IsFlow (t : Tables) (f : FlowTable) : Type 0 where
 pub record IsStation (t : Tables) (s : Station) : Type 0 where
   pub id : Between 1 max_id s.id
   pub channel : has_channel t.channels s.channel ≡ true
-  pub sid : Between 1 max_sid s.sid
+  pub sid : Between 1 max_unicast_sid s.sid
   pub schedule : IsSchedule s.start_us s.interval_us s.jitter_us
   pub maintenance : Fits t (λ channel. channel.station_minislots) (channel_with t.channels s.channel)
 

@@ -28,7 +28,8 @@ pub mod Checks
 pub mod Answers
 -- the definitions at small inputs
 pub mod Examples
--- how the table of a fault is named
+-- the code of a fault, and the table that it names
+pub mod Codes
 pub mod Places
 -- inside the crate, and of no use to a reader of the promise: what an index of SIDs holds, and what turns are sorted by
 pub mod Listed

@@ -55,8 +55,8 @@ max_maintenance_every = 65536
 
 -- of a burst profile: the bits of a symbol, the symbols before and behind a burst, the code's T and K, the bytes of a
 -- codeword with its parity, and the minislots of a short data grant
-abbrev pub least_bits : ℕ
-least_bits = 2
+abbrev pub min_bits : ℕ
+min_bits = 2
 
 abbrev pub max_bits : ℕ
 max_bits = 6
@@ -70,8 +70,8 @@ max_guard = 255
 abbrev pub max_fec_t : ℕ
 max_fec_t = 16
 
-abbrev pub least_fec_k : ℕ
-least_fec_k = 16
+abbrev pub min_fec_k : ℕ
+min_fec_k = 16
 
 abbrev pub max_fec_k : ℕ
 max_fec_k = 253
@@ -86,8 +86,8 @@ max_short_minislots = 255
 abbrev pub max_id : ℕ
 max_id = 65535
 
-abbrev pub max_sid : ℕ
-max_sid = 15871
+abbrev pub max_unicast_sid : ℕ
+max_unicast_sid = 15871
 
 -- of a flow: its channels and clusters,
 abbrev pub max_channels_of_flow : ℕ
@@ -121,8 +121,8 @@ abbrev pub max_clusters : ℕ
 max_clusters = 2048
 
 -- when intervals begin, how long each is, and the jitter, in microseconds
-abbrev pub least_interval_us : ℕ
-least_interval_us = 100
+abbrev pub min_interval_us : ℕ
+min_interval_us = 100
 
 abbrev pub max_us : ℕ
 max_us = 10000000

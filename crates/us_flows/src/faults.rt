@@ -107,33 +107,54 @@ pub enum ConfigFault {
 }
 
 impl ConfigFault {
-    /// Its number and what it says, up to the table that it names.
-    fn words(&self) -> &'static str {
+    ghost use Rattle.std.specs.Prelude.{◌≡◌};
+    ghost use Rattle.us_flows.specs.Codes.{code_of};
+    ghost use Rattle.us_flows.specs.Places.{place_of};
+
+    /// Its code, C1 to C13.
+    pub fn code(&self) -> &'static str
+        ensures { result.now ≡ code_of self.now }
+    {
         match self {
-            ConfigFault::Text => "C1: no TOML document of at most 4194304 bytes",
-            ConfigFault::Missing(_) => "C2: a key is missing in ",
-            ConfigFault::Range(_) => "C3: a value is out of its range, or a key is unknown, in ",
-            ConfigFault::UnknownChannel(_) => "C4: no channel has an id that is named in ",
-            ConfigFault::DuplicateId(_) => "C5: an id is there twice in ",
-            ConfigFault::DuplicateSid(_) => {
-                "C6: a SID of another cluster is on the same channel in "
-            }
-            ConfigFault::ClusterLength(_) => "C7: a cluster has not one SID for each channel in ",
-            ConfigFault::RoundNotMultiple(_) => {
-                "C8: the round is no whole number of minislots of "
-            }
-            ConfigFault::ReservesTooLong(_) => "C9: the reserves pass the length of the MAPs of ",
-            ConfigFault::Jitter(_) => "C10: the jitter is not below the interval in ",
-            ConfigFault::GrantLongerThanMap(_) => {
-                "C11: a grant passes the length of the MAPs in "
-            }
-            ConfigFault::Headers(_) => "C12: segment headers are wanting on several channels in ",
-            ConfigFault::NoMemory => "C13: out of memory",
+            ConfigFault::Text => "C1",
+            ConfigFault::Missing(_) => "C2",
+            ConfigFault::Range(_) => "C3",
+            ConfigFault::UnknownChannel(_) => "C4",
+            ConfigFault::DuplicateId(_) => "C5",
+            ConfigFault::DuplicateSid(_) => "C6",
+            ConfigFault::ClusterLength(_) => "C7",
+            ConfigFault::RoundNotMultiple(_) => "C8",
+            ConfigFault::ReservesTooLong(_) => "C9",
+            ConfigFault::Jitter(_) => "C10",
+            ConfigFault::GrantLongerThanMap(_) => "C11",
+            ConfigFault::Headers(_) => "C12",
+            ConfigFault::NoMemory => "C13",
+        }
+    }
+
+    /// What it says behind its code, up to the table that it names.
+    pub fn sentence(&self) -> &'static str {
+        match self {
+            ConfigFault::Text => "no TOML document of at most 4194304 bytes",
+            ConfigFault::Missing(_) => "a key is missing in ",
+            ConfigFault::Range(_) => "a value is out of its range, or a key is unknown, in ",
+            ConfigFault::UnknownChannel(_) => "no channel has an id that is named in ",
+            ConfigFault::DuplicateId(_) => "an id is there twice in ",
+            ConfigFault::DuplicateSid(_) => "a SID of another cluster is on the same channel in ",
+            ConfigFault::ClusterLength(_) => "a cluster has not one SID for each channel in ",
+            ConfigFault::RoundNotMultiple(_) => "the round is no whole number of minislots of ",
+            ConfigFault::ReservesTooLong(_) => "the reserves pass the length of the MAPs of ",
+            ConfigFault::Jitter(_) => "the jitter is not below the interval in ",
+            ConfigFault::GrantLongerThanMap(_) => "a grant passes the length of the MAPs in ",
+            ConfigFault::Headers(_) => "segment headers are wanting on several channels in ",
+            ConfigFault::NoMemory => "out of memory",
         }
     }
 
     /// The table that it names.
-    fn place(&self) -> Option<Place> {
+    pub fn place(&self) -> Option<Place>
+        ensures { result ≡ place_of self.now }
+    {
         match self {
             ConfigFault::Missing(place)
             | ConfigFault::Range(place)
@@ -151,12 +172,13 @@ impl ConfigFault {
     }
 }
 
-/// Writes a fault as a sentence that begins with its number and ends in its table.
+/// Writes a fault as its code and a sentence that ends in its table.
 impl fmt::Display for ConfigFault {
     fn fmt<W: fmt::Write>(&self, f: &mut fmt::Formatter<W>) -> fmt::Result {
+        let (code, sentence) = (self.code(), self.sentence());
         match self.place() {
-            Some(place) => write!(f, "{}{place}", self.words()),
-            None => f.write_str(self.words()),
+            Some(place) => write!(f, "{code}: {sentence}{place}"),
+            None => write!(f, "{code}: {sentence}"),
         }
     }
 }

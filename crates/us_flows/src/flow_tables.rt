@@ -1,7 +1,7 @@
 ghost use Rattle.std.specs.Prelude.{◌≡◌, ◌<◌, ◌≤◌, ◌++◌, ◌^◌, length, map, Err, None, IfOk, IfSome, true, false};
 ghost use Rattle.toml.specs.Data.{item, no_items};
 ghost use Rattle.toml.specs.View.{view, table_view, items_view};
-ghost use Rattle.us_flows.specs.Ranges.{max_flows, max_channel_id, max_sid};
+ghost use Rattle.us_flows.specs.Ranges.{max_flows, max_channel_id, max_unicast_sid};
 ghost use Rattle.us_flows.specs.Keys.{flow_keys};
 ghost use Rattle.us_flows.specs.Documents;
 ghost use Rattle.us_flows.specs.Shapes;
@@ -176,7 +176,7 @@ fn ids_of(alloc: Global, items: &[Value]) -> Result<Vec<u8>, AllocError>
 
 /// The SIDs of one cluster.
 fn cluster_of(alloc: Global, items: &[Value]) -> Result<Vec<u16>, AllocError>
-    requires { Shapes.all_items (Shapes.is_number 1 max_sid) (items_view items.now) ≡ true }
+    requires { Shapes.all_items (Shapes.is_number 1 max_unicast_sid) (items_view items.now) ≡ true }
     ensures { IfOk result (λ sids. sids.items ≡ Documents.numbers_of (items_view items.now)) }
 {
     let mut sids = Vec::new(alloc);
@@ -189,7 +189,7 @@ fn cluster_of(alloc: Global, items: &[Value]) -> Result<Vec<u16>, AllocError>
 /// The clusters of a list of lists.
 #[tactic(auto, using(crate::proofs::FlowLemmas::first_list))]
 fn clusters_of(alloc: Global, items: &[Value]) -> Result<Vec<Vec<u16>>, AllocError>
-    requires { Shapes.all_items (Shapes.is_number_list 1 max_sid) (items_view items.now) ≡ true }
+    requires { Shapes.all_items (Shapes.is_number_list 1 max_unicast_sid) (items_view items.now) ≡ true }
     ensures { IfOk result (λ clusters.
         map (λ sids. sids.items) clusters.items ≡ Documents.lists_of (items_view items.now)) }
 {

@@ -3,12 +3,12 @@ ghost use Rattle.us_flows.specs.Keys.{keys_of, top_keys, channel_keys, profile_k
 
 use crate::flows::SchedulingType;
 use crate::ranges::{
-    LEAST_BITS, LEAST_FEC_K, LEAST_INTERVAL_US, MAX_BITS, MAX_BURST, MAX_CHANNEL_ID, MAX_CHANNELS,
-    MAX_CHANNELS_OF_FLOW, MAX_CLUSTERS_OF_FLOW, MAX_EXPONENT, MAX_FEC_K, MAX_FEC_T, MAX_FLOWS,
-    MAX_GRANT_BYTES, MAX_GRANTS, MAX_GUARD, MAX_ID, MAX_LEAD_TICKS, MAX_MAINTENANCE_EVERY,
-    MAX_MINISLOT_LOG2, MAX_PREAMBLE, MAX_PRIORITY, MAX_RATE, MAX_RATE_LOG2, MAX_REQUEST_MINISLOTS,
-    MAX_RESERVE_MINISLOTS, MAX_ROUND_TICKS, MAX_SHORT_MINISLOTS, MAX_SID, MAX_STATION_MINISLOTS,
-    MAX_STATIONS, MAX_UCD_COUNT, MAX_US,
+    MAX_BITS, MAX_BURST, MAX_CHANNEL_ID, MAX_CHANNELS, MAX_CHANNELS_OF_FLOW, MAX_CLUSTERS_OF_FLOW,
+    MAX_EXPONENT, MAX_FEC_K, MAX_FEC_T, MAX_FLOWS, MAX_GRANT_BYTES, MAX_GRANTS, MAX_GUARD, MAX_ID,
+    MAX_LEAD_TICKS, MAX_MAINTENANCE_EVERY, MAX_MINISLOT_LOG2, MAX_PREAMBLE, MAX_PRIORITY, MAX_RATE,
+    MAX_RATE_LOG2, MAX_REQUEST_MINISLOTS, MAX_RESERVE_MINISLOTS, MAX_ROUND_TICKS,
+    MAX_SHORT_MINISLOTS, MAX_STATION_MINISLOTS, MAX_STATIONS, MAX_UCD_COUNT, MAX_UNICAST_SID,
+    MAX_US, MIN_BITS, MIN_FEC_K, MIN_INTERVAL_US,
 };
 
 /// What the value of a key must be. Of two numbers the first is the least and the second the greatest.
@@ -67,20 +67,20 @@ static CHANNEL_KEYS: [Key; 14] = [
 ];
 
 static PROFILE_KEYS: [Key; 6] = [
-    ("bits", Rule::Number(LEAST_BITS, MAX_BITS)),
+    ("bits", Rule::Number(MIN_BITS, MAX_BITS)),
     ("preamble", Rule::Number(0, MAX_PREAMBLE)),
     ("guard", Rule::Number(0, MAX_GUARD)),
     ("fec_t", Rule::Number(0, MAX_FEC_T)),
-    ("fec_k", Rule::Number(LEAST_FEC_K, MAX_FEC_K)),
+    ("fec_k", Rule::Number(MIN_FEC_K, MAX_FEC_K)),
     ("shortened", Rule::Flag),
 ];
 
 static SHORT_KEYS: [Key; 7] = [
-    ("bits", Rule::Number(LEAST_BITS, MAX_BITS)),
+    ("bits", Rule::Number(MIN_BITS, MAX_BITS)),
     ("preamble", Rule::Number(0, MAX_PREAMBLE)),
     ("guard", Rule::Number(0, MAX_GUARD)),
     ("fec_t", Rule::Number(0, MAX_FEC_T)),
-    ("fec_k", Rule::Number(LEAST_FEC_K, MAX_FEC_K)),
+    ("fec_k", Rule::Number(MIN_FEC_K, MAX_FEC_K)),
     ("shortened", Rule::Flag),
     ("max_minislots", Rule::Number(1, MAX_SHORT_MINISLOTS)),
 ];
@@ -92,7 +92,10 @@ static BEST_EFFORT_KEYS: [Key; 9] = [
         "channels",
         Rule::Numbers(1, MAX_CHANNELS_OF_FLOW, 1, MAX_CHANNEL_ID),
     ),
-    ("clusters", Rule::Lists(1, MAX_CLUSTERS_OF_FLOW, 1, MAX_SID)),
+    (
+        "clusters",
+        Rule::Lists(1, MAX_CLUSTERS_OF_FLOW, 1, MAX_UNICAST_SID),
+    ),
     ("priority", Rule::Number(0, MAX_PRIORITY)),
     ("rate", Rule::Number(0, MAX_RATE)),
     ("burst", Rule::Number(1, MAX_BURST)),
@@ -107,14 +110,17 @@ static POLLING_KEYS: [Key; 12] = [
         "channels",
         Rule::Numbers(1, MAX_CHANNELS_OF_FLOW, 1, MAX_CHANNEL_ID),
     ),
-    ("clusters", Rule::Lists(1, MAX_CLUSTERS_OF_FLOW, 1, MAX_SID)),
+    (
+        "clusters",
+        Rule::Lists(1, MAX_CLUSTERS_OF_FLOW, 1, MAX_UNICAST_SID),
+    ),
     ("priority", Rule::Number(0, MAX_PRIORITY)),
     ("rate", Rule::Number(0, MAX_RATE)),
     ("burst", Rule::Number(1, MAX_BURST)),
     ("unit", Rule::Unit),
     ("headers", Rule::Flag),
     ("start_us", Rule::Number(0, MAX_US)),
-    ("interval_us", Rule::Number(LEAST_INTERVAL_US, MAX_US)),
+    ("interval_us", Rule::Number(MIN_INTERVAL_US, MAX_US)),
     ("jitter_us", Rule::Number(0, MAX_US)),
 ];
 
@@ -122,9 +128,9 @@ static UNSOLICITED_KEYS: [Key; 9] = [
     ("id", Rule::Number(1, MAX_ID)),
     ("type", Rule::Type),
     ("channels", Rule::Numbers(1, 1, 1, MAX_CHANNEL_ID)),
-    ("clusters", Rule::Lists(1, 1, 1, MAX_SID)),
+    ("clusters", Rule::Lists(1, 1, 1, MAX_UNICAST_SID)),
     ("start_us", Rule::Number(0, MAX_US)),
-    ("interval_us", Rule::Number(LEAST_INTERVAL_US, MAX_US)),
+    ("interval_us", Rule::Number(MIN_INTERVAL_US, MAX_US)),
     ("jitter_us", Rule::Number(0, MAX_US)),
     ("grant_bytes", Rule::Number(1, MAX_GRANT_BYTES)),
     ("grants_per_interval", Rule::Number(1, MAX_GRANTS)),
@@ -133,9 +139,9 @@ static UNSOLICITED_KEYS: [Key; 9] = [
 static STATION_KEYS: [Key; 6] = [
     ("id", Rule::Number(1, MAX_ID)),
     ("channel", Rule::Number(1, MAX_CHANNEL_ID)),
-    ("sid", Rule::Number(1, MAX_SID)),
+    ("sid", Rule::Number(1, MAX_UNICAST_SID)),
     ("start_us", Rule::Number(0, MAX_US)),
-    ("interval_us", Rule::Number(LEAST_INTERVAL_US, MAX_US)),
+    ("interval_us", Rule::Number(MIN_INTERVAL_US, MAX_US)),
     ("jitter_us", Rule::Number(0, MAX_US)),
 ];
 

@@ -44,7 +44,7 @@ pub(crate) const MAX_STATION_MINISLOTS: u32 = 64;
 pub(crate) const MAX_MAINTENANCE_EVERY: u32 = 65_536;
 
 /// The least bits of a symbol.
-pub(crate) const LEAST_BITS: u32 = 2;
+pub(crate) const MIN_BITS: u32 = 2;
 
 /// The most bits of a symbol.
 pub(crate) const MAX_BITS: u32 = 6;
@@ -59,7 +59,7 @@ pub(crate) const MAX_GUARD: u32 = 255;
 pub(crate) const MAX_FEC_T: u32 = 16;
 
 /// The fewest data bytes of a full codeword.
-pub(crate) const LEAST_FEC_K: u32 = 16;
+pub(crate) const MIN_FEC_K: u32 = 16;
 
 /// The most data bytes of a full codeword.
 pub(crate) const MAX_FEC_K: u32 = 253;
@@ -74,7 +74,7 @@ pub(crate) const MAX_SHORT_MINISLOTS: u32 = 255;
 pub(crate) const MAX_ID: u32 = 65_535;
 
 /// The greatest unicast SID (the standard's).
-pub(crate) const MAX_SID: u32 = 15_871;
+pub(crate) const MAX_UNICAST_SID: u32 = 15_871;
 
 /// The most channels of a flow.
 pub(crate) const MAX_CHANNELS_OF_FLOW: u32 = 8;
@@ -98,7 +98,7 @@ pub(crate) const MAX_GRANT_BYTES: u32 = 65_535;
 pub(crate) const MAX_GRANTS: u32 = 127;
 
 /// The shortest interval, in microseconds.
-pub(crate) const LEAST_INTERVAL_US: u32 = 100;
+pub(crate) const MIN_INTERVAL_US: u32 = 100;
 
 /// The latest start of a first interval, the longest interval and the greatest jitter, in microseconds.
 pub(crate) const MAX_US: u32 = 10_000_000;

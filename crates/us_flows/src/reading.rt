@@ -30,6 +30,9 @@ impl Config {
     pub fn read(alloc: Global, text: &[u8]) -> Result<Config, ConfigFault>
         ensures answer { Answers text.now result }
         ensures too_long { max_config_bytes < length text.now → result ≡ Err fault.Text }
+
+        // The limit that this crate's refusals name.
+        ensures limits { MAX_CONFIG_BYTES ≡ max_config_bytes }
     {
         if text.len() > MAX_CONFIG_BYTES {
             return Err(ConfigFault::Text);

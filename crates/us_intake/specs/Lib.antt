@@ -16,5 +16,7 @@ pub mod Parts
 pub mod Insides
 -- what holds of every account
 pub mod Laws
+-- the code of a fault
+pub mod Codes
 -- the definitions at small inputs
 pub mod Examples

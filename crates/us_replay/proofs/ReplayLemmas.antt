@@ -6,7 +6,7 @@ use Rattle.us_flows.specs.Clusters.{clusters_of}
 use Rattle.us_requests.specs.Asks.{Request, counts_of}
 use Rattle.us_requests.specs.Cuts.{cut_at, cut_of}
 use Rattle.us_requests.specs.Traces.{TraceAsks, IsTraceOf, asks_in}
-use Rattle.us_requests.specs.Rows.{requests_of}
+use Rattle.us_requests.specs.Texts.{requests_of}
 use Rattle.us_requests.specs.Readings.{Reads}
 use Rattle.us_replay.specs.declared.summaries.Summary.{Summary}
 use Rattle.us_replay.specs.declared.faults.RunFault.{RunFault}

@@ -6,7 +6,7 @@ use Rattle.us_flows.specs.Tables.{Tables, rounds_fit}
 use Rattle.us_requests.specs.declared.asks.Counts.{Counts}
 use Rattle.us_requests.specs.Asks.{Request, counts_of}
 use Rattle.us_requests.specs.Cuts.{cut_at}
-use Rattle.us_requests.specs.Rows.{trace_fault, requests_of}
+use Rattle.us_requests.specs.Texts.{trace_fault, requests_of}
 use Rattle.us_requests.specs.Readings.{IsTextOf, Reads}
 use Rattle.us_round.specs.Rounds.{opening, schedule, final}
 use Rattle.us_round.specs.Outputs.{RoundOut, AreWithinLimits, final_rows, out_of}

@@ -1,4 +1,4 @@
--- Cuts: the sums of a round's asks are the sums over the rows, and rows in another order have the same.
+-- Cuts: the sums of a round's asks are the sums over the requests, and requests in another order have the same.
 use Rattle.std.proofs.Common.{◌≡◌, ℕ, ◌+◌, ◌*◌, Bool, true, false, List, [], ◌∷◌, length, map, Option, Some, None, refl, ap, sym, ◌∙◌, inl, inr, arith}
 use Rattle.std.specs.Prelude.{sum_by, count_by, filter, ◌==◌, ◌&&◌, nat_lt, if◌then◌else◌, cond, slice_get}
 use Rattle.std.specs.List.{cons_option, range_with_len}
@@ -30,7 +30,7 @@ sum-filtered f p (x ∷ xs) = omega (
   sum-filtered f p xs,
 )
 
--- what a row asks for of a cluster in a round
+-- what a request asks for of a cluster in a round
 abbrev bytes_at : Tables → ℕ → ℕ → ℕ → Request → ℕ
 bytes_at t rounds round cluster q =
     if is_ask t rounds round cluster q then q.units * unit_of (slice_get (clusters_of t) cluster) else 0
@@ -52,7 +52,7 @@ asked-cons None asks cluster = omega arith
 asked-cons (Some ask) asks cluster =
     sum-kept (λ ask. ask.bytes) (ask.cluster == cluster) ask (filter (λ ask. ask.cluster == cluster) asks)
 
--- a row's ask names what the row asks for
+-- a request's ask names what the request asks for
 ask-bytes : (t : Tables) (b : Bool) (units cluster : ℕ) (o : Option Found) →
     bytes_in cluster (if b then ask_for t units o else None) ≡
     (if is_cluster cluster o && b then units * unit_of (slice_get (clusters_of t) cluster) else 0)
@@ -92,29 +92,29 @@ sums-are-cut t rounds requests round =
     λ i cluster. (asked-sum t rounds requests round cluster ∙ sym (cut-sum t rounds requests round cluster)) i in
     ap (λ f. map f (range_with_len 0 (length (clusters_of t)))) same
 
--- rows in another order
-same-counts : (t : Tables) (rounds : ℕ) (rows others : List Request) → IsPermutation rows others →
-    counts_of t rounds others ≡ counts_of t rounds rows
+-- requests in another order
+same-counts : (t : Tables) (rounds : ℕ) (requests others : List Request) → IsPermutation requests others →
+    counts_of t rounds others ≡ counts_of t rounds requests
 unfolding counts_of
-same-counts t rounds rows others order =
-    let u : count_by (is_unknown t) others ≡ count_by (is_unknown t) rows =
-    sum_by-IsPermutation (λ q. cond (is_unknown t q) 1 0) rows others order in
-    let n : count_by (is_not_requestable t) others ≡ count_by (is_not_requestable t) rows =
-    sum_by-IsPermutation (λ q. cond (is_not_requestable t q) 1 0) rows others order in
-    let l : count_by (is_late t rounds) others ≡ count_by (is_late t rounds) rows =
-    sum_by-IsPermutation (λ q. cond (is_late t rounds q) 1 0) rows others order in
+same-counts t rounds requests others order =
+    let u : count_by (is_unknown t) others ≡ count_by (is_unknown t) requests =
+    sum_by-IsPermutation (λ q. cond (is_unknown t q) 1 0) requests others order in
+    let n : count_by (is_not_requestable t) others ≡ count_by (is_not_requestable t) requests =
+    sum_by-IsPermutation (λ q. cond (is_not_requestable t q) 1 0) requests others order in
+    let l : count_by (is_late t rounds) others ≡ count_by (is_late t rounds) requests =
+    sum_by-IsPermutation (λ q. cond (is_late t rounds q) 1 0) requests others order in
     rw (u, n, l) refl
 
-same-cut : (t : Tables) (rounds : ℕ) (rows others : List Request) (round : ℕ) → IsPermutation rows others →
-    cut_at t rounds others round ≡ cut_at t rounds rows round
+same-cut : (t : Tables) (rounds : ℕ) (requests others : List Request) (round : ℕ) → IsPermutation requests others →
+    cut_at t rounds others round ≡ cut_at t rounds requests round
 unfolding cut_at
-same-cut t rounds rows others round order =
-    let same : cut t rounds others round ≡ cut t rounds rows round =
+same-cut t rounds requests others round order =
+    let same : cut t rounds others round ≡ cut t rounds requests round =
     λ i cluster. (cut-sum t rounds others round cluster ∙
-    sum_by-IsPermutation (bytes_at t rounds round cluster) rows others order ∙
-    sym (cut-sum t rounds rows round cluster)) i in
+    sum_by-IsPermutation (bytes_at t rounds round cluster) requests others order ∙
+    sym (cut-sum t rounds requests round cluster)) i in
     ap (λ f. map f (range_with_len 0 (length (clusters_of t)))) same
 
 pub any-order : OrderIsNothing
-any-order t rounds rows others order =
-    (λ round. same-cut t rounds rows others round order, same-counts t rounds rows others order)
+any-order t rounds requests others order =
+    (λ round. same-cut t rounds requests others round order, same-counts t rounds requests others order)

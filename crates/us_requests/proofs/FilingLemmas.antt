@@ -1,4 +1,4 @@
--- Filing rows: what is left gives what all of them give.
+-- Filing requests: what is left gives what all of them give.
 use Rattle.std.proofs.Common.{◌≡◌, ℕ, ◌+◌, ◌<◌, ◌≤◌, Bool, true, false, List, [], ◌∷◌, ◌++◌, length, map, Option, Some, None, refl, ap, sym, ◌∙◌, append_assoc, append-nil, inl, inr, arith}
 use Rattle.std.specs.Prelude.{count_by, filter, ◌==◌, ◌&&◌, nat_lt, if◌then◌else◌, cond}
 use Rattle.std.specs.List.{cons_option}
@@ -49,7 +49,7 @@ filing-start t rounds requests placed counts empty none = record {
   few = omega (arith, ap length empty);
 }
 
--- what the next row adds
+-- what the next request adds
 record Adds (t : Tables) (rounds : ℕ) (q : Request) (o : Outcome) : Type 0 where
   asks : (rest : List Request) (round : ℕ) →
       asks_at t rounds (q ∷ rest) round ≡ of_round (added o) round ++ asks_at t rounds rest round
@@ -58,7 +58,7 @@ record Adds (t : Tables) (rounds : ℕ) (q : Request) (o : Outcome) : Type 0 whe
       counts.not_requestable + (if is_not_requestable t q then 1 else 0) ≡ (counted o counts).not_requestable
   late : (counts : Counts) → counts.late + (if is_late t rounds q then 1 else 0) ≡ (counted o counts).late
 
--- nothing, where the row is no ask
+-- nothing, where the request is no ask
 no-ask : (b : Bool) (o : Option Ask) (asks : List Ask) → o ≡ None → cons_option (if b then o else None) asks ≡ asks
 no-ask true o asks none = ap (λ o. cons_option o asks) none
 no-ask false o asks none = refl
@@ -129,10 +129,11 @@ added-few outcome.NotRequestable = omega arith
 added-few outcome.Late = omega arith
 added-few (outcome.Asked placed) = omega arith
 
-pub row-filed : (t : Tables) (rounds : ℕ) (requests rest : List Request) (q : Request) (placed later : List PlacedAsk)
+pub request-filed : (t : Tables) (rounds : ℕ) (requests rest : List Request) (q : Request)
+    (placed later : List PlacedAsk)
     (counts : Counts) (o : Outcome) → IsPartFiled t rounds requests (q ∷ rest) placed counts → Becomes t rounds q o →
     later ≡ placed ++ added o → IsPartFiled t rounds requests rest later (counted o counts)
-row-filed t rounds requests rest q placed later counts o is becomes more = let a : Adds t rounds q o =
+request-filed t rounds requests rest q placed later counts o is becomes more = let a : Adds t rounds q o =
     adds t rounds q o becomes in record {
       asks = λ round. ap (λ asks. of_round asks round ++ asks_at t rounds rest round) more ∙
           ap (λ asks. asks ++ asks_at t rounds rest round) (of_round-append placed (added o) round) ∙
@@ -159,7 +160,7 @@ counts-rise outcome.NotRequestable counts n a b c = (omega arith, omega arith, o
 counts-rise outcome.Late counts n a b c = (omega arith, omega arith, omega arith)
 counts-rise (outcome.Asked placed) counts n a b c = (omega arith, omega arith, omega arith)
 
--- all rows were filed
+-- all requests were filed
 pub all-filed : (t : Tables) (rounds : ℕ) (requests : List Request) (placed : List PlacedAsk) (counts : Counts) →
     IsPartFiled t rounds requests [] placed counts → IsFiled t rounds requests placed counts
 unfolding asks_at counts_of

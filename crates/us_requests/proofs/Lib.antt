@@ -1,7 +1,7 @@
 -- what a reader of records has left
 pub mod RecordLemmas
 -- fields and numbers of a record
-pub mod RowLemmas
+pub mod FieldLemmas
 -- asks that are nearly in the order of their rounds
 pub mod SettlingLemmas
 -- the asks in the order of their rounds
@@ -12,13 +12,13 @@ pub mod SearchLemmas
 pub mod TextLemmas
 -- clusters, bytes and rounds of asks
 pub mod AskLemmas
--- rows, filed as asks and counts
+-- requests, filed as asks and counts
 pub mod FilingLemmas
 -- what the asks of a trace add up to
 pub mod TotalLemmas
--- asks and rows add up alike, in any order
+-- asks and requests add up alike, in any order
 pub mod CutLemmas
--- the trace of filed rows
+-- the trace of filed requests
 pub mod TraceLemmas
 -- a source that was not read to its end
 pub mod ReadingLemmas

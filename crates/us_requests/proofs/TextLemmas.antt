@@ -7,12 +7,12 @@ use Rattle.us_requests.specs.declared.faults.TraceFault.{TraceFault}
 use Rattle.us_requests.specs.declared.faults.TraceFault.TheVariants as fault
 use Rattle.us_requests.specs.Asks.{Request}
 use Rattle.us_requests.specs.Records.{Record, TakesRecord}
-use Rattle.us_requests.specs.Rows.{max_records, is_header, are_numbers, request_of, row_checks, first_of, or_else, rows_fault, records_fault}
+use Rattle.us_requests.specs.Texts.{max_records, is_header, are_numbers, request_of, record_checks, first_of, or_else, fault_from, records_fault}
 use Rattle.us_requests.specs.Readings.{AreRequests, Tells, IsFirst}
 
 pub header-read : (old left : List Record) (fields : Record) → TakesRecord old left fields true →
     is_header fields ≡ true →
-    (left ≡ drop 1 old) × (records_fault old ≡ rows_fault 2 left)
+    (left ≡ drop 1 old) × (records_fault old ≡ fault_from 2 left)
 header-read old left fields takes header = rw (takes, header) (refl, refl)
 
 pub no-records : (old left : List Record) (fields : Record) → TakesRecord old left fields false →
@@ -28,13 +28,13 @@ pub ruleset headings = (header-read, no-records, no-header)
 
 -- of these records, such requests were read and these records are left, the first of which has this number
 pub record IsPartRead (all : List Record) (number : ℕ) (requests : List Request) (left : List Record) : Type 0 where
-  pub first : rows_fault number left ≡ rows_fault 2 all
+  pub first : fault_from number left ≡ fault_from 2 all
   pub told : requests ++ map request_of left ≡ map request_of all
   pub count : length requests + 2 ≡ number
   pub small : AllByRecursion (λ q. q.units ≤ 65535) requests
 
-pub rows-start : (all : List Record) → IsPartRead all 2 [] all
-rows-start all = record { first = refl; told = refl; count = refl; small = tt }
+pub requests-start : (all : List Record) → IsPartRead all 2 [] all
+requests-start all = record { first = refl; told = refl; count = refl; small = tt }
 
 small-more : (requests : List Request) (q : Request) → AllByRecursion (λ q. q.units ≤ 65535) requests →
     q.units ≤ 65535 →
@@ -45,17 +45,17 @@ small-more (r ∷ rest) q all small = (all.0, small-more rest q all.1 small)
 -- a record in its place
 at-record : (number : ℕ) (old left : List Record) (fields : Record) (f : Option TraceFault) →
     TakesRecord old left fields true →
-    first_of (row_checks number fields) ≡ f → rows_fault number old ≡ or_else f (rows_fault (number + 1) left)
-unfolding rows_fault
+    first_of (record_checks number fields) ≡ f → fault_from number old ≡ or_else f (fault_from (number + 1) left)
+unfolding fault_from
 at-record number old left fields f takes found =
-    ap (λ rs. rows_fault number rs) takes ∙ ap (λ o. or_else o (rows_fault (number + 1) left)) found
+    ap (λ rs. fault_from number rs) takes ∙ ap (λ o. or_else o (fault_from (number + 1) left)) found
 
-pub row-read : (all : List Record) (number : ℕ) (requests : List Request) (old left : List Record) (fields : Record)
+pub record-read : (all : List Record) (number : ℕ) (requests : List Request) (old left : List Record) (fields : Record)
     (q : Request) →
     IsPartRead all number requests old → TakesRecord old left fields true →
-    first_of (row_checks number fields) ≡ None → q ≡ request_of fields → q.units ≤ 65535 →
+    first_of (record_checks number fields) ≡ None → q ≡ request_of fields → q.units ≤ 65535 →
     IsPartRead all (number + 1) (requests ++ q ∷ []) left
-row-read all number requests old left fields q is takes sound told small = record {
+record-read all number requests old left fields q is takes sound told small = record {
   first = sym (at-record number old left fields None takes sound) ∙ is.first;
   told = append_assoc requests (q ∷ []) (map request_of left) ∙ ap (λ q. requests ++ q ∷ map request_of left) told ∙
       ap (λ rs. requests ++ map request_of rs) (sym takes) ∙ is.told;
@@ -63,7 +63,7 @@ row-read all number requests old left fields q is takes sound told small = recor
   small = small-more requests q is.small small;
 }
 
--- a row's fault is never that of the source
+-- a record's fault is never that of the source
 not-read : (a b c : Bool) (number : ℕ) (f : TraceFault) →
     (if a then Some fault.TooLarge else if b then Some (fault.Fields number) else if c then Some
     (fault.Number number) else None) ≡ Some f →
@@ -81,31 +81,31 @@ is-first first fault.TooLarge found other = found
 is-first first fault.Read found other = other refl
 is-first first fault.NoMemory found other = tt
 
-pub row-fault : (all : List Record) (number : ℕ) (requests : List Request) (old left : List Record)
+pub record-fault : (all : List Record) (number : ℕ) (requests : List Request) (old left : List Record)
     (fields : Record) (f : TraceFault) →
     IsPartRead all number requests old → TakesRecord old left fields true →
-    first_of (row_checks number fields) ≡ Some f → IsFirst (rows_fault 2 all) f
-row-fault all number requests old left fields f is takes found =
-    is-first (rows_fault 2 all) f (sym is.first ∙ at-record number old left fields (Some f) takes found)
+    first_of (record_checks number fields) ≡ Some f → IsFirst (fault_from 2 all) f
+record-fault all number requests old left fields f is takes found =
+    is-first (fault_from 2 all) f (sym is.first ∙ at-record number old left fields (Some f) takes found)
     (not-read (nat_lt max_records number) (not (length fields == 4)) (not (are_numbers fields)) number f found)
 
 pub too-many : (all : List Record) (requests : List Request) (old left : List Record) (fields : Record) →
-    IsPartRead all 1000002 requests old → TakesRecord old left fields true →
-    rows_fault 2 all ≡ Some fault.TooLarge
+    IsPartRead all (max_records + 1) requests old → TakesRecord old left fields true →
+    fault_from 2 all ≡ Some fault.TooLarge
 too-many all requests old left fields is takes =
-    sym is.first ∙ at-record 1000002 old left fields (Some fault.TooLarge) takes refl
+    sym is.first ∙ at-record (max_records + 1) old left fields (Some fault.TooLarge) takes refl
 
 pub all-read : (all : List Record) (number : ℕ) (requests : List Request) (old left : List Record) (fields : Record) →
-    IsPartRead all number requests old → TakesRecord old left fields false → number ≤ 1000002 →
-    (rows_fault 2 all ≡ None) × (requests ≡ map request_of all) × AreRequests requests
-unfolding rows_fault
+    IsPartRead all number requests old → TakesRecord old left fields false → number ≤ max_records + 1 →
+    (fault_from 2 all ≡ None) × (requests ≡ map request_of all) × AreRequests requests
+unfolding fault_from
 all-read all number requests old left fields is takes few = (
-  sym is.first ∙ ap (λ rs. rows_fault number rs) takes,
+  sym is.first ∙ ap (λ rs. fault_from number rs) takes,
   sym (append-nil requests) ∙ ap (λ rs. requests ++ map request_of rs) (sym takes) ∙ is.told,
   record { few = omega (arith, is.count, few); small = is.small },
 )
 
-pub ruleset telling = (rows-start, row-read, row-fault, too-many, all-read)
+pub ruleset telling = (requests-start, record-read, record-fault, too-many, all-read)
 
 -- a fault that is handed on
 pub passed : (r : Result (Vec Request Global) TraceFault) (f : TraceFault) (first : Option TraceFault)

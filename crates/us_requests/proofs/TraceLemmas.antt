@@ -1,4 +1,4 @@
--- Traces: filed rows, ordered by round, are the trace of these rows.
+-- Traces: filed requests, ordered by round, are the trace of these requests.
 use Rattle.std.proofs.Common.{◌≡◌, ℕ, List, length, refl, ap, ◌∙◌}
 use Rattle.us_flows.specs.Tables.{Tables}
 use Rattle.us_flows.specs.Clusters.{clusters_of}
@@ -16,7 +16,7 @@ use Rattle.us_requests.proofs.CutLemmas.{sums-are-cut}
 abbrev made : ℕ → List PlacedAsk → Counts → TraceAsks
 made rounds asks counts = record { rounds = rounds; asks = asks; counts = counts }
 
--- ordered as they may be, the asks of each round are those of the rows
+-- ordered as they may be, the asks of each round are those of the requests
 in-round : (t : Tables) (rounds : ℕ) (requests : List Request) (filed asks : List PlacedAsk) (counts : Counts) →
     IsFiled t rounds requests filed counts → ((round : ℕ) → of_round asks round ≡ of_round filed round) →
     (round : ℕ) → of_round asks round ≡ asks_at t rounds requests round

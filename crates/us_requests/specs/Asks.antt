@@ -8,7 +8,7 @@ use Rattle.us_flows.specs.declared.found.Found.TheVariants as found
 use Rattle.us_requests.specs.declared.asks.Ask.{Ask}
 use Rattle.us_requests.specs.declared.asks.Counts.{Counts}
 
--- a row of the trace: at a tick, on a channel, a SID asks for some units
+-- a request of the trace: at a tick, on a channel, a SID asks for some units
 pub record Request : Type 0 where
   pub tick : ℕ
   pub channel : ℕ
@@ -45,7 +45,7 @@ unfoldable pub asks_at : Tables → ℕ → List Request → ℕ → List Ask
 asks_at t rounds requests round =
     filter_map (λ q. if (round_of_tick t q.tick == round) && nat_lt round rounds then ask_of t q else None) requests
 
--- how a row counts that is no ask: the first of these that holds
+-- how a request counts that is no ask: the first of these that holds
 abbrev pub is_unknown : Tables → Request → Bool
 is_unknown t q = is_none (lookup t q.channel q.sid)
 

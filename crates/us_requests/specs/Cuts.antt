@@ -1,5 +1,5 @@
--- Cuts: how many bytes each cluster asks for in a round. A cut is a sum over the rows of the trace, in whatever order they
--- stand.
+-- Cuts: how many bytes each cluster asks for in a round. A cut is a sum over the requests of the trace, in whatever
+-- order they stand.
 use Rattle.std.specs.Prelude.{◌≡◌, ℕ, ◌*◌, List, map, filter, sum_by, Bool, false, ◌==◌, ◌&&◌, nat_lt, Option, Some, None, slice_get, length}
 use Rattle.std.specs.List.{range_with_len}
 use Rattle.std.specs.List.Sorted.{IsPermutation}
@@ -16,8 +16,8 @@ is_cluster cluster None = false
 is_cluster cluster (Some found.Unsolicited) = false
 is_cluster cluster (Some (found.Cluster number)) = number == cluster
 
--- whether a row is an ask of a cluster in a round: the SID is the cluster's on that channel, and the round is the row's and
--- one of the run
+-- whether a request is an ask of a cluster in a round: the SID is the cluster's on that channel, and the round is the
+-- request's and one of the run
 abbrev pub is_ask : Tables → ℕ → ℕ → ℕ → Request → Bool
 is_ask t rounds round cluster q =
     is_cluster cluster (lookup t q.channel q.sid) && ((round_of_tick t q.tick == round) && nat_lt round rounds)
@@ -41,9 +41,9 @@ asked asks cluster = sum_by (λ ask. ask.bytes) (filter (λ ask. ask.cluster == 
 unfoldable pub cut_of : ℕ → List Ask → List ℕ
 cut_of clusters asks = map (asked asks) (range_with_len 0 clusters)
 
--- the law of order: the same rows in another order have the same cuts and the same counts
+-- the law of order: the same requests in another order have the same cuts and the same counts
 abbrev pub OrderIsNothing : Type 0
 OrderIsNothing =
-    (t : Tables) (rounds : ℕ) (rows others : List Request) → IsPermutation rows others →
-    ((round : ℕ) → cut_at t rounds others round ≡ cut_at t rounds rows round)
-    × (counts_of t rounds others ≡ counts_of t rounds rows)
+    (t : Tables) (rounds : ℕ) (requests others : List Request) → IsPermutation requests others →
+    ((round : ℕ) → cut_at t rounds others round ≡ cut_at t rounds requests round)
+    × (counts_of t rounds others ≡ counts_of t rounds requests)

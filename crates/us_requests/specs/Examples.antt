@@ -10,7 +10,7 @@ use Rattle.us_requests.specs.declared.faults.TraceFault.TheVariants.{Header, Fie
 use Rattle.us_requests.specs.Asks.{Request, round_of_tick, asks_at, counts_of}
 use Rattle.us_requests.specs.Cuts.{cut, cut_at, cut_of}
 use Rattle.us_requests.specs.Records.{Record}
-use Rattle.us_requests.specs.Rows.{is_header, number_from, are_numbers, row_checks, first_of, rows_fault, records_fault, trace_fault, requests_of}
+use Rattle.us_requests.specs.Texts.{is_header, number_from, are_numbers, record_checks, first_of, fault_from, records_fault, trace_fault, requests_of}
 
 -- one cluster with a unit of 4 bytes, and two of a flow of two channels with a unit of 16
 abbrev narrow : FlowTable
@@ -77,7 +77,7 @@ other_rounds : (asks_at tables 3 requests 0 ∷ asks_at tables 3 requests 2 ∷ 
 unfolding asks_at round_of_tick lookup
 other_rounds = refl
 
--- a row of a SID that no flow has is unknown and not late
+-- a request of a SID that no flow has is unknown and not late
 no_asks : counts_of tables 3 requests ≡ record { unknown = 3; not_requestable = 0; late = 1 }
 unfolding counts_of round_of_tick lookup
 no_asks = refl
@@ -123,12 +123,12 @@ more_asks : asks_at more_tables 3 more_requests 1 ≡ bytes_of 3 6 ∷ bytes_of 
 unfolding asks_at round_of_tick lookup
 more_asks = refl
 
--- a row of such a flow isn't late either; on another channel its SID is nobody's
+-- a request of such a flow isn't late either; on another channel its SID is nobody's
 more_counts : counts_of more_tables 3 more_requests ≡ record { unknown = 1; not_requestable = 2; late = 0 }
 unfolding counts_of round_of_tick lookup
 more_counts = refl
 
--- each count by one row; a row that would be late counts as unknown alone; late is the round of the end, and not before
+-- each count by one request; one that would be late counts as unknown alone; late is the round of the end, not before
 each_count :
     (counts_of more_tables 2 (asks_for 0 1 999 10 ∷ asks_for 0 1 700 10 ∷ asks_for 1000000 1 600 10 ∷ [])
     ∷ counts_of more_tables 2 (asks_for 1000000 1 999 10 ∷ [])
@@ -138,13 +138,13 @@ each_count :
 unfolding counts_of round_of_tick lookup
 each_count = refl
 
--- the same by sums over the rows, for three clusters, in rounds 1 and 2, and behind the end
+-- the same by sums over the requests, for three clusters, in rounds 1 and 2, and behind the end
 cuts : (cut_at tables 3 requests 1 ∷ cut_at tables 3 requests 2 ∷ cut_at tables 2 requests 2 ∷ []) ≡
     (40 ∷ 0 ∷ 32 ∷ []) ∷ (12 ∷ 0 ∷ 0 ∷ []) ∷ (0 ∷ 0 ∷ 0 ∷ []) ∷ []
 unfolding cut_at cut round_of_tick lookup
 cuts = refl
 
--- two rows of one cluster in one round add up, in either order
+-- two requests of one cluster in one round add up, in either order
 twice : (cut_at tables 3 (asks_for 0 1 291 10 ∷ asks_for 0 1 999 5 ∷ asks_for 160 1 291 3 ∷ []) 1 ∷
     cut_at tables 3 (asks_for 160 1 291 3 ∷ asks_for 0 1 291 10 ∷ asks_for 0 1 999 5 ∷ []) 1 ∷ []) ≡
     (52 ∷ 0 ∷ 0 ∷ []) ∷ (52 ∷ 0 ∷ 0 ∷ []) ∷ []
@@ -177,36 +177,36 @@ headers : (is_header header ∷ is_header (codes "tick" ∷ codes "channel" ∷ 
 unfolding is_header
 headers = refl
 
-abbrev row : List ℕ → List ℕ → Record
-row sid units = codes "0" ∷ codes "1" ∷ sid ∷ units ∷ []
+abbrev fields_of : List ℕ → List ℕ → Record
+fields_of sid units = codes "0" ∷ codes "1" ∷ sid ∷ units ∷ []
 
 -- the greatest values, and one over; eleven digits; no digit; no four fields; the last record, and one more
-row_faults :
-    (first_of (row_checks 2 (codes "4294967295" ∷ codes "255" ∷ codes "16383" ∷ codes "65535" ∷ [])) ∷
-    first_of (row_checks 2 (row (codes "291") (codes "65536"))) ∷
-    first_of (row_checks 3 (row (codes "16384") (codes "1"))) ∷
-    first_of (row_checks 2 (row (codes "291") (codes "00000000001"))) ∷
-    first_of (row_checks 2 (row (codes "291") (codes "x"))) ∷
-    first_of (row_checks 2 (row (codes "291") [])) ∷
-    first_of (row_checks 4 (codes "x" ∷ codes "1" ∷ [])) ∷
-    first_of (row_checks 2 (codes "0" ∷ codes "1" ∷ codes "291" ∷ codes "1" ∷ [] ∷ [])) ∷
-    first_of (row_checks 2 (codes "4294967296" ∷ codes "1" ∷ codes "291" ∷ codes "1" ∷ [])) ∷
-    first_of (row_checks 2 (codes "0" ∷ codes "256" ∷ codes "291" ∷ codes "1" ∷ [])) ∷
-    first_of (row_checks 2 header) ∷
-    first_of (row_checks 1000001 (row (codes "291") (codes "1"))) ∷
-    first_of (row_checks 1000002 (codes "x" ∷ codes "1" ∷ [])) ∷ []) ≡
+record_faults :
+    (first_of (record_checks 2 (codes "4294967295" ∷ codes "255" ∷ codes "16383" ∷ codes "65535" ∷ [])) ∷
+    first_of (record_checks 2 (fields_of (codes "291") (codes "65536"))) ∷
+    first_of (record_checks 3 (fields_of (codes "16384") (codes "1"))) ∷
+    first_of (record_checks 2 (fields_of (codes "291") (codes "00000000001"))) ∷
+    first_of (record_checks 2 (fields_of (codes "291") (codes "x"))) ∷
+    first_of (record_checks 2 (fields_of (codes "291") [])) ∷
+    first_of (record_checks 4 (codes "x" ∷ codes "1" ∷ [])) ∷
+    first_of (record_checks 2 (codes "0" ∷ codes "1" ∷ codes "291" ∷ codes "1" ∷ [] ∷ [])) ∷
+    first_of (record_checks 2 (codes "4294967296" ∷ codes "1" ∷ codes "291" ∷ codes "1" ∷ [])) ∷
+    first_of (record_checks 2 (codes "0" ∷ codes "256" ∷ codes "291" ∷ codes "1" ∷ [])) ∷
+    first_of (record_checks 2 header) ∷
+    first_of (record_checks 1000001 (fields_of (codes "291") (codes "1"))) ∷
+    first_of (record_checks 1000002 (codes "x" ∷ codes "1" ∷ [])) ∷ []) ≡
     None ∷ Some (Number 2) ∷ Some (Number 3) ∷ Some (Number 2) ∷ Some (Number 2) ∷ Some (Number 2) ∷ Some (Fields 4) ∷
     Some (Fields 2) ∷ Some (Number 2) ∷ Some (Number 2) ∷ Some (Number 2) ∷
     None ∷ Some TooLarge ∷ []
 unfolding are_numbers number_from
-row_faults = refl
+record_faults = refl
 
 -- the first faulty record decides
 first_faults :
-    (records_fault [] ∷ records_fault (header ∷ []) ∷ records_fault ((codes "x" ∷ []) ∷ row [] [] ∷ []) ∷
-    records_fault (header ∷ row (codes "1") (codes "1") ∷ row [] [] ∷ (codes "x" ∷ []) ∷ []) ∷ []) ≡
+    (records_fault [] ∷ records_fault (header ∷ []) ∷ records_fault ((codes "x" ∷ []) ∷ fields_of [] [] ∷ []) ∷
+    records_fault (header ∷ fields_of (codes "1") (codes "1") ∷ fields_of [] [] ∷ (codes "x" ∷ []) ∷ []) ∷ []) ≡
     Some Header ∷ None ∷ Some Header ∷ Some (Number 3) ∷ []
-unfolding rows_fault is_header are_numbers number_from
+unfolding fault_from is_header are_numbers number_from
 first_faults = refl
 
 -- texts
@@ -214,7 +214,7 @@ abbrev sound : List ℕ
 sound = codes "tick,channel,sid,units\r\n\r\n161,1,291,3\n0,1,\"00291\",10"
 
 no_fault : trace_fault sound ≡ None
-unfolding trace_fault strip_bom records_from next_record rows_fault is_header are_numbers number_from
+unfolding trace_fault strip_bom records_from next_record fault_from is_header are_numbers number_from
 no_fault = refl
 
 told : requests_of sound ≡ asks_for 161 1 291 3 ∷ asks_for 0 1 291 10 ∷ []
@@ -228,5 +228,5 @@ text_faults :
     trace_fault (codes "tick,channel,sid,units\n0,1,291") ∷
     trace_fault (codes "tick,channel,sid,units\n0,1,291,1\n0,1,291,65536\n") ∷ []) ≡
     Some Header ∷ Some Header ∷ None ∷ Some (Fields 2) ∷ Some (Number 2) ∷ Some (Fields 2) ∷ Some (Number 3) ∷ []
-unfolding trace_fault strip_bom records_from next_record rows_fault is_header are_numbers number_from
+unfolding trace_fault strip_bom records_from next_record fault_from is_header are_numbers number_from
 text_faults = refl

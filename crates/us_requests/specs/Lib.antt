@@ -3,17 +3,19 @@
 
 -- which requests are asks, and in which round
 pub mod Asks
--- what each cluster asks for in a round: sums over the rows, in whatever order they stand
+-- what each cluster asks for in a round: sums over the requests, in whatever order they stand
 pub mod Cuts
 -- the records of a text, as `csv` splits it
 pub mod Records
 -- the first fault of the records of a text, and the requests that they tell
-pub mod Rows
+pub mod Texts
 -- what a trace says, as its readers see it
 pub mod Traces
 -- what reading a trace answers
 pub mod Readings
--- inside the crate: what becomes of a row, and what it adds
+-- the code of a fault
+pub mod Codes
+-- inside the crate: what becomes of a request, and what it adds
 pub mod Outcomes
 -- inside the crate: asks in one list, and where those of a round stand
 pub mod Spans

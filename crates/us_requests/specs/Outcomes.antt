@@ -1,4 +1,4 @@
--- Inside the crate: what becomes of a row of a trace, and what it adds to the asks and counts.
+-- Inside the crate: what becomes of a request of a trace, and what it adds to the asks and counts.
 use Rattle.std.specs.Prelude.{◌≡◌, ℕ, ◌+◌, ◌*◌, ◌<◌, ◌≤◌, List, [], ◌∷◌, map, length, Some, None, slice_get}
 use Rattle.us_flows.specs.Tables.{Tables}
 use Rattle.us_flows.specs.Clusters.{clusters_of, lookup}
@@ -14,7 +14,7 @@ use Rattle.us_requests.specs.Traces.{of_round, max_asks}
 abbrev pub units_of : Tables → List ℕ
 units_of t = map (λ cluster. cluster.flow.unit) (clusters_of t)
 
--- what becomes of a row
+-- what becomes of a request
 abbrev pub Becomes : Tables → ℕ → Request → Outcome → Type 0
 Becomes t rounds q outcome.Unknown = lookup t q.channel q.sid ≡ None
 Becomes t rounds q outcome.NotRequestable = lookup t q.channel q.sid ≡ Some found.Unsolicited
@@ -25,7 +25,7 @@ Becomes t rounds q (outcome.Asked placed) =
     × (placed.ask.bytes ≡ q.units * unit_of (slice_get (clusters_of t) placed.ask.cluster))
     × (round_of_tick t q.tick ≡ placed.round) × (placed.round < rounds)
 
--- what a row adds to the asks
+-- what a request adds to the asks
 abbrev pub added : Outcome → List PlacedAsk
 added outcome.Unknown = []
 added outcome.NotRequestable = []
@@ -45,7 +45,7 @@ pub record HasRoom (counts : Counts) : Type 0 where
   pub not_requestable : counts.not_requestable < max_asks
   pub late : counts.late < max_asks
 
--- rows, filed as asks and counts
+-- requests, filed as asks and counts
 pub record IsFiled (t : Tables) (rounds : ℕ) (requests : List Request) (placed : List PlacedAsk) (counts : Counts)
     : Type 0 where
   pub asks : (round : ℕ) → of_round placed round ≡ asks_at t rounds requests round

@@ -9,7 +9,7 @@ use Rattle.us_requests.specs.declared.faults.TraceFault.{TraceFault}
 use Rattle.us_requests.specs.declared.faults.TraceFault.TheVariants as fault
 use Rattle.us_requests.specs.Asks.{Request}
 use Rattle.us_requests.specs.Traces.{TraceAsks, IsTraceOf, max_asks}
-use Rattle.us_requests.specs.Rows.{trace_fault, requests_of}
+use Rattle.us_requests.specs.Texts.{trace_fault, requests_of}
 
 -- the most bytes of a trace
 abbrev pub max_bytes : ℕ
@@ -42,7 +42,7 @@ of_read_fault read_fault.TooLarge = fault.TooLarge
 of_read_fault read_fault.Failed = fault.Read
 of_read_fault read_fault.NoMemory = fault.NoMemory
 
--- requests of a text without a fault: not too many, and each of a number of units that a row can tell
+-- requests of a text without a fault: not too many, and each of a number of units that a request can tell
 pub record AreRequests (requests : List Request) : Type 0 where
   pub few : length requests ≤ max_asks
   pub small : AllByRecursion (λ q. q.units ≤ 65535) requests

@@ -9,7 +9,7 @@ use Rattle.us_requests.specs.declared.placed.PlacedAsk.{PlacedAsk}
 use Rattle.us_requests.specs.Asks.{Request, asks_at, counts_of}
 use Rattle.us_requests.specs.Cuts.{cut_at, cut_of}
 
--- a trace: the number of rounds, its asks, each in its round, and how many rows are no asks
+-- a trace: the number of rounds, its asks, each in its round, and how many requests are no asks
 pub record TraceAsks : Type 0 where
   pub rounds : ℕ
   pub asks : List PlacedAsk

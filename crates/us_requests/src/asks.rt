@@ -7,7 +7,7 @@ pub struct Ask {
     pub bytes: u32,
 }
 
-/// How many rows of a trace are no asks, each counted under the first of these that holds.
+/// How many requests of a trace are no asks, each counted under the first of these that holds.
 #[derive(Clone, Copy, Debug, PartialEq, Eq, Hash)]
 pub struct Counts {
     /// No flow has that SID on that channel.

@@ -1,4 +1,5 @@
 use std::alloc::{AllocError, AllocFailed};
+use std::fmt;
 use thiserror::Error;
 use us_slots::ReadFault;
 
@@ -8,23 +9,70 @@ use us_slots::ReadFault;
 #[derive(Clone, Copy, Debug, PartialEq, Eq, Hash, Error)]
 pub enum TraceFault {
     /// TR1: the first record isn't the header, or there is none.
-    #[error("TR1: the first record is not the header")]
     Header,
     /// TR2: this record hasn't four fields. Records are counted from 1, with the header.
-    #[error("TR2: record {0} has not four fields")]
     Fields(u32),
     /// TR3: a field of this record isn't of 1 to 10 digits, or is over its greatest value.
-    #[error("TR3: record {0} has a field that is no number in its range")]
     Number(u32),
     /// TR4: a byte past 33,554,432, or record 1,000,002.
-    #[error("TR4: the trace is too large")]
     TooLarge,
     /// TR5: the source failed.
-    #[error("TR5: the source failed")]
     Read,
     /// TR6: want of memory.
-    #[error("TR6: out of memory")]
     NoMemory,
+}
+
+impl TraceFault {
+    ghost use Rattle.std.specs.Prelude.{◌≡◌};
+    ghost use Rattle.us_requests.specs.Codes.{code_of, record_of};
+
+    /// Its code, TR1 to TR6.
+    pub fn code(&self) -> &'static str
+        ensures { result.now ≡ code_of self.now }
+    {
+        match self {
+            TraceFault::Header => "TR1",
+            TraceFault::Fields(_) => "TR2",
+            TraceFault::Number(_) => "TR3",
+            TraceFault::TooLarge => "TR4",
+            TraceFault::Read => "TR5",
+            TraceFault::NoMemory => "TR6",
+        }
+    }
+
+    /// The record that it names, counted from 1, with the header.
+    pub fn record(&self) -> Option<u32>
+        ensures { result ≡ record_of self.now }
+    {
+        match self {
+            TraceFault::Fields(record) | TraceFault::Number(record) => Some(*record),
+            TraceFault::Header | TraceFault::TooLarge | TraceFault::Read | TraceFault::NoMemory =>
+                None,
+        }
+    }
+
+    /// What it says, behind its code and the record that it names.
+    pub fn sentence(&self) -> &'static str {
+        match self {
+            TraceFault::Header => "the first record is not the header",
+            TraceFault::Fields(_) => "has not four fields",
+            TraceFault::Number(_) => "has a field that is no number in its range",
+            TraceFault::TooLarge => "the trace is too large",
+            TraceFault::Read => "the source failed",
+            TraceFault::NoMemory => "out of memory",
+        }
+    }
+}
+
+/// Writes a fault as its code and a sentence.
+impl fmt::Display for TraceFault {
+    fn fmt<W: fmt::Write>(&self, f: &mut fmt::Formatter<W>) -> fmt::Result {
+        let (code, sentence) = (self.code(), self.sentence());
+        match self.record() {
+            Some(record) => write!(f, "{code}: record {record} {sentence}"),
+            None => write!(f, "{code}: {sentence}"),
+        }
+    }
 }
 
 impl From<ReadFault> for TraceFault {

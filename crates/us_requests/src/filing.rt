@@ -6,17 +6,17 @@ use crate::outcomes::Outcome;
 use crate::placed::PlacedAsk;
 use std::alloc::{AllocError, Global};
 
-/// Rows of a trace as they are filed.
+/// Requests of a trace as they are filed.
 #[derive(Drop)]
 pub(crate) struct Filed {
-    /// The asks in the order of the rows.
+    /// The asks in the order of the requests.
     pub(crate) asks: Vec<PlacedAsk>,
-    /// The other rows.
+    /// The other requests.
     pub(crate) counts: Counts,
 }
 
 impl Filed {
-    /// No rows.
+    /// No requests.
     pub(crate) fn new(alloc: Global) -> Filed
         ensures asks { result.asks.items ≡ [] }
         ensures counts { result.counts ≡ record { unknown = 0; not_requestable = 0; late = 0 } }
@@ -31,7 +31,7 @@ impl Filed {
         }
     }
 
-    /// Files one more row, as what becomes of it.
+    /// Files one more request, as what becomes of it.
     pub(crate) fn add(&mut self, outcome: Outcome) -> Result<(), AllocError>
         requires { HasRoom self.old.counts }
         ensures counts { OnOk result (self.new.counts ≡ counted outcome self.old.counts) }

@@ -1,4 +1,4 @@
-//! Traces of requests: which rows are asks, in which round, and what is outstanding of a SID cluster.
+//! Traces: which requests are asks, in which round, and what is outstanding of a SID cluster.
 //!
 //! ```
 //! let trace = Trace::read(alloc, &mut source, &config, 2)?;
@@ -14,20 +14,20 @@
 // What is outstanding of a cluster.
 mod cluster_states;
 
-// What a cluster asks for, and the counts of the rows that are no asks.
+// What a cluster asks for, and the counts of the requests that are no asks.
 mod asks;
 
 // Every refusal of this crate, in order.
 mod faults;
 
-// Rows as values.
+// Requests as values.
 mod requests;
 
 // The records of a text.
 mod readers;
 
-// From a record to a request.
-mod rows;
+// From the fields of a record to a request.
+mod fields;
 
 // From a text to all requests, or the first fault.
 mod texts;
@@ -38,7 +38,7 @@ mod placed;
 // What becomes of a request.
 mod outcomes;
 
-// Rows, filed as asks and counts.
+// Requests, filed as asks and counts.
 mod filing;
 
 // Asks that are nearly in the order of their rounds.

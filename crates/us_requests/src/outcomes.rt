@@ -7,7 +7,7 @@ use crate::placed::PlacedAsk;
 use crate::requests::Request;
 use us_flows::{Config, Found};
 
-/// What becomes of a row of a trace.
+/// What becomes of a request of a trace.
 #[derive(Clone, Copy, Debug, PartialEq, Eq)]
 pub(crate) enum Outcome {
     /// No flow has that SID on that channel.
@@ -20,7 +20,7 @@ pub(crate) enum Outcome {
     Asked(PlacedAsk),
 }
 
-/// What becomes of a row in a run of so many rounds, given the bytes of a unit of each cluster's requests.
+/// What becomes of a request in a run of so many rounds, given the bytes of a unit of each cluster's requests.
 #[tactic(auto, using(crate::proofs::AskLemmas::clusters))]
 pub(crate) fn outcome_of(config: &Config, units: &[u8], rounds: u32, request: &Request) -> Outcome
     requires { units.now ≡ units_of config.now }

@@ -2,7 +2,7 @@ ghost use Rattle.us_requests.specs.Asks.{Request};
 
 use std::marker::Model;
 
-/// A row of a trace.
+/// A request of a trace.
 #[derive(Clone, Copy, Debug, PartialEq, Eq)]
 pub(crate) struct Request {
     /// When it arrives.

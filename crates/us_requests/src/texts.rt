@@ -1,11 +1,11 @@
 ghost use Rattle.std.specs.Prelude.{◌≡◌, drop, map, IfErr, OnOk};
-ghost use Rattle.us_requests.specs.Rows.{rows_fault, records_fault, trace_fault, requests_of, request_of};
+ghost use Rattle.us_requests.specs.Texts.{fault_from, records_fault, trace_fault, requests_of, request_of};
 ghost use Rattle.us_requests.specs.Readings.{Tells, IsFirst};
 
 use crate::faults::TraceFault;
+use crate::fields::{is_header, request_in};
 use crate::readers::RecordReader;
 use crate::requests::Request;
-use crate::rows::{is_header, request_in};
 use csv::ByteRecord;
 use std::alloc::Global;
 
@@ -13,21 +13,21 @@ use std::alloc::Global;
 const MAX_RECORDS: u32 = 1_000_001;
 
 /// The requests that the text of a trace tells, or its first fault.
-#[tactic(auto, unfolding(crate::specs::Rows::trace_fault, crate::specs::Rows::requests_of))]
+#[tactic(auto, unfolding(crate::specs::Texts::trace_fault, crate::specs::Texts::requests_of))]
 pub(crate) fn requests_in(alloc: Global, text: &[u8]) -> Result<Vec<Request>, TraceFault>
     ensures { Tells (trace_fault text.now) (requests_of text.now) result }
 {
     let mut reader = RecordReader::new(alloc, text);
     let mut fields = ByteRecord::new(alloc);
     read_header(&mut reader, &mut fields)?;
-    read_rows(alloc, &mut reader, &mut fields)
+    read_requests(alloc, &mut reader, &mut fields)
 }
 
 /// Reads the header, which is record 1.
 #[tactic(auto, using(crate::proofs::TextLemmas::headings))]
 fn read_header(reader: &mut RecordReader<'_>, fields: &mut ByteRecord) -> Result<(), TraceFault>
     ensures left { OnOk result (reader.new ≡ drop 1 reader.old) }
-    ensures rows { OnOk result (records_fault reader.old ≡ rows_fault 2 reader.new) }
+    ensures later { OnOk result (records_fault reader.old ≡ fault_from 2 reader.new) }
     ensures fault { IfErr result (λ fault. IsFirst (records_fault reader.old) fault) }
 {
     if !reader.read(fields)? {
@@ -41,12 +41,12 @@ fn read_header(reader: &mut RecordReader<'_>, fields: &mut ByteRecord) -> Result
 
 /// Reads the requests, which are the records from 2 on.
 #[tactic(auto, using(crate::proofs::TextLemmas::telling))]
-fn read_rows(
+fn read_requests(
     alloc: Global,
     reader: &mut RecordReader<'_>,
     fields: &mut ByteRecord,
 ) -> Result<Vec<Request>, TraceFault>
-    ensures { Tells (rows_fault 2 reader.old) (map request_of reader.old) result }
+    ensures { Tells (fault_from 2 reader.old) (map request_of reader.old) result }
 {
     let mut requests = Vec::new(alloc);
     for number in 2..MAX_RECORDS + 1 {

@@ -22,7 +22,7 @@ use us_slots::{Source, read_all};
 /// The most bytes of a trace.
 const MAX_BYTES: usize = 33_554_432;
 
-/// The requests of a trace as what clusters ask for, by round, and how many of its rows are no asks.
+/// The requests of a trace as what clusters ask for, by round, and how many of its requests are no asks.
 #[derive(Debug, Drop)]
 pub struct Trace {
     rounds: u32,
@@ -66,7 +66,7 @@ impl Trace {
         self.asks.of_round(round)
     }
 
-    /// How many rows are no asks.
+    /// How many requests are no asks.
     pub fn counts(&self) -> Counts
         ensures value { result ≡ self.now.counts }
         ensures lawful { IsTrace self.now }
@@ -104,7 +104,7 @@ impl Trace {
     }
 }
 
-/// Files the rows of a trace for a run of so many rounds.
+/// Files the requests of a trace for a run of so many rounds.
 fn file_all(
     alloc: Global,
     requests: &[Request],

@@ -22,9 +22,9 @@ static RECORDS: [Case<'static>; 11] = [
         name: "as many asks as may be",
         rounds: 2,
         reader: Repeated {
-            row: b"0,1,291,1\n",
+            piece: b"0,1,291,1\n",
             last: b"\n\n",
-            ..ROWS
+            ..REQUESTS
         },
         looked_at: &[1],
         answer: "\
@@ -38,7 +38,7 @@ static RECORDS: [Case<'static>; 11] = [
         name: "one record more, sound",
         reader: Repeated {
             last: b"0,1,9,1",
-            ..ROWS
+            ..REQUESTS
         },
         answer: "TR4: the trace is too large",
         ..BASE
@@ -47,7 +47,7 @@ static RECORDS: [Case<'static>; 11] = [
         name: "one record more, of three fields",
         reader: Repeated {
             last: b"0,1,9",
-            ..ROWS
+            ..REQUESTS
         },
         answer: "TR4: the trace is too large",
         ..BASE
@@ -56,7 +56,7 @@ static RECORDS: [Case<'static>; 11] = [
         name: "one record more, with a letter",
         reader: Repeated {
             last: b"0,1,9,x",
-            ..ROWS
+            ..REQUESTS
         },
         answer: "TR4: the trace is too large",
         ..BASE
@@ -66,7 +66,7 @@ static RECORDS: [Case<'static>; 11] = [
         reader: Repeated {
             left: 999_999,
             last: b"0,1,9\n0,1,9,1\n",
-            ..ROWS
+            ..REQUESTS
         },
         answer: "TR2: record 1000001 has not four fields",
         ..BASE
@@ -76,7 +76,7 @@ static RECORDS: [Case<'static>; 11] = [
         reader: Repeated {
             left: 999_999,
             last: b"0,1,9,x\n0,1,9,1\n",
-            ..ROWS
+            ..REQUESTS
         },
         answer: "TR3: record 1000001 has a field that is no number in its range",
         ..BASE
@@ -85,7 +85,7 @@ static RECORDS: [Case<'static>; 11] = [
         name: "no header, before too many records",
         reader: Repeated {
             text: b"tick\n0,1,9,1\n",
-            ..ROWS
+            ..REQUESTS
         },
         answer: "TR1: the first record is not the header",
         ..BASE
@@ -94,7 +94,7 @@ static RECORDS: [Case<'static>; 11] = [
         name: "fields in an early record, before too many records",
         reader: Repeated {
             text: b"tick,channel,sid,units\n0,1,9\n",
-            ..ROWS
+            ..REQUESTS
         },
         answer: "TR2: record 2 has not four fields",
         ..BASE
@@ -103,7 +103,7 @@ static RECORDS: [Case<'static>; 11] = [
         name: "a letter in an early record, before too many records",
         reader: Repeated {
             text: b"tick,channel,sid,units\n0,1,9,x\n",
-            ..ROWS
+            ..REQUESTS
         },
         answer: "TR3: record 2 has a field that is no number in its range",
         ..BASE
@@ -113,7 +113,7 @@ static RECORDS: [Case<'static>; 11] = [
         reader: Repeated {
             text: b"tick,channel,sid,units\n0,1,9,x\n",
             fails: true,
-            ..ROWS
+            ..REQUESTS
         },
         answer: "TR5: the source failed, as it says",
         ..BASE
@@ -123,15 +123,15 @@ static RECORDS: [Case<'static>; 11] = [
         reader: Repeated {
             text: b"tick,channel,sid,units\n0,1,9,1\n",
             fails: true,
-            ..ROWS
+            ..REQUESTS
         },
         answer: "TR5: the source failed, as it says",
         ..BASE
     },
 ];
 
-const ROWS: Repeated<'static> = Repeated {
-    row: b"0,1,9,1\n",
+const REQUESTS: Repeated<'static> = Repeated {
+    piece: b"0,1,9,1\n",
     left: 1_000_000,
     ..HEADER
 };
@@ -207,7 +207,7 @@ static BYTES: [Case<'static>; 7] = [
 /// The header and blank lines, in pieces of 32 bytes.
 const LINES: Repeated<'static> = Repeated {
     text: b"tick,channel,sid,units\n\n\n\n\n\n\n\n\n\n",
-    row: &[b'\n'; 32],
+    piece: &[b'\n'; 32],
     left: 1_048_575,
     ..HEADER
 };

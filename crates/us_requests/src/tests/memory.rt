@@ -2,7 +2,7 @@ use super::base::{BASE, Case, HEADER, Repeated, answer_of, same};
 
 /// Run by `tools/refuse-memory` too, where each allocation is refused in turn, of the text, its records, its requests and
 /// its asks by round among them. A refused one is answered as want of memory, and never as another fault or a wrong
-/// trace. There are so many rows that lists grow and that asks are sorted in more than their place.
+/// trace. There are so many requests that lists grow and that asks are sorted in more than their place.
 #[test]
 fn refused_memory(rt: HostRuntime) {
     // else it was refused to the configuration or to the answer's text
@@ -17,7 +17,7 @@ static CASE: Case<'static> = Case {
     name: "memory",
     rounds: 7,
     reader: Repeated {
-        row: ROWS,
+        piece: REQUESTS,
         left: 6,
         ..HEADER
     },
@@ -39,8 +39,8 @@ static CASE: Case<'static> = Case {
     ..BASE
 };
 
-/// Rows of six rounds, and of none.
-const ROWS: &[u8] = b"500,1,291,4
+/// Requests of six rounds, and of none.
+const REQUESTS: &[u8] = b"500,1,291,4
 0,1,291,1
 161,1,291,3
 0,1,999,1

@@ -3,17 +3,17 @@ use crate::texts::requests_in;
 use crate::{ClusterState, TraceFault};
 use std::test::Fail;
 
-/// What a program can't show of rows of no flow: the least and the greatest value of each field, of up to ten digits. And
-/// the one fault whose text no other test has.
+/// What a program can't show of requests of no flow: the least and the greatest value of each field, of up to ten digits.
+/// And the one fault whose text no other test has.
 #[test]
 fn values(rt: HostRuntime) -> Result<(), Fail> {
-    let requests = requests_in(rt.alloc(), ROWS)?;
+    let requests = requests_in(rt.alloc(), REQUESTS)?;
     let found = format!(in rt.alloc(); "{requests:?} {}", TraceFault::NoMemory)?;
     same(&rt, "values", found.as_str(), VALUES);
     Ok(())
 }
 
-const ROWS: &[u8] = b"tick,channel,sid,units
+const REQUESTS: &[u8] = b"tick,channel,sid,units
 0,0,0,0
 4294967295,0,0,0
 0,255,0,0

@@ -1,4 +1,4 @@
-//! Filing once more, by a plain loop over the rows and a table of all SIDs, beside which a trace is laid.
+//! Filing once more, by a plain loop over the requests and a table of all SIDs, beside which a trace is laid.
 
 use super::base::{BASE, Case, HEADER, MORE_FLOWS, Repeated, trace_of};
 use crate::{Ask, Counts, Trace};
@@ -7,21 +7,21 @@ use std::test::Fail;
 use us_slots::FromRead;
 
 #[test]
-fn rows_by_chance_filed(rt: HostRuntime) -> Result<(), Fail> {
+fn requests_by_chance_filed(rt: HostRuntime) -> Result<(), Fail> {
     for seed in [1, 2_026, 18_446_744_073_709_551_615] {
         assert!(rt; is_read_as_filed(rt.alloc(), seed)?, "seed {seed}");
     }
     Ok(())
 }
 
-/// Reads the rows of a seed, and compares their trace with the plain loop.
+/// Reads the requests of a seed, and compares their trace with the plain loop.
 fn is_read_as_filed(alloc: Global, seed: u64) -> Result<bool, Fail> {
-    let rows = rows_by_chance(alloc, seed)?;
+    let text = requests_by_chance(alloc, seed)?;
     let case = Case {
         tables: MORE_FLOWS,
         rounds: ROUNDS,
         reader: Repeated {
-            last: rows.as_bytes(),
+            last: text.as_bytes(),
             ..HEADER
         },
         ..BASE
@@ -60,16 +60,16 @@ const OWNERS: [(u8, u16, Owner); 16] = [
 /// The rounds of the runs.
 const ROUNDS: u32 = 6;
 
-/// Ticks at which rounds start, and one that is late, and how far behind these a row is.
+/// Ticks at which rounds start, and one that is late, and how far behind these a request is.
 const STARTS: [u32; 8] = [0, 320, 640, 960, 1_280, 1_600, 1_920, 4_294_966_976];
 
 const BEHIND: [u32; 6] = [0, 1, 159, 160, 161, 319];
 
 const UNITS: [u32; 7] = [0, 1, 2, 3, 7, 250, 65_535];
 
-/// A row of a SID of that table.
+/// A request of a SID of that table.
 #[derive(Clone, Copy)]
-struct Row {
+struct DrawnRequest {
     tick: u32,
     channel: u8,
     sid: u16,
@@ -77,14 +77,14 @@ struct Row {
     units: u32,
 }
 
-/// A row by the next number of a linear congruential generator.
-fn drawn(state: &mut u64) -> Row {
+/// A request by the next number of a linear congruential generator.
+fn drawn(state: &mut u64) -> DrawnRequest {
     *state = state
         .wrapping_mul(6_364_136_223_846_793_005)
         .wrapping_add(1_442_695_040_888_963_407);
     let number = (*state >> 33) as usize;
     let (channel, sid, owner) = OWNERS[number % 16];
-    Row {
+    DrawnRequest {
         tick: STARTS[number / 16 % 8].saturating_add(BEHIND[number / 128 % 6]),
         channel,
         sid,
@@ -93,23 +93,23 @@ fn drawn(state: &mut u64) -> Row {
     }
 }
 
-/// The text of 200 rows by chance, the same ones for the same seed: at the edges of rounds, and some of them late.
-fn rows_by_chance(alloc: Global, seed: u64) -> Result<String, AllocError> {
+/// The text of 200 requests by chance, the same ones for the same seed: at the edges of rounds, and some of them late.
+fn requests_by_chance(alloc: Global, seed: u64) -> Result<String, AllocError> {
     let mut text = String::new(alloc);
     let mut state = seed;
     for _ in 0..200 {
-        let row = drawn(&mut state);
+        let request = drawn(&mut state);
         writeln!(
             text,
             "{},{},{},{}",
-            row.tick, row.channel, row.sid, row.units
+            request.tick, request.channel, request.sid, request.units
         )?;
     }
     Ok(text)
 }
 
-/// Whether each round of a trace has the asks of a plain loop over the rows of a seed, in its order, and the counts are the
-/// same. No count is empty, so that each is compared.
+/// Whether each round of a trace has the asks of a plain loop over the requests of a seed, in its order, and the counts are
+/// the same. No count is empty, so that each is compared.
 fn is_as_filed(trace: &Trace, seed: u64) -> bool {
     let mut state = seed;
     let mut met = [0usize; 8];
@@ -119,13 +119,13 @@ fn is_as_filed(trace: &Trace, seed: u64) -> bool {
         late: 0,
     };
     for _ in 0..200 {
-        let row = drawn(&mut state);
-        match (row.owner, plain_round(row.tick)) {
+        let request = drawn(&mut state);
+        match (request.owner, plain_round(request.tick)) {
             (Owner::Nobody, _) => counts.unknown = counts.unknown.saturating_add(1),
             (Owner::Grants, _) => counts.not_requestable = counts.not_requestable.saturating_add(1),
             (Owner::Cluster(_, _), None) => counts.late = counts.late.saturating_add(1),
             (Owner::Cluster(cluster, unit), Some(round)) => {
-                let bytes = row.units.saturating_mul(unit);
+                let bytes = request.units.saturating_mul(unit);
                 if !is_next(trace, &mut met, round, Ask { cluster, bytes }) {
                     return false;
                 }

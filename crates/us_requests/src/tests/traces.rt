@@ -10,8 +10,8 @@ fn rounds_of_requests(rt: HostRuntime) -> Result<(), Fail> {
 }
 
 #[test]
-fn counts_of_one_row(rt: HostRuntime) -> Result<(), Fail> {
-    compare(&rt, rt.alloc(), &ONE_ROW)?;
+fn counts_of_one_request(rt: HostRuntime) -> Result<(), Fail> {
+    compare(&rt, rt.alloc(), &ONE_REQUEST)?;
     Ok(())
 }
 
@@ -21,7 +21,7 @@ fn long_runs(rt: HostRuntime) -> Result<(), Fail> {
     Ok(())
 }
 
-/// Rows stand in any order of ticks, and those of a round in the order of the trace. Flows of types 2, 3 and 4 make
+/// Requests stand in any order of ticks, and those of a round in the order of the trace. Flows of types 2, 3 and 4 make
 /// requests. One of type 6 makes none, and its cluster has no number.
 static ROUNDS: [Case<'static>; 3] = [
     Case {
@@ -39,7 +39,7 @@ static ROUNDS: [Case<'static>; 3] = [
         ..BASE
     },
     Case {
-        name: "rows of every cluster, of SID 700 with its unsolicited grants, of no flow, and late ones",
+        name: "requests of every cluster, of SID 700 with its unsolicited grants, of no flow, and late ones",
         tables: MORE_FLOWS,
         reader: Repeated {
             last: b"500,1,601,3
@@ -86,9 +86,9 @@ static ROUNDS: [Case<'static>; 3] = [
     },
 ];
 
-/// A row counts once: as unknown before as of a flow that makes no requests, and as either before as late. What isn't
-/// counted is an ask.
-static ONE_ROW: [Case<'static>; 12] = [
+/// A request counts once: as unknown before as of a flow that makes no requests, and as either before as late. What
+/// isn't counted is an ask.
+static ONE_REQUEST: [Case<'static>; 12] = [
     Case {
         name: "0,1,999,10",
         reader: Repeated {
@@ -297,7 +297,7 @@ static LONG_RUNS: [Case<'static>; 14] = [
         ..BASE
     },
     Case {
-        name: "rounds of 2 ticks, row 0,1,291,7",
+        name: "rounds of 2 ticks, request 0,1,291,7",
         reader: Repeated {
             last: b"0,1,291,7",
             ..HEADER
@@ -309,7 +309,7 @@ static LONG_RUNS: [Case<'static>; 14] = [
         ..OF_TWO_TICKS
     },
     Case {
-        name: "rounds of 2 ticks, row 1,1,291,7",
+        name: "rounds of 2 ticks, request 1,1,291,7",
         reader: Repeated {
             last: b"1,1,291,7",
             ..HEADER
@@ -321,7 +321,7 @@ static LONG_RUNS: [Case<'static>; 14] = [
         ..OF_TWO_TICKS
     },
     Case {
-        name: "rounds of 2 ticks, row 2000,1,291,7",
+        name: "rounds of 2 ticks, request 2000,1,291,7",
         reader: Repeated {
             last: b"2000,1,291,7",
             ..HEADER
@@ -333,7 +333,7 @@ static LONG_RUNS: [Case<'static>; 14] = [
         ..OF_TWO_TICKS
     },
     Case {
-        name: "rounds of 2 ticks, row 33554432,1,291,7",
+        name: "rounds of 2 ticks, request 33554432,1,291,7",
         reader: Repeated {
             last: b"33554432,1,291,7",
             ..HEADER
@@ -347,7 +347,7 @@ static LONG_RUNS: [Case<'static>; 14] = [
         ..OF_TWO_TICKS
     },
     Case {
-        name: "rounds of 2 ticks, row 67108702,1,291,7",
+        name: "rounds of 2 ticks, request 67108702,1,291,7",
         reader: Repeated {
             last: b"67108702,1,291,7",
             ..HEADER
@@ -359,7 +359,7 @@ static LONG_RUNS: [Case<'static>; 14] = [
         ..OF_TWO_TICKS
     },
     Case {
-        name: "rounds of 2 ticks, a row of the round behind the last",
+        name: "rounds of 2 ticks, a request of the round behind the last",
         reader: Repeated {
             last: b"67108703,1,291,7",
             ..HEADER

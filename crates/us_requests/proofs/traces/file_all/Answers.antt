@@ -1,7 +1,7 @@
 use Rattle.std.proofs.Common.{◌+◌, drop, ap, arith}
 use Rattle.std.proofs.lemmas.List.{drop_all}
 use Rattle.us_requests.proofs.AskLemmas.{next-item}
-use Rattle.us_requests.proofs.FilingLemmas.{filing-start, row-filed, counts-rise, all-filed}
+use Rattle.us_requests.proofs.FilingLemmas.{filing-start, request-filed, counts-rise, all-filed}
 use Rattle.us_requests.proofs.traces.file_all.Goals as goal
 
 pub loop-request-init : goal.loop-request-init
@@ -21,7 +21,7 @@ loop-request-preserved c =
     let i = l.request-index in
     let q = c.request-item.result in
     let part = rw (next-item requests i q c.loop-request-test.true c.request-item.is) at l.invariant.0 in
-    let filed = row-filed c.args.config.now c.args.rounds requests (drop (i + 1) requests) q l.filed.asks.items
+    let filed = request-filed c.args.config.now c.args.rounds requests (drop (i + 1) requests) q l.filed.asks.items
     c.add.new.self.asks.items l.filed.counts c.outcome_of.result part c.outcome_of.ensures c.in_ok-add.ensures.asks in
     let rise = counts-rise c.outcome_of.result l.filed.counts i l.invariant.1 l.invariant.2 l.invariant.3 in
     rw c.in_ok-add.ensures.counts (filed, rise.0, rise.1, rise.2)

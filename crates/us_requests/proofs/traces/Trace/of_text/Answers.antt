@@ -1,5 +1,5 @@
 use Rattle.std.proofs.Common.{ap, sym, ◌∙◌}
-use Rattle.us_requests.specs.Rows.{requests_of, trace_fault}
+use Rattle.us_requests.specs.Texts.{requests_of, trace_fault}
 use Rattle.us_requests.proofs.TraceLemmas.{lawful-trace, trace-of}
 use Rattle.us_requests.proofs.traces.Trace.of_text.Goals as goal
 

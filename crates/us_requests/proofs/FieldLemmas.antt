@@ -1,8 +1,8 @@
--- Rows: the field at a place, as `csv` finds it.
+-- Fields: the one at a place, as `csv` finds it.
 use Rattle.std.proofs.Common.{◌≡◌, ℕ, zero, suc, List, [], ◌∷◌, Option, Some, None, refl}
 use Rattle.csv.specs.Records.{field_at}
 use Rattle.us_requests.specs.Records.{Record}
-use Rattle.us_requests.specs.Rows.{field_in}
+use Rattle.us_requests.specs.Texts.{field_in}
 
 abbrev pub or_nothing : Option (List ℕ) → List ℕ
 or_nothing None = []

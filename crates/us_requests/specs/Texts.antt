@@ -51,8 +51,8 @@ request_of fields = record {
 }
 
 -- what is wrong with a record behind the header, in the order in which it is looked for; records count from 1
-abbrev pub row_checks : ℕ → Record → List (Bool × TraceFault)
-row_checks number fields =
+abbrev pub record_checks : ℕ → Record → List (Bool × TraceFault)
+record_checks number fields =
     (nat_lt max_records number, fault.TooLarge)
     ∷ (not (length fields == 4), fault.Fields number)
     ∷ (not (are_numbers fields), fault.Number number) ∷ []
@@ -67,14 +67,14 @@ or_else None later = later
 or_else (Some fault) later = Some fault
 
 -- the first fault of records, the first of which has this number
-unfoldable pub rows_fault : ℕ → List Record → Option TraceFault
-rows_fault number [] = None
-rows_fault number (fields ∷ rest) = or_else (first_of (row_checks number fields)) (rows_fault (number + 1) rest)
+unfoldable pub fault_from : ℕ → List Record → Option TraceFault
+fault_from number [] = None
+fault_from number (fields ∷ rest) = or_else (first_of (record_checks number fields)) (fault_from (number + 1) rest)
 
 -- the first fault of all records, with the header
 abbrev pub records_fault : List Record → Option TraceFault
 records_fault [] = Some fault.Header
-records_fault (header ∷ rows) = if is_header header then rows_fault 2 rows else Some fault.Header
+records_fault (header ∷ rest) = if is_header header then fault_from 2 rest else Some fault.Header
 
 -- the first fault of a text
 unfoldable pub trace_fault : List ℕ → Option TraceFault

@@ -1,7 +1,7 @@
 use Rattle.std.proofs.Common.{◌≡◌, ◌^◌, ◌<◌, true, drop}
 use Rattle.std.specs.List.{list_all}
-use Rattle.us_requests.specs.Rows.{is_digit, number_from, number_of}
-use Rattle.us_requests.proofs.rows.decimal.Given as goal
+use Rattle.us_requests.specs.Texts.{is_digit, number_from, number_of}
+use Rattle.us_requests.proofs.fields.decimal.Given as goal
 
 abbrev pub invariant-loop-digit : goal.invariant-loop-digit
 invariant-loop-digit l =

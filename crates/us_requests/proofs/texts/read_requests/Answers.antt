@@ -1,7 +1,7 @@
 use Rattle.std.proofs.Common.{arith}
 use Rattle.csv.specs.Records.{fields_of}
-use Rattle.us_requests.proofs.TextLemmas.{row-read, row-fault, all-read, passed}
-use Rattle.us_requests.proofs.texts.read_rows.Goals as goal
+use Rattle.us_requests.proofs.TextLemmas.{record-read, record-fault, all-read, passed}
+use Rattle.us_requests.proofs.texts.read_requests.Goals as goal
 
 pub returns-then-not-branch : goal.returns-then-not-branch
 returns-then-not-branch c =
@@ -17,7 +17,7 @@ returns-in_err-request_in c =
     let left = c.read.new.self in
     let fault = c.in_err-request_in.field-0.0 in
     let took = rw c.if-not-branch.false at c.in_ok-read.ensures in
-    let first = row-fault c.args.reader.now l.number l.requests.items l.reader left (fields_of c.read.new.fields) fault
+    let first = record-fault c.args.reader.now l.number l.requests.items l.reader left (fields_of c.read.new.fields) fault
     l.invariant took c.in_err-request_in.ensures.fault in
     passed c.from_residual-in_err-request_in.result fault _ _ c.from_residual-in_err-request_in.ensures.1 first
 
@@ -29,7 +29,7 @@ loop-number-preserved c =
     let sound = c.in_ok-request_in.ensures in
     let took = rw c.if-not-branch.false at c.in_ok-read.ensures in
     rw c.in_ok-push.ensures.items
-    (row-read c.args.reader.now l.number l.requests.items l.reader left (fields_of c.read.new.fields) request
+    (record-read c.args.reader.now l.number l.requests.items l.reader left (fields_of c.read.new.fields) request
     l.invariant took sound.none sound.value sound.small)
 
 pub returns : goal.returns

@@ -1,8 +1,8 @@
 ghost use Rattle.std.specs.Prelude.{◌≡◌, ◌≤◌, true, length, Some, None, if◌then◌else◌, IfOk, IfErr, IfSome};
 ghost use Rattle.std.specs.List.{list_all};
 ghost use Rattle.csv.specs.Records.{fields_of};
-ghost use Rattle.us_requests.specs.Rows;
-ghost use Rattle.us_requests.specs.Rows.{max_records, field_in, is_digit, number_of, is_number, are_numbers, request_of, row_checks, first_of};
+ghost use Rattle.us_requests.specs.Texts;
+ghost use Rattle.us_requests.specs.Texts.{max_records, field_in, is_digit, number_of, is_number, are_numbers, request_of, record_checks, first_of};
 
 use crate::faults::TraceFault;
 use crate::requests::Request;
@@ -12,9 +12,9 @@ use csv::ByteRecord;
 const MAX_DIGITS: usize = 10;
 
 /// Whether a record is the header.
-#[tactic(auto, unfolding(crate::specs::Rows::is_header))]
+#[tactic(auto, unfolding(crate::specs::Texts::is_header))]
 pub(crate) fn is_header(fields: &ByteRecord) -> bool
-    ensures { result ≡ Rows.is_header (fields_of fields.now) }
+    ensures { result ≡ Texts.is_header (fields_of fields.now) }
 {
     fields.len() == 4
         && field(fields, 0) == b"tick".as_slice()
@@ -26,8 +26,8 @@ pub(crate) fn is_header(fields: &ByteRecord) -> bool
 /// The request that the record of this number tells.
 pub(crate) fn request_in(fields: &ByteRecord, number: u32) -> Result<Request, TraceFault>
     requires { number ≤ max_records }
-    ensures fault { IfErr result (λ fault. first_of (row_checks number (fields_of fields.now)) ≡ Some fault) }
-    ensures none { IfOk result (λ _. first_of (row_checks number (fields_of fields.now)) ≡ None) }
+    ensures fault { IfErr result (λ fault. first_of (record_checks number (fields_of fields.now)) ≡ Some fault) }
+    ensures none { IfOk result (λ _. first_of (record_checks number (fields_of fields.now)) ≡ None) }
     ensures value { IfOk result (λ request. request ≡ request_of (fields_of fields.now)) }
     ensures small { IfOk result (λ request. request.units ≤ 65535) }
 {
@@ -41,7 +41,7 @@ pub(crate) fn request_in(fields: &ByteRecord, number: u32) -> Result<Request, Tr
 }
 
 /// The request that four fields tell, if each is a number in its range.
-#[tactic(auto, unfolding(crate::specs::Rows::are_numbers))]
+#[tactic(auto, unfolding(crate::specs::Texts::are_numbers))]
 fn four_numbers(fields: &ByteRecord) -> Option<Request>
     ensures value { result ≡
         if are_numbers (fields_of fields.now) then Some (request_of (fields_of fields.now)) else None }
@@ -60,7 +60,7 @@ fn four_numbers(fields: &ByteRecord) -> Option<Request>
 }
 
 /// The bytes of a field, none where the record has no such field.
-#[tactic(auto, using(crate::proofs::RowLemmas::fielded))]
+#[tactic(auto, using(crate::proofs::FieldLemmas::fielded))]
 fn field(fields: &ByteRecord, place: usize) -> &[u8]
     ensures { result.now ≡ field_in (fields_of fields.now) place }
 {
@@ -93,7 +93,7 @@ fn are_digits(field: &[u8]) -> bool
 }
 
 /// The number that up to 10 digits tell.
-#[tactic(auto, unfolding(crate::specs::Rows::number_from))]
+#[tactic(auto, unfolding(crate::specs::Texts::number_from))]
 fn decimal(field: &[u8]) -> u64
     requires digits { list_all is_digit field.now ≡ true }
     requires short { length field.now ≤ 10 }
