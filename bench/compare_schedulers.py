@@ -3,9 +3,9 @@
 
   bench/compare_schedulers.py FIRST LAST [PROGRAM]
 
-The seeds go from FIRST to below LAST, and PROGRAM is crates/mapsim/out/mapsim where none is named. Where the two differ,
-the configuration, the trace and the number of rounds are left in a folder `schedulers-SEED` of the system's folder for
-temporary files. The last line counts how often each case of a rule came up."""
+The seeds go from FIRST to below LAST, and PROGRAM is crates/mapsim/out/mapsim where none is named. Where the two
+differ, the configuration, the trace and the number of rounds are left in a folder `schedulers-SEED` of the system's
+folder for temporary files. The last line counts how often each case of a rule came up."""
 import collections
 import json
 import pathlib
@@ -149,8 +149,8 @@ headers = {headers}
 
 
 def config(chance, channels=None, flows=None, logs=None, round_ticks=None, reserved=None):
-    """A configuration of best-effort flows: the text, ticks of a round and of the lead, what may be asked for by channel
-    and SID, and the ids of channels."""
+    """A configuration of best-effort flows: the text, ticks of a round and of the lead, what may be asked for by
+    channel and SID, and the ids of channels."""
     count = len(logs) if logs is not None else channels or chance.randint(1, 6)
     if logs is None:
         logs = [chance.choice([0, 1, 1, 2, 3, 4, 5, 6, 7]) for _ in range(count)]
