@@ -4,13 +4,13 @@
   bench/make_loads.py FOLDER [--part N] [LOAD..]
 
 Writes FOLDER/LOAD.toml and FOLDER/LOAD.csv, and prints a line `LOAD rounds N` for each. A round has 320 ticks, 2 ms.
-With --part there are N times fewer rounds and requests, so that instructions can be counted. Where no load is named, the
-first six are written.
+With --part there are N times fewer rounds and requests, so that instructions can be counted. Where no load is named,
+the first six are written.
 
   voice            16 channels, 1,000 unsolicited flows, 256 stations, no request; 30,000 rounds
-  data             16 channels, 1,000 best-effort flows with rates, bonded over 4 to 8; 1,000,000 requests, 50,000 rounds
+  data             16 channels, 1,000 best-effort flows with rates, over 4 to 8 each; 1,000,000 requests, 50,000 rounds
   mixed            16 channels, 1,024 flows of all types, 256 stations; 1,000,000 requests, 50,000 rounds
-  full             16 channels with some 60 grants each a round: 960 calls, 64 data flows; 200,000 requests, 10,000 rounds
+  full             16 channels, some 60 grants each a round: 960 calls, 64 data flows; 200,000 requests, 10,000 rounds
   sparse           4 channels, 16 flows, 16 stations: hardly a round has work; 2,000 requests, 200,000 rounds
   single           1 channel, 1 best-effort flow without a limit; 1,000,000 requests, 200,000 rounds
 
@@ -113,7 +113,7 @@ REQUESTS_OF_TWELVE = [
 
 @dataclasses.dataclass
 class Load:
-    """A configuration, how many rounds and requests belong to it, and its rows of a trace as a function of these two."""
+    """A configuration, how many rounds and requests belong to it, and the rows of its trace by these two numbers."""
 
     config: str
     rounds: int

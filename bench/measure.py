@@ -10,10 +10,12 @@
   --workers N,..    numbers of workers: `times` takes each (1), `bytes` compares the first with the others (1,2,4,16)
   --program FILE    the program (crates/mapsim/out/mapsim)
 
-`instructions` counts with one worker. A round is the difference of a replay and of one of half its rounds, over the same
-trace, and a round without requests the same over a trace with no row. A request read is the difference of these two
-traces in one round, in which nearly all requests come late. Memory is what GNU time says, and `-` where there is no GNU
-time. These are benchmarks, and no tests. Status 0: all ran; 1: bytes differ; 2: a run failed, or the words are wrong.
+`instructions` counts with one worker. A round is the difference of a replay and of one of half its rounds, over the
+same trace, and a round without requests the same over a trace with no row. A request read is the difference of these
+two traces in one round, in which nearly all requests come late. Memory is what GNU time says, and `-` where there is no
+GNU time. These are benchmarks, and no tests.
+
+Status 0: all ran; 1: bytes differ; 2: a run failed, or the words are wrong.
 """
 import argparse
 import hashlib
