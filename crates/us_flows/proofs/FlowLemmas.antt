@@ -8,7 +8,7 @@ use Rattle.toml.specs.View.{view, items_view}
 use Rattle.us_flows.specs.Ranges.{min_interval_us, max_burst, max_channel_id, max_channels_of_flow, max_clusters_of_flow, max_grant_bytes, max_grants, max_id, max_priority, max_rate, max_unicast_sid, max_unit, max_us}
 use Rattle.us_flows.specs.declared.flows.SchedulingType.{SchedulingType}
 use Rattle.us_flows.specs.declared.flows.SchedulingType.TheVariants.{BestEffort, NonRealTimePolling, RealTimePolling, UnsolicitedGrant}
-use Rattle.us_flows.specs.Keys.{Key, best_effort_keys, polling_keys, unsolicited_keys, flow_keys}
+use Rattle.us_flows.specs.Keys.{Key, all_flow_keys, flow_keys}
 use Rattle.us_flows.specs.Lawful.{Between, IsUnit, HasNoGrants, HasNoOthers, HasNoSchedule, MakesNoRequests}
 use Rattle.us_flows.specs.Documents.{number_of, number_at, flag_of, flag_at, items_of, items_at, read_or}
 use Rattle.us_flows.specs.Reading.{kind_at, flow_of}
@@ -84,6 +84,16 @@ unit_between (datetime x) h = absurd (false≢true h)
 unit_between (array ds) h = absurd (false≢true h)
 unit_between (table ms) h = absurd (false≢true h)
 
+-- the keys of each type; those of both types that are polled are the same
+abbrev best_effort_keys : List Key
+best_effort_keys = flow_keys BestEffort
+
+abbrev polling_keys : List Key
+polling_keys = flow_keys RealTimePolling
+
+abbrev unsolicited_keys : List Key
+unsolicited_keys = flow_keys UnsolicitedGrant
+
 -- What a type has no key for is 0, or false.
 absent : (keys : List Key) (t : Members) (k : List ℕ) → strays keys t ≡ false → ((d : Data) → allows keys k d ≡ false) →
     number_at k t ≡ 0
@@ -103,7 +113,7 @@ absent_flag keys t k ranged unlisted = none (get_member k t) refl
 
 best_effort_others : (t : Members) → strays best_effort_keys t ≡ false →
     HasNoSchedule (flow_of t) × HasNoGrants (flow_of t)
-unfolding best_effort_keys
+unfolding all_flow_keys
 best_effort_others t r = (
   record {
     start_us = absent best_effort_keys t (codes "start_us") r (λ d. refl);
@@ -117,14 +127,14 @@ best_effort_others t r = (
 )
 
 polling_others : (t : Members) → strays polling_keys t ≡ false → HasNoGrants (flow_of t)
-unfolding polling_keys
+unfolding all_flow_keys
 polling_others t r = record {
   grant_bytes = absent polling_keys t (codes "grant_bytes") r (λ d. refl);
   grants = absent polling_keys t (codes "grants_per_interval") r (λ d. refl);
 }
 
 unsolicited_others : (t : Members) → strays unsolicited_keys t ≡ false → MakesNoRequests (flow_of t)
-unfolding unsolicited_keys
+unfolding all_flow_keys
 unsolicited_others t r = record {
   priority = absent unsolicited_keys t (codes "priority") r (λ d. refl);
   rate = absent unsolicited_keys t (codes "rate") r (λ d. refl);
@@ -135,6 +145,7 @@ unsolicited_others t r = record {
 
 pub others_absent : (t : Members) (kind : SchedulingType) → strays (flow_keys kind) t ≡ false →
     HasNoOthers (flow_of t) kind
+unfolding all_flow_keys
 others_absent t BestEffort r = best_effort_others t r
 others_absent t NonRealTimePolling r = polling_others t r
 others_absent t RealTimePolling r = polling_others t r
@@ -172,7 +183,7 @@ pub record GrantRanges (t : Members) : Type 0 where
 
 best_effort_ranges : (t : Members) → lacks best_effort_keys t ≡ false → strays best_effort_keys t ≡ false →
     FlowRanges t × RequestRanges t
-unfolding best_effort_keys
+unfolding all_flow_keys
 best_effort_ranges t w r =
     let none = best_effort_others t r in
     let channels = list_in_range best_effort_keys t (codes "channels") 1 max_channels_of_flow (is_number 1 max_channel_id) w r refl (λ d. refl) in
@@ -201,7 +212,7 @@ best_effort_ranges t w r =
 
 polling_ranges : (t : Members) → lacks polling_keys t ≡ false → strays polling_keys t ≡ false →
     FlowRanges t × RequestRanges t × (min_interval_us ≤ number_at (codes "interval_us") t)
-unfolding polling_keys
+unfolding all_flow_keys
 polling_ranges t w r =
     let none = polling_others t r in
     let channels = list_in_range polling_keys t (codes "channels") 1 max_channels_of_flow (is_number 1 max_channel_id) w r refl (λ d. refl) in
@@ -231,7 +242,7 @@ polling_ranges t w r =
 
 unsolicited_ranges : (t : Members) → lacks unsolicited_keys t ≡ false → strays unsolicited_keys t ≡ false →
     FlowRanges t × GrantRanges t
-unfolding unsolicited_keys
+unfolding all_flow_keys
 unsolicited_ranges t w r =
     let none = unsolicited_others t r in
     let channels = list_in_range unsolicited_keys t (codes "channels") 1 1 (is_number 1 max_channel_id) w r refl (λ d. refl) in
@@ -273,6 +284,7 @@ KindRanges t UnsolicitedGrant = GrantRanges t
 
 pub kind_ranges : (t : Members) (kind : SchedulingType) → lacks (flow_keys kind) t ≡ false → strays (flow_keys kind) t ≡
     false → FlowRanges t × KindRanges t kind
+unfolding all_flow_keys
 kind_ranges t BestEffort w r = best_effort_ranges t w r
 kind_ranges t NonRealTimePolling w r = let all = polling_ranges t w r in (all.0, (all.1, all.2))
 kind_ranges t RealTimePolling w r = let all = polling_ranges t w r in (all.0, (all.1, all.2))

@@ -12,7 +12,7 @@ use Rattle.us_flows.specs.declared.faults.ConfigFault.TheVariants.{Missing, Rang
 use Rattle.us_flows.specs.Tables.{Tables, FlowTable, rounds_fit}
 use Rattle.us_flows.specs.Clusters.{lookup, table_order, turns_of}
 use Rattle.us_flows.specs.Turns.{turn_at}
-use Rattle.us_flows.specs.Keys.{top_keys, channel_keys, profile_keys, short_keys, best_effort_keys, polling_keys, unsolicited_keys, station_keys}
+use Rattle.us_flows.specs.Keys.{top_keys, channel_keys, profile_keys, short_keys, all_flow_keys, station_keys}
 use Rattle.us_flows.specs.Checks.{top, channel_lacks, channel_strays, channel_fault, flow_fault, station_fault, first_fault}
 use Rattle.us_flows.specs.Reading.{tables_of}
 
@@ -102,7 +102,7 @@ base = document (base_channel ∷ []) (base_flow ∷ [])
 -- it has no fault, and writes these tables
 no_fault : first_fault base ≡ None
 unfolding first_fault channel_fault channel_lacks channel_strays flow_fault station_fault
-    top_keys channel_keys profile_keys short_keys best_effort_keys polling_keys unsolicited_keys station_keys
+    top_keys channel_keys profile_keys short_keys all_flow_keys station_keys
     burst_cost coded_length
 no_fault = refl
 
@@ -183,7 +183,7 @@ top_faults :
     (first_fault (document (base_channel ∷ []) []) ≡ None) ×
     (first_fault (without_key (codes "flow") base) ≡ None)
 unfolding first_fault channel_fault channel_lacks channel_strays flow_fault station_fault
-    top_keys channel_keys profile_keys short_keys best_effort_keys polling_keys unsolicited_keys station_keys
+    top_keys channel_keys profile_keys short_keys all_flow_keys station_keys
     burst_cost coded_length
 top_faults = (refl, refl, refl, refl, refl, refl, refl, refl)
 
@@ -213,7 +213,7 @@ channel_faults :
     (first_fault (document (base_channel ∷ base_channel ∷ []) []) ≡
     Some (DuplicateId (record { table = name.Channel; index = 1 })))
 unfolding first_fault channel_fault channel_lacks channel_strays flow_fault station_fault
-    top_keys channel_keys profile_keys short_keys best_effort_keys polling_keys unsolicited_keys station_keys
+    top_keys channel_keys profile_keys short_keys all_flow_keys station_keys
     burst_cost coded_length
 channel_faults = (refl, refl, refl, refl, refl, refl, refl, refl, refl, refl, refl, refl, refl)
 
@@ -241,7 +241,7 @@ flow_faults :
     -- an unknown channel before the length of a cluster
     (first_fault (document (base_channel ∷ []) (lost ∷ [])) ≡ Some (UnknownChannel flow))
 unfolding first_fault channel_fault channel_lacks channel_strays flow_fault station_fault
-    top_keys channel_keys profile_keys short_keys best_effort_keys polling_keys unsolicited_keys station_keys
+    top_keys channel_keys profile_keys short_keys all_flow_keys station_keys
     burst_cost coded_length
 flow_faults = (refl, refl, refl, refl, refl, refl, refl, refl, refl)
 
@@ -284,7 +284,7 @@ flows_beside :
     (granted_with (codes "grant_bytes") (number 5104) ≡ None) ×
     (granted_with (codes "grant_bytes") (number 5105) ≡ Some (GrantLongerThanMap second))
 unfolding first_fault channel_fault channel_lacks channel_strays flow_fault station_fault
-    top_keys channel_keys profile_keys short_keys best_effort_keys polling_keys unsolicited_keys station_keys
+    top_keys channel_keys profile_keys short_keys all_flow_keys station_keys
     burst_cost coded_length
 flows_beside = (refl, refl, refl, refl, refl, refl, refl, refl, refl, refl, refl, refl)
 
@@ -304,7 +304,7 @@ schedules :
     (first_fault (short_round (base_flow ∷ []) (base_station ∷ [])) ≡
     Some (GrantLongerThanMap (record { table = name.Station; index = 0 })))
 unfolding first_fault channel_fault channel_lacks channel_strays flow_fault station_fault
-    top_keys channel_keys profile_keys short_keys best_effort_keys polling_keys unsolicited_keys station_keys
+    top_keys channel_keys profile_keys short_keys all_flow_keys station_keys
     burst_cost coded_length
 schedules = (refl, refl, refl, refl, refl)
 
@@ -317,7 +317,7 @@ headers_wanted :
     (document (base_channel ∷ other_channel ∷ []) (with_key (codes "headers") (boolean false) (on_channels (2 ∷ 1 ∷ [])) ∷ []))
     ≡ Some (Headers flow)
 unfolding first_fault channel_fault channel_lacks channel_strays flow_fault station_fault
-    top_keys channel_keys profile_keys short_keys best_effort_keys polling_keys unsolicited_keys station_keys
+    top_keys channel_keys profile_keys short_keys all_flow_keys station_keys
     burst_cost coded_length
 headers_wanted = refl
 
@@ -332,7 +332,7 @@ station_faults :
     (first_fault (with_stations (with_key (codes "jitter_us") (number 2000) base_station ∷ [])) ≡ Some (Jitter (station 0))) ×
     (first_fault (with_stations (without_key (codes "sid") base_station ∷ [])) ≡ Some (Missing (station 0)))
 unfolding first_fault channel_fault channel_lacks channel_strays flow_fault station_fault
-    top_keys channel_keys profile_keys short_keys best_effort_keys polling_keys unsolicited_keys station_keys
+    top_keys channel_keys profile_keys short_keys all_flow_keys station_keys
     burst_cost coded_length
 station_faults = (refl, refl, refl, refl, refl)
 

@@ -1,12 +1,14 @@
 -- The keys of each table of a configuration, and the rule of each value: of two numbers the first is the least and the
 -- second the greatest.
-use Rattle.std.specs.Prelude.{ℕ, List, [], ◌∷◌, map, codes}
+use Rattle.std.specs.Prelude.{ℕ, Bool, true, not, if◌then◌else◌, List, [], ◌∷◌, map, codes}
 use Rattle.std.specs.Borrow.{Bor}
 use Rattle.us_flows.specs.Ranges.{max_channels, max_flows, max_stations, max_round_ticks, max_lead_ticks, max_channel_id, max_minislot_log2, max_rate_log2, max_ucd_count, max_exponent, max_request_minislots, max_reserve_minislots, max_station_minislots, max_maintenance_every, min_bits, max_bits, max_preamble, max_guard, max_fec_t, min_fec_k, max_fec_k, max_short_minislots, max_id, max_unicast_sid, max_channels_of_flow, max_clusters_of_flow, max_priority, max_rate, max_burst, max_grant_bytes, max_grants, min_interval_us, max_us}
 use Rattle.us_flows.specs.declared.flows.SchedulingType.{SchedulingType}
-use Rattle.us_flows.specs.declared.flows.SchedulingType.TheVariants.{BestEffort, NonRealTimePolling, RealTimePolling, UnsolicitedGrant}
 use Rattle.us_flows.specs.declared.keys.Rule.{Rule}
 use Rattle.us_flows.specs.declared.keys.Rule.TheVariants as rule
+use Rattle.us_flows.specs.declared.keys.Types.{Types}
+use Rattle.us_flows.specs.declared.keys.Types.TheVariants as types
+use Rattle.us_flows.specs.Clusters.{makes_requests, has_intervals}
 
 -- a key by its name, and the rule of its value
 abbrev pub Key : Type 0
@@ -61,54 +63,49 @@ short_keys =
     (codes "shortened", rule.Flag) ∷
     (codes "max_minislots", rule.Number 1 max_short_minislots) ∷ []
 
--- a flow of best effort
-unfoldable pub best_effort_keys : List Key
-best_effort_keys =
-    (codes "id", rule.Number 1 max_id) ∷
-    (codes "type", rule.Type) ∷
-    (codes "channels", rule.Numbers 1 max_channels_of_flow 1 max_channel_id) ∷
-    (codes "clusters", rule.Lists 1 max_clusters_of_flow 1 max_unicast_sid) ∷
-    (codes "priority", rule.Number 0 max_priority) ∷
-    (codes "rate", rule.Number 0 max_rate) ∷
-    (codes "burst", rule.Number 1 max_burst) ∷
-    (codes "unit", rule.Unit) ∷
-    (codes "headers", rule.Flag) ∷ []
+-- whether a flow of a type has a key of these types
+abbrev pub has_key : Types → SchedulingType → Bool
+has_key types.All kind = true
+has_key types.Requesting kind = makes_requests kind
+has_key types.AtIntervals kind = has_intervals kind
+has_key types.Unsolicited kind = not (makes_requests kind)
 
--- a flow that is polled
-unfoldable pub polling_keys : List Key
-polling_keys =
-    (codes "id", rule.Number 1 max_id) ∷
-    (codes "type", rule.Type) ∷
-    (codes "channels", rule.Numbers 1 max_channels_of_flow 1 max_channel_id) ∷
-    (codes "clusters", rule.Lists 1 max_clusters_of_flow 1 max_unicast_sid) ∷
-    (codes "priority", rule.Number 0 max_priority) ∷
-    (codes "rate", rule.Number 0 max_rate) ∷
-    (codes "burst", rule.Number 1 max_burst) ∷
-    (codes "unit", rule.Unit) ∷
-    (codes "headers", rule.Flag) ∷
-    (codes "start_us", rule.Number 0 max_us) ∷
-    (codes "interval_us", rule.Number min_interval_us max_us) ∷
-    (codes "jitter_us", rule.Number 0 max_us) ∷ []
+-- a key of flows, the types that have it, and the rule of its value
+abbrev pub FlowKey : Type 0
+FlowKey = List ℕ × Types × Rule
 
--- a flow with unsolicited grants
-unfoldable pub unsolicited_keys : List Key
-unsolicited_keys =
-    (codes "id", rule.Number 1 max_id) ∷
-    (codes "type", rule.Type) ∷
-    (codes "channels", rule.Numbers 1 1 1 max_channel_id) ∷
-    (codes "clusters", rule.Lists 1 1 1 max_unicast_sid) ∷
-    (codes "start_us", rule.Number 0 max_us) ∷
-    (codes "interval_us", rule.Number min_interval_us max_us) ∷
-    (codes "jitter_us", rule.Number 0 max_us) ∷
-    (codes "grant_bytes", rule.Number 1 max_grant_bytes) ∷
-    (codes "grants_per_interval", rule.Number 1 max_grants) ∷ []
+-- the same as the code keeps them
+abbrev pub typed_keys_of : List (Bor (List ℕ) × Types × Rule) → List FlowKey
+typed_keys_of keys = map (λ key. (key.0.now, key.1, key.2)) keys
+
+unfoldable pub all_flow_keys : List FlowKey
+all_flow_keys =
+    (codes "id", types.All, rule.Number 1 max_id) ∷
+    (codes "type", types.All, rule.Type) ∷
+    (codes "channels", types.Requesting, rule.Numbers 1 max_channels_of_flow 1 max_channel_id) ∷
+    (codes "channels", types.Unsolicited, rule.Numbers 1 1 1 max_channel_id) ∷
+    (codes "clusters", types.Requesting, rule.Lists 1 max_clusters_of_flow 1 max_unicast_sid) ∷
+    (codes "clusters", types.Unsolicited, rule.Lists 1 1 1 max_unicast_sid) ∷
+    (codes "priority", types.Requesting, rule.Number 0 max_priority) ∷
+    (codes "rate", types.Requesting, rule.Number 0 max_rate) ∷
+    (codes "burst", types.Requesting, rule.Number 1 max_burst) ∷
+    (codes "unit", types.Requesting, rule.Unit) ∷
+    (codes "headers", types.Requesting, rule.Flag) ∷
+    (codes "start_us", types.AtIntervals, rule.Number 0 max_us) ∷
+    (codes "interval_us", types.AtIntervals, rule.Number min_interval_us max_us) ∷
+    (codes "jitter_us", types.AtIntervals, rule.Number 0 max_us) ∷
+    (codes "grant_bytes", types.Unsolicited, rule.Number 1 max_grant_bytes) ∷
+    (codes "grants_per_interval", types.Unsolicited, rule.Number 1 max_grants) ∷ []
+
+-- those of a list that a type has
+abbrev pub keys_of_type : SchedulingType → List FlowKey → List Key
+keys_of_type kind [] = []
+keys_of_type kind (key ∷ keys) =
+    if has_key key.1 kind then (key.0, key.2) ∷ keys_of_type kind keys else keys_of_type kind keys
 
 -- a flow has the keys of its type
 abbrev pub flow_keys : SchedulingType → List Key
-flow_keys BestEffort = best_effort_keys
-flow_keys NonRealTimePolling = polling_keys
-flow_keys RealTimePolling = polling_keys
-flow_keys UnsolicitedGrant = unsolicited_keys
+flow_keys kind = keys_of_type kind all_flow_keys
 
 unfoldable pub station_keys : List Key
 station_keys =

@@ -18,9 +18,8 @@ use crate::faults::{ConfigFault, Place, TOP, TableName};
 use crate::flow_grants::grants_fault;
 use crate::flow_names::{names_fault, sids_of};
 use crate::flows::{Flow, SchedulingType};
-use crate::keys::flow_keys;
 use crate::listed::{Channels, Flows};
-use crate::shapes::{is_type, lacks, strays};
+use crate::shapes::{flow_lacks, flow_strays, is_type};
 use std::alloc::{AllocError, Global};
 use toml::{Table, Value};
 
@@ -114,11 +113,11 @@ fn shape_fault(place: Place, table: &Table) -> Option<ConfigFault>
         }
         None => return Some(ConfigFault::Missing(place)),
     }
-    let keys = flow_keys(kind_at(table));
-    if lacks(keys, table) {
+    let kind = kind_at(table);
+    if flow_lacks(kind, table) {
         return Some(ConfigFault::Missing(place));
     }
-    if strays(keys, table) {
+    if flow_strays(kind, table) {
         return Some(ConfigFault::Range(place));
     }
     None

@@ -1,5 +1,5 @@
 ghost use Rattle.std.specs.Prelude.{◌≡◌};
-ghost use Rattle.us_flows.specs.Keys.{keys_of, top_keys, channel_keys, profile_keys, short_keys, best_effort_keys, polling_keys, unsolicited_keys, flow_keys, station_keys};
+ghost use Rattle.us_flows.specs.Keys.{keys_of, typed_keys_of, has_key, top_keys, channel_keys, profile_keys, short_keys, all_flow_keys, station_keys};
 
 use crate::flows::SchedulingType;
 use crate::ranges::{
@@ -34,6 +34,36 @@ pub(crate) enum Rule {
 
 /// A key of a table, and the rule of its value.
 pub(crate) type Key = (&'static str, Rule);
+
+/// The scheduling types whose flows have a key.
+#[derive(Clone, Copy)]
+pub(crate) enum Types {
+    /// All.
+    All,
+    /// Those that make requests: 2, 3 and 4.
+    Requesting,
+    /// Those that are polled or have unsolicited grants, at intervals: 3, 4 and 6.
+    AtIntervals,
+    /// That of unsolicited grants: 6.
+    Unsolicited,
+}
+
+impl Types {
+    /// Whether a flow of this type has the key.
+    pub(crate) fn have(self, kind: SchedulingType) -> bool
+        ensures { result ≡ has_key self kind }
+    {
+        match self {
+            Types::All => true,
+            Types::Requesting => kind.makes_requests(),
+            Types::AtIntervals => kind.has_intervals(),
+            Types::Unsolicited => !kind.makes_requests(),
+        }
+    }
+}
+
+/// A key of flows, the scheduling types that have it, and the rule of its value.
+pub(crate) type FlowKey = (&'static str, Types, Rule);
 
 static TOP_KEYS: [Key; 5] = [
     ("round_ticks", Rule::Number(1, MAX_ROUND_TICKS)),
@@ -85,55 +115,52 @@ static SHORT_KEYS: [Key; 7] = [
     ("max_minislots", Rule::Number(1, MAX_SHORT_MINISLOTS)),
 ];
 
-static BEST_EFFORT_KEYS: [Key; 9] = [
-    ("id", Rule::Number(1, MAX_ID)),
-    ("type", Rule::Type),
+/// The keys of all flows.
+static FLOW_KEYS: [FlowKey; 16] = [
+    ("id", Types::All, Rule::Number(1, MAX_ID)),
+    ("type", Types::All, Rule::Type),
     (
         "channels",
+        Types::Requesting,
         Rule::Numbers(1, MAX_CHANNELS_OF_FLOW, 1, MAX_CHANNEL_ID),
     ),
     (
-        "clusters",
-        Rule::Lists(1, MAX_CLUSTERS_OF_FLOW, 1, MAX_UNICAST_SID),
-    ),
-    ("priority", Rule::Number(0, MAX_PRIORITY)),
-    ("rate", Rule::Number(0, MAX_RATE)),
-    ("burst", Rule::Number(1, MAX_BURST)),
-    ("unit", Rule::Unit),
-    ("headers", Rule::Flag),
-];
-
-static POLLING_KEYS: [Key; 12] = [
-    ("id", Rule::Number(1, MAX_ID)),
-    ("type", Rule::Type),
-    (
         "channels",
-        Rule::Numbers(1, MAX_CHANNELS_OF_FLOW, 1, MAX_CHANNEL_ID),
+        Types::Unsolicited,
+        Rule::Numbers(1, 1, 1, MAX_CHANNEL_ID),
     ),
     (
         "clusters",
+        Types::Requesting,
         Rule::Lists(1, MAX_CLUSTERS_OF_FLOW, 1, MAX_UNICAST_SID),
     ),
-    ("priority", Rule::Number(0, MAX_PRIORITY)),
-    ("rate", Rule::Number(0, MAX_RATE)),
-    ("burst", Rule::Number(1, MAX_BURST)),
-    ("unit", Rule::Unit),
-    ("headers", Rule::Flag),
-    ("start_us", Rule::Number(0, MAX_US)),
-    ("interval_us", Rule::Number(MIN_INTERVAL_US, MAX_US)),
-    ("jitter_us", Rule::Number(0, MAX_US)),
-];
-
-static UNSOLICITED_KEYS: [Key; 9] = [
-    ("id", Rule::Number(1, MAX_ID)),
-    ("type", Rule::Type),
-    ("channels", Rule::Numbers(1, 1, 1, MAX_CHANNEL_ID)),
-    ("clusters", Rule::Lists(1, 1, 1, MAX_UNICAST_SID)),
-    ("start_us", Rule::Number(0, MAX_US)),
-    ("interval_us", Rule::Number(MIN_INTERVAL_US, MAX_US)),
-    ("jitter_us", Rule::Number(0, MAX_US)),
-    ("grant_bytes", Rule::Number(1, MAX_GRANT_BYTES)),
-    ("grants_per_interval", Rule::Number(1, MAX_GRANTS)),
+    (
+        "clusters",
+        Types::Unsolicited,
+        Rule::Lists(1, 1, 1, MAX_UNICAST_SID),
+    ),
+    ("priority", Types::Requesting, Rule::Number(0, MAX_PRIORITY)),
+    ("rate", Types::Requesting, Rule::Number(0, MAX_RATE)),
+    ("burst", Types::Requesting, Rule::Number(1, MAX_BURST)),
+    ("unit", Types::Requesting, Rule::Unit),
+    ("headers", Types::Requesting, Rule::Flag),
+    ("start_us", Types::AtIntervals, Rule::Number(0, MAX_US)),
+    (
+        "interval_us",
+        Types::AtIntervals,
+        Rule::Number(MIN_INTERVAL_US, MAX_US),
+    ),
+    ("jitter_us", Types::AtIntervals, Rule::Number(0, MAX_US)),
+    (
+        "grant_bytes",
+        Types::Unsolicited,
+        Rule::Number(1, MAX_GRANT_BYTES),
+    ),
+    (
+        "grants_per_interval",
+        Types::Unsolicited,
+        Rule::Number(1, MAX_GRANTS),
+    ),
 ];
 
 static STATION_KEYS: [Key; 6] = [
@@ -177,39 +204,12 @@ pub(crate) fn short_keys() -> &'static [Key]
     SHORT_KEYS.as_slice()
 }
 
-/// The keys of a flow of this scheduling type.
-pub(crate) fn flow_keys(kind: SchedulingType) -> &'static [Key]
-    ensures { keys_of result.now ≡ flow_keys kind }
+/// The keys of all flows.
+#[tactic(auto, unfolding(crate::specs::Keys::all_flow_keys))]
+pub(crate) fn all_flow_keys() -> &'static [FlowKey]
+    ensures { typed_keys_of result.now ≡ all_flow_keys }
 {
-    match kind {
-        SchedulingType::BestEffort => best_effort_keys(),
-        SchedulingType::NonRealTimePolling | SchedulingType::RealTimePolling => polling_keys(),
-        SchedulingType::UnsolicitedGrant => unsolicited_keys(),
-    }
-}
-
-/// The keys of a flow of best effort.
-#[tactic(auto, unfolding(crate::specs::Keys::best_effort_keys))]
-fn best_effort_keys() -> &'static [Key]
-    ensures { keys_of result.now ≡ best_effort_keys }
-{
-    BEST_EFFORT_KEYS.as_slice()
-}
-
-/// The keys of a flow that is polled.
-#[tactic(auto, unfolding(crate::specs::Keys::polling_keys))]
-fn polling_keys() -> &'static [Key]
-    ensures { keys_of result.now ≡ polling_keys }
-{
-    POLLING_KEYS.as_slice()
-}
-
-/// The keys of a flow with unsolicited grants.
-#[tactic(auto, unfolding(crate::specs::Keys::unsolicited_keys))]
-fn unsolicited_keys() -> &'static [Key]
-    ensures { keys_of result.now ≡ unsolicited_keys }
-{
-    UNSOLICITED_KEYS.as_slice()
+    FLOW_KEYS.as_slice()
 }
 
 /// The keys of a station.

@@ -1,10 +1,11 @@
 ghost use Rattle.std.specs.Prelude.{◌≡◌};
 ghost use Rattle.toml.specs.View.{view, table_view, items_view};
-ghost use Rattle.us_flows.specs.Keys.{keys_of};
+ghost use Rattle.us_flows.specs.Keys.{keys_of, flow_keys};
 ghost use Rattle.us_flows.specs.Shapes;
 
 use crate::documents::value_at;
-use crate::keys::{Key, Rule};
+use crate::flows::SchedulingType;
+use crate::keys::{Key, Rule, all_flow_keys};
 use toml::{Table, Value};
 
 /// Whether a table lacks a key that it has to have.
@@ -37,6 +38,42 @@ fn allows(keys: &[Key], name: &str, value: &Value) -> bool
 {
     for (listed, rule) in keys {
         if *listed == name {
+            return keeps(*rule, value);
+        }
+    }
+    false
+}
+
+/// Whether the table of a flow of this type lacks a key that it has to have.
+pub(crate) fn flow_lacks(kind: SchedulingType, table: &Table) -> bool
+    ensures { result ≡ Shapes.lacks (flow_keys kind) (table_view table.now) }
+{
+    for (name, types, rule) in all_flow_keys() {
+        if types.have(kind) && value_at(table, name).is_none() && !is_optional(*rule) {
+            return true;
+        }
+    }
+    false
+}
+
+/// Whether the table of a flow of this type has a key that isn't listed, or one whose value breaks its rule.
+pub(crate) fn flow_strays(kind: SchedulingType, table: &Table) -> bool
+    ensures { result ≡ Shapes.strays (flow_keys kind) (table_view table.now) }
+{
+    for (name, value) in table {
+        if !flow_allows(kind, name, value) {
+            return true;
+        }
+    }
+    false
+}
+
+/// Whether a flow of this type has a key, and the value keeps its rule.
+fn flow_allows(kind: SchedulingType, name: &str, value: &Value) -> bool
+    ensures { result ≡ Shapes.allows (flow_keys kind) name.now (view value.now) }
+{
+    for (listed, types, rule) in all_flow_keys() {
+        if *listed == name && types.have(kind) {
             return keeps(*rule, value);
         }
     }
