@@ -22,7 +22,7 @@ use Rattle.us_round.specs.Rounds.{Step, build_on, builds_of, final, opening, pen
 use Rattle.us_round.specs.Outputs.{RoundOut, by_start, elements_of, final_rows, head_of, map_of, out_of, rows_on}
 use Rattle.us_round.specs.declared.rows.Row.{Row}
 use Rattle.us_round.specs.declared.rows.Row.TheVariants as rows
-use Rattle.us_round.specs.declared.rows.Entry.TheVariants as words
+use Rattle.us_round.specs.declared.rows.EntryWord.TheVariants as words
 
 -- what these computations unfold
 unfoldable pub round_steps : ⊤
@@ -104,8 +104,19 @@ elements t round cut = map (λ m. map word_of m.elements) (given t round cut).ma
 
 -- a grant of round 1 by its channel, flow and cluster, its SID and IUC, its start and minislots, and its credit
 abbrev granted : ℕ → ℕ → ℕ → ℕ → ℕ → ℕ → ℕ → ℕ → Row
-granted channel flow list sid iuc start slots credit =
-    rows.Granted 1 channel words.Requested flow list 0 sid iuc start slots credit
+granted channel flow list sid iuc start slots credit = rows.Granted (record {
+  round = 1;
+  channel = channel;
+  entry = words.Requested;
+  id = flow;
+  i = list;
+  k = 0;
+  sid = sid;
+  iuc = iuc;
+  start = start;
+  slots = slots;
+  credit = credit;
+})
 
 -- the word of a SID, an IUC and an offset
 abbrev word : ℕ → ℕ → ℕ → ℕ

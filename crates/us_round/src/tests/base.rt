@@ -236,18 +236,16 @@ fn tell_rows(answer: &mut String, rows: &[Row]) -> Result<(), NoMemory> {
 /// Of a grant its channel, start, minislots and credit; of a final line what is outstanding, and the units.
 fn tell_row(answer: &mut String, row: &Row) -> Result<(), AllocError> {
     match row {
-        Row::Granted {
-            channel,
-            start,
-            slots,
-            credit,
-            ..
-        } => write!(answer, "{channel} {start}+{slots} {credit}, "),
-        Row::Final {
-            outstanding,
-            units,
-            ..
-        } => write!(answer, "left {outstanding} {units:?}, "),
+        Row::Granted(g) => write!(
+            answer,
+            "{} {}+{} {}, ",
+            g.channel, g.start, g.slots, g.credit
+        ),
+        Row::Final(state) => write!(
+            answer,
+            "left {} {:?}, ",
+            state.outstanding, state.units
+        ),
         _ => write!(answer, "{row:?}, "),
     }
 }
@@ -273,30 +271,15 @@ fn tell_whole(answer: &mut String, out: &RoundOut) -> Result<(), NoMemory> {
 /// A G or an M line, but for the word of its entry.
 fn tell_line(answer: &mut String, row: &Row) -> Result<(), AllocError> {
     match row {
-        Row::Granted {
-            round,
-            channel,
-            entry,
-            id,
-            i,
-            k,
-            sid,
-            iuc,
-            start,
-            slots,
-            credit,
-        } => write!(
-            answer,
-            "G,{round},{channel},{entry:?},{id},{i},{k},{sid},{iuc},{start},{slots},{credit} "
-        ),
-        Row::Missed {
-            round,
-            channel,
-            entry,
-            id,
-            i,
-            k,
-        } => write!(answer, "M,{round},{channel},{entry:?},{id},{i},{k} "),
+        Row::Granted(g) => {
+            write!(answer, "G,{},{},{:?},", g.round, g.channel, g.entry)?;
+            write!(answer, "{},{},{},{},{},", g.id, g.i, g.k, g.sid, g.iuc)?;
+            write!(answer, "{},{},{} ", g.start, g.slots, g.credit)
+        }
+        Row::Missed(m) => {
+            write!(answer, "M,{},{},{:?},", m.round, m.channel, m.entry)?;
+            write!(answer, "{},{},{} ", m.id, m.i, m.k)
+        }
         _ => write!(answer, "{row:?} "),
     }
 }
