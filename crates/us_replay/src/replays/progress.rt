@@ -16,7 +16,7 @@ use us_codec::MAX_BODY_BYTES;
 use us_crew::Gate;
 use us_intake::MAX_CLUSTERS;
 use us_requests::{Ask, Counts};
-use us_round::{RoundOut, Row, State};
+use us_round::{RoundOut, Row, State, TraceCounts};
 use us_slots::NoMemory;
 
 /// What a replay keeps from one round to the next beside the state: what collects requests, the buffers that every round
@@ -116,11 +116,11 @@ impl Progress {
         let Ok(mut rows) = state.finals(alloc) else {
             return Err(NoMemory);
         };
-        rows.push(Row::Counts {
+        rows.push(Row::Counts(TraceCounts {
             unknown: u64::from(counts.unknown),
             not_requestable: u64::from(counts.not_requestable),
             late: u64::from(counts.late),
-        })?;
+        }))?;
         self.to_maps.clear();
         self.to_report.clear();
         push_lines(&mut self.to_report, &mut self.line, &rows)

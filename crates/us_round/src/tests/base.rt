@@ -155,7 +155,7 @@ fn run<H: Threads + Sync, G: Gate + Sync>(
         let (next, out) = next_round(threads, alloc, state, &cut, workers, gate)?;
         state = next;
         if case.whole {
-            tell_whole(answer, &out)?;
+            tell_whole(answer, out)?;
         } else {
             tell_round(answer, &out)?;
         }
@@ -251,8 +251,8 @@ fn tell_row(answer: &mut String, row: &Row) -> Result<(), AllocError> {
 }
 
 /// The round's lines, the first four and the last three of many, and of each MAP the words of its elements.
-fn tell_whole(answer: &mut String, out: &RoundOut) -> Result<(), NoMemory> {
-    let rows = out.rows();
+fn tell_whole(answer: &mut String, out: RoundOut) -> Result<(), NoMemory> {
+    let (maps, rows) = out.into_parts();
     for row in &rows[..rows.len().min(4)] {
         tell_line(answer, row)?;
     }
@@ -262,7 +262,7 @@ fn tell_whole(answer: &mut String, out: &RoundOut) -> Result<(), NoMemory> {
             tell_line(answer, row)?;
         }
     }
-    for map in out.maps() {
+    for map in &maps {
         tell_words(answer, map)?;
     }
     Ok(())
