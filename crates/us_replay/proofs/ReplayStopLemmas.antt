@@ -11,7 +11,8 @@ use Rattle.us_requests.specs.declared.asks.Counts.{Counts}
 use Rattle.us_replay.specs.declared.faults.RunFault.{RunFault}
 use Rattle.us_round.specs.Outputs.{RoundOut}
 use Rattle.us_replay.specs.Files.{records, round_lines, lines}
-use Rattle.us_replay.specs.Replays.{Output, Growth, Took, TookRounds, Holds, Stopped, Ran, KeptLimits, Ending, Refused, StoppedBy, Maps, Report, Memory, maps_text, report_text, rounds_done}
+use Rattle.us_replay.specs.Endings.{Ending, Refused, StoppedBy, Maps, Report, Memory, rounds_done}
+use Rattle.us_replay.specs.Replays.{Output, Growth, Took, TookRounds, Holds, Stopped, Ran, KeptLimits, maps_text, report_text}
 use Rattle.us_replay.specs.Progress.{Sent, Flushed}
 
 -- Lists.

@@ -1,5 +1,6 @@
 ghost use Rattle.std.specs.Prelude.{◌≡◌, false};
-ghost use Rattle.us_replay.specs.Replays.{Growth, blames_maps, blames_report, ended};
+ghost use Rattle.us_replay.specs.Endings.{blames_maps, blames_report, ended};
+ghost use Rattle.us_replay.specs.Replays.{Growth};
 ghost use Rattle.us_replay.specs.Progress.{Sent, Flushed};
 
 use crate::faults::RunFault;
