@@ -241,11 +241,7 @@ fn tell_row(answer: &mut String, row: &Row) -> Result<(), AllocError> {
             "{} {}+{} {}, ",
             g.channel, g.start, g.slots, g.credit
         ),
-        Row::Final(state) => write!(
-            answer,
-            "left {} {:?}, ",
-            state.outstanding, state.units
-        ),
+        Row::Final(state) => write!(answer, "left {} {:?}, ", state.outstanding, state.units),
         _ => write!(answer, "{row:?}, "),
     }
 }
