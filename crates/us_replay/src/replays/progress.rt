@@ -90,6 +90,7 @@ impl Progress {
     }
 
     /// Makes all that is to be written of a round. After want of memory nothing is said of what stands here.
+    // `with_round` is closed elsewhere: only here is it what the calls below make.
     #[tactic(auto, unfolding(crate::specs::Progress::with_round))]
     pub(crate) fn take_round(&mut self, out: &RoundOut) -> Result<(), NoMemory>
         requires { HasRoom self.old (length out.now.rows) }
@@ -104,6 +105,7 @@ impl Progress {
 
     /// Makes the end of the report, of the state after all rounds. After want of memory nothing is said of what stands
     /// here.
+    // `with_last` is closed elsewhere, as `with_round` is.
     #[tactic(auto, unfolding(crate::specs::Progress::with_last))]
     pub(crate) fn take_last(
         &mut self,
