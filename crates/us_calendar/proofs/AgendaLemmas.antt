@@ -7,7 +7,7 @@ use Rattle.std.proofs.lemmas.Bool.{cases_eq, cases_lt}
 use Rattle.std.proofs.lemmas.Grind.{get_or_default_zero}
 use Rattle.us_holes.specs.Boards.{Board}
 use Rattle.us_calendar.specs.Occurrences.{Pace}
-use Rattle.us_calendar.specs.Settling.{EntryState, Outcome, settle_entry, after_marks, told_as}
+use Rattle.us_calendar.specs.Settling.{EntryState, SettledEntry, settle_entry, after_settling, told_as}
 use Rattle.us_calendar.specs.Calendars.{Ran, run_entries}
 use Rattle.us_calendar.specs.declared.settled.Settled.{Settled}
 use Rattle.us_calendar.specs.Kept.{IsEntryState, IsQuiet, IsAgenda, IsNoted, IsNotedIn, IsParted, key_of}
@@ -162,9 +162,9 @@ module _ (pace : Pace) (round : ℕ) (old_states : List EntryState) (old_board :
       (has_place : (at : ℕ) × (key_of at place ≡ key))
       (put : IsNotedIn keys (key_of again place) new)
       (state_is : slice_get states place ≡ Some state)
-      (state_now_is : state_now ≡ after_marks state (settle_entry pace round state board).marks)
+      (state_now_is : state_now ≡ after_settling state (settle_entry pace round state board).settlements)
       (now_is : now ≡ (settle_entry pace round state board).board)
-      (told_is : told_now ≡ told ++ map (told_as state.entry) (settle_entry pace round state board).marks)
+      (told_is : told_now ≡ told ++ map (told_as state.entry) (settle_entry pace round state board).settlements)
       (later : round + 1 ≤ again) (quiet : (r : ℕ) → r < again → round + 1 ≤ r → IsQuiet pace r state_now) where
     here : IsNoted keys passed (key_of has_place.0 place)
     here = (passed, omega arith, omega (arith, more, g.parted.inside), key_is ∙ sym has_place.1)
@@ -199,12 +199,12 @@ module _ (pace : Pace) (round : ℕ) (old_states : List EntryState) (old_board :
         noted.2 round (omega arith) (λ early. absurd (omega (arith, low, early))) not_now
 
     step : run_from pace round g.from states board ≡
-        (let one : Outcome = settle_entry pace round state board in
-        let rest : Ran = run_from pace round (suc place) (set states place (after_marks state one.marks)) one.board in
+        (let one : SettledEntry = settle_entry pace round state board in
+        let rest : Ran = run_from pace round (suc place) (set states place (after_settling state one.settlements)) one.board in
         record {
           states = rest.states;
           board = rest.board;
-          settled = map (told_as state.entry) one.marks ++ rest.settled;
+          settled = map (told_as state.entry) one.settlements ++ rest.settled;
         })
     step =
         let low : g.from ≤ place = turn.2 is_now in
@@ -214,7 +214,7 @@ module _ (pace : Pace) (round : ℕ) (old_states : List EntryState) (old_board :
         ap (λ p. run_from pace round p states board) there ∙ run_step pace round place states state board state_is
 
     same : run_from pace round (suc place) (set states place state_now) now ≡
-        run_from pace round (suc place) (set states place (after_marks state (settle_entry pace round state board).marks))
+        run_from pace round (suc place) (set states place (after_settling state (settle_entry pace round state board).settlements))
         (settle_entry pace round state board).board
     same = ap₂ (λ r b. run_from pace round (suc place) (set states place r) b) state_now_is now_is
 
@@ -290,9 +290,9 @@ module _ (pace : Pace) (round : ℕ) (old_states : List EntryState) (old_board :
     pub going-step : length now.cells ≡ length board.cells → IsEntryState state_now →
         Going pace round old_states old_board old_told (set states place state_now) now told_now new (passed + 1) count
     going-step len is_state =
-        let marks = map (told_as state.entry) (settle_entry pace round state board).marks in
+        let settlements = map (told_as state.entry) (settle_entry pace round state board).settlements in
         let rest : Ran =
-        run_from pace round (suc place) (set states place (after_marks state (settle_entry pace round state board).marks))
+        run_from pace round (suc place) (set states place (after_settling state (settle_entry pace round state board).settlements))
         (settle_entry pace round state board).board in
         record {
           from = suc place;
@@ -300,7 +300,7 @@ module _ (pace : Pace) (round : ℕ) (old_states : List EntryState) (old_board :
           same_board = ap (λ ran. ran.board) same ∙ sym (ap (λ ran. ran.board) step) ∙ g.same_board;
           same_told =
               ap (λ ran. told_now ++ ran.settled) same ∙ ap (λ ts. ts ++ rest.settled) told_is ∙
-              append_assoc told marks rest.settled ∙ sym (ap (λ ran. told ++ ran.settled) step) ∙ g.same_told;
+              append_assoc told settlements rest.settled ∙ sym (ap (λ ran. told ++ ran.settled) step) ∙ g.same_told;
           agenda = record {
             few = omega (arith, length-set states place state_now, g.agenda.few);
             rising = noted_now.rising;

@@ -2,19 +2,19 @@
 use Rattle.std.proofs.Common.{◌≡◌, ℕ, ◌+◌, ◌*◌, ◌&&◌, true, List, [], ◌∷◌, ◌++◌, map, flat_map, Option, Some, None, IfSome, refl, ap, sym, ◌∙◌, inl, inr, subst}
 use Rattle.std.proofs.lemmas.Bool.{cases_Bool, and_parts}
 use Rattle.std.proofs.lemmas.Grind.{flat_map-append}
-use Rattle.us_holes.specs.Boards.{Board, Interval, fits, assign_all, AllFit}
+use Rattle.us_holes.specs.Boards.{Board, Assignment, fits, assign_all, AllFit}
 use Rattle.us_holes.proofs.LawLemmas.{first_of-is, assign_all-append, AllFit-append}
 use Rattle.us_calendar.specs.Entries.{Entry}
 use Rattle.us_calendar.specs.Occurrences.{Pace, is_over, starts_within, due, end_of}
-use Rattle.us_calendar.specs.Settling.{Outcome, EntryState, spot, with_spot, settle_each, settle_entry, told_as}
+use Rattle.us_calendar.specs.Settling.{SettledEntry, EntryState, spot, with_spot, settle_each, settle_entry, told_as}
 use Rattle.us_calendar.specs.Calendars.{Ran, run_entries}
 use Rattle.us_calendar.specs.declared.settled.Settled.{Settled}
-use Rattle.us_calendar.specs.Runs.{intervals_of}
+use Rattle.us_calendar.specs.Runs.{assignments_of}
 use Rattle.us_calendar.proofs.SettleLemmas.{then_settle}
 
 pub record Fitting (before : Board) (told : List Settled) (after : Board) : Type 0 where
-  pub board : after ≡ assign_all before (flat_map intervals_of told)
-  pub fit : AllFit before (flat_map intervals_of told)
+  pub board : after ≡ assign_all before (flat_map assignments_of told)
+  pub fit : AllFit before (flat_map assignments_of told)
 
 nothing_fits : (board : Board) → Fitting board [] board
 unfolding assign_all AllFit
@@ -28,11 +28,11 @@ spot_fits pace round e n board (Some at) is =
     is in
     (and_parts (starts_within pace.time e n (round * pace.len + at)) (fits board e.slots at) first.passing).1
 
-one_fits : (pace : Pace) (round : ℕ) (e : Entry) (n : ℕ) (found : Option ℕ) (board : Board) (rest : Board → Outcome) →
+one_fits : (pace : Pace) (round : ℕ) (e : Entry) (n : ℕ) (found : Option ℕ) (board : Board) (rest : Board → SettledEntry) →
     IfSome found (λ at. fits board e.slots at ≡ true) →
-    Fitting (with_spot e found board) (map (told_as e) (rest (with_spot e found board)).marks)
+    Fitting (with_spot e found board) (map (told_as e) (rest (with_spot e found board)).settlements)
     (rest (with_spot e found board)).board →
-    Fitting board (map (told_as e) (then_settle pace round e n found rest board).marks)
+    Fitting board (map (told_as e) (then_settle pace round e n found rest board).settlements)
     (then_settle pace round e n found rest board).board
 unfolding assign_all AllFit
 one_fits pace round e n (Some at) board rest fit others = record { board = others.board; fit = (fit, others.fit) }
@@ -42,7 +42,7 @@ one_fits pace round e n None board rest fit others = elim (cases_Bool (is_over p
 ]
 
 each_fits : (pace : Pace) (round : ℕ) (e : Entry) (ns : List ℕ) (board : Board) →
-    Fitting board (map (told_as e) (settle_each pace round e ns board).marks) (settle_each pace round e ns board).board
+    Fitting board (map (told_as e) (settle_each pace round e ns board).settlements) (settle_each pace round e ns board).board
 unfolding settle_each
 each_fits pace round e [] board = nothing_fits board
 each_fits pace round e (n ∷ ns) board =
@@ -51,7 +51,7 @@ each_fits pace round e (n ∷ ns) board =
     (each_fits pace round e ns (with_spot e found board))
 
 pub state_fits : (pace : Pace) (round : ℕ) (state : EntryState) (board : Board) →
-    Fitting board (map (told_as state.entry) (settle_entry pace round state board).marks)
+    Fitting board (map (told_as state.entry) (settle_entry pace round state board).settlements)
     (settle_entry pace round state board).board
 unfolding settle_entry
 state_fits pace round state board =
@@ -60,9 +60,9 @@ state_fits pace round state board =
 both_fit : (before middle after : Board) (one other : List Settled) → Fitting before one middle →
     Fitting middle other after → Fitting before (one ++ other) after
 both_fit before middle after one other f g =
-    let first : List Interval = flat_map intervals_of one in
-    let second : List Interval = flat_map intervals_of other in
-    let split = flat_map-append intervals_of one other in
+    let first : List Assignment = flat_map assignments_of one in
+    let second : List Assignment = flat_map assignments_of other in
+    let split = flat_map-append assignments_of one other in
     record {
       board = g.board ∙ ap (λ b. assign_all b second) f.board ∙ sym (assign_all-append before first second) ∙
           ap (assign_all before) (sym split);
@@ -75,15 +75,15 @@ run_fits : (pace : Pace) (round : ℕ) (states : List EntryState) (board : Board
 unfolding run_entries
 run_fits pace round [] board = nothing_fits board
 run_fits pace round (state ∷ states) board =
-    let one : Outcome = settle_entry pace round state board in
+    let one : SettledEntry = settle_entry pace round state board in
     let rest : Ran = run_entries pace round states one.board in
-    both_fit board one.board rest.board (map (told_as state.entry) one.marks) rest.settled
+    both_fit board one.board rest.board (map (told_as state.entry) one.settlements) rest.settled
     (state_fits pace round state board) (run_fits pace round states one.board)
 
 pub grants_fit : (pace : Pace) (round : ℕ) (states : List EntryState) (board : Board) →
     ((run_entries pace round states board).board ≡
-    assign_all board (flat_map intervals_of (run_entries pace round states board).settled))
-    × AllFit board (flat_map intervals_of (run_entries pace round states board).settled)
+    assign_all board (flat_map assignments_of (run_entries pace round states board).settled))
+    × AllFit board (flat_map assignments_of (run_entries pace round states board).settled)
 grants_fit pace round states board =
     let fitting = run_fits pace round states board in
     (fitting.board, fitting.fit)

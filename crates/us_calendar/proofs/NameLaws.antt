@@ -6,7 +6,7 @@ use Rattle.us_flows.proofs.TurnLemmas.{all-append}
 use Rattle.us_holes.specs.Boards.{Board}
 use Rattle.us_calendar.specs.Entries.{Entry}
 use Rattle.us_calendar.specs.Occurrences.{Pace}
-use Rattle.us_calendar.specs.Settling.{Mark, Outcome, EntryState, settle_entry, told_as}
+use Rattle.us_calendar.specs.Settling.{Settlement, SettledEntry, EntryState, settle_entry, told_as}
 use Rattle.us_calendar.specs.Calendars.{Calendar, Ran, run_entries, after}
 use Rattle.us_calendar.specs.Runs.{Round, rounds_on, grants, misses, IsOccurrence}
 use Rattle.us_calendar.proofs.OnceLemmas.{own_name}
@@ -17,13 +17,13 @@ named : (e : Entry) (n : ℕ) (start : Option ℕ) →
 named e n None = rw (own_name e n n refl) refl
 named e n (Some at) = rw (own_name e n n refl) refl
 
--- what is told of an entry's marks
-marks_told : (es : List Entry) (e : Entry) (marks : List Mark) → Contains es e →
-    AllByRecursion (IsOccurrence es) (map (told_as e) marks)
-marks_told es e [] among = tt
-marks_told es e (m ∷ marks) among = (
+-- what is told of an entry's settlements
+settlements_told : (es : List Entry) (e : Entry) (settlements : List Settlement) → Contains es e →
+    AllByRecursion (IsOccurrence es) (map (told_as e) settlements)
+settlements_told es e [] among = tt
+settlements_told es e (m ∷ settlements) among = (
   record { entry = e; among = among; number = m.number; named = named e m.number m.start },
-  marks_told es e marks among,
+  settlements_told es e settlements among,
 )
 
 -- the states of a calendar are of these entries
@@ -35,10 +35,10 @@ run_told : (es : List Entry) (pace : Pace) (round : ℕ) (states : List EntrySta
 unfolding run_entries
 run_told es pace round [] board of = tt
 run_told es pace round (state ∷ states) board of =
-    let one : Outcome = settle_entry pace round state board in
+    let one : SettledEntry = settle_entry pace round state board in
     let rest : Ran = run_entries pace round states one.board in
-    all-append (IsOccurrence es) (map (told_as state.entry) one.marks) rest.settled
-    (marks_told es state.entry one.marks of.0) (run_told es pace round states one.board of.1)
+    all-append (IsOccurrence es) (map (told_as state.entry) one.settlements) rest.settled
+    (settlements_told es state.entry one.settlements of.0) (run_told es pace round states one.board of.1)
 
 states_stay : (es : List Entry) (pace : Pace) (round : ℕ) (states : List EntryState) (board : Board) → AreStatesOf es states →
     AreStatesOf es (run_entries pace round states board).states

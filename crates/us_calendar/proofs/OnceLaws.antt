@@ -12,9 +12,9 @@ use Rattle.us_holes.specs.Boards.{Board, assign_all}
 use Rattle.us_holes.proofs.LawLemmas.{assign_all-append}
 use Rattle.us_calendar.specs.Entries.{Entry, rank_of, goes_before}
 use Rattle.us_calendar.specs.Occurrences.{Pace, end_of}
-use Rattle.us_calendar.specs.Settling.{Mark, Outcome, EntryState, spot, settle_entry, after_marks, told_as}
+use Rattle.us_calendar.specs.Settling.{Settlement, SettledEntry, EntryState, spot, settle_entry, after_settling, told_as}
 use Rattle.us_calendar.specs.Calendars.{Ran, run_entries}
-use Rattle.us_calendar.specs.Runs.{Round, rounds_on, grants, misses, is_earlier, has_turn_before, intervals_of, times, window_end, end_after, board_at_turn, IsRight, IsSettledOnce}
+use Rattle.us_calendar.specs.Runs.{Round, rounds_on, grants, misses, is_earlier, has_turn_before, assignments_of, times, window_end, end_after, board_at_turn, IsRight, IsSettledOnce}
 use Rattle.us_calendar.specs.declared.settled.Settled.{Settled}
 use Rattle.us_calendar.specs.declared.settled.Settled.TheVariants as told
 use Rattle.us_calendar.specs.Kept.{state_from}
@@ -97,7 +97,7 @@ module _ (pace : Pace) (e : Entry) (n : ℕ) where
 
   other_told : (a : Entry) (earlier : Bool) → ((x y : Bool) →
       ((rank_of a.kind == rank_of e.kind) && (a.id == e.id) && x && y) ≡ false) → ((number : ℕ) →
-      has_turn_before e n (rank_of a.kind) a.id number ≡ earlier) → (m : Mark) → IsOther earlier (told_as a m)
+      has_turn_before e n (rank_of a.kind) a.id number ≡ earlier) → (m : Settlement) → IsOther earlier (told_as a m)
   other_told a earlier named turn m = by m.start
     where
       by : (start : Option ℕ) → IsOther earlier (told_as a (record { number = m.number; start = start }))
@@ -112,7 +112,7 @@ module _ (pace : Pace) (e : Entry) (n : ℕ) where
         turn (m.number / a.grants * e.grants + m.number % a.grants),
       )
 
-  told_before : (a : Entry) → goes_before a e ≡ true → (m : Mark) → IsOther true (told_as a m)
+  told_before : (a : Entry) → goes_before a e ≡ true → (m : Settlement) → IsOther true (told_as a m)
   told_before a h =
       let parts = first_parts (rank_of a.kind) a.id (rank_of e.kind) e.id h in
       other_told a true (λ x y. nameless (rank_of a.kind) a.id (rank_of e.kind) e.id x y (λ same. elim parts [
@@ -120,7 +120,7 @@ module _ (pace : Pace) (e : Entry) (n : ℕ) where
         | inr less ↦ omega (arith, less.1, same.1)
       ])) (λ number. turn_before (rank_of a.kind) a.id (rank_of e.kind) e.id (nat_lt number n) parts)
 
-  told_behind : (a : Entry) → goes_before e a ≡ true → (m : Mark) → IsOther false (told_as a m)
+  told_behind : (a : Entry) → goes_before e a ≡ true → (m : Settlement) → IsOther false (told_as a m)
   told_behind a h =
       let parts = first_parts (rank_of e.kind) e.id (rank_of a.kind) a.id h in
       other_told a false (λ x y. nameless (rank_of a.kind) a.id (rank_of e.kind) e.id x y (λ same. elim parts [
@@ -189,7 +189,7 @@ module _ (pace : Pace) (e : Entry) (n : ℕ) where
         }
 
     behind_others : (first next : ℕ) (board after : Board) (others told : List Settled) →
-        AllByRecursion (IsOther true) others → after ≡ assign_all board (flat_map intervals_of others) →
+        AllByRecursion (IsOther true) others → after ≡ assign_all board (flat_map assignments_of others) →
         InRound pace r e n first next after told → InRound pace r e n first next board (others ++ told)
     behind_others first next board after others told all after_is of =
         let earlier : List Settled = filter (is_earlier e n) told in
@@ -199,10 +199,10 @@ module _ (pace : Pace) (e : Entry) (n : ℕ) where
         let missed_none = none_missed true others all in
         let kept : filter (is_earlier e n) (others ++ told) ≡ others ++ earlier =
         filter-append (is_earlier e n) others told ∙ ap (λ ss. ss ++ earlier) (all_earlier others all) in
-        let board_is = ap (λ ss. assign_all board (flat_map intervals_of ss)) kept ∙
-        ap (assign_all board) (flat_map-append intervals_of others earlier) ∙
-        assign_all-append board (flat_map intervals_of others) (flat_map intervals_of earlier) ∙
-        ap (λ b. assign_all b (flat_map intervals_of earlier)) (sym after_is) in
+        let board_is = ap (λ ss. assign_all board (flat_map assignments_of ss)) kept ∙
+        ap (assign_all board) (flat_map-append assignments_of others earlier) ∙
+        assign_all-append board (flat_map assignments_of others) (flat_map assignments_of earlier) ∙
+        ap (λ b. assign_all b (flat_map assignments_of earlier)) (sym after_is) in
         beside first next after board told (others ++ told) (omega (arith, granted, granted_none))
         (omega (arith, missed, missed_none)) board_is
         (λ right. all-append (IsRight pace r e n (met pace r e n board (others ++ told))) others told
@@ -221,7 +221,7 @@ module _ (pace : Pace) (e : Entry) (n : ℕ) where
         filter-append (is_earlier e n) told others ∙ ap (λ ss. earlier ++ ss) (none_earlier others all) ∙
         append-nil earlier in
         beside first next board board told (told ++ others) (omega (arith, granted, granted_none))
-        (omega (arith, missed, missed_none)) (ap (λ ss. assign_all board (flat_map intervals_of ss)) kept)
+        (omega (arith, missed, missed_none)) (ap (λ ss. assign_all board (flat_map assignments_of ss)) kept)
         (λ right. all-append (IsRight pace r e n (met pace r e n board (told ++ others))) told others right
         (others_right false (met pace r e n board (told ++ others)) others all)) of
 
@@ -230,10 +230,10 @@ module _ (pace : Pace) (e : Entry) (n : ℕ) where
     unfolding run_entries
     run_behind [] board all = tt
     run_behind (state ∷ states) board all =
-        let one : Outcome = settle_entry pace r state board in
+        let one : SettledEntry = settle_entry pace r state board in
         let rest : Ran = run_entries pace r states one.board in
-        all-append (IsOther false) (map (told_as state.entry) one.marks) rest.settled
-        (all_mapped (IsOther false) (told_as state.entry) one.marks (told_behind state.entry all.0))
+        all-append (IsOther false) (map (told_as state.entry) one.settlements) rest.settled
+        (all_mapped (IsOther false) (told_as state.entry) one.settlements (told_behind state.entry all.0))
         (run_behind states one.board all.1)
 
     -- a round of all entries
@@ -249,28 +249,28 @@ module _ (pace : Pace) (e : Entry) (n : ℕ) where
     run_round [] p first board is fresh ordered at = let never : None ≡ Some (state_from e first) = at in cc
     run_round (state ∷ states) zero first board is fresh ordered at =
         let same : state ≡ state_from e first = the_some state (state_from e first) at in
-        let one : Outcome = settle_entry pace r (state_from e first) board in
+        let one : SettledEntry = settle_entry pace r (state_from e first) board in
         let turn = own_round pace r e n (end_of pace r * e.grants) first board is fresh (omega arith) in
         let others = run_behind states one.board
         (subst (λ x. AllByRecursion (λ d. goes_before x.entry d ≡ true) (entries_of states)) same ordered.0) in
-        let now : Some (after_marks (state_from e first) one.marks) ≡ Some (state_from e turn.0) =
+        let now : Some (after_settling (state_from e first) one.settlements) ≡ Some (state_from e turn.0) =
         ap (λ settled. Some (record { entry = e; settled = settled })) turn.1 in
         subst (λ x. RoundOf zero (x ∷ states) first board) (sym same) (
           turn.0,
           now,
-          before_others first turn.0 board (map (told_as e) one.marks)
+          before_others first turn.0 board (map (told_as e) one.settlements)
               (run_entries pace r states one.board).settled others turn.2.of,
         )
     run_round (state ∷ states) (suc p) first board is fresh ordered at =
-        let one : Outcome = settle_entry pace r state board in
+        let one : SettledEntry = settle_entry pace r state board in
         let rest = run_round states p first one.board is fresh ordered.1 at in
         let before = at_place (λ d. goes_before state.entry d ≡ true) (entries_of states) p e ordered.0
         (mapped_at (λ x. x.entry) states p (state_from e first) at) in (
           rest.0,
           rest.1,
-          behind_others first rest.0 board one.board (map (told_as state.entry) one.marks)
+          behind_others first rest.0 board one.board (map (told_as state.entry) one.settlements)
               (run_entries pace r states one.board).settled
-              (all_mapped (IsOther true) (told_as state.entry) one.marks (told_before state.entry before))
+              (all_mapped (IsOther true) (told_as state.entry) one.settlements (told_before state.entry before))
               (state_fits pace r state board).board rest.2,
         )
 

@@ -9,8 +9,8 @@ use Rattle.us_holes.specs.Boards.{Board, fits, assign_all}
 use Rattle.us_holes.proofs.LawLemmas.{first_of-is, assign_all-append}
 use Rattle.us_calendar.specs.Entries.{Entry, rank_of}
 use Rattle.us_calendar.specs.Occurrences.{Pace, ideal, starts_within, end_of, is_over}
-use Rattle.us_calendar.specs.Settling.{Mark, Outcome, spot, mark, with_spot, told_as}
-use Rattle.us_calendar.specs.Runs.{grants, misses, is_name, is_earlier, has_turn_before, intervals_of, window_end, end_after, IsRight}
+use Rattle.us_calendar.specs.Settling.{Settlement, SettledEntry, spot, settlement, with_spot, told_as}
+use Rattle.us_calendar.specs.Runs.{grants, misses, is_name, is_earlier, has_turn_before, assignments_of, window_end, end_after, IsRight}
 use Rattle.us_calendar.specs.declared.settled.Settled.{Settled}
 use Rattle.us_calendar.specs.Kept.{settle_from}
 use Rattle.us_calendar.proofs.IdealLemmas.{HasWindows, ideal-rises, number-below}
@@ -67,7 +67,7 @@ module _ (pace : Pace) (r : ℕ) (e : Entry) (n : ℕ) where
   counted told = count_by (grants e n) told + count_by (misses e n) told
 
   abbrev pub met : Board → List Settled → Board
-  met board told = assign_all board (flat_map intervals_of (filter (is_earlier e n) told))
+  met board told = assign_all board (flat_map assignments_of (filter (is_earlier e n) told))
 
   -- what a round told of occurrence `n`, where the first ones up to `first` were settled before it, and those up to
   -- `next` are behind it
@@ -92,7 +92,7 @@ module _ (pace : Pace) (r : ℕ) (e : Entry) (n : ℕ) where
     pub here : n ≡ first → one_if (grants e n one) + one_if (misses e n one) ≡ 1
     pub away : (n ≡ first → ⊥) → (grants e n one ≡ false) × (misses e n one ≡ false)
     pub earlier : is_earlier e n one ≡ nat_lt first n
-    pub leaves : after ≡ assign_all board (intervals_of one)
+    pub leaves : after ≡ assign_all board (assignments_of one)
     pub right : n ≡ first → IsRight pace r e n board one
     pub any : (n ≡ first → ⊥) → (b : Board) → IsRight pace r e n b one
     pub room : n ≡ first → grants e n one ≡ false → spot pace r e n board ≡ None
@@ -163,13 +163,13 @@ module _ (pace : Pace) (r : ℕ) (e : Entry) (n : ℕ) where
 
     met_here : n ≤ first → met board (one ∷ rest) ≡ board
     unfolding assign_all
-    met_here h = ap (λ told. assign_all board (flat_map intervals_of told)) (kept_out h)
+    met_here h = ap (λ told. assign_all board (flat_map assignments_of told)) (kept_out h)
 
     met_later : first < n → met board (one ∷ rest) ≡ met after rest
     met_later h =
         rw (head.earlier ∙ lt-ltb first n h)
-        (assign_all-append board (intervals_of one) (flat_map intervals_of (filter (is_earlier e n) rest)) ∙
-        ap (λ b. assign_all b (flat_map intervals_of (filter (is_earlier e n) rest))) (sym head.leaves))
+        (assign_all-append board (assignments_of one) (flat_map assignments_of (filter (is_earlier e n) rest)) ∙
+        ap (λ b. assign_all b (flat_map assignments_of (filter (is_earlier e n) rest))) (sym head.leaves))
 
     granted_is : count_by (grants e n) (one ∷ rest) ≡ one_if (grants e n one) + count_by (grants e n) rest
     granted_is = count-granted one rest
@@ -298,35 +298,35 @@ module _ (pace : Pace) (r : ℕ) (e : Entry) (n : ℕ) where
   abbrev Turn : ℕ → Board → Type 0
   Turn first board =
       (next : ℕ) ×
-      (range_with_len 0 first ++ numbers_of (settle_from pace r e first board).marks ≡ range_with_len 0 next) ×
-      OwnRound first next board (map (told_as e) (settle_from pace r e first board).marks)
+      (range_with_len 0 first ++ numbers_of (settle_from pace r e first board).settlements ≡ range_with_len 0 next) ×
+      OwnRound first next board (map (told_as e) (settle_from pace r e first board).settlements)
 
   halt : (first : ℕ) (board : Board) → settle_from pace r e first board ≡ nothing board → OwnRound first first board [] →
       Turn first board
   halt first board last round = (
     first,
     stop_here pace r e first board last,
-    subst (λ (o : Outcome). OwnRound first first board (map (told_as e) o.marks)) (sym last) round,
+    subst (λ (o : SettledEntry). OwnRound first first board (map (told_as e) o.settlements)) (sym last) round,
   )
 
-  go : (first : ℕ) (board : Board) (found : Option ℕ) (one : Mark) → HasWindows e → ideal e first < end_of pace r →
-      spot pace r e first board ≡ found → mark pace r e first found ≡ one ∷ [] → one.number ≡ first →
+  go : (first : ℕ) (board : Board) (found : Option ℕ) (one : Settlement) → HasWindows e → ideal e first < end_of pace r →
+      spot pace r e first board ≡ found → settlement pace r e first found ≡ one ∷ [] → one.number ≡ first →
       Head first board (told_as e one) (with_spot e found board) → Turn (first + 1) (with_spot e found board) →
       Turn first board
-  go first board found one is due found_is marked number head rest =
+  go first board found one is due found_is settled_so number head rest =
       let after : Board = with_spot e found board in
-      let others : Outcome = settle_from pace r e (first + 1) after in
-      let told : List Settled = map (told_as e) others.marks in
+      let others : SettledEntry = settle_from pace r e (first + 1) after in
+      let told : List Settled = map (told_as e) others.settlements in
       let last : settle_from pace r e first board ≡
       then_settle pace r e first found (settle_from pace r e (first + 1)) board =
       settle-next pace r e first board is due ∙
       ap (λ f. then_settle pace r e first f (settle_from pace r e (first + 1)) board) found_is in
-      let marks : (settle_from pace r e first board).marks ≡ one ∷ others.marks =
-      ap (λ (o : Outcome). o.marks) last ∙ ap (λ ms. ms ++ others.marks) marked in (
+      let settlements : (settle_from pace r e first board).settlements ≡ one ∷ others.settlements =
+      ap (λ (o : SettledEntry). o.settlements) last ∙ ap (λ ms. ms ++ others.settlements) settled_so in (
         rest.0,
         numbers_on pace r e first board found is due found_is
-            (ap numbers_of marked ∙ ap (λ m. m ∷ []) number) ∙ rest.1,
-        subst (λ ms. OwnRound first rest.0 board (map (told_as e) ms)) (sym marks)
+            (ap numbers_of settled_so ∙ ap (λ m. m ∷ []) number) ∙ rest.1,
+        subst (λ ms. OwnRound first rest.0 board (map (told_as e) ms)) (sym settlements)
             (step first rest.0 board after (told_as e one) told head rest.2),
       )
 

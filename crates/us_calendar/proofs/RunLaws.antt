@@ -10,16 +10,16 @@ use Rattle.us_holes.proofs.LawLemmas.{first_of-is}
 use Rattle.us_flows.proofs.TurnLemmas.{all-append}
 use Rattle.us_calendar.specs.Entries.{Entry}
 use Rattle.us_calendar.specs.Occurrences.{Pace, is_over, starts_within, due, end_of}
-use Rattle.us_calendar.specs.Settling.{Outcome, EntryState, spot, with_spot, settle_each, settle_entry, after_marks, told_as}
+use Rattle.us_calendar.specs.Settling.{SettledEntry, EntryState, spot, with_spot, settle_each, settle_entry, after_settling, told_as}
 use Rattle.us_calendar.specs.Calendars.{Calendar, Ran, run_entries, StartsInside, granted_in, one_if_granted}
 use Rattle.us_calendar.specs.declared.settled.Settled.{Settled}
 use Rattle.us_calendar.specs.Kept.{IsEntryState, IsKept, IsAgenda}
 use Rattle.us_calendar.proofs.SettleLemmas.{then_settle}
 
 -- of what one entry is granted and misses
-record Told (len : ℕ) (e : Entry) (before : Board) (one : Outcome) : Type 0 where
-  pub inside : AllByRecursion (StartsInside len) (map (told_as e) one.marks)
-  pub granted : granted_in (map (told_as e) one.marks) + before.standing ≡ one.board.standing
+record Told (len : ℕ) (e : Entry) (before : Board) (one : SettledEntry) : Type 0 where
+  pub inside : AllByRecursion (StartsInside len) (map (told_as e) one.settlements)
+  pub granted : granted_in (map (told_as e) one.settlements) + before.standing ≡ one.board.standing
 
 spot_inside : (pace : Pace) (round : ℕ) (e : Entry) (n : ℕ) (board : Board) (found : Option ℕ) →
     spot pace round e n board ≡ found → IfSome found (λ at. at < pace.len)
@@ -28,18 +28,18 @@ spot_inside pace round e n board (Some at) is =
     let first = (first_of-is (λ i. starts_within pace.time e n (round * pace.len + i) && fits board e.slots i) 0 pace.len at is).below in
     omega (arith, first)
 
-one_told : (pace : Pace) (round : ℕ) (e : Entry) (n : ℕ) (found : Option ℕ) (board : Board) (rest : Board → Outcome) →
+one_told : (pace : Pace) (round : ℕ) (e : Entry) (n : ℕ) (found : Option ℕ) (board : Board) (rest : Board → SettledEntry) →
     IfSome found (λ at. at < pace.len) → Told pace.len e (with_spot e found board) (rest (with_spot e found board)) →
     Told pace.len e board (then_settle pace round e n found rest board)
 one_told pace round e n (Some at) board rest inside told =
     let first : Settled = told_as e (record { number = n; start = Some at }) in
-    let others : List Settled = map (told_as e) (rest (with_spot e (Some at) board)).marks in
+    let others : List Settled = map (told_as e) (rest (with_spot e (Some at) board)).settlements in
     let one = sum_by-cons one_if_granted first others in
     record { inside = (inside, told.inside); granted = omega (arith, one, told.granted) }
 one_told pace round e n None board rest inside told = elim (cases_Bool (is_over pace round e n)) [
   | inl t ↦
       let first : Settled = told_as e (record { number = n; start = None }) in
-      let one = sum_by-cons one_if_granted first (map (told_as e) (rest board).marks) in
+      let one = sum_by-cons one_if_granted first (map (told_as e) (rest board).settlements) in
       rw t (record { inside = (tt, told.inside); granted = omega (arith, one, told.granted) })
   | inr f ↦ rw f told
 ]
@@ -74,22 +74,22 @@ pub run_ended : (pace : Pace) (round : ℕ) (states : List EntryState) (board : 
 unfolding run_entries
 run_ended pace round [] board = record { inside = tt; granted = omega arith; counts = omega arith; many = refl }
 run_ended pace round (state ∷ states) board =
-    let one : Outcome = settle_entry pace round state board in
-    let told : List Settled = map (told_as state.entry) one.marks in
+    let one : SettledEntry = settle_entry pace round state board in
+    let told : List Settled = map (told_as state.entry) one.settlements in
     let rest : Ran = run_entries pace round states one.board in
     let here = state_told pace round state board in
     let others = run_ended pace round states one.board in
     let sum = sum_by-append one_if_granted told rest.settled in
     let long = length-append told rest.settled in
-    let marks = length-map one.marks (told_as state.entry) in
-    let numbers = length-map one.marks (λ m. m.number) in
-    let grown = length-append state.settled (map (λ m. m.number) one.marks) in
+    let settlements = length-map one.settlements (told_as state.entry) in
+    let numbers = length-map one.settlements (λ m. m.number) in
+    let grown = length-append state.settled (map (λ m. m.number) one.settlements) in
     let before = sum_by-cons (λ r. length r.settled) state states in
-    let after = sum_by-cons (λ r. length r.settled) (after_marks state one.marks) rest.states in
+    let after = sum_by-cons (λ r. length r.settled) (after_settling state one.settlements) rest.states in
     record {
       inside = all-append (StartsInside pace.len) told rest.settled here.inside others.inside;
       granted = omega (arith, sum, here.granted, others.granted);
-      counts = omega (arith, long, marks, numbers, grown, before, after, others.counts);
+      counts = omega (arith, long, settlements, numbers, grown, before, after, others.counts);
       many = omega (arith, others.many);
     }
 

@@ -4,7 +4,7 @@ use Rattle.std.proofs.Math.ListN.{set}
 use Rattle.std.proofs.lemmas.List.{append-nil}
 use Rattle.us_holes.specs.Boards.{Board}
 use Rattle.us_calendar.specs.Occurrences.{Pace}
-use Rattle.us_calendar.specs.Settling.{EntryState, Outcome, settle_each, settle_entry, after_marks, told_as}
+use Rattle.us_calendar.specs.Settling.{EntryState, SettledEntry, settle_each, settle_entry, after_settling, told_as}
 use Rattle.us_calendar.specs.Calendars.{Ran, run_entries}
 use Rattle.us_calendar.specs.Kept.{IsQuiet}
 use Rattle.us_calendar.proofs.SettleLemmas.{nothing}
@@ -29,13 +29,13 @@ module _ (pace : Pace) (round : ℕ) where
   run_from (suc skip) (state ∷ states) board = before_states state (run_from skip states board)
 
   -- what one entry comes to, before the others
-  abbrev then_run : EntryState → Outcome → (Board → Ran) → Ran
+  abbrev then_run : EntryState → SettledEntry → (Board → Ran) → Ran
   then_run state one rest =
       let ran : Ran = rest one.board in
       record {
-        states = after_marks state one.marks ∷ ran.states;
+        states = after_settling state one.settlements ∷ ran.states;
         board = ran.board;
-        settled = map (told_as state.entry) one.marks ++ ran.settled;
+        settled = map (told_as state.entry) one.settlements ++ ran.settled;
       }
 
   run_entries-cons : (state : EntryState) (states : List EntryState) (board : Board) →
@@ -93,12 +93,12 @@ module _ (pace : Pace) (round : ℕ) where
   -- and the next one has its turn
   pub run_step : (p : ℕ) (states : List EntryState) (state : EntryState) (board : Board) → slice_get states p ≡ Some state →
       run_from p states board ≡
-      (let one : Outcome = settle_entry pace round state board in
-      let rest : Ran = run_from (suc p) (set states p (after_marks state one.marks)) one.board in
+      (let one : SettledEntry = settle_entry pace round state board in
+      let rest : Ran = run_from (suc p) (set states p (after_settling state one.settlements)) one.board in
       record {
         states = rest.states;
         board = rest.board;
-        settled = map (told_as state.entry) one.marks ++ rest.settled;
+        settled = map (told_as state.entry) one.settlements ++ rest.settled;
       })
   run_step zero [] state board is = let never : None ≡ Some state = is in cc
   run_step zero (first ∷ states) state board is =

@@ -6,7 +6,7 @@ use Rattle.us_flows.specs.Tables.{Tables, map_len}
 use Rattle.us_holes.specs.Boards.{Board}
 use Rattle.us_calendar.specs.Entries.{entries}
 use Rattle.us_calendar.specs.Occurrences.{Pace}
-use Rattle.us_calendar.specs.Settling.{EntryState, Outcome, settle_entry, after_marks, told_as}
+use Rattle.us_calendar.specs.Settling.{EntryState, SettledEntry, settle_entry, after_settling, told_as}
 use Rattle.us_calendar.specs.declared.settled.Settled.{Settled}
 use Rattle.us_calendar.specs.declared.settled.Settled.TheVariants as told
 
@@ -37,12 +37,12 @@ pub record Ran : Type 0 where
 unfoldable pub run_entries : Pace → ℕ → List EntryState → Board → Ran
 run_entries pace round [] board = record { states = []; board = board; settled = [] }
 run_entries pace round (state ∷ more) board =
-    let one : Outcome = settle_entry pace round state board in
+    let one : SettledEntry = settle_entry pace round state board in
     let rest : Ran = run_entries pace round more one.board in
     record {
-      states = after_marks state one.marks ∷ rest.states;
+      states = after_settling state one.settlements ∷ rest.states;
       board = rest.board;
-      settled = map (told_as state.entry) one.marks ++ rest.settled;
+      settled = map (told_as state.entry) one.settlements ++ rest.settled;
     }
 
 -- the round of a calendar on a board

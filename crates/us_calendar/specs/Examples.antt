@@ -3,7 +3,7 @@ use Rattle.std.specs.Prelude.{◌≡◌, ℕ, [], ◌∷◌, Some, None, refl}
 use Rattle.us_holes.specs.Boards.{Owner, Board, empty_board, assign, first_of}
 use Rattle.us_calendar.specs.Entries.{Entry, in_order}
 use Rattle.us_calendar.specs.Occurrences.{Pace, due}
-use Rattle.us_calendar.specs.Settling.{EntryState, Mark, settle_each, settle_entry}
+use Rattle.us_calendar.specs.Settling.{EntryState, Settlement, settle_each, settle_entry}
 use Rattle.us_calendar.specs.Calendars.{Calendar, run_entries}
 use Rattle.us_calendar.specs.Runs.{rounds_on, times, grants, misses}
 use Rattle.us_calendar.specs.declared.kinds.Kind.{Kind}
@@ -35,37 +35,37 @@ state start jitter grants = record { entry = entry start jitter grants; settled 
 abbrev idle : Board
 idle = empty_board 4
 
-abbrev granted : ℕ → ℕ → Mark
+abbrev granted : ℕ → ℕ → Settlement
 granted number start = record { number = number; start = Some start }
 
-abbrev missed : ℕ → Mark
+abbrev missed : ℕ → Settlement
 missed number = record { number = number; start = None }
 
 -- a window in which no minislot starts
-no_start : (settle_entry pace 0 (state 1 0 1) idle).marks ≡ missed 0 ∷ []
+no_start : (settle_entry pace 0 (state 1 0 1) idle).settlements ≡ missed 0 ∷ []
 unfolding settle_entry settle_each due first_of
 no_start = refl
 
 -- one that goes on behind the round: it waits, and the next round grants it the first minislot
-waits : (settle_entry pace 0 (state 90 20 1) idle).marks ≡ []
+waits : (settle_entry pace 0 (state 90 20 1) idle).settlements ≡ []
 unfolding settle_entry settle_each due first_of
 waits = refl
 
-granted_later : (settle_entry pace 1 (state 90 20 1) idle).marks ≡ granted 0 0 ∷ []
+granted_later : (settle_entry pace 1 (state 90 20 1) idle).settlements ≡ granted 0 0 ∷ []
 unfolding settle_entry settle_each due first_of
 granted_later = refl
 
 -- the window ends, and its minislots were all taken
-taken_before : (settle_entry pace 0 (state 0 30 1) (assign idle 0 2 grant)).marks ≡ missed 0 ∷ []
+taken_before : (settle_entry pace 0 (state 0 30 1) (assign idle 0 2 grant)).settlements ≡ missed 0 ∷ []
 unfolding settle_entry settle_each due first_of
 taken_before = refl
 
 -- a window that ends just where round 0 does isn't over in that round: it waits, and is missed in the next one
-ends_with_round : (settle_entry pace 0 (state 80 20 1) (assign idle 0 4 grant)).marks ≡ []
+ends_with_round : (settle_entry pace 0 (state 80 20 1) (assign idle 0 4 grant)).settlements ≡ []
 unfolding settle_entry settle_each due first_of
 ends_with_round = refl
 
-missed_later : (settle_entry pace 1 (state 80 20 1) (assign idle 0 4 grant)).marks ≡ missed 0 ∷ []
+missed_later : (settle_entry pace 1 (state 80 20 1) (assign idle 0 4 grant)).settlements ≡ missed 0 ∷ []
 unfolding settle_entry settle_each due first_of
 missed_later = refl
 
@@ -82,13 +82,13 @@ unfolding run_entries settle_entry settle_each due first_of
 never = refl
 
 -- three grants of an interval for which there are two minislots
-some_missed : (settle_entry pace 0 (state 0 75 3) (assign idle 0 2 grant)).marks ≡
+some_missed : (settle_entry pace 0 (state 0 75 3) (assign idle 0 2 grant)).settlements ≡
     granted 0 2 ∷ granted 1 3 ∷ missed 2 ∷ []
 unfolding settle_entry settle_each due first_of
 some_missed = refl
 
 -- and none where as many assignments stand as there may be
-none_more : (settle_entry pace 0 (state 0 75 1) (record { cells = idle.cells; standing = 100 })).marks ≡ missed 0 ∷ []
+none_more : (settle_entry pace 0 (state 0 75 1) (record { cells = idle.cells; standing = 100 })).settlements ≡ missed 0 ∷ []
 unfolding settle_entry settle_each due first_of
 none_more = refl
 

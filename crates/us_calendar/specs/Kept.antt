@@ -6,7 +6,7 @@ use Rattle.us_slots.specs.Times.{minislot_ticks, IsTiming}
 use Rattle.us_holes.specs.Boards.{Board, IsOwner}
 use Rattle.us_calendar.specs.Entries.{Entry}
 use Rattle.us_calendar.specs.Occurrences.{Pace, end_of, due}
-use Rattle.us_calendar.specs.Settling.{EntryState, Outcome, settle_entry}
+use Rattle.us_calendar.specs.Settling.{EntryState, SettledEntry, settle_entry}
 use Rattle.us_calendar.specs.Calendars.{Calendar, IsCalendar}
 
 -- a MAP has a minislot at least, and at most 4,096 ticks
@@ -39,7 +39,7 @@ pub record IsEntryState (state : EntryState) : Type 0 where
 abbrev pub state_from : Entry → ℕ → EntryState
 state_from e next = record { entry = e; settled = range_with_len 0 next }
 
-abbrev pub settle_from : Pace → ℕ → Entry → ℕ → Board → Outcome
+abbrev pub settle_from : Pace → ℕ → Entry → ℕ → Board → SettledEntry
 settle_from pace round e next board = settle_entry pace round (state_from e next) board
 
 -- nothing of an entry is due in a round

@@ -2,7 +2,7 @@
 use Rattle.std.specs.Prelude.{◌≡◌, ℕ, ◌+◌, ◌*◌, ◌/◌, ◌%◌, ◌<◌, ◌≤◌, ◌==◌, nat_lt, ◌&&◌, ◌||◌, Bool, true, false, List, [], ◌∷◌, length, flat_map, filter, take, sum_by, count_by, slice_get, Some, None}
 use Rattle.std.specs.List.{AllByRecursion, Contains}
 use Rattle.us_slots.specs.Times.{start_of}
-use Rattle.us_holes.specs.Boards.{Board, Interval, fits, assign_all}
+use Rattle.us_holes.specs.Boards.{Board, Assignment, fits, assign_all}
 use Rattle.us_calendar.specs.Entries.{Entry, rank_of}
 use Rattle.us_calendar.specs.Occurrences.{Pace, ideal, starts_within}
 use Rattle.us_calendar.specs.Settling.{spot}
@@ -65,13 +65,13 @@ is_earlier e n (told.Granted kind id i k start slots owner) = has_turn_before e 
 is_earlier e n (told.Missed kind id i k) = has_turn_before e n (rank_of kind) id (i * e.grants + k)
 
 -- the minislots of what is granted
-abbrev pub intervals_of : Settled → List Interval
-intervals_of (told.Granted kind id i k start slots owner) = record { start = start; slots = slots; owner = owner } ∷ []
-intervals_of (told.Missed kind id i k) = []
+abbrev pub assignments_of : Settled → List Assignment
+assignments_of (told.Granted kind id i k start slots owner) = record { start = start; slots = slots; owner = owner } ∷ []
+assignments_of (told.Missed kind id i k) = []
 
 -- the board of a round when an occurrence has its turn
 abbrev pub board_at_turn : Entry → ℕ → Round → Board
-board_at_turn e n round = assign_all round.board (flat_map intervals_of (filter (is_earlier e n) round.settled))
+board_at_turn e n round = assign_all round.board (flat_map assignments_of (filter (is_earlier e n) round.settled))
 
 -- Where round `r` grants an occurrence, it starts in its window, with the minislots and the owner of its entry, and fits
 -- on the board that it met. Where the round misses it, its window ends in that round.

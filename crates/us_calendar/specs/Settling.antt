@@ -7,7 +7,7 @@ use Rattle.us_calendar.specs.declared.settled.Settled.{Settled}
 use Rattle.us_calendar.specs.declared.settled.Settled.TheVariants as told
 
 -- an occurrence that is settled: its number, and the minislot of the MAP where it was granted, or none where it is missed
-pub record Mark : Type 0 where
+pub record Settlement : Type 0 where
   pub number : ℕ
   pub start : Option ℕ
 
@@ -17,26 +17,26 @@ spot pace round e n board =
     first_of (λ at. starts_within pace.time e n (round * pace.len + at) && fits board e.slots at) 0 pace.len
 
 -- granted there; else missed if its window is over; else it waits
-abbrev pub mark : Pace → ℕ → Entry → ℕ → Option ℕ → List Mark
-mark pace round e n (Some at) = record { number = n; start = Some at } ∷ []
-mark pace round e n None = if is_over pace round e n then record { number = n; start = None } ∷ [] else []
+abbrev pub settlement : Pace → ℕ → Entry → ℕ → Option ℕ → List Settlement
+settlement pace round e n (Some at) = record { number = n; start = Some at } ∷ []
+settlement pace round e n None = if is_over pace round e n then record { number = n; start = None } ∷ [] else []
 
 abbrev pub with_spot : Entry → Option ℕ → Board → Board
 with_spot e None board = board
 with_spot e (Some at) board = assign board at e.slots e.owner
 
 -- what settling comes to
-pub record Outcome : Type 0 where
+pub record SettledEntry : Type 0 where
   pub board : Board
-  pub marks : List Mark
+  pub settlements : List Settlement
 
 -- these occurrences of an entry, one after another
-unfoldable pub settle_each : Pace → ℕ → Entry → List ℕ → Board → Outcome
-settle_each pace round e [] board = record { board = board; marks = [] }
+unfoldable pub settle_each : Pace → ℕ → Entry → List ℕ → Board → SettledEntry
+settle_each pace round e [] board = record { board = board; settlements = [] }
 settle_each pace round e (n ∷ ns) board =
     let found : Option ℕ = spot pace round e n board in
-    let rest : Outcome = settle_each pace round e ns (with_spot e found board) in
-    record { board = rest.board; marks = mark pace round e n found ++ rest.marks }
+    let rest : SettledEntry = settle_each pace round e ns (with_spot e found board) in
+    record { board = rest.board; settlements = settlement pace round e n found ++ rest.settlements }
 
 -- an entry, with the numbers of its occurrences that are settled
 pub record EntryState : Type 0 where
@@ -44,16 +44,16 @@ pub record EntryState : Type 0 where
   pub settled : List ℕ
 
 -- an entry in a round: all of its occurrences that are due before the round ends
-unfoldable pub settle_entry : Pace → ℕ → EntryState → Board → Outcome
+unfoldable pub settle_entry : Pace → ℕ → EntryState → Board → SettledEntry
 settle_entry pace round state board =
     settle_each pace round state.entry (due state.entry (end_of pace round) state.settled) board
 
 -- and its state then
-abbrev pub after_marks : EntryState → List Mark → EntryState
-after_marks state marks = record { entry = state.entry; settled = state.settled ++ map (λ m. m.number) marks }
+abbrev pub after_settling : EntryState → List Settlement → EntryState
+after_settling state settlements = record { entry = state.entry; settled = state.settled ++ map (λ m. m.number) settlements }
 
 -- how it is told: the interval, and the place among the grants of the interval
-abbrev pub told_as : Entry → Mark → Settled
+abbrev pub told_as : Entry → Settlement → Settled
 told_as e m = tell e (m.number / e.grants) (m.number % e.grants) m.start
   where
     tell : Entry → ℕ → ℕ → Option ℕ → Settled

@@ -58,11 +58,11 @@ impl EntryState {
         requires time { (round + 1) * (pace.len * minislot_ticks pace.time) ≤ max_run_ticks }
         requires len { length board.old.cells ≡ pace.len }
         ensures state { OnOk result
-            (self.new ≡ spec.after_marks self.old (spec.settle_entry pace round self.old board.old).marks) }
+            (self.new ≡ spec.after_settling self.old (spec.settle_entry pace round self.old board.old).settlements) }
         ensures board { OnOk result (board.new ≡ (spec.settle_entry pace round self.old board.old).board) }
         ensures len { length board.new.cells ≡ length board.old.cells }
         ensures told { OnOk result (settled.new.items ≡ settled.old.items
-            ++ map (spec.told_as self.old.entry) (spec.settle_entry pace round self.old board.old).marks) }
+            ++ map (spec.told_as self.old.entry) (spec.settle_entry pace round self.old board.old).settlements) }
         ensures known { IsEntryState self.new }
     {
         self.next = settle(self.entry, pace, round, self.next, board, settled)?;
@@ -80,11 +80,11 @@ impl EntryState {
         requires time { (round + 1) * (pace.len * minislot_ticks pace.time) ≤ max_run_ticks }
         requires len { length board.old.cells ≡ pace.len }
         ensures state { OnOk result
-            (self.new ≡ spec.after_marks self.old (spec.settle_entry pace round self.old board.old).marks) }
+            (self.new ≡ spec.after_settling self.old (spec.settle_entry pace round self.old board.old).settlements) }
         ensures board { OnOk result (board.new ≡ (spec.settle_entry pace round self.old board.old).board) }
         ensures len { length board.new.cells ≡ length board.old.cells }
         ensures told { OnOk result (settled.new.items ≡ settled.old.items
-            ++ map (spec.told_as self.old.entry) (spec.settle_entry pace round self.old board.old).marks) }
+            ++ map (spec.told_as self.old.entry) (spec.settle_entry pace round self.old board.old).settlements) }
         ensures known { IsEntryState self.new }
         ensures next { IfOk result (λ next. next ≡
             max (round + 1) (ideal self.new.entry (length self.new.settled) / end_of pace 0)) }

@@ -27,11 +27,11 @@ pub(crate) fn settle(
     requires len { length board.old.cells ≡ pace.len }
     requires first { first ≤ max_number }
     ensures numbers { IfOk result (λ next. range_with_len 0 next ≡
-        range_with_len 0 first ++ map (λ m. m.number) (settle_from pace round entry first board.old).marks) }
+        range_with_len 0 first ++ map (λ m. m.number) (settle_from pace round entry first board.old).settlements) }
     ensures board { OnOk result (board.new ≡ (settle_from pace round entry first board.old).board) }
     ensures len { length board.new.cells ≡ length board.old.cells }
     ensures told { OnOk result (settled.new.items ≡ settled.old.items
-        ++ map (spec.told_as entry) (settle_from pace round entry first board.old).marks) }
+        ++ map (spec.told_as entry) (settle_from pace round entry first board.old).settlements) }
     ensures few { IfOk result (λ next. next ≤ max_number) }
 {
     let end = pace.end(round);
@@ -59,13 +59,13 @@ fn settle_one(
     requires number { number ≤ max_number }
     requires due { ideal entry number < end_of pace round }
     ensures number { IfOk result (λ is. OnTrue is (map (λ m. m.number)
-        (spec.mark pace round entry number (spec.spot pace round entry number board.old)) ≡ number ∷ [])) }
+        (spec.settlement pace round entry number (spec.spot pace round entry number board.old)) ≡ number ∷ [])) }
     ensures waits { IfOk result (λ is. OnFalse is
         ((spec.spot pace round entry number board.old ≡ None) × (is_over pace round entry number ≡ false))) }
     ensures board { board.new ≡ spec.with_spot entry (spec.spot pace round entry number board.old) board.old }
     ensures len { length board.new.cells ≡ length board.old.cells }
     ensures told { OnOk result (settled.new.items ≡ settled.old.items ++ map (spec.told_as entry)
-        (spec.mark pace round entry number (spec.spot pace round entry number board.old))) }
+        (spec.settlement pace round entry number (spec.spot pace round entry number board.old))) }
 {
     let found = place(entry, pace, round, number, board);
     match told(entry, pace, round, number, found) {
@@ -83,9 +83,9 @@ fn told(entry: Entry, pace: Pace, round: u32, number: u64, found: Option<u32>) -
     requires number { number ≤ max_number }
     requires due { ideal entry number < end_of pace round }
     ensures some { IfSome result
-        (λ one. map (spec.told_as entry) (spec.mark pace round entry number found) ≡ one ∷ []) }
+        (λ one. map (spec.told_as entry) (spec.settlement pace round entry number found) ≡ one ∷ []) }
     ensures number { IfSome result
-        (λ one. map (λ m. m.number) (spec.mark pace round entry number found) ≡ number ∷ []) }
+        (λ one. map (λ m. m.number) (spec.settlement pace round entry number found) ≡ number ∷ []) }
     ensures none { IfNone result ((found ≡ None) × (is_over pace round entry number ≡ false)) }
 {
     let i = (number / u64::from(entry.grants)) as u32;

@@ -128,7 +128,7 @@ idle_cell cells slots start at h above below =
     get_or_default cells at None (Some nobody) inside
     ∙ none_of (get_or cells at (Some nobody)) (idle_cells cells slots start h at above below)
 
--- where a minislot is, as seen from an interval
+-- where a minislot is, as seen from an assignment
 pub where_is : (start slots at : ℕ) → ((start ≤ at) × (at < start + slots)) ⊎ ((at < start) ⊎ (start + slots ≤ at))
 where_is start slots at = elim (cases_lt at start) [
   | inl before ↦ inr (inl before)

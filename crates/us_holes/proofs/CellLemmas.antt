@@ -2,17 +2,17 @@
 use Rattle.std.proofs.Common.{◌≡◌, ℕ, zero, suc, ◌+◌, ◌-◌, ◌⊎◌, ◌<◌, ◌≤◌, List, [], ◌∷◌, ◌++◌, length, replicate, get_or, true, false, Option, Some, None, refl, ap, sym, ◌∙◌, inl, inr, arith}
 use Rattle.std.proofs.lemmas.Bool.{cases_lt, lt-ltb, le-ltb}
 use Rattle.std.proofs.lemmas.List.{length-append, length-replicate, get_or_append_left, get_or-append_right, get_or-replicate}
-use Rattle.us_holes.specs.Boards.{Holder, Interval, is_idle_at}
+use Rattle.us_holes.specs.Boards.{Holder, Assignment, is_idle_at}
 use Rattle.us_holes.specs.Lists.{end_of, its_holder, InOrder, cells_of, Hole, hole_end, hole_in, holes_of}
 use Rattle.us_holes.proofs.IdleLemmas.{idle_cells, cells_idle, IsIdle, nobody}
 
-pub ordered_end : (from : ℕ) (assigned : List Interval) (to : ℕ) → InOrder from assigned to → from ≤ to
+pub ordered_end : (from : ℕ) (assigned : List Assignment) (to : ℕ) → InOrder from assigned to → from ≤ to
 unfolding InOrder
 ordered_end from [] to order = order
 ordered_end from (one ∷ more) to order = omega (arith, order.0, ordered_end (end_of one) more to order.2)
 
 -- A minislot before the first assignment,
-gap_cell : (from : ℕ) (one : Interval) (more : List Interval) (to at : ℕ) (d : Option Holder) → from ≤ at →
+gap_cell : (from : ℕ) (one : Assignment) (more : List Assignment) (to at : ℕ) (d : Option Holder) → from ≤ at →
     at < one.start → get_or (cells_of from (one ∷ more) to) (at - from) d ≡ None
 unfolding cells_of
 gap_cell from one more to at d above below =
@@ -22,7 +22,7 @@ gap_cell from one more to at d above below =
     ∙ get_or-replicate (one.start - from) (at - from) None d (omega (arith, above, below))
 
 -- in it,
-held_cell : (from : ℕ) (one : Interval) (more : List Interval) (to at : ℕ) (d : Option Holder) → from ≤ one.start →
+held_cell : (from : ℕ) (one : Assignment) (more : List Assignment) (to at : ℕ) (d : Option Holder) → from ≤ one.start →
     one.start ≤ at → at < end_of one → get_or (cells_of from (one ∷ more) to) (at - from) d ≡ Some (its_holder one)
 unfolding cells_of
 held_cell from one more to at d order above below =
@@ -36,7 +36,7 @@ held_cell from one more to at d order above below =
     ∙ get_or-replicate one.slots (at - one.start) (Some (its_holder one)) d (omega (arith, above, below))
 
 -- and behind it.
-later_cell : (from : ℕ) (one : Interval) (more : List Interval) (to at : ℕ) (d : Option Holder) → from ≤ one.start →
+later_cell : (from : ℕ) (one : Assignment) (more : List Assignment) (to at : ℕ) (d : Option Holder) → from ≤ one.start →
     end_of one ≤ at →
     get_or (cells_of from (one ∷ more) to) (at - from) d ≡ get_or (cells_of (end_of one) more to) (at - end_of one) d
 unfolding cells_of
@@ -110,7 +110,7 @@ alone_cases from to slots start h =
     elim (room_cases from to [] slots start (rw (hole_alone from to) h)) [ inl here ↦ here | inr later ↦ absurd later ]
 
 -- Room lies inside,
-pub room_inside : (from : ℕ) (assigned : List Interval) (to slots start : ℕ) → InOrder from assigned to →
+pub room_inside : (from : ℕ) (assigned : List Assignment) (to slots start : ℕ) → InOrder from assigned to →
     HasRoom (holes_of from assigned to) slots start → (from ≤ start) × (start + slots ≤ to)
 unfolding InOrder holes_of
 room_inside from [] to slots start order h =
@@ -124,7 +124,7 @@ room_inside from (one ∷ more) to slots start order h =
     ]
 
 -- and is idle;
-room_idle : (from : ℕ) (assigned : List Interval) (to slots start : ℕ) → InOrder from assigned to →
+room_idle : (from : ℕ) (assigned : List Assignment) (to slots start : ℕ) → InOrder from assigned to →
     HasRoom (holes_of from assigned to) slots start → (at : ℕ) → start ≤ at → at < start + slots →
     IsIdle (cells_of from assigned to) (at - from)
 unfolding InOrder holes_of
@@ -141,14 +141,14 @@ room_idle from (one ∷ more) to slots start order h at above below =
           rw (later_cell from one more to at (Some nobody) order.0 (omega (arith, inside.0, above))) rest
     ]
 
-held_no : (from : ℕ) (one : Interval) (more : List Interval) (to at : ℕ) → from ≤ one.start → one.start ≤ at →
+held_no : (from : ℕ) (one : Assignment) (more : List Assignment) (to at : ℕ) → from ≤ one.start → one.start ≤ at →
     at < end_of one → IsIdle (cells_of from (one ∷ more) to) (at - from) → ⊥
 held_no from one more to at order above below idle =
     let no : false ≡ true = rw (held_cell from one more to at (Some nobody) order above below) at idle in
     cc
 
 -- what is idle has room.
-idle_room : (from : ℕ) (assigned : List Interval) (to slots start : ℕ) → InOrder from assigned to → 0 < slots →
+idle_room : (from : ℕ) (assigned : List Assignment) (to slots start : ℕ) → InOrder from assigned to → 0 < slots →
     from ≤ start → ((at : ℕ) → start ≤ at → at < start + slots → IsIdle (cells_of from assigned to) (at - from)) →
     HasRoom (holes_of from assigned to) slots start
 unfolding InOrder holes_of
@@ -176,14 +176,14 @@ idle_room from (one ∷ more) to slots start order some above idle = elim (cases
 ]
 
 -- So on a board minislots are idle where a hole has them.
-pub room_is_idle : (assigned : List Interval) (len slots start : ℕ) → InOrder 0 assigned len → 0 < slots →
+pub room_is_idle : (assigned : List Assignment) (len slots start : ℕ) → InOrder 0 assigned len → 0 < slots →
     HasRoom (holes_of 0 assigned len) slots start → is_idle_at (cells_of 0 assigned len) slots start ≡ true
 room_is_idle assigned len slots start order some h =
     cells_idle (cells_of 0 assigned len) slots start some
     (λ at above below.
     let place : at - 0 ≡ at = omega arith in rw place at (room_idle 0 assigned len slots start order h at above below))
 
-pub idle_has_room : (assigned : List Interval) (len slots start : ℕ) → InOrder 0 assigned len → 0 < slots →
+pub idle_has_room : (assigned : List Assignment) (len slots start : ℕ) → InOrder 0 assigned len → 0 < slots →
     is_idle_at (cells_of 0 assigned len) slots start ≡ true → HasRoom (holes_of 0 assigned len) slots start
 idle_has_room assigned len slots start order some h =
     idle_room 0 assigned len slots start order some (omega arith)
@@ -192,7 +192,7 @@ idle_has_room assigned len slots start order some h =
     rw place at (idle_cells (cells_of 0 assigned len) slots start h at above below))
 
 -- The length of a board.
-pub cells_length : (from : ℕ) (assigned : List Interval) (to : ℕ) → InOrder from assigned to →
+pub cells_length : (from : ℕ) (assigned : List Assignment) (to : ℕ) → InOrder from assigned to →
     length (cells_of from assigned to) ≡ to - from
 unfolding InOrder cells_of
 cells_length from [] to order = length-replicate (to - from) None

@@ -3,54 +3,54 @@ use Rattle.std.proofs.Common.{◌≡◌, ℕ, zero, suc, ◌+◌, ◌-◌, ◌<�
 use Rattle.std.specs.List.{insert, remove}
 use Rattle.std.proofs.lemmas.Bool.{cases_Bool, cases_lt, and_parts, and_from, leb-true, le-leb, lt-ltb, le-ltb}
 use Rattle.std.proofs.lemmas.List.{append-nil}
-use Rattle.us_holes.specs.Boards.{Interval}
-use Rattle.us_holes.specs.Lists.{end_of, InOrder, put, Hole, hole_end, hole_from, hole_in, holes_of, fits_in, fit, HasAt, cut_at}
+use Rattle.us_holes.specs.Boards.{Assignment}
+use Rattle.us_holes.specs.Lists.{end_of, InOrder, put, Hole, hole_end, hole_from, hole_in, holes_of, fits_in, fit, HasAt, narrowed_at}
 use Rattle.us_holes.proofs.CellLemmas.{HasRoom, room_inside, hole_alone}
 use Rattle.us_holes.proofs.PutLemmas.{put_first, put_later, put_alone}
 
--- A hole is cut: what is left of it stands in its place,
-pub cut_left : (holes : List Hole) (place start slots : ℕ) (hole : Hole) → place < length holes →
+-- A hole is narrowed: what is left of it stands in its place,
+pub narrowed_left : (holes : List Hole) (place start slots : ℕ) (hole : Hole) → place < length holes →
     hole ≡ get_or holes place hole → hole.start < start → hole_end hole ≤ start + slots →
-    set holes place (hole_from hole.start start) ≡ cut_at place start slots holes
-unfolding cut_at
-cut_left [] place start slots hole inside is some none = absurd (omega (arith, inside))
-cut_left (one ∷ more) zero start slots hole inside is some none =
+    set holes place (hole_from hole.start start) ≡ narrowed_at place start slots holes
+unfolding narrowed_at
+narrowed_left [] place start slots hole inside is some none = absurd (omega (arith, inside))
+narrowed_left (one ∷ more) zero start slots hole inside is some none =
     rw (sym is, lt-ltb hole.start start some, le-ltb (start + slots) (hole_end hole) none) refl
-cut_left (one ∷ more) (suc place) start slots hole inside is some none =
-    ap (λ holes. one ∷ holes) (cut_left more place start slots hole (omega (arith, inside)) is some none)
+narrowed_left (one ∷ more) (suc place) start slots hole inside is some none =
+    ap (λ holes. one ∷ holes) (narrowed_left more place start slots hole (omega (arith, inside)) is some none)
 
-pub cut_right : (holes : List Hole) (place start slots : ℕ) (hole : Hole) → place < length holes →
+pub narrowed_right : (holes : List Hole) (place start slots : ℕ) (hole : Hole) → place < length holes →
     hole ≡ get_or holes place hole → start ≤ hole.start → start + slots < hole_end hole →
-    set holes place (hole_from (start + slots) (hole_end hole)) ≡ cut_at place start slots holes
-unfolding cut_at
-cut_right [] place start slots hole inside is none some = absurd (omega (arith, inside))
-cut_right (one ∷ more) zero start slots hole inside is none some =
+    set holes place (hole_from (start + slots) (hole_end hole)) ≡ narrowed_at place start slots holes
+unfolding narrowed_at
+narrowed_right [] place start slots hole inside is none some = absurd (omega (arith, inside))
+narrowed_right (one ∷ more) zero start slots hole inside is none some =
     rw (sym is, le-ltb hole.start start none, lt-ltb (start + slots) (hole_end hole) some) refl
-cut_right (one ∷ more) (suc place) start slots hole inside is none some =
-    ap (λ holes. one ∷ holes) (cut_right more place start slots hole (omega (arith, inside)) is none some)
+narrowed_right (one ∷ more) (suc place) start slots hole inside is none some =
+    ap (λ holes. one ∷ holes) (narrowed_right more place start slots hole (omega (arith, inside)) is none some)
 
 -- two holes do,
-pub cut_both : (holes : List Hole) (place start slots : ℕ) (hole : Hole) → place < length holes →
+pub narrowed_both : (holes : List Hole) (place start slots : ℕ) (hole : Hole) → place < length holes →
     hole ≡ get_or holes place hole → hole.start < start → start + slots < hole_end hole →
     insert (set holes place (hole_from hole.start start)) (suc place) (hole_from (start + slots) (hole_end hole)) ≡
-    cut_at place start slots holes
-unfolding cut_at
-cut_both [] place start slots hole inside is left right = absurd (omega (arith, inside))
-cut_both (one ∷ more) zero start slots hole inside is left right =
+    narrowed_at place start slots holes
+unfolding narrowed_at
+narrowed_both [] place start slots hole inside is left right = absurd (omega (arith, inside))
+narrowed_both (one ∷ more) zero start slots hole inside is left right =
     rw (sym is, lt-ltb hole.start start left, lt-ltb (start + slots) (hole_end hole) right) refl
-cut_both (one ∷ more) (suc place) start slots hole inside is left right =
-    ap (λ holes. one ∷ holes) (cut_both more place start slots hole (omega (arith, inside)) is left right)
+narrowed_both (one ∷ more) (suc place) start slots hole inside is left right =
+    ap (λ holes. one ∷ holes) (narrowed_both more place start slots hole (omega (arith, inside)) is left right)
 
 -- or none.
-pub cut_whole : (holes : List Hole) (place start slots : ℕ) (hole : Hole) → place < length holes →
+pub narrowed_whole : (holes : List Hole) (place start slots : ℕ) (hole : Hole) → place < length holes →
     hole ≡ get_or holes place hole → start ≤ hole.start → hole_end hole ≤ start + slots →
-    remove holes place ≡ cut_at place start slots holes
-unfolding cut_at
-cut_whole [] place start slots hole inside is none nil = absurd (omega (arith, inside))
-cut_whole (one ∷ more) zero start slots hole inside is none nil =
+    remove holes place ≡ narrowed_at place start slots holes
+unfolding narrowed_at
+narrowed_whole [] place start slots hole inside is none nil = absurd (omega (arith, inside))
+narrowed_whole (one ∷ more) zero start slots hole inside is none nil =
     rw (sym is, le-ltb hole.start start none, le-ltb (start + slots) (hole_end hole) nil) refl
-cut_whole (one ∷ more) (suc place) start slots hole inside is none nil =
-    ap (λ holes. one ∷ holes) (cut_whole more place start slots hole (omega (arith, inside)) is none nil)
+narrowed_whole (one ∷ more) (suc place) start slots hole inside is none nil =
+    ap (λ holes. one ∷ holes) (narrowed_whole more place start slots hole (omega (arith, inside)) is none nil)
 
 -- Holes by start.
 unfoldable pub AreApart : ℕ → List Hole → Type 0
@@ -71,7 +71,7 @@ gap_apart from to holes order h = elim (cases_lt from to) [
       rw (lt-ltb from to some) (omega arith, omega (arith, some), rw ends h)
 ]
 
-pub holes_apart : (from : ℕ) (assigned : List Interval) (to : ℕ) → InOrder from assigned to →
+pub holes_apart : (from : ℕ) (assigned : List Assignment) (to : ℕ) → InOrder from assigned to →
     AreApart from (holes_of from assigned to)
 unfolding InOrder holes_of AreApart
 holes_apart from [] to order = rw (sym (hole_alone from to)) (gap_apart from to [] order tt)
@@ -198,23 +198,23 @@ fit_none first from to slots (hole ∷ more) e at above below h =
       ]
     ]
 
--- One more assignment cuts the hole that has its minislots.
+-- One more assignment narrows the hole that has its minislots.
 -- after the last assignment,
-alone_cut : (from to number : ℕ) (one : Interval) → from < to →
+alone_narrowed : (from to number : ℕ) (one : Assignment) → from < to →
     HasAt (hole_from from to ∷ []) number one.start one.slots →
-    hole_in from one.start ++ hole_in (end_of one) to ≡ cut_at number one.start one.slots (hole_from from to ∷ [])
-unfolding cut_at
-alone_cut from to zero one gap h =
+    hole_in from one.start ++ hole_in (end_of one) to ≡ narrowed_at number one.start one.slots (hole_from from to ∷ [])
+unfolding narrowed_at
+alone_narrowed from to zero one gap h =
     let ends : from + (to - from) ≡ to = omega (arith, gap) in
     rw (ends, append-nil (hole_in (end_of one) to)) refl
-alone_cut from to (suc number) one gap h = absurd (omega (arith, h.inside))
+alone_narrowed from to (suc number) one gap h = absurd (omega (arith, h.inside))
 
 -- or among them.
-abbrev IsCut : ℕ → List Interval → ℕ → Interval → Type 0
+abbrev IsCut : ℕ → List Assignment → ℕ → Assignment → Type 0
 IsCut from assigned to one = (number : ℕ) → HasAt (holes_of from assigned to) number one.start one.slots →
-    holes_of from (put one assigned) to ≡ cut_at number one.start one.slots (holes_of from assigned to)
+    holes_of from (put one assigned) to ≡ narrowed_at number one.start one.slots (holes_of from assigned to)
 
-behind_other : (other one : Interval) (more : List Interval) (to number : ℕ) → InOrder (end_of other) more to →
+behind_other : (other one : Assignment) (more : List Assignment) (to number : ℕ) → InOrder (end_of other) more to →
     HasAt (holes_of (end_of other) more to) number one.start one.slots → other.start ≤ one.start
 behind_other other one more to number order h =
     omega (
@@ -223,27 +223,27 @@ behind_other other one more to number order h =
           (at_room (holes_of (end_of other) more to) number one.start one.slots h)).0,
     )
 
-gap_cut : (from : ℕ) (other : Interval) (more : List Interval) (to number : ℕ) (one : Interval) → from < other.start →
+gap_narrowed : (from : ℕ) (other : Assignment) (more : List Assignment) (to number : ℕ) (one : Assignment) → from < other.start →
     InOrder (end_of other) more to → 0 < one.slots → IsCut (end_of other) more to one →
     HasAt (hole_from from other.start ∷ holes_of (end_of other) more to) number one.start one.slots →
     holes_of from (put one (other ∷ more)) to ≡
-    cut_at number one.start one.slots (hole_from from other.start ∷ holes_of (end_of other) more to)
-unfolding cut_at holes_of
-gap_cut from other more to zero one gap order some later h =
+    narrowed_at number one.start one.slots (hole_from from other.start ∷ holes_of (end_of other) more to)
+unfolding narrowed_at holes_of
+gap_narrowed from other more to zero one gap order some later h =
     let ends : from + (other.start - from) ≡ other.start = omega (arith, gap) in
     let before : one.start < other.start = omega (arith, h.below (hole_from 0 0), ends, some) in
     rw (put_first one other more before, ends) refl
-gap_cut from other more to (suc number) one gap order some later h =
+gap_narrowed from other more to (suc number) one gap order some later h =
     let rest = at_later (hole_from from other.start) (holes_of (end_of other) more to) number one.start one.slots h in
     rw (put_later one other more (behind_other other one more to number order rest), lt-ltb from other.start gap)
     (ap (λ holes. hole_from from other.start ∷ holes) (later number rest))
 
-pub put_holes : (from : ℕ) (assigned : List Interval) (to : ℕ) (one : Interval) → InOrder from assigned to →
+pub put_holes : (from : ℕ) (assigned : List Assignment) (to : ℕ) (one : Assignment) → InOrder from assigned to →
     0 < one.slots → IsCut from assigned to one
-unfolding InOrder holes_of cut_at
+unfolding InOrder holes_of narrowed_at
 put_holes from [] to one order some number h = elim (cases_lt from to) [
   | inr none ↦ absurd (omega (arith, (rw (le-ltb from to none) at h).inside))
-  | inl gap ↦ rw (put_alone one, lt-ltb from to gap) (alone_cut from to number one gap (rw (lt-ltb from to gap) at h))
+  | inl gap ↦ rw (put_alone one, lt-ltb from to gap) (alone_narrowed from to number one gap (rw (lt-ltb from to gap) at h))
 ]
 put_holes from (other ∷ more) to one order some number h = elim (cases_lt from other.start) [
   | inr none ↦
@@ -253,6 +253,6 @@ put_holes from (other ∷ more) to one order some number h = elim (cases_lt from
       (put_holes (end_of other) more to one order.2 some number rest)
   | inl gap ↦
       rw (lt-ltb from other.start gap)
-      (gap_cut from other more to number one gap order.2 some (put_holes (end_of other) more to one order.2 some)
+      (gap_narrowed from other more to number one gap order.2 some (put_holes (end_of other) more to one order.2 some)
       (rw (lt-ltb from other.start gap) at h))
 ]

@@ -1,8 +1,8 @@
 -- What the fields of a board keep, and what they tell of it.
 use Rattle.std.proofs.Common.{◌≡◌, ℕ, ◌+◌, ◌-◌, ◌<◌, ◌≤◌, List, [], ◌∷◌, ◌++◌, length, false, Option, Some, None, IfSome, IfNone, refl, ap, sym, ◌∙◌, inl, inr, arith}
 use Rattle.std.proofs.lemmas.Bool.{cases_lt, lt-ltb, le-ltb, false_from_ne_true}
-use Rattle.us_holes.specs.Boards.{Holder, Interval, empty_board, is_idle_at, assign, free_count, IsLeastWithin, IsFirstLongest, longest_idle}
-use Rattle.us_holes.specs.Lists.{end_of, its_holder, InOrder, cells_of, board_of, put, Hole, hole_in, holes_of, fit, HasAt, cut_at, place_for, rank, first_in, AreLists}
+use Rattle.us_holes.specs.Boards.{Holder, Assignment, empty_board, is_idle_at, assign, free_count, IsLeastWithin, IsFirstLongest, longest_idle}
+use Rattle.us_holes.specs.Lists.{end_of, its_holder, InOrder, cells_of, board_of, put, Hole, hole_in, holes_of, fit, HasAt, narrowed_at, place_for, rank, first_in, AreLists}
 use Rattle.us_holes.proofs.IdleLemmas.{longest-some, longest-none}
 use Rattle.us_holes.proofs.BoardLemmas.{empty_is_board, empty_free, assign_is_board, assign_free}
 use Rattle.us_holes.proofs.CellLemmas.{HasRoom, room_inside, room_is_idle, idle_has_room, cells_length}
@@ -33,11 +33,11 @@ empty_kept len some most = record {
 }
 
 -- The length.
-pub kept_length : (assigned : List Interval) (holes ranked : List Hole) (len free : ℕ) →
+pub kept_length : (assigned : List Assignment) (holes ranked : List Hole) (len free : ℕ) →
     AreLists assigned holes ranked len free → len ≡ length (cells_of 0 assigned len)
 kept_length assigned holes ranked len free lists = omega (arith, cells_length 0 assigned len lists.order)
 
-pub kept_range : (assigned : List Interval) (holes ranked : List Hole) (len free : ℕ) →
+pub kept_range : (assigned : List Assignment) (holes ranked : List Hole) (len free : ℕ) →
     AreLists assigned holes ranked len free → (1 ≤ len) × (len ≤ 4096)
 kept_range assigned holes ranked len free lists =
     let is = kept_length assigned holes ranked len free lists in
@@ -56,27 +56,27 @@ alone_length from to = elim (cases_lt from to) [
   | inr none ↦ rw (le-ltb from to none) (omega arith)
 ]
 
-holes_few : (from : ℕ) (assigned : List Interval) (to : ℕ) → length (holes_of from assigned to) ≤ length assigned + 1
+holes_few : (from : ℕ) (assigned : List Assignment) (to : ℕ) → length (holes_of from assigned to) ≤ length assigned + 1
 unfolding holes_of
 holes_few from [] to = omega (arith, alone_length from to)
 holes_few from (one ∷ more) to =
     omega (arith, gap_length from one.start (holes_of (end_of one) more to), holes_few (end_of one) more to)
 
-pub kept_few : (assigned : List Interval) (holes ranked : List Hole) (len free : ℕ) →
+pub kept_few : (assigned : List Assignment) (holes ranked : List Hole) (len free : ℕ) →
     AreLists assigned holes ranked len free → length holes ≤ length assigned + 1
 kept_few assigned holes ranked len free lists = rw lists.between (holes_few 0 assigned len)
 
 -- What a search found,
-pub record IsFound (assigned : List Interval) (holes : List Hole) (len from to slots place start : ℕ) : Type 0 where
+pub record IsFound (assigned : List Assignment) (holes : List Hole) (len from to slots place start : ℕ) : Type 0 where
   pub has : HasAt holes place start slots
   pub inside : start + slots ≤ len
   pub least : IsLeastWithin (is_idle_at (cells_of 0 assigned len) slots) from to start
 
-room_of : (assigned : List Interval) (holes : List Hole) (len slots start : ℕ) → holes ≡ holes_of 0 assigned len →
+room_of : (assigned : List Assignment) (holes : List Hole) (len slots start : ℕ) → holes ≡ holes_of 0 assigned len →
     HasRoom holes slots start → HasRoom (holes_of 0 assigned len) slots start
 room_of assigned holes len slots start between h = rw between at h
 
-pub kept_found : (assigned : List Interval) (holes ranked : List Hole) (len free from to slots place start : ℕ) →
+pub kept_found : (assigned : List Assignment) (holes ranked : List Hole) (len free from to slots place start : ℕ) →
     AreLists assigned holes ranked len free → 1 ≤ slots → Some (place, start) ≡ fit 0 from to slots holes →
     IsFound assigned holes len from to slots place start
 kept_found assigned holes ranked len free from to slots place start lists some e =
@@ -98,7 +98,7 @@ kept_found assigned holes ranked len free from to slots place start lists some e
     }
 
 -- and what it says that found nothing.
-pub kept_none : (assigned : List Interval) (holes ranked : List Hole) (len free from to slots : ℕ) →
+pub kept_none : (assigned : List Assignment) (holes ranked : List Hole) (len free from to slots : ℕ) →
     AreLists assigned holes ranked len free → 1 ≤ slots → None ≡ fit 0 from to slots holes →
     (start : ℕ) → from ≤ start → start ≤ to → is_idle_at (cells_of 0 assigned len) slots start ≡ false
 kept_none assigned holes ranked len free from to slots lists some e start above below =
@@ -108,10 +108,10 @@ kept_none assigned holes ranked len free from to slots lists some e start above 
     (rw lists.between (idle_has_room assigned len slots start lists.order some idle)))
 
 -- One more assignment.
-pub kept_put : (assigned : List Interval) (holes ranked : List Hole) (len free place : ℕ) (one : Interval) →
+pub kept_put : (assigned : List Assignment) (holes ranked : List Hole) (len free place : ℕ) (one : Assignment) →
     AreLists assigned holes ranked len free → length assigned < 100 → 1 ≤ one.slots →
     HasAt holes place one.start one.slots →
-    AreLists (put one assigned) (cut_at place one.start one.slots holes) (rank (cut_at place one.start one.slots holes)) len (free - one.slots)
+    AreLists (put one assigned) (narrowed_at place one.start one.slots holes) (rank (narrowed_at place one.start one.slots holes)) len (free - one.slots)
 kept_put assigned holes ranked len free place one lists few some has =
     let has : HasAt (holes_of 0 assigned len) place one.start one.slots = rw lists.between at has in
     let room : HasRoom (holes_of 0 assigned len) one.slots one.start =
@@ -130,14 +130,14 @@ kept_put assigned holes ranked len free place one lists few some has =
       idle = omega (arith, free_is, assign_free (cells_of 0 assigned len) one.start one.slots (its_holder one) idle, lists.idle);
     }
 
-pub kept_assigned : (assigned : List Interval) (holes ranked : List Hole) (len free place : ℕ) (one : Interval) →
+pub kept_assigned : (assigned : List Assignment) (holes ranked : List Hole) (len free place : ℕ) (one : Assignment) →
     AreLists assigned holes ranked len free → 1 ≤ one.slots → HasAt holes place one.start one.slots →
     board_of (put one assigned) len ≡ assign (board_of assigned len) one.start one.slots one.owner
 kept_assigned assigned holes ranked len free place one lists some has =
     put_assigned assigned len one lists.order some
     (room_of assigned holes len one.slots one.start lists.between (at_room holes place one.start one.slots has))
 
-pub kept_free : (assigned : List Interval) (holes ranked : List Hole) (len free place : ℕ) (one : Interval) →
+pub kept_free : (assigned : List Assignment) (holes ranked : List Hole) (len free place : ℕ) (one : Assignment) →
     AreLists assigned holes ranked len free → 1 ≤ one.slots → HasAt holes place one.start one.slots → one.slots ≤ free
 kept_free assigned holes ranked len free place one lists some has =
     let room = room_of assigned holes len one.slots one.start lists.between (at_room holes place one.start one.slots has) in
@@ -149,7 +149,7 @@ kept_free assigned holes ranked len free place one lists some has =
     )
 
 -- The first by rank.
-pub kept_longest : (assigned : List Interval) (holes ranked : List Hole) (len free start slots : ℕ) →
+pub kept_longest : (assigned : List Assignment) (holes ranked : List Hole) (len free start slots : ℕ) →
     AreLists assigned holes ranked len free → Some (start, slots) ≡ first_in ranked →
     IsFirstLongest (cells_of 0 assigned len) start slots
 kept_longest assigned holes ranked len free start slots lists e =
@@ -163,7 +163,7 @@ kept_longest assigned holes ranked len free start slots lists e =
       first = λ at idle. most.first at (idle_has_room assigned len slots at lists.order most.some idle);
     }
 
-pub kept_no_longest : (assigned : List Interval) (holes ranked : List Hole) (len free : ℕ) →
+pub kept_no_longest : (assigned : List Assignment) (holes ranked : List Hole) (len free : ℕ) →
     AreLists assigned holes ranked len free → None ≡ first_in ranked →
     (start slots : ℕ) → 0 < slots → is_idle_at (cells_of 0 assigned len) slots start ≡ false
 kept_no_longest assigned holes ranked len free lists e start slots some =
@@ -178,7 +178,7 @@ pub record IsToldLongest (cells : List (Option Holder)) (told : Option (ℕ × �
   pub none : IfNone told ((start slots : ℕ) → 0 < slots → is_idle_at cells slots start ≡ false)
   pub value : told ≡ longest_idle cells
 
-pub kept_told : (assigned : List Interval) (holes ranked : List Hole) (len free : ℕ) (told : Option (ℕ × ℕ)) →
+pub kept_told : (assigned : List Assignment) (holes ranked : List Hole) (len free : ℕ) (told : Option (ℕ × ℕ)) →
     AreLists assigned holes ranked len free → told ≡ first_in ranked → IsToldLongest (cells_of 0 assigned len) told
 kept_told assigned holes ranked len free None lists e =
     let none = kept_no_longest assigned holes ranked len free lists e in

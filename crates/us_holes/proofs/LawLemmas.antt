@@ -4,7 +4,7 @@ use Rattle.std.specs.List.{list_all, sum_by}
 use Rattle.std.proofs.lemmas.Bool.{cases_Bool, cases_lt, cases_eq, and_parts, and_from, le-leb, ltb-true, false_from_ne_true}
 use Rattle.std.proofs.lemmas.List.{length-replicate}
 use Rattle.std.proofs.lemmas.List.Sums.{sum_by-cons}
-use Rattle.us_holes.specs.Boards.{Owner, Holder, Board, Interval, empty_board, is_full, is_idle_at, fits, assign, free_count, first_of, least_fit, IsLeastWithin, IsFirstLongest, longest_up_to, longest_idle, assign_all, AllFit}
+use Rattle.us_holes.specs.Boards.{Owner, Holder, Board, Assignment, empty_board, is_full, is_idle_at, fits, assign, free_count, first_of, least_fit, IsLeastWithin, IsFirstLongest, longest_up_to, longest_idle, assign_all, AllFit}
 use Rattle.us_holes.specs.Placements.{placed, after_placing, Says, IsPlacedAt, HasNoRoom}
 use Rattle.us_holes.specs.declared.placements.Placed.{Placed}
 use Rattle.us_holes.specs.declared.placements.Placed.TheVariants as answer
@@ -227,19 +227,19 @@ fit_length board start slots owner h =
     length-middle start slots (Some (record { start = start; owner = owner })) board.cells (fit board slots start h).inside
 
 -- Assignments one after another are those of the first part, then those of the second.
-pub assign_all-append : (board : Board) (one other : List Interval) →
+pub assign_all-append : (board : Board) (one other : List Assignment) →
     assign_all board (one ++ other) ≡ assign_all (assign_all board one) other
 unfolding assign_all
 assign_all-append board [] other = refl
 assign_all-append board (i ∷ more) other = assign_all-append (assign board i.start i.slots i.owner) more other
 
-pub AllFit-append : (board : Board) (one other : List Interval) → AllFit board one →
+pub AllFit-append : (board : Board) (one other : List Assignment) → AllFit board one →
     AllFit (assign_all board one) other → AllFit board (one ++ other)
 unfolding assign_all AllFit
 AllFit-append board [] other h k = k
 AllFit-append board (i ∷ more) other h k = (h.0, AllFit-append (assign board i.start i.slots i.owner) more other h.1 k)
 
-pub AllFit-parts : (board : Board) (one other : List Interval) → AllFit board (one ++ other) →
+pub AllFit-parts : (board : Board) (one other : List Assignment) → AllFit board (one ++ other) →
     AllFit board one × AllFit (assign_all board one) other
 unfolding assign_all AllFit
 AllFit-parts board [] other h = (tt, h)
@@ -248,30 +248,30 @@ AllFit-parts board (i ∷ more) other h =
     ((h.0, rest.0), rest.1)
 
 -- They keep the length, and what every board keeps,
-pub assign_all-length : (board : Board) (intervals : List Interval) → AllFit board intervals →
-    length (assign_all board intervals).cells ≡ length board.cells
+pub assign_all-length : (board : Board) (assignments : List Assignment) → AllFit board assignments →
+    length (assign_all board assignments).cells ≡ length board.cells
 unfolding assign_all AllFit
 assign_all-length board [] h = refl
 assign_all-length board (i ∷ more) h =
     assign_all-length (assign board i.start i.slots i.owner) more h.1 ∙ fit_length board i.start i.slots i.owner h.0
 
-pub assign_all-is_board : (board : Board) (intervals : List Interval) → IsBoard board → AllFit board intervals →
-    IsBoard (assign_all board intervals)
+pub assign_all-is_board : (board : Board) (assignments : List Assignment) → IsBoard board → AllFit board assignments →
+    IsBoard (assign_all board assignments)
 unfolding assign_all AllFit
 assign_all-is_board board [] is h = is
 assign_all-is_board board (i ∷ more) is h =
     assign_all-is_board (assign board i.start i.slots i.owner) more (fit_is_board board i.start i.slots i.owner is h.0) h.1
 
 -- and count: as many stand more, and as many minislots as all have are no longer idle.
-pub assign_all-standing : (board : Board) (intervals : List Interval) →
-    (assign_all board intervals).standing ≡ board.standing + length intervals
+pub assign_all-standing : (board : Board) (assignments : List Assignment) →
+    (assign_all board assignments).standing ≡ board.standing + length assignments
 unfolding assign_all
 assign_all-standing board [] = omega arith
 assign_all-standing board (i ∷ more) =
     assign_all-standing (assign board i.start i.slots i.owner) more ∙ omega arith
 
-pub assign_all-free : (board : Board) (intervals : List Interval) → AllFit board intervals →
-    free_count (assign_all board intervals).cells + sum_by (λ i. i.slots) intervals ≡ free_count board.cells
+pub assign_all-free : (board : Board) (assignments : List Assignment) → AllFit board assignments →
+    free_count (assign_all board assignments).cells + sum_by (λ i. i.slots) assignments ≡ free_count board.cells
 unfolding assign_all AllFit
 assign_all-free board [] h = omega arith
 assign_all-free board (i ∷ more) h =
@@ -279,7 +279,7 @@ assign_all-free board (i ∷ more) h =
       arith,
       assign_all-free (assign board i.start i.slots i.owner) more h.1,
       fit_free board i.start i.slots i.owner h.0,
-      sum_by-cons (λ (one : Interval). one.slots) i more,
+      sum_by-cons (λ (one : Assignment). one.slots) i more,
     )
 
 -- What a placement answers, as a property of the board before,

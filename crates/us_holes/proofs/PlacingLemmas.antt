@@ -1,10 +1,10 @@
 -- A placement: what its answer tells of the board before, and what stands then.
 use Rattle.std.proofs.Common.{◌≡◌, ℕ, ◌+◌, ◌-◌, ◌≤◌, length, false, Some, None, ap, ◌∙◌, arith}
-use Rattle.us_holes.specs.Boards.{Board, Interval, is_full, is_idle_at, assign, IsLeastWithin}
+use Rattle.us_holes.specs.Boards.{Board, Assignment, is_full, is_idle_at, assign, IsLeastWithin}
 use Rattle.us_holes.specs.Placements.{placed, IsPlacedAt, HasNoRoom}
 use Rattle.us_holes.specs.declared.placements.Placed.TheVariants as answer
 use Rattle.us_holes.specs.declared.boards.Board.TheInside.{Inside}
-use Rattle.us_holes.specs.Lists.{InOrder, cells_of, board_of, put, fit, HasAt, cut_at, rank, AreLists}
+use Rattle.us_holes.specs.Lists.{InOrder, cells_of, board_of, put, fit, HasAt, narrowed_at, rank, AreLists}
 use Rattle.us_holes.proofs.FitLemmas.{not_full, placed-at, says-at, placed-none}
 use Rattle.us_holes.proofs.CellLemmas.{cells_length}
 use Rattle.us_holes.proofs.PutLemmas.{order_within}
@@ -22,19 +22,19 @@ kept_order f lists =
     (kept_range f.assigned.items f.holes.items f.ranked.items f.len f.free lists).1
 
 -- The lists with a search's answer,
-pub record IsPlacing (f : Inside) (before : Board) (from to place : ℕ) (one : Interval) : Type 0 where
+pub record IsPlacing (f : Inside) (before : Board) (from to place : ℕ) (one : Assignment) : Type 0 where
   pub most : one.start + one.slots ≤ 4096
   pub few : length f.holes.items ≤ 100
   pub has : HasAt f.holes.items place one.start one.slots
   pub free : one.slots ≤ f.free
-  pub kept : AreLists (put one f.assigned.items) (cut_at place one.start one.slots f.holes.items)
-      (rank (cut_at place one.start one.slots f.holes.items)) f.len (f.free - one.slots)
+  pub kept : AreLists (put one f.assigned.items) (narrowed_at place one.start one.slots f.holes.items)
+      (rank (narrowed_at place one.start one.slots f.holes.items)) f.len (f.free - one.slots)
   pub value : answer.At one.start one.slots ≡ placed before from to one.slots
   pub says : IsPlacedAt before from to one.slots one.start
   pub board : board_of (put one f.assigned.items) f.len ≡ assign before one.start one.slots one.owner
   pub len_is : length (cells_of 0 (put one f.assigned.items) f.len) ≡ length before.cells
 
-pub placing : (f : Inside) (before : Board) (from to place : ℕ) (one : Interval) → AreFields f → board_in f ≡ before →
+pub placing : (f : Inside) (before : Board) (from to place : ℕ) (one : Assignment) → AreFields f → board_in f ≡ before →
     is_full before ≡ false → 1 ≤ one.slots → Some (place, one.start) ≡ fit 0 from to one.slots f.holes.items →
     IsPlacing f before from to place one
 placing f before from to place one lists is few some e =

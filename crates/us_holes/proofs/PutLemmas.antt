@@ -3,7 +3,7 @@ use Rattle.std.proofs.Common.{◌≡◌, ℕ, ◌+◌, ◌-◌, ◌<◌, ◌≤�
 use Rattle.std.proofs.lemmas.Bool.{cases_lt, lt-ltb, le-ltb}
 use Rattle.std.proofs.lemmas.List.{append_assoc, append-nil, length-replicate, replicate-append-replicate}
 use Rattle.std.proofs.Math.Seq.{take-append_seam, drop-append_seam, take-append-add, drop-append-add}
-use Rattle.us_holes.specs.Boards.{Holder, Interval, assign}
+use Rattle.us_holes.specs.Boards.{Holder, Assignment, assign}
 use Rattle.us_holes.specs.Lists.{end_of, its_holder, InOrder, cells_of, board_of, place_among, put, holes_of}
 use Rattle.us_holes.proofs.CellLemmas.{HasRoom, room_cases, alone_cases, room_inside}
 
@@ -48,28 +48,28 @@ gap_written start slots rest all cell behind e =
     (length-replicate start idle) (length-replicate slots idle))
 
 -- One more assignment where there is room keeps the order, and writes its minislots.
-pub put_first : (one other : Interval) (more : List Interval) → one.start < other.start →
+pub put_first : (one other : Assignment) (more : List Assignment) → one.start < other.start →
     put one (other ∷ more) ≡ one ∷ other ∷ more
 unfolding place_among
 put_first one other more before = rw (lt-ltb one.start other.start before) refl
 
-pub put_later : (one other : Interval) (more : List Interval) → other.start ≤ one.start →
+pub put_later : (one other : Assignment) (more : List Assignment) → other.start ≤ one.start →
     put one (other ∷ more) ≡ other ∷ put one more
 unfolding place_among
 put_later one other more behind = rw (le-ltb one.start other.start behind) refl
 
-pub put_alone : (one : Interval) → put one [] ≡ one ∷ []
+pub put_alone : (one : Assignment) → put one [] ≡ one ∷ []
 unfolding place_among
 put_alone one = refl
 
-pub order_within : (from : ℕ) (assigned : List Interval) (to beyond : ℕ) → InOrder from assigned to → to ≤ beyond →
+pub order_within : (from : ℕ) (assigned : List Assignment) (to beyond : ℕ) → InOrder from assigned to → to ≤ beyond →
     InOrder from assigned beyond
 unfolding InOrder
 order_within from [] to beyond order h = omega (arith, order, h)
 order_within from (one ∷ more) to beyond order h =
     (order.0, order.1, order_within (end_of one) more to beyond order.2 h)
 
-pub put_order : (from : ℕ) (assigned : List Interval) (to : ℕ) (one : Interval) → InOrder from assigned to →
+pub put_order : (from : ℕ) (assigned : List Assignment) (to : ℕ) (one : Assignment) → InOrder from assigned to →
     0 < one.slots → HasRoom (holes_of from assigned to) one.slots one.start → InOrder from (put one assigned) to
 unfolding InOrder holes_of
 put_order from [] to one order some h =
@@ -84,7 +84,7 @@ put_order from (other ∷ more) to one order some h =
           (order.0, order.1, put_order (end_of other) more to one order.2 some later)
     ]
 
-pub put_cells : (from : ℕ) (assigned : List Interval) (to : ℕ) (one : Interval) → InOrder from assigned to →
+pub put_cells : (from : ℕ) (assigned : List Assignment) (to : ℕ) (one : Assignment) → InOrder from assigned to →
     0 < one.slots → HasRoom (holes_of from assigned to) one.slots one.start →
     cells_of from (put one assigned) to ≡
     written (one.start - from) one.slots (Some (its_holder one)) (cells_of from assigned to)
@@ -117,7 +117,7 @@ put_cells from (other ∷ more) to one order some h =
           ))
     ]
 
-put_length : (one : Interval) (assigned : List Interval) → length (put one assigned) ≡ length assigned + 1
+put_length : (one : Assignment) (assigned : List Assignment) → length (put one assigned) ≡ length assigned + 1
 unfolding place_among
 put_length one [] = refl
 put_length one (other ∷ more) = elim (cases_lt one.start other.start) [
@@ -126,7 +126,7 @@ put_length one (other ∷ more) = elim (cases_lt one.start other.start) [
 ]
 
 -- So it is assigned on the board.
-pub put_assigned : (assigned : List Interval) (len : ℕ) (one : Interval) → InOrder 0 assigned len → 0 < one.slots →
+pub put_assigned : (assigned : List Assignment) (len : ℕ) (one : Assignment) → InOrder 0 assigned len → 0 < one.slots →
     HasRoom (holes_of 0 assigned len) one.slots one.start →
     board_of (put one assigned) len ≡ assign (board_of assigned len) one.start one.slots one.owner
 put_assigned assigned len one order some h =

@@ -3,7 +3,7 @@ use Rattle.std.proofs.Common.{◌≡◌, ℕ, zero, suc, ◌+◌, ◌-◌, ◌*�
 use Rattle.std.specs.List.{flat_map}
 use Rattle.std.proofs.lemmas.Bool.{cases_Bool, cases_lt, lt-ltb, le-ltb, eqb-true, eq-eqb, ne_eqb, and_parts, and_from, and_left}
 use Rattle.std.proofs.lemmas.List.{append-nil}
-use Rattle.us_holes.specs.Boards.{Owner, Holder, Board, Interval}
+use Rattle.us_holes.specs.Boards.{Owner, Holder, Board, Assignment}
 use Rattle.us_holes.specs.Runs.{Run, same_holder, same_cell, goes_on, owner_of, lengthened, runs_from, runs_of, FollowOn, holder_of, minislots_of, Differ}
 use Rattle.us_holes.specs.Lists.{end_of, its_holder, InOrder, cells_of, idle_run, runs_between}
 use Rattle.us_holes.specs.Kept.{cell_at, AreHeldFromStart, changes, IsBoard}
@@ -113,7 +113,7 @@ start_differs (suc slots) one other cells some h =
     and_left (nat_eq one.start other.start) (nat_eq one.owner.sid other.owner.sid && nat_eq one.owner.iuc other.owner.iuc)
     (ne_eqb one.start other.start (λ same. omega (arith, h, same)))
 
-next_differs : (from : ℕ) (assigned : List Interval) (to : ℕ) (holder : Holder) → InOrder from assigned to →
+next_differs : (from : ℕ) (assigned : List Assignment) (to : ℕ) (holder : Holder) → InOrder from assigned to →
     holder.start < from → Differs (Some holder) (cells_of from assigned to)
 unfolding InOrder cells_of
 next_differs from [] to holder order h =
@@ -133,7 +133,7 @@ gap_runs from to cells order h = elim (cases_lt from to) [
       rw (le-ltb from to none, nothing, same) refl
 ]
 
-pub runs_are : (from : ℕ) (assigned : List Interval) (to : ℕ) → InOrder from assigned to →
+pub runs_are : (from : ℕ) (assigned : List Assignment) (to : ℕ) → InOrder from assigned to →
     runs_between from assigned to ≡ runs_from from (cells_of from assigned to)
 unfolding InOrder cells_of runs_between runs_from
 runs_are from [] to order =

@@ -93,19 +93,19 @@ longest_up_to cells (suc limit) =
 abbrev pub longest_idle : List (Option Holder) → Option (ℕ × ℕ)
 longest_idle cells = longest_up_to cells (length cells)
 
--- Intervals: assignments as they are told outside a board.
+-- Assignments, as they are told outside a board.
 
-pub record Interval : Type 0 where
+pub record Assignment : Type 0 where
   pub start : ℕ
   pub slots : ℕ
   pub owner : Owner
 
 -- these assignments, one after another
-unfoldable pub assign_all : Board → List Interval → Board
+unfoldable pub assign_all : Board → List Assignment → Board
 assign_all board [] = board
 assign_all board (i ∷ more) = assign_all (assign board i.start i.slots i.owner) more
 
 -- each fits where it is placed, after those before it
-unfoldable pub AllFit : Board → List Interval → Type 0
+unfoldable pub AllFit : Board → List Assignment → Type 0
 AllFit board [] = Unit {0}
 AllFit board (i ∷ more) = (fits board i.slots i.start ≡ true) × AllFit (assign board i.start i.slots i.owner) more

@@ -1,18 +1,18 @@
 -- Inside the crate, and of no use to a reader of the promise: a board as lists, computed by the definitions alone.
 use Rattle.std.specs.Prelude.{◌≡◌, ℕ, List, [], ◌∷◌, Some, refl}
-use Rattle.us_holes.specs.Boards.{Owner, Interval}
+use Rattle.us_holes.specs.Boards.{Owner, Assignment}
 use Rattle.us_holes.specs.Examples.{broadcast, grant, granted}
 use Rattle.us_holes.specs.Runs.{runs_of, runs_from}
-use Rattle.us_holes.specs.Lists.{cells_of, board_of, place_among, put, Hole, holes_of, fit, cut_at, place_for, rank, rank_cut, first_in, runs_between}
+use Rattle.us_holes.specs.Lists.{cells_of, board_of, place_among, put, Hole, holes_of, fit, narrowed_at, place_for, rank, rank_narrowed, first_in, runs_between}
 
-abbrev interval : ℕ → ℕ → Owner → Interval
-interval start slots owner = record { start = start; slots = slots; owner = owner }
+abbrev assignment : ℕ → ℕ → Owner → Assignment
+assignment start slots owner = record { start = start; slots = slots; owner = owner }
 
 abbrev hole : ℕ → ℕ → Hole
 hole start slots = record { start = start; slots = slots }
 
-abbrev assigned : List Interval
-assigned = interval 2 2 grant ∷ interval 6 2 broadcast ∷ []
+abbrev assigned : List Assignment
+assigned = assignment 2 2 grant ∷ assignment 6 2 broadcast ∷ []
 
 same_board : board_of assigned 8 ≡ granted
 unfolding cells_of
@@ -28,11 +28,11 @@ unfolding fit holes_of
 first_fit = refl
 
 -- one minislot is left of it
-one_left : cut_at 1 4 1 (holes_of 0 assigned 8) ≡ hole 0 2 ∷ hole 5 1 ∷ []
-unfolding cut_at holes_of
+one_left : narrowed_at 1 4 1 (holes_of 0 assigned 8) ≡ hole 0 2 ∷ hole 5 1 ∷ []
+unfolding narrowed_at holes_of
 one_left = refl
 
-same_holes : holes_of 0 (put (interval 4 1 grant) assigned) 8 ≡ hole 0 2 ∷ hole 5 1 ∷ []
+same_holes : holes_of 0 (put (assignment 4 1 grant) assigned) 8 ≡ hole 0 2 ∷ hole 5 1 ∷ []
 unfolding holes_of place_among
 same_holes = refl
 
@@ -42,7 +42,7 @@ unfolding rank place_for
 ranked = refl
 
 -- a minislot in its middle leaves two of the first
-ranked_again : rank_cut (hole 2 3) 3 1 (hole 2 3 ∷ hole 8 3 ∷ hole 0 1 ∷ []) ≡
+ranked_again : rank_narrowed (hole 2 3) 3 1 (hole 2 3 ∷ hole 8 3 ∷ hole 0 1 ∷ []) ≡
     hole 8 3 ∷ hole 0 1 ∷ hole 2 1 ∷ hole 4 1 ∷ []
 unfolding place_for
 ranked_again = refl

@@ -1,39 +1,39 @@
 -- Inside the crate, and of no use to a reader of the promise: a board as its assignments and the holes between them.
 use Rattle.std.specs.Prelude.{◌≡◌, ℕ, zero, suc, ◌+◌, ◌-◌, ◌<◌, ◌≤◌, nat_le, nat_lt, nat_eq, max, Bool, ◌&&◌, ◌||◌, if◌then◌else◌, List, [], ◌∷◌, ◌++◌, length, take, drop, replicate, slice_index_or, Option, Some, None}
 use Rattle.std.specs.List.{insert, remove}
-use Rattle.us_holes.specs.Boards.{Holder, Board, Interval, max_assignments, free_count}
+use Rattle.us_holes.specs.Boards.{Holder, Board, Assignment, max_assignments, free_count}
 use Rattle.us_holes.specs.Runs.{Run}
 use Rattle.us_holes.specs.Kept.{IsBoard}
 
 -- Assignments by start.
 
-abbrev pub end_of : Interval → ℕ
+abbrev pub end_of : Assignment → ℕ
 end_of one = one.start + one.slots
 
-abbrev pub its_holder : Interval → Holder
+abbrev pub its_holder : Assignment → Holder
 its_holder one = record { start = one.start; owner = one.owner }
 
 -- none begins before the one before it ends, all lie from `from` to `to`, and each has a minislot
-unfoldable pub InOrder : ℕ → List Interval → ℕ → Type 0
+unfoldable pub InOrder : ℕ → List Assignment → ℕ → Type 0
 InOrder from [] to = from ≤ to
 InOrder from (one ∷ more) to = (from ≤ one.start) × (0 < one.slots) × InOrder (end_of one) more to
 
 -- the minislots from `from` to `to`
-unfoldable pub cells_of : ℕ → List Interval → ℕ → List (Option Holder)
+unfoldable pub cells_of : ℕ → List Assignment → ℕ → List (Option Holder)
 cells_of from [] to = replicate (to - from) None
 cells_of from (one ∷ more) to =
     replicate (one.start - from) None ++ (replicate one.slots (Some (its_holder one)) ++ cells_of (end_of one) more to)
 
-abbrev pub board_of : List Interval → ℕ → Board
+abbrev pub board_of : List Assignment → ℕ → Board
 board_of assigned len = record { cells = cells_of 0 assigned len; standing = length assigned }
 
 -- how many begin no later
-unfoldable pub place_among : ℕ → List Interval → ℕ
+unfoldable pub place_among : ℕ → List Assignment → ℕ
 place_among start [] = 0
 place_among start (one ∷ more) = if nat_lt start one.start then 0 else suc (place_among start more)
 
 -- one more
-abbrev pub put : Interval → List Interval → List Interval
+abbrev pub put : Assignment → List Assignment → List Assignment
 put one assigned = insert assigned (place_among one.start assigned) one
 
 -- Holes by start.
@@ -54,7 +54,7 @@ abbrev pub hole_in : ℕ → ℕ → List Hole
 hole_in from to = if nat_lt from to then hole_from from to ∷ [] else []
 
 -- the holes from `from` to `to`
-unfoldable pub holes_of : ℕ → List Interval → ℕ → List Hole
+unfoldable pub holes_of : ℕ → List Assignment → ℕ → List Hole
 holes_of from [] to = hole_in from to
 holes_of from (one ∷ more) to = hole_in from one.start ++ holes_of (end_of one) more to
 
@@ -77,10 +77,10 @@ pub record HasAt (holes : List Hole) (number from slots : ℕ) : Type 0 where
   pub below : (none : Hole) → from + slots ≤ hole_end (slice_index_or holes number none)
 
 -- what is left of the hole at this place
-unfoldable pub cut_at : ℕ → ℕ → ℕ → List Hole → List Hole
-cut_at place start slots [] = []
-cut_at zero start slots (hole ∷ more) = hole_in hole.start start ++ (hole_in (start + slots) (hole_end hole) ++ more)
-cut_at (suc place) start slots (hole ∷ more) = hole ∷ cut_at place start slots more
+unfoldable pub narrowed_at : ℕ → ℕ → ℕ → List Hole → List Hole
+narrowed_at place start slots [] = []
+narrowed_at zero start slots (hole ∷ more) = hole_in hole.start start ++ (hole_in (start + slots) (hole_end hole) ++ more)
+narrowed_at (suc place) start slots (hole ∷ more) = hole ∷ narrowed_at place start slots more
 
 -- Holes by rank: the longest first, and of those as long the earliest.
 
@@ -112,8 +112,8 @@ abbrev pub rise_in : ℕ → ℕ → List Hole → List Hole
 rise_in from to ranked = if nat_lt from to then rise (hole_from from to) ranked else ranked
 
 -- what is left of a hole in its place
-abbrev pub rank_cut : Hole → ℕ → ℕ → List Hole → List Hole
-rank_cut hole start slots ranked = rise_in hole.start start (rise_in (start + slots) (hole_end hole) (lift hole ranked))
+abbrev pub rank_narrowed : Hole → ℕ → ℕ → List Hole → List Hole
+rank_narrowed hole start slots ranked = rise_in hole.start start (rise_in (start + slots) (hole_end hole) (lift hole ranked))
 
 abbrev pub first_in : List Hole → Option (ℕ × ℕ)
 first_in [] = None
@@ -121,19 +121,19 @@ first_in (hole ∷ more) = Some (hole.start, hole.slots)
 
 -- Runs.
 
-abbrev pub run_of : Interval → Run
+abbrev pub run_of : Assignment → Run
 run_of one = record { start = one.start; len = one.slots; owner = Some one.owner }
 
 abbrev pub idle_run : ℕ → ℕ → List Run
 idle_run from to = if nat_lt from to then record { start = from; len = to - from; owner = None } ∷ [] else []
 
 -- the runs from `from` to `to`
-unfoldable pub runs_between : ℕ → List Interval → ℕ → List Run
+unfoldable pub runs_between : ℕ → List Assignment → ℕ → List Run
 runs_between from [] to = idle_run from to
 runs_between from (one ∷ more) to = idle_run from one.start ++ (run_of one ∷ runs_between (end_of one) more to)
 
 -- What the fields of a board are.
-pub record AreLists (assigned : List Interval) (holes ranked : List Hole) (len free : ℕ) : Type 0 where
+pub record AreLists (assigned : List Assignment) (holes ranked : List Hole) (len free : ℕ) : Type 0 where
   pub board : IsBoard (board_of assigned len)
   pub order : InOrder 0 assigned len
   pub between : holes ≡ holes_of 0 assigned len

@@ -22,12 +22,12 @@ pub(crate) fn assign(
     requires has { lists.HasAt holes.old.items place one.start one.slots }
     requires room { lists.HaveRoom (vec_capacity assigned.old) (vec_capacity holes.old) (vec_capacity ranked.old) }
     ensures assigned { assigned.new.items ≡ lists.put one assigned.old.items }
-    ensures holes { holes.new.items ≡ lists.cut_at place one.start one.slots holes.old.items }
+    ensures holes { holes.new.items ≡ lists.narrowed_at place one.start one.slots holes.old.items }
     ensures by_rank { ranked.new.items ≡ lists.rank holes.new.items }
     ensures room { lists.HaveRoom (vec_capacity assigned.new) (vec_capacity holes.new) (vec_capacity ranked.new) }
 {
     let hole = holes[place];
-    ranks::cut(ranked, hole, one.start(), one.slots());
-    holes::cut(holes, place, one.start(), one.slots());
+    ranks::narrow(ranked, hole, one.start(), one.slots());
+    holes::narrow(holes, place, one.start(), one.slots());
     assignments::put(assigned, one);
 }

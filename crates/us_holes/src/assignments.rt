@@ -14,7 +14,7 @@ pub(crate) struct Assignment {
 }
 
 impl Model for Assignment {
-    ghost Value = { spec.Interval };
+    ghost Value = { spec.Assignment };
 
     ghost view = { λ a. record { start = a.start; slots = a.slots; owner = a.owner } };
 

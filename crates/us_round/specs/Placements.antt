@@ -4,7 +4,7 @@ use Rattle.std.specs.Option.{option_or}
 use Rattle.us_slots.specs.Bursts.{ChannelBursts, grant_cost}
 use Rattle.us_slots.specs.Capacities.{capacity_of}
 use Rattle.us_flows.specs.Clusters.{Turn}
-use Rattle.us_holes.specs.Boards.{Board, Interval, is_full, assign, least_fit, longest_idle}
+use Rattle.us_holes.specs.Boards.{Board, Assignment, is_full, assign, least_fit, longest_idle}
 use Rattle.us_split.specs.Plans.{Planned, header_bytes}
 
 -- Claims.
@@ -85,7 +85,7 @@ spot bursts header share board =
 -- a claim that was placed: its minislots and owner, and the bytes that it credits, without the header
 pub record PlacedClaim : Type 0 where
   pub claimant : Claimant
-  pub interval : Interval
+  pub interval : Assignment
   pub credit : ℕ
 
 -- the grant of a claim at a spot
@@ -115,5 +115,5 @@ grants_of bursts board (claim ∷ rest) =
     option_to_list found ++ grants_of bursts (with_grant board found) rest
 
 -- the intervals of grants
-abbrev pub intervals : List PlacedClaim → List Interval
+abbrev pub intervals : List PlacedClaim → List Assignment
 intervals grants = map (λ g. g.interval) grants
