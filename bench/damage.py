@@ -1,6 +1,6 @@
 #!/usr/bin/env python3
-"""Prints damaged configurations as stored cases of mapsim, crates/mapsim/cases/config_damage.toml: each is the changes of
-the configuration all_types of those cases, and the answer of the plain reader.
+"""Prints damaged configurations as stored cases of mapsim, crates/mapsim/cases/config_damage.toml: each is the changes
+of the configuration all_types of those cases, and the answer of the plain reader.
 
 Damage is a number near some limit or from another place, a value of another kind, a key dropped, added or doubled,
 a list with an item more or less, two values swapped, or a table copied; up to four of these at once. No damage is a
@@ -155,7 +155,8 @@ def case(number, found, changes):
     fault = "RU1" if found == "ok" else found
     error = f"error = {json.dumps(f'fault {fault}' + chr(10))}"
     return (
-        f"    {{ name = {json.dumps(f'{number}: {last}')}, words = [\"pipe\", \"--rounds\", \"0\"], config = \"all_types\", "
+        f"    {{ name = {json.dumps(f'{number}: {last}')}, words = [\"pipe\", \"--rounds\", \"0\"], "
+        f'config = "all_types", '
         f'change = {json.dumps(alone)}, trace = "", {error}, status = 3 }},'
     )
 

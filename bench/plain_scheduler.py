@@ -3,7 +3,9 @@
   bench/plain_scheduler.py CONFIG TRACE ROUNDS MAPS REPORT   writes the maps file and the report, and prints the summary
 
 It shares nothing with the crates, and is compared with mapsim by bench/compare_schedulers.py."""
-import sys, tomllib, struct
+import struct
+import sys
+import tomllib
 from collections import defaultdict
 
 BYTE = 1280000  # bucket units in a byte

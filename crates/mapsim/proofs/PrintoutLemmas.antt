@@ -39,7 +39,7 @@ pub refuses_trace : (t : Tables) (rounds workers : ℕ) (trace : List ℕ) (to_m
     RefusesTrace t rounds workers trace (fault_in_memory f)
 refuses_trace t rounds workers trace to_maps to_report run.Rounds (unfit, nothing) few = unfit
 refuses_trace t rounds workers trace to_maps to_report run.Workers ran few = few refl
-refuses_trace t rounds workers trace to_maps to_report (run.Trace reason) (can, reads, nothing) few = (can, reads)
+refuses_trace t rounds workers trace to_maps to_report (run.Trace reason) (why, nothing) few = why
 refuses_trace t rounds workers trace to_maps to_report (run.WriteMaps done) ran few = tt
 refuses_trace t rounds workers trace to_maps to_report (run.WriteReport done) ran few = tt
 refuses_trace t rounds workers trace to_maps to_report (run.NoMemory done) ran few = tt

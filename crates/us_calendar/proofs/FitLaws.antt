@@ -6,8 +6,8 @@ use Rattle.us_holes.specs.Boards.{Board, Interval, fits, assign_all, AllFit}
 use Rattle.us_holes.proofs.LawLemmas.{first_of-is, assign_all-append, AllFit-append}
 use Rattle.us_calendar.specs.Entries.{Entry}
 use Rattle.us_calendar.specs.Occurrences.{Pace, is_over, starts_within, due, end_of}
-use Rattle.us_calendar.specs.Settling.{Outcome, Row, spot, with_spot, settle_each, settle_row, told_as}
-use Rattle.us_calendar.specs.Calendars.{Ran, run_rows}
+use Rattle.us_calendar.specs.Settling.{Outcome, EntryState, spot, with_spot, settle_each, settle_entry, told_as}
+use Rattle.us_calendar.specs.Calendars.{Ran, run_entries}
 use Rattle.us_calendar.specs.declared.settled.Settled.{Settled}
 use Rattle.us_calendar.specs.Runs.{intervals_of}
 use Rattle.us_calendar.proofs.SettleLemmas.{then_settle}
@@ -50,12 +50,12 @@ each_fits pace round e (n ∷ ns) board =
     one_fits pace round e n found board (settle_each pace round e ns) (spot_fits pace round e n board found refl)
     (each_fits pace round e ns (with_spot e found board))
 
-pub row_fits : (pace : Pace) (round : ℕ) (row : Row) (board : Board) →
-    Fitting board (map (told_as row.entry) (settle_row pace round row board).marks)
-    (settle_row pace round row board).board
-unfolding settle_row
-row_fits pace round row board =
-    each_fits pace round row.entry (due row.entry (end_of pace round) row.settled) board
+pub state_fits : (pace : Pace) (round : ℕ) (state : EntryState) (board : Board) →
+    Fitting board (map (told_as state.entry) (settle_entry pace round state board).marks)
+    (settle_entry pace round state board).board
+unfolding settle_entry
+state_fits pace round state board =
+    each_fits pace round state.entry (due state.entry (end_of pace round) state.settled) board
 
 both_fit : (before middle after : Board) (one other : List Settled) → Fitting before one middle →
     Fitting middle other after → Fitting before (one ++ other) after
@@ -70,20 +70,20 @@ both_fit before middle after one other f g =
           (AllFit-append before first second f.fit (subst (λ b. AllFit b second) f.board g.fit));
     }
 
-run_fits : (pace : Pace) (round : ℕ) (rows : List Row) (board : Board) →
-    Fitting board (run_rows pace round rows board).settled (run_rows pace round rows board).board
-unfolding run_rows
+run_fits : (pace : Pace) (round : ℕ) (states : List EntryState) (board : Board) →
+    Fitting board (run_entries pace round states board).settled (run_entries pace round states board).board
+unfolding run_entries
 run_fits pace round [] board = nothing_fits board
-run_fits pace round (row ∷ rows) board =
-    let one : Outcome = settle_row pace round row board in
-    let rest : Ran = run_rows pace round rows one.board in
-    both_fit board one.board rest.board (map (told_as row.entry) one.marks) rest.settled
-    (row_fits pace round row board) (run_fits pace round rows one.board)
+run_fits pace round (state ∷ states) board =
+    let one : Outcome = settle_entry pace round state board in
+    let rest : Ran = run_entries pace round states one.board in
+    both_fit board one.board rest.board (map (told_as state.entry) one.marks) rest.settled
+    (state_fits pace round state board) (run_fits pace round states one.board)
 
-pub grants_fit : (pace : Pace) (round : ℕ) (rows : List Row) (board : Board) →
-    ((run_rows pace round rows board).board ≡
-    assign_all board (flat_map intervals_of (run_rows pace round rows board).settled))
-    × AllFit board (flat_map intervals_of (run_rows pace round rows board).settled)
-grants_fit pace round rows board =
-    let fitting = run_fits pace round rows board in
+pub grants_fit : (pace : Pace) (round : ℕ) (states : List EntryState) (board : Board) →
+    ((run_entries pace round states board).board ≡
+    assign_all board (flat_map intervals_of (run_entries pace round states board).settled))
+    × AllFit board (flat_map intervals_of (run_entries pace round states board).settled)
+grants_fit pace round states board =
+    let fitting = run_fits pace round states board in
     (fitting.board, fitting.fit)

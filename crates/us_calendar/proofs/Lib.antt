@@ -2,7 +2,7 @@ pub mod IdealLemmas
 pub mod DueLemmas
 pub mod SettleLemmas
 pub mod SpotLemmas
-pub mod RowLemmas
+pub mod EntryStateLemmas
 pub mod KeyLemmas
 pub mod RunLemmas
 pub mod RunTimes

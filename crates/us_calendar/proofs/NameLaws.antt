@@ -6,8 +6,8 @@ use Rattle.us_flows.proofs.TurnLemmas.{all-append}
 use Rattle.us_holes.specs.Boards.{Board}
 use Rattle.us_calendar.specs.Entries.{Entry}
 use Rattle.us_calendar.specs.Occurrences.{Pace}
-use Rattle.us_calendar.specs.Settling.{Mark, Outcome, Row, settle_row, told_as}
-use Rattle.us_calendar.specs.Calendars.{Calendar, Ran, run_rows, after}
+use Rattle.us_calendar.specs.Settling.{Mark, Outcome, EntryState, settle_entry, told_as}
+use Rattle.us_calendar.specs.Calendars.{Calendar, Ran, run_entries, after}
 use Rattle.us_calendar.specs.Runs.{Round, rounds_on, grants, misses, IsOccurrence}
 use Rattle.us_calendar.proofs.OnceLemmas.{own_name}
 
@@ -26,33 +26,33 @@ marks_told es e (m ∷ marks) among = (
   marks_told es e marks among,
 )
 
--- the rows of a calendar are of these entries
-abbrev pub AreRowsOf : List Entry → List Row → Type 0
-AreRowsOf es rows = AllByRecursion (λ (row : Row). Contains es row.entry) rows
+-- the states of a calendar are of these entries
+abbrev pub AreStatesOf : List Entry → List EntryState → Type 0
+AreStatesOf es states = AllByRecursion (λ (state : EntryState). Contains es state.entry) states
 
-run_told : (es : List Entry) (pace : Pace) (round : ℕ) (rows : List Row) (board : Board) → AreRowsOf es rows →
-    AllByRecursion (IsOccurrence es) (run_rows pace round rows board).settled
-unfolding run_rows
+run_told : (es : List Entry) (pace : Pace) (round : ℕ) (states : List EntryState) (board : Board) → AreStatesOf es states →
+    AllByRecursion (IsOccurrence es) (run_entries pace round states board).settled
+unfolding run_entries
 run_told es pace round [] board of = tt
-run_told es pace round (row ∷ rows) board of =
-    let one : Outcome = settle_row pace round row board in
-    let rest : Ran = run_rows pace round rows one.board in
-    all-append (IsOccurrence es) (map (told_as row.entry) one.marks) rest.settled
-    (marks_told es row.entry one.marks of.0) (run_told es pace round rows one.board of.1)
+run_told es pace round (state ∷ states) board of =
+    let one : Outcome = settle_entry pace round state board in
+    let rest : Ran = run_entries pace round states one.board in
+    all-append (IsOccurrence es) (map (told_as state.entry) one.marks) rest.settled
+    (marks_told es state.entry one.marks of.0) (run_told es pace round states one.board of.1)
 
-rows_stay : (es : List Entry) (pace : Pace) (round : ℕ) (rows : List Row) (board : Board) → AreRowsOf es rows →
-    AreRowsOf es (run_rows pace round rows board).rows
-unfolding run_rows
-rows_stay es pace round [] board of = tt
-rows_stay es pace round (row ∷ rows) board of =
-    (of.0, rows_stay es pace round rows (settle_row pace round row board).board of.1)
+states_stay : (es : List Entry) (pace : Pace) (round : ℕ) (states : List EntryState) (board : Board) → AreStatesOf es states →
+    AreStatesOf es (run_entries pace round states board).states
+unfolding run_entries
+states_stay es pace round [] board of = tt
+states_stay es pace round (state ∷ states) board of =
+    (of.0, states_stay es pace round states (settle_entry pace round state board).board of.1)
 
-pub rounds_told : (es : List Entry) (calendar : Calendar) (boards : List Board) → AreRowsOf es calendar.rows →
+pub rounds_told : (es : List Entry) (calendar : Calendar) (boards : List Board) → AreStatesOf es calendar.states →
     AllByRecursion (λ (round : Round). AllByRecursion (IsOccurrence es) round.settled) (rounds_on calendar boards)
 rounds_told es calendar [] of = tt
 rounds_told es calendar (board ∷ boards) of = (
-  run_told es calendar.pace calendar.next_round calendar.rows board of,
-  rounds_told es (after calendar board) boards (rows_stay es calendar.pace calendar.next_round calendar.rows board of),
+  run_told es calendar.pace calendar.next_round calendar.states board of,
+  rounds_told es (after calendar board) boards (states_stay es calendar.pace calendar.next_round calendar.states board of),
 )
 
 -- before round 0
@@ -61,10 +61,10 @@ each_of : {X : Type 0} (P : X → Type 0) (xs : List X) → All P xs → AllByRe
 each_of P [] all = tt
 each_of P (x ∷ xs) all = (all 0 x (omega arith), each_of P xs (λ k other below. all (suc k) other (omega (arith, below))))
 
-rows_of : (es some : List Entry) → AllByRecursion (Contains es) some →
-    AreRowsOf es (map (λ e. record { entry = e; settled = [] }) some)
-rows_of es [] all = tt
-rows_of es (e ∷ more) all = (all.0, rows_of es more all.1)
+states_of : (es some : List Entry) → AllByRecursion (Contains es) some →
+    AreStatesOf es (map (λ e. record { entry = e; settled = [] }) some)
+states_of es [] all = tt
+states_of es (e ∷ more) all = (all.0, states_of es more all.1)
 
-pub opening_rows : (es : List Entry) → AreRowsOf es (map (λ e. record { entry = e; settled = [] }) es)
-opening_rows es = rows_of es es (each_of (Contains es) es (All-contains_itself es))
+pub opening_states : (es : List Entry) → AreStatesOf es (map (λ e. record { entry = e; settled = [] }) es)
+opening_states es = states_of es es (each_of (Contains es) es (All-contains_itself es))

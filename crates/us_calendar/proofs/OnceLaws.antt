@@ -12,16 +12,16 @@ use Rattle.us_holes.specs.Boards.{Board, assign_all}
 use Rattle.us_holes.proofs.LawLemmas.{assign_all-append}
 use Rattle.us_calendar.specs.Entries.{Entry, rank_of, goes_before}
 use Rattle.us_calendar.specs.Occurrences.{Pace, end_of}
-use Rattle.us_calendar.specs.Settling.{Mark, Outcome, Row, spot, settle_row, after_marks, told_as}
-use Rattle.us_calendar.specs.Calendars.{Ran, run_rows}
+use Rattle.us_calendar.specs.Settling.{Mark, Outcome, EntryState, spot, settle_entry, after_marks, told_as}
+use Rattle.us_calendar.specs.Calendars.{Ran, run_entries}
 use Rattle.us_calendar.specs.Runs.{Round, rounds_on, grants, misses, is_earlier, has_turn_before, intervals_of, times, window_end, end_after, board_at_turn, IsRight, IsSettledOnce}
 use Rattle.us_calendar.specs.declared.settled.Settled.{Settled}
 use Rattle.us_calendar.specs.declared.settled.Settled.TheVariants as told
-use Rattle.us_calendar.specs.Kept.{row_from}
+use Rattle.us_calendar.specs.Kept.{state_from}
 use Rattle.us_calendar.proofs.IdealLemmas.{HasWindows}
 use Rattle.us_calendar.proofs.SpotLemmas.{later_start}
 use Rattle.us_calendar.proofs.RunLemmas.{the_some}
-use Rattle.us_calendar.proofs.FitLaws.{row_fits}
+use Rattle.us_calendar.proofs.FitLaws.{state_fits}
 use Rattle.us_calendar.proofs.OnceLemmas.{one_if, counted, met, no_more, InRound, own_round}
 
 -- entries in order: each goes before all behind it
@@ -87,8 +87,8 @@ mapped_at f (y ∷ xs) zero x is =
     ap (λ z. Some (f z)) equal
 mapped_at f (y ∷ xs) (suc p) x is = mapped_at f xs p x is
 
-abbrev entries_of : List Row → List Entry
-entries_of rows = map (λ row. row.entry) rows
+abbrev entries_of : List EntryState → List Entry
+entries_of states = map (λ state. state.entry) states
 
 module _ (pace : Pace) (e : Entry) (n : ℕ) where
   -- told of another entry, that has its turn before or not
@@ -225,60 +225,60 @@ module _ (pace : Pace) (e : Entry) (n : ℕ) where
         (λ right. all-append (IsRight pace r e n (met pace r e n board (told ++ others))) told others right
         (others_right false (met pace r e n board (told ++ others)) others all)) of
 
-    run_behind : (rows : List Row) (board : Board) → AllByRecursion (λ d. goes_before e d ≡ true) (entries_of rows) →
-        AllByRecursion (IsOther false) (run_rows pace r rows board).settled
-    unfolding run_rows
+    run_behind : (states : List EntryState) (board : Board) → AllByRecursion (λ d. goes_before e d ≡ true) (entries_of states) →
+        AllByRecursion (IsOther false) (run_entries pace r states board).settled
+    unfolding run_entries
     run_behind [] board all = tt
-    run_behind (row ∷ rows) board all =
-        let one : Outcome = settle_row pace r row board in
-        let rest : Ran = run_rows pace r rows one.board in
-        all-append (IsOther false) (map (told_as row.entry) one.marks) rest.settled
-        (all_mapped (IsOther false) (told_as row.entry) one.marks (told_behind row.entry all.0))
-        (run_behind rows one.board all.1)
+    run_behind (state ∷ states) board all =
+        let one : Outcome = settle_entry pace r state board in
+        let rest : Ran = run_entries pace r states one.board in
+        all-append (IsOther false) (map (told_as state.entry) one.marks) rest.settled
+        (all_mapped (IsOther false) (told_as state.entry) one.marks (told_behind state.entry all.0))
+        (run_behind states one.board all.1)
 
     -- a round of all entries
-    abbrev RoundOf : ℕ → List Row → ℕ → Board → Type 0
-    RoundOf p rows first board =
-        (next : ℕ) × (slice_get (run_rows pace r rows board).rows p ≡ Some (row_from e next)) ×
-        InRound pace r e n first next board (run_rows pace r rows board).settled
+    abbrev RoundOf : ℕ → List EntryState → ℕ → Board → Type 0
+    RoundOf p states first board =
+        (next : ℕ) × (slice_get (run_entries pace r states board).states p ≡ Some (state_from e next)) ×
+        InRound pace r e n first next board (run_entries pace r states board).settled
 
-    run_round : (rows : List Row) (p first : ℕ) (board : Board) → HasWindows e →
-        (first ≤ n → end_after pace r ≤ window_end e n) → IsOrdered (entries_of rows) →
-        slice_get rows p ≡ Some (row_from e first) → RoundOf p rows first board
-    unfolding run_rows
-    run_round [] p first board is fresh ordered at = let never : None ≡ Some (row_from e first) = at in cc
-    run_round (row ∷ rows) zero first board is fresh ordered at =
-        let same : row ≡ row_from e first = the_some row (row_from e first) at in
-        let one : Outcome = settle_row pace r (row_from e first) board in
+    run_round : (states : List EntryState) (p first : ℕ) (board : Board) → HasWindows e →
+        (first ≤ n → end_after pace r ≤ window_end e n) → IsOrdered (entries_of states) →
+        slice_get states p ≡ Some (state_from e first) → RoundOf p states first board
+    unfolding run_entries
+    run_round [] p first board is fresh ordered at = let never : None ≡ Some (state_from e first) = at in cc
+    run_round (state ∷ states) zero first board is fresh ordered at =
+        let same : state ≡ state_from e first = the_some state (state_from e first) at in
+        let one : Outcome = settle_entry pace r (state_from e first) board in
         let turn = own_round pace r e n (end_of pace r * e.grants) first board is fresh (omega arith) in
-        let others = run_behind rows one.board
-        (subst (λ x. AllByRecursion (λ d. goes_before x.entry d ≡ true) (entries_of rows)) same ordered.0) in
-        let now : Some (after_marks (row_from e first) one.marks) ≡ Some (row_from e turn.0) =
+        let others = run_behind states one.board
+        (subst (λ x. AllByRecursion (λ d. goes_before x.entry d ≡ true) (entries_of states)) same ordered.0) in
+        let now : Some (after_marks (state_from e first) one.marks) ≡ Some (state_from e turn.0) =
         ap (λ settled. Some (record { entry = e; settled = settled })) turn.1 in
-        subst (λ x. RoundOf zero (x ∷ rows) first board) (sym same) (
+        subst (λ x. RoundOf zero (x ∷ states) first board) (sym same) (
           turn.0,
           now,
           before_others first turn.0 board (map (told_as e) one.marks)
-              (run_rows pace r rows one.board).settled others turn.2.of,
+              (run_entries pace r states one.board).settled others turn.2.of,
         )
-    run_round (row ∷ rows) (suc p) first board is fresh ordered at =
-        let one : Outcome = settle_row pace r row board in
-        let rest = run_round rows p first one.board is fresh ordered.1 at in
-        let before = at_place (λ d. goes_before row.entry d ≡ true) (entries_of rows) p e ordered.0
-        (mapped_at (λ x. x.entry) rows p (row_from e first) at) in (
+    run_round (state ∷ states) (suc p) first board is fresh ordered at =
+        let one : Outcome = settle_entry pace r state board in
+        let rest = run_round states p first one.board is fresh ordered.1 at in
+        let before = at_place (λ d. goes_before state.entry d ≡ true) (entries_of states) p e ordered.0
+        (mapped_at (λ x. x.entry) states p (state_from e first) at) in (
           rest.0,
           rest.1,
-          behind_others first rest.0 board one.board (map (told_as row.entry) one.marks)
-              (run_rows pace r rows one.board).settled
-              (all_mapped (IsOther true) (told_as row.entry) one.marks (told_before row.entry before))
-              (row_fits pace r row board).board rest.2,
+          behind_others first rest.0 board one.board (map (told_as state.entry) one.marks)
+              (run_entries pace r states one.board).settled
+              (all_mapped (IsOther true) (told_as state.entry) one.marks (told_before state.entry before))
+              (state_fits pace r state board).board rest.2,
         )
 
-    same_entries : (rows : List Row) (board : Board) → entries_of (run_rows pace r rows board).rows ≡ entries_of rows
-    unfolding run_rows
+    same_entries : (states : List EntryState) (board : Board) → entries_of (run_entries pace r states board).states ≡ entries_of states
+    unfolding run_entries
     same_entries [] board = refl
-    same_entries (row ∷ rows) board =
-        ap (λ es. row.entry ∷ es) (same_entries rows (settle_row pace r row board).board)
+    same_entries (state ∷ states) board =
+        ap (λ es. state.entry ∷ es) (same_entries states (settle_entry pace r state board).board)
 
   -- rounds from round `r` on
 
@@ -429,39 +429,39 @@ module _ (pace : Pace) (e : Entry) (n : ℕ) where
           | inr low ↦ let one = here.once (omega (arith, low)) less in omega (arith, one)
         ]
 
-  story : (boards : List Board) (r : ℕ) (rows : List Row) (p first : ℕ) → HasWindows e →
-      (first ≤ n → end_after pace r ≤ window_end e n) → IsOrdered (entries_of rows) →
-      slice_get rows p ≡ Some (row_from e first) →
-      Story r first (rounds_on (record { pace = pace; next_round = r; rows = rows }) boards)
-  story [] r rows p first is fresh ordered at = ended r first fresh
-  story (board ∷ boards) r rows p first is fresh ordered at =
-      let now = run_round r rows p first board is fresh ordered at in
-      let done : Ran = run_rows pace r rows board in
+  story : (boards : List Board) (r : ℕ) (states : List EntryState) (p first : ℕ) → HasWindows e →
+      (first ≤ n → end_after pace r ≤ window_end e n) → IsOrdered (entries_of states) →
+      slice_get states p ≡ Some (state_from e first) →
+      Story r first (rounds_on (record { pace = pace; next_round = r; states = states }) boards)
+  story [] r states p first is fresh ordered at = ended r first fresh
+  story (board ∷ boards) r states p first is fresh ordered at =
+      let now = run_round r states p first board is fresh ordered at in
+      let done : Ran = run_entries pace r states board in
       let fresh_then : now.0 ≤ n → end_after pace (r + 1) ≤ window_end e n = λ low. elim
       (cases_lt (window_end e n) (end_after pace (r + 1))) [
         | inl past ↦ let less = now.2.over past in absurd (omega (arith, less, low))
         | inr late ↦ omega (arith, late)
       ] in
       one_more r first now.0 (record { board = board; settled = done.settled })
-      (rounds_on (record { pace = pace; next_round = r + 1; rows = done.rows }) boards) now.2
-      (story boards (r + 1) done.rows p now.0 is fresh_then (subst IsOrdered (sym (same_entries r rows board)) ordered)
+      (rounds_on (record { pace = pace; next_round = r + 1; states = done.states }) boards) now.2
+      (story boards (r + 1) done.states p now.0 is fresh_then (subst IsOrdered (sym (same_entries r states board)) ordered)
       now.1)
 
 -- of a calendar from round 0 on
 
-abbrev fresh_row : Entry → Row
-fresh_row e = record { entry = e; settled = [] }
+abbrev fresh_state : Entry → EntryState
+fresh_state e = record { entry = e; settled = [] }
 
-entries_again : (es : List Entry) → entries_of (map fresh_row es) ≡ es
+entries_again : (es : List Entry) → entries_of (map fresh_state es) ≡ es
 entries_again [] = refl
 entries_again (e ∷ es) = ap (λ more. e ∷ more) (entries_again es)
 
 pub settled_once : (pace : Pace) (es : List Entry) (boards : List Board) → IsOrdered es → AllByRecursion HasWindows es →
     AllByRecursion (λ e. (n : ℕ) →
-    IsSettledOnce pace (rounds_on (record { pace = pace; next_round = 0; rows = map fresh_row es }) boards) e n) es
+    IsSettledOnce pace (rounds_on (record { pace = pace; next_round = 0; states = map fresh_state es }) boards) e n) es
 settled_once pace es boards ordered windows = all_places (λ e. (n : ℕ) → IsSettledOnce pace all e n) es (λ p e at n.
-    let it = story pace e n boards 0 (map fresh_row es) p 0 (at_place HasWindows es p e windows at)
-    (λ _. omega arith) (subst IsOrdered (sym (entries_again es)) ordered) (mapped_at fresh_row es p e at) in
+    let it = story pace e n boards 0 (map fresh_state es) p 0 (at_place HasWindows es p e windows at)
+    (λ _. omega arith) (subst IsOrdered (sym (entries_again es)) ordered) (mapped_at fresh_state es p e at) in
     let start : 0 + length all ≡ length all = omega arith in
     record {
       closed = λ past. it.closed (omega arith) (subst (λ c. window_end e n < end_after pace c) (sym start) past);
@@ -476,7 +476,7 @@ settled_once pace es boards ordered windows = all_places (λ e. (n : ℕ) → Is
     })
   where
     all : List Round
-    all = rounds_on (record { pace = pace; next_round = 0; rows = map fresh_row es }) boards
+    all = rounds_on (record { pace = pace; next_round = 0; states = map fresh_state es }) boards
 
     from_zero : (r : ℕ) → 0 + r ≡ r
     from_zero r = omega arith

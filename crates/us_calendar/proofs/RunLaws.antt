@@ -10,10 +10,10 @@ use Rattle.us_holes.proofs.LawLemmas.{first_of-is}
 use Rattle.us_flows.proofs.TurnLemmas.{all-append}
 use Rattle.us_calendar.specs.Entries.{Entry}
 use Rattle.us_calendar.specs.Occurrences.{Pace, is_over, starts_within, due, end_of}
-use Rattle.us_calendar.specs.Settling.{Outcome, Row, spot, with_spot, settle_each, settle_row, after_marks, told_as}
-use Rattle.us_calendar.specs.Calendars.{Calendar, Ran, run_rows, StartsInside, granted_in, one_if_granted}
+use Rattle.us_calendar.specs.Settling.{Outcome, EntryState, spot, with_spot, settle_each, settle_entry, after_marks, told_as}
+use Rattle.us_calendar.specs.Calendars.{Calendar, Ran, run_entries, StartsInside, granted_in, one_if_granted}
 use Rattle.us_calendar.specs.declared.settled.Settled.{Settled}
-use Rattle.us_calendar.specs.Kept.{IsRow, IsKept, IsAgenda}
+use Rattle.us_calendar.specs.Kept.{IsEntryState, IsKept, IsAgenda}
 use Rattle.us_calendar.proofs.SettleLemmas.{then_settle}
 
 -- of what one entry is granted and misses
@@ -53,39 +53,39 @@ each_told pace round e (n ∷ ns) board =
     one_told pace round e n found board (settle_each pace round e ns) (spot_inside pace round e n board found refl)
     (each_told pace round e ns (with_spot e found board))
 
-row_told : (pace : Pace) (round : ℕ) (row : Row) (board : Board) →
-    Told pace.len row.entry board (settle_row pace round row board)
-unfolding settle_row
-row_told pace round row board =
-    each_told pace round row.entry (due row.entry (end_of pace round) row.settled) board
+state_told : (pace : Pace) (round : ℕ) (state : EntryState) (board : Board) →
+    Told pace.len state.entry board (settle_entry pace round state board)
+unfolding settle_entry
+state_told pace round state board =
+    each_told pace round state.entry (due state.entry (end_of pace round) state.settled) board
 
-abbrev pub settled_by : List Row → ℕ
-settled_by rows = sum_by (λ row. length row.settled) rows
+abbrev pub settled_by : List EntryState → ℕ
+settled_by states = sum_by (λ state. length state.settled) states
 
 -- of a whole round
-pub record Ended (len : ℕ) (rows : List Row) (before : Board) (ran : Ran) : Type 0 where
+pub record Ended (len : ℕ) (states : List EntryState) (before : Board) (ran : Ran) : Type 0 where
   pub inside : AllByRecursion (StartsInside len) ran.settled
   pub granted : granted_in ran.settled + before.standing ≡ ran.board.standing
-  pub counts : length ran.settled + settled_by rows ≡ settled_by ran.rows
-  pub many : length ran.rows ≡ length rows
+  pub counts : length ran.settled + settled_by states ≡ settled_by ran.states
+  pub many : length ran.states ≡ length states
 
-pub run_ended : (pace : Pace) (round : ℕ) (rows : List Row) (board : Board) →
-    Ended pace.len rows board (run_rows pace round rows board)
-unfolding run_rows
+pub run_ended : (pace : Pace) (round : ℕ) (states : List EntryState) (board : Board) →
+    Ended pace.len states board (run_entries pace round states board)
+unfolding run_entries
 run_ended pace round [] board = record { inside = tt; granted = omega arith; counts = omega arith; many = refl }
-run_ended pace round (row ∷ rows) board =
-    let one : Outcome = settle_row pace round row board in
-    let told : List Settled = map (told_as row.entry) one.marks in
-    let rest : Ran = run_rows pace round rows one.board in
-    let here = row_told pace round row board in
-    let others = run_ended pace round rows one.board in
+run_ended pace round (state ∷ states) board =
+    let one : Outcome = settle_entry pace round state board in
+    let told : List Settled = map (told_as state.entry) one.marks in
+    let rest : Ran = run_entries pace round states one.board in
+    let here = state_told pace round state board in
+    let others = run_ended pace round states one.board in
     let sum = sum_by-append one_if_granted told rest.settled in
     let long = length-append told rest.settled in
-    let marks = length-map one.marks (told_as row.entry) in
+    let marks = length-map one.marks (told_as state.entry) in
     let numbers = length-map one.marks (λ m. m.number) in
-    let grown = length-append row.settled (map (λ m. m.number) one.marks) in
-    let before = sum_by-cons (λ r. length r.settled) row rows in
-    let after = sum_by-cons (λ r. length r.settled) (after_marks row one.marks) rest.rows in
+    let grown = length-append state.settled (map (λ m. m.number) one.marks) in
+    let before = sum_by-cons (λ r. length r.settled) state states in
+    let after = sum_by-cons (λ r. length r.settled) (after_marks state one.marks) rest.states in
     record {
       inside = all-append (StartsInside pace.len) told rest.settled here.inside others.inside;
       granted = omega (arith, sum, here.granted, others.granted);
@@ -93,57 +93,57 @@ run_ended pace round (row ∷ rows) board =
       many = omega (arith, others.many);
     }
 
-settled_most : (rows : List Row) → AllByRecursion IsRow rows → settled_by rows ≤ length rows * 2 ^ 38
+settled_most : (states : List EntryState) → AllByRecursion IsEntryState states → settled_by states ≤ length states * 2 ^ 38
 settled_most [] all = omega arith
-settled_most (row ∷ rows) all =
+settled_most (state ∷ states) all =
     let few = all.0.few in
-    let rest = settled_most rows all.1 in
-    let one = sum_by-cons (λ r. length r.settled) row rows in
+    let rest = settled_most states all.1 in
+    let one = sum_by-cons (λ r. length r.settled) state states in
     omega (arith, few, rest, one)
 
-pub written : (old new : List Row) → length new ≡ length old → take (length old) (new ++ drop (length new) old) ≡ new
+pub written : (old new : List EntryState) → length new ≡ length old → take (length old) (new ++ drop (length new) old) ≡ new
 written [] [] e = refl
 written [] (x ∷ xs) e = absurd (omega (arith, e))
 written (o ∷ os) [] e = absurd (omega (arith, e))
 written (o ∷ os) (x ∷ xs) e = ap (λ more. x ∷ more) (written os xs (omega (arith, e)))
 
 -- and so the calendar keeps what it owes
-pub run_kept : (calendar : Calendar) (now : List Row) (next len : ℕ) (board : Board) (keys had : List ℕ) →
-    IsKept calendar had → now ≡ (run_rows calendar.pace calendar.next_round calendar.rows board).rows →
-    (AllByRecursion IsRow calendar.rows → AllByRecursion IsRow now) → len ≡ length calendar.rows →
+pub run_kept : (calendar : Calendar) (now : List EntryState) (next len : ℕ) (board : Board) (keys had : List ℕ) →
+    IsKept calendar had → now ≡ (run_entries calendar.pace calendar.next_round calendar.states board).states →
+    (AllByRecursion IsEntryState calendar.states → AllByRecursion IsEntryState now) → len ≡ length calendar.states →
     next ≡ calendar.next_round + 1 → IsAgenda calendar.pace next 0 now keys 0 →
     IsKept (record {
       pace = calendar.pace;
       next_round = next;
-      rows = take len (now ++ drop (length now) calendar.rows);
+      states = take len (now ++ drop (length now) calendar.states);
     }) keys
-run_kept calendar now next len board keys had kept now_is rows_kept len_is next_is agenda =
-    let ended = run_ended calendar.pace calendar.next_round calendar.rows board in
-    let many : length now ≡ length calendar.rows = ap length now_is ∙ ended.many in
-    let rows = rows_kept kept.rows in
-    let most = settled_most now rows in
+run_kept calendar now next len board keys had kept now_is states_kept len_is next_is agenda =
+    let ended = run_ended calendar.pace calendar.next_round calendar.states board in
+    let many : length now ≡ length calendar.states = ap length now_is ∙ ended.many in
+    let states = states_kept kept.states in
+    let most = settled_most now states in
     let few : length now ≤ 1280 = omega (arith, kept.few) in
-    let back : take len (now ++ drop (length now) calendar.rows) ≡ now =
-    ap (λ n. take n (now ++ drop (length now) calendar.rows)) len_is ∙ written calendar.rows now many in
-    subst (λ rs. IsKept (record { pace = calendar.pace; next_round = next; rows = rs }) keys) (sym back) (record {
+    let back : take len (now ++ drop (length now) calendar.states) ≡ now =
+    ap (λ n. take n (now ++ drop (length now) calendar.states)) len_is ∙ written calendar.states now many in
+    subst (λ rs. IsKept (record { pace = calendar.pace; next_round = next; states = rs }) keys) (sym back) (record {
       known = record { len = kept.known.len; ticks = kept.known.ticks; settled = omega (arith, most, few) };
       few = few;
-      rows = rows;
+      states = states;
       agenda = agenda;
     })
 
 -- before round 0 too
-pub opening_kept : (pace : Pace) (rows : List Row) (es : List Entry) (keys : List ℕ) → 1 ≤ pace.len →
-    pace.len * minislot_ticks pace.time ≤ 4096 → rows ≡ map (λ e. record { entry = e; settled = [] }) es →
-    length es ≤ 1280 → AllByRecursion IsRow rows → IsAgenda pace 0 0 rows keys 0 →
-    IsKept (record { pace = pace; next_round = 0; rows = rows }) keys
-opening_kept pace rows es keys some ticks rows_are few all agenda =
-    let fresh : Entry → Row = λ e. record { entry = e; settled = [] } in
-    let many : length rows ≡ length es = ap length rows_are ∙ length-map es fresh in
-    let most = settled_most rows all in
+pub opening_kept : (pace : Pace) (states : List EntryState) (es : List Entry) (keys : List ℕ) → 1 ≤ pace.len →
+    pace.len * minislot_ticks pace.time ≤ 4096 → states ≡ map (λ e. record { entry = e; settled = [] }) es →
+    length es ≤ 1280 → AllByRecursion IsEntryState states → IsAgenda pace 0 0 states keys 0 →
+    IsKept (record { pace = pace; next_round = 0; states = states }) keys
+opening_kept pace states es keys some ticks states_are few all agenda =
+    let fresh : Entry → EntryState = λ e. record { entry = e; settled = [] } in
+    let many : length states ≡ length es = ap length states_are ∙ length-map es fresh in
+    let most = settled_most states all in
     record {
       known = record { len = some; ticks = ticks; settled = omega (arith, most, many, few) };
       few = omega (arith, many, few);
-      rows = all;
+      states = all;
       agenda = agenda;
     }

@@ -7,7 +7,7 @@ use Rattle.us_slots.specs.Times.{start_of}
 use Rattle.us_holes.specs.Boards.{Board, fits, first_of}
 use Rattle.us_calendar.specs.Entries.{Entry}
 use Rattle.us_calendar.specs.Occurrences.{Pace, ideal, end_of, is_over, due}
-use Rattle.us_calendar.specs.Settling.{Mark, Outcome, spot, mark, with_spot, settle_each, settle_row, told_as}
+use Rattle.us_calendar.specs.Settling.{Mark, Outcome, spot, mark, with_spot, settle_each, settle_entry, told_as}
 use Rattle.us_calendar.specs.declared.settled.Settled.{Settled}
 use Rattle.us_calendar.specs.Kept.{settle_from}
 use Rattle.us_calendar.proofs.IdealLemmas.{HasWindows, ideal-apart, number-below}
@@ -55,7 +55,7 @@ pub settle-next : (pace : Pace) (round : ℕ) (e : Entry) (n : ℕ) (board : Boa
     ideal e n < end_of pace round →
     settle_from pace round e n board ≡
     then_settle pace round e n (spot pace round e n board) (settle_from pace round e (n + 1)) board
-unfolding settle_row
+unfolding settle_entry
 settle-next pace round e n board is h =
     ap (λ ns. settle_each pace round e ns board) (due-next e (end_of pace round) n is h) ∙
     settle_each-cons pace round e n (due e (end_of pace round) (range_with_len 0 (n + 1))) board
@@ -63,7 +63,7 @@ settle-next pace round e n board is h =
 -- where it is due at all,
 pub settle-none : (pace : Pace) (round : ℕ) (e : Entry) (n : ℕ) (board : Board) → HasWindows e →
     end_of pace round ≤ ideal e n → settle_from pace round e n board ≡ nothing board
-unfolding settle_row settle_each
+unfolding settle_entry settle_each
 settle-none pace round e n board is h =
     ap (λ ns. settle_each pace round e ns board) (due-none e (end_of pace round) n is h)
 
@@ -93,7 +93,7 @@ all_wait pace round e n board (m ∷ ns) is waits all =
 pub settle-waits : (pace : Pace) (round : ℕ) (e : Entry) (n : ℕ) (board : Board) → HasWindows e →
     spot pace round e n board ≡ None → is_over pace round e n ≡ false →
     settle_from pace round e n board ≡ nothing board
-unfolding settle_row
+unfolding settle_entry
 settle-waits pace round e n board is no_spot not_over =
     settle-idle pace round e (due e (end_of pace round) (range_with_len 0 n)) board
     (all_wait pace round e n board (due e (end_of pace round) (range_with_len 0 n)) is (no_spot, not_over)

@@ -6,7 +6,7 @@ use Rattle.us_flows.specs.Tables.{Tables, map_len}
 use Rattle.us_holes.specs.Boards.{Board}
 use Rattle.us_calendar.specs.Entries.{entries}
 use Rattle.us_calendar.specs.Occurrences.{Pace}
-use Rattle.us_calendar.specs.Settling.{Row, Outcome, settle_row, after_marks, told_as}
+use Rattle.us_calendar.specs.Settling.{EntryState, Outcome, settle_entry, after_marks, told_as}
 use Rattle.us_calendar.specs.declared.settled.Settled.{Settled}
 use Rattle.us_calendar.specs.declared.settled.Settled.TheVariants as told
 
@@ -14,7 +14,7 @@ use Rattle.us_calendar.specs.declared.settled.Settled.TheVariants as told
 pub record Calendar : Type 0 where
   pub pace : Pace
   pub next_round : ℕ
-  pub rows : List Row
+  pub states : List EntryState
 
 abbrev pub pace_of : Tables → Channel → Pace
 pace_of t c = record { time = c.bursts.time; len = map_len t c }
@@ -24,42 +24,42 @@ abbrev pub opening : Tables → Channel → Calendar
 opening t c = record {
   pace = pace_of t c;
   next_round = 0;
-  rows = map (λ e. record { entry = e; settled = [] }) (entries t c);
+  states = map (λ e. record { entry = e; settled = [] }) (entries t c);
 }
 
 -- what a round comes to: the calendar and the board that it leaves, and what it settled, in the order of entries
 pub record Ran : Type 0 where
-  pub rows : List Row
+  pub states : List EntryState
   pub board : Board
   pub settled : List Settled
 
 -- entries one after another, each on the board that those before it leave
-unfoldable pub run_rows : Pace → ℕ → List Row → Board → Ran
-run_rows pace round [] board = record { rows = []; board = board; settled = [] }
-run_rows pace round (row ∷ more) board =
-    let one : Outcome = settle_row pace round row board in
-    let rest : Ran = run_rows pace round more one.board in
+unfoldable pub run_entries : Pace → ℕ → List EntryState → Board → Ran
+run_entries pace round [] board = record { states = []; board = board; settled = [] }
+run_entries pace round (state ∷ more) board =
+    let one : Outcome = settle_entry pace round state board in
+    let rest : Ran = run_entries pace round more one.board in
     record {
-      rows = after_marks row one.marks ∷ rest.rows;
+      states = after_marks state one.marks ∷ rest.states;
       board = rest.board;
-      settled = map (told_as row.entry) one.marks ++ rest.settled;
+      settled = map (told_as state.entry) one.marks ++ rest.settled;
     }
 
 -- the round of a calendar on a board
 abbrev pub ran : Calendar → Board → Ran
-ran calendar board = run_rows calendar.pace calendar.next_round calendar.rows board
+ran calendar board = run_entries calendar.pace calendar.next_round calendar.states board
 
 -- and the calendar then
 abbrev pub after : Calendar → Board → Calendar
 after calendar board = record {
   pace = calendar.pace;
   next_round = calendar.next_round + 1;
-  rows = (ran calendar board).rows;
+  states = (ran calendar board).states;
 }
 
 -- how many occurrences are settled so far, granted or missed
 abbrev pub settled_in : Calendar → ℕ
-settled_in calendar = sum_by (λ row. length row.settled) calendar.rows
+settled_in calendar = sum_by (λ state. length state.settled) calendar.states
 
 -- the most of them: a calendar has at most 1,280 entries, and each has at most 127 occurrences in a quarter microsecond
 -- of a run, of which there are fewer than 2^32

@@ -3,8 +3,8 @@ use Rattle.std.specs.Prelude.{◌≡◌, ℕ, [], ◌∷◌, Some, None, refl}
 use Rattle.us_holes.specs.Boards.{Owner, Board, empty_board, assign, first_of}
 use Rattle.us_calendar.specs.Entries.{Entry, in_order}
 use Rattle.us_calendar.specs.Occurrences.{Pace, due}
-use Rattle.us_calendar.specs.Settling.{Row, Mark, settle_each, settle_row}
-use Rattle.us_calendar.specs.Calendars.{Calendar, run_rows}
+use Rattle.us_calendar.specs.Settling.{EntryState, Mark, settle_each, settle_entry}
+use Rattle.us_calendar.specs.Calendars.{Calendar, run_entries}
 use Rattle.us_calendar.specs.Runs.{rounds_on, times, grants, misses}
 use Rattle.us_calendar.specs.declared.kinds.Kind.{Kind}
 use Rattle.us_calendar.specs.declared.kinds.Kind.TheVariants as kinds
@@ -29,8 +29,8 @@ entry start jitter grants = record {
   grants = grants;
 }
 
-abbrev row : ℕ → ℕ → ℕ → Row
-row start jitter grants = record { entry = entry start jitter grants; settled = [] }
+abbrev state : ℕ → ℕ → ℕ → EntryState
+state start jitter grants = record { entry = entry start jitter grants; settled = [] }
 
 abbrev idle : Board
 idle = empty_board 4
@@ -42,54 +42,54 @@ abbrev missed : ℕ → Mark
 missed number = record { number = number; start = None }
 
 -- a window in which no minislot starts
-no_start : (settle_row pace 0 (row 1 0 1) idle).marks ≡ missed 0 ∷ []
-unfolding settle_row settle_each due first_of
+no_start : (settle_entry pace 0 (state 1 0 1) idle).marks ≡ missed 0 ∷ []
+unfolding settle_entry settle_each due first_of
 no_start = refl
 
 -- one that goes on behind the round: it waits, and the next round grants it the first minislot
-waits : (settle_row pace 0 (row 90 20 1) idle).marks ≡ []
-unfolding settle_row settle_each due first_of
+waits : (settle_entry pace 0 (state 90 20 1) idle).marks ≡ []
+unfolding settle_entry settle_each due first_of
 waits = refl
 
-granted_later : (settle_row pace 1 (row 90 20 1) idle).marks ≡ granted 0 0 ∷ []
-unfolding settle_row settle_each due first_of
+granted_later : (settle_entry pace 1 (state 90 20 1) idle).marks ≡ granted 0 0 ∷ []
+unfolding settle_entry settle_each due first_of
 granted_later = refl
 
 -- the window ends, and its minislots were all taken
-taken_before : (settle_row pace 0 (row 0 30 1) (assign idle 0 2 grant)).marks ≡ missed 0 ∷ []
-unfolding settle_row settle_each due first_of
+taken_before : (settle_entry pace 0 (state 0 30 1) (assign idle 0 2 grant)).marks ≡ missed 0 ∷ []
+unfolding settle_entry settle_each due first_of
 taken_before = refl
 
 -- a window that ends just where round 0 does isn't over in that round: it waits, and is missed in the next one
-ends_with_round : (settle_row pace 0 (row 80 20 1) (assign idle 0 4 grant)).marks ≡ []
-unfolding settle_row settle_each due first_of
+ends_with_round : (settle_entry pace 0 (state 80 20 1) (assign idle 0 4 grant)).marks ≡ []
+unfolding settle_entry settle_each due first_of
 ends_with_round = refl
 
-missed_later : (settle_row pace 1 (row 80 20 1) (assign idle 0 4 grant)).marks ≡ missed 0 ∷ []
-unfolding settle_row settle_each due first_of
+missed_later : (settle_entry pace 1 (state 80 20 1) (assign idle 0 4 grant)).marks ≡ missed 0 ∷ []
+unfolding settle_entry settle_each due first_of
 missed_later = refl
 
 -- over both rounds it is granted once, and never missed
 abbrev calendar : Calendar
-calendar = record { pace = pace; next_round = 0; rows = row 90 20 1 ∷ [] }
+calendar = record { pace = pace; next_round = 0; states = state 90 20 1 ∷ [] }
 
 once : times (grants (entry 90 20 1) 0) (rounds_on calendar (idle ∷ idle ∷ [])) ≡ 1
-unfolding run_rows settle_row settle_each due first_of
+unfolding run_entries settle_entry settle_each due first_of
 once = refl
 
 never : times (misses (entry 90 20 1) 0) (rounds_on calendar (idle ∷ idle ∷ [])) ≡ 0
-unfolding run_rows settle_row settle_each due first_of
+unfolding run_entries settle_entry settle_each due first_of
 never = refl
 
 -- three grants of an interval for which there are two minislots
-some_missed : (settle_row pace 0 (row 0 75 3) (assign idle 0 2 grant)).marks ≡
+some_missed : (settle_entry pace 0 (state 0 75 3) (assign idle 0 2 grant)).marks ≡
     granted 0 2 ∷ granted 1 3 ∷ missed 2 ∷ []
-unfolding settle_row settle_each due first_of
+unfolding settle_entry settle_each due first_of
 some_missed = refl
 
 -- and none where as many assignments stand as there may be
-none_more : (settle_row pace 0 (row 0 75 1) (record { cells = idle.cells; standing = 100 })).marks ≡ missed 0 ∷ []
-unfolding settle_row settle_each due first_of
+none_more : (settle_entry pace 0 (state 0 75 1) (record { cells = idle.cells; standing = 100 })).marks ≡ missed 0 ∷ []
+unfolding settle_entry settle_each due first_of
 none_more = refl
 
 abbrev of_kind : Kind → ℕ → Entry

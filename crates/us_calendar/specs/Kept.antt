@@ -6,7 +6,7 @@ use Rattle.us_slots.specs.Times.{minislot_ticks, IsTiming}
 use Rattle.us_holes.specs.Boards.{Board, IsOwner}
 use Rattle.us_calendar.specs.Entries.{Entry}
 use Rattle.us_calendar.specs.Occurrences.{Pace, end_of, due}
-use Rattle.us_calendar.specs.Settling.{Row, Outcome, settle_row}
+use Rattle.us_calendar.specs.Settling.{EntryState, Outcome, settle_entry}
 use Rattle.us_calendar.specs.Calendars.{Calendar, IsCalendar}
 
 -- a MAP has a minislot at least, and at most 4,096 ticks
@@ -30,21 +30,21 @@ abbrev pub max_number : ℕ
 max_number = 2 ^ 38
 
 -- what is settled of an entry are its first occurrences
-pub record IsRow (row : Row) : Type 0 where
-  pub entry : IsEntry row.entry
-  pub settled : row.settled ≡ range_with_len 0 (length row.settled)
-  pub few : length row.settled ≤ max_number
+pub record IsEntryState (state : EntryState) : Type 0 where
+  pub entry : IsEntry state.entry
+  pub settled : state.settled ≡ range_with_len 0 (length state.settled)
+  pub few : length state.settled ≤ max_number
 
--- the row of an entry of which so many occurrences are settled
-abbrev pub row_from : Entry → ℕ → Row
-row_from e next = record { entry = e; settled = range_with_len 0 next }
+-- the state of an entry of which so many occurrences are settled
+abbrev pub state_from : Entry → ℕ → EntryState
+state_from e next = record { entry = e; settled = range_with_len 0 next }
 
 abbrev pub settle_from : Pace → ℕ → Entry → ℕ → Board → Outcome
-settle_from pace round e next board = settle_row pace round (row_from e next) board
+settle_from pace round e next board = settle_entry pace round (state_from e next) board
 
 -- nothing of an entry is due in a round
-abbrev pub IsQuiet : Pace → ℕ → Row → Type 0
-IsQuiet pace round row = due row.entry (end_of pace round) row.settled ≡ []
+abbrev pub IsQuiet : Pace → ℕ → EntryState → Type 0
+IsQuiet pace round state = due state.entry (end_of pace round) state.settled ≡ []
 
 -- What is noted is a round and the place of an entry, as one number: earlier rounds come first, and in a round places.
 abbrev pub places : ℕ
@@ -79,18 +79,18 @@ IsNotedIn old key new = (IsNoted old 0 key × (new ≡ old)) ⊎
 -- What is noted are rounds and places of entries, in order; from place `first` of the list on, none of an earlier round
 -- than this, and those of this round from the entry at `from` on: the entries before it have had their turn. Each entry
 -- is noted for a round before which nothing of it is due.
-pub record IsAgenda (pace : Pace) (round from : ℕ) (rows : List Row) (keys : List ℕ) (first : ℕ) : Type 0 where
-  pub few : length rows ≤ places
+pub record IsAgenda (pace : Pace) (round from : ℕ) (states : List EntryState) (keys : List ℕ) (first : ℕ) : Type 0 where
+  pub few : length states ≤ places
   pub rising : IsRising keys
   pub noted : (at place : ℕ) → place < places → IsNoted keys first (key_of at place) →
-      (place < length rows) × (round ≤ at) × (at ≡ round → from ≤ place)
-  pub quiet : (place : ℕ) (row : Row) → slice_get rows place ≡ Some row →
+      (place < length states) × (round ≤ at) × (at ≡ round → from ≤ place)
+  pub quiet : (place : ℕ) (state : EntryState) → slice_get states place ≡ Some state →
       (at : ℕ) × IsNoted keys first (key_of at place) × ((earlier : ℕ) → round ≤ earlier →
-      (place < from → round < earlier) → earlier < at → IsQuiet pace earlier row)
+      (place < from → round < earlier) → earlier < at → IsQuiet pace earlier state)
 
 -- what a calendar keeps, with what it notes
 pub record IsKept (calendar : Calendar) (keys : List ℕ) : Type 0 where
   pub known : IsCalendar calendar
-  pub few : length calendar.rows ≤ 1280
-  pub rows : AllByRecursion IsRow calendar.rows
-  pub agenda : IsAgenda calendar.pace calendar.next_round 0 calendar.rows keys 0
+  pub few : length calendar.states ≤ 1280
+  pub states : AllByRecursion IsEntryState calendar.states
+  pub agenda : IsAgenda calendar.pace calendar.next_round 0 calendar.states keys 0

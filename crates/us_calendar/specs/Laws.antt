@@ -7,8 +7,8 @@ use Rattle.us_flows.specs.Lawful.{AreTables}
 use Rattle.us_holes.specs.Boards.{Board, assign_all, AllFit}
 use Rattle.us_calendar.specs.Entries.{Entry, entries}
 use Rattle.us_calendar.specs.Occurrences.{Pace}
-use Rattle.us_calendar.specs.Settling.{Row, settle_row, after_marks}
-use Rattle.us_calendar.specs.Calendars.{run_rows, pace_of, opening}
+use Rattle.us_calendar.specs.Settling.{EntryState, settle_entry, after_marks}
+use Rattle.us_calendar.specs.Calendars.{run_entries, pace_of, opening}
 use Rattle.us_calendar.specs.Runs.{Round, intervals_of, rounds_on, IsOccurrence, IsSettledOnce}
 
 -- Where the settled occurrences of an entry are the first ones, as many as there are, so they are after a round: what is
@@ -17,15 +17,15 @@ use Rattle.us_calendar.specs.Runs.{Round, intervals_of, rounds_on, IsOccurrence,
 abbrev pub FirstOnes : Type 0
 FirstOnes = (pace : Pace) (round count : ℕ) (e : Entry) (board : Board) → 1 ≤ e.grants → e.jitter < e.interval →
     (more : ℕ) × ((after_marks (record { entry = e; settled = range_with_len 0 count })
-    (settle_row pace round (record { entry = e; settled = range_with_len 0 count }) board).marks).settled
+    (settle_entry pace round (record { entry = e; settled = range_with_len 0 count }) board).marks).settled
     ≡ range_with_len 0 more)
 
 -- A round leaves the board with what it granted, each where it fitted, after those before it.
 abbrev pub GrantsFit : Type 0
-GrantsFit = (pace : Pace) (round : ℕ) (rows : List Row) (board : Board) →
-    ((run_rows pace round rows board).board ≡
-    assign_all board (flat_map intervals_of (run_rows pace round rows board).settled))
-    × AllFit board (flat_map intervals_of (run_rows pace round rows board).settled)
+GrantsFit = (pace : Pace) (round : ℕ) (states : List EntryState) (board : Board) →
+    ((run_entries pace round states board).board ≡
+    assign_all board (flat_map intervals_of (run_entries pace round states board).settled))
+    × AllFit board (flat_map intervals_of (run_entries pace round states board).settled)
 
 -- Each occurrence of each entry of a channel whose window ends in a run is granted in its window or missed, once, and is
 -- missed where it found no room.

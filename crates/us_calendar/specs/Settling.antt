@@ -39,18 +39,18 @@ settle_each pace round e (n ∷ ns) board =
     record { board = rest.board; marks = mark pace round e n found ++ rest.marks }
 
 -- an entry, with the numbers of its occurrences that are settled
-pub record Row : Type 0 where
+pub record EntryState : Type 0 where
   pub entry : Entry
   pub settled : List ℕ
 
 -- an entry in a round: all of its occurrences that are due before the round ends
-unfoldable pub settle_row : Pace → ℕ → Row → Board → Outcome
-settle_row pace round row board =
-    settle_each pace round row.entry (due row.entry (end_of pace round) row.settled) board
+unfoldable pub settle_entry : Pace → ℕ → EntryState → Board → Outcome
+settle_entry pace round state board =
+    settle_each pace round state.entry (due state.entry (end_of pace round) state.settled) board
 
--- and its row then
-abbrev pub after_marks : Row → List Mark → Row
-after_marks row marks = record { entry = row.entry; settled = row.settled ++ map (λ m. m.number) marks }
+-- and its state then
+abbrev pub after_marks : EntryState → List Mark → EntryState
+after_marks state marks = record { entry = state.entry; settled = state.settled ++ map (λ m. m.number) marks }
 
 -- how it is told: the interval, and the place among the grants of the interval
 abbrev pub told_as : Entry → Mark → Settled

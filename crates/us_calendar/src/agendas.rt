@@ -2,58 +2,58 @@ ghost use Rattle.std.specs.Prelude.{◌≡◌, ◌+◌, ◌*◌, ◌≤◌, ◌<
 ghost use Rattle.std.specs.List.{AllByRecursion};
 ghost use Rattle.us_slots.specs.Times.{minislot_ticks};
 ghost use Rattle.us_flows.specs.Tables.{max_run_ticks};
-ghost use Rattle.us_calendar.specs.Calendars.{run_rows};
-ghost use Rattle.us_calendar.specs.Kept.{IsRow, IsAgenda, IsRising, IsNotedIn, IsParted, key_of as spec_key_of, places, last_round};
+ghost use Rattle.us_calendar.specs.Calendars.{run_entries};
+ghost use Rattle.us_calendar.specs.Kept.{IsEntryState, IsAgenda, IsRising, IsNotedIn, IsParted, key_of as spec_key_of, places, last_round};
 
 use crate::entries::Entry;
+use crate::entry_states::EntryState;
 use crate::keys::{key_of, place_of};
 use crate::paces::Pace;
-use crate::rows::Row;
 use crate::settled::Settled;
 use std::alloc::Global;
 use us_holes::Board;
 use us_slots::NoMemory;
 
-/// The rows of these entries before round 0, each noted for the first round in which something of it is due.
+/// The states of these entries before round 0, each noted for the first round in which something of it is due.
 pub(crate) fn noted(
     alloc: Global,
     pace: Pace,
     entries: &[Entry],
-) -> Result<(Vec<Row>, Vec<u64>), NoMemory>
+) -> Result<(Vec<EntryState>, Vec<u64>), NoMemory>
     requires few { length entries.now ≤ 1280 }
-    ensures rows { IfOk result
+    ensures states { IfOk result
         (λ kept. kept.0.items ≡ map (λ e. record { entry = e; settled = [] }) entries.now) }
-    ensures known { IfOk result (λ kept. AllByRecursion IsRow kept.0.items) }
+    ensures known { IfOk result (λ kept. AllByRecursion IsEntryState kept.0.items) }
     ensures agenda { IfOk result (λ kept. IsAgenda pace 0 0 kept.0.items kept.1.items 0) }
 {
-    let mut rows = Vec::with_capacity(alloc, entries.len())?;
+    let mut states = Vec::with_capacity(alloc, entries.len())?;
     let mut due = Vec::with_capacity(alloc, entries.len())?;
     for entry in entries {
-        let row = Row::new(*entry);
-        note(&mut due, row.due_round(pace, 0), rows.len())?;
-        rows.push(row)?;
+        let state = EntryState::new(*entry);
+        note(&mut due, state.due_round(pace, 0), states.len())?;
+        states.push(state)?;
     }
-    Ok((rows, due))
+    Ok((states, due))
 }
 
 /// Settles what is due in a round, the next one, and notes when these entries are due again.
 pub(crate) fn settle_due(
     pace: Pace,
     round: u32,
-    rows: &mut [Row],
+    states: &mut [EntryState],
     due: &mut Vec<u64>,
     board: &mut Board,
     settled: &mut Vec<Settled>,
 ) -> Result<(), NoMemory>
     requires time { (round + 1) * (pace.len * minislot_ticks pace.time) ≤ max_run_ticks }
     requires len { length board.old.cells ≡ pace.len }
-    requires agenda { IsAgenda pace round 0 rows.old due.old.items 0 }
-    ensures rows { OnOk result (rows.new ≡ (run_rows pace round rows.old board.old).rows) }
-    ensures board { OnOk result (board.new ≡ (run_rows pace round rows.old board.old).board) }
+    requires agenda { IsAgenda pace round 0 states.old due.old.items 0 }
+    ensures states { OnOk result (states.new ≡ (run_entries pace round states.old board.old).states) }
+    ensures board { OnOk result (board.new ≡ (run_entries pace round states.old board.old).board) }
     ensures settled { OnOk result (settled.new.items ≡
-        settled.old.items ++ (run_rows pace round rows.old board.old).settled) }
-    ensures agenda { OnOk result (IsAgenda pace (round + 1) 0 rows.new due.new.items 0) }
-    ensures known { AllByRecursion IsRow rows.old → AllByRecursion IsRow rows.new }
+        settled.old.items ++ (run_entries pace round states.old board.old).settled) }
+    ensures agenda { OnOk result (IsAgenda pace (round + 1) 0 states.new due.new.items 0) }
+    ensures known { AllByRecursion IsEntryState states.old → AllByRecursion IsEntryState states.new }
     ensures len { length board.new.cells ≡ length board.old.cells }
 {
     let count = due_count(due, u64::from(round));
@@ -61,7 +61,7 @@ pub(crate) fn settle_due(
     let mut at = 0;
     while at < count {
         let place = place_of(due[at]);
-        let next = rows[place].run(pace, round, board, settled)?;
+        let next = states[place].run(pace, round, board, settled)?;
         note(due, next, place)?;
         at += 1;
     }

@@ -7,9 +7,9 @@ ghost use Rattle.us_calendar.specs.Calendars as spec;
 ghost use Rattle.us_calendar.specs.Kept.{IsKept};
 
 use crate::agendas::{noted, settle_due};
+use crate::entry_states::EntryState;
 use crate::listing::entries_of;
 use crate::paces::Pace;
-use crate::rows::Row;
 use crate::settled::Settled;
 use std::alloc::Global;
 use std::marker::Model;
@@ -21,7 +21,7 @@ use us_slots::NoMemory;
 pub struct Calendar {
     pace: Pace,
     next_round: u32,
-    rows: Vec<Row>,
+    states: Vec<EntryState>,
 
     // the rounds and entries that are noted: an ordered set, as its members in order
     due: Vec<u64>,
@@ -30,9 +30,9 @@ pub struct Calendar {
 impl Model for Calendar {
     ghost Value = { spec.Calendar };
 
-    ghost view = { λ c. record { pace = c.pace; next_round = c.next_round; rows = c.rows.items } };
+    ghost view = { λ c. record { pace = c.pace; next_round = c.next_round; states = c.states.items } };
 
-    ghost invariant = { λ c. IsKept (record { pace = c.pace; next_round = c.next_round; rows = c.rows.items }) c.due.items };
+    ghost invariant = { λ c. IsKept (record { pace = c.pace; next_round = c.next_round; states = c.states.items }) c.due.items };
 }
 
 /// Gives the entries up. It is written out so that it is one step wherever a calendar ends.
@@ -41,7 +41,7 @@ impl Drop for Calendar {
         let Calendar {
             pace: _,
             next_round: _,
-            rows: _,
+            states: _,
             due: _,
         } = self;
     }
@@ -67,11 +67,11 @@ impl Calendar {
             len: config.map_len(channel),
         };
         let entries = entries_of(alloc, config, channel)?;
-        let (rows, due) = noted(alloc, pace, &entries)?;
+        let (states, due) = noted(alloc, pace, &entries)?;
         Ok(Calendar {
             pace,
             next_round: 0,
-            rows,
+            states,
             due,
         })
     }
@@ -108,7 +108,7 @@ impl Calendar {
         match settle_due(
             self.pace,
             round,
-            &mut self.rows,
+            &mut self.states,
             &mut self.due,
             board,
             &mut settled,
@@ -118,7 +118,7 @@ impl Calendar {
                 Ok(settled)
             }
             Err(refused) => {
-                self.rows.clear();
+                self.states.clear();
                 self.due.clear();
                 Err(refused)
             }

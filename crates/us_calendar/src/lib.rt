@@ -27,7 +27,7 @@ mod placing;
 mod settling;
 
 // An entry, with what of it is settled.
-mod rows;
+mod entry_states;
 
 // The entries of a channel.
 mod listing;

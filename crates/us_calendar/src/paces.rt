@@ -1,14 +1,11 @@
 ghost use Rattle.std.specs.Prelude.{◌≡◌, ◌+◌, ◌*◌, ◌≤◌};
-ghost use Rattle.us_slots.specs.Times.{minislot_ticks};
+ghost use Rattle.us_slots.specs.Times.{minislot_ticks, quarters_per_tick};
 ghost use Rattle.us_flows.specs.Tables.{max_run_ticks};
 ghost use Rattle.us_calendar.specs.Occurrences as spec;
 ghost use Rattle.us_calendar.specs.Kept.{IsPace};
 
 use std::marker::Model;
-use us_slots::ChannelTime;
-
-/// A tick of 6.25 microseconds, in quarter microseconds.
-const QUARTERS_PER_TICK: u64 = 25;
+use us_slots::{ChannelTime, QUARTERS_PER_TICK};
 
 /// What turns minislots of a channel into time.
 #[derive(Clone, Copy)]
@@ -30,7 +27,7 @@ impl Model for Pace {
 impl Pace {
     /// How long a round is, in quarter microseconds.
     pub(crate) fn round_quarters(self) -> u64
-        ensures value { result ≡ 25 * (self.len * minislot_ticks self.time) }
+        ensures value { result ≡ quarters_per_tick * (self.len * minislot_ticks self.time) }
         ensures known { IsPace self }
     {
         QUARTERS_PER_TICK * (u64::from(self.len) * u64::from(self.time.minislot_ticks()))
@@ -41,7 +38,7 @@ impl Pace {
     pub(crate) fn end(self, round: u32) -> u64
         requires { (round + 1) * (self.len * minislot_ticks self.time) ≤ max_run_ticks }
         ensures value { result ≡ spec.end_of self round }
-        ensures most { result ≤ 25 * max_run_ticks }
+        ensures most { result ≤ quarters_per_tick * max_run_ticks }
         ensures known { IsPace self }
     {
         (u64::from(round) + 1) * self.round_quarters()

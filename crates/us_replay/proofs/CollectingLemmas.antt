@@ -138,21 +138,6 @@ with_submitted seat submitted = record {
   taken = seat.taken;
 }
 
--- the seat of a chunk may submit it
-pub chunk_submits : (intake : Intake) (seat : Seat) (asks : List Ask) → IsChunk intake seat asks →
-    CanSubmit intake seat asks
-chunk_submits intake seat asks chunk = record {
-  own = ap (λ (s : Seat). s.intake) chunk.0;
-  row = ap (λ (s : Seat). length s.submitted) chunk.0 ∙ length-empty intake.clusters;
-  room = omega (
-    arith,
-    ap (λ (s : Seat). s.quota) chunk.0,
-    ap (λ (s : Seat). sum s.submitted) chunk.0,
-    sum-empty intake.clusters,
-  );
-  asks_are = chunk.1;
-}
-
 -- before the first ask
 pub none-submitted : (intake : Intake) (seat : Seat) (asks : List Ask) → CanSubmit intake seat asks →
     seat ≡ seat_after_asks seat []

@@ -10,8 +10,8 @@ use Rattle.us_requests.specs.Texts.{requests_of}
 use Rattle.us_requests.specs.Readings.{Reads}
 use Rattle.us_replay.specs.declared.summaries.Summary.{Summary}
 use Rattle.us_replay.specs.declared.faults.RunFault.{RunFault}
-use Rattle.us_replay.specs.declared.faults.RunFault.TheVariants as fault
-use Rattle.us_replay.specs.Replays.{Growth, Ran, RanText, KeptLimits, Replayed, cuts_of, output_of, output_for, rounds_done}
+use Rattle.us_replay.specs.Endings.{Ending, Refused, StoppedBy, ended, rounds_done}
+use Rattle.us_replay.specs.Replays.{Growth, Ran, RanText, KeptLimits, Stands, Replayed, cuts_of, output_of, output_for}
 use Rattle.us_replay.specs.Progress.{RanTrace, cuts_in}
 
 -- the asks of each round add up to the cut of the rows
@@ -32,30 +32,31 @@ output-same t rounds requests v is =
 
 pub ran-text : (t : Tables) (rounds : ℕ) (told : Option (List ℕ)) (v : TraceAsks) (to_maps to_report : Growth)
     (result : Result Summary RunFault) → Reads t rounds told (Ok v) → RanTrace t v to_maps to_report result →
-    RanText t rounds told to_maps to_report result
+    RanText t rounds told to_maps to_report (ended result)
 unfolding output_for
 ran-text t rounds told v to_maps to_report result (text, is_text, no_fault, is) (ran, kept) = (
   text,
   is_text,
   no_fault,
-  subst (λ out. Ran out (counts_of t rounds (requests_of text)) to_maps to_report result)
+  subst (λ out. Ran out (counts_of t rounds (requests_of text)) to_maps to_report (ended result))
       (output-same t rounds (requests_of text) v is)
-      (subst (λ counts. Ran (output_of t (cuts_in t v) v.counts) counts to_maps to_report result) is.counts ran),
-  subst (λ cuts. KeptLimits t cuts (rounds_done result)) (cuts-same t rounds (requests_of text) v is) kept,
+      (subst (λ counts. Ran (output_of t (cuts_in t v) v.counts) counts to_maps to_report (ended result))
+      is.counts ran),
+  subst (λ cuts. KeptLimits t cuts (rounds_done (ended result))) (cuts-same t rounds (requests_of text) v is) kept,
 )
+
+-- nothing of a run is refused
+stands : (t : Tables) (rounds : ℕ) (told : Option (List ℕ)) (to_maps to_report : Growth) (end : Result Summary Ending) →
+    rounds_fit t rounds ≡ true → RanText t rounds told to_maps to_report end →
+    Stands t rounds told to_maps to_report end
+stands t rounds told to_maps to_report (Ok summary) can ran = (can, ran)
+stands t rounds told to_maps to_report (Err (StoppedBy what done)) can ran = (can, ran)
+stands t rounds told to_maps to_report (Err (Refused why)) can (text, is_text, sound, never, kept) = absurd never
 
 -- whatever `run` answers
 pub replayed : (t : Tables) (rounds : ℕ) (told : Option (List ℕ)) (v : TraceAsks) (to_maps to_report : Growth)
     (result : Result Summary RunFault) → rounds_fit t rounds ≡ true → Reads t rounds told (Ok v) →
     RanTrace t v to_maps to_report result → Replayed t rounds told to_maps to_report result
-replayed t rounds told v to_maps to_report (Ok summary) can read ran =
-    (can, ran-text t rounds told v to_maps to_report (Ok summary) read ran)
-replayed t rounds told v to_maps to_report (Err (fault.WriteMaps done)) can read ran =
-    (can, ran-text t rounds told v to_maps to_report (Err (fault.WriteMaps done)) read ran)
-replayed t rounds told v to_maps to_report (Err (fault.WriteReport done)) can read ran =
-    (can, ran-text t rounds told v to_maps to_report (Err (fault.WriteReport done)) read ran)
-replayed t rounds told v to_maps to_report (Err (fault.NoMemory done)) can read ran =
-    (can, ran-text t rounds told v to_maps to_report (Err (fault.NoMemory done)) read ran)
-replayed t rounds told v to_maps to_report (Err fault.Rounds) can read ran = absurd ran.0
-replayed t rounds told v to_maps to_report (Err fault.Workers) can read ran = absurd ran.0
-replayed t rounds told v to_maps to_report (Err (fault.Trace reason)) can read ran = absurd ran.0
+replayed t rounds told v to_maps to_report result can read ran =
+    stands t rounds told to_maps to_report (ended result) can
+    (ran-text t rounds told v to_maps to_report result read ran)

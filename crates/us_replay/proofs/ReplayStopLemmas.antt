@@ -9,10 +9,10 @@ use Rattle.us_slots.proofs.DeviceLemmas.{appends_nothing, appends_join, appends_
 use Rattle.us_flows.specs.Tables.{Tables}
 use Rattle.us_requests.specs.declared.asks.Counts.{Counts}
 use Rattle.us_replay.specs.declared.faults.RunFault.{RunFault}
-use Rattle.us_replay.specs.declared.faults.RunFault.TheVariants as fault
 use Rattle.us_round.specs.Outputs.{RoundOut}
 use Rattle.us_replay.specs.Files.{records, round_lines, lines}
-use Rattle.us_replay.specs.Replays.{Output, Growth, Took, TookRounds, Holds, Stopped, Ran, KeptLimits, maps_text, report_text, rounds_done}
+use Rattle.us_replay.specs.Endings.{Ending, Refused, StoppedBy, Maps, Report, Memory, rounds_done}
+use Rattle.us_replay.specs.Replays.{Output, Growth, Took, TookRounds, Holds, Stopped, Ran, KeptLimits, maps_text, report_text}
 use Rattle.us_replay.specs.Progress.{Sent, Flushed}
 
 -- Lists.
@@ -183,9 +183,9 @@ pub record IsPart (out : Output) (k : ℕ) (maps report : List ℕ) : Type 0 whe
 
 -- a fault while it is written
 pub sent-stops : (out : Output) (counts : Counts) (k : ℕ) (a b c d e f : Option (List ℕ)) (maps report : List ℕ)
-    (reason : RunFault) → TookRounds out k (grown a b) (grown d e) → IsPart out k maps report →
-    Sent maps report k (grown b c) (grown e f) (Err reason) → Ran out counts (grown a c) (grown d f) (Err reason)
-sent-stops out counts k a b c d e f maps report (fault.WriteMaps done) so_far part (is, (n, below, front), kept) =
+    (end : Ending) → TookRounds out k (grown a b) (grown d e) → IsPart out k maps report →
+    Sent maps report k (grown b c) (grown e f) (Err end) → Ran out counts (grown a c) (grown d f) (Err end)
+sent-stops out counts k a b c d e f maps report (StoppedBy Maps done) so_far part (is, (n, below, front), kept) =
     let before : List ℕ = flat_map records (take k out.given) in
     let taken : take n (flat_map records (drop k out.given)) ≡ take n maps =
     ap (take n) part.maps_is ∙ take-append-le n maps part.maps_behind (omega (arith, below)) in
@@ -196,7 +196,7 @@ sent-stops out counts k a b c d e f maps report (fault.WriteMaps done) so_far pa
       report = appends_join d e f (flat_map round_lines (take k out.given)) [] so_far.report kept;
       report_short = omega arith;
     }) (part.short_maps n below))
-sent-stops out counts k a b c d e f maps report (fault.WriteReport done) so_far part (is, wrote, (n, below, front)) =
+sent-stops out counts k a b c d e f maps report (StoppedBy Report done) so_far part (is, wrote, (n, below, front)) =
     let before : List ℕ = flat_map round_lines (take k out.given) in
     let whole : take (length maps) (flat_map records (drop k out.given)) ≡ maps =
     ap (take (length maps)) part.maps_is ∙ take_at maps part.maps_behind (length maps) refl in
@@ -210,10 +210,8 @@ sent-stops out counts k a b c d e f maps report (fault.WriteReport done) so_far 
       report = subst (Appends d f) (sym (ap (λ bs. before ++ bs) taken)) (appends_join d e f before (take n report) so_far.report front);
       report_short = omega (arith, below, ap length part.report_is, length-append report part.report_behind);
     }) (part.short_report n below))
-sent-stops out counts k a b c d e f maps report (fault.NoMemory done) so_far part never = absurd never
-sent-stops out counts k a b c d e f maps report fault.Rounds so_far part never = absurd never
-sent-stops out counts k a b c d e f maps report fault.Workers so_far part never = absurd never
-sent-stops out counts k a b c d e f maps report (fault.Trace reason) so_far part never = absurd never
+sent-stops out counts k a b c d e f maps report (StoppedBy Memory done) so_far part never = absurd never
+sent-stops out counts k a b c d e f maps report (Refused why) so_far part never = absurd never
 
 -- the texts of the round at a place
 pub record AreTexts (out : Output) (k : ℕ) (maps report : List ℕ) : Type 0 where
@@ -317,44 +315,38 @@ flushed-all out a b c d e f took maps report =
     (appends_keep a b c (maps_text out) took.0 maps, appends_keep d e f (report_text out) took.1 report)
 
 -- a fault of a flush
-pub flush-stops : (out : Output) (counts : Counts) (k : ℕ) (a b c d e f : Option (List ℕ)) (reason : RunFault) →
+pub flush-stops : (out : Output) (counts : Counts) (k : ℕ) (a b c d e f : Option (List ℕ)) (end : Ending) →
     k ≡ length out.given → TookAll out (grown a b) (grown d e) →
-    Flushed k (grown b c) (grown e f) (Err reason) → Ran out counts (grown a c) (grown d f) (Err reason)
-flush-stops out counts k a b c d e f (fault.WriteMaps done) all took (maps, report, is) =
+    Flushed k (grown b c) (grown e f) (Err end) → Ran out counts (grown a c) (grown d f) (Err end)
+flush-stops out counts k a b c d e f (StoppedBy Maps done) all took (maps, report, is) =
     stops-after out done (grown a c) (grown d f) (is ∙ all) (flushed-all out a b c d e f took maps report)
-flush-stops out counts k a b c d e f (fault.WriteReport done) all took (maps, report, is) =
+flush-stops out counts k a b c d e f (StoppedBy Report done) all took (maps, report, is) =
     stops-after out done (grown a c) (grown d f) (is ∙ all) (flushed-all out a b c d e f took maps report)
-flush-stops out counts k a b c d e f (fault.NoMemory done) all took never = absurd never
-flush-stops out counts k a b c d e f fault.Rounds all took never = absurd never
-flush-stops out counts k a b c d e f fault.Workers all took never = absurd never
-flush-stops out counts k a b c d e f (fault.Trace reason) all took never = absurd never
+flush-stops out counts k a b c d e f (StoppedBy Memory done) all took never = absurd never
+flush-stops out counts k a b c d e f (Refused why) all took never = absurd never
 
 -- Limits.
 
--- a fault of a round names the rounds before it
+-- where a round is stopped, the rounds before it are named
 pub sent-kept : (t : Tables) (cuts : List (List ℕ)) (k : ℕ) (maps report : List ℕ) (to_maps to_report : Growth)
-    (reason : RunFault) → KeptLimits t cuts k → Sent maps report k to_maps to_report (Err reason) →
-    KeptLimits t cuts (rounds_done (Err reason))
-sent-kept t cuts k maps report to_maps to_report (fault.WriteMaps done) kept (is, front, nothing) =
+    (end : Ending) → KeptLimits t cuts k → Sent maps report k to_maps to_report (Err end) →
+    KeptLimits t cuts (rounds_done (Err end))
+sent-kept t cuts k maps report to_maps to_report (StoppedBy Maps done) kept (is, front, nothing) =
     subst (KeptLimits t cuts) (sym is) kept
-sent-kept t cuts k maps report to_maps to_report (fault.WriteReport done) kept (is, wrote, front) =
+sent-kept t cuts k maps report to_maps to_report (StoppedBy Report done) kept (is, wrote, front) =
     subst (KeptLimits t cuts) (sym is) kept
-sent-kept t cuts k maps report to_maps to_report (fault.NoMemory done) kept never = absurd never
-sent-kept t cuts k maps report to_maps to_report fault.Rounds kept never = absurd never
-sent-kept t cuts k maps report to_maps to_report fault.Workers kept never = absurd never
-sent-kept t cuts k maps report to_maps to_report (fault.Trace reason) kept never = absurd never
+sent-kept t cuts k maps report to_maps to_report (StoppedBy Memory done) kept never = absurd never
+sent-kept t cuts k maps report to_maps to_report (Refused why) kept never = absurd never
 
--- and one of a flush all of them
-pub flushed-kept : (t : Tables) (cuts : List (List ℕ)) (k : ℕ) (to_maps to_report : Growth) (reason : RunFault) →
-    KeptLimits t cuts k → Flushed k to_maps to_report (Err reason) → KeptLimits t cuts (rounds_done (Err reason))
-flushed-kept t cuts k to_maps to_report (fault.WriteMaps done) kept (maps, report, is) =
+-- and where a flush is, all of them
+pub flushed-kept : (t : Tables) (cuts : List (List ℕ)) (k : ℕ) (to_maps to_report : Growth) (end : Ending) →
+    KeptLimits t cuts k → Flushed k to_maps to_report (Err end) → KeptLimits t cuts (rounds_done (Err end))
+flushed-kept t cuts k to_maps to_report (StoppedBy Maps done) kept (maps, report, is) =
     subst (KeptLimits t cuts) (sym is) kept
-flushed-kept t cuts k to_maps to_report (fault.WriteReport done) kept (maps, report, is) =
+flushed-kept t cuts k to_maps to_report (StoppedBy Report done) kept (maps, report, is) =
     subst (KeptLimits t cuts) (sym is) kept
-flushed-kept t cuts k to_maps to_report (fault.NoMemory done) kept never = absurd never
-flushed-kept t cuts k to_maps to_report fault.Rounds kept never = absurd never
-flushed-kept t cuts k to_maps to_report fault.Workers kept never = absurd never
-flushed-kept t cuts k to_maps to_report (fault.Trace reason) kept never = absurd never
+flushed-kept t cuts k to_maps to_report (StoppedBy Memory done) kept never = absurd never
+flushed-kept t cuts k to_maps to_report (Refused why) kept never = absurd never
 
 pub none-kept : (t : Tables) (cuts : List (List ℕ)) → KeptLimits t cuts 0
 unfolding KeptLimits

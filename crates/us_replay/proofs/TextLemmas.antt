@@ -2,7 +2,6 @@
 use Rattle.std.proofs.Common.{◌≡◌, ℕ, ◌≤◌, List, [], ◌∷◌, ◌++◌, length, map, take, drop, flat_map, refl, ap, sym, ◌∙◌}
 use Rattle.std.specs.Int.{to_be_bytes, w16, w32}
 use Rattle.std.proofs.lemmas.List.{append_assoc, append-nil, drop_all}
-use Rattle.std.proofs.Math.Seq.{take-append_seam}
 use Rattle.us_codec.specs.Bodies.{MapBody, spelling}
 use Rattle.us_codec.specs.MapsFiles.{Piece, record_bytes, maps_file}
 use Rattle.us_round.specs.Outputs.{RoundOut}
@@ -28,9 +27,6 @@ unfolding record_bytes
 piece_joined text head size body one two round a b h s =
     rw (b, a, h, s) (append_assoc (text ++ to_be_bytes w32 round) (to_be_bytes w16 (length body)) body
     ∙ append_assoc text (to_be_bytes w32 round) (to_be_bytes w16 (length body) ++ body))
-
-pub taken_front : (body rest : List ℕ) → take (length body) (body ++ rest) ≡ body
-taken_front body rest = take-append_seam body rest
 
 -- at the end of the MAPs nothing is left to add
 pub records_end : (text old : List ℕ) (out : RoundOut) (done : ℕ) → length out.maps ≤ done →

@@ -23,4 +23,8 @@ round_lines out = lines out.rows
 
 -- the U line
 abbrev pub counts_row : Counts → Row
-counts_row counts = rows.Counts counts.unknown counts.not_requestable counts.late
+counts_row counts = rows.Counts (record {
+  unknown = counts.unknown;
+  not_requestable = counts.not_requestable;
+  late = counts.late;
+})

@@ -1,5 +1,5 @@
--- Read in this order: the lines of the report; the maps file and the report of rounds; replays. Then examples. What a
--- round is, and what it gives, stands with `us_round`.
+-- Read in this order: the lines of the report; the maps file and the report of rounds; how a replay ends; replays. Then
+-- examples. What a round is, and what it gives, stands with `us_round`.
 -- In a definition `≡` is equals, `×` and, `⊎` or, `→` implies, `++` one list behind another, `∷` one item before a list,
 -- and ℕ has the whole numbers from 0; `-` stops at 0.
 
@@ -7,6 +7,8 @@
 pub mod Lines
 -- the records and the lines of a round
 pub mod Files
+-- how a replay ends: it is done, refused or stopped
+pub mod Endings
 -- what a replay writes, and what stands after one that ended early
 pub mod Replays
 -- what its faults are told as

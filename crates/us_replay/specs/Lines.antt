@@ -2,18 +2,22 @@
 use Rattle.std.specs.Prelude.{ℕ, List, [], ◌∷◌, ◌++◌, codes, Option, Some, None}
 use Rattle.std.specs.List.{flat_map}
 use Rattle.std.specs.Fmt.{decimal}
-use Rattle.us_round.specs.declared.rows.Entry.{Entry}
-use Rattle.us_round.specs.declared.rows.Entry.TheVariants as entries
+use Rattle.us_round.specs.declared.rows.EntryWord.{EntryWord}
+use Rattle.us_round.specs.declared.rows.EntryWord.TheVariants as words
+use Rattle.us_round.specs.declared.rows.FinalState.{FinalState}
+use Rattle.us_round.specs.declared.rows.Grant.{Grant}
+use Rattle.us_round.specs.declared.rows.MissedOccurrence.{MissedOccurrence}
 use Rattle.us_round.specs.declared.rows.Row.{Row}
 use Rattle.us_round.specs.declared.rows.Row.TheVariants as rows
+use Rattle.us_round.specs.declared.rows.TraceCounts.{TraceCounts}
 
 -- the word of an entry
-abbrev pub entry_word : Entry → List ℕ
-entry_word entries.Unsolicited = codes "ugs"
-entry_word entries.RealTimePoll = codes "rtp"
-entry_word entries.NonRealTimePoll = codes "nrtp"
-entry_word entries.Station = codes "station"
-entry_word entries.Requested = codes "req"
+abbrev pub word_text : EntryWord → List ℕ
+word_text words.Unsolicited = codes "ugs"
+word_text words.RealTimePoll = codes "rtp"
+word_text words.NonRealTimePoll = codes "nrtp"
+word_text words.Station = codes "station"
+word_text words.Requested = codes "req"
 
 -- a field is a comma and what it says; these are numbers
 abbrev pub numbers : List ℕ → List ℕ
@@ -24,15 +28,30 @@ abbrev pub units_text : Option ℕ → List ℕ
 units_text None = codes "-"
 units_text (Some units) = decimal units
 
--- the line of a row, with its line feed
+-- a G line, with its line feed, as all lines
+abbrev pub grant_text : Grant → List ℕ
+grant_text g =
+    codes "G" ++ (numbers (g.round ∷ g.channel ∷ []) ++ (codes "," ++ (word_text g.entry ++
+    (numbers (g.id ∷ g.i ∷ g.k ∷ g.sid ∷ g.iuc ∷ g.start ∷ g.slots ∷ g.credit ∷ []) ++ codes "\n"))))
+
+-- an M line
+abbrev pub missed_text : MissedOccurrence → List ℕ
+missed_text m =
+    codes "M" ++ (numbers (m.round ∷ m.channel ∷ []) ++ (codes "," ++ (word_text m.entry ++
+    (numbers (m.id ∷ m.i ∷ m.k ∷ []) ++ codes "\n"))))
+
+-- an F line
+abbrev pub final_text : FinalState → List ℕ
+final_text s =
+    codes "F" ++ (numbers (s.flow ∷ s.cluster ∷ s.outstanding ∷ []) ++ (codes "," ++ (units_text s.units ++ codes "\n")))
+
+-- the U line
+abbrev pub counts_text : TraceCounts → List ℕ
+counts_text c = codes "U" ++ (numbers (c.unknown ∷ c.not_requestable ∷ c.late ∷ []) ++ codes "\n")
+
+-- the line of a row
 abbrev pub text_of : Row → List ℕ
-text_of (rows.Granted round channel entry id i k sid iuc start slots credit) =
-    codes "G" ++ (numbers (round ∷ channel ∷ []) ++ (codes "," ++ (entry_word entry ++
-    (numbers (id ∷ i ∷ k ∷ sid ∷ iuc ∷ start ∷ slots ∷ credit ∷ []) ++ codes "\n"))))
-text_of (rows.Missed round channel entry id i k) =
-    codes "M" ++ (numbers (round ∷ channel ∷ []) ++ (codes "," ++ (entry_word entry ++
-    (numbers (id ∷ i ∷ k ∷ []) ++ codes "\n"))))
-text_of (rows.Final flow cluster outstanding units) =
-    codes "F" ++ (numbers (flow ∷ cluster ∷ outstanding ∷ []) ++ (codes "," ++ (units_text units ++ codes "\n")))
-text_of (rows.Counts unknown not_requestable late) =
-    codes "U" ++ (numbers (unknown ∷ not_requestable ∷ late ∷ []) ++ codes "\n")
+text_of (rows.Granted grant) = grant_text grant
+text_of (rows.Missed missed) = missed_text missed
+text_of (rows.Final state) = final_text state
+text_of (rows.Counts counts) = counts_text counts

@@ -7,6 +7,8 @@ use Rattle.us_slots.specs.Devices.{AppendsFront}
 use Rattle.us_flows.specs.Tables.{Tables, max_run_ticks}
 use Rattle.us_flows.specs.Clusters.{clusters_of}
 use Rattle.us_flows.specs.Lawful.{AreTables}
+use Rattle.us_flows.specs.Ranges.{max_channels}
+use Rattle.us_holes.specs.Boards.{max_assignments}
 use Rattle.us_requests.specs.declared.asks.Ask.{Ask}
 use Rattle.us_requests.specs.declared.asks.Counts.{Counts}
 use Rattle.us_requests.specs.Cuts.{cut_of}
@@ -16,10 +18,10 @@ use Rattle.us_round.specs.States.{settled_by}
 use Rattle.us_round.specs.Outputs.{RoundOut, AreWithinLimits, final_rows, out_of}
 use Rattle.us_replay.specs.declared.summaries.Summary.{Summary}
 use Rattle.us_replay.specs.declared.faults.RunFault.{RunFault}
-use Rattle.us_replay.specs.declared.faults.RunFault.TheVariants as fault
 use Rattle.us_replay.specs.Collecting.{AreAsks, chunk_quota}
 use Rattle.us_replay.specs.Files.{records, round_lines, lines, counts_row}
-use Rattle.us_replay.specs.Replays.{Growth, Output, Took, Ran, KeptLimits, all_rows, is_granted, is_missed, output_of, rounds_done}
+use Rattle.us_replay.specs.Endings.{ended, rounds_done, Ending, Refused, StoppedBy, Maps, Report, Memory}
+use Rattle.us_replay.specs.Replays.{Growth, Output, Took, Ran, KeptLimits, all_rows, is_granted, is_missed, output_of}
 
 -- Traces.
 
@@ -34,7 +36,8 @@ output_in t v = output_of t (cuts_in t v) v.counts
 -- the run of a trace that was read
 abbrev pub RanTrace : Tables → TraceAsks → Growth → Growth → Result Summary RunFault → Type 0
 RanTrace t v to_maps to_report result =
-    Ran (output_in t v) v.counts to_maps to_report result × KeptLimits t (cuts_in t v) (rounds_done result)
+    Ran (output_in t v) v.counts to_maps to_report (ended result)
+    × KeptLimits t (cuts_in t v) (rounds_done (ended result))
 
 -- Progress.
 
@@ -55,9 +58,9 @@ abbrev pub opening_progress : ℕ → Progress
 opening_progress clusters =
     record { cut = replicate clusters 0; collected = 0; to_maps = []; to_report = []; granted = 0; missed = 0 }
 
--- the most lines of requested grants in a round: of 16 channels with 100 assignments each
+-- the most lines of requested grants in a round: of all channels with all their assignments
 abbrev pub max_requested : ℕ
-max_requested = 1600
+max_requested = max_channels * max_assignments
 
 -- lines so far, before the round of a state: beside those of requested grants there is at most one for each occurrence
 -- that the calendars settled
@@ -162,26 +165,19 @@ pub record Along (t : Tables) (v : TraceAsks) (k : ℕ) (state : State) (p : Pro
 
 -- Writing.
 
--- of two texts the maps file's writer took the one, and then the report's the other, as far as the answer says
-abbrev pub Sent : List ℕ → List ℕ → ℕ → Growth → Growth → Result (Unit {0}) RunFault → Type 0
+-- of two texts the maps file's writer took the one, and then the report's the other, as far as the end says
+abbrev pub Sent : List ℕ → List ℕ → ℕ → Growth → Growth → Result (Unit {0}) Ending → Type 0
 Sent maps report done to_maps to_report (Ok _) = Took to_maps maps × Took to_report report
-Sent maps report done to_maps to_report (Err (fault.WriteMaps rounds)) =
+Sent maps report done to_maps to_report (Err (StoppedBy Maps rounds)) =
     (rounds ≡ done) × AppendsFront to_maps.before to_maps.after maps × Took to_report []
-Sent maps report done to_maps to_report (Err (fault.WriteReport rounds)) =
+Sent maps report done to_maps to_report (Err (StoppedBy Report rounds)) =
     (rounds ≡ done) × Took to_maps maps × AppendsFront to_report.before to_report.after report
-Sent maps report done to_maps to_report (Err (fault.NoMemory rounds)) = ⊥
-Sent maps report done to_maps to_report (Err fault.Rounds) = ⊥
-Sent maps report done to_maps to_report (Err fault.Workers) = ⊥
-Sent maps report done to_maps to_report (Err (fault.Trace reason)) = ⊥
+Sent maps report done to_maps to_report (Err _) = ⊥
 
--- a flush keeps what was taken, and a fault of it names these rounds
-abbrev pub Flushed : ℕ → Growth → Growth → Result (Unit {0}) RunFault → Type 0
+-- a flush keeps what was taken, and where it stops the run it names these rounds
+abbrev pub Flushed : ℕ → Growth → Growth → Result (Unit {0}) Ending → Type 0
 Flushed done to_maps to_report (Ok _) = Keeps to_maps.before to_maps.after × Keeps to_report.before to_report.after
-Flushed done to_maps to_report (Err (fault.WriteMaps rounds)) =
+Flushed done to_maps to_report (Err (StoppedBy Memory rounds)) = ⊥
+Flushed done to_maps to_report (Err (StoppedBy writer rounds)) =
     Keeps to_maps.before to_maps.after × Keeps to_report.before to_report.after × (rounds ≡ done)
-Flushed done to_maps to_report (Err (fault.WriteReport rounds)) =
-    Keeps to_maps.before to_maps.after × Keeps to_report.before to_report.after × (rounds ≡ done)
-Flushed done to_maps to_report (Err (fault.NoMemory rounds)) = ⊥
-Flushed done to_maps to_report (Err fault.Rounds) = ⊥
-Flushed done to_maps to_report (Err fault.Workers) = ⊥
-Flushed done to_maps to_report (Err (fault.Trace reason)) = ⊥
+Flushed done to_maps to_report (Err (Refused why)) = ⊥

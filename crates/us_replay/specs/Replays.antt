@@ -14,7 +14,7 @@ use Rattle.us_round.specs.declared.rows.Row.{Row}
 use Rattle.us_round.specs.declared.rows.Row.TheVariants as rows
 use Rattle.us_replay.specs.declared.summaries.Summary.{Summary}
 use Rattle.us_replay.specs.declared.faults.RunFault.{RunFault}
-use Rattle.us_replay.specs.declared.faults.RunFault.TheVariants as fault
+use Rattle.us_replay.specs.Endings.{Refusal, Rounds, Workers, Trace, Memory, Ending, Refused, StoppedBy, ended, rounds_done}
 use Rattle.us_replay.specs.Files.{records, round_lines, lines, counts_row}
 
 -- What a run gives.
@@ -45,16 +45,12 @@ report_text out = flat_map round_lines out.given ++ lines out.last
 
 -- whether a line is of a grant, and whether of a missed occurrence
 abbrev pub is_granted : Row → Bool
-is_granted (rows.Granted round channel entry id i k sid iuc start slots credit) = true
-is_granted (rows.Missed round channel entry id i k) = false
-is_granted (rows.Final flow cluster outstanding units) = false
-is_granted (rows.Counts unknown not_requestable late) = false
+is_granted (rows.Granted grant) = true
+is_granted _ = false
 
 abbrev pub is_missed : Row → Bool
-is_missed (rows.Granted round channel entry id i k sid iuc start slots credit) = false
-is_missed (rows.Missed round channel entry id i k) = true
-is_missed (rows.Final flow cluster outstanding units) = false
-is_missed (rows.Counts unknown not_requestable late) = false
+is_missed (rows.Missed missed) = true
+is_missed _ = false
 
 -- the lines of all rounds
 abbrev pub all_rows : List RoundOut → List Row
@@ -108,29 +104,16 @@ pub record TookRounds (out : Output) (done : ℕ) (to_maps to_report : Growth) :
   pub maps : Took to_maps (flat_map records (take done out.given))
   pub report : Took to_report (flat_map round_lines (take done out.given))
 
--- the run of a trace that was read: what stands by its answer. Memory is wanting between rounds alone
-abbrev pub Ran : Output → Counts → Growth → Growth → Result Summary RunFault → Type 0
+-- the run of a trace that was read: what stands at its end. Memory is wanting between rounds alone
+abbrev pub Ran : Output → Counts → Growth → Growth → Result Summary Ending → Type 0
 Ran out counts to_maps to_report (Ok summary) =
     Took to_maps (maps_text out) × Took to_report (report_text out) × (summary ≡ summary_of out counts)
-Ran out counts to_maps to_report (Err (fault.WriteMaps done)) = Stopped out to_maps to_report done
-Ran out counts to_maps to_report (Err (fault.WriteReport done)) = Stopped out to_maps to_report done
-Ran out counts to_maps to_report (Err (fault.NoMemory done)) =
+Ran out counts to_maps to_report (Err (StoppedBy Memory done)) =
     TookRounds out done to_maps to_report × Stopped out to_maps to_report done
-Ran out counts to_maps to_report (Err fault.Rounds) = ⊥
-Ran out counts to_maps to_report (Err fault.Workers) = ⊥
-Ran out counts to_maps to_report (Err (fault.Trace reason)) = ⊥
+Ran out counts to_maps to_report (Err (StoppedBy writer done)) = Stopped out to_maps to_report done
+Ran out counts to_maps to_report (Err (Refused why)) = ⊥
 
 -- Limits.
-
--- how many rounds are done, by an answer
-abbrev pub rounds_done : Result Summary RunFault → ℕ
-rounds_done (Ok summary) = summary.rounds
-rounds_done (Err (fault.WriteMaps done)) = done
-rounds_done (Err (fault.WriteReport done)) = done
-rounds_done (Err (fault.NoMemory done)) = done
-rounds_done (Err fault.Rounds) = 0
-rounds_done (Err fault.Workers) = 0
-rounds_done (Err (fault.Trace reason)) = 0
 
 -- no MAP of the first `done` rounds passes a limit of MAPs
 unfoldable pub KeptLimits : Tables → List (List ℕ) → ℕ → Type 0
@@ -143,58 +126,29 @@ unfoldable pub output_for : Tables → ℕ → List ℕ → Output
 output_for t rounds text = output_of t (cuts_of t rounds (requests_of text)) (counts_of t rounds (requests_of text))
 
 -- what the source tells is the text of a trace without a fault, and the rounds were run for its requests
-abbrev pub RanText : Tables → ℕ → Option (List ℕ) → Growth → Growth → Result Summary RunFault → Type 0
-RanText t rounds told to_maps to_report result =
+abbrev pub RanText : Tables → ℕ → Option (List ℕ) → Growth → Growth → Result Summary Ending → Type 0
+RanText t rounds told to_maps to_report end =
     (text : List ℕ) × IsTextOf told text × (trace_fault text ≡ None)
-    × Ran (output_for t rounds text) (counts_of t rounds (requests_of text)) to_maps to_report result
-    × KeptLimits t (cuts_of t rounds (requests_of text)) (rounds_done result)
+    × Ran (output_for t rounds text) (counts_of t rounds (requests_of text)) to_maps to_report end
+    × KeptLimits t (cuts_of t rounds (requests_of text)) (rounds_done end)
 
 abbrev pub TookNothing : Growth → Growth → Type 0
 TookNothing to_maps to_report = Took to_maps [] × Took to_report []
 
--- a replay: what stands by its answer. A number of rounds that doesn't fit is answered first, then a number of workers
--- that can't be had, and then a fault of the trace
+-- why a replay is refused: a number of rounds that doesn't fit is answered first, then a number of workers that can't be
+-- had, and then a fault of the trace
+abbrev pub IsRefused : Tables → ℕ → Option (List ℕ) → Refusal → Type 0
+IsRefused t rounds told Rounds = rounds_fit t rounds ≡ false
+IsRefused t rounds told Workers = rounds_fit t rounds ≡ true
+IsRefused t rounds told (Trace reason) = (rounds_fit t rounds ≡ true) × Reads t rounds told (Err reason)
+
+-- what stands at the end of a replay: nothing was written, or its rounds were run, all of them or those that were done
+abbrev pub Stands : Tables → ℕ → Option (List ℕ) → Growth → Growth → Result Summary Ending → Type 0
+Stands t rounds told to_maps to_report (Err (Refused why)) =
+    IsRefused t rounds told why × TookNothing to_maps to_report
+Stands t rounds told to_maps to_report end =
+    (rounds_fit t rounds ≡ true) × RanText t rounds told to_maps to_report end
+
+-- a replay: what stands by its answer
 abbrev pub Replayed : Tables → ℕ → Option (List ℕ) → Growth → Growth → Result Summary RunFault → Type 0
-Replayed t rounds told to_maps to_report (Err fault.Rounds) =
-    (rounds_fit t rounds ≡ false) × TookNothing to_maps to_report
-Replayed t rounds told to_maps to_report (Err fault.Workers) =
-    (rounds_fit t rounds ≡ true) × TookNothing to_maps to_report
-Replayed t rounds told to_maps to_report (Err (fault.Trace reason)) =
-    (rounds_fit t rounds ≡ true) × Reads t rounds told (Err reason) × TookNothing to_maps to_report
-Replayed t rounds told to_maps to_report (Ok summary) =
-    (rounds_fit t rounds ≡ true) × RanText t rounds told to_maps to_report (Ok summary)
-Replayed t rounds told to_maps to_report (Err (fault.WriteMaps done)) =
-    (rounds_fit t rounds ≡ true) × RanText t rounds told to_maps to_report (Err (fault.WriteMaps done))
-Replayed t rounds told to_maps to_report (Err (fault.WriteReport done)) =
-    (rounds_fit t rounds ≡ true) × RanText t rounds told to_maps to_report (Err (fault.WriteReport done))
-Replayed t rounds told to_maps to_report (Err (fault.NoMemory done)) =
-    (rounds_fit t rounds ≡ true) × RanText t rounds told to_maps to_report (Err (fault.NoMemory done))
-
--- which answers come before anything is written
-abbrev pub comes_before : {A : Type 0} → Result A RunFault → Bool
-comes_before (Ok done) = false
-comes_before (Err fault.Rounds) = true
-comes_before (Err fault.Workers) = true
-comes_before (Err (fault.Trace reason)) = true
-comes_before (Err (fault.WriteMaps done)) = false
-comes_before (Err (fault.WriteReport done)) = false
-comes_before (Err (fault.NoMemory done)) = false
-
--- which answers blame the maps file's writer, and which the report's
-abbrev pub blames_maps : {A : Type 0} → Result A RunFault → Bool
-blames_maps (Ok done) = false
-blames_maps (Err (fault.WriteMaps done)) = true
-blames_maps (Err (fault.WriteReport done)) = false
-blames_maps (Err (fault.NoMemory done)) = false
-blames_maps (Err fault.Rounds) = false
-blames_maps (Err fault.Workers) = false
-blames_maps (Err (fault.Trace reason)) = false
-
-abbrev pub blames_report : {A : Type 0} → Result A RunFault → Bool
-blames_report (Ok done) = false
-blames_report (Err (fault.WriteMaps done)) = false
-blames_report (Err (fault.WriteReport done)) = true
-blames_report (Err (fault.NoMemory done)) = false
-blames_report (Err fault.Rounds) = false
-blames_report (Err fault.Workers) = false
-blames_report (Err (fault.Trace reason)) = false
+Replayed t rounds told to_maps to_report result = Stands t rounds told to_maps to_report (ended result)

@@ -11,15 +11,15 @@ use Rattle.us_requests.specs.Asks.{Request, round_of_tick, counts_of}
 use Rattle.us_requests.specs.Cuts.{cut, cut_at}
 use Rattle.us_calendar.specs.Entries.{entries}
 use Rattle.us_calendar.specs.Occurrences.{due}
-use Rattle.us_calendar.specs.Settling.{settle_each, settle_row}
-use Rattle.us_calendar.specs.Calendars.{run_rows}
+use Rattle.us_calendar.specs.Settling.{settle_each, settle_entry}
+use Rattle.us_calendar.specs.Calendars.{run_entries}
 use Rattle.us_round.specs.RoundExamples.{base, base_channel, base_flow, round_steps, tables, without_flows}
 use Rattle.us_replay.specs.Files.{records, lines}
 use Rattle.us_replay.specs.Replays.{Output, cuts_of, output_of, summary_of, maps_text, report_text}
 
 -- what these computations unfold
 unfoldable all_steps : ⊤
-unfolding round_steps entries due settle_each settle_row run_rows lookup round_of_tick counts_of cut cut_at cuts_of
+unfolding round_steps entries due settle_each settle_entry run_entries lookup round_of_tick counts_of cut cut_at cuts_of
     output_of summary_of lines digits element_bytes front spelling record_bytes records maps_file
 all_steps = tt
 

@@ -1,3 +1,6 @@
+ghost use Rattle.std.specs.Prelude.{◌≡◌};
+ghost use Rattle.us_replay.specs.Faults as spec;
+
 use std::fmt;
 use thiserror::Error;
 use us_requests::TraceFault;
@@ -20,7 +23,23 @@ pub enum RunFault {
     NoMemory(u32),
 }
 
-/// Writes the text of a fault.
+impl RunFault {
+    /// Its code, by which texts and lines name it: RU1 to RU6.
+    pub fn code(self) -> &'static str
+        ensures { result.now ≡ spec.code_of self }
+    {
+        match self {
+            RunFault::Rounds => "RU1",
+            RunFault::Workers => "RU2",
+            RunFault::Trace(_) => "RU3",
+            RunFault::WriteMaps(_) => "RU4",
+            RunFault::WriteReport(_) => "RU5",
+            RunFault::NoMemory(_) => "RU6",
+        }
+    }
+}
+
+/// Writes the text of a fault, behind its code.
 impl fmt::Display for RunFault {
     ghost use Rattle.std.specs.Prelude.{Some};
     ghost use Rattle.us_replay.specs.Faults.{fault_text};
@@ -28,17 +47,18 @@ impl fmt::Display for RunFault {
     ghost output = { λ fault. Some (fault_text fault) };
 
     fn fmt<W: fmt::Write>(&self, f: &mut fmt::Formatter<W>) -> fmt::Result {
-        let (text, rounds) = match *self {
-            RunFault::Rounds => ("RU1: no rounds, or more than a run has ticks for", None),
-            RunFault::Workers => ("RU2: the workers are not 1 to 64", None),
-            RunFault::Trace(_) => ("RU3: the trace is refused", None),
-            RunFault::WriteMaps(done) => ("RU4: the maps file failed", Some(done)),
-            RunFault::WriteReport(done) => ("RU5: the report failed", Some(done)),
-            RunFault::NoMemory(done) => ("RU6: out of memory", Some(done)),
+        let (said, rounds) = match *self {
+            RunFault::Rounds => ("no rounds, or more than a run has ticks for", None),
+            RunFault::Workers => ("the workers are not 1 to 64", None),
+            RunFault::Trace(_) => ("the trace is refused", None),
+            RunFault::WriteMaps(done) => ("the maps file failed", Some(done)),
+            RunFault::WriteReport(done) => ("the report failed", Some(done)),
+            RunFault::NoMemory(done) => ("out of memory", Some(done)),
         };
+        let code = self.code();
         match rounds {
-            Some(done) => write!(f, "{text} after {done} rounds"),
-            None => f.write_str(text),
+            Some(done) => write!(f, "{code}: {said} after {done} rounds"),
+            None => write!(f, "{code}: {said}"),
         }
     }
 }

@@ -33,7 +33,7 @@ mod replays;
 pub use faults::RunFault;
 pub use replays::{check_run, replay};
 pub use summaries::Summary;
-pub use us_round::{Entry, Row};
+pub use us_round::{EntryWord, FinalState, Grant, MissedOccurrence, Row, TraceCounts};
 
 #[cfg(test)]
 mod tests;

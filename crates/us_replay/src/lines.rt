@@ -3,7 +3,7 @@ ghost use Rattle.std.specs.Fmt.{decimal};
 ghost use Rattle.us_replay.specs.Lines as spec;
 
 use std::alloc::AllocError;
-use us_round::{Entry, Row};
+use us_round::{EntryWord, FinalState, Grant, MissedOccurrence, Row, TraceCounts};
 
 /// The bytes in which a line is put together, more than any line has: a letter, ten numbers, a word of seven letters behind a
 /// comma and the line feed are 220.
@@ -16,16 +16,16 @@ const FEED: usize = LINE_BYTES - 1;
 const FIELD_BYTES: usize = 21;
 
 /// The word of an entry.
-fn word(entry: Entry) -> &'static str
-    ensures value { result.now ≡ spec.entry_word entry }
+fn word(entry: EntryWord) -> &'static str
+    ensures value { result.now ≡ spec.word_text entry }
     ensures short { length result.now ≤ 7 }
 {
     match entry {
-        Entry::Unsolicited => "ugs",
-        Entry::RealTimePoll => "rtp",
-        Entry::NonRealTimePoll => "nrtp",
-        Entry::Station => "station",
-        Entry::Requested => "req",
+        EntryWord::Unsolicited => "ugs",
+        EntryWord::RealTimePoll => "rtp",
+        EntryWord::NonRealTimePoll => "nrtp",
+        EntryWord::Station => "station",
+        EntryWord::Requested => "req",
     }
 }
 
@@ -48,49 +48,82 @@ fn put_line(line: &mut [u8; LINE_BYTES], row: &Row) -> usize
     ensures line { drop result line.new ≡ spec.text_of row.now }
 {
     put_feed(line);
-    match *row {
-        Row::Granted {
-            round,
-            channel,
-            entry,
-            id,
-            i,
-            k,
-            sid,
-            iuc,
-            start,
-            slots,
-            credit,
-        } => put_event(
-            line,
-            b'G',
-            &[round, channel],
-            entry,
-            &[id, i, k, sid, iuc, start, slots, credit],
-        ),
-        Row::Missed {
-            round,
-            channel,
-            entry,
-            id,
-            i,
-            k,
-        } => put_event(line, b'M', &[round, channel], entry, &[id, i, k]),
-        Row::Final {
-            flow,
-            cluster,
-            outstanding,
-            units,
-        } => {
-            let end = put_units(line, units);
-            put_front(line, end, b'F', &[flow, cluster, outstanding])
-        }
-        Row::Counts {
-            unknown,
-            not_requestable,
-            late,
-        } => put_front(line, FEED, b'U', &[unknown, not_requestable, late]),
+    match row {
+        Row::Granted(grant) => put_grant(line, grant),
+        Row::Missed(missed) => put_missed(line, missed),
+        Row::Final(state) => put_final(line, state),
+        Row::Counts(counts) => put_counts(line, counts),
     }
+}
+
+/// Puts a G line before its line feed.
+fn put_grant(line: &mut [u8; LINE_BYTES], grant: &Grant) -> usize
+    requires { drop FEED line.old ≡ 10 ∷ [] }
+    ensures start { result ≤ LINE_BYTES }
+    ensures line { drop result line.new ≡ spec.grant_text grant.now }
+{
+    let Grant {
+        round,
+        channel,
+        entry,
+        id,
+        i,
+        k,
+        sid,
+        iuc,
+        start,
+        slots,
+        credit,
+    } = *grant;
+    let numbers = [id, i, k, sid, iuc, start, slots, credit];
+    put_event(line, b'G', &[round, channel], entry, &numbers)
+}
+
+/// Puts an M line before its line feed.
+fn put_missed(line: &mut [u8; LINE_BYTES], missed: &MissedOccurrence) -> usize
+    requires { drop FEED line.old ≡ 10 ∷ [] }
+    ensures start { result ≤ LINE_BYTES }
+    ensures line { drop result line.new ≡ spec.missed_text missed.now }
+{
+    let MissedOccurrence {
+        round,
+        channel,
+        entry,
+        id,
+        i,
+        k,
+    } = *missed;
+    put_event(line, b'M', &[round, channel], entry, &[id, i, k])
+}
+
+/// Puts an F line before its line feed.
+fn put_final(line: &mut [u8; LINE_BYTES], state: &FinalState) -> usize
+    requires { drop FEED line.old ≡ 10 ∷ [] }
+    ensures start { result ≤ LINE_BYTES }
+    ensures line { drop result line.new ≡ spec.final_text state.now }
+{
+    let FinalState {
+        flow,
+        cluster,
+        outstanding,
+        units,
+    } = *state;
+    let end = put_units(line, units);
+    put_front(line, end, b'F', &[flow, cluster, outstanding])
+}
+
+/// Puts the U line before its line feed.
+fn put_counts(line: &mut [u8; LINE_BYTES], counts: &TraceCounts) -> usize
+    requires { drop FEED line.old ≡ 10 ∷ [] }
+    ensures start { result ≤ LINE_BYTES }
+    ensures line { drop result line.new ≡ spec.counts_text counts.now }
+{
+    let TraceCounts {
+        unknown,
+        not_requestable,
+        late,
+    } = *counts;
+    put_front(line, FEED, b'U', &[unknown, not_requestable, late])
 }
 
 /// Puts the line feed.
@@ -105,14 +138,14 @@ fn put_event(
     line: &mut [u8; LINE_BYTES],
     letter: u8,
     place: &[u64],
-    entry: Entry,
+    entry: EntryWord,
     numbers: &[u64],
 ) -> usize
     requires place { length place.now ≤ 3 }
     requires numbers { length numbers.now ≤ 8 }
     ensures start { result ≤ LINE_BYTES }
     ensures line { drop result line.new ≡ letter ∷ (spec.numbers place.now ++ (44 ∷
-        (spec.entry_word entry ++ (spec.numbers numbers.now ++ drop FEED line.old)))) }
+        (spec.word_text entry ++ (spec.numbers numbers.now ++ drop FEED line.old)))) }
 {
     let end = put_numbers(line, FEED, numbers);
     let end = put_word(line, end, word(entry));

@@ -23,7 +23,6 @@ pub(crate) fn push_records(
 }
 
 /// Adds the record of a MAP.
-#[tactic(auto, using(crate::proofs::TextLemmas::taken_front))]
 fn push_map(
     text: &mut Vec<u8>,
     body: &mut [u8; MAX_BODY_BYTES],
@@ -38,6 +37,7 @@ fn push_map(
 }
 
 /// Adds a record: the round, the length of the body, the body.
+// The three parts are one record only as the lemma joins them.
 #[tactic(auto, using(crate::proofs::TextLemmas::piece_joined))]
 fn push_record(text: &mut Vec<u8>, round: u32, body: &[u8]) -> Result<(), NoMemory>
     requires { length body.now < 2 ^ 16 }
@@ -52,6 +52,7 @@ fn push_record(text: &mut Vec<u8>, round: u32, body: &[u8]) -> Result<(), NoMemo
 }
 
 /// Adds the lines of some rows. What stood in `line` doesn't matter.
+// `lines` is closed elsewhere: only here is it the texts of rows.
 #[tactic(auto, unfolding(crate::specs::Files::lines))]
 pub(crate) fn push_lines(
     text: &mut Vec<u8>,

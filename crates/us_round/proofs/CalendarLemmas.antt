@@ -9,7 +9,7 @@ use Rattle.us_flows.specs.Tables.{Tables}
 use Rattle.us_flows.specs.Lawful.{AreTables}
 use Rattle.us_calendar.specs.Calendars.{Calendar, IsCalendar, opening, pace_of, settled_in, max_settled}
 use Rattle.us_calendar.specs.Entries.{Entry, entries}
-use Rattle.us_calendar.specs.Settling.{Row}
+use Rattle.us_calendar.specs.Settling.{EntryState}
 use Rattle.us_bucket.specs.Levels.{full}
 use Rattle.us_flows.specs.Clusters.{clusters_of}
 use Rattle.us_split.specs.Plans.{Planned}
@@ -154,7 +154,7 @@ opening_rounds t [] = tt
 opening_rounds t (c ∷ channels) = (refl, opening_rounds t channels)
 
 none_settled : (es : List Entry) →
-    sum_by (λ (row : Row). length row.settled) (map (λ e. record { entry = e; settled = [] }) es) ≡ 0
+    sum_by (λ (state : EntryState). length state.settled) (map (λ e. record { entry = e; settled = [] }) es) ≡ 0
 none_settled [] = refl
 none_settled (e ∷ es) = none_settled es
 

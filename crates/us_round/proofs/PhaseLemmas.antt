@@ -111,8 +111,8 @@ fill_sound : (t : Tables) (round : ℕ) (c : Channel) (calendar : Calendar) → 
     IsFilledFor t (fill t round c calendar)
 fill_sound t round c calendar ready =
     let board : Board = reserves c (map_len t c) round in
-    let fitting = grants_fit calendar.pace calendar.next_round calendar.rows board in
-    let ended = run_ended calendar.pace calendar.next_round calendar.rows board in
+    let fitting = grants_fit calendar.pace calendar.next_round calendar.states board in
+    let ended = run_ended calendar.pace calendar.next_round calendar.states board in
     let len : length (ran calendar board).board.cells ≡ map_len t c =
     ap (λ b. length b.cells) fitting.0 ∙ assign_all-length board _ fitting.1
     ∙ reserves_length c (map_len t c) round ready.channel.reserves in
@@ -164,7 +164,7 @@ all_counted t round (c ∷ channels) (calendar ∷ cs) is =
     let f : Filled = fill t round c calendar in
     let fs : List Filled = map (λ (item : Channel × Calendar). fill t round item.0 item.1) (zip channels cs) in
     let counts : length f.settled + settled_in calendar ≡ settled_in f.calendar =
-    (run_ended calendar.pace calendar.next_round calendar.rows (reserves c (map_len t c) round)).counts in
+    (run_ended calendar.pace calendar.next_round calendar.states (reserves c (map_len t c) round)).counts in
     let rest : settled_now fs + sum_by settled_in cs ≡ settled_then fs =
     all_counted t round channels cs (omega (arith, is)) in
     let now : settled_now (f ∷ fs) ≡ length f.settled + settled_now fs = sum_by-cons (λ f. length f.settled) f fs in

@@ -13,8 +13,9 @@ use Rattle.us_calendar.specs.declared.settled.Settled.TheVariants as settled
 use Rattle.us_round.specs.Placements.{PlacedClaim}
 use Rattle.us_round.specs.Rounds.{left_of, pending_seat, pendings_on}
 use Rattle.us_round.specs.Outputs.{elements_of, head_of, by_start, rows_on, final_row}
+use Rattle.us_round.specs.declared.rows.Row.{Row}
 use Rattle.us_round.specs.declared.rows.Row.TheVariants as rows
-use Rattle.us_round.specs.declared.rows.Entry.TheVariants as entries
+use Rattle.us_round.specs.declared.rows.EntryWord.TheVariants as words
 
 -- Elements and heads.
 
@@ -91,28 +92,57 @@ no_ack = refl
 
 -- Lines.
 
--- a grant of the flow's first cluster at this minislot, with this credit
-abbrev grant : ℕ → ℕ → PlacedClaim
-grant start credit = record {
+-- a claim of the flow's first cluster that was placed at this minislot, with this credit, and its line
+abbrev placed : ℕ → ℕ → PlacedClaim
+placed start credit = record {
   claimant = record { cluster = 0; place = 0; flow = 7; list = 0 };
   interval = record { start = start; slots = 1; owner = long_grant };
   credit = credit;
 }
 
-abbrev line : ℕ → ℕ → rows.the_data
-line start credit = rows.Granted 4 1 entries.Requested 7 0 0 291 10 start 1 credit
+abbrev line : ℕ → ℕ → Row
+line start credit = rows.Granted (record {
+  round = 4;
+  channel = 1;
+  entry = words.Requested;
+  id = 7;
+  i = 0;
+  k = 0;
+  sid = 291;
+  iuc = 10;
+  start = start;
+  slots = 1;
+  credit = credit;
+})
 
--- lines stand by the start of their grants, whatever came first, a poll of 2 minislots too; then what was missed
+-- the line of a poll of 2 minislots, and that of a maintenance that was missed
+abbrev polled : Row
+polled = rows.Granted (record {
+  round = 4;
+  channel = 1;
+  entry = words.RealTimePoll;
+  id = 9;
+  i = 6;
+  k = 0;
+  sid = 300;
+  iuc = 1;
+  start = 1;
+  slots = 2;
+  credit = 0;
+})
+
+abbrev unmaintained : Row
+unmaintained = rows.Missed (record { round = 4; channel = 1; entry = words.Station; id = 2; i = 3; k = 0 })
+
+-- lines stand by the start of their grants, whatever came first; then what was missed
 lines_by_start : rows_on 4 (record {
   channel = channel;
   board = empty_board 8;
   calendar = record { pace = record { time = channel.bursts.time; len = 8 }; next_round = 5; rows = [] };
   settled = settled.Granted kinds.RealTimePoll 9 6 0 1 2 (record { sid = 300; iuc = 1 })
       ∷ settled.Missed kinds.Station 2 3 0 ∷ [];
-  grants = grant 5 30 ∷ grant 0 20 ∷ grant 3 10 ∷ [];
-}) ≡
-    line 0 20 ∷ rows.Granted 4 1 entries.RealTimePoll 9 6 0 300 1 1 2 0 ∷ line 3 10 ∷ line 5 30
-    ∷ rows.Missed 4 1 entries.Station 2 3 0 ∷ []
+  grants = placed 5 30 ∷ placed 0 20 ∷ placed 3 10 ∷ [];
+}) ≡ line 0 20 ∷ polled ∷ line 3 10 ∷ line 5 30 ∷ unmaintained ∷ []
 unfolding rows_on by_start
 lines_by_start = refl
 
@@ -124,18 +154,20 @@ abbrev bucket : ℕ → Level
 bucket rate = record { rate = rate; burst = 1; units = 640000 }
 
 -- the F line of a flow with a limit, and of one without
-units_left : final_row (5 ∷ 6 ∷ []) (bucket 8 ∷ []) turn ≡ rows.Final 7 1 6 (Some 640000)
+units_left : final_row (5 ∷ 6 ∷ []) (bucket 8 ∷ []) turn ≡
+    rows.Final (record { flow = 7; cluster = 1; outstanding = 6; units = Some 640000 })
 unfolding units_in
 units_left = refl
 
-no_units : final_row (5 ∷ 6 ∷ []) (bucket 0 ∷ []) turn ≡ rows.Final 7 1 6 None
+no_units : final_row (5 ∷ 6 ∷ []) (bucket 0 ∷ []) turn ≡
+    rows.Final (record { flow = 7; cluster = 1; outstanding = 6; units = None })
 unfolding units_in
 no_units = refl
 
 -- Pendings.
 
 -- a turn with bytes left and no credit is pending on its flow's first channel, by the SID there,
-pending : pending_seat (grant 0 20 ∷ []) (left_of (grant 0 20 ∷ []) 0 (20 ∷ 6 ∷ [])) turn ≡ Some (2, 294)
+pending : pending_seat (placed 0 20 ∷ []) (left_of (placed 0 20 ∷ []) 0 (20 ∷ 6 ∷ [])) turn ≡ Some (2, 294)
 pending = refl
 
 -- but not where nothing is left,
@@ -143,7 +175,7 @@ none_left : pending_seat [] (0 ∷ 0 ∷ []) turn ≡ None
 none_left = refl
 
 -- nor where any grant credits some bytes
-credited : pending_seat (record (grant 0 20) { claimant = record { cluster = 1; place = 0; flow = 7; list = 1 } } ∷ [])
+credited : pending_seat (record (placed 0 20) { claimant = record { cluster = 1; place = 0; flow = 7; list = 1 } } ∷ [])
     (5 ∷ 6 ∷ []) turn ≡ None
 credited = refl
 

@@ -14,10 +14,9 @@ ByStartMoves = (len : ℕ) (lines : List Row) → AllByRecursion (λ line. start
 
 -- a G or an M line of this round and channel
 abbrev pub IsLineOf : ℕ → Channel → Row → Type 0
-IsLineOf round c (rows.Granted of id entry flow i k sid iuc start slots credit) = (of ≡ round) × (id ≡ c.id)
-IsLineOf round c (rows.Missed of id entry flow i k) = (of ≡ round) × (id ≡ c.id)
-IsLineOf round c (rows.Final flow cluster outstanding units) = ⊥
-IsLineOf round c (rows.Counts unknown not_requestable late) = ⊥
+IsLineOf round c (rows.Granted grant) = (grant.round ≡ round) × (grant.channel ≡ c.id)
+IsLineOf round c (rows.Missed missed) = (missed.round ≡ round) × (missed.channel ≡ c.id)
+IsLineOf round c _ = ⊥
 
 -- every line of a channel's round bears them
 abbrev pub LinesBearRound : Type 0

@@ -1,16 +1,16 @@
 -- What a round gives (ours): the MAP of each channel, and its lines.
-use Rattle.std.specs.Prelude.{ℕ, Bool, true, false, not, ◌-◌, ◌*◌, ◌/◌, ◌==◌, ◌≤◌, nat_le, if◌then◌else◌, List, ◌++◌, length, map, filter, flat_map, slice_get, slice_index, Option, Some, None, option_and_then}
+use Rattle.std.specs.Prelude.{ℕ, Bool, true, false, not, ◌+◌, ◌-◌, ◌*◌, ◌/◌, ◌==◌, ◌≤◌, nat_le, if◌then◌else◌, List, ◌++◌, length, map, filter, flat_map, slice_get, slice_index, Option, Some, None, option_and_then}
 use Rattle.std.specs.List.{AllByRecursion, range_with_len}
 use Rattle.us_slots.specs.Times.{minislot_ticks}
 use Rattle.us_slots.specs.UsageCodes as codes
 use Rattle.us_codec.specs.declared.heads.Head.{Head}
 use Rattle.us_codec.specs.Elements.{MapElement}
-use Rattle.us_codec.specs.Bodies.{MapBody, body_of, spelling}
+use Rattle.us_codec.specs.Bodies.{MapBody, body_of, max_elements, spelling}
 use Rattle.us_flows.specs.declared.channels.Channel.{Channel}
 use Rattle.us_flows.specs.Tables.{Tables, map_len}
 use Rattle.us_flows.specs.Clusters.{Turn, table_order}
 use Rattle.us_bucket.specs.Levels.{Level, units_in}
-use Rattle.us_holes.specs.Boards.{Owner, Board}
+use Rattle.us_holes.specs.Boards.{Owner, Board, max_assignments}
 use Rattle.us_holes.specs.Runs.{Run, runs_of}
 use Rattle.us_calendar.specs.declared.kinds.Kind.{Kind}
 use Rattle.us_calendar.specs.declared.kinds.Kind.TheVariants as kinds
@@ -18,11 +18,11 @@ use Rattle.us_calendar.specs.declared.settled.Settled.{Settled}
 use Rattle.us_calendar.specs.declared.settled.Settled.TheVariants as settled
 use Rattle.us_round.specs.Reserves.{broadcast}
 use Rattle.us_round.specs.Placements.{PlacedClaim}
-use Rattle.us_round.specs.Rounds.{State, Built, Scheduled, pendings_on}
+use Rattle.us_round.specs.Rounds.{State, Built, Scheduled, max_pendings, pendings_on}
 use Rattle.us_round.specs.declared.rows.Row.{Row}
 use Rattle.us_round.specs.declared.rows.Row.TheVariants as rows
-use Rattle.us_round.specs.declared.rows.Entry.{Entry}
-use Rattle.us_round.specs.declared.rows.Entry.TheVariants as entries
+use Rattle.us_round.specs.declared.rows.EntryWord.{EntryWord}
+use Rattle.us_round.specs.declared.rows.EntryWord.TheVariants as words
 
 -- MAPs.
 
@@ -74,37 +74,63 @@ built_map t round pending built =
 
 -- where the grant of a line starts; 0 for lines of no grant
 abbrev pub start_of : Row → ℕ
-start_of (rows.Granted round channel entry id i k sid iuc start slots credit) = start
-start_of (rows.Missed round channel entry id i k) = 0
-start_of (rows.Final flow cluster outstanding units) = 0
-start_of (rows.Counts unknown not_requestable late) = 0
+start_of (rows.Granted grant) = grant.start
+start_of _ = 0
 
 -- lines of grants by where these start
 unfoldable pub by_start : ℕ → List Row → List Row
 by_start len lines = flat_map (λ start. filter (λ line. start_of line == start) lines) (range_with_len 0 len)
 
 -- the word of a calendar's entry
-abbrev pub word_of : Kind → Entry
-word_of kinds.Unsolicited = entries.Unsolicited
-word_of kinds.RealTimePoll = entries.RealTimePoll
-word_of kinds.NonRealTimePoll = entries.NonRealTimePoll
-word_of kinds.Station = entries.Station
+abbrev pub entry_word : Kind → EntryWord
+entry_word kinds.Unsolicited = words.Unsolicited
+entry_word kinds.RealTimePoll = words.RealTimePoll
+entry_word kinds.NonRealTimePoll = words.NonRealTimePoll
+entry_word kinds.Station = words.Station
 
 -- the line of what the calendar of a channel settled: a G line, which credits nothing, or an M line
 abbrev pub settled_row : ℕ → Channel → Settled → Row
-settled_row round c (settled.Granted kind id i k start slots owner) =
-    rows.Granted round c.id (word_of kind) id i k owner.sid owner.iuc start slots 0
-settled_row round c (settled.Missed kind id i k) = rows.Missed round c.id (word_of kind) id i k
+settled_row round c (settled.Granted kind id i k start slots owner) = rows.Granted (record {
+  round = round;
+  channel = c.id;
+  entry = entry_word kind;
+  id = id;
+  i = i;
+  k = k;
+  sid = owner.sid;
+  iuc = owner.iuc;
+  start = start;
+  slots = slots;
+  credit = 0;
+})
+settled_row round c (settled.Missed kind id i k) = rows.Missed (record {
+  round = round;
+  channel = c.id;
+  entry = entry_word kind;
+  id = id;
+  i = i;
+  k = k;
+})
 
 abbrev pub is_granted : Settled → Bool
 is_granted (settled.Granted kind id i k start slots owner) = true
 is_granted (settled.Missed kind id i k) = false
 
--- the G line of a grant that was requested
+-- the G line of a claim that was placed
 abbrev pub grant_row : ℕ → Channel → PlacedClaim → Row
-grant_row round c g =
-    rows.Granted round c.id entries.Requested g.claimant.flow g.claimant.list 0 g.interval.owner.sid
-    g.interval.owner.iuc g.interval.start g.interval.slots g.credit
+grant_row round c placed = rows.Granted (record {
+  round = round;
+  channel = c.id;
+  entry = words.Requested;
+  id = placed.claimant.flow;
+  i = placed.claimant.list;
+  k = 0;
+  sid = placed.interval.owner.sid;
+  iuc = placed.interval.owner.iuc;
+  start = placed.interval.start;
+  slots = placed.interval.slots;
+  credit = placed.credit;
+})
 
 -- the G lines of a channel's round, of its calendar and of requests,
 abbrev pub granted_rows : ℕ → Built → List Row
@@ -122,9 +148,12 @@ rows_on round built = by_start (length built.board.cells) (granted_rows round bu
 
 -- the F line of a cluster, of what is outstanding of each cluster and the bucket of each flow
 abbrev pub final_row : List ℕ → List Level → Turn → Row
-final_row outstanding buckets turn =
-    rows.Final turn.cluster.flow.id turn.cluster.list (slice_index outstanding turn.number)
-    (option_and_then units_in (slice_get buckets turn.place))
+final_row outstanding buckets turn = rows.Final (record {
+  flow = turn.cluster.flow.id;
+  cluster = turn.cluster.list;
+  outstanding = slice_index outstanding turn.number;
+  units = option_and_then units_in (slice_get buckets turn.place);
+})
 
 -- the F lines of a state, in table order
 unfoldable pub final_rows : State → List Row
@@ -145,12 +174,12 @@ out_of t s = record {
 
 -- Limits.
 
--- no channel's MAP passes 100 assignments, 38 pendings, 240 elements or 976 bytes
+-- no channel's MAP passes its most assignments, pendings and elements, nor the bytes of a head and so many elements
 pub record IsWithinLimits (t : Tables) (round : ℕ) (pending : List (ℕ × ℕ)) (built : Built) : Type 0 where
-  pub assignments : built.board.standing ≤ 100
-  pub pendings : length (pendings_on built.channel.id pending) ≤ 38
-  pub elements : length (built_map t round pending built).elements ≤ 240
-  pub bytes : length (spelling (built_map t round pending built)) ≤ 976
+  pub assignments : built.board.standing ≤ max_assignments
+  pub pendings : length (pendings_on built.channel.id pending) ≤ max_pendings
+  pub elements : length (built_map t round pending built).elements ≤ max_elements
+  pub bytes : length (spelling (built_map t round pending built)) ≤ 16 + 4 * max_elements
 
 abbrev pub AreWithinLimits : Tables → Scheduled → Type 0
 AreWithinLimits t s = AllByRecursion (IsWithinLimits t s.round s.pending) s.channels

@@ -12,7 +12,7 @@ use Rattle.us_flows.specs.Clusters.{Turn, table_order, turns_of}
 use Rattle.us_bucket.specs.Levels.{bytes_in, refilled, spent, units_in}
 use Rattle.us_holes.specs.Boards.{assign_all, first_of, longest_up_to}
 use Rattle.us_holes.specs.Runs.{runs_from}
-use Rattle.us_calendar.specs.Calendars.{run_rows}
+use Rattle.us_calendar.specs.Calendars.{run_entries}
 use Rattle.us_calendar.specs.Entries.{entries}
 use Rattle.us_split.specs.Divisions.{divided}
 use Rattle.us_split.specs.Plans.{after_turn, cost_on, plan_for, plan_of, shares_of, weights}
@@ -20,16 +20,16 @@ use Rattle.us_round.specs.Reserves.{reserves}
 use Rattle.us_round.specs.Placements.{claims, grants_of, spot}
 use Rattle.us_round.specs.Rounds.{Step, build_on, builds_of, final, opening, pending_seats, pendings_on, round_from, round_of, round_plan, schedule}
 use Rattle.us_round.specs.Outputs.{RoundOut, by_start, elements_of, final_rows, head_of, map_of, out_of, rows_on}
-use Rattle.us_round.specs.declared.rows.Row.{Row}
+use Rattle.us_round.specs.declared.rows.Grant.{Grant}
 use Rattle.us_round.specs.declared.rows.Row.TheVariants as rows
-use Rattle.us_round.specs.declared.rows.Entry.TheVariants as words
+use Rattle.us_round.specs.declared.rows.EntryWord.TheVariants as words
 
 -- what these computations unfold
 unfoldable pub round_steps : ⊤
 unfolding coded_length burst_cost greatest_up_to capacity_of turns_of bytes_in refilled spent units_in assign_all
     first_of longest_up_to runs_from divided after_turn cost_on plan_for plan_of shares_of weights reserves claims
     grants_of spot build_on builds_of final pending_seats pendings_on round_from round_of schedule by_start elements_of
-    final_rows head_of map_of out_of rows_on word_of entries run_rows
+    final_rows head_of map_of out_of rows_on word_of entries run_entries
 round_steps = tt
 
 -- Tables.
@@ -102,10 +102,21 @@ given t round cut = out_of t (step t round cut).scheduled
 abbrev elements : Tables → ℕ → List ℕ → List (List ℕ)
 elements t round cut = map (λ m. map word_of m.elements) (given t round cut).maps
 
--- a grant of round 1 by its channel, flow and cluster, its SID and IUC, its start and minislots, and its credit
-abbrev granted : ℕ → ℕ → ℕ → ℕ → ℕ → ℕ → ℕ → ℕ → Row
-granted channel flow list sid iuc start slots credit =
-    rows.Granted 1 channel words.Requested flow list 0 sid iuc start slots credit
+-- the line of a grant of the base flow's first cluster in round 1, but for its minislots and its credit
+abbrev base_grant : Grant
+base_grant = record {
+  round = 1;
+  channel = 1;
+  entry = words.Requested;
+  id = 1;
+  i = 0;
+  k = 0;
+  sid = 291;
+  iuc = 10;
+  start = 0;
+  slots = 0;
+  credit = 0;
+}
 
 -- the word of a SID, an IUC and an offset
 abbrev word : ℕ → ℕ → ℕ → ℕ
@@ -128,14 +139,16 @@ one_flow = (refl, refl, refl, refl, refl)
 
 -- the credit is what was asked for, and not what the minislots could carry
 no_more_credit :
-    ((given base 1 (1001 ∷ [])).rows ≡ granted 1 1 0 291 10 0 33 1001 ∷ []) ×
+    ((given base 1 (1001 ∷ [])).rows ≡
+    rows.Granted (record base_grant { slots = 33; credit = 1001 }) ∷ []) ×
     ((step base 1 (1001 ∷ [])).state.outstanding ≡ 0 ∷ [])
 unfolding round_steps
 no_more_credit = (refl, refl)
 
 -- and the rest stays outstanding
 rest_outstanding :
-    ((given base 1 (262140 ∷ [])).rows ≡ granted 1 1 0 291 10 0 150 4776 ∷ []) ×
+    ((given base 1 (262140 ∷ [])).rows ≡
+    rows.Granted (record base_grant { slots = 150; credit = 4776 }) ∷ []) ×
     ((step base 1 (262140 ∷ [])).state.outstanding ≡ 257364 ∷ [])
 unfolding round_steps
 rest_outstanding = (refl, refl)
@@ -172,7 +185,8 @@ second_channel :
     (elements (on_second 10 11) 1 (1001 ∷ []) ≡
     (0xfffc4000 ∷ 0xfffc4096 ∷ 0x0001c0a0 ∷ []) ∷
     (0x048e8000 ∷ 0xfffc4021 ∷ 0xfffc4095 ∷ 0x0001c0a0 ∷ []) ∷ []) ×
-    ((given (on_second 10 11) 1 (1001 ∷ [])).rows ≡ granted 2 1 0 291 10 0 33 1001 ∷ []) ×
+    ((given (on_second 10 11) 1 (1001 ∷ [])).rows ≡
+    rows.Granted (record base_grant { channel = 2; slots = 33; credit = 1001 }) ∷ []) ×
     ((step (on_second 10 11) 1 (1001 ∷ [])).state.outstanding ≡ 0 ∷ [])
 unfolding round_steps
 second_channel = (refl, refl, refl)
@@ -247,8 +261,10 @@ bonded_round :
     (word 291 10 0 ∷ word 293 10 127 ∷ 0xfffc4090 ∷ 0xfffc4096 ∷ 0x0001c0a0 ∷ []) ∷
     (word 292 10 0 ∷ word 294 10 126 ∷ 0xfffc408f ∷ 0xfffc4095 ∷ 0x0001c0a0 ∷ []) ∷ []) ×
     ((given (bonded 10 11) 1 (8000 ∷ 1000 ∷ [])).rows ≡
-    granted 1 1 0 291 10 0 127 4014 ∷ granted 1 1 1 293 10 127 17 500 ∷
-    granted 2 1 0 292 10 0 126 3986 ∷ granted 2 1 1 294 10 126 17 500 ∷ []) ×
+    rows.Granted (record base_grant { slots = 127; credit = 4014 }) ∷
+    rows.Granted (record base_grant { i = 1; sid = 293; start = 127; slots = 17; credit = 500 }) ∷
+    rows.Granted (record base_grant { channel = 2; sid = 292; slots = 126; credit = 3986 }) ∷
+    rows.Granted (record base_grant { channel = 2; i = 1; sid = 294; start = 126; slots = 17; credit = 500 }) ∷ []) ×
     ((step (bonded 10 11) 1 (8000 ∷ 2000 ∷ [])).state.outstanding ≡ 0 ∷ 576 ∷ [])
 unfolding round_steps
 bonded_round = (refl, refl, refl)
@@ -271,9 +287,11 @@ limited =
 -- a bucket is shared by its flow's clusters: the second gets what the first leaves, and then nothing
 limited_round :
     ((given limited 1 (1000 ∷ 1000 ∷ [])).rows ≡
-    granted 1 1 0 291 10 0 32 1000 ∷ granted 1 1 1 292 10 32 18 522 ∷ []) ×
+    rows.Granted (record base_grant { slots = 32; credit = 1000 }) ∷
+    rows.Granted (record base_grant { i = 1; sid = 292; start = 32; slots = 18; credit = 522 }) ∷ []) ×
     ((step limited 1 (1000 ∷ 1000 ∷ [])).state.outstanding ≡ 0 ∷ 478 ∷ []) ×
-    ((given limited 1 (2000 ∷ 1000 ∷ [])).rows ≡ granted 1 1 0 291 10 0 49 1522 ∷ []) ×
+    ((given limited 1 (2000 ∷ 1000 ∷ [])).rows ≡
+    rows.Granted (record base_grant { slots = 49; credit = 1522 }) ∷ []) ×
     ((step limited 1 (2000 ∷ 1000 ∷ [])).state.outstanding ≡ 478 ∷ 1000 ∷ []) ×
     -- the second cluster is pending
     ((step limited 1 (2000 ∷ 1000 ∷ [])).scheduled.pending ≡ (1, 292) ∷ [])

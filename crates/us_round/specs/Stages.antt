@@ -4,6 +4,7 @@ use Rattle.std.specs.Prelude.{◌≡◌, ℕ, ◌+◌, ◌*◌, ◌≤◌, List,
 use Rattle.std.specs.List.{AllByRecursion}
 use Rattle.us_flows.specs.Lawful.{AreTables}
 use Rattle.us_bucket.specs.Levels.{bytes_in}
+use Rattle.us_holes.specs.Boards.{max_assignments}
 use Rattle.us_calendar.specs.Calendars.{Calendar, settled_in}
 use Rattle.us_split.specs.PlanLaws.{IsLawfulPlan}
 use Rattle.us_split.specs.Shares.{TurnShares, with_shares}
@@ -51,7 +52,7 @@ pub record IsOver (s next : State) (given : RoundOut) : Type 0 where
   pub out : given ≡ out_of s.tables (round_from s).scheduled
   pub sound : AreSound s (builds_of s)
   pub limits : AreWithinLimits s.tables (round_from s).scheduled
-  pub few : length given.rows + settled_by s ≤ 100 * length s.tables.channels + settled_by next
+  pub few : length given.rows + settled_by s ≤ max_assignments * length s.tables.channels + settled_by next
 
 -- the one that began with these calendars
 abbrev pub IsOverFor : Core → List Built → State → RoundOut → Type 0

@@ -73,7 +73,7 @@ pub use faults::RoundFault;
 pub use output_laws::{lines_are_of_grants, lines_bear_round};
 pub use round_outs::RoundOut;
 pub use rounds::round;
-pub use rows::{Entry, Row};
+pub use rows::{EntryWord, FinalState, Grant, MissedOccurrence, Row, TraceCounts};
 pub use states::State;
 
 #[cfg(test)]

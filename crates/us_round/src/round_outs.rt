@@ -47,4 +47,17 @@ impl RoundOut {
     {
         &self.rows
     }
+
+    /// The MAP of each channel, and the lines, to whoever owns what the round gave.
+    pub fn into_parts(self) -> (Vec<Map>, Vec<Row>)
+        ensures maps { result.0.items ≡ self.maps }
+        ensures rows { result.1.items ≡ self.rows }
+    {
+        let RoundOut {
+            round: _,
+            maps,
+            rows,
+        } = self;
+        (maps, rows)
+    }
 }

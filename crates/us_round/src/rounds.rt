@@ -3,6 +3,7 @@ ghost use Rattle.std.specs.List.{AllByRecursion};
 ghost use Rattle.us_flows.specs.Tables.{max_run_ticks};
 ghost use Rattle.us_flows.specs.Clusters.{clusters_of};
 ghost use Rattle.us_flows.specs.Lawful.{AreTables};
+ghost use Rattle.us_holes.specs.Boards.{max_assignments};
 ghost use Rattle.us_split.specs.Plans.{IsIdle};
 ghost use Rattle.us_round.specs.Cores.{AreCalendars, scheduled_of};
 ghost use Rattle.us_round.specs.Leftovers.{AreInside, IsBuiltFor};
@@ -56,12 +57,12 @@ pub fn round<H: Threads + Sync, G: Gate + Sync>(
     ensures sound { IfOk result (λ _. let begun : spec.State = spec.begun state cuts.now in
         AreSound begun (spec.builds_of begun)) }
 
-    // No MAP passes 100 assignments, 38 pendings, 240 elements or 976 bytes, so a channel has at most 100 lines of
-    // requested grants; all other lines are of what the calendars settled.
+    // No MAP passes its limits, so a channel has at most a line for each assignment that a MAP can have; all other lines
+    // are of what the calendars settled.
     ensures limits { IfOk result (λ done.
         AreWithinLimits state.tables (spec.round_of state cuts.now).scheduled) }
     ensures few { IfOk result (λ done. length done.1.rows + settled_by state ≤
-        100 * length state.tables.channels + settled_by done.0) }
+        max_assignments * length state.tables.channels + settled_by done.0) }
 {
     if workers == 0 || workers > MAX_WORKERS {
         return Err(RoundFault::Workers);

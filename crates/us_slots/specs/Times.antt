@@ -18,6 +18,10 @@ minislot_ticks t = 2 ^ t.minislot_log2
 abbrev pub symbols_per_minislot : Timing → ℕ
 symbols_per_minislot t = 2 ^ (t.minislot_log2 + t.rate_log2)
 
--- when a minislot starts, in quarter microseconds, of which a tick has 25
+-- the quarter microseconds of a tick
+abbrev pub quarters_per_tick : ℕ
+quarters_per_tick = 25
+
+-- when a minislot starts, in quarter microseconds
 abbrev pub start_of : Timing → ℕ → ℕ
-start_of t minislot = 25 * (minislot * minislot_ticks t)
+start_of t minislot = quarters_per_tick * (minislot * minislot_ticks t)

@@ -1,7 +1,10 @@
 ghost use Rattle.std.specs.Prelude.{◌≡◌, SomeIff};
-ghost use Rattle.us_slots.specs.Times.{Timing, IsTiming, minislot_ticks, symbols_per_minislot};
+ghost use Rattle.us_slots.specs.Times.{Timing, IsTiming, minislot_ticks, quarters_per_tick, symbols_per_minislot};
 
 use std::marker::Model;
+
+/// A tick of 6.25 microseconds (the standard's), in quarter microseconds.
+pub const QUARTERS_PER_TICK: u64 = 25;
 
 /// The longest minislot is 2^7 ticks (ours).
 const MAX_MINISLOT_LOG2: u8 = 7;
@@ -49,6 +52,9 @@ impl ChannelTime {
     pub fn minislot_ticks(&self) -> u32
         ensures value { result ≡ minislot_ticks self.now }
         ensures in_range { IsTiming self.now }
+
+        // The constant is that of the definitions.
+        ensures quarters { QUARTERS_PER_TICK ≡ quarters_per_tick }
     {
         1 << self.minislot_log2
     }

@@ -41,7 +41,7 @@ mod memory;
 
 pub use burst_sets::BurstSet;
 pub use capacities::{MAX_MAP_TICKS, capacity};
-pub use channel_times::ChannelTime;
+pub use channel_times::{ChannelTime, QUARTERS_PER_TICK};
 pub use costs::{MAX_BURST_BYTES, coded_len, cost, grant_cost};
 pub use devices::{Failed, FromRead, FromWrite, ReadFault, Sink, Source, read_all, write_all};
 pub use laws::{bytes_cost_minislots, carried_bytes_fit};

@@ -1,10 +1,7 @@
 ghost use Rattle.std.specs.Prelude.{ℕ, ◌<◌, ◌^◌, IfSome, IfNone};
 ghost use Rattle.us_slots.specs.Windows.{StartsWithin, AreEnds};
 
-use crate::channel_times::ChannelTime;
-
-/// A tick of 6.25 microseconds, in quarter microseconds.
-const QUARTERS_PER_TICK: u64 = 25;
+use crate::channel_times::{ChannelTime, QUARTERS_PER_TICK};
 
 /// The first and the last minislot whose start lies between the ideal time `start_q` and `start_q + jitter_q`,
 /// both ends included, in quarter microseconds, both below 2^32. `None`: no minislot starts there.

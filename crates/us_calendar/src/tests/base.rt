@@ -5,35 +5,13 @@ use std::alloc::{AllocError, Global};
 use std::process::Abort;
 use us_flows::Config;
 use us_holes::{Board, Owner};
+use us_samples::put_channel;
 use us_slots::{Iuc, NoMemory};
 
 /// The one comparison of these tests.
 pub(super) fn same(rt: &impl Abort, name: &str, found: &str, wanted: &str) {
     assert_eq!(rt; found, wanted, "{name}");
 }
-
-/// Rounds of 2,000 microseconds, and a channel whose MAPs have 160 minislots of 12.5 microseconds. The last 10 are for
-/// contention.
-const CHANNEL: &str = "round_ticks = 320
-lead_ticks = 160
-
-[[channel]]
-id = 1
-minislot_log2 = 1
-rate_log2 = 5
-ucd_count = 0
-ranging_backoff = [2, 6]
-data_backoff = [3, 8]
-request_minislots = 2
-contention_minislots = 10
-maintenance_minislots = 0
-maintenance_every = 1
-station_minislots = 4
-long = { bits = 4, preamble = 24, guard = 8, fec_t = 0, fec_k = 200, shortened = false }
-short = { bits = 4, preamble = 24, guard = 8, fec_t = 0, fec_k = 200, shortened = false, max_minislots = 10 }
-unsolicited = { bits = 4, preamble = 24, guard = 8, fec_t = 0, fec_k = 200, shortened = false }
-
-";
 
 /// So many rounds of a calendar, from round 0 on.
 #[derive(Drop)]
@@ -65,13 +43,13 @@ pub(super) fn answer_of(alloc: Global, case: &Case<'_>) -> Option<String> {
     }
 }
 
-/// The configuration with these flows and stations.
+/// The configuration of channel 1 with these flows and stations: rounds of 2,000 microseconds, and MAPs of 160 minislots
+/// of 12.5 microseconds.
 pub(super) fn config_of(alloc: Global, tables: &str) -> Option<Config> {
     let mut text = String::new(alloc);
-    match write!(text, "{CHANNEL}{tables}") {
-        Ok(()) => Config::read(alloc, text.as_bytes()).ok(),
-        Err(_) => None,
-    }
+    put_channel(&mut text, 1).ok()?;
+    text.push_str(tables).ok()?;
+    Config::read(alloc, text.as_bytes()).ok()
 }
 
 /// The rounds of a case.

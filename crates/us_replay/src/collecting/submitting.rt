@@ -21,7 +21,6 @@ impl<'a> Work<(Seat, &'a [Ask]), Seat, IntakeFault> for Submitting<'a> {
 
     ghost must_fail = { λ _ _ _. ⊥ };
 
-    #[tactic(auto, using(crate::proofs::CollectingLemmas::chunk_submits))]
     fn run(
         &self,
         _alloc: Global,

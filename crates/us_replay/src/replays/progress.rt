@@ -16,7 +16,7 @@ use us_codec::MAX_BODY_BYTES;
 use us_crew::Gate;
 use us_intake::MAX_CLUSTERS;
 use us_requests::{Ask, Counts};
-use us_round::{RoundOut, Row, State};
+use us_round::{RoundOut, Row, State, TraceCounts};
 use us_slots::NoMemory;
 
 /// What a replay keeps from one round to the next beside the state: what collects requests, the buffers that every round
@@ -90,6 +90,7 @@ impl Progress {
     }
 
     /// Makes all that is to be written of a round. After want of memory nothing is said of what stands here.
+    // `with_round` is closed elsewhere: only here is it what the calls below make.
     #[tactic(auto, unfolding(crate::specs::Progress::with_round))]
     pub(crate) fn take_round(&mut self, out: &RoundOut) -> Result<(), NoMemory>
         requires { HasRoom self.old (length out.now.rows) }
@@ -104,6 +105,7 @@ impl Progress {
 
     /// Makes the end of the report, of the state after all rounds. After want of memory nothing is said of what stands
     /// here.
+    // `with_last` is closed elsewhere, as `with_round` is.
     #[tactic(auto, unfolding(crate::specs::Progress::with_last))]
     pub(crate) fn take_last(
         &mut self,
@@ -116,11 +118,11 @@ impl Progress {
         let Ok(mut rows) = state.finals(alloc) else {
             return Err(NoMemory);
         };
-        rows.push(Row::Counts {
+        rows.push(Row::Counts(TraceCounts {
             unknown: u64::from(counts.unknown),
             not_requestable: u64::from(counts.not_requestable),
             late: u64::from(counts.late),
-        })?;
+        }))?;
         self.to_maps.clear();
         self.to_report.clear();
         push_lines(&mut self.to_report, &mut self.line, &rows)

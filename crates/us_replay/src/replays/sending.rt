@@ -1,5 +1,6 @@
 ghost use Rattle.std.specs.Prelude.{◌≡◌, false};
-ghost use Rattle.us_replay.specs.Replays.{Growth, blames_maps, blames_report};
+ghost use Rattle.us_replay.specs.Endings.{blames_maps, blames_report, ended};
+ghost use Rattle.us_replay.specs.Replays.{Growth};
 ghost use Rattle.us_replay.specs.Progress.{Sent, Flushed};
 
 use crate::faults::RunFault;
@@ -17,7 +18,7 @@ pub(crate) fn send<W1: Sink, W2: Sink>(
     requires report_ready { W2.failed report.old ≡ false }
     ensures sent { let to_maps : Growth = record { before = W1.contents maps.old; after = W1.contents maps.new } in
         let to_report : Growth = record { before = W2.contents report.old; after = W2.contents report.new } in
-        Sent records.now lines.now done to_maps to_report result }
+        Sent records.now lines.now done to_maps to_report (ended result) }
     ensures maps_failed { W1.failed maps.new ≡ blames_maps result }
     ensures report_failed { W2.failed report.new ≡ blames_report result }
 {
@@ -41,7 +42,7 @@ pub(crate) fn flush<W1: Sink, W2: Sink>(
     requires report_ready { W2.failed report.old ≡ false }
     ensures flushed { let to_maps : Growth = record { before = W1.contents maps.old; after = W1.contents maps.new } in
         let to_report : Growth = record { before = W2.contents report.old; after = W2.contents report.new } in
-        Flushed done to_maps to_report result }
+        Flushed done to_maps to_report (ended result) }
     ensures maps_failed { W1.failed maps.new ≡ blames_maps result }
     ensures report_failed { W2.failed report.new ≡ blames_report result }
 {

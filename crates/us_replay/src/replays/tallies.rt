@@ -20,9 +20,9 @@ impl Tally {
     {
         for row in rows {
             match row {
-                Row::Granted { .. } => self.granted += 1,
-                Row::Missed { .. } => self.missed += 1,
-                Row::Final { .. } | Row::Counts { .. } => {}
+                Row::Granted(_) => self.granted += 1,
+                Row::Missed(_) => self.missed += 1,
+                Row::Final(_) | Row::Counts(_) => {}
             }
         }
     }

@@ -1,7 +1,7 @@
 use super::base::same;
 use crate::lines::LINE_BYTES;
 use crate::texts::push_lines;
-use crate::{Entry, Row, RunFault};
+use crate::{EntryWord, FinalState, Grant, MissedOccurrence, Row, RunFault, TraceCounts};
 use std::alloc::Global;
 use std::fmt::{self, Write};
 use us_requests::TraceFault;
@@ -9,10 +9,10 @@ use us_slots::NoMemory;
 
 /// A line of each kind.
 const ROWS: [Row; 5] = [
-    Row::Granted {
+    Row::Granted(Grant {
         round: 1,
         channel: 1,
-        entry: Entry::Requested,
+        entry: EntryWord::Requested,
         id: 1,
         i: 0,
         k: 0,
@@ -21,40 +21,40 @@ const ROWS: [Row; 5] = [
         start: 0,
         slots: 32,
         credit: 1_000,
-    },
-    Row::Missed {
+    }),
+    Row::Missed(MissedOccurrence {
         round: 5,
         channel: 1,
-        entry: Entry::Unsolicited,
+        entry: EntryWord::Unsolicited,
         id: 1,
         i: 1,
         k: 0,
-    },
-    Row::Final {
+    }),
+    Row::Final(FinalState {
         flow: 1,
         cluster: 0,
         outstanding: 0,
         units: None,
-    },
-    Row::Final {
+    }),
+    Row::Final(FinalState {
         flow: 1,
         cluster: 0,
         outstanding: 7_838,
         units: Some(0),
-    },
-    Row::Counts {
+    }),
+    Row::Counts(TraceCounts {
         unknown: 0,
         not_requestable: 0,
         late: u64::MAX,
-    },
+    }),
 ];
 
-const ENTRIES: [Entry; 5] = [
-    Entry::Unsolicited,
-    Entry::RealTimePoll,
-    Entry::NonRealTimePoll,
-    Entry::Station,
-    Entry::Requested,
+const ENTRIES: [EntryWord; 5] = [
+    EntryWord::Unsolicited,
+    EntryWord::RealTimePoll,
+    EntryWord::NonRealTimePoll,
+    EntryWord::Station,
+    EntryWord::Requested,
 ];
 
 const LINES: &str = "\
@@ -76,14 +76,14 @@ fn text_of_rows(alloc: Global) -> Result<Vec<u8>, NoMemory> {
     let mut line = [0; LINE_BYTES];
     push_lines(&mut text, &mut line, &ROWS)?;
     for entry in &ENTRIES {
-        let row = Row::Missed {
+        let row = Row::Missed(MissedOccurrence {
             round: 9,
             channel: 2,
             entry: *entry,
             id: 3,
             i: 4,
             k: 5,
-        };
+        });
         push_lines(&mut text, &mut line, &[row])?;
     }
     Ok(text)

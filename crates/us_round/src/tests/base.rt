@@ -155,7 +155,7 @@ fn run<H: Threads + Sync, G: Gate + Sync>(
         let (next, out) = next_round(threads, alloc, state, &cut, workers, gate)?;
         state = next;
         if case.whole {
-            tell_whole(answer, &out)?;
+            tell_whole(answer, out)?;
         } else {
             tell_round(answer, &out)?;
         }
@@ -236,25 +236,19 @@ fn tell_rows(answer: &mut String, rows: &[Row]) -> Result<(), NoMemory> {
 /// Of a grant its channel, start, minislots and credit; of a final line what is outstanding, and the units.
 fn tell_row(answer: &mut String, row: &Row) -> Result<(), AllocError> {
     match row {
-        Row::Granted {
-            channel,
-            start,
-            slots,
-            credit,
-            ..
-        } => write!(answer, "{channel} {start}+{slots} {credit}, "),
-        Row::Final {
-            outstanding,
-            units,
-            ..
-        } => write!(answer, "left {outstanding} {units:?}, "),
+        Row::Granted(g) => write!(
+            answer,
+            "{} {}+{} {}, ",
+            g.channel, g.start, g.slots, g.credit
+        ),
+        Row::Final(state) => write!(answer, "left {} {:?}, ", state.outstanding, state.units),
         _ => write!(answer, "{row:?}, "),
     }
 }
 
 /// The round's lines, the first four and the last three of many, and of each MAP the words of its elements.
-fn tell_whole(answer: &mut String, out: &RoundOut) -> Result<(), NoMemory> {
-    let rows = out.rows();
+fn tell_whole(answer: &mut String, out: RoundOut) -> Result<(), NoMemory> {
+    let (maps, rows) = out.into_parts();
     for row in &rows[..rows.len().min(4)] {
         tell_line(answer, row)?;
     }
@@ -264,7 +258,7 @@ fn tell_whole(answer: &mut String, out: &RoundOut) -> Result<(), NoMemory> {
             tell_line(answer, row)?;
         }
     }
-    for map in out.maps() {
+    for map in &maps {
         tell_words(answer, map)?;
     }
     Ok(())
@@ -273,30 +267,15 @@ fn tell_whole(answer: &mut String, out: &RoundOut) -> Result<(), NoMemory> {
 /// A G or an M line, but for the word of its entry.
 fn tell_line(answer: &mut String, row: &Row) -> Result<(), AllocError> {
     match row {
-        Row::Granted {
-            round,
-            channel,
-            entry,
-            id,
-            i,
-            k,
-            sid,
-            iuc,
-            start,
-            slots,
-            credit,
-        } => write!(
-            answer,
-            "G,{round},{channel},{entry:?},{id},{i},{k},{sid},{iuc},{start},{slots},{credit} "
-        ),
-        Row::Missed {
-            round,
-            channel,
-            entry,
-            id,
-            i,
-            k,
-        } => write!(answer, "M,{round},{channel},{entry:?},{id},{i},{k} "),
+        Row::Granted(g) => {
+            write!(answer, "G,{},{},{:?},", g.round, g.channel, g.entry)?;
+            write!(answer, "{},{},{},{},{},", g.id, g.i, g.k, g.sid, g.iuc)?;
+            write!(answer, "{},{},{} ", g.start, g.slots, g.credit)
+        }
+        Row::Missed(m) => {
+            write!(answer, "M,{},{},{:?},", m.round, m.channel, m.entry)?;
+            write!(answer, "{},{},{} ", m.id, m.i, m.k)
+        }
         _ => write!(answer, "{row:?} "),
     }
 }

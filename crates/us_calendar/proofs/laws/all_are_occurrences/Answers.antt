@@ -1,8 +1,8 @@
 use Rattle.us_calendar.specs.Entries.{entries}
 use Rattle.us_calendar.specs.Calendars.{opening}
-use Rattle.us_calendar.proofs.NameLaws.{opening_rows, rounds_told}
+use Rattle.us_calendar.proofs.NameLaws.{opening_states, rounds_told}
 use Rattle.us_calendar.proofs.laws.all_are_occurrences.Goals as goal
 
 pub returns : goal.returns
 returns c = λ t channel boards.
-    rounds_told (entries t channel) (opening t channel) boards (opening_rows (entries t channel))
+    rounds_told (entries t channel) (opening t channel) boards (opening_states (entries t channel))

@@ -1,6 +1,7 @@
 use Rattle.std.proofs.Common.{◌≡◌, ◌<◌, ℕ, sym, ap, subst, ◌∙◌, arith}
 use Rattle.us_flows.specs.Tables.{Tables}
 use Rattle.us_requests.specs.Traces.{TraceAsks}
+use Rattle.us_replay.specs.Endings.{ending_of}
 use Rattle.us_replay.specs.Replays.{KeptLimits}
 use Rattle.us_replay.specs.Progress.{Along, Progress, RanTrace, cuts_in, output_in, summary_after}
 use Rattle.us_replay.proofs.ReplayStopLemmas.{passed-on, so-far-at, EndsBetween, stops-between, sent-stops, sent-kept, round-part, last-part, sent-round, sent-last, flush-stops, flushed-all, flushed-kept}
@@ -34,11 +35,12 @@ returns-in_err-send-clause-ran g c =
     c.asks-asks.result.now c.to_maps.result.now c.to_report.result.now along below c.asks-asks.ensures.value c.in-Ok.ensures
     c.to_maps.ensures c.to_report.ensures in
     subst (RanTrace t v _ _) (sym (passed-on c.from_residual.result c.from_residual.ensures.1)) (
-      sent-stops (output_in t v) v.counts k _ _ _ _ _ _ c.to_maps.result.now c.to_report.result.now c.in_err-send.field-0.0
+      sent-stops (output_in t v) v.counts k _ _ _ _ _ _ c.to_maps.result.now c.to_report.result.now
+          (ending_of c.in_err-send.field-0.0)
           c.loop-done.invariant.2 (round-part (output_in t v) k c.to_maps.result.now c.to_report.result.now texts)
           c.in_err-send.ensures.sent,
-      sent-kept t (cuts_in t v) k c.to_maps.result.now c.to_report.result.now _ _ c.in_err-send.field-0.0 along.limits
-          c.in_err-send.ensures.sent,
+      sent-kept t (cuts_in t v) k c.to_maps.result.now c.to_report.result.now _ _
+          (ending_of c.in_err-send.field-0.0) along.limits c.in_err-send.ensures.sent,
     )
 
 pub loop-done-preserved : goal.loop-done-preserved
@@ -88,9 +90,10 @@ returns-in_err-send-2-clause-ran g c =
     along all made c.to_maps-2.ensures c.to_report-2.ensures in
     subst (RanTrace t v _ _) (sym (passed-on c.from_residual-in_err-send-2.result c.from_residual-in_err-send-2.ensures.1)) (
       sent-stops (output_in t v) v.counts k _ _ _ _ _ _ c.to_maps-2.result.now c.to_report-2.result.now
-          c.in_err-send-2.field-0.0 so_far
+          (ending_of c.in_err-send-2.field-0.0) so_far
           (last-part (output_in t v) k c.to_maps-2.result.now c.to_report-2.result.now texts) c.in_err-send-2.ensures.sent,
-      sent-kept t (cuts_in t v) k c.to_maps-2.result.now c.to_report-2.result.now _ _ c.in_err-send-2.field-0.0
+      sent-kept t (cuts_in t v) k c.to_maps-2.result.now c.to_report-2.result.now _ _
+          (ending_of c.in_err-send-2.field-0.0)
           along.limits c.in_err-send-2.ensures.sent,
     )
 
@@ -111,9 +114,9 @@ returns-in_err-flush-clause-ran g c =
     let took = sent-last (output_in t v) k _ _ _ _ _ _ c.to_maps-2.result.now c.to_report-2.result.now so_far texts
     c.in_ok-send-2.ensures.sent.0 c.in_ok-send-2.ensures.sent.1 in
     subst (RanTrace t v _ _) (sym (passed-on c.from_residual-in_err-flush.result c.from_residual-in_err-flush.ensures.1)) (
-      flush-stops (output_in t v) v.counts k _ _ _ _ _ _ c.in_err-flush.field-0.0 (all ∙ sym (length-given t v)) took
+      flush-stops (output_in t v) v.counts k _ _ _ _ _ _ (ending_of c.in_err-flush.field-0.0) (all ∙ sym (length-given t v)) took
           c.in_err-flush.ensures.flushed,
-      flushed-kept t (cuts_in t v) k _ _ c.in_err-flush.field-0.0 along.limits c.in_err-flush.ensures.flushed,
+      flushed-kept t (cuts_in t v) k _ _ (ending_of c.in_err-flush.field-0.0) along.limits c.in_err-flush.ensures.flushed,
     )
 
 pub returns-clause-ran : goal.returns-clause-ran

@@ -1,6 +1,6 @@
 use Rattle.std.proofs.Common.{◌*◌, ◌≤◌, map, ap, ◌∙◌, arith}
 use Rattle.us_slots.specs.Times.{minislot_ticks}
-use Rattle.us_calendar.specs.Kept.{row_from}
+use Rattle.us_calendar.specs.Kept.{state_from}
 use Rattle.us_calendar.proofs.RunLaws.{opening_kept}
 use Rattle.us_calendar.proofs.calendars.Calendar.of_channel.Goals as goal
 
@@ -9,7 +9,7 @@ invariant_of-result c =
     let time = c.time.ensures.value in
     let ticks : c.map_len.result * minislot_ticks c.time.result.now ≤ 4096 =
     omega (arith, c.map_len.ensures.ticks, ap (λ t. c.map_len.result * minislot_ticks t) time) in
-    opening_kept (record { time = c.time.result.now; len = c.map_len.result }) c.in_ok-rows.rows.items
-    c.in_ok-entries.entries.items c.in_ok-rows.due.items c.map_len.ensures.some ticks
-    (c.in_ok-rows.ensures.rows ∙ ap (map (λ e. row_from e 0)) c.deref.ensures.value) c.in_ok-entries.ensures.few
-    c.in_ok-rows.ensures.known c.in_ok-rows.ensures.agenda
+    opening_kept (record { time = c.time.result.now; len = c.map_len.result }) c.in_ok-states.states.items
+    c.in_ok-entries.entries.items c.in_ok-states.due.items c.map_len.ensures.some ticks
+    (c.in_ok-states.ensures.states ∙ ap (map (λ e. state_from e 0)) c.deref.ensures.value) c.in_ok-entries.ensures.few
+    c.in_ok-states.ensures.known c.in_ok-states.ensures.agenda

@@ -1,10 +1,10 @@
 use Rattle.std.proofs.Common.{◌∙◌, ◌/◌, max, length, ap}
 use Rattle.us_calendar.specs.Occurrences.{ideal, end_of}
-use Rattle.us_calendar.proofs.RowLemmas.{row-few, due_round-is}
-use Rattle.us_calendar.proofs.rows.Row.due_round.Goals as goal
+use Rattle.us_calendar.proofs.EntryStateLemmas.{state-few, due_round-is}
+use Rattle.us_calendar.proofs.entry_states.EntryState.due_round.Goals as goal
 
 pub ideal-requires : goal.ideal-requires
-ideal-requires c = row-few c.self.inside.entry c.self.inside.next c.self.invariant
+ideal-requires c = state-few c.self.inside.entry c.self.inside.next c.self.invariant
 
 pub returns-clause-value : goal.returns-clause-value
 returns-clause-value c =

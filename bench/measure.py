@@ -1,0 +1,187 @@
+#!/usr/bin/env python3
+"""Measures mapsim on the loads of bench/make_loads.py, and prints tables as docs/FIGURES.md has them.
+
+  bench/measure.py times [LOAD..]          the least and the most time of some runs, and the most memory
+  bench/measure.py instructions [LOAD..]   instructions by valgrind's callgrind: a whole replay, a round, a request read
+  bench/measure.py bytes [LOAD..]          compares what some numbers of workers print and write
+
+  --part N          N times fewer rounds and requests
+  --runs N          runs of each measurement of `times` (5)
+  --workers N,..    numbers of workers: `times` takes each (1), `bytes` compares the first with the others (1,2,4,16)
+  --program FILE    the program (crates/mapsim/out/mapsim)
+
+`instructions` counts with one worker. A round is the difference of a replay and of one of half its rounds, over the
+same trace, and a round without requests the same over a trace with no row. A request read is the difference of these
+two traces in one round, in which nearly all requests come late. Memory is what GNU time says, and `-` where there is no
+GNU time. These are benchmarks, and no tests.
+
+Status 0: all ran; 1: bytes differ; 2: a run failed, or the words are wrong.
+"""
+import argparse
+import hashlib
+import os
+import pathlib
+import re
+import subprocess
+import sys
+import tempfile
+import time
+
+import make_loads
+
+TOP = pathlib.Path(__file__).resolve().parent.parent
+GNU_TIME = "/usr/bin/time"
+
+
+class Stop(Exception):
+    """What ends the program with status 2."""
+
+
+class Replays:
+    """Replays of one load: its files in a folder, and its numbers."""
+
+    def __init__(self, program, folder, name, part):
+        self.program, self.folder, self.name = program, folder, name
+        self.rounds, self.requests = make_loads.make(folder, name, part)
+        (folder / "empty.csv").write_text(make_loads.HEADER, encoding="ascii")
+        self.outputs = [folder / "maps", folder / "report"]
+
+    def run(self, rounds=None, workers=1, trace=None, before=()):
+        """One replay, behind the words `before`. What it printed, and what it told on standard error."""
+        rounds = self.rounds if rounds is None else rounds
+        maps, report = self.outputs
+        words = [*before, self.program, "replay", "--config", self.folder / f"{self.name}.toml",
+                 "--trace", self.folder / f"{trace or self.name}.csv", "--rounds", str(rounds),
+                 "--workers", str(workers), "--maps", maps, "--report", report]
+        done = subprocess.run(words, stdin=subprocess.DEVNULL, capture_output=True, text=True)
+        # of no rounds the tables alone are read
+        wanted, refusal = (3, "fault RU1") if rounds == 0 else (0, "")
+        if done.returncode != wanted or refusal not in done.stderr:
+            raise Stop(f"{self.name}: status {done.returncode}: {done.stderr.strip()[-300:]}")
+        return done.stdout, done.stderr
+
+    def timed(self, workers):
+        """Seconds by the clock, and the most memory in KB, or None."""
+        before = [GNU_TIME, "-q", "-f", "%M KB"] if os.access(GNU_TIME, os.X_OK) else []
+        start = time.perf_counter()
+        _printed, told = self.run(workers=workers, before=before)
+        seconds = time.perf_counter() - start
+        memory = re.search(r"^(\d+) KB$", told, re.MULTILINE)
+        return seconds, int(memory[1]) if memory else None
+
+    def instructions(self, rounds=None, trace=None):
+        """Instructions of one replay with one worker."""
+        _printed, told = self.run(rounds, trace=trace,
+                                  before=["valgrind", "--tool=callgrind", "--callgrind-out-file=/dev/null"])
+        return int(re.search(r"Collected : (\d+)", told)[1])
+
+    def sums(self, workers):
+        """Sums of what is printed and written by so many workers."""
+        printed, _told = self.run(workers=workers)
+        written = [path.read_bytes() for path in self.outputs]
+        return [hashlib.sha256(part).hexdigest() for part in (printed.encode(), *written)]
+
+    def output_bytes(self):
+        return sum(path.stat().st_size for path in self.outputs if path.exists())
+
+
+def row(*cells):
+    print("| " + " | ".join(str(cell) for cell in cells) + " |", flush=True)
+
+
+def head(*names):
+    row(*names)
+    print("|" + "---|" * len(names), flush=True)
+
+
+def span(values, form):
+    """The least and the greatest of some values in words."""
+    least, most = form(min(values)), form(max(values))
+    return least if least == most else f"{least} to {most}"
+
+
+def show_seconds(seconds):
+    return f"{seconds:.1f}" if seconds >= 0.1 else f"{seconds:.3f}"
+
+
+def measure_times(replays_of, given):
+    """The table of times. Answers the status."""
+    head("Load", "Rounds", "Requests", "Workers", "Seconds", "Most memory, MB", "Bytes of trace", "Bytes of output")
+    for replays in replays_of:
+        for workers in given.workers or [1]:
+            runs = [replays.timed(workers) for _ in range(given.runs)]
+            memory = [kilobytes for _seconds, kilobytes in runs if kilobytes is not None]
+            row(replays.name, f"{replays.rounds:,}", f"{replays.requests:,}", workers,
+                span([seconds for seconds, _kilobytes in runs], show_seconds),
+                f"{max(memory) / 1_000:.1f}" if memory else "-",
+                f"{(replays.folder / f'{replays.name}.csv').stat().st_size:,}", f"{replays.output_bytes():,}")
+    return 0
+
+
+def a_round(replays, trace=None):
+    """Instructions of a round: a replay less one of half its rounds."""
+    half = replays.rounds // 2
+    return (replays.instructions(trace=trace) - replays.instructions(half, trace)) // (replays.rounds - half)
+
+
+def measure_instructions(replays_of, _given):
+    """The table of instructions. Answers the status."""
+    head("Load", "Rounds", "Requests", "Millions in all", "A round, with all that is read", "A round with its requests",
+         "A round without requests", "A request read")
+    for replays in replays_of:
+        whole = replays.instructions()
+        if replays.rounds < 2:
+            row(replays.name, replays.rounds, replays.requests, f"{whole / 1e6:.1f}", "-", "-", "-", "-")
+            continue
+        busy, read = "-", "-"
+        if replays.requests:
+            busy = f"{a_round(replays):,}"
+            read = f"{(replays.instructions(1) - replays.instructions(1, 'empty')) // replays.requests:,}"
+        row(replays.name, f"{replays.rounds:,}", f"{replays.requests:,}", f"{whole / 1e6:.1f}",
+            f"{whole // replays.rounds:,}", busy, f"{a_round(replays, 'empty'):,}", read)
+    return 0
+
+
+def measure_bytes(replays_of, given):
+    """The table of equal bytes. Answers the status."""
+    first, *others = given.workers or [1, 2, 4, 16]
+    status = 0
+    head("Load", "Rounds", *(f"{workers} workers as {first}" for workers in others))
+    for replays in replays_of:
+        wanted = replays.sums(first)
+        same = [replays.sums(workers) == wanted for workers in others]
+        row(replays.name, f"{replays.rounds:,}", *("the same bytes" if is_same else "OTHER BYTES" for is_same in same))
+        status = max(status, 0 if all(same) else 1)
+    return status
+
+
+TABLES = {"times": measure_times, "instructions": measure_instructions, "bytes": measure_bytes}
+
+
+def numbers(text):
+    """A list of numbers that commas part."""
+    return [int(number) for number in text.split(",")]
+
+
+def main():
+    words = argparse.ArgumentParser(description=__doc__, formatter_class=argparse.RawDescriptionHelpFormatter)
+    words.add_argument("table", choices=TABLES)
+    make_loads.add_arguments(words)
+    words.add_argument("--runs", type=int, default=5, metavar="N")
+    words.add_argument("--workers", type=numbers, metavar="N,..")
+    words.add_argument("--program", default=TOP / "crates/mapsim/out/mapsim", metavar="FILE")
+    given = words.parse_intermixed_args()
+    names = make_loads.chosen(words, given)
+    if given.runs < 1:
+        words.error("--runs is 1 or more")
+    with tempfile.TemporaryDirectory(prefix="measure-") as folder:
+        replays_of = (Replays(given.program, pathlib.Path(folder), name, given.part) for name in names)
+        try:
+            return TABLES[given.table](replays_of, given)
+        except (Stop, OSError) as why:
+            print(f"measure: {why}", file=sys.stderr)
+            return 2
+
+
+if __name__ == "__main__":
+    sys.exit(main())

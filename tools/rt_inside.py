@@ -1,0 +1,126 @@
+"""What tools/try-edits takes of the insides of the command `rt`.
+
+`rt` tries the edits of must-fail/ alone. To judge other edits as the gate does, this page loads the program `rt` as a
+module, and calls its functions. It is the one place that knows them, and was written for rattle-kit-13f. It relies on:
+
+  KIT                                     the folder of the kit, with the file KIT-ID, whose first line names it
+  rtlib.PARTS                             the folders of a crate that a check reads
+  rtlib.crates_below(top)                 the crates below a folder, lowest first; of each `name`, `folder`, `below()`
+                                          and `build_rlib(flags, anew)`, whose status is 0 where the library is built
+  rtlib.guarded()                         has all that is started end with this program
+  read_edit(edit, folder)                 a pair, whose second part says why an edit can't be applied
+  checked(crate, texts, flags, kept)      a finished check, over what `kept` holds, with `returncode` and `stdout`
+  must_fail(crate, edit, flags, kept)     what a try comes to (REFUSED, AT_LIMIT or something else), and what to say
+  processors(), free()                    processors, and bytes of free memory
+
+Where the kit differs, the program ends with one line that says in what.
+"""
+import importlib.machinery
+import importlib.util
+import inspect
+import os
+import shutil
+import sys
+
+WRITTEN_FOR = "rattle-kit-13f"
+NAMES = ("KIT", "REFUSED", "AT_LIMIT", "rtlib.PARTS")
+# Each function with the names of its first parameters.
+FUNCTIONS = {
+    "rtlib.crates_below": ("top",),
+    "rtlib.Crate.below": ("self",),
+    "rtlib.Crate.build_rlib": ("self", "flags", "anew"),
+    "rtlib.guarded": (),
+    "read_edit": ("edit", "folder"),
+    "checked": ("crate", "texts", "flags", "kept"),
+    "must_fail": ("crate", "edit", "flags", "kept"),
+    "processors": (),
+    "free": (),
+}
+FLAGS = ["--jobs", "1"]
+
+
+def stop(why):
+    sys.exit(f"try-edits: {why} (tools/rt_inside.py was written for {WRITTEN_FOR})")
+
+
+def found(module, path):
+    """What stands in the module under a path of names, or None."""
+    for name in path.split("."):
+        module = getattr(module, name, None)
+    return module
+
+
+def parameters(function):
+    return tuple(inspect.signature(inspect.unwrap(function)).parameters)
+
+
+def loaded():
+    """The module that the command `rt` is, once it has what this page relies on."""
+    path = shutil.which("rt")
+    if not path:
+        stop("the command rt isn't there")
+    sys.dont_write_bytecode = True
+    loader = importlib.machinery.SourceFileLoader("rt_main", os.path.realpath(path))
+    module = importlib.util.module_from_spec(importlib.util.spec_from_loader("rt_main", loader))
+    sys.modules["rt_main"] = module
+    try:
+        loader.exec_module(module)
+    except Exception as fault:
+        stop(f"{path} can't be loaded as a Python module: {fault}")
+    for name in NAMES:
+        if found(module, name) is None:
+            stop(f"{path} has no {name}")
+    for name, wanted in FUNCTIONS.items():
+        function = found(module, name)
+        if not callable(function):
+            stop(f"{path} has no function {name}")
+        if parameters(function)[:len(wanted)] != wanted:
+            stop(f"{path} has {name}({', '.join(parameters(function))}), and not {name}({', '.join(wanted)})")
+    return module
+
+
+rt = loaded()
+PARTS = rt.rtlib.PARTS
+
+
+def kit():
+    """The line that names the kit."""
+    with open(f"{rt.KIT}/KIT-ID", encoding="utf-8") as file:
+        return file.read().strip()
+
+
+def crates():
+    """The crates below the current folder, lowest first: each has `name`, `folder` and `below()`."""
+    return rt.rtlib.crates_below(os.getcwd())
+
+
+def why_unapplied(edit, folder):
+    """Why an edit can't be applied to the crate in this folder, or None."""
+    return rt.read_edit(edit, folder)[1]
+
+
+def is_built(crate):
+    """Builds a crate's library where it doesn't stand, and says whether it stands now."""
+    return crate.build_rlib(FLAGS, anew=False) == 0
+
+
+def proof_of(crate, kept):
+    """Proves a crate as it stands, over what the folder `kept` holds. Whether it is proved, and the last line said."""
+    ran = rt.checked(crate, {}, FLAGS, kept)
+    return ran.returncode == 0, ran.stdout.rstrip("\n").split("\n")[-1]
+
+
+def refusal_of(crate, edit, kept=None):
+    """Whether the prover refuses the crate with an edit, as the gate counts it, and what to say."""
+    outcome, said = rt.must_fail(crate, edit, FLAGS, kept)
+    return outcome in (rt.REFUSED, rt.AT_LIMIT), said.replace("must-fail ", "", 1)
+
+
+def end_together():
+    """Has all that is started end with this program."""
+    rt.rtlib.guarded()
+
+
+def checks_at_once(bytes_per_check):
+    """How many checks the processors and the free memory allow."""
+    return max(min(rt.processors(), int(rt.free() / bytes_per_check)), 1)
