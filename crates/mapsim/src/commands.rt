@@ -1,4 +1,4 @@
-use crate::helps;
+use crate::helps::{Helps, PROGRAM};
 use clap::builder::ValueParser;
 use clap::{Arg, ArgAction, Command, value_parser};
 use std::alloc::{AllocError, Global};
@@ -20,8 +20,6 @@ const DEFAULT_WORKERS_WORD: &str = "1";
 struct Subcommand {
     name: &'static str,
     about: &'static str,
-    /// What its help says behind the options.
-    after_help: &'static str,
     options: &'static [CommandOption],
 }
 
@@ -42,20 +40,17 @@ enum Value {
     Number,
 }
 
-const SUBCOMMANDS: &[Subcommand] = &[
-    Subcommand {
-        name: "replay",
-        about: "Replays a trace from files into files",
-        after_help: helps::REPLAY,
-        options: REPLAY_OPTIONS,
-    },
-    Subcommand {
-        name: "pipe",
-        about: "Replays standard input: the configuration, a line `%%`, the trace",
-        after_help: helps::PIPE,
-        options: PIPE_OPTIONS,
-    },
-];
+const REPLAY: Subcommand = Subcommand {
+    name: "replay",
+    about: "Replays a trace from files into files",
+    options: REPLAY_OPTIONS,
+};
+
+const PIPE: Subcommand = Subcommand {
+    name: "pipe",
+    about: "Replays standard input: the configuration, a line `%%`, the trace",
+    options: PIPE_OPTIONS,
+};
 
 const REPLAY_OPTIONS: &[CommandOption] = &[
     CommandOption {
@@ -112,29 +107,24 @@ const PIPE_OPTIONS: &[CommandOption] = &[
 ];
 
 /// The program as clap is told of it.
-pub fn command<'a>(alloc: Global) -> Result<Command<'a>, AllocError> {
-    let mut command = Command::new(alloc, "mapsim")
+pub fn command<'a>(alloc: Global, helps: &'a Helps) -> Result<Command<'a>, AllocError> {
+    Command::new(alloc, "mapsim")
         .about("Replays the requests of a trace and writes the MAPs of each round")
-        .after_help(helps::PROGRAM)
-        .subcommand_required(true);
-    for subcommand in SUBCOMMANDS {
-        command = with_subcommand(alloc, command, subcommand)?;
-    }
-    Ok(command)
+        .after_help(PROGRAM)
+        .subcommand_required(true)
+        .subcommand(subcommand_of(alloc, &REPLAY, helps.replay.as_str())?)?
+        .subcommand(subcommand_of(alloc, &PIPE, helps.pipe.as_str())?)
 }
 
-fn with_subcommand<'a>(
+/// A subcommand with its options, and with what its help says behind them.
+fn subcommand_of<'a>(
     alloc: Global,
-    command: Command<'a>,
     subcommand: &Subcommand,
+    after_help: &'a str,
 ) -> Result<Command<'a>, AllocError> {
-    command.subcommand(subcommand_of(alloc, subcommand)?)
-}
-
-fn subcommand_of<'a>(alloc: Global, subcommand: &Subcommand) -> Result<Command<'a>, AllocError> {
     let mut command = Command::new(alloc, subcommand.name)
         .about(subcommand.about)
-        .after_help(subcommand.after_help);
+        .after_help(after_help);
     for option in subcommand.options {
         command = command.arg(arg_of(alloc, option))?;
     }

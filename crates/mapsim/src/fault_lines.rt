@@ -1,100 +1,151 @@
-ghost use Rattle.std.specs.Prelude.{Some};
-ghost use Rattle.mapsim.specs.Lines.{config_line, trace_line, run_line, map_line};
+ghost use Rattle.std.specs.Prelude.{◌≡◌, Some};
+ghost use Rattle.mapsim.specs.Lines;
+ghost use Rattle.mapsim.specs.Lines.{line_text, run_code, run_rounds};
 
+use crate::faults::Stream;
 use std::fmt;
 use us_codec::MapFault;
-use us_flows::ConfigFault;
+use us_flows::{ConfigFault, Place};
 use us_replay::RunFault;
 use us_requests::TraceFault;
 
-/// The line of a fault of the configuration. All lines here are without their line feeds.
+/// The line of a fault, without its line feed: `fault`, a word, and what the fault names.
 #[derive(Clone, Copy)]
-pub struct ConfigLine(pub ConfigFault);
+pub struct Line {
+    word: &'static str,
+    named: Named,
+}
 
-/// The line of a fault of a replay.
+/// What a fault names.
 #[derive(Clone, Copy)]
-pub struct RunLine(pub RunFault);
+enum Named {
+    Nothing,
+    /// A table of the configuration.
+    Place(Place),
+    /// A record, or how many rounds were done.
+    Number(usize),
+    Stream(Stream),
+}
 
-/// The line of a fault of the MAP in the record with an index.
-#[derive(Clone, Copy)]
-pub struct MapLine(pub MapFault, pub usize);
+/// The line of every want of memory.
+const MEMORY: Line = Line {
+    word: "memory",
+    named: Named::Nothing,
+};
+
+impl fmt::Display for Line {
+    ghost output = { λ line. Some (line_text line) };
+
+    fn fmt<W: fmt::Write>(&self, f: &mut fmt::Formatter<W>) -> fmt::Result {
+        let word = self.word;
+        match self.named {
+            Named::Nothing => write!(f, "fault {word}"),
+            Named::Place(place) => write!(f, "fault {word} {place}"),
+            Named::Number(number) => write!(f, "fault {word} {number}"),
+            Named::Stream(stream) => write!(f, "fault {word} {}", stream.word()),
+        }
+    }
+}
+
+/// The line of a fault of the configuration.
+pub fn config_line(fault: ConfigFault) -> Line
+    ensures { line_text result ≡ Lines.config_line fault }
+{
+    match fault {
+        ConfigFault::NoMemory => MEMORY,
+        _ => Line {
+            word: fault.code(),
+            named: match fault.place() {
+                Some(place) => Named::Place(place),
+                None => Named::Nothing,
+            },
+        },
+    }
+}
 
 /// The line of a fault of the trace.
-#[derive(Clone, Copy)]
-struct TraceLine(TraceFault);
-
-impl fmt::Display for ConfigLine {
-    ghost output = { λ line. Some (config_line line.0) };
-
-    fn fmt<W: fmt::Write>(&self, f: &mut fmt::Formatter<W>) -> fmt::Result {
-        let (code, place) = match self.0 {
-            ConfigFault::Text => return f.write_str("fault C1"),
-            ConfigFault::Missing(place) => ("fault C2 ", place),
-            ConfigFault::Range(place) => ("fault C3 ", place),
-            ConfigFault::UnknownChannel(place) => ("fault C4 ", place),
-            ConfigFault::DuplicateId(place) => ("fault C5 ", place),
-            ConfigFault::DuplicateSid(place) => ("fault C6 ", place),
-            ConfigFault::ClusterLength(place) => ("fault C7 ", place),
-            ConfigFault::RoundNotMultiple(place) => ("fault C8 ", place),
-            ConfigFault::ReservesTooLong(place) => ("fault C9 ", place),
-            ConfigFault::Jitter(place) => ("fault C10 ", place),
-            ConfigFault::GrantLongerThanMap(place) => ("fault C11 ", place),
-            ConfigFault::Headers(place) => ("fault C12 ", place),
-            ConfigFault::NoMemory => return f.write_str("fault memory"),
-        };
-        write!(f, "{code}{place}")
+fn trace_line(fault: TraceFault) -> Line
+    ensures { line_text result ≡ Lines.trace_line fault }
+{
+    match fault {
+        TraceFault::NoMemory => MEMORY,
+        TraceFault::Read => io_line(Stream::Trace),
+        _ => Line {
+            word: fault.code(),
+            named: match fault.record() {
+                Some(record) => Named::Number(record as usize),
+                None => Named::Nothing,
+            },
+        },
     }
 }
 
-impl fmt::Display for TraceLine {
-    ghost output = { λ line. Some (trace_line line.0) };
-
-    fn fmt<W: fmt::Write>(&self, f: &mut fmt::Formatter<W>) -> fmt::Result {
-        let (code, record) = match self.0 {
-            TraceFault::Header => return f.write_str("fault TR1"),
-            TraceFault::Fields(record) => ("fault TR2 ", record),
-            TraceFault::Number(record) => ("fault TR3 ", record),
-            TraceFault::TooLarge => return f.write_str("fault TR4"),
-            TraceFault::Read => return f.write_str("fault io trace"),
-            TraceFault::NoMemory => return f.write_str("fault memory"),
-        };
-        write!(f, "{code}{record}")
+/// The line of a fault of a replay.
+pub fn run_line(fault: RunFault) -> Line
+    ensures { line_text result ≡ Lines.run_line fault }
+{
+    match fault {
+        RunFault::Trace(fault) => trace_line(fault),
+        RunFault::NoMemory(_) => MEMORY,
+        _ => Line {
+            word: code_of_run(fault),
+            named: match rounds_of_run(fault) {
+                Some(rounds) => Named::Number(rounds as usize),
+                None => Named::Nothing,
+            },
+        },
     }
 }
 
-impl fmt::Display for RunLine {
-    ghost output = { λ line. Some (run_line line.0) };
-
-    fn fmt<W: fmt::Write>(&self, f: &mut fmt::Formatter<W>) -> fmt::Result {
-        let (code, rounds) = match self.0 {
-            RunFault::Rounds => return f.write_str("fault RU1"),
-            RunFault::Workers => return f.write_str("fault RU2"),
-            RunFault::Trace(fault) => return write!(f, "{}", TraceLine(fault)),
-            RunFault::WriteMaps(rounds) => ("fault RU4 ", rounds),
-            RunFault::WriteReport(rounds) => ("fault RU5 ", rounds),
-            RunFault::NoMemory(_) => return f.write_str("fault memory"),
-        };
-        write!(f, "{code}{rounds}")
+/// The code of a fault of a replay.
+pub fn code_of_run(fault: RunFault) -> &'static str
+    ensures { result.now ≡ run_code fault }
+{
+    match fault {
+        RunFault::Rounds => "RU1",
+        RunFault::Workers => "RU2",
+        RunFault::Trace(_) => "RU3",
+        RunFault::WriteMaps(_) => "RU4",
+        RunFault::WriteReport(_) => "RU5",
+        RunFault::NoMemory(_) => "RU6",
     }
 }
 
-impl fmt::Display for MapLine {
-    ghost output = { λ line. Some (map_line line.0 line.1) };
+/// How many rounds were done before a fault of a replay.
+fn rounds_of_run(fault: RunFault) -> Option<u32>
+    ensures { result ≡ run_rounds fault }
+{
+    match fault {
+        RunFault::WriteMaps(rounds)
+        | RunFault::WriteReport(rounds)
+        | RunFault::NoMemory(rounds) => Some(rounds),
+        RunFault::Rounds | RunFault::Workers | RunFault::Trace(_) => None,
+    }
+}
 
-    fn fmt<W: fmt::Write>(&self, f: &mut fmt::Formatter<W>) -> fmt::Result {
-        let code = match self.0 {
-            MapFault::Short => "fault M1 ",
-            MapFault::LengthMismatch => "fault M2 ",
-            MapFault::Reserved => "fault M3 ",
-            MapFault::TooManyElements => "fault M4 ",
-            MapFault::NoNull => "fault M5 ",
-            MapFault::Order => "fault M6 ",
-            MapFault::AfterNull => "fault M7 ",
-            MapFault::Backoff => "fault M8 ",
-            MapFault::FirstOffset => "fault M9 ",
-            MapFault::NoMemory => return f.write_str("fault memory"),
-            MapFault::RecordCut => return f.write_str("fault M11"),
-        };
-        write!(f, "{code}{}", self.1)
+/// The line of a fault of the MAP in the record with an index.
+pub fn map_line(fault: MapFault, index: usize) -> Line
+    ensures { line_text result ≡ Lines.map_line fault index }
+{
+    match fault {
+        MapFault::NoMemory => MEMORY,
+        MapFault::RecordCut => Line {
+            word: fault.code(),
+            named: Named::Nothing,
+        },
+        _ => Line {
+            word: fault.code(),
+            named: Named::Number(index),
+        },
+    }
+}
+
+/// The line of a stream that failed.
+pub fn io_line(stream: Stream) -> Line
+    ensures { line_text result ≡ Lines.io_line stream }
+{
+    Line {
+        word: "io",
+        named: Named::Stream(stream),
     }
 }

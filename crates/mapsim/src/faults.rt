@@ -1,7 +1,7 @@
 ghost use Rattle.std.specs.Prelude.{◌≡◌};
 ghost use Rattle.mapsim.specs.Statuses as statuses;
 
-use crate::fault_lines::{ConfigLine, MapLine, RunLine};
+use crate::fault_lines::{config_line, io_line, map_line, run_line};
 use crate::statuses::Status;
 use std::alloc::{AllocError, AllocFailed};
 use std::fmt;
@@ -125,10 +125,10 @@ impl fmt::Display for Fault {
         match self {
             Fault::Usage(text) => f.write_str(text.as_str()),
             Fault::Pipe => f.write_str("fault pipe"),
-            Fault::Config(fault) => write!(f, "{}", ConfigLine(*fault)),
-            Fault::Run(fault) => write!(f, "{}", RunLine(*fault)),
-            Fault::Map(fault, record) => write!(f, "{}", MapLine(*fault, *record)),
-            Fault::Device(stream) => write!(f, "fault io {}", stream.word()),
+            Fault::Config(fault) => write!(f, "{}", config_line(*fault)),
+            Fault::Run(fault) => write!(f, "{}", run_line(*fault)),
+            Fault::Map(fault, record) => write!(f, "{}", map_line(*fault, *record)),
+            Fault::Device(stream) => write!(f, "{}", io_line(*stream)),
             Fault::NoMemory => f.write_str("fault memory"),
         }
     }

@@ -1,13 +1,86 @@
-// What help says behind the options. Of a fault it says the sentence of the fault's type, and the stored cases of help
-// compare the two.
+// What help says behind the options. The codes and the sentences of faults are those of the faults' types.
 
-/// What a subcommand does, which is its own; the report and the units, which all have; and its faults: those that it
-/// alone has before and behind those of the configuration, the run and the trace.
-macro_rules! help_of {
-    ($does:literal, $first_faults:literal, $last_faults:literal) => {
-        concat!(
-            $does,
-            "
+use crate::fault_lines::code_of_run;
+use std::alloc::{AllocError, Global};
+use std::fmt::Write;
+use us_flows::{ConfigFault, Place, TableName};
+use us_replay::RunFault;
+use us_requests::TraceFault;
+
+/// Of the program.
+pub const PROGRAM: &str = "\
+Without words it does what `pipe` does. The help of a subcommand says what goes in and out, the unit
+of each number, and what each fault says.
+
+Example, at the top of the repository:
+  mapsim replay --config examples/plant.toml --trace examples/plant.csv --rounds 4 \\
+      --maps /tmp/maps --report /tmp/report
+
+Status: 0 done, 2 the words are refused, 3 what was read is refused, 4 a file or stream failed,
+5 out of memory.";
+
+/// What the help of each subcommand says.
+#[derive(Drop)]
+pub struct Helps {
+    pub replay: String,
+    pub pipe: String,
+}
+
+impl Helps {
+    pub fn new(alloc: Global) -> Result<Helps, AllocError> {
+        Ok(Helps {
+            replay: help_of(alloc, &REPLAY)?,
+            pipe: help_of(alloc, &PIPE)?,
+        })
+    }
+}
+
+/// What the help of a subcommand says that is its own.
+struct Own {
+    /// What it does.
+    does: &'static str,
+    /// Lines of faults that it refuses, before those of the configuration.
+    refused: &'static str,
+    /// The faults of its files, and what each says.
+    files: &'static [(RunFault, &'static str)],
+    /// The line of its other files and streams.
+    streams: &'static str,
+}
+
+const REPLAY: Own = Own {
+    does: "Example, at the top of the repository:
+  mapsim replay --config examples/plant.toml --trace examples/plant.csv --rounds 4 \\
+      --maps /tmp/maps --report /tmp/report
+
+It prints one line: the rounds, the report's G lines and M lines, and the numbers of its U line.
+  rounds 4 granted 11 missed 0 unknown 0 not_requestable 1 late 0
+
+The maps file has for each round, and there for each channel: the round (4 bytes, big-endian), the
+length of the MAP body in bytes (2 bytes, big-endian), and the body.",
+    refused: "",
+    files: &[
+        (
+            RunFault::WriteMaps(0),
+            "the maps file failed after N rounds",
+        ),
+        (RunFault::WriteReport(0), "the report failed after N rounds"),
+    ],
+    streams: "  fault io NAME     the file or stream failed: config, trace, maps, report or output\n",
+};
+
+const PIPE: Own = Own {
+    does: "Example, at the top of the repository:
+  (cat examples/plant.toml; echo %%; cat examples/plant.csv) | mapsim pipe --rounds 4
+
+It prints a line for each element of each MAP, with offset and length in minislots, then the report:
+  round channel offset length sid iuc",
+    refused: "  fault pipe        no line `%%`, or over 37,748,740 bytes\n",
+    files: &[],
+    streams: "  fault io NAME     the stream failed: input or output\n",
+};
+
+/// The report and the units, which all subcommands have, up to their faults.
+const REPORT_AND_UNITS: &str = "
 
 The report:
   G,round,channel,entry,id,i,k,sid,iuc,start,slots,credit
@@ -35,74 +108,95 @@ Units; docs/FORMATS.md has each key and field:
 A fault prints one line on standard error. PLACE is a table and its index, as `channel 0`; records
 are counted from 1, with the header.
 Status 3, what was read is refused:
-",
-            $first_faults,
-            "  fault C1          no TOML document of at most 4194304 bytes
-  fault C2 PLACE    a key is missing in PLACE
-  fault C3 PLACE    a value is out of its range, or a key is unknown, in PLACE
-  fault C4 PLACE    no channel has an id that is named in PLACE
-  fault C5 PLACE    an id is there twice in PLACE
-  fault C6 PLACE    a SID of another cluster is on the same channel in PLACE
-  fault C7 PLACE    a cluster has not one SID for each channel in PLACE
-  fault C8 PLACE    the round is no whole number of minislots of PLACE
-  fault C9 PLACE    the reserves pass the length of the MAPs of PLACE
-  fault C10 PLACE   the jitter is not below the interval in PLACE
-  fault C11 PLACE   a grant passes the length of the MAPs in PLACE
-  fault C12 PLACE   segment headers are wanting on several channels in PLACE
-  fault RU1         no rounds, or more than a run has ticks for (67,108,864)
-  fault RU2         the workers are not 1 to 64
-  fault TR1         the first record is not the header
-  fault TR2 N       record N has not four fields
-  fault TR3 N       record N has a field that is no number in its range
-  fault TR4         the trace is too large
-Status 4, a file or stream failed:
-",
-            $last_faults,
-            "Status 5:
-  fault memory      out of memory"
-        )
-    };
+";
+
+/// Any table of a configuration.
+const PLACE: Place = Place {
+    table: TableName::Top,
+    index: 0,
+};
+
+const CONFIG_FAULTS: [ConfigFault; 12] = [
+    ConfigFault::Text,
+    ConfigFault::Missing(PLACE),
+    ConfigFault::Range(PLACE),
+    ConfigFault::UnknownChannel(PLACE),
+    ConfigFault::DuplicateId(PLACE),
+    ConfigFault::DuplicateSid(PLACE),
+    ConfigFault::ClusterLength(PLACE),
+    ConfigFault::RoundNotMultiple(PLACE),
+    ConfigFault::ReservesTooLong(PLACE),
+    ConfigFault::Jitter(PLACE),
+    ConfigFault::GrantLongerThanMap(PLACE),
+    ConfigFault::Headers(PLACE),
+];
+
+/// The faults of the numbers of a run, and what each says.
+const RUN_FAULTS: [(RunFault, &str); 2] = [
+    (
+        RunFault::Rounds,
+        "no rounds, or more than a run has ticks for (67,108,864)",
+    ),
+    (RunFault::Workers, "the workers are not 1 to 64"),
+];
+
+const TRACE_FAULTS: [TraceFault; 4] = [
+    TraceFault::Header,
+    TraceFault::Fields(0),
+    TraceFault::Number(0),
+    TraceFault::TooLarge,
+];
+
+/// The help of a subcommand.
+fn help_of(alloc: Global, own: &Own) -> Result<String, AllocError> {
+    let mut text = String::from_str(alloc, own.does)?;
+    text.push_str(REPORT_AND_UNITS)?;
+    text.push_str(own.refused)?;
+    push_config_faults(&mut text)?;
+    push_run_faults(&mut text, "", &RUN_FAULTS)?;
+    push_trace_faults(&mut text)?;
+    text.push_str("Status 4, a file or stream failed:\n")?;
+    push_run_faults(&mut text, "N", own.files)?;
+    text.push_str(own.streams)?;
+    text.push_str("Status 5:\n  fault memory      out of memory")?;
+    Ok(text)
 }
 
-/// Of the program.
-pub const PROGRAM: &str = "\
-Without words it does what `pipe` does. The help of a subcommand says what goes in and out, the unit
-of each number, and what each fault says.
+fn push_config_faults(text: &mut String) -> Result<(), AllocError> {
+    for fault in &CONFIG_FAULTS {
+        let named = if fault.place().is_some() { "PLACE" } else { "" };
+        push_printed(text, fault.code(), named)?;
+        writeln!(text, "{}{named}", fault.sentence())?;
+    }
+    Ok(())
+}
 
-Example, at the top of the repository:
-  mapsim replay --config examples/plant.toml --trace examples/plant.csv --rounds 4 \\
-      --maps /tmp/maps --report /tmp/report
+fn push_run_faults(
+    text: &mut String,
+    named: &str,
+    faults: &[(RunFault, &'static str)],
+) -> Result<(), AllocError> {
+    for (fault, sentence) in faults {
+        push_printed(text, code_of_run(*fault), named)?;
+        writeln!(text, "{sentence}")?;
+    }
+    Ok(())
+}
 
-Status: 0 done, 2 the words are refused, 3 what was read is refused, 4 a file or stream failed,
-5 out of memory.";
+fn push_trace_faults(text: &mut String) -> Result<(), AllocError> {
+    for fault in &TRACE_FAULTS {
+        let (named, record) = match fault.record() {
+            Some(_) => ("N", "record N "),
+            None => ("", ""),
+        };
+        push_printed(text, fault.code(), named)?;
+        writeln!(text, "{record}{}", fault.sentence())?;
+    }
+    Ok(())
+}
 
-/// Of `replay`.
-pub const REPLAY: &str = help_of!(
-    "Example, at the top of the repository:
-  mapsim replay --config examples/plant.toml --trace examples/plant.csv --rounds 4 \\
-      --maps /tmp/maps --report /tmp/report
-
-It prints one line: the rounds, the report's G lines and M lines, and the numbers of its U line.
-  rounds 4 granted 11 missed 0 unknown 0 not_requestable 1 late 0
-
-The maps file has for each round, and there for each channel: the round (4 bytes, big-endian), the
-length of the MAP body in bytes (2 bytes, big-endian), and the body.",
-    "",
-    "  fault RU4 N       the maps file failed after N rounds
-  fault RU5 N       the report failed after N rounds
-  fault io NAME     the file or stream failed: config, trace, maps, report or output
-"
-);
-
-/// Of `pipe`.
-pub const PIPE: &str = help_of!(
-    "Example, at the top of the repository:
-  (cat examples/plant.toml; echo %%; cat examples/plant.csv) | mapsim pipe --rounds 4
-
-It prints a line for each element of each MAP, with offset and length in minislots, then the report:
-  round channel offset length sid iuc",
-    "  fault pipe        no line `%%`, or over 37,748,740 bytes
-",
-    "  fault io NAME     the stream failed: input or output
-"
-);
+/// Appends a fault as it is printed, up to the column of what faults say.
+fn push_printed(text: &mut String, code: &str, named: &str) -> Result<(), AllocError> {
+    let width = 11_usize.saturating_sub(code.len());
+    write!(text, "  fault {code} {named:<width$}")
+}

@@ -5,6 +5,7 @@ ghost use Rattle.mapsim.specs.declared.faults.Fault.TheVariants as fault;
 ghost use Rattle.mapsim.specs.declared.faults.Stream.TheVariants as stream;
 
 use crate::faults::{Fault, Stream};
+use crate::helps::Helps;
 use crate::orders::Order;
 use crate::piping::pipe;
 use crate::printing::print;
@@ -67,7 +68,8 @@ where
     ensures input_failed { I.failed input.new ≡ true → result ≡ Err (fault.Device stream.Input) }
     ensures output_failed { (O.failed output.new ≡ true) ↔ (result ≡ Err (fault.Device stream.Output)) }
 {
-    match order_of(rt.alloc(), words)? {
+    let helps = Helps::new(rt.alloc())?;
+    match order_of(rt.alloc(), words, &helps)? {
         Order::Help(text) => print(output, text.as_str().as_bytes())?,
         Order::Pipe { rounds, workers } => {
             pipe(rt, rt.alloc(), rounds, workers, input, output)?;

@@ -4,6 +4,7 @@ ghost use Rattle.mapsim.specs.declared.orders.Order.TheVariants as order;
 
 use crate::commands::{DEFAULT_ROUNDS, DEFAULT_WORKERS, command};
 use crate::faults::Fault;
+use crate::helps::Helps;
 use crate::orders::{FileReplay, Order};
 use clap::error::ErrorKind;
 use clap::{ArgMatches, Error};
@@ -11,7 +12,11 @@ use std::alloc::Global;
 use std::convert::AsStr;
 
 /// What these words ask for, the program's name first. The faults are a usage fault and want of memory.
-pub fn order_of<'a, S: AsStr>(alloc: Global, words: &'a [S]) -> Result<Order<'a>, Fault>
+pub fn order_of<'a, S: AsStr>(
+    alloc: Global,
+    words: &'a [S],
+    helps: &'a Helps,
+) -> Result<Order<'a>, Fault>
     ensures no_words { length words.now < 2 → result ≡ Ok (order.Pipe 2 1) }
     ensures fault { IfErr result IsWordsFault }
 {
@@ -21,7 +26,7 @@ pub fn order_of<'a, S: AsStr>(alloc: Global, words: &'a [S]) -> Result<Order<'a>
             workers: DEFAULT_WORKERS,
         });
     }
-    match matches_of(alloc, words) {
+    match matches_of(alloc, words, helps) {
         Ok(given) => given_order(alloc, &given),
         Err(error) => answer(alloc, &error),
     }
@@ -53,8 +58,12 @@ fn answer<'a>(alloc: Global, error: &Error) -> Result<Order<'a>, Fault>
     }
 }
 
-fn matches_of<'a, S: AsStr>(alloc: Global, words: &'a [S]) -> Result<ArgMatches<'a>, Error> {
-    command(alloc)?.try_get_matches_from(words)
+fn matches_of<'a, S: AsStr>(
+    alloc: Global,
+    words: &'a [S],
+    helps: &'a Helps,
+) -> Result<ArgMatches<'a>, Error> {
+    command(alloc, helps)?.try_get_matches_from(words)
 }
 
 /// What the words that were matched ask for.
