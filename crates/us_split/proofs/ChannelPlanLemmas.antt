@@ -5,12 +5,11 @@ use Rattle.std.specs.Prelude.{slice_index, position, option_and_then, option_to_
 use Rattle.std.specs.List.{AllByRecursion}
 use Rattle.std.proofs.lemmas.Nat.{mul-le}
 use Rattle.std.proofs.lemmas.Bool.{cases_eq}
-use Rattle.us_slots.specs.Bursts.{grant_cost}
 use Rattle.us_flows.specs.declared.channels.Channel.{Channel}
 use Rattle.us_flows.specs.Tables.{Tables}
 use Rattle.us_flows.specs.Lawful.{AreApart, AreTables}
-use Rattle.us_split.specs.Plans.{Budget, IsIdle, Planned, budget_of, cost_on, header_bytes, share_at, share_cost}
-use Rattle.us_split.specs.Claims.{claim_on, claim_at}
+use Rattle.us_split.specs.Plans.{IsIdle, Planned, budget_of, cost_on, header_bytes, share_at, share_cost}
+use Rattle.us_split.specs.Claims.{claim_at}
 use Rattle.us_split.specs.Grants.{Asker, ChannelPlan, IsPlaceOf, asker_of, budget_in, channel_of, claimed_at, claimed_from, with_claim, with_share, with_turn}
 use Rattle.us_split.proofs.ChannelShareLemmas.{first_place, later_place}
 

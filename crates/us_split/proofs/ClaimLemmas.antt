@@ -1,21 +1,22 @@
 -- The claims of a plan: what holds of each, and that all shares are found among them.
-use Rattle.std.proofs.Common.{◌≡◌, ◌≢◌, ◌⊎◌, ℕ, zero, suc, ◌+◌, ◌^◌, ◌==◌, ◌<◌, ◌≤◌, ◌&&◌, Bool, true, false, List, [], ◌∷◌, ◌++◌, length, map, get_or, Option, Some, None, slice_get, option_map, refl, sym, ap, ap₂, ◌∙◌, subst, inl, inr, eq-eqb, ne_eqb, arith}
+use Rattle.std.proofs.Common.{◌≡◌, ◌≢◌, ◌⊎◌, ℕ, zero, suc, ◌+◌, ◌==◌, ◌<◌, ◌≤◌, ◌&&◌, Bool, true, false, List, [], ◌∷◌, ◌++◌, length, map, Option, Some, None, slice_get, option_map, refl, sym, ap, ap₂, ◌∙◌, subst, inl, inr, eq-eqb, ne_eqb, arith}
 use Rattle.std.specs.Prelude.{find, position, slice_index, slice_index_or, option_and_then, option_to_list}
-use Rattle.std.specs.List.{AllByRecursion, list_any}
+use Rattle.std.specs.List.{AllByRecursion}
 use Rattle.std.proofs.lemmas.Bool.{cases_Bool, cases_eq, cases_lt, eqb-true}
-use Rattle.std.proofs.lemmas.List.{get_or_past, length-map}
+use Rattle.std.proofs.lemmas.List.{get_or_past}
 use Rattle.std.proofs.lemmas.List.Elements.{All-from_recursion}
 use Rattle.std.proofs.lemmas.Option.{slice_get_within, get_or_from_slice_get}
-use Rattle.us_slots.specs.Bursts.{grant_cost}
+use Rattle.us_slots.specs.Bursts.{IsChannelBursts, grant_cost}
+use Rattle.us_slots.proofs.CostLaws.{bytes_cost_minislots}
 use Rattle.us_flows.specs.declared.channels.Channel.{Channel}
-use Rattle.us_flows.specs.Tables.{Tables, FlowTable, has_channel}
+use Rattle.us_flows.specs.Tables.{Tables, has_channel}
 use Rattle.us_flows.specs.Clusters.{Turn, IsTurnIn, turns_of}
-use Rattle.us_flows.specs.Lawful.{AreApart, AreTables, Between, IsFlow}
+use Rattle.us_flows.specs.Lawful.{AreApart, AreTables, Between, IsChannel, IsFlow}
 use Rattle.us_flows.proofs.TurnLaws.{turns_of-turns}
 use Rattle.us_flows.proofs.TurnLemmas.{all-append}
 use Rattle.us_split.specs.Plans.{IsIdle, Ledger, Planned, after_turn, header_bytes, ledger_of, plan_for, plan_of, shares_of}
 use Rattle.us_split.specs.PlanLaws.{AreBursts}
-use Rattle.us_split.specs.Claims.{Claim, IsClaimOn, all_claims, claim_at, claim_on, claimant_of, claims_from, claims_on, is_at, share_of, share_or}
+use Rattle.us_split.specs.Claims.{AreClaims, Claim, IsClaimOn, all_claims, claim_at, claim_on, claimant_of, claims_from, claims_on, is_at, share_of, share_or}
 use Rattle.us_split.proofs.ChannelShareLemmas.{first_place, later_place}
 use Rattle.us_split.proofs.PlanLawLemmas.{plan_for-lawful, plan_of-turns}
 use Rattle.us_split.proofs.ShareLemmas.{shares_of-length}
@@ -79,21 +80,23 @@ burst_of planned k all some = elim (cases_lt k (length planned.shares)) [
   | inr past ↦ absurd (some (get_or_past planned.shares k 0 past))
 ]
 
-claim_lawful : (t : Tables) (c : Channel) (place : ℕ) (planned : Planned) (found : Option ℕ) → AreTables t →
+claim_lawful : (t : Tables) (c : Channel) (place : ℕ) (planned : Planned) (found : Option ℕ) → IsChannelBursts c.bursts → AreTables t →
     IsPlanned t planned → AllByRecursion (IsClaimOn c) (option_to_list (option_and_then (claim_at c place planned) found))
-claim_lawful t c place planned None lawful is = tt
-claim_lawful t c place planned (Some k) lawful is = elim (cases_eq (slice_index planned.shares k) 0) [
+claim_lawful t c place planned None bursts lawful is = tt
+claim_lawful t c place planned (Some k) bursts lawful is = elim (cases_eq (slice_index planned.shares k) 0) [
   | inl none ↦ rw (eq-eqb (slice_index planned.shares k) 0 none) tt
   | inr some ↦
       let sids = all_at (λ sids. (length sids ≡ length planned.turn.cluster.flow.channels) × AllByRecursion (Between 1 15871) sids)
       planned.turn.cluster.flow.clusters planned.turn.cluster.list planned.turn.cluster.sids
       (flow_of t planned.turn lawful is.turn).sids is.turn.sids in
+      let above : 1 ≤ slice_index planned.shares k = elim (cases_lt 0 (slice_index planned.shares k)) [
+        | inl more ↦ more
+        | inr less ↦ absurd (some (omega arith))
+      ] in
       rw (ne_eqb (slice_index planned.shares k) 0 some) (
         record {
-          some = elim (cases_lt 0 (slice_index planned.shares k)) [
-            | inl more ↦ more
-            | inr less ↦ absurd (some (omega arith))
-          ];
+          some = above;
+          minislots = bytes_cost_minislots c.bursts (slice_index planned.shares k + header_bytes planned.turn.cluster.flow) bursts (omega arith);
           burst = burst_of planned k is.bursts some;
           sid = small_sid planned.turn.cluster.sids k sids.1;
           slots = refl;
@@ -103,20 +106,27 @@ claim_lawful t c place planned (Some k) lawful is = elim (cases_eq (slice_index 
       )
 ]
 
-claims_lawful : (t : Tables) (c : Channel) (place : ℕ) (plan : List Planned) → AreTables t →
+claims_lawful : (t : Tables) (c : Channel) (place : ℕ) (plan : List Planned) → IsChannelBursts c.bursts → AreTables t →
     AllByRecursion (IsPlanned t) plan → AllByRecursion (IsClaimOn c) (claims_from c place plan)
 unfolding claims_from
-claims_lawful t c place [] lawful all = tt
-claims_lawful t c place (planned ∷ plan) lawful all =
+claims_lawful t c place [] bursts lawful all = tt
+claims_lawful t c place (planned ∷ plan) bursts lawful all =
     all-append (IsClaimOn c) (option_to_list (claim_on c place planned)) (claims_from c (place + 1) plan)
-    (claim_lawful t c place planned (position (λ id. id == c.id) planned.turn.cluster.flow.channels) lawful all.0)
-    (claims_lawful t c (place + 1) plan lawful all.1)
+    (claim_lawful t c place planned (position (λ id. id == c.id) planned.turn.cluster.flow.channels) bursts lawful all.0)
+    (claims_lawful t c (place + 1) plan bursts lawful all.1)
+
+channels_lawful : (t : Tables) (plan : List Planned) (cs : List Channel) → AllByRecursion (IsChannel t) cs → AreTables t →
+    AllByRecursion (IsPlanned t) plan → AllByRecursion (λ c. AllByRecursion (IsClaimOn c) (claims_on c plan)) cs
+channels_lawful t plan [] are lawful all = tt
+channels_lawful t plan (c ∷ cs) are lawful all =
+    (claims_lawful t c 0 plan are.0.bursts lawful all, channels_lawful t plan cs are.1 lawful all)
 
 pub plan_for-claims : (t : Tables) (outstanding : List ℕ) (allowances : List (Option ℕ)) (idle : List ℕ) → AreTables t →
-    IsIdle t idle → (c : Channel) → AllByRecursion (IsClaimOn c) (claims_on c (plan_for t outstanding allowances idle))
-plan_for-claims t outstanding allowances idle lawful is c =
-    claims_lawful t c 0 (plan_for t outstanding allowances idle) lawful
-    (plan_for-planned t outstanding allowances idle lawful is)
+    IsIdle t idle → AreClaims t (plan_for t outstanding allowances idle)
+plan_for-claims t outstanding allowances idle lawful is = record {
+  each = channels_lawful t (plan_for t outstanding allowances idle) t.channels lawful.channels lawful
+      (plan_for-planned t outstanding allowances idle lawful is);
+}
 
 -- A claim has the share of its turn.
 
@@ -312,6 +322,3 @@ share_of-plan t outstanding allowances idle lawful is turn position =
             absurd (claimed t plan turn position lawful (plan_for-planned t outstanding allowances idle lawful is) some none.1)
       ]
     ]
-
--- what the proof of `plan` rests on
-pub ruleset plan_facts = (plan_for-lawful, plan_for-claims)

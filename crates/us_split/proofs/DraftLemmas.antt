@@ -1,5 +1,5 @@
 -- A plan in the making: what a turn takes and claims, and what all turns come to.
-use Rattle.std.proofs.Common.{◌≡◌, ◌≢◌, ℕ, suc, ◌+◌, ◌-◌, ◌==◌, ◌≤◌, List, [], ◌∷◌, ◌++◌, length, map, set, zip, Option, Some, None, option_map, refl, sym, ap, ap₂, ◌∙◌, subst, inl, inr, eq-eqb, append_assoc, append-nil, arith}
+use Rattle.std.proofs.Common.{◌≡◌, ℕ, suc, ◌+◌, ◌-◌, ◌==◌, ◌≤◌, List, [], ◌∷◌, ◌++◌, length, map, set, zip, Option, Some, None, option_map, refl, sym, ap, ap₂, ◌∙◌, subst, inl, inr, eq-eqb, append_assoc, append-nil, arith}
 use Rattle.std.specs.Prelude.{sum, position, slice_index, slice_index_or, option_and_then, option_to_list}
 use Rattle.std.specs.List.{AllByRecursion}
 use Rattle.std.proofs.lemmas.Bool.{cases_lt}
@@ -11,8 +11,8 @@ use Rattle.us_flows.specs.Clusters.{Turn, turns_of}
 use Rattle.us_flows.specs.Lawful.{AreApart}
 use Rattle.us_flows.specs.declared.turns.Turn as places
 use Rattle.us_split.specs.Divisions.{divided}
-use Rattle.us_split.specs.Plans.{Budget, Ledger, Planned, weights, at_most, shares_of, share_at, share_on, share_cost, cost_on, header_bytes, lowered, allowed_less, after_turn, plan_of, plan_for, ledger_of}
-use Rattle.us_split.specs.Claims.{Claim, all_claims, claim_at, claim_on, claims_from}
+use Rattle.us_split.specs.Plans.{Ledger, Planned, weights, at_most, shares_of, share_at, share_on, share_cost, cost_on, header_bytes, lowered, allowed_less, after_turn, plan_of, plan_for, ledger_of}
+use Rattle.us_split.specs.Claims.{all_claims, claim_at, claim_on, claims_from}
 use Rattle.us_split.specs.Grants.{IsTurnOf, Asker, ChannelPlan, Draft, asker_of, budget_in, claimed_from, drafted, drafted_all, idle_draft, ledger_in, planned_in, with_turn}
 use Rattle.us_split.proofs.DivisionLemmas.{divided-sum}
 use Rattle.us_split.proofs.ChannelPlanLemmas.{ids, claimed_turn}

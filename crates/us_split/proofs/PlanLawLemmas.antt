@@ -240,3 +240,6 @@ plan_for-lawful t outstanding allowances idle lawful is = record {
     allowed place (Some most) at =
         plan_of-allowed outstanding (ledger_of t allowances idle) (turns_of t) place most
         (get_or_from_slice_get allowances place (Some most) None at)
+
+-- what the proof of `plan` rests on
+pub ruleset plan_facts = (plan_for-lawful)

@@ -1,5 +1,6 @@
 -- The claims of a plan (ours): what turns may send on each channel, and what it takes there.
 use Rattle.std.specs.Prelude.{◌≡◌, ℕ, ◌+◌, ◌^◌, ◌<◌, ◌≤◌, ◌==◌, Bool, ◌&&◌, if◌then◌else◌, List, [], ◌∷◌, ◌++◌, map, find, position, slice_index, Option, Some, None, option_and_then, option_to_list}
+use Rattle.std.specs.List.{AllByRecursion}
 use Rattle.us_slots.specs.Bursts.{grant_cost}
 use Rattle.us_flows.specs.declared.channels.Channel.{Channel}
 use Rattle.us_flows.specs.Tables.{Tables}
@@ -83,11 +84,16 @@ share_of [] place position = 0
 share_of (claims ∷ more) place position =
     share_or (find (is_at place position) claims) (share_of more place position)
 
--- what holds of each claim on a channel: there is a share, it is a burst with its header, the SID has 14 bits, and minislots
--- and IUC are those of a grant on the channel
+-- what holds of each claim on a channel: there is a share, and it takes minislots; it is a burst with its header, the SID has
+-- 14 bits, and minislots and IUC are those of a grant on the channel
 pub record IsClaimOn (c : Channel) (claim : Claim) : Type 0 where
   pub some : 1 ≤ claim.share
+  pub minislots : 1 ≤ claim.slots
   pub burst : claim.share + claim.header ≤ max_burst_bytes
   pub sid : claim.sid < 2 ^ 14
   pub slots : claim.slots ≡ (grant_cost c.bursts (claim.share + claim.header)).0
   pub iuc : claim.iuc ≡ (grant_cost c.bursts (claim.share + claim.header)).1
+
+-- and so of all claims on all channels
+pub record AreClaims (t : Tables) (plan : List Planned) : Type 0 where
+  pub each : AllByRecursion (λ c. AllByRecursion (IsClaimOn c) (claims_on c plan)) t.channels

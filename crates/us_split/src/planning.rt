@@ -1,10 +1,8 @@
 ghost use Rattle.std.specs.Prelude.{◌≡◌, ℕ, [], length, map, slice_index, slice_index_or, IfOk};
-ghost use Rattle.std.specs.List.{AllByRecursion};
-ghost use Rattle.us_flows.specs.declared.channels.Channel.{Channel};
 ghost use Rattle.us_flows.specs.Clusters.{clusters_of};
 ghost use Rattle.us_flows.specs.Lawful.{AreTables};
 ghost use Rattle.us_split.specs.Plans.{IsIdle, plan_for};
-ghost use Rattle.us_split.specs.Claims.{all_claims, claims_on, share_of, IsClaimOn};
+ghost use Rattle.us_split.specs.Claims.{AreClaims, all_claims, share_of};
 ghost use Rattle.us_split.specs.PlanLaws.{IsLawfulPlan};
 
 use crate::drafts::Draft;
@@ -19,7 +17,7 @@ use us_slots::NoMemory;
 /// table order, `None` where it has no limit; `idle` the idle minislots of each channel, in table order. Each turn asks
 /// for the outstanding bytes of its cluster, as far as its flow's allowance goes, and they are divided over its channels
 /// by what these can carry in the minislots that the turns before it left.
-#[tactic(auto, using(crate::proofs::ClaimLemmas::plan_facts))]
+#[tactic(auto, using(crate::proofs::PlanLawLemmas::plan_facts))]
 pub fn plan(
     alloc: Global,
     config: &Config,
@@ -38,8 +36,8 @@ pub fn plan(
         (plan_for config.now outstanding.now allowances.now idle.now) }
 
     // Each claim on a channel is a burst there, at its cost.
-    ensures claims { (c : Channel) → AllByRecursion (IsClaimOn c)
-        (claims_on c (plan_for config.now outstanding.now allowances.now idle.now)) }
+    ensures claims { AreClaims config.now
+        (plan_for config.now outstanding.now allowances.now idle.now) }
 
     // The share of each turn on each of its channels, whether it is above 0 or not.
     ensures shares { IfOk result (λ plan. (turn position : ℕ) → share_of plan turn position ≡
@@ -54,7 +52,7 @@ pub fn plan(
 
 /// The same plan, where the list of allowances is given up, so that it needn't be copied: it is lowered by what turns
 /// are planned.
-#[tactic(auto, using(crate::proofs::ClaimLemmas::plan_facts))]
+#[tactic(auto, using(crate::proofs::PlanLawLemmas::plan_facts))]
 pub fn plan_with(
     alloc: Global,
     config: &Config,
@@ -73,8 +71,8 @@ pub fn plan_with(
         (plan_for config.now outstanding.now allowances.items idle.now) }
 
     // Each claim on a channel is a burst there, at its cost.
-    ensures claims { (c : Channel) → AllByRecursion (IsClaimOn c)
-        (claims_on c (plan_for config.now outstanding.now allowances.items idle.now)) }
+    ensures claims { AreClaims config.now
+        (plan_for config.now outstanding.now allowances.items idle.now) }
 
     // The share of each turn on each of its channels, whether it is above 0 or not.
     ensures shares { IfOk result (λ plan. (turn position : ℕ) → share_of plan turn position ≡

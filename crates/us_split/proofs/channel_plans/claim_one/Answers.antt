@@ -1,5 +1,4 @@
-use Rattle.std.proofs.Common.{◌≡◌, set, ap, ◌∙◌, Result, Ok, Err, OnOk}
-use Rattle.us_split.specs.Grants.{ChannelPlan, with_claim}
+use Rattle.std.proofs.Common.{set, ap, ◌∙◌, Result, Ok, Err, OnOk}
 use Rattle.us_split.proofs.ChannelPlanLemmas.{one_claimed, none_claimed, no_share_claimed}
 use Rattle.us_split.proofs.channel_plans.claim_one.Goals as goal
 

@@ -1,18 +1,18 @@
-use Rattle.std.proofs.Common.{◌≡◌, List, refl, ◌<◌, ℕ, ◌+◌, ◌∷◌, ◌≤◌, length, map, drop, get_or, ap, ◌∙◌, sym, subst, arith}
+use Rattle.std.proofs.Common.{◌≡◌, ◌<◌, ℕ, ◌+◌, ◌≤◌, length, map, drop, get_or, ap, ◌∙◌, sym, subst, arith}
 use Rattle.std.specs.Prelude.{slice_index, sum}
 use Rattle.std.proofs.lemmas.List.{drop_all}
 use Rattle.std.proofs.lemmas.List.Elements.{All-from_recursion}
-use Rattle.us_flows.specs.Clusters.{Turn, clusters_of, turns_of}
+use Rattle.us_flows.specs.Clusters.{clusters_of, turns_of}
 use Rattle.us_flows.specs.Lawful.{AreApart}
 use Rattle.us_flows.specs.declared.turns.Turn as places
-use Rattle.us_split.specs.Plans.{Planned, shares_of}
+use Rattle.us_split.specs.Plans.{Planned}
 use Rattle.us_split.specs.Claims.{share_of}
-use Rattle.us_split.specs.Grants.{IsTurnOf, Draft, drafted, drafted_all, idle_draft, ledger_in, planned_in}
+use Rattle.us_split.specs.Grants.{IsTurnOf, Draft, drafted, drafted_all, ledger_in, planned_in}
 use Rattle.us_split.proofs.ChannelPlanLemmas.{ids, idle_apart}
-use Rattle.us_split.proofs.ClaimLemmas.{share_of-plan}
+use Rattle.us_split.proofs.ClaimLemmas.{plan_for-claims, share_of-plan}
 use Rattle.us_split.proofs.DraftLemmas.{claims_of_plan, drafted_apart, drafted_flows, drafted_more, nothing_drafted}
 use Rattle.us_split.proofs.PlanLawLemmas.{shares_of-asked}
-use Rattle.us_split.proofs.TurnAtLemmas.{TurnAt, turn_of, no_turns, few_channels, channels_apart, place_small, turn_small}
+use Rattle.us_split.proofs.TurnAtLemmas.{turn_of, no_turns, few_channels, channels_apart, place_small, turn_small}
 use Rattle.us_split.proofs.planning.plan_with.Goals as goal
 
 abbrev blank : places.Turn
@@ -125,3 +125,18 @@ returns-clause-shares c = λ turn position.
     ap (λ plan. share_of plan turn position) (returns-clause-value c) ∙
     share_of-plan c.args.config.now c.args.outstanding.now c.args.allowances.items c.args.idle.now
     c.turns-turns.ensures.lawful c.requires.idle turn position
+
+pub returns-in_err-draft-clause-claims : goal.returns-in_err-draft-clause-claims
+returns-in_err-draft-clause-claims c =
+    plan_for-claims c.args.config.now c.args.outstanding.now c.args.allowances.items c.args.idle.now
+    c.turns-turns.ensures.lawful c.requires.idle
+
+pub returns-in_err-grant-clause-claims : goal.returns-in_err-grant-clause-claims
+returns-in_err-grant-clause-claims c =
+    plan_for-claims c.args.config.now c.args.outstanding.now c.args.allowances.items c.args.idle.now
+    c.turns-turns.ensures.lawful c.requires.idle
+
+pub returns-clause-claims : goal.returns-clause-claims
+returns-clause-claims c =
+    plan_for-claims c.args.config.now c.args.outstanding.now c.args.allowances.items c.args.idle.now
+    c.turns-turns.ensures.lawful c.requires.idle

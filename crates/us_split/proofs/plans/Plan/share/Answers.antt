@@ -1,6 +1,6 @@
-use Rattle.std.proofs.Common.{◌≡◌, ℕ, zero, suc, List, [], ◌∷◌, ◌+◌, ◌<◌, ◌≤◌, Option, Some, None, length, map, drop, get_or, refl, ap, ap₂, ◌∙◌, sym, arith}
+use Rattle.std.proofs.Common.{◌≡◌, ℕ, List, [], ◌∷◌, ◌+◌, ◌<◌, Option, Some, None, length, map, drop, get_or, ap, ap₂, ◌∙◌, sym, arith}
 use Rattle.std.specs.Prelude.{find}
-use Rattle.std.proofs.lemmas.List.{drop_more, drop_all, length-map, get_or-map}
+use Rattle.std.proofs.lemmas.List.{drop_more, length-map, get_or-map}
 use Rattle.us_split.specs.Claims.{Claim, is_at, share_of, share_or}
 use Rattle.us_split.specs.Grants.{ChannelPlan}
 use Rattle.us_split.proofs.plans.Plan.share.Goals as goal

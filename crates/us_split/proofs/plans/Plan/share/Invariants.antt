@@ -1,4 +1,4 @@
-use Rattle.std.proofs.Common.{◌≡◌, drop, map}
+use Rattle.std.proofs.Common.{◌≡◌, drop}
 use Rattle.us_split.specs.Claims.{share_of}
 use Rattle.us_split.proofs.plans.Plan.share.Given as goal
 
