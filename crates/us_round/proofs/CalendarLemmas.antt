@@ -13,8 +13,6 @@ use Rattle.us_calendar.specs.Settling.{EntryState}
 use Rattle.us_bucket.specs.Levels.{full}
 use Rattle.us_flows.specs.Clusters.{clusters_of}
 use Rattle.us_split.specs.Plans.{Planned}
-use Rattle.us_split.specs.Shares.{TurnShares}
-use Rattle.us_round.specs.Claims.{kept_build}
 use Rattle.us_round.specs.Rounds.{State, Filled, Built, fill, build_on, round_plan, builds_of}
 use Rattle.us_round.specs.Cores.{Core, IsCore, opening_core, AreCalendars, AreCounted, settled_now, settled_then, with_calendars, credited_core}
 use Rattle.us_round.specs.States.{IsState, max_settled_by}
@@ -104,33 +102,33 @@ settled_few core cs left built lawful are is those known =
     omega (arith, sum_few left known, long, channels)
 
 -- What built channels tell of their calendars is what the filled ones do.
-now_kept : (t : Tables) (plan : List TurnShares) (fs : List Filled) →
-    sum_by (λ b. length b.settled) (map (kept_build t plan) fs) ≡ settled_now fs
-unfolding kept_build
-now_kept t plan [] = refl
-now_kept t plan (f ∷ fs) =
+now_kept : (plan : List Planned) (fs : List Filled) →
+    sum_by (λ b. length b.settled) (map (build_on plan) fs) ≡ settled_now fs
+unfolding build_on
+now_kept plan [] = refl
+now_kept plan (f ∷ fs) =
     omega (
       arith,
-      sum_by-cons (λ b. length b.settled) (kept_build t plan f) (map (kept_build t plan) fs),
+      sum_by-cons (λ b. length b.settled) (build_on plan f) (map (build_on plan) fs),
       sum_by-cons (λ f. length f.settled) f fs,
-      now_kept t plan fs,
+      now_kept plan fs,
     )
 
-then_kept : (t : Tables) (plan : List TurnShares) (fs : List Filled) →
-    sum_by (λ b. settled_in b.calendar) (map (kept_build t plan) fs) ≡ settled_then fs
-unfolding kept_build
-then_kept t plan [] = refl
-then_kept t plan (f ∷ fs) =
+then_kept : (plan : List Planned) (fs : List Filled) →
+    sum_by (λ b. settled_in b.calendar) (map (build_on plan) fs) ≡ settled_then fs
+unfolding build_on
+then_kept plan [] = refl
+then_kept plan (f ∷ fs) =
     omega (
       arith,
-      sum_by-cons (λ b. settled_in b.calendar) (kept_build t plan f) (map (kept_build t plan) fs),
+      sum_by-cons (λ b. settled_in b.calendar) (build_on plan f) (map (build_on plan) fs),
       sum_by-cons (λ f. settled_in f.calendar) f fs,
-      then_kept t plan fs,
+      then_kept plan fs,
     )
 
-pub counted : (t : Tables) (plan : List TurnShares) (fs : List Filled) (cs : List Calendar) →
-    settled_now fs + sum_by settled_in cs ≡ settled_then fs → AreCounted cs (map (kept_build t plan) fs)
-counted t plan fs cs counts = omega (arith, counts, now_kept t plan fs, then_kept t plan fs)
+pub counted : (plan : List Planned) (fs : List Filled) (cs : List Calendar) →
+    settled_now fs + sum_by settled_in cs ≡ settled_then fs → AreCounted cs (map (build_on plan) fs)
+counted plan fs cs counts = omega (arith, counts, now_kept plan fs, then_kept plan fs)
 
 -- Before round 0.
 

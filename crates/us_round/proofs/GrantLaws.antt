@@ -7,7 +7,8 @@ use Rattle.std.proofs.lemmas.Bool.{cases_Bool}
 use Rattle.us_slots.specs.Bursts.{ChannelBursts, IsChannelBursts, burst_cost, grant_cost}
 use Rattle.us_slots.proofs.CostLaws.{bytes_cost_minislots}
 use Rattle.us_holes.specs.Boards.{Board, fits, assign, AllFit}
-use Rattle.us_round.specs.Placements.{Claimant, Claim, Spot, PlacedClaim, spot, grant_at, grant_of, with_grant, grants_of, intervals}
+use Rattle.us_split.specs.Claims.{Claimant, Claim}
+use Rattle.us_round.specs.Placements.{Spot, PlacedClaim, spot, grant_at, grant_of, with_grant, grants_of, intervals}
 use Rattle.us_round.specs.Rounds.{credits}
 use Rattle.us_round.proofs.SumLemmas.{sum_passing}
 use Rattle.us_round.proofs.SpotLaws.{IsSpot, spot_is}

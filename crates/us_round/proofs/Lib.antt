@@ -3,10 +3,8 @@ pub mod SpotLemmas
 pub mod PlaceLemmas
 pub mod ReserveLemmas
 pub mod BuildLemmas
-pub mod ClaimLemmas
 pub mod SumLemmas
 pub mod SpotLaws
-pub mod KeptLemmas
 pub mod GrantLaws
 pub mod CreditLaws
 pub mod FillLemmas

@@ -1,9 +1,9 @@
 -- That the grants of a round take what is there, and start inside the MAPs.
-use Rattle.std.proofs.Common.{◌≡◌, ℕ, zero, suc, ◌+◌, ◌<◌, ◌≤◌, ◌==◌, nat_lt, List, [], ◌∷◌, ◌++◌, length, map, slice_index, slice_get, filter, Option, Some, None, ap, sym, subst, ◌∙◌, inl, inr, arith, option_map, option_and_then, option_to_list, filter_map, position}
-use Rattle.std.specs.List.{AllByRecursion, cons_option}
+use Rattle.std.proofs.Common.{◌≡◌, ℕ, zero, suc, ◌+◌, ◌<◌, ◌≤◌, ◌==◌, List, [], ◌∷◌, ◌++◌, length, map, slice_index, slice_get, filter, Option, Some, None, append_assoc, slice_index_or, refl, ap, ap₂, sym, subst, ◌∙◌, inl, inr, arith, option_map, option_and_then, option_to_list, position}
+use Rattle.std.specs.List.{AllByRecursion}
 use Rattle.std.proofs.lemmas.Bool.{cases_Bool}
-use Rattle.std.proofs.lemmas.List.{length-map}
-use Rattle.std.proofs.lemmas.Option.{slice_get-map}
+use Rattle.std.proofs.lemmas.List.{length-append, length-map}
+use Rattle.std.proofs.lemmas.Option.{slice_get-map, get_or_from_slice_get}
 use Rattle.us_slots.specs.Bursts.{ChannelBursts, IsChannelBursts}
 use Rattle.us_flows.specs.Tables.{Tables}
 use Rattle.us_flows.specs.Clusters.{Turn, IsTurnIn, clusters_of, turns_of}
@@ -16,37 +16,40 @@ use Rattle.us_calendar.specs.Calendars as calendars
 use Rattle.us_calendar.specs.Calendars.{granted_in}
 use Rattle.us_split.specs.Plans.{Planned, ledger_of, plan_for}
 use Rattle.us_split.proofs.PlanLawLemmas.{plan_of-turns}
-use Rattle.us_round.specs.Claims.{kept_build}
-use Rattle.us_split.specs.Shares.{TurnShares, with_shares}
-use Rattle.us_round.proofs.KeptLemmas.{kept_builds_are}
+use Rattle.us_flows.specs.declared.channels.Channel.{Channel}
+use Rattle.us_split.specs.Claims.{Claim, Claimant, claimant_of, claim_at, claims_from, claims_on, all_claims, AreClaims, IsClaimOn}
+use Rattle.us_crew.specs.Values.{values_from}
 use Rattle.us_split.specs.PlanLaws.{IsLawfulPlan, planned_bytes}
-use Rattle.us_round.specs.Placements.{Claim, Claimant, PlacedClaim, Spot, claimant_of, claim_at, claim_on, claims, spot, grant_at, grants_of, with_grant, intervals}
-use Rattle.us_round.specs.Rounds.{State, Filled, idle, fills_of, build_on, builds_of, round_plan, all_grants, credits, is_of_flow}
+use Rattle.us_round.specs.Placements.{PlacedClaim, Spot, spot, grant_at, grants_of, with_grant, intervals}
+use Rattle.us_round.specs.Rounds.{State, Filled, idle, fills_of, build_with, build_on, builds_of, round_plan, all_grants, credits, is_of_flow}
+use Rattle.us_round.specs.Stages.{AreClaimsOn, built_by}
 use Rattle.us_round.specs.Leftovers.{StartsInside, IsBuiltFor, AreInside}
 use Rattle.us_round.specs.States.{IsKnown, AreSound}
 use Rattle.us_round.specs.Cores.{AreCalendars, IsFilledFor}
-use Rattle.us_round.proofs.PartLemmas.{all_append, all_weaker}
+use Rattle.us_round.proofs.PartLemmas.{all_append, all_found, all_weaker}
 use Rattle.us_round.proofs.FitLemmas.{fit_inside}
-use Rattle.us_round.proofs.FillLemmas.{filled_apart, filled_all}
+use Rattle.us_round.proofs.FillLemmas.{filled_apart, filled_all, filled_channels}
 use Rattle.us_round.proofs.GrantLaws.{Granted, grants_are, grants_fit}
 use Rattle.us_round.proofs.CreditLaws.{claims_some, credits_planned}
 use Rattle.us_round.proofs.StateLemmas.{within_less}
 
 -- Grants are of the turns of the plan.
 
-claims_of : (P : Claimant → Type 0) (id : ℕ) (plan : List Planned) →
-    AllByRecursion (λ planned. P (claimant_of planned.turn)) plan → AllByRecursion (λ c. P c.claimant) (claims id plan)
-unfolding claims
-claims_of P id [] h = tt
-claims_of P id (planned ∷ plan) h =
-    by (position (λ channel. channel == id) planned.turn.cluster.flow.channels) (claims_of P id plan h.1)
+claims_of : (P : Claimant → Type 0) (channel : Channel) (turn : ℕ) (plan : List Planned) →
+    AllByRecursion (λ planned. P (claimant_of planned.turn)) plan →
+    AllByRecursion (λ c. P c.claimant) (claims_from channel turn plan)
+unfolding claims_from
+claims_of P channel turn [] h = tt
+claims_of P channel turn (planned ∷ plan) h =
+    by (position (λ id. id == channel.id) planned.turn.cluster.flow.channels) (claims_of P channel (turn + 1) plan h.1)
   where
-    by : (place : Option ℕ) → AllByRecursion (λ c. P c.claimant) (filter_map (claim_on id) plan) →
-        AllByRecursion (λ c. P c.claimant) (cons_option (option_and_then (claim_at planned) place) (filter_map (claim_on id) plan))
+    by : (place : Option ℕ) → AllByRecursion (λ c. P c.claimant) (claims_from channel (turn + 1) plan) →
+        AllByRecursion (λ c. P c.claimant)
+        (option_to_list (option_and_then (claim_at channel turn planned) place) ++ claims_from channel (turn + 1) plan)
     by None rest = rest
-    by (Some place) rest = elim (cases_Bool (nat_lt 0 (slice_index planned.shares place))) [
-      | inl some ↦ rw some (h.0, rest)
-      | inr none ↦ rw none rest
+    by (Some place) rest = elim (cases_Bool (slice_index planned.shares place == 0)) [
+      | inl none ↦ rw none rest
+      | inr some ↦ rw some (h.0, rest)
     ]
 
 granted_of : (P : Claimant → Type 0) (b : ChannelBursts) (board : Board) (cs : List Claim) →
@@ -69,9 +72,9 @@ built_of : (P : Claimant → Type 0) (plan : List Planned) (fs : List Filled) �
 unfolding build_on
 built_of P plan [] h = tt
 built_of P plan (f ∷ fs) h =
-    all_append (λ g. P g.claimant) (grants_of f.channel.bursts f.board (claims f.channel.id plan))
+    all_append (λ g. P g.claimant) (grants_of f.channel.bursts f.board (claims_on f.channel plan))
     (all_grants (map (build_on plan) fs))
-    (granted_of P f.channel.bursts f.board (claims f.channel.id plan) (claims_of P f.channel.id plan h)) (built_of P plan fs h)
+    (granted_of P f.channel.bursts f.board (claims_on f.channel plan) (claims_of P f.channel 0 plan h)) (built_of P plan fs h)
 
 by_turns : (P : Turn → Type 0) (plan : List Planned) (turns : List Turn) → map (λ planned. planned.turn) plan ≡ turns →
     AllByRecursion P turns → AllByRecursion (λ planned. P planned.turn) plan
@@ -124,9 +127,9 @@ built_sound : (t : Tables) (plan : List Planned) (f : Filled) → IsChannel t f.
     × (granted_in (build_on plan f).settled + length (build_on plan f).grants ≤ (build_on plan f).board.standing)
 unfolding build_on
 built_sound t plan f is sound =
-    let cs : List Claim = claims f.channel.id plan in
+    let cs : List Claim = claims_on f.channel plan in
     let gs : List PlacedClaim = grants_of f.channel.bursts f.board cs in
-    let granted : Granted f.channel.bursts f.board cs gs = grants_are f.channel.bursts f.board cs is.bursts (claims_some f.channel.id plan) in
+    let granted : Granted f.channel.bursts f.board cs gs = grants_are f.channel.bursts f.board cs is.bursts (claims_some f.channel plan) in
     let kept : length (assign_all f.board (intervals gs)).cells ≡ length f.board.cells =
     assign_all-length f.board (intervals gs) (grants_fit f.channel.bursts f.board cs gs granted) in
     let standing = assign_all-standing f.board (intervals gs) in
@@ -191,9 +194,47 @@ unfolding plan_for
 turns_planned s =
     plan_of-turns s.outstanding (ledger_of s.tables (map bytes_in s.buckets) (idle (fills_of s))) (turns_of s.tables)
 
--- the claims of the plan as it is kept, on the boards of a round, are those of the plan
-pub builds_are : (s : State) (t : Tables) (plan : List TurnShares) (fs : List Filled) → t ≡ s.tables →
-    plan ≡ with_shares 0 (round_plan s) → fs ≡ fills_of s → map (kept_build t plan) fs ≡ builds_of s
+-- the channel at each place of the table places the claims that the plan has there
+built_from : (plan : List Planned) (all before : List (List Claim)) (place : ℕ) (fs : List Filled) →
+    all ≡ before ++ map (λ c. claims_on c plan) (map (λ f. f.channel) fs) → place ≡ length before →
+    values_from (λ place f. build_with (slice_index_or all place []) f) place fs ≡ map (build_on plan) fs
+unfolding build_on
+built_from plan all before place [] is at = refl
+built_from plan all before place (f ∷ fs) is at =
+    let own : List Claim = claims_on f.channel plan in
+    let rest : List (List Claim) = map (λ c. claims_on c plan) (map (λ f. f.channel) fs) in
+    let here : slice_index_or all place [] ≡ own =
+    ap₂ (λ xs n. slice_index_or xs n []) is at ∙ get-behind before own rest in
+    let more = built_from plan all (before ++ own ∷ []) (place + 1) fs (is ∙ sym (append_assoc before (own ∷ []) rest))
+    (omega (arith, at, length-append before (own ∷ []))) in
+    ap₂ (λ b bs. b ∷ bs) (ap (λ cs. build_with cs f) here) more
+  where
+    get-behind : (before : List (List Claim)) (own : List Claim) (rest : List (List Claim)) →
+        slice_index_or (before ++ own ∷ rest) (length before) [] ≡ own
+    get-behind [] own rest = refl
+    get-behind (x ∷ before) own rest = get-behind before own rest
+
+pub builds_are : (s : State) (plan : List (List Claim)) (fs : List Filled) →
+    AreCalendars s.tables s.round s.calendars → plan ≡ all_claims s.tables (round_plan s) → fs ≡ fills_of s →
+    built_by plan fs ≡ builds_of s
 unfolding builds_of
-builds_are s t plan fs same kept are =
-    rw (same, kept, are) (kept_builds_are s.tables (round_plan s) (fills_of s) (turns_planned s))
+builds_are s plan fs are is those =
+    let channels : map (λ f. f.channel) (fills_of s) ≡ s.tables.channels =
+    filled_channels s.tables s.round s.calendars are in
+    let all : plan ≡ map (λ c. claims_on c (round_plan s)) (map (λ f. f.channel) (fills_of s)) =
+    is ∙ ap (λ cs. map (λ c. claims_on c (round_plan s)) cs) (sym channels) in
+    ap (λ fs. built_by plan fs) those ∙ built_from (round_plan s) plan [] 0 (fills_of s) all refl
+
+-- which can be placed there
+pub claims_for : (t : Tables) (plan : List Planned) (all : List (List Claim)) (fs : List Filled) →
+    all ≡ all_claims t plan → map (λ f. f.channel) fs ≡ t.channels → AreClaims t plan → AreClaimsOn all fs
+claims_for t plan all fs is channels are place f at =
+    let here : slice_get t.channels place ≡ Some f.channel =
+    ap (λ cs. slice_get cs place) (sym channels) ∙ slice_get-map (λ (f : Filled). f.channel) fs place ∙
+    ap (λ found. option_map (λ (f : Filled). f.channel) found) at in
+    let own : slice_index_or all place [] ≡ claims_on f.channel plan =
+    ap (λ xs. slice_index_or xs place []) is ∙
+    get_or_from_slice_get (all_claims t plan) place (claims_on f.channel plan) []
+    (slice_get-map (λ c. claims_on c plan) t.channels place ∙ ap (option_map (λ c. claims_on c plan)) here) in
+    subst (AllByRecursion (IsClaimOn f.channel)) (sym own)
+    (all_found (λ c. AllByRecursion (IsClaimOn c) (claims_on c plan)) t.channels place f.channel are.each here)

@@ -6,7 +6,8 @@ use Rattle.us_slots.specs.Bursts.{ChannelBursts, grant_cost}
 use Rattle.us_holes.specs.Boards.{Owner, Board, is_full, least_fit}
 use Rattle.us_holes.specs.Placements.{answer_at, placed}
 use Rattle.us_holes.specs.declared.placements.Placed.TheVariants as answer
-use Rattle.us_round.specs.Placements.{Claim, spot, part_spot, grant_at, grant_of}
+use Rattle.us_split.specs.Claims.{Claim}
+use Rattle.us_round.specs.Placements.{spot, part_spot, grant_at, grant_of}
 
 least_at : (slots start many : ℕ) (found : Option ℕ) → answer_at slots found ≡ answer.At start many →
     (found ≡ Some start) × (many ≡ slots)
@@ -59,35 +60,39 @@ spot_part bursts header share board is = elim (cases_Bool (is_full board)) [
       rw (few, least_none slots (least_fit board 0 (length board.cells - 1) slots) (rw few at is)) refl
 ]
 
--- What a claim is granted then, where `cost` is that of its whole share.
+-- What a claim is granted then, by its own minislots and IUC.
 
-pub granted_at : (bursts : ChannelBursts) (board : Board) (claim : Claim) (cost : ℕ × ℕ) (start many : ℕ) (owner : Owner) →
-    cost ≡ grant_cost bursts (claim.share + claim.header) → owner ≡ record { sid = claim.sid; iuc = cost.1 } →
-    answer.At start many ≡ placed board 0 (length board.cells - 1) cost.0 →
+-- they are those of its whole share
+abbrev pub IsPriced : ChannelBursts → Claim → Type 0
+IsPriced bursts claim =
+    (claim.slots ≡ (grant_cost bursts (claim.share + claim.header)).0)
+    × (claim.iuc ≡ (grant_cost bursts (claim.share + claim.header)).1)
+
+pub granted_at : (bursts : ChannelBursts) (board : Board) (claim : Claim) (start many : ℕ) (owner : Owner) →
+    IsPriced bursts claim → owner ≡ record { sid = claim.sid; iuc = claim.iuc } →
+    answer.At start many ≡ placed board 0 (length board.cells - 1) claim.slots →
     Some (record {
       claimant = claim.claimant;
       interval = record { start = start; slots = many; owner = owner };
       credit = claim.share;
     }) ≡ grant_of bursts board claim
-granted_at bursts board claim cost start many owner priced owned is =
+granted_at bursts board claim start many owner priced owned is =
     let at : placed board 0 (length board.cells - 1) (grant_cost bursts (claim.share + claim.header)).0 ≡
-    answer.At start many = ap (λ cost. placed board 0 (length board.cells - 1) cost.0) (sym priced) ∙ sym is in
+    answer.At start many = ap (λ slots. placed board 0 (length board.cells - 1) slots) (sym priced.0) ∙ sym is in
     let found = spot_at bursts claim.header claim.share start many board at in
-    rw (found.0, found.1, owned, priced) refl
+    rw (found.0, found.1, owned, priced.1) refl
 
-pub granted_full : (bursts : ChannelBursts) (board : Board) (claim : Claim) (cost : ℕ × ℕ) →
-    cost ≡ grant_cost bursts (claim.share + claim.header) →
-    answer.Full ≡ placed board 0 (length board.cells - 1) cost.0 → grant_of bursts board claim ≡ None
-granted_full bursts board claim cost priced is =
+pub granted_full : (bursts : ChannelBursts) (board : Board) (claim : Claim) → IsPriced bursts claim →
+    answer.Full ≡ placed board 0 (length board.cells - 1) claim.slots → grant_of bursts board claim ≡ None
+granted_full bursts board claim priced is =
     let at : placed board 0 (length board.cells - 1) (grant_cost bursts (claim.share + claim.header)).0 ≡ answer.Full =
-    ap (λ cost. placed board 0 (length board.cells - 1) cost.0) (sym priced) ∙ sym is in
+    ap (λ slots. placed board 0 (length board.cells - 1) slots) (sym priced.0) ∙ sym is in
     rw (spot_full bursts claim.header claim.share board at) refl
 
-pub granted_part : (bursts : ChannelBursts) (board : Board) (claim : Claim) (cost : ℕ × ℕ) →
-    cost ≡ grant_cost bursts (claim.share + claim.header) →
-    answer.NoRoom ≡ placed board 0 (length board.cells - 1) cost.0 →
+pub granted_part : (bursts : ChannelBursts) (board : Board) (claim : Claim) → IsPriced bursts claim →
+    answer.NoRoom ≡ placed board 0 (length board.cells - 1) claim.slots →
     option_map (grant_at bursts claim) (part_spot bursts claim.header board) ≡ grant_of bursts board claim
-granted_part bursts board claim cost priced is =
+granted_part bursts board claim priced is =
     let at : placed board 0 (length board.cells - 1) (grant_cost bursts (claim.share + claim.header)).0 ≡ answer.NoRoom =
-    ap (λ cost. placed board 0 (length board.cells - 1) cost.0) (sym priced) ∙ sym is in
+    ap (λ slots. placed board 0 (length board.cells - 1) slots) (sym priced.0) ∙ sym is in
     ap (option_map (grant_at bursts claim)) (sym (spot_part bursts claim.header claim.share board at))

@@ -11,18 +11,15 @@ use Rattle.us_bucket.specs.Levels.{bytes_in}
 use Rattle.us_calendar.specs.Calendars.{Calendar, settled_in}
 use Rattle.us_split.specs.Plans.{IsIdle, plan_for, ledger_of}
 use Rattle.us_split.specs.PlanLaws.{IsLawfulPlan}
-use Rattle.us_split.specs.Shares.{TurnShares, with_shares}
-use Rattle.us_round.specs.Claims.{AreKeptBursts, HasFewTicks, kept_build}
+use Rattle.us_split.specs.Claims.{Claim, AreClaims, all_claims}
 use Rattle.us_round.specs.Rounds.{State, Filled, Built, begun, filled, fills_of, idle, round_plan, builds_of}
 use Rattle.us_round.specs.Outputs.{RoundOut, out_of, AreWithinLimits}
 use Rattle.us_round.specs.States.{AreSound, settled_by}
-use Rattle.us_round.specs.Cores.{Core, IsCore, AreCalendars, AreCounted, IsFilledFor, IsReady, begun_core, credited_core, plan_over, scheduled_of, settled_now, settled_then, with_calendars}
-use Rattle.us_round.specs.Stages.{IsBegun, AreFilled, IsPlanned, AreBuilt, IsOver, IsOverFor}
-use Rattle.us_round.proofs.FillLemmas.{calendars_long, filled_idle, filled_ticks}
+use Rattle.us_round.specs.Cores.{Core, IsCore, AreCalendars, AreCounted, HasFewTicks, IsFilledFor, IsReady, begun_core, credited_core, plan_over, scheduled_of, settled_now, settled_then, with_calendars}
+use Rattle.us_round.specs.Stages.{IsBegun, AreFilled, IsPlanned, AreClaimsOn, built_by, AreBuilt, IsOver, IsOverFor}
+use Rattle.us_round.proofs.FillLemmas.{calendars_long, filled_channels, filled_idle, filled_ticks}
 use Rattle.us_round.proofs.PhaseLemmas.{calendars_ready, filled_sound, filled_counted}
-use Rattle.us_round.proofs.KeptLemmas.{kept_bursts}
-use Rattle.us_split.proofs.PlanLawLemmas.{plan_of-turns}
-use Rattle.us_round.proofs.SoundLemmas.{sound, turns_planned, builds_are}
+use Rattle.us_round.proofs.SoundLemmas.{sound, turns_planned, builds_are, claims_for}
 use Rattle.us_round.proofs.CalendarLemmas.{counted}
 use Rattle.us_round.proofs.RoundLemmas.{run_state, run_out, run_limits, run_few}
 
@@ -103,70 +100,62 @@ room_as core cs fs told are all is =
     subst (λ fs. IsIdle core.tables (idle fs)) (sym is)
     (filled_idle core.tables core.round cs fs are all.value all.sound)
 
-plan_turns : (core : Core) (fs : List Filled) → map (λ planned. planned.turn) (plan_over core fs) ≡ turns_of core.tables
-unfolding plan_for
-plan_turns core fs =
-    plan_of-turns core.outstanding (ledger_of core.tables (map bytes_in core.buckets) (idle fs)) (turns_of core.tables)
-
 -- the plan of these tables, demands, allowances and idle minislots
-abbrev IsPlanOf : List TurnShares → Tables → List ℕ → List (Option ℕ) → List ℕ → Type 0
-IsPlanOf kept t demands most free =
-    (kept ≡ with_shares 0 (plan_for t demands most free)) × IsLawfulPlan t demands most free (plan_for t demands most free)
-    × AreTables t
+abbrev IsPlanOf : List (List Claim) → Tables → List ℕ → List (Option ℕ) → List ℕ → Type 0
+IsPlanOf plan t demands most free =
+    (plan ≡ all_claims t (plan_for t demands most free)) × IsLawfulPlan t demands most free (plan_for t demands most free)
+    × AreClaims t (plan_for t demands most free) × AreTables t
 
 pub planned_as : (core : Core) (fs : List Filled) (t : Tables) (demands : List ℕ) (most : List (Option ℕ)) (free : List ℕ)
-    (kept : List TurnShares) → t ≡ core.tables → demands ≡ core.outstanding → most ≡ map bytes_in core.buckets →
-    free ≡ idle fs → kept ≡ with_shares 0 (plan_for t demands most free) →
-    IsLawfulPlan t demands most free (plan_for t demands most free) → AreTables t → IsPlanned core fs kept
-planned_as core fs t demands most free kept same was allowed left is law lawful =
-    let made : IsPlanOf kept core.tables core.outstanding (map bytes_in core.buckets) (idle fs) =
-    subst (λ xs. IsPlanOf kept core.tables core.outstanding (map bytes_in core.buckets) xs) left
-    (subst (λ ms. IsPlanOf kept core.tables core.outstanding ms free) allowed
-    (subst (λ ds. IsPlanOf kept core.tables ds most free) was
-    (subst (λ u. IsPlanOf kept u demands most free) same (is, law, lawful)))) in
-    record {
-      value = made.0;
-      law = made.1;
-      bursts = subst (λ kept. AllByRecursion (AreKeptBursts core.tables) kept) (sym made.0)
-          (kept_bursts core.tables (plan_over core fs) (plan_turns core fs) made.1.bursts);
-      lawful = made.2;
-    }
+    (plan : List (List Claim)) → IsCore core → t ≡ core.tables → demands ≡ core.outstanding → most ≡ map bytes_in core.buckets →
+    free ≡ idle fs → IsPlanOf plan t demands most free → IsPlanned core fs plan
+planned_as core fs t demands most free plan known same was allowed left is =
+    let made : IsPlanOf plan core.tables core.outstanding (map bytes_in core.buckets) (idle fs) =
+    subst (λ xs. IsPlanOf plan core.tables core.outstanding (map bytes_in core.buckets) xs) left
+    (subst (λ ms. IsPlanOf plan core.tables core.outstanding ms free) allowed
+    (subst (λ ds. IsPlanOf plan core.tables ds most free) was
+    (subst (λ u. IsPlanOf plan u demands most free) same is))) in
+    record { known = known; value = made.0; law = made.1; claims = made.2; lawful = made.3 }
 
--- Claims, of these tables and turns.
+-- Claims.
 
-pub bursts_as : (core : Core) (fs : List Filled) (t : Tables) (kept turns : List TurnShares) → IsPlanned core fs kept →
-    t ≡ core.tables → turns ≡ kept → AllByRecursion (AreKeptBursts t) turns
-bursts_as core fs t kept turns planned same is =
-    subst (λ u. AllByRecursion (AreKeptBursts u) turns) (sym same)
-    (subst (λ kept. AllByRecursion (AreKeptBursts core.tables) kept) (sym is) planned.bursts)
+pub claims_as : (core : Core) (cs : List Calendar) (fs told : List Filled) (plan : List (List Claim)) →
+    AreCalendars core.tables core.round cs → AreFilled core cs fs → told ≡ fs → IsPlanned core told plan →
+    AreClaimsOn plan fs
+claims_as core cs fs told plan are all is planned =
+    let channels : map (λ f. f.channel) fs ≡ core.tables.channels =
+    ap (λ fs. map (λ (f : Filled). f.channel) fs) all.value ∙ filled_channels core.tables core.round cs are in
+    claims_for core.tables (plan_over core told) plan fs planned.value channels planned.claims
 
-pub ticks_as : (core : Core) (cs : List Calendar) (fs told : List Filled) (kept : List TurnShares) →
-    AreCalendars core.tables core.round cs → AreFilled core cs fs → IsPlanned core told kept →
+pub ticks_as : (core : Core) (cs : List Calendar) (fs told : List Filled) (plan : List (List Claim)) →
+    AreCalendars core.tables core.round cs → AreFilled core cs fs → IsPlanned core told plan →
     AllByRecursion HasFewTicks fs
-ticks_as core cs fs told kept are all planned =
+ticks_as core cs fs told plan are all planned =
     filled_ticks core.tables core.round cs fs planned.lawful are all.value all.sound
 
-pub built_as : (core : Core) (cs : List Calendar) (fs told : List Filled) (t : Tables) (kept turns : List TurnShares)
-    (bs : List Built) → IsCore core → AreCalendars core.tables core.round cs → AreFilled core cs fs → told ≡ fs →
-    IsPlanned core told kept → t ≡ core.tables → turns ≡ kept → bs ≡ map (kept_build t turns) fs → AreBuilt core cs bs
-built_as core cs fs told t kept turns bs known are all is planned same those made =
+pub built_as : (core : Core) (cs : List Calendar) (fs told : List Filled) (plan : List (List Claim)) (bs : List Built) →
+    AreCalendars core.tables core.round cs → AreFilled core cs fs → told ≡ fs →
+    IsPlanned core told plan → bs ≡ built_by plan fs → AreBuilt core cs bs
+unfolding builds_of
+built_as core cs fs told plan bs are all is planned made =
     let s : State = with_calendars core cs in
     let over : told ≡ fills_of s = is ∙ all.value in
-    let plan : turns ≡ with_shares 0 (round_plan s) =
-    those ∙ planned.value ∙ ap (λ fs. with_shares 0 (plan_over core fs)) over in
-    let value : bs ≡ builds_of s = made ∙ builds_are s t turns fs same plan all.value in
+    let value : bs ≡ builds_of s =
+    made ∙ builds_are s plan fs are (planned.value ∙ ap (λ fs. all_claims core.tables (plan_over core fs)) over) all.value in
     let law : IsLawfulPlan s.tables s.outstanding (map bytes_in s.buckets) (idle (fills_of s)) (round_plan s) =
     subst (λ fs. IsLawfulPlan s.tables s.outstanding (map bytes_in s.buckets) (idle fs) (plan_over core fs)) over
     planned.law in
     let lens : AllByRecursion (IsFilledFor s.tables) (fills_of s) =
     subst (λ fs. AllByRecursion (IsFilledFor core.tables) fs) all.value all.sound in
+    let counts : settled_now (fills_of s) + sum_by settled_in cs ≡ settled_then (fills_of s) =
+    subst (λ fs. settled_now fs + sum_by settled_in cs ≡ settled_then fs) all.value all.counts in
     record {
-      known = known;
+      known = planned.known;
       calendars = are;
       value = value;
       sound = subst (λ bs. AreSound s bs) (sym value)
-          (sound s planned.lawful are known.clusters known.flows law (turns_planned s) lens);
-      counts = subst (λ bs. AreCounted cs bs) (sym made) (counted t turns fs cs all.counts);
+          (sound s planned.lawful are planned.known.clusters planned.known.flows law (turns_planned s) lens);
+      counts = subst (λ bs. AreCounted cs bs) (sym value) (counted (round_plan s) (fills_of s) cs counts);
     }
 
 -- The end.

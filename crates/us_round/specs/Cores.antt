@@ -2,6 +2,8 @@
 -- channel by themselves; and what the channels of a round keep on the way.
 use Rattle.std.specs.Prelude.{◌≡◌, ℕ, ◌+◌, ◌*◌, ◌≤◌, List, [], length, map, filter_map, replicate, sum_by}
 use Rattle.std.specs.List.{AllByRecursion}
+use Rattle.us_slots.specs.Times.{minislot_ticks}
+use Rattle.us_flows.specs.Ranges.{max_round_ticks}
 use Rattle.us_flows.specs.declared.channels.Channel.{Channel}
 use Rattle.us_flows.specs.Tables.{Tables, map_len, max_run_ticks}
 use Rattle.us_flows.specs.Lawful.{IsChannel}
@@ -80,6 +82,10 @@ pub record IsFilledFor (t : Tables) (f : Filled) : Type 0 where
   pub len : length f.board.cells ≡ map_len t f.channel
   pub inside : AllByRecursion (calendars.StartsInside (length f.board.cells)) f.settled
   pub few : granted_in f.settled ≤ f.board.standing
+
+-- the MAP of a channel has at most so many ticks as any has
+abbrev pub HasFewTicks : Filled → Type 0
+HasFewTicks f = length f.board.cells * minislot_ticks f.channel.bursts.time ≤ max_round_ticks
 
 -- how many occurrences the calendars of channels settled in a round, and so far
 abbrev pub settled_now : List Filled → ℕ

@@ -1,10 +1,10 @@
--- Read in this order: the reserves of a board; where shares are granted; the round and the schedule; what a round gives,
+-- Read in this order: the reserves of a board; where claims are granted; the round and the schedule; what a round gives,
 -- and its laws; then examples. What calendars settle stands in us_calendar. In a definition `≡` is equals, `×` and, `→`
 -- implies, `++` one list behind another, `∷` one item before a list, and ℕ has the whole numbers from 0; `-` stops at 0.
 
 -- minislots that belong to all modems
 pub mod Reserves
--- where a share is granted
+-- where a claim is granted
 pub mod Placements
 -- a round, and the schedule
 pub mod Rounds
@@ -38,9 +38,7 @@ pub mod Plays
 pub mod PlayLaws
 -- and small lists of steps
 pub mod StepExamples
--- inside the crate, and of no use to a reader of the promise: the claims of a plan as it is kept
-pub mod Claims
--- what a ledger of steps keeps,
+-- inside the crate, and of no use to a reader of the promise: what a ledger of steps keeps,
 pub mod Accounts
 -- a state without its calendars,
 pub mod Cores

@@ -1,10 +1,11 @@
 -- Where shares are granted on small boards, computed by the definitions alone.
-use Rattle.std.specs.Prelude.{◌≡◌, ℕ, [], ◌∷◌, replicate, Some, None, refl}
+use Rattle.std.specs.Prelude.{◌≡◌, ℕ, ◌+◌, [], ◌∷◌, replicate, Some, None, refl}
 use Rattle.us_slots.specs.Examples.{base_profile}
-use Rattle.us_slots.specs.Bursts.{ChannelBursts, coded_length, burst_cost}
+use Rattle.us_slots.specs.Bursts.{ChannelBursts, coded_length, burst_cost, grant_cost}
 use Rattle.us_slots.specs.Capacities.{greatest_up_to, capacity_of}
 use Rattle.us_holes.specs.Boards.{Owner, Board, empty_board, assign, first_of, longest_up_to}
-use Rattle.us_round.specs.Placements.{Claimant, Claim, PlacedClaim, spot, grant_of, grants_of}
+use Rattle.us_split.specs.Claims.{Claimant, Claim}
+use Rattle.us_round.specs.Placements.{PlacedClaim, spot, grant_of, grants_of}
 
 -- minislots of 2 ticks, at 5,120 ksym/s for a rate of 5, at half of that for 4
 abbrev bursts_at : ℕ → ChannelBursts
@@ -26,9 +27,18 @@ held_at one other = assign (assign (empty_board 160) one 1 broadcast_request) ot
 abbrev claimant : Claimant
 claimant = record { cluster = 0; place = 0; flow = 1; list = 0 }
 
--- a share behind a header
+-- the claim of a share behind a header, at a rate of 5
 abbrev claim : ℕ → ℕ → Claim
-claim header share = record { claimant = claimant; sid = 291; header = header; share = share }
+claim header share = record {
+  claimant = claimant;
+  turn = 0;
+  position = 0;
+  sid = 291;
+  header = header;
+  share = share;
+  slots = (grant_cost (bursts_at 5) (share + header)).0;
+  iuc = (grant_cost (bursts_at 5) (share + header)).1;
+}
 
 -- a grant by its start, its minislots, its IUC and its credit
 abbrev grant : ℕ → ℕ → ℕ → ℕ → PlacedClaim

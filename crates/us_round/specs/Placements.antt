@@ -1,55 +1,10 @@
--- Placing (ours): where each share of the plan is granted on its channel.
-use Rattle.std.specs.Prelude.{ℕ, ◌+◌, ◌-◌, ◌==◌, nat_lt, if◌then◌else◌, List, [], ◌∷◌, ◌++◌, length, filter_map, map, position, slice_index, Option, Some, None, option_map, option_and_then, option_to_list}
+-- Placing (ours): where each claim of the plan is granted on its channel.
+use Rattle.std.specs.Prelude.{ℕ, ◌+◌, ◌-◌, ◌==◌, if◌then◌else◌, List, [], ◌∷◌, ◌++◌, length, map, Option, Some, None, option_map, option_and_then, option_to_list}
 use Rattle.std.specs.Option.{option_or}
 use Rattle.us_slots.specs.Bursts.{ChannelBursts, grant_cost}
 use Rattle.us_slots.specs.Capacities.{capacity_of}
-use Rattle.us_flows.specs.Clusters.{Turn}
 use Rattle.us_holes.specs.Boards.{Board, Assignment, is_full, assign, least_fit, longest_idle}
-use Rattle.us_split.specs.Plans.{Planned, header_bytes}
-
--- Claims.
-
--- the SID cluster that a claim or a grant is of: its number among all clusters, the place of its flow in the table, the
--- flow's id, and its place in the flow
-pub record Claimant : Type 0 where
-  pub cluster : ℕ
-  pub place : ℕ
-  pub flow : ℕ
-  pub list : ℕ
-
-abbrev pub claimant_of : Turn → Claimant
-claimant_of turn = record {
-  cluster = turn.number;
-  place = turn.place;
-  flow = turn.cluster.flow.id;
-  list = turn.cluster.list;
-}
-
--- a share of a turn on a channel, above 0, with the SID there and the bytes of its segment header
-pub record Claim : Type 0 where
-  pub claimant : Claimant
-  pub sid : ℕ
-  pub header : ℕ
-  pub share : ℕ
-
--- the claim of a planned turn on its flow's channel at this place, if it has a share there
-abbrev pub claim_at : Planned → ℕ → Option Claim
-claim_at planned place =
-    if nat_lt 0 (slice_index planned.shares place) then Some (record {
-      claimant = claimant_of planned.turn;
-      sid = slice_index planned.turn.cluster.sids place;
-      header = header_bytes planned.turn.cluster.flow;
-      share = slice_index planned.shares place;
-    }) else None
-
--- and on the channel with this id
-abbrev pub claim_on : ℕ → Planned → Option Claim
-claim_on id planned =
-    option_and_then (claim_at planned) (position (λ channel. channel == id) planned.turn.cluster.flow.channels)
-
--- all claims on a channel, in the order of turns
-unfoldable pub claims : ℕ → List Planned → List Claim
-claims id plan = filter_map (claim_on id) plan
+use Rattle.us_split.specs.Claims.{Claimant, Claim}
 
 -- Spots.
 

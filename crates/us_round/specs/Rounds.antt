@@ -9,8 +9,9 @@ use Rattle.us_calendar.specs.Calendars as calendars
 use Rattle.us_calendar.specs.Calendars.{Calendar, Ran}
 use Rattle.us_calendar.specs.declared.settled.Settled.{Settled}
 use Rattle.us_split.specs.Plans.{Planned, plan_for}
+use Rattle.us_split.specs.Claims.{Claim, claims_on}
 use Rattle.us_round.specs.Reserves.{reserves}
-use Rattle.us_round.specs.Placements.{PlacedClaim, claims, grants_of, intervals}
+use Rattle.us_round.specs.Placements.{PlacedClaim, grants_of, intervals}
 
 -- what a round starts from: the tables, its number, the outstanding bytes of each cluster, the bucket of each flow, and
 -- the calendar of each channel
@@ -72,10 +73,10 @@ pub record Built : Type 0 where
   pub settled : List Settled
   pub grants : List PlacedClaim
 
--- each channel places its claims, and reads no other channel's board
-unfoldable pub build_on : List Planned → Filled → Built
-build_on plan f =
-    let grants : List PlacedClaim = grants_of f.channel.bursts f.board (claims f.channel.id plan) in
+-- a channel with these claims placed
+abbrev pub build_with : List Claim → Filled → Built
+build_with claims f =
+    let grants : List PlacedClaim = grants_of f.channel.bursts f.board claims in
     record {
       channel = f.channel;
       board = assign_all f.board (intervals grants);
@@ -83,6 +84,10 @@ build_on plan f =
       settled = f.settled;
       grants = grants;
     }
+
+-- each channel places its claims of the plan, and reads no other channel's board
+unfoldable pub build_on : List Planned → Filled → Built
+build_on plan f = build_with (claims_on f.channel plan) f
 
 -- The end of a round.
 

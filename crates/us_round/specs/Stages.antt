@@ -1,17 +1,17 @@
 -- Inside the crate, and of no use to a reader of the promise: what stands at each stage of a round, whoever does its
 -- channels.
-use Rattle.std.specs.Prelude.{◌≡◌, ℕ, ◌+◌, ◌*◌, ◌≤◌, List, length, map, sum_by}
+use Rattle.std.specs.Prelude.{◌≡◌, ℕ, ◌+◌, ◌*◌, ◌≤◌, List, [], Some, length, map, slice_get, slice_index_or, sum_by}
 use Rattle.std.specs.List.{AllByRecursion}
 use Rattle.us_flows.specs.Lawful.{AreTables}
+use Rattle.us_crew.specs.Values.{values_of}
 use Rattle.us_bucket.specs.Levels.{bytes_in}
 use Rattle.us_holes.specs.Boards.{max_assignments}
 use Rattle.us_calendar.specs.Calendars.{Calendar, settled_in}
 use Rattle.us_split.specs.PlanLaws.{IsLawfulPlan}
-use Rattle.us_split.specs.Shares.{TurnShares, with_shares}
-use Rattle.us_round.specs.Rounds.{State, Filled, Built, idle, fills_of, builds_of, round_from}
+use Rattle.us_split.specs.Claims.{Claim, AreClaims, IsClaimOn, all_claims}
+use Rattle.us_round.specs.Rounds.{State, Filled, Built, idle, fills_of, build_with, builds_of, round_from}
 use Rattle.us_round.specs.Outputs.{RoundOut, out_of, AreWithinLimits}
 use Rattle.us_round.specs.States.{AreSound, settled_by}
-use Rattle.us_round.specs.Claims.{AreKeptBursts}
 use Rattle.us_round.specs.Cores.{Core, IsCore, AreCalendars, AreCounted, IsFilledFor, settled_now, settled_then, plan_over, with_calendars}
 
 -- it has begun: the state has come apart, and what is outstanding is told
@@ -28,11 +28,21 @@ pub record AreFilled (core : Core) (cs : List Calendar) (fs : List Filled) : Typ
   pub counts : settled_now fs + sum_by settled_in cs ≡ settled_then fs
 
 -- the boards are planned together,
-pub record IsPlanned (core : Core) (fs : List Filled) (kept : List TurnShares) : Type 0 where
-  pub value : kept ≡ with_shares 0 (plan_over core fs)
+pub record IsPlanned (core : Core) (fs : List Filled) (plan : List (List Claim)) : Type 0 where
+  pub known : IsCore core
+  pub value : plan ≡ all_claims core.tables (plan_over core fs)
   pub law : IsLawfulPlan core.tables core.outstanding (map bytes_in core.buckets) (idle fs) (plan_over core fs)
-  pub bursts : AllByRecursion (AreKeptBursts core.tables) kept
+  pub claims : AreClaims core.tables (plan_over core fs)
   pub lawful : AreTables core.tables
+
+-- which gives each channel claims that can be placed there,
+abbrev pub AreClaimsOn : List (List Claim) → List Filled → Type 0
+AreClaimsOn plan fs = (place : ℕ) (f : Filled) → slice_get fs place ≡ Some f →
+    AllByRecursion (IsClaimOn f.channel) (slice_index_or plan place [])
+
+-- each channel places its own,
+abbrev pub built_by : List (List Claim) → List Filled → List Built
+built_by plan fs = values_of (λ place f. build_with (slice_index_or plan place []) f) fs
 
 -- all claims are placed,
 pub record AreBuilt (core : Core) (cs : List Calendar) (bs : List Built) : Type 0 where

@@ -1,12 +1,11 @@
-ghost use Rattle.std.specs.Prelude.{◌≡◌, ◌+◌, ◌*◌, ◌^◌, ◌<◌, ◌≤◌, length, map, zip, IfOk};
+ghost use Rattle.std.specs.Prelude.{◌≡◌, ◌+◌, ◌*◌, ◌^◌, ◌<◌, ◌≤◌, length, zip, IfOk};
 ghost use Rattle.std.specs.List.{AllByRecursion};
 ghost use Rattle.us_flows.specs.Tables.{max_run_ticks};
 ghost use Rattle.us_flows.specs.Clusters.{clusters_of};
-ghost use Rattle.us_round.specs.Claims as kept;
-ghost use Rattle.us_round.specs.Cores.{AreCalendars};
+ghost use Rattle.us_round.specs.Cores.{AreCalendars, HasFewTicks};
 ghost use Rattle.us_round.specs.Rounds as spec;
 ghost use Rattle.us_round.specs.Outputs.{out_of};
-ghost use Rattle.us_round.specs.Stages.{AreFilled, AreBuilt};
+ghost use Rattle.us_round.specs.Stages.{AreClaimsOn, AreFilled, AreBuilt, built_by};
 
 use crate::building::{Built, Filled, build_on, fill};
 use crate::cores::Core;
@@ -16,9 +15,8 @@ use crate::round_outs::RoundOut;
 use crate::rounds::{begin, finish, plan_round};
 use crate::states::State;
 use std::alloc::Global;
-use us_flows::Config;
 use us_slots::NoMemory;
-use us_split::TurnShares;
+use us_split::Plan;
 
 /// The round of a state and a cut, all of whose channels the calling thread does, one after another.
 pub(crate) fn round_alone(
@@ -52,7 +50,7 @@ fn build_alone(
 {
     let filled = fill_each(alloc, core, calendars)?;
     let plan = plan_round(alloc, core, demands, &filled)?;
-    build_each(alloc, core.config(), plan.turns(), filled)
+    build_each(alloc, &plan, filled)
 }
 
 /// The channels of a round in table order, each after its reserves and its calendar.
@@ -73,19 +71,15 @@ fn fill_each(alloc: Global, core: &Core, calendars: Vec<Lane>) -> Result<Vec<Fil
 }
 
 /// Places the claims of a plan on all channels.
-fn build_each(
-    alloc: Global,
-    config: &Config,
-    plan: &[TurnShares],
-    all: Vec<Filled>,
-) -> Result<Vec<Built>, NoMemory>
-    requires bursts { AllByRecursion (kept.AreKeptBursts config.now) plan.now }
-    requires ticks { AllByRecursion (kept.HasFewTicks) all.items }
-    ensures { IfOk result (λ builds. builds.items ≡ map (kept.kept_build config.now plan.now) all.items) }
+fn build_each(alloc: Global, plan: &Plan, all: Vec<Filled>) -> Result<Vec<Built>, NoMemory>
+    requires claims { AreClaimsOn plan.now all.items }
+    requires ticks { AllByRecursion HasFewTicks all.items }
+    ensures { IfOk result (λ builds. builds.items ≡ built_by plan.now all.items) }
 {
     let mut builds = Vec::with_capacity(alloc, all.len())?;
     for filled in all {
-        builds.push(build_on(alloc, config, plan, filled)?)?;
+        let place = builds.len();
+        builds.push(build_on(alloc, plan.claims(place), filled)?)?;
     }
     Ok(builds)
 }

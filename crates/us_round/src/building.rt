@@ -5,11 +5,11 @@ ghost use Rattle.us_flows.specs.Lawful.{IsChannel};
 ghost use Rattle.us_flows.specs.Tables.{max_run_ticks};
 ghost use Rattle.us_calendar.specs.Calendars.{IsCalendar, pace_of};
 ghost use Rattle.us_holes.specs.Boards.{assign_all, free_count};
-ghost use Rattle.us_round.specs.Claims as kept;
-ghost use Rattle.us_round.specs.Placements.{intervals, with_grant};
+ghost use Rattle.us_split.specs.Claims.{IsClaimOn};
+ghost use Rattle.us_round.specs.Cores.{HasFewTicks};
+ghost use Rattle.us_round.specs.Placements.{grant_of, grants_of, intervals, with_grant};
 ghost use Rattle.us_round.specs.Rounds as spec;
 
-use crate::claims::claim_on;
 use crate::lanes::{Lane, Track};
 use crate::placing::{PlacedClaim, place};
 use crate::reserving::reserves;
@@ -19,7 +19,7 @@ use us_calendar::Settled;
 use us_flows::{Channel, Config};
 use us_holes::{Board, MAX_ASSIGNMENTS};
 use us_slots::{MAX_MAP_TICKS, NoMemory};
-use us_split::TurnShares;
+use us_split::Claim;
 
 /// A channel whose reserves stand, and what its calendar settled.
 #[derive(Drop)]
@@ -121,16 +121,11 @@ pub(crate) fn fill(
     })
 }
 
-/// Places the claims of a plan on a channel.
-pub(crate) fn build_on(
-    alloc: Global,
-    config: &Config,
-    plan: &[TurnShares],
-    filled: Filled,
-) -> Result<Built, NoMemory>
-    requires bursts { AllByRecursion (kept.AreKeptBursts config.now) plan.now }
-    requires ticks { kept.HasFewTicks filled }
-    ensures value { IfOk result (λ built. built ≡ kept.kept_build config.now plan.now filled) }
+/// Places claims on a channel.
+pub(crate) fn build_on(alloc: Global, claims: &[Claim], filled: Filled) -> Result<Built, NoMemory>
+    requires claims { AllByRecursion (IsClaimOn filled.channel) claims.now }
+    requires ticks { HasFewTicks filled }
+    ensures value { IfOk result (λ built. built ≡ spec.build_with claims.now filled) }
     ensures len { IfOk result (λ built. length built.board.cells ≡ length filled.board.cells) }
 {
     let Filled {
@@ -138,7 +133,7 @@ pub(crate) fn build_on(
         mut track,
         settled,
     } = filled;
-    let grants = grant_all(alloc, config, &channel, plan, &mut track.board)?;
+    let grants = grant_all(alloc, &channel, claims, &mut track.board)?;
     Ok(Built {
         channel,
         track,
@@ -147,46 +142,42 @@ pub(crate) fn build_on(
     })
 }
 
-/// Grants what the turns of a plan claim on a channel, one after another.
+/// Grants claims on a channel, one after another.
 fn grant_all(
     alloc: Global,
-    config: &Config,
     channel: &Channel,
-    plan: &[TurnShares],
+    claims: &[Claim],
     board: &mut Board,
 ) -> Result<Vec<PlacedClaim>, NoMemory>
-    requires bursts { AllByRecursion (kept.AreKeptBursts config.now) plan.now }
+    requires claims { AllByRecursion (IsClaimOn channel.now) claims.now }
     requires ticks { length board.old.cells * minislot_ticks channel.now.bursts.time ≤ MAX_MAP_TICKS }
-    ensures grants { IfOk result (λ grants. grants.items ≡ kept.kept_grants config.now channel.now board.old plan.now) }
+    ensures grants { IfOk result (λ grants. grants.items ≡ grants_of channel.now.bursts board.old claims.now) }
     ensures board { OnOk result
-        (board.new ≡ assign_all board.old (intervals (kept.kept_grants config.now channel.now board.old plan.now))) }
+        (board.new ≡ assign_all board.old (intervals (grants_of channel.now.bursts board.old claims.now))) }
     ensures len { length board.new.cells ≡ length board.old.cells }
 {
-    let mut grants = Vec::with_capacity(alloc, plan.len().min(MAX_ASSIGNMENTS as usize))?;
-    for turn in plan {
-        grant_turn(config, channel, turn, board, &mut grants)?;
+    let mut grants = Vec::with_capacity(alloc, claims.len().min(MAX_ASSIGNMENTS as usize))?;
+    for claim in claims {
+        grant_one(channel, claim, board, &mut grants)?;
     }
     Ok(grants)
 }
 
-/// Grants what a turn claims on a channel, if it has a share there. Only a grant needs memory.
-fn grant_turn(
-    config: &Config,
+/// Grants a claim on a channel, if it has a place there. Only a grant needs memory.
+fn grant_one(
     channel: &Channel,
-    turn: &TurnShares,
+    claim: &Claim,
     board: &mut Board,
     grants: &mut Vec<PlacedClaim>,
 ) -> Result<(), NoMemory>
-    requires bursts { kept.AreKeptBursts config.now turn.now }
+    requires claim { IsClaimOn channel.now claim.now }
     requires ticks { length board.old.cells * minislot_ticks channel.now.bursts.time ≤ MAX_MAP_TICKS }
     ensures grants { OnOk result (grants.new.items ≡
-        grants.old.items ++ option_to_list (kept.kept_grant config.now channel.now board.old turn.now)) }
-    ensures board { board.new ≡ with_grant board.old (kept.kept_grant config.now channel.now board.old turn.now) }
+        grants.old.items ++ option_to_list (grant_of channel.now.bursts board.old claim.now)) }
+    ensures board { board.new ≡ with_grant board.old (grant_of channel.now.bursts board.old claim.now) }
     ensures len { length board.new.cells ≡ length board.old.cells }
 {
-    if let Some(claim) = claim_on(config, channel.id, turn)
-        && let Some(grant) = place(board, &channel.bursts, &claim)
-    {
+    if let Some(grant) = place(board, &channel.bursts, claim) {
         grants.push(grant)?;
     }
     Ok(())

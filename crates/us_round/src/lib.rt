@@ -24,10 +24,7 @@ mod lanes;
 // The reserves of a round's boards.
 mod reserving;
 
-// Who is granted what: claims and grants,
-mod claims;
-
-// minislots that are assigned where they fit,
+// Who is granted what: minislots that are assigned where they fit,
 mod assigning;
 
 // where a claim is placed,

@@ -1,11 +1,11 @@
-ghost use Rattle.std.specs.Prelude.{◌≡◌, ◌+◌, ◌*◌, ◌≤◌, ⊤, length, map, zip, IfOk, Ok, OnOk};
+ghost use Rattle.std.specs.Prelude.{◌≡◌, ◌+◌, ◌*◌, ◌≤◌, ⊤, [], length, slice_index_or, zip, IfOk, Ok, OnOk};
 ghost use Rattle.std.specs.List.{AllByRecursion};
 ghost use Rattle.us_flows.specs.Tables.{max_run_ticks};
 ghost use Rattle.us_flows.specs.Lawful.{AreTables};
-ghost use Rattle.us_round.specs.Claims as kept;
-ghost use Rattle.us_round.specs.Cores.{AreCalendars, IsReady};
+ghost use Rattle.us_split.specs.Claims.{IsClaimOn};
+ghost use Rattle.us_round.specs.Cores.{AreCalendars, HasFewTicks, IsReady};
 ghost use Rattle.us_round.specs.Rounds as spec;
-ghost use Rattle.us_round.specs.Stages.{AreFilled};
+ghost use Rattle.us_round.specs.Stages.{AreClaimsOn, AreFilled, built_by};
 
 use crate::building::{Built, Filled, build_on, fill};
 use crate::cores::Core;
@@ -15,7 +15,7 @@ use std::thread::Threads;
 use us_crew::{CrewFault, Gate, Phase, Work, map_owned};
 use us_flows::{Channel, Config};
 use us_slots::NoMemory;
-use us_split::TurnShares;
+use us_split::Plan;
 
 /// Does the reserves and the calendar of a channel.
 #[derive(Clone, Copy)]
@@ -39,25 +39,24 @@ impl<'a> Work<(Channel, Lane), Filled, NoMemory> for Filling<'a> {
     }
 }
 
-/// Places the claims of a plan on a channel.
+/// Places the claims of a plan on the channel at each place.
 #[derive(Clone, Copy)]
 struct Building<'a> {
-    config: &'a Config,
-    plan: &'a [TurnShares],
+    plan: &'a Plan,
 }
 
 impl<'a> Work<Filled, Built, NoMemory> for Building<'a> {
-    ghost accepts = { λ work _ item.
-        AllByRecursion (kept.AreKeptBursts work.config.now) work.plan.now × kept.HasFewTicks item };
+    ghost accepts = { λ work index item.
+        AllByRecursion (IsClaimOn item.channel) (slice_index_or work.plan.now index []) × HasFewTicks item };
 
-    ghost value = { λ work _ item. kept.kept_build work.config.now work.plan.now item };
+    ghost value = { λ work index item. spec.build_with (slice_index_or work.plan.now index []) item };
 
     ghost may_fail = { λ _ _ _ _. ⊤ };
 
     ghost must_fail = { λ _ _ _. ⊥ };
 
-    fn run(&self, alloc: Global, _index: usize, item: Filled) -> Result<Built, NoMemory> {
-        build_on(alloc, self.config, self.plan, item)
+    fn run(&self, alloc: Global, index: usize, item: Filled) -> Result<Built, NoMemory> {
+        build_on(alloc, self.plan.claims(index), item)
     }
 }
 
@@ -104,17 +103,16 @@ pub(crate) fn with_channels(
 pub(crate) fn build_all<H: Threads + Sync, G: Gate + Sync>(
     threads: &H,
     alloc: Global,
-    config: &Config,
-    plan: &[TurnShares],
+    plan: &Plan,
     all: Vec<Filled>,
     workers: usize,
     gate: &G,
 ) -> Result<Vec<Built>, NoMemory>
-    requires bursts { AllByRecursion (kept.AreKeptBursts config.now) plan.now }
-    requires ticks { AllByRecursion (kept.HasFewTicks) all.items }
-    ensures { IfOk result (λ builds. builds.items ≡ map (kept.kept_build config.now plan.now) all.items) }
+    requires claims { AreClaimsOn plan.now all.items }
+    requires ticks { AllByRecursion HasFewTicks all.items }
+    ensures { IfOk result (λ builds. builds.items ≡ built_by plan.now all.items) }
 {
-    let work = Building { config, plan };
+    let work = Building { plan };
     answers(map_owned(threads, alloc, &work, Phase::Build, all, workers, gate))
 }
 

@@ -6,10 +6,10 @@ ghost use Rattle.us_holes.specs.Placements.{HasNoRoom};
 ghost use Rattle.us_round.specs.Placements as spec;
 
 use crate::assigning::assign;
-use crate::claims::{Claim, Claimant};
 use std::marker::Model;
 use us_holes::{Board, Owner, Placed};
 use us_slots::{BurstSet, MAX_BURST_BYTES, MAX_MAP_TICKS, capacity, grant_cost};
+use us_split::{Claim, Claimant};
 
 /// A claim that was placed.
 #[derive(Clone, Copy)]
@@ -49,14 +49,14 @@ impl PlacedClaim {
     pub(crate) fn cluster(self) -> usize
         ensures { result ≡ self.claimant.cluster }
     {
-        self.claimant.cluster
+        usize::from(self.claimant.cluster)
     }
 
     /// The place of its flow.
     pub(crate) fn place(self) -> usize
         ensures { result ≡ self.claimant.place }
     {
-        self.claimant.place
+        usize::from(self.claimant.place)
     }
 
     /// The bytes that it credits, without the header.
@@ -87,7 +87,9 @@ impl Model for Spot {
 pub(crate) fn place(board: &mut Board, bursts: &BurstSet, claim: &Claim) -> Option<PlacedClaim>
     requires sid { claim.now.sid < 2 ^ 14 }
     requires some { 1 ≤ claim.now.share }
-    requires bytes { claim.now.share + claim.now.header ≤ MAX_BURST_BYTES }
+    requires minislots { 1 ≤ claim.now.slots }
+    requires slots { claim.now.slots ≡ (bursts_spec.grant_cost bursts.now (claim.now.share + claim.now.header)).0 }
+    requires iuc { claim.now.iuc ≡ (bursts_spec.grant_cost bursts.now (claim.now.share + claim.now.header)).1 }
     requires ticks { length board.old.cells * minislot_ticks bursts.now.time ≤ MAX_MAP_TICKS }
     ensures grant { result ≡ spec.grant_of bursts.now board.old claim.now }
     ensures board { board.new ≡ spec.with_grant board.old (spec.grant_of bursts.now board.old claim.now) }
@@ -98,9 +100,8 @@ pub(crate) fn place(board: &mut Board, bursts: &BurstSet, claim: &Claim) -> Opti
     ensures few { IfSome result (λ grant. grant.credit ≤ claim.now.share) }
     ensures inside { IfSome result (λ grant. grant.interval.start < length board.old.cells) }
 {
-    let (slots, iuc) = grant_cost(bursts, claim.share + claim.header);
-    let owner = Owner::new(claim.sid, iuc);
-    match board.place_earliest(0, board.len() - 1, slots, owner) {
+    let owner = Owner::new(claim.sid, claim.iuc);
+    match board.place_earliest(0, board.len() - 1, claim.slots, owner) {
         Placed::At(start, slots) => Some(PlacedClaim {
             claimant: claim.claimant,
             start,
@@ -127,7 +128,7 @@ fn place_part(board: &mut Board, bursts: &BurstSet, claim: &Claim) -> Option<Pla
     ensures inside { IfSome result (λ grant. grant.interval.start < length board.old.cells) }
 {
     let spot = carried(board, bursts, claim)?;
-    let (slots, iuc) = grant_cost(bursts, spot.credit + claim.header);
+    let (slots, iuc) = grant_cost(bursts, spot.credit + u32::from(claim.header));
     let owner = Owner::new(claim.sid, iuc);
     assign(board, spot.start, slots, owner);
     Some(PlacedClaim {
@@ -153,7 +154,9 @@ fn carried(board: &Board, bursts: &BurstSet, claim: &Claim) -> Option<Spot>
         fits board.now (bursts_spec.grant_cost bursts.now (spot.credit + claim.now.header)).0 spot.start ≡ true) }
 {
     let (start, slots) = board.longest()?;
-    let credit = capacity(bursts.time(), bursts.long(), slots).saturating_sub(claim.header);
+    let credit = capacity(bursts.time(), bursts.long(), slots).saturating_sub(u32::from(
+        claim.header,
+    ));
     if credit == 0 {
         None
     } else {

@@ -108,15 +108,7 @@ fn build<H: Threads + Sync, G: Gate + Sync>(
 {
     let filled = fill_all(threads, alloc, core, calendars, workers, gate)?;
     let plan = plan_round(alloc, core, demands, &filled)?;
-    build_all(
-        threads,
-        alloc,
-        core.config(),
-        plan.turns(),
-        filled,
-        workers,
-        gate,
-    )
+    build_all(threads, alloc, &plan, filled, workers, gate)
 }
 
 /// The plan of a round that has begun, over boards with reserves and calendars.

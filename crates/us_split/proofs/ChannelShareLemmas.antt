@@ -11,7 +11,7 @@ use Rattle.us_split.proofs.DivisionLemmas.{sum-cons}
 
 -- positions
 
-first_place : (p : ℕ → Bool) (x : ℕ) (xs : List ℕ) → p x ≡ true → position p (x ∷ xs) ≡ Some 0
+pub first_place : (p : ℕ → Bool) (x : ℕ) (xs : List ℕ) → p x ≡ true → position p (x ∷ xs) ≡ Some 0
 first_place p x xs t =
     let within : nat_lt 0 (suc (length xs)) ≡ true = lt-ltb 0 (suc (length xs)) (omega arith) in
     rw (t, within) refl

@@ -1,8 +1,8 @@
 pub mod DivisionLemmas
-pub mod BudgetLemmas
-pub mod GrantLemmas
+pub mod ChannelPlanLemmas
+pub mod DraftLemmas
 pub mod TurnAtLemmas
 pub mod ShareLemmas
 pub mod PlanLawLemmas
-pub mod KeptLemmas
+pub mod ClaimLemmas
 pub mod ChannelShareLemmas

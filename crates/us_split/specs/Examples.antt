@@ -9,12 +9,12 @@ use Rattle.us_flows.specs.Tables.{FlowTable, Tables}
 use Rattle.us_flows.specs.Clusters.{turns_of}
 use Rattle.us_split.specs.Divisions.{divided}
 use Rattle.us_split.specs.Plans.{weights, shares_of, cost_on, after_turn, plan_of, plan_for}
-use Rattle.us_split.specs.Shares.{TurnShares, with_shares, share_of}
+use Rattle.us_split.specs.Claims.{Claim, claims_from, all_claims, share_of}
 
 -- what these computations unfold
 unfoldable all_steps : ⊤
 unfolding coded_length burst_cost greatest_up_to capacity_of turns_of divided weights shares_of cost_on after_turn
-    plan_of plan_for with_shares
+    plan_of plan_for claims_from
 all_steps = tt
 
 -- Division.
@@ -114,16 +114,51 @@ no_room :
 unfolding all_steps
 no_room = (refl, refl)
 
--- As it is kept.
+-- Claims.
 
--- the first cluster asks for nothing
-abbrev second_only : List TurnShares
-second_only = with_shares 0 (plan_for (bonded (1 ∷ 2 ∷ [])) (0 ∷ 7 ∷ []) (None ∷ []) (150 ∷ 150 ∷ []))
+-- a claim of this turn at this position, of the cluster of this number, with this SID, share, minislots and IUC
+abbrev claim : ℕ → ℕ → ℕ → ℕ → ℕ → ℕ → ℕ → Claim
+claim turn position number sid share slots iuc = record {
+  claimant = record { cluster = number; place = 0; flow = 1; list = number };
+  turn = turn;
+  position = position;
+  sid = sid;
+  header = 8;
+  share = share;
+  slots = slots;
+  iuc = iuc;
+}
 
-kept_turns :
-    (second_only ≡ record { turn = 1; shares = 4 ∷ 3 ∷ [] } ∷ []) ×
+-- the claims on each channel, where the flow has these channels, and so much is outstanding
+abbrev claims_for : List ℕ → ℕ → ℕ → ℕ → ℕ → List (List Claim)
+claims_for channels first second one two =
+    all_claims (bonded channels)
+    (plan_for (bonded channels) (first ∷ second ∷ []) (None ∷ []) (one ∷ two ∷ []))
+
+-- both clusters on both channels: 4,008 bytes are 126 minislots, 752 bytes 24, all of them long data grants
+bonded_claims : claims_for (1 ∷ 2 ∷ []) 8000 2000 150 150 ≡
+    (claim 0 0 0 291 4000 126 10 ∷ claim 1 0 1 293 744 24 10 ∷ []) ∷
+    (claim 0 1 0 292 4000 126 10 ∷ claim 1 1 1 294 744 24 10 ∷ []) ∷ []
+unfolding all_steps
+bonded_claims = refl
+
+-- a channel's claim has the SID that stands at the channel's position among the flow's, wherever the channel stands in the
+-- table; 143 bytes are 5 minislots, a short data grant, and a share of 0 is no claim
+turned_claims :
+    (claims_for (2 ∷ 1 ∷ []) 1001 0 150 24 ≡
+    (claim 0 1 0 292 866 28 10 ∷ []) ∷ (claim 0 0 0 291 135 5 9 ∷ []) ∷ []) ×
+    (claims_for (1 ∷ 2 ∷ []) 1000 0 0 150 ≡ [] ∷ (claim 0 1 0 292 1000 32 10 ∷ []) ∷ [])
+unfolding all_steps
+turned_claims = (refl, refl)
+
+-- the first cluster asks for nothing, and the second one's shares are looked up
+abbrev second_only : List (List Claim)
+second_only = claims_for (1 ∷ 2 ∷ []) 0 7 150 150
+
+looked_up :
     (share_of second_only 1 0 ≡ 4) ×
+    (share_of second_only 1 1 ≡ 3) ×
     (share_of second_only 1 2 ≡ 0) ×
     (share_of second_only 0 0 ≡ 0)
 unfolding all_steps
-kept_turns = (refl, refl, refl, refl)
+looked_up = (refl, refl, refl, refl)

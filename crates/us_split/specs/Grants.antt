@@ -1,40 +1,129 @@
--- Inside the crate: a turn by its places, and what a ledger gives it.
-use Rattle.std.specs.Prelude.{◌≡◌, ◌≢◌, ℕ, ◌-◌, ◌<◌, ◌==◌, if◌then◌else◌, List, length, map, position, slice_index_or, sum, Option, MatchOption}
-use Rattle.us_flows.specs.Tables.{FlowTable}
+-- Inside the crate: a turn by its places, and a plan in the making.
+use Rattle.std.specs.Prelude.{◌≡◌, ℕ, ◌+◌, ◌-◌, ◌^◌, ◌<◌, ◌==◌, if◌then◌else◌, List, [], ◌∷◌, ◌++◌, length, map, find, position, slice_index, slice_get, slice_index_or, zip, Option, Some, option_to_list}
+use Rattle.us_slots.specs.Bursts.{grant_cost}
+use Rattle.us_flows.specs.declared.channels.Channel.{Channel}
+use Rattle.us_flows.specs.Tables.{Tables, FlowTable}
 use Rattle.us_flows.specs.Clusters.{Turn}
-use Rattle.us_split.specs.Plans.{Budget, Ledger, Planned, after_turn, header_bytes, share_at, share_cost}
+use Rattle.us_flows.specs.declared.turns.Turn as places
+use Rattle.us_split.specs.Plans.{Budget, Ledger, Planned, shares_of, cost_on, header_bytes, allowed_less}
+use Rattle.us_split.specs.Claims.{Claimant, Claim, claimant_of, claim_on}
 
--- a turn of the flow that stands at a place
-pub record IsTurnOf (place : ℕ) (flow : FlowTable) (turn : Turn) : Type 0 where
-  pub at : turn.place ≡ place
+-- a turn of a flow, by its places, none of which is past 16 bits
+pub record IsTurnOf (u : places.Turn) (flow : FlowTable) (turn : Turn) : Type 0 where
+  pub number : turn.number ≡ u.cluster
+  pub place : turn.place ≡ u.flow
+  pub list : turn.cluster.list ≡ u.list
   pub own : turn.cluster.flow ≡ flow
+  pub sids : slice_get flow.clusters u.list ≡ Some turn.cluster.sids
 
--- the budget at a place is that of the channel with this id
-pub record IsPlaceOf (budgets : List Budget) (id place : ℕ) : Type 0 where
-  pub within : place < length budgets
-  pub own : (b : Budget) → (slice_index_or budgets place b).channel.id ≡ id
+-- its places, and the flow's id, are small
+pub record IsSmall (u : places.Turn) : Type 0 where
+  pub cluster : u.cluster < 2 ^ 16
+  pub flow : u.flow < 2 ^ 16
+  pub list : u.list < 2 ^ 8
 
--- a budget without what a share on the channel with this id costs behind a header
-abbrev pub lowered_at : ℕ → ℕ → ℕ → Budget → Budget
-lowered_at id header share b = record {
-  channel = b.channel;
-  slots = b.slots - (if b.channel.id == id then share_cost b.channel header share else 0);
+-- a channel, the minislots that are still to be planned on it, and the claims so far
+pub record ChannelPlan : Type 0 where
+  pub channel : Channel
+  pub slots : ℕ
+  pub claims : List Claim
+
+-- the same without its claims
+abbrev pub budget_in : ChannelPlan → Budget
+budget_in c = record { channel = c.channel; slots = c.slots }
+
+-- what is planned with this id
+abbrev pub channel_of : List ChannelPlan → ℕ → Option ChannelPlan
+channel_of channels id = find (λ c. c.channel.id == id) channels
+
+-- what stands at a place is the channel with this id
+pub record IsPlaceOf (channels : List ChannelPlan) (id place : ℕ) : Type 0 where
+  pub within : place < length channels
+  pub own : (c : ChannelPlan) → (slice_index_or channels place c).channel.id ≡ id
+
+-- who claims: a cluster, the place of its turn, and the bytes of its segment header
+pub record Asker : Type 0 where
+  pub claimant : Claimant
+  pub turn : ℕ
+  pub header : ℕ
+
+abbrev pub asker_of : ℕ → Turn → Asker
+asker_of place turn = record { claimant = claimant_of turn; turn = place; header = header_bytes turn.cluster.flow }
+
+-- its claim of a share on a channel
+abbrev pub claim_of : Asker → ℕ → ℕ → ℕ → ChannelPlan → Claim
+claim_of asker position sid share c = record {
+  claimant = asker.claimant;
+  turn = asker.turn;
+  position = position;
+  sid = sid;
+  header = asker.header;
+  share = share;
+  slots = (grant_cost c.channel.bursts (share + asker.header)).0;
+  iuc = (grant_cost c.channel.bursts (share + asker.header)).1;
 }
 
--- and without what shares on these channels cost
-abbrev pub lowered_on : List ℕ → ℕ → List ℕ → Budget → Budget
-lowered_on channels header shares b = record {
-  channel = b.channel;
-  slots = b.slots -
-      share_cost b.channel header (share_at shares (position (λ channel. channel == b.channel.id) channels));
+-- with such a claim a channel has fewer minislots left
+abbrev pub with_claim : Asker → ℕ → ℕ → ℕ → ChannelPlan → ChannelPlan
+with_claim asker position sid share c = record {
+  channel = c.channel;
+  slots = c.slots - (grant_cost c.channel.bursts (share + asker.header)).0;
+  claims = c.claims ++ claim_of asker position sid share c ∷ [];
 }
 
--- budgets without what shares of a flow cost
-abbrev pub lowered_by : FlowTable → List ℕ → List Budget → List Budget
-lowered_by flow shares budgets = map (lowered_on flow.channels (header_bytes flow) shares) budgets
+-- no share is no claim
+abbrev pub with_share : Asker → ℕ → ℕ → ℕ → ChannelPlan → ChannelPlan
+with_share asker position sid share c = if share == 0 then c else with_claim asker position sid share c
 
--- a turn gets its shares, or nothing where these have no byte, and both leave what is left after it
-pub record IsGrant (given : Option (List ℕ)) (new old : Ledger) (planned : Planned) : Type 0 where
-  pub shares : MatchOption given (sum planned.shares ≡ 0)
-      (λ shares. (shares ≡ planned.shares) × (sum planned.shares ≢ 0))
-  pub after : new ≡ after_turn old planned
+-- a share on the channel with this id
+abbrev pub claimed_at : Asker → ℕ → ℕ → ℕ → ℕ → ChannelPlan → ChannelPlan
+claimed_at asker position id sid share c =
+    if c.channel.id == id then with_share asker position sid share c else c
+
+-- shares on the channels with these ids, from a position on
+unfoldable pub claimed_from : Asker → ℕ → List ℕ → List ℕ → List ℕ → ChannelPlan → ChannelPlan
+claimed_from asker position [] sids shares c = c
+claimed_from asker position (id ∷ ids) sids shares c =
+    claimed_from asker (position + 1) ids sids shares
+    (claimed_at asker position id (slice_index sids position) (slice_index shares position) c)
+
+-- a planned turn, by its place: what its share on the channel costs is taken, and claimed
+abbrev pub with_turn : ℕ → Planned → ChannelPlan → ChannelPlan
+with_turn place planned c = record {
+  channel = c.channel;
+  slots = c.slots - cost_on c.channel planned;
+  claims = c.claims ++ option_to_list (claim_on c.channel place planned);
+}
+
+-- a plan in the making: its channels, and what turns still are allowed
+pub record Draft : Type 0 where
+  pub channels : List ChannelPlan
+  pub allowances : List (Option ℕ)
+
+-- before the first turn
+abbrev pub idle_draft : Tables → List (Option ℕ) → List ℕ → Draft
+idle_draft t allowances idle = record {
+  channels = map (λ pair. record { channel = pair.0; slots = pair.1; claims = [] }) (zip t.channels idle);
+  allowances = allowances;
+}
+
+-- what turns still may plan with
+abbrev pub ledger_in : Draft → Ledger
+ledger_in draft = record { budgets = map budget_in draft.channels; allowances = draft.allowances }
+
+-- after a planned turn
+unfoldable pub drafted : ℕ → Planned → Draft → Draft
+drafted place planned draft = record {
+  channels = map (with_turn place planned) draft.channels;
+  allowances = allowed_less planned draft.allowances;
+}
+
+-- a turn with the shares that such a plan gives it
+abbrev pub planned_in : List ℕ → Draft → Turn → Planned
+planned_in outstanding draft turn = record { turn = turn; shares = shares_of outstanding (ledger_in draft) turn }
+
+-- after all turns, of which the first has this place
+unfoldable pub drafted_all : List ℕ → ℕ → Draft → List Turn → Draft
+drafted_all outstanding place draft [] = draft
+drafted_all outstanding place draft (turn ∷ turns) =
+    drafted_all outstanding (place + 1) (drafted place (planned_in outstanding draft turn) draft) turns

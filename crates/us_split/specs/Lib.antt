@@ -1,5 +1,5 @@
--- Read in this order: the division of bytes over channels; the plan of a round; what of it is kept; what holds of every
--- plan.
+-- Read in this order: the division of bytes over channels; the plan of a round; its claims, channel by channel; what holds
+-- of every plan.
 -- In a definition `≡` is equals, `≤` compares, `×` is and, `⊎` or, `→` implies, `∷` one item before a list, and ℕ has
 -- the whole numbers from 0; `-` stops at 0, and `/` rounds down.
 
@@ -7,11 +7,11 @@
 pub mod Divisions
 -- how many bytes each turn may send
 pub mod Plans
--- a plan as it is kept
-pub mod Shares
+-- what turns may send on each channel, and what it takes there
+pub mod Claims
 -- what holds of every plan
 pub mod PlanLaws
 -- the definitions at small inputs
 pub mod Examples
--- inside the crate, and of no use to a reader of the promise: what a ledger gives a turn
+-- inside the crate, and of no use to a reader of the promise: a plan in the making
 pub mod Grants

@@ -3,7 +3,7 @@ use Rattle.std.specs.Prelude.{◌≡◌, ◌⊎◌, ℕ, ◌+◌, ◌≤◌, ◌
 use Rattle.std.specs.List.{AllByRecursion}
 use Rattle.us_flows.specs.declared.channels.Channel.{Channel}
 use Rattle.us_flows.specs.Tables.{Tables}
-use Rattle.us_split.specs.Plans.{Planned, header_bytes, cost_on}
+use Rattle.us_split.specs.Plans.{Planned, header_bytes, cost_on, max_burst_bytes}
 
 -- at most so many bytes, where there is a limit
 abbrev pub Within : Option ℕ → ℕ → Type 0
@@ -17,7 +17,7 @@ planned_bytes plan = sum_by (λ planned. sum planned.shares) plan
 -- the shares of a turn and the header are at most the bytes of a burst
 abbrev pub AreBursts : Planned → Type 0
 AreBursts planned =
-    AllByRecursion (λ share. (share ≡ 0) ⊎ (share + header_bytes planned.turn.cluster.flow ≤ 98304)) planned.shares
+    AllByRecursion (λ share. (share ≡ 0) ⊎ (share + header_bytes planned.turn.cluster.flow ≤ max_burst_bytes)) planned.shares
 
 pub record IsLawfulPlan (t : Tables) (outstanding : List ℕ) (allowances : List (Option ℕ)) (idle : List ℕ)
     (plan : List Planned) : Type 0 where

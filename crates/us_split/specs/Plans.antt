@@ -7,9 +7,17 @@ use Rattle.us_flows.specs.Tables.{Tables, FlowTable, map_len}
 use Rattle.us_flows.specs.Clusters.{Turn, turns_of}
 use Rattle.us_split.specs.Divisions.{divided}
 
--- the bytes of a segment header
+-- the bytes of a segment header (the standard's)
+abbrev pub segment_header_bytes : ℕ
+segment_header_bytes = 8
+
+-- those of a flow: none where its grants carry no header
 abbrev pub header_bytes : FlowTable → ℕ
-header_bytes flow = if flow.headers then 8 else 0
+header_bytes flow = if flow.headers then segment_header_bytes else 0
+
+-- the most bytes of a burst
+abbrev pub max_burst_bytes : ℕ
+max_burst_bytes = 98304
 
 -- a channel and the minislots that are still to be planned on it
 pub record Budget : Type 0 where

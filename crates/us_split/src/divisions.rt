@@ -1,9 +1,11 @@
 ghost use Rattle.std.specs.Prelude.{◌≡◌, ℕ, ◌+◌, ◌-◌, ◌*◌, ◌/◌, ◌==◌, ◌<◌, ◌≤◌, ◌||◌, not, nat_lt, if◌then◌else◌, length, map, sum, min, slice_index};
 ghost use Rattle.std.specs.List.{AllByRecursion};
+ghost use Rattle.us_flows.specs.Ranges.{max_channels_of_flow};
 ghost use Rattle.us_split.specs.Divisions.{topped_up, divided};
+ghost use Rattle.us_split.specs.Plans.{max_burst_bytes};
 
 /// The most channels of a flow (ours).
-pub const MAX_CHANNELS: usize = 8;
+pub const MAX_CHANNELS_OF_FLOW: usize = 8;
 
 /// Divides bytes over channels by their weights, the most bytes that each can take, and writes what each channel gets
 /// to `shares`.
@@ -13,15 +15,15 @@ pub const MAX_CHANNELS: usize = 8;
 #[tactic(auto, using(crate::proofs::DivisionLemmas::division_facts))]
 pub fn divide(bytes: u64, weights: &[u32], shares: &mut [u32])
     requires same_length { length weights.now ≡ length shares.old }
-    requires few { length weights.now ≤ 8 }
-    requires bursts { AllByRecursion (λ weight. weight ≤ 98304) weights.now }
+    requires few { length weights.now ≤ max_channels_of_flow }
+    requires bursts { AllByRecursion (λ weight. weight ≤ max_burst_bytes) weights.now }
     ensures value { shares.new ≡ divided bytes weights.now }
     ensures all { sum shares.new ≡ min bytes (sum weights.now) }
     ensures within { (channel : ℕ) → slice_index shares.new channel ≤ slice_index weights.now channel }
     ensures one_each { length shares.new ≡ length weights.now }
 
     // The limit that the condition names.
-    ensures limit { MAX_CHANNELS ≡ 8 }
+    ensures limit { MAX_CHANNELS_OF_FLOW ≡ max_channels_of_flow }
 {
     let total = sum_of(weights);
     if bytes >= total {
@@ -33,7 +35,7 @@ pub fn divide(bytes: u64, weights: &[u32], shares: &mut [u32])
 
 /// All weights together.
 pub(crate) fn sum_of(weights: &[u32]) -> u64
-    requires { length weights.now ≤ 8 }
+    requires { length weights.now ≤ max_channels_of_flow }
     ensures { result ≡ sum weights.now }
 {
     let mut total = 0;
@@ -47,7 +49,7 @@ pub(crate) fn sum_of(weights: &[u32]) -> u64
 #[tactic(auto, using(crate::proofs::DivisionLemmas::part_within))]
 fn part_of(bytes: u64, total: u64, weight: u32) -> u32
     requires below { bytes < total }
-    requires small { total ≤ 786432 }
+    requires small { total ≤ max_channels_of_flow * max_burst_bytes }
     ensures value { result ≡ bytes * weight / total }
     ensures within { result ≤ weight }
 {
@@ -57,7 +59,7 @@ fn part_of(bytes: u64, total: u64, weight: u32) -> u32
 /// The bytes that are left over where each channel gets its part.
 fn left_over(bytes: u64, total: u64, weights: &[u32]) -> u64
     requires below { bytes < total }
-    requires small { total ≤ 786432 }
+    requires small { total ≤ max_channels_of_flow * max_burst_bytes }
     ensures { result ≡ bytes - sum (map (λ weight. bytes * weight / total) weights.now) }
 {
     let mut left = bytes;
@@ -80,7 +82,7 @@ fn byte_more(left: u64, part: u32, weight: u32) -> u32
 fn top_up(bytes: u64, total: u64, weights: &[u32], shares: &mut [u32])
     requires same_length { length weights.now ≡ length shares.old }
     requires below { bytes < total }
-    requires small { total ≤ 786432 }
+    requires small { total ≤ max_channels_of_flow * max_burst_bytes }
     ensures { shares.new ≡ topped_up (bytes - sum (map (λ weight. bytes * weight / total) weights.now))
         (map (λ weight. (bytes * weight / total, weight)) weights.now) }
 {

@@ -1,4 +1,5 @@
-//! The plan of a round: how many bytes each turn may send on each of its flow's channels.
+//! The plan of a round: how many bytes each turn may send on each of its flow's channels, and so what each channel is to
+//! grant.
 //!
 //! ```
 //! let mut shares = [0; 3];
@@ -11,28 +12,28 @@
 // Bytes over channels, by their weights.
 mod divisions;
 
-// The minislots that are still to be planned on a channel.
-mod budgets;
+// What a turn may send on a channel.
+mod claims;
 
-// A number for each channel of a flow.
-mod rows;
+// What is planned on a channel.
+mod channel_plans;
 
-// What turns still may plan with.
-mod ledgers;
+// Bytes for each channel of a flow.
+mod shares;
 
-// The shares of a turn.
-mod turn_shares;
+// What is planned on all channels: while it is made,
+mod drafts;
 
-// A plan as it is kept: the turns that have a share.
+// and in the end.
 mod plans;
 
 // The plan of a round.
 mod planning;
 
-pub use divisions::{MAX_CHANNELS, divide};
+pub use claims::{Claim, Claimant};
+pub use divisions::{MAX_CHANNELS_OF_FLOW, divide};
 pub use planning::{plan, plan_with};
 pub use plans::Plan;
-pub use turn_shares::TurnShares;
 
 #[cfg(test)]
 mod tests;

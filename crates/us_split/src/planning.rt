@@ -2,12 +2,11 @@ ghost use Rattle.std.specs.Prelude.{◌≡◌, ℕ, [], length, map, slice_index
 ghost use Rattle.us_flows.specs.Clusters.{clusters_of};
 ghost use Rattle.us_flows.specs.Lawful.{AreTables};
 ghost use Rattle.us_split.specs.Plans.{IsIdle, plan_for};
-ghost use Rattle.us_split.specs.Shares.{share_of, with_shares};
+ghost use Rattle.us_split.specs.Claims.{AreClaims, all_claims, share_of};
 ghost use Rattle.us_split.specs.PlanLaws.{IsLawfulPlan};
 
-use crate::ledgers::Ledger;
+use crate::drafts::Draft;
 use crate::plans::Plan;
-use crate::turn_shares::TurnShares;
 use std::alloc::Global;
 use us_flows::Config;
 use us_slots::NoMemory;
@@ -30,13 +29,17 @@ pub fn plan(
     requires flows { length allowances.now ≡ length config.now.flows }
     requires idle { IsIdle config.now idle.now }
     ensures value { IfOk result (λ plan. plan ≡
-        with_shares 0 (plan_for config.now outstanding.now allowances.now idle.now)) }
+        all_claims config.now (plan_for config.now outstanding.now allowances.now idle.now)) }
 
     // No channel, cluster or flow gives more than it has.
     ensures law { IsLawfulPlan config.now outstanding.now allowances.now idle.now
         (plan_for config.now outstanding.now allowances.now idle.now) }
 
-    // The share of each turn on each of its channels, whether it is kept or not.
+    // Each claim on a channel is a burst there, at its cost.
+    ensures claims { AreClaims config.now
+        (plan_for config.now outstanding.now allowances.now idle.now) }
+
+    // The share of each turn on each of its channels, whether it is above 0 or not.
     ensures shares { IfOk result (λ plan. (turn position : ℕ) → share_of plan turn position ≡
         slice_index (slice_index_or (map (λ planned. planned.shares)
         (plan_for config.now outstanding.now allowances.now idle.now)) turn []) position) }
@@ -61,31 +64,30 @@ pub fn plan_with(
     requires flows { length allowances.items ≡ length config.now.flows }
     requires idle { IsIdle config.now idle.now }
     ensures value { IfOk result (λ plan. plan ≡
-        with_shares 0 (plan_for config.now outstanding.now allowances.items idle.now)) }
+        all_claims config.now (plan_for config.now outstanding.now allowances.items idle.now)) }
 
     // No channel, cluster or flow gives more than it has.
     ensures law { IsLawfulPlan config.now outstanding.now allowances.items idle.now
         (plan_for config.now outstanding.now allowances.items idle.now) }
 
-    // The share of each turn on each of its channels, whether it is kept or not.
+    // Each claim on a channel is a burst there, at its cost.
+    ensures claims { AreClaims config.now
+        (plan_for config.now outstanding.now allowances.items idle.now) }
+
+    // The share of each turn on each of its channels, whether it is above 0 or not.
     ensures shares { IfOk result (λ plan. (turn position : ℕ) → share_of plan turn position ≡
         slice_index (slice_index_or (map (λ planned. planned.shares)
         (plan_for config.now outstanding.now allowances.items idle.now)) turn []) position) }
     ensures lawful { AreTables config.now }
 {
     let turns = config.turns();
-    let mut ledger = Ledger::new(alloc, config, allowances, idle)?;
-    let mut plan = Plan::new(alloc);
+    let mut draft = Draft::new(alloc, config, allowances, idle)?;
     for (place, turn) in turns.iter().enumerate() {
         let bytes = outstanding[turn.cluster];
         if bytes == 0 {
             continue;
         }
-        let flow = &config.flows()[turn.flow];
-        match ledger.grant(bytes, turn.flow, flow) {
-            Some(shares) => plan.push(TurnShares::new(place, shares))?,
-            None => {}
-        }
+        draft.grant(place as u16, turn, &config.flows()[turn.flow], bytes)?;
     }
-    Ok(plan)
+    Ok(draft.into_plan())
 }

@@ -1,47 +1,48 @@
-ghost use Rattle.std.specs.Prelude.{◌≡◌, List, [], ◌∷◌, ◌++◌, OnOk};
-ghost use Rattle.us_split.specs.Shares;
-ghost use Rattle.us_split.specs.Shares.{share_of};
+ghost use Rattle.std.specs.Prelude.{◌≡◌, List, [], map, find, slice_index_or};
+ghost use Rattle.us_split.specs.Claims.{is_at, share_of};
 
-use crate::turn_shares::TurnShares;
-use std::alloc::Global;
+use crate::channel_plans::ChannelPlan;
+use crate::claims::Claim;
 use std::marker::Model;
-use us_slots::NoMemory;
 
-/// The plan of a round: the turns that have a share, in order.
+/// The plan of a round: the claims on each channel.
 #[derive(Drop)]
 pub struct Plan {
-    turns: Vec<TurnShares>,
+    channels: Vec<ChannelPlan>,
 }
 
 impl Model for Plan {
-    ghost Value = { List Shares.TurnShares };
+    ghost use Rattle.std.specs.Prelude.{List, map};
+    ghost use Rattle.us_split.specs.Claims as spec;
 
-    ghost view = { λ plan. plan.turns.items };
+    ghost Value = { List (List spec.Claim) };
+
+    ghost view = { λ plan. map (λ c. c.claims) plan.channels.items };
 }
 
 impl Plan {
-    /// No turn has a share.
-    pub(crate) fn new(alloc: Global) -> Plan
-        ensures { result ≡ [] }
+    /// What is planned on each channel, in table order.
+    pub(crate) fn new(channels: Vec<ChannelPlan>) -> Plan
+        ensures { result ≡ map (λ c. c.claims) channels.items }
     {
-        Plan {
-            turns: Vec::new(alloc),
+        Plan { channels }
+    }
+
+    /// The claims on the channel at this place of the table, in the order of turns; none where there is no such channel.
+    pub fn claims(&self, channel: usize) -> &[Claim]
+        ensures { result.now ≡ slice_index_or self.now channel [] }
+    {
+        match self.channels.get(channel) {
+            Some(plan) => plan.claims(),
+            None => &[],
         }
     }
 
-    /// Puts the shares of a turn behind those of the turns before it.
-    pub(crate) fn push(&mut self, shares: TurnShares) -> Result<(), NoMemory>
-        ensures { OnOk result (self.new ≡ self.old ++ shares ∷ []) }
+    /// What is planned on each channel.
+    fn channel_plans(&self) -> &[ChannelPlan]
+        ensures { map (λ c. c.claims) result.now ≡ self.now }
     {
-        self.turns.push(shares)?;
-        Ok(())
-    }
-
-    /// The turns that have a share, in order.
-    pub fn turns(&self) -> &[TurnShares]
-        ensures { result.now ≡ self.now }
-    {
-        &self.turns
+        &self.channels
     }
 
     /// The bytes that a turn, by its place among all turns of a round, may send on the flow's channel at this position;
@@ -49,11 +50,23 @@ impl Plan {
     pub fn share(&self, turn: usize, position: usize) -> u32
         ensures { result ≡ share_of self.now turn position }
     {
-        for shares in &self.turns {
-            if shares.turn() == turn {
-                return shares.share(position);
+        for channel in self.channel_plans() {
+            if let Some(claim) = found_in(channel.claims(), turn, position) {
+                return claim.share;
             }
         }
         0
     }
+}
+
+/// The claim of that turn and position, if it is one of these.
+fn found_in(claims: &[Claim], turn: usize, position: usize) -> Option<Claim>
+    ensures { result ≡ find (is_at turn position) claims.now }
+{
+    for claim in claims {
+        if claim.is_at(turn, position) {
+            return Some(*claim);
+        }
+    }
+    None
 }

@@ -1,7 +1,7 @@
 ghost use Rattle.std.specs.Prelude.{IsTrue};
 ghost use Rattle.us_split.specs.Plans.{IsIdle};
 
-use crate::{Plan, plan};
+use crate::{Claim, Plan, plan};
 use std::alloc::{AllocError, Global};
 use std::process::Abort;
 use us_flows::Config;
@@ -46,7 +46,7 @@ pub struct Case<'a> {
     pub outstanding: &'a [u64],
     pub allowances: &'a [Option<u64>],
     pub idle: &'a [u32],
-    /// The turns that have a share, each with its shares.
+    /// The claims, as `tell` tells them.
     pub answer: &'a str,
 }
 
@@ -97,20 +97,40 @@ pub fn plan_of(alloc: Global, config: &Config, case: &Case<'_>) -> Option<Result
     }
 }
 
-/// The turns of a plan that have a share: `0: 4000 4000, 1: 744 744`. Each share is looked up too.
-pub fn tell(alloc: Global, plan: &Plan) -> Result<String, AllocError> {
+/// The claims of a plan, by the places of channels, as turn, SID, share, minislots and IUC: `0: 0 291 4000 126 10,
+/// 1 293 744 24 10; 1: 0 292 4000 126 10`. Each share is looked up too.
+pub fn tell(alloc: Global, plan: &Plan, channels: usize) -> Result<String, AllocError> {
     let mut text = String::new(alloc);
-    for shares in plan.turns() {
-        if !text.is_empty() {
-            text.push_str(", ")?;
+    for channel in 0..channels {
+        let claims = plan.claims(channel);
+        if claims.is_empty() {
+            continue;
         }
-        write!(text, "{}:", shares.turn())?;
-        for (position, share) in shares.shares().iter().enumerate() {
-            write!(text, " {share}")?;
-            if plan.share(shares.turn(), position) != *share {
-                text.push_str(" (not found)")?;
-            }
+        write!(
+            text,
+            "{}{channel}:",
+            if text.is_empty() { "" } else { "; " }
+        )?;
+        for (place, claim) in claims.iter().enumerate() {
+            write!(text, "{}", if place == 0 { " " } else { ", " })?;
+            tell_claim(&mut text, plan, claim)?;
         }
     }
     Ok(text)
+}
+
+fn tell_claim(text: &mut String, plan: &Plan, claim: &Claim) -> Result<(), AllocError> {
+    let Claim {
+        turn,
+        sid,
+        share,
+        slots,
+        iuc,
+        ..
+    } = *claim;
+    write!(text, "{turn} {sid} {share} {slots} {}", iuc.number())?;
+    if plan.share(usize::from(turn), usize::from(claim.position)) != share {
+        text.push_str(" (not found)")?;
+    }
+    Ok(())
 }

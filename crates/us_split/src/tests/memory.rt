@@ -12,7 +12,7 @@ fn refused_memory(rt: HostRuntime) -> Result<(), Fail> {
     let Some(Ok(plan)) = plan_of(rt.alloc(), &config, &TWO_CLUSTERS) else {
         return Ok(());
     };
-    if let Ok(told) = tell(rt.alloc(), &plan) {
+    if let Ok(told) = tell(rt.alloc(), &plan, 2) {
         same(&rt, told.as_str(), TWO_CLUSTERS.answer, "whole");
     }
     Ok(())

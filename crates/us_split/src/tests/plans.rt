@@ -16,7 +16,7 @@ pub const TWO_CLUSTERS: Case<'static> = Case {
     outstanding: &[8000, 2000],
     allowances: &[None],
     idle: &[150, 150],
-    answer: "0: 4000 4000, 1: 744 744",
+    answer: "0: 0 291 4000 126 10, 1 293 744 24 10; 1: 0 292 4000 126 10, 1 294 744 24 10",
 };
 
 const CASES: &[Case<'static>] = &[
@@ -25,21 +25,21 @@ const CASES: &[Case<'static>] = &[
         name: "clusters of one flow share its allowance",
         outstanding: &[1000, 1000],
         allowances: &[Some(1500)],
-        answer: "0: 500 500, 1: 250 250",
+        answer: "0: 0 291 500 17 10, 1 293 250 9 9; 1: 0 292 500 17 10, 1 294 250 9 9",
         ..TWO_CLUSTERS
     },
     Case {
         name: "an allowance is spent in mid-turn",
         outstanding: &[1000, 1000],
         allowances: &[Some(701)],
-        answer: "0: 351 350",
+        answer: "0: 0 291 351 12 10; 1: 0 292 350 12 10",
         ..TWO_CLUSTERS
     },
     Case {
         name: "no room on a channel",
         outstanding: &[1000, 0],
         idle: &[0, 150],
-        answer: "0: 0 1000",
+        answer: "1: 0 292 1000 32 10",
         ..TWO_CLUSTERS
     },
     Case {
@@ -59,7 +59,7 @@ headers = true",
         ],
         outstanding: &[1001],
         idle: &[150, 24],
-        answer: "0: 135 866",
+        answer: "0: 0 292 866 28 10; 1: 0 291 135 5 9",
         ..TWO_CLUSTERS
     },
     Case {
@@ -80,7 +80,7 @@ headers = false",
         outstanding: &[5000, 4016],
         allowances: &[None, Some(1_000_000)],
         idle: &[150],
-        answer: "0: 4016, 1: 744",
+        answer: "0: 0 292 4016 126 10, 1 291 744 24 10",
     },
     Case {
         name: "eight channels",
@@ -95,7 +95,7 @@ headers = true",
         outstanding: &[1003],
         allowances: &[None],
         idle: &[150, 150, 150, 150, 150, 150, 150, 150],
-        answer: "0: 126 126 126 125 125 125 125 125",
+        answer: "0: 0 291 125 5 9; 1: 0 291 125 5 9; 2: 0 291 125 5 9; 3: 0 291 125 5 9; 4: 0 291 125 5 9; 5: 0 291 126 5 9; 6: 0 291 126 5 9; 7: 0 291 126 5 9",
     },
 ];
 
@@ -108,7 +108,7 @@ fn plans_of_rounds(rt: HostRuntime) -> Result<(), Fail> {
         };
         match plan_of(rt.alloc(), &config, case) {
             Some(Ok(plan)) => {
-                let told = tell(rt.alloc(), &plan)?;
+                let told = tell(rt.alloc(), &plan, usize::from(case.channels))?;
                 same(&rt, told.as_str(), case.answer, case.name);
             }
             Some(Err(_)) => same(&rt, "no memory", case.answer, case.name),

@@ -1,9 +1,7 @@
 use Rattle.std.proofs.Common.{◌≡◌, ◌∙◌, ap, refl}
-use Rattle.us_round.specs.Claims.{kept_build}
 use Rattle.us_round.proofs.building.build_on.Goals as goal
 
 pub returns-clause-value : goal.returns-clause-value
-unfolding kept_build
 returns-clause-value c =
     let channel : c.filled.inside.channel ≡ c.args.filled.channel = ap (λ f. f.channel) c.filled.view_is in
     let board : c.deref_mut.result.now.board ≡ c.args.filled.board =

@@ -2,26 +2,26 @@ use Rattle.std.proofs.Common.{◌∙◌}
 use Rattle.us_round.proofs.BuildLemmas.{build_more, build_end}
 use Rattle.us_round.proofs.building.grant_all.Goals as goal
 
-pub loop-turn-preserved : goal.loop-turn-preserved
-loop-turn-preserved c =
-    let more = build_more c.args.config.now c.args.channel.now c.args.plan.now c.loop-turn.turn-index
-    c.turn-item.result c.loop-turn.board c.grant_turn.new.board c.loop-turn.grants.items c.grant_turn.new.grants.items
-    _ _ c.loop-turn-test.true c.turn-item.is c.loop-turn.invariant.grants c.loop-turn.invariant.board
-    c.in_ok-grant_turn.ensures.grants c.grant_turn.ensures.board in
+pub loop-claim-preserved : goal.loop-claim-preserved
+loop-claim-preserved c =
+    let more = build_more c.args.channel.now.bursts c.args.claims.now c.loop-claim.claim-index
+    c.claim-item.result c.loop-claim.board c.grant_one.new.board c.loop-claim.grants.items c.grant_one.new.grants.items
+    _ _ c.loop-claim-test.true c.claim-item.is c.loop-claim.invariant.grants c.loop-claim.invariant.board
+    c.in_ok-grant_one.ensures.grants c.grant_one.ensures.board in
     record {
       grants = more.0;
       board = more.1;
-      len = c.grant_turn.ensures.len ∙ c.loop-turn.invariant.len;
+      len = c.grant_one.ensures.len ∙ c.loop-claim.invariant.len;
     }
 
 pub returns-clause-grants : goal.returns-clause-grants
 returns-clause-grants c =
-    (build_end c.args.config.now c.args.channel.now c.args.plan.now c.loop-turn.turn-index
-    c.loop-turn.board c.loop-turn.grants.items _ _ c.loop-turn-test.false c.loop-turn.invariant.grants
-    c.loop-turn.invariant.board).0
+    (build_end c.args.channel.now.bursts c.args.claims.now c.loop-claim.claim-index
+    c.loop-claim.board c.loop-claim.grants.items _ _ c.loop-claim-test.false c.loop-claim.invariant.grants
+    c.loop-claim.invariant.board).0
 
 pub returns-clause-board : goal.returns-clause-board
 returns-clause-board c =
-    (build_end c.args.config.now c.args.channel.now c.args.plan.now c.loop-turn.turn-index
-    c.loop-turn.board c.loop-turn.grants.items _ _ c.loop-turn-test.false c.loop-turn.invariant.grants
-    c.loop-turn.invariant.board).1
+    (build_end c.args.channel.now.bursts c.args.claims.now c.loop-claim.claim-index
+    c.loop-claim.board c.loop-claim.grants.items _ _ c.loop-claim-test.false c.loop-claim.invariant.grants
+    c.loop-claim.invariant.board).1

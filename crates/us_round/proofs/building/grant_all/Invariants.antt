@@ -1,14 +1,14 @@
 use Rattle.std.proofs.Common.{◌≡◌, ◌++◌, length, drop}
 use Rattle.us_holes.specs.Boards.{assign_all}
-use Rattle.us_round.specs.Placements.{intervals}
-use Rattle.us_round.specs.Claims.{kept_grants}
+use Rattle.us_round.specs.Placements.{grants_of, intervals}
 use Rattle.us_round.proofs.building.grant_all.Given as goal
 
-abbrev pub invariant-loop-turn : goal.invariant-loop-turn
-invariant-loop-turn l = record {
-  grants : l.grants.items ++ kept_grants l.config l.channel l.board (drop l.turn-index l.plan)
-      ≡ kept_grants l.config l.channel l.initial.board l.plan;
-  board : assign_all l.board (intervals (kept_grants l.config l.channel l.board (drop l.turn-index l.plan)))
-      ≡ assign_all l.initial.board (intervals (kept_grants l.config l.channel l.initial.board l.plan));
+-- the other claims are still to be granted
+abbrev pub invariant-loop-claim : goal.invariant-loop-claim
+invariant-loop-claim l = record {
+  grants : l.grants.items ++ grants_of l.channel.bursts l.board (drop l.claim-index l.claims)
+      ≡ grants_of l.channel.bursts l.initial.board l.claims;
+  board : assign_all l.board (intervals (grants_of l.channel.bursts l.board (drop l.claim-index l.claims)))
+      ≡ assign_all l.initial.board (intervals (grants_of l.channel.bursts l.initial.board l.claims));
   len : length l.board.cells ≡ length l.initial.board.cells;
 }

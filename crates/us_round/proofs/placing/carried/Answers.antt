@@ -9,7 +9,7 @@ returns-else-credit-eq0-clause-few c =
     let carries : IsCapacity (burst_cost c.args.bursts.now.time c.args.bursts.now.long) c.in_ok-start.slots c.capacity.result =
     rw (c.time.ensures.value, c.long.ensures.value) at c.capacity.ensures.greatest in
     let credit : c.saturating_sub-credit.result ≡ c.capacity.result - c.args.claim.now.header =
-    c.saturating_sub-credit.ensures ∙ ap (λ claim. c.capacity.result - claim.header) c.claim.view_is in
+    c.saturating_sub-credit.ensures ∙ ap (λ n. c.capacity.result - n) (c.from.ensures ∙ ap (λ claim. claim.header) c.claim.view_is) in
     let some : 0 < c.capacity.result - c.args.claim.now.header = omega (arith, credit) in
     rw credit (carried_less c.args.bursts.now c.args.board.now c.in_ok-start.start c.in_ok-start.slots c.capacity.result
     c.args.claim.now.header c.args.claim.now.share c.time.ensures.in_range c.requires.room c.in_ok-start.ensures.longest
@@ -20,7 +20,7 @@ returns-else-credit-eq0-clause-fits c =
     let carries : IsCapacity (burst_cost c.args.bursts.now.time c.args.bursts.now.long) c.in_ok-start.slots c.capacity.result =
     rw (c.time.ensures.value, c.long.ensures.value) at c.capacity.ensures.greatest in
     let credit : c.saturating_sub-credit.result ≡ c.capacity.result - c.args.claim.now.header =
-    c.saturating_sub-credit.ensures ∙ ap (λ claim. c.capacity.result - claim.header) c.claim.view_is in
+    c.saturating_sub-credit.ensures ∙ ap (λ n. c.capacity.result - n) (c.from.ensures ∙ ap (λ claim. claim.header) c.claim.view_is) in
     let some : 0 < c.capacity.result - c.args.claim.now.header = omega (arith, credit) in
     rw credit (carried_fits c.args.bursts.now c.args.board.now c.in_ok-start.start c.in_ok-start.slots c.capacity.result
     c.args.claim.now.header _ c.requires.room c.in_ok-start.ensures.longest carries some)

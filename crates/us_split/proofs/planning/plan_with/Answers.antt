@@ -1,116 +1,142 @@
-use Rattle.std.proofs.Common.{◌≡◌, List, None, refl, ◌+◌, ◌++◌, [], ◌∷◌, ◌≤◌, length, drop, get_or, MatchOption, ap, ap₂, ◌∙◌, sym, subst, append-nil, arith}
+use Rattle.std.proofs.Common.{◌≡◌, ◌<◌, ℕ, ◌+◌, ◌≤◌, length, map, drop, get_or, ap, ◌∙◌, sym, subst, arith}
 use Rattle.std.specs.Prelude.{slice_index, sum}
 use Rattle.std.proofs.lemmas.List.{drop_all}
-use Rattle.us_flows.specs.Clusters.{Turn, turns_of}
+use Rattle.std.proofs.lemmas.List.Elements.{All-from_recursion}
+use Rattle.us_flows.specs.Clusters.{clusters_of, turns_of}
 use Rattle.us_flows.specs.Lawful.{AreApart}
 use Rattle.us_flows.specs.declared.turns.Turn as places
-use Rattle.us_split.specs.Plans.{Planned, plan_of, plan_for, shares_of}
-use Rattle.us_split.specs.Shares.{with_shares, share_of}
-use Rattle.us_split.specs.Grants.{IsTurnOf, IsGrant}
-use Rattle.us_split.proofs.GrantLemmas.{plan_step, grants_nothing}
-use Rattle.us_split.proofs.KeptLemmas.{share_of-kept}
+use Rattle.us_split.specs.Plans.{Planned}
+use Rattle.us_split.specs.Claims.{share_of}
+use Rattle.us_split.specs.Grants.{IsTurnOf, Draft, drafted, drafted_all, ledger_in, planned_in}
+use Rattle.us_split.proofs.ChannelPlanLemmas.{ids, idle_apart}
+use Rattle.us_split.proofs.ClaimLemmas.{plan_for-claims, share_of-plan}
+use Rattle.us_split.proofs.DraftLemmas.{claims_of_plan, drafted_apart, drafted_flows, drafted_more, nothing_drafted}
 use Rattle.us_split.proofs.PlanLawLemmas.{shares_of-asked}
-use Rattle.us_split.proofs.TurnAtLemmas.{turn_of, no_turns, few_channels, channels_apart}
+use Rattle.us_split.proofs.TurnAtLemmas.{turn_of, no_turns, few_channels, channels_apart, place_small, turn_small}
 use Rattle.us_split.proofs.planning.plan_with.Goals as goal
-use Rattle.us_split.proofs.planning.plan_with.Goals.{in-Some+in_ok-push-in-Some, in-None}
 
 abbrev blank : places.Turn
 blank = record { flow = 0; list = 0; cluster = 0 }
 
 pub loop-place-init : goal.loop-place-init
-unfolding plan_for
 loop-place-init c = record {
-  shares = ap₂ (λ kept l. kept ++ with_shares 0 (plan_of c.args.outstanding.now l (turns_of c.args.config.now))) c.new-plan.ensures c.in_ok-ledger.ensures;
-  flows = ap (λ l. length l.allowances) c.in_ok-ledger.ensures;
+  drafted = ap (λ d. drafted_all c.args.outstanding.now 0 d (turns_of c.args.config.now)) c.in_ok-draft.ensures;
+  apart = subst (λ d. AreApart (ids d.channels)) (sym c.in_ok-draft.ensures)
+      (idle_apart c.args.config.now c.args.idle.now c.turns-turns.ensures.lawful c.requires.idle);
+  flows = ap (λ d. length d.allowances) c.in_ok-draft.ensures;
 }
+
+-- a cluster of which nothing is outstanding gets nothing
+pub loop-place-preserved-then-bytes-eq0 : goal.loop-place-preserved-then-bytes-eq0
+loop-place-preserved-then-bytes-eq0 c =
+    let t = c.args.config.now in
+    let place : ℕ = c.loop-place.place in
+    let draft : Draft = c.loop-place.draft in
+    let at = turn_of c.args.config.now c.turns-turns.result.now c.loop-place.place blank c.turns-turns.ensures.value c.loop-place-test.true in
+    let planned : Planned = planned_in c.args.outstanding.now draft at.turn in
+    let asked = ap (slice_index c.args.outstanding.now) at.number in
+    let none : sum planned.shares ≡ 0 = omega (arith, shares_of-asked c.args.outstanding.now (ledger_in draft) at.turn, asked, c.if-bytes-eq0.true) in
+    record {
+      drafted = drafted_more c.args.outstanding.now place draft draft at.turn (drop (place + 1) (turns_of t))
+          (nothing_drafted place planned draft none) ∙
+          ap (λ rest. drafted_all c.args.outstanding.now place draft rest) (sym at.rest) ∙
+          c.loop-place.invariant.drafted;
+      apart = c.loop-place.invariant.apart;
+      flows = c.loop-place.invariant.flows;
+    }
+
+pub overflow_cast-place : goal.overflow_cast-place
+overflow_cast-place c =
+    omega (arith, place_small c.args.config.now c.turns-turns.result.now c.loop-place.place c.turns-turns.ensures.lawful c.turns-turns.ensures.value c.loop-place-test.true)
 
 pub offset_bounds-flows-turn : goal.offset_bounds-flows-turn
 offset_bounds-flows-turn c =
-    let turn = turn_of c.args.config.now c.turns-turns.result.now c.loop-place.place blank c.turns-turns.ensures.value c.loop-place-test.true in
-    omega (arith, turn.within, ap length c.flows.ensures.value)
+    let at = turn_of c.args.config.now c.turns-turns.result.now c.loop-place.place blank c.turns-turns.ensures.value c.loop-place-test.true in
+    omega (arith, at.within, ap length c.flows.ensures.value)
 
 pub bounds-flows-turn : goal.bounds-flows-turn
 bounds-flows-turn c =
-    let turn = turn_of c.args.config.now c.turns-turns.result.now c.loop-place.place blank c.turns-turns.ensures.value c.loop-place-test.true in
-    omega (arith, turn.within, ap length c.flows.ensures.value)
+    let at = turn_of c.args.config.now c.turns-turns.result.now c.loop-place.place blank c.turns-turns.ensures.value c.loop-place-test.true in
+    omega (arith, at.within, ap length c.flows.ensures.value)
+
+pub grant-requires-clause-small : goal.grant-requires-clause-small
+grant-requires-clause-small c =
+    let at = turn_of c.args.config.now c.turns-turns.result.now c.loop-place.place blank c.turns-turns.ensures.value c.loop-place-test.true in
+    turn_small c.args.config.now (get_or c.turns-turns.result.now c.loop-place.place blank) c.loop-place.place
+    c.turns-turns.ensures.lawful at
+    (All-from_recursion (λ turn. turn.cluster < length (clusters_of c.args.config.now)) c.turns-turns.result.now
+    c.turns-turns.ensures.numbers c.loop-place.place blank c.loop-place-test.true)
 
 pub grant-requires-clause-place : goal.grant-requires-clause-place
 grant-requires-clause-place c =
-    let turn = turn_of c.args.config.now c.turns-turns.result.now c.loop-place.place blank c.turns-turns.ensures.value c.loop-place-test.true in
-    omega (arith, turn.within, c.loop-place.invariant.flows, c.requires.flows)
+    let at = turn_of c.args.config.now c.turns-turns.result.now c.loop-place.place blank c.turns-turns.ensures.value c.loop-place-test.true in
+    omega (arith, at.within, c.loop-place.invariant.flows, c.requires.flows)
 
 pub grant-requires-clause-few : goal.grant-requires-clause-few
 grant-requires-clause-few c =
     let u : places.Turn = get_or c.turns-turns.result.now c.loop-place.place blank in
-    let turn = turn_of c.args.config.now c.turns-turns.result.now c.loop-place.place blank c.turns-turns.ensures.value c.loop-place-test.true in
-    let few = few_channels c.args.config.now u.flow c.index-flows-turn.result c.turns-turns.ensures.lawful turn.within in
+    let at = turn_of c.args.config.now c.turns-turns.result.now c.loop-place.place blank c.turns-turns.ensures.value c.loop-place-test.true in
+    let few = few_channels c.args.config.now u.flow c.index-flows-turn.result c.turns-turns.ensures.lawful at.within in
     subst (λ f. length f.channels ≤ 8) (sym (c.index-flows-turn.is ∙ ap (λ flows. get_or flows u.flow c.index-flows-turn.result) c.flows.ensures.value)) few
 
 pub grant-requires-clause-apart : goal.grant-requires-clause-apart
 grant-requires-clause-apart c =
     let u : places.Turn = get_or c.turns-turns.result.now c.loop-place.place blank in
-    let turn = turn_of c.args.config.now c.turns-turns.result.now c.loop-place.place blank c.turns-turns.ensures.value c.loop-place-test.true in
-    let apart = channels_apart c.args.config.now u.flow c.index-flows-turn.result c.turns-turns.ensures.lawful turn.within in
+    let at = turn_of c.args.config.now c.turns-turns.result.now c.loop-place.place blank c.turns-turns.ensures.value c.loop-place-test.true in
+    let apart = channels_apart c.args.config.now u.flow c.index-flows-turn.result c.turns-turns.ensures.lawful at.within in
     subst (λ f. AreApart f.channels) (sym (c.index-flows-turn.is ∙ ap (λ flows. get_or flows u.flow c.index-flows-turn.result) c.flows.ensures.value)) apart
-
--- what the ledger gave
-given : (c : goal.Joined-grant) → (turn : Turn) ×
-    (drop c.loop-place.place (turns_of c.args.config.now) ≡ turn ∷ drop (c.loop-place.place + 1) (turns_of c.args.config.now)) ×
-    IsGrant c.grant.result c.grant.new.self c.loop-place.ledger (record { turn = turn; shares = shares_of c.args.outstanding.now c.loop-place.ledger turn })
-given c =
-    let u : places.Turn = get_or c.turns-turns.result.now c.loop-place.place blank in
-    let turn = turn_of c.args.config.now c.turns-turns.result.now c.loop-place.place blank c.turns-turns.ensures.value c.loop-place-test.true in
-    let flow = c.index-flows-turn.is ∙ ap (λ flows. get_or flows u.flow c.index-flows-turn.result) c.flows.ensures.value in
-    let own = subst (λ f. IsTurnOf u.flow f turn.turn) (sym flow) (turn.own c.index-flows-turn.result) in
-    let asked = ap (slice_index c.args.outstanding.now) turn.number in
-    (turn.turn, turn.rest, c.grant.ensures.value turn.turn c.args.outstanding.now own asked)
-
-kept : (c : goal.Joined-grant) → MatchOption c.grant.result (c.match-grant.plan ≡ c.loop-place.plan)
-    (λ shares. c.match-grant.plan ≡ c.loop-place.plan ++ record { turn = c.loop-place.place; shares = shares } ∷ [])
-kept c = elim c.match-grant.branch [
-  | in-Some+in_ok-push-in-Some w ↦
-      subst (λ o. MatchOption o (c.match-grant.plan ≡ c.loop-place.plan) (λ shares. c.match-grant.plan ≡ c.loop-place.plan ++ record { turn = c.loop-place.place; shares = shares } ∷ [])) (sym w.in-Some.is)
-      (w.plan-is ∙ w.in_ok-push-in-Some.ensures ∙ ap (λ s. c.loop-place.plan ++ s ∷ []) w.new-in-Some.ensures)
-  | in-None w ↦
-      subst (λ o. MatchOption o (c.match-grant.plan ≡ c.loop-place.plan) (λ shares. c.match-grant.plan ≡ c.loop-place.plan ++ record { turn = c.loop-place.place; shares = shares } ∷ [])) (sym w.in-None.is)
-      w.plan-is
-]
-
--- a cluster of which nothing is outstanding gets nothing
-pub loop-place-preserved-then-bytes-eq0 : goal.loop-place-preserved-then-bytes-eq0
-loop-place-preserved-then-bytes-eq0 c =
-    let turn = turn_of c.args.config.now c.turns-turns.result.now c.loop-place.place blank c.turns-turns.ensures.value c.loop-place-test.true in
-    let planned : Planned = record { turn = turn.turn; shares = shares_of c.args.outstanding.now c.loop-place.ledger turn.turn } in
-    let asked = ap (slice_index c.args.outstanding.now) turn.number in
-    let none : sum planned.shares ≡ 0 = omega (arith, shares_of-asked c.args.outstanding.now c.loop-place.ledger turn.turn, asked, c.if-bytes-eq0.true) in
-    let step = plan_step c.args.outstanding.now c.loop-place.ledger c.loop-place.ledger turn.turn (drop (c.loop-place.place + 1) (turns_of c.args.config.now)) c.loop-place.place None c.loop-place.plan c.loop-place.plan (grants_nothing c.loop-place.ledger planned none) refl in
-    record {
-      shares = step ∙
-          ap (λ rest. c.loop-place.plan ++ with_shares c.loop-place.place (plan_of c.args.outstanding.now c.loop-place.ledger rest)) (sym turn.rest) ∙
-          c.loop-place.invariant.shares;
-      flows = c.loop-place.invariant.flows;
-    }
 
 pub loop-place-preserved : goal.loop-place-preserved
 loop-place-preserved c =
-    let grant = given c in
-    let step = plan_step c.args.outstanding.now c.loop-place.ledger c.grant.new.self grant.0 (drop (c.loop-place.place + 1) (turns_of c.args.config.now)) c.loop-place.place c.grant.result c.loop-place.plan c.match-grant.plan grant.2 (kept c) in
+    let t = c.args.config.now in
+    let place : ℕ = c.loop-place.place in
+    let draft : Draft = c.loop-place.draft in
+    let next : Draft = c.grant.new.self in
+    let u : places.Turn = get_or c.turns-turns.result.now place blank in
+    let at = turn_of c.args.config.now c.turns-turns.result.now c.loop-place.place blank c.turns-turns.ensures.value c.loop-place-test.true in
+    let planned : Planned = planned_in c.args.outstanding.now draft at.turn in
+    let flow = c.index-flows-turn.is ∙ ap (λ flows. get_or flows u.flow c.index-flows-turn.result) c.flows.ensures.value in
+    let own = subst (λ f. IsTurnOf u f at.turn) (sym flow) (at.own c.index-flows-turn.result) in
+    let asked = ap (slice_index c.args.outstanding.now) own.number in
+    let is : next ≡ drafted place planned draft = c.in_ok-grant.ensures at.turn c.args.outstanding.now own asked in
     record {
-      shares = step ∙
-          ap (λ rest. c.loop-place.plan ++ with_shares c.loop-place.place (plan_of c.args.outstanding.now c.loop-place.ledger rest)) (sym grant.1) ∙
-          c.loop-place.invariant.shares;
-      flows = c.grant.ensures.flows ∙ c.loop-place.invariant.flows;
+      drafted = drafted_more c.args.outstanding.now place draft next at.turn (drop (place + 1) (turns_of t)) is ∙
+          ap (λ rest. drafted_all c.args.outstanding.now place draft rest) (sym at.rest) ∙
+          c.loop-place.invariant.drafted;
+      apart = drafted_apart place planned draft next is c.loop-place.invariant.apart;
+      flows = drafted_flows place planned draft next is ∙ c.loop-place.invariant.flows;
     }
 
 pub returns-clause-value : goal.returns-clause-value
-unfolding plan_of with_shares
+unfolding drafted_all
 returns-clause-value c =
-    let past = no_turns c.args.config.now c.turns-turns.result.now c.loop-place.place c.turns-turns.ensures.value c.loop-place-test.false in
-    sym (append-nil c.loop-place.plan) ∙
-    ap (λ rest. c.loop-place.plan ++ with_shares c.loop-place.place (plan_of c.args.outstanding.now c.loop-place.ledger rest))
-    (sym (drop_all c.loop-place.place (turns_of c.args.config.now) past)) ∙ c.loop-place.invariant.shares
+    let t = c.args.config.now in
+    let place : ℕ = c.loop-place.place in
+    let draft : Draft = c.loop-place.draft in
+    let past = no_turns t c.turns-turns.result.now place c.turns-turns.ensures.value c.loop-place-test.false in
+    c.into_plan.ensures ∙
+    ap (λ d. map (λ x. x.claims) d.channels)
+    (ap (λ rest. drafted_all c.args.outstanding.now place draft rest) (sym (drop_all place (turns_of t) past)) ∙
+    c.loop-place.invariant.drafted) ∙
+    claims_of_plan t c.args.outstanding.now c.args.allowances.items c.args.idle.now c.requires.idle.one_each
 
 pub returns-clause-shares : goal.returns-clause-shares
 returns-clause-shares c = λ turn position.
-    let whole : List Planned = plan_for c.args.config.now c.args.outstanding.now c.args.allowances.items c.args.idle.now in
-    ap (λ kept. share_of kept turn position) (returns-clause-value c) ∙ share_of-kept whole turn position
+    ap (λ plan. share_of plan turn position) (returns-clause-value c) ∙
+    share_of-plan c.args.config.now c.args.outstanding.now c.args.allowances.items c.args.idle.now
+    c.turns-turns.ensures.lawful c.requires.idle turn position
+
+pub returns-in_err-draft-clause-claims : goal.returns-in_err-draft-clause-claims
+returns-in_err-draft-clause-claims c =
+    plan_for-claims c.args.config.now c.args.outstanding.now c.args.allowances.items c.args.idle.now
+    c.turns-turns.ensures.lawful c.requires.idle
+
+pub returns-in_err-grant-clause-claims : goal.returns-in_err-grant-clause-claims
+returns-in_err-grant-clause-claims c =
+    plan_for-claims c.args.config.now c.args.outstanding.now c.args.allowances.items c.args.idle.now
+    c.turns-turns.ensures.lawful c.requires.idle
+
+pub returns-clause-claims : goal.returns-clause-claims
+returns-clause-claims c =
+    plan_for-claims c.args.config.now c.args.outstanding.now c.args.allowances.items c.args.idle.now
+    c.turns-turns.ensures.lawful c.requires.idle

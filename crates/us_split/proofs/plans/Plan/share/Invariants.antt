@@ -1,8 +1,7 @@
-use Rattle.std.proofs.Common.{◌≡◌, ◌==◌, drop}
-use Rattle.std.specs.Prelude.{find}
+use Rattle.std.proofs.Common.{◌≡◌, drop}
+use Rattle.us_split.specs.Claims.{share_of}
 use Rattle.us_split.proofs.plans.Plan.share.Given as goal
 
--- the turn isn't among those before
-abbrev pub invariant-loop-shares : goal.invariant-loop-shares
-invariant-loop-shares l =
-    find (λ shares. shares.turn == l.turn) (drop l.shares-index l.self) ≡ find (λ shares. shares.turn == l.turn) l.self
+-- the claim isn't among those of the channels before
+abbrev pub invariant-loop-channel : goal.invariant-loop-channel
+invariant-loop-channel l = share_of (drop l.channel-index l.self) l.turn l.position ≡ share_of l.self l.turn l.position

@@ -1,0 +1,212 @@
+ghost use Rattle.std.specs.Prelude.{◌≡◌, ℕ, ◌+◌, ◌*◌, ◌≤◌, [], length, map, slice_index, Some, None, MatchOption, IfOk, OnOk};
+ghost use Rattle.us_slots.specs.Times.{minislot_ticks};
+ghost use Rattle.us_flows.specs.Lawful.{AreApart};
+ghost use Rattle.us_flows.specs.Ranges.{max_channels_of_flow};
+ghost use Rattle.us_split.specs.Plans.{budget_of, weight, segment_header_bytes, max_burst_bytes};
+ghost use Rattle.us_split.specs.Grants as spec;
+ghost use Rattle.us_split.specs.Grants.{budget_in, channel_of, IsPlaceOf, with_claim, with_share, claimed_at, claimed_from};
+
+use crate::claims::{Claim, Claimant};
+use std::alloc::Global;
+use std::marker::Model;
+use us_flows::Channel;
+use us_slots::{NoMemory, capacity, grant_cost};
+
+/// Who claims: a SID cluster, the place of its turn, and the bytes of its segment header.
+#[derive(Clone, Copy)]
+pub(crate) struct Asker {
+    pub claimant: Claimant,
+    pub turn: u16,
+    pub header: u8,
+}
+
+impl Model for Asker {
+    ghost Value = { spec.Asker };
+
+    ghost view = { λ a. record { claimant = a.claimant; turn = a.turn; header = a.header } };
+
+    ghost inverse = { λ a. record { claimant = a.claimant; turn = a.turn; header = a.header } };
+}
+
+/// A channel, the minislots that are still to be planned on it, and the claims so far, in the order of turns.
+#[derive(Drop)]
+pub(crate) struct ChannelPlan {
+    channel: Channel,
+    slots: u32,
+    claims: Vec<Claim>,
+}
+
+impl Model for ChannelPlan {
+    ghost Value = { spec.ChannelPlan };
+
+    ghost view = { λ c. record { channel = c.channel; slots = c.slots; claims = c.claims.items } };
+
+    ghost invariant = { λ c. c.slots * minislot_ticks c.channel.bursts.time ≤ 4096 };
+}
+
+impl ChannelPlan {
+    /// So many minislots of a channel, which are no more than a MAP has, and no claims.
+    pub(crate) fn new(alloc: Global, channel: Channel, slots: u32) -> ChannelPlan
+        requires { slots * minislot_ticks channel.bursts.time ≤ 4096 }
+        ensures { let plan : spec.ChannelPlan = record { channel = channel; slots = slots; claims = [] } in result ≡ plan }
+    {
+        ChannelPlan {
+            channel,
+            slots,
+            claims: Vec::new(alloc),
+        }
+    }
+
+    /// The id of the channel.
+    fn id(&self) -> u8
+        ensures { result ≡ self.now.channel.id }
+    {
+        self.channel.id
+    }
+
+    /// The claims so far.
+    pub(crate) fn claims(&self) -> &[Claim]
+        ensures { result.now ≡ self.now.claims }
+    {
+        &self.claims
+    }
+
+    /// The most bytes that the channel can carry behind a header.
+    fn weight(&self, header: u32) -> u32
+        requires { header ≤ segment_header_bytes }
+        ensures value { result ≡ weight header (Some (budget_in self.now)) }
+        ensures burst { result + header ≤ max_burst_bytes }
+    {
+        capacity(
+            self.channel.bursts.time(),
+            self.channel.bursts.long(),
+            self.slots,
+        )
+        .saturating_sub(header)
+    }
+
+    /// Claims a share, and takes off the minislots that it costs.
+    #[tactic(auto, using(crate::proofs::ChannelPlanLemmas::fewer_ticks))]
+    fn claim(&mut self, asker: Asker, position: u8, sid: u16, share: u32) -> Result<(), NoMemory>
+        requires { share + asker.header ≤ max_burst_bytes }
+        ensures { OnOk result (self.new ≡ with_claim asker position sid share self.old) }
+    {
+        let (slots, iuc) = grant_cost(&self.channel.bursts, share + u32::from(asker.header));
+        self.claims.push(Claim {
+            claimant: asker.claimant,
+            turn: asker.turn,
+            position,
+            sid,
+            header: asker.header,
+            share,
+            slots,
+            iuc,
+        })?;
+        self.slots = self.slots.saturating_sub(slots);
+        Ok(())
+    }
+}
+
+/// Where the channel with this id stands. Ids mostly follow one another in table order, so that place is tried first.
+fn place_of(channels: &[ChannelPlan], id: u8) -> Option<usize>
+    ensures { MatchOption result (channel_of channels.now id ≡ None) (IsPlaceOf channels.now id) }
+{
+    if let Some(first) = channels.first() {
+        let place = usize::from(id.saturating_sub(first.id()));
+        if place < channels.len() && channels[place].id() == id {
+            return Some(place);
+        }
+    }
+    searched(channels, id)
+}
+
+/// Where the channel with this id stands, looked for among all.
+fn searched(channels: &[ChannelPlan], id: u8) -> Option<usize>
+    ensures { MatchOption result (channel_of channels.now id ≡ None) (IsPlaceOf channels.now id) }
+{
+    for (place, channel) in channels.iter().enumerate() {
+        if channel.id() == id {
+            return Some(place);
+        }
+    }
+    None
+}
+
+/// The most bytes that the channel with this id can carry behind a header; 0 where there is no such channel.
+fn weight_of(channels: &[ChannelPlan], id: u8, header: u32) -> u32
+    requires apart { AreApart (map (λ c. c.channel.id) channels.now) }
+    requires header { header ≤ segment_header_bytes }
+    ensures value { result ≡ weight header (budget_of (map budget_in channels.now) id) }
+    ensures burst { result + header ≤ max_burst_bytes }
+{
+    match place_of(channels, id) {
+        Some(place) => channels[place].weight(header),
+        None => 0,
+    }
+}
+
+/// Writes the most bytes that each channel of a flow can carry behind a header.
+pub(crate) fn weigh(channels: &[ChannelPlan], ids: &[u8], header: u32, weights: &mut [u32])
+    requires apart { AreApart (map (λ c. c.channel.id) channels.now) }
+    requires same_length { length weights.old ≡ length ids.now }
+    requires header { header ≤ segment_header_bytes }
+    ensures value { weights.new ≡ map (λ id. weight header (budget_of (map budget_in channels.now) id)) ids.now }
+    ensures bursts { (k : ℕ) → slice_index weights.new k + header ≤ max_burst_bytes }
+{
+    for i in 0..ids.len() {
+        weights[i] = weight_of(channels, ids[i], header);
+    }
+}
+
+/// Claims a share on the channel with this id, if it is above 0.
+fn claim_one(
+    channels: &mut [ChannelPlan],
+    asker: Asker,
+    position: u8,
+    id: u8,
+    sid: u16,
+    share: u32,
+) -> Result<(), NoMemory>
+    requires apart { AreApart (map (λ c. c.channel.id) channels.old) }
+    requires burst { share + asker.header ≤ max_burst_bytes }
+    ensures { OnOk result (channels.new ≡ map (claimed_at asker position id sid share) channels.old) }
+{
+    if share == 0 {
+        return Ok(());
+    }
+    match place_of(channels, id) {
+        Some(place) => channels[place].claim(asker, position, sid, share),
+        None => Ok(()),
+    }
+}
+
+/// Claims shares on the channels of a flow, by their ids, one after another.
+pub(crate) fn claim_all(
+    channels: &mut [ChannelPlan],
+    asker: Asker,
+    ids: &[u8],
+    sids: &[u16],
+    shares: &[u32],
+) -> Result<(), NoMemory>
+    requires apart { AreApart (map (λ c. c.channel.id) channels.old) }
+    requires few { length ids.now ≤ max_channels_of_flow }
+    requires same_length { length shares.now ≡ length ids.now }
+    requires bursts { (k : ℕ) → slice_index shares.now k + asker.header ≤ max_burst_bytes }
+    ensures { OnOk result (channels.new ≡ map (claimed_from asker 0 ids.now sids.now shares.now) channels.old) }
+{
+    for i in 0..ids.len() {
+        let sid = sid_at(sids, i);
+        claim_one(channels, asker, i as u8, ids[i], sid, shares[i])?;
+    }
+    Ok(())
+}
+
+/// The SID at this position; 0 where there is none.
+fn sid_at(sids: &[u16], position: usize) -> u16
+    ensures { result ≡ slice_index sids.now position }
+{
+    match sids.get(position) {
+        Some(sid) => *sid,
+        None => 0,
+    }
+}
