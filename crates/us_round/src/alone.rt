@@ -1,4 +1,4 @@
-ghost use Rattle.std.specs.Prelude.{◌≡◌, ◌+◌, ◌*◌, ◌^◌, ◌<◌, ◌≤◌, length, map, zip, IfOk};
+ghost use Rattle.std.specs.Prelude.{◌≡◌, ◌+◌, ◌*◌, ◌^◌, ◌<◌, ◌≤◌, length, map, zip, IfErr, IfOk};
 ghost use Rattle.std.specs.List.{AllByRecursion};
 ghost use Rattle.us_flows.specs.Tables.{max_run_ticks};
 ghost use Rattle.us_flows.specs.Clusters.{clusters_of};
@@ -10,6 +10,7 @@ ghost use Rattle.us_round.specs.Stages.{AreFilled, AreBuilt};
 
 use crate::building::{Built, Filled, build_on, fill};
 use crate::cores::Core;
+use crate::faults::RoundFault;
 use crate::lanes::Lane;
 use crate::phases::with_channels;
 use crate::round_outs::RoundOut;
@@ -20,17 +21,20 @@ use us_flows::Config;
 use us_slots::NoMemory;
 use us_split::TurnShares;
 
-/// The round of a state and a cut, all of whose channels the calling thread does, one after another.
-pub(crate) fn round_alone(
+/// Schedules the round of a state as `round` does, in which the calling thread does all channels, one after another.
+///
+/// It waits for nobody, and starts no thread. The fault is want of memory, and the state is given up then.
+pub fn round_alone(
     alloc: Global,
     state: State,
     cuts: &[u64],
-) -> Result<(State, RoundOut), NoMemory>
+) -> Result<(State, RoundOut), RoundFault>
     requires clusters { length cuts.now ≡ length (clusters_of state.tables) }
     requires room { AllByRecursion (λ pair. pair.0 + pair.1 < 2 ^ 62) (zip state.outstanding cuts.now) }
     requires time { (state.round + 1) * state.tables.round_ticks ≤ max_run_ticks }
     ensures state { IfOk result (λ done. done.0 ≡ (spec.round_of state cuts.now).state) }
     ensures out { IfOk result (λ done. done.1 ≡ out_of state.tables (spec.round_of state cuts.now).scheduled) }
+    ensures fault { IfErr result (λ given. given ≡ RoundFault.NoMemory) }
 {
     let (core, before, calendars) = begin(alloc, state, cuts)?;
     let built = build_alone(alloc, &core, &before, calendars)?;

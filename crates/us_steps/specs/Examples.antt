@@ -1,0 +1,98 @@
+-- Small lists of steps, computed by the definitions alone.
+use Rattle.std.specs.Prelude.{◌≡◌, ℕ, List, [], ◌∷◌, slice_index, Option, Some, None, option_map, refl}
+use Rattle.std.specs.List.{AllByRecursion}
+use Rattle.std.proofs.Common.{arith}
+use Rattle.us_requests.specs.declared.asks.Ask.{Ask}
+use Rattle.us_steps.specs.Steps.{adds, builds, count, cut_of, left_of, IsComplete}
+use Rattle.us_steps.specs.Machines.{Ledger, Machine, after, run, opening_ledger, after_step, run_machine, opening_machine}
+use Rattle.us_steps.specs.Plays.{cuts_of, words_after}
+use Rattle.us_steps.specs.Laws.{IsSeated, all_added, all_took}
+use Rattle.us_steps.specs.declared.steps.Step.{Step}
+use Rattle.us_steps.specs.declared.steps.Step.TheVariants as step
+
+-- 500 and 700 bytes of the one cluster
+abbrev rows : List Ask
+rows = record { cluster = 0; bytes = 500 } ∷ record { cluster = 0; bytes = 700 } ∷ []
+
+-- the second row is added by seat 4, the first by seat 3, which takes the word; then the one channel is built
+abbrev in_time : List Step
+in_time = step.Add 1 4 ∷ step.Add 0 3 ∷ step.Take 0 3 ∷ step.Open 0 ∷ step.Built 0 ∷ []
+
+-- the same, but the first row comes when the channel is out
+abbrev one_late : List Step
+one_late = step.Add 1 4 ∷ step.Take 0 3 ∷ step.Open 0 ∷ step.Add 0 3 ∷ step.Built 0 ∷ []
+
+-- both rows are cut, and what the word had before
+all_cut : (cut_of (0 ∷ []) rows in_time ≡ 1200 ∷ []) × (left_of (0 ∷ []) rows in_time ≡ 0 ∷ [])
+    × (cut_of (30 ∷ []) rows in_time ≡ 1230 ∷ [])
+unfolding cut_of left_of
+all_cut = (refl, refl, refl)
+
+-- a late row is left in the word,
+one_left : (cut_of (0 ∷ []) rows one_late ≡ 700 ∷ []) × (left_of (0 ∷ []) rows one_late ≡ 500 ∷ [])
+unfolding cut_of left_of
+one_left = (refl, refl)
+
+-- and is cut in the next round
+next_cut :
+    (cuts_of (0 ∷ []) (record { rows = rows; steps = one_late } ∷ record { rows = rows; steps = in_time } ∷ [])
+    ≡ (700 ∷ []) ∷ (1700 ∷ []) ∷ []) ×
+    (words_after (0 ∷ []) (record { rows = rows; steps = one_late } ∷ record { rows = rows; steps = in_time } ∷ [])
+    ≡ 0 ∷ [])
+unfolding cuts_of words_after cut_of left_of
+next_cut = (refl, refl)
+
+-- a list in which a channel isn't built isn't complete,
+abbrev not_built : List Step
+not_built = step.Add 1 4 ∷ step.Add 0 3 ∷ step.Take 0 3 ∷ step.Open 0 ∷ []
+
+never_built : ¬ IsComplete 2 1 1 not_built
+never_built all =
+    let none : count (builds 0) not_built ≡ 0 = refl in
+    omega (arith, none, all.built 0 (omega arith))
+
+-- nor is one in which a row is added twice
+abbrev twice : List Step
+twice = step.Add 1 4 ∷ in_time
+
+added_twice : ¬ IsComplete 2 1 1 twice
+added_twice all =
+    let two : count (adds 1) twice ≡ 2 = refl in
+    omega (arith, two, all.added 1 (omega arith))
+
+-- The machine.
+
+-- the cut and the words in the end
+abbrev ends : List Step → Option (List ℕ × List ℕ)
+ends steps = option_map (λ (l : Ledger). (l.cut, l.words)) (run rows (opening_ledger (0 ∷ []) 2 1) steps)
+
+goes_on : (ends in_time ≡ Some (1200 ∷ [], 0 ∷ [])) × (ends one_late ≡ Some (700 ∷ [], 500 ∷ []))
+unfolding run after
+goes_on = (refl, refl)
+
+-- it stops where a channel isn't built, a row is added twice, a word is taken once a channel is out, a channel is built
+-- at home, and where there is no such row
+stops :
+    (ends not_built ≡ None) ×
+    (ends twice ≡ None) ×
+    (ends (step.Add 1 4 ∷ step.Add 0 3 ∷ step.Open 0 ∷ step.Take 0 3 ∷ step.Built 0 ∷ []) ≡ None) ×
+    (ends (step.Add 1 4 ∷ step.Add 0 3 ∷ step.Take 0 3 ∷ step.Built 0 ∷ step.Open 0 ∷ []) ≡ None) ×
+    (ends (step.Add 2 4 ∷ in_time) ≡ None)
+unfolding run after
+stops = (refl, refl, refl, refl, refl)
+
+-- what seats 3 and 4 added to the word, and what seat 3 took of it
+accounts : option_map {U = ℕ × ℕ × ℕ} (λ (m : Machine). (m.seats.added 3 0, m.seats.added 4 0, m.seats.took 3 0))
+    (run_machine rows (opening_machine (0 ∷ []) 2 1) one_late) ≡ Some (500, 700, 700)
+unfolding run_machine after_step after
+accounts = refl
+
+-- of a word that had 30 bytes, both together added 1200 and took 730, and 500 are left
+seated : AllByRecursion (IsSeated (3 ∷ 4 ∷ [])) one_late
+seated = (refl, (refl, (tt, (refl, (tt, tt)))))
+
+balance : option_map {U = ℕ × ℕ × ℕ}
+    (λ (m : Machine). (all_added (3 ∷ 4 ∷ []) m 0, all_took (3 ∷ 4 ∷ []) m 0, slice_index m.ledger.words 0))
+    (run_machine rows (opening_machine (30 ∷ []) 2 1) one_late) ≡ Some (1200, 730, 500)
+unfolding run_machine after_step after
+balance = refl
