@@ -7,26 +7,26 @@ use Rattle.us_requests.specs.declared.asks.Ask.{Ask}
 use Rattle.us_steps.specs.declared.steps.Step.{Step}
 use Rattle.us_steps.specs.declared.steps.Step.TheVariants as step
 use Rattle.us_steps.specs.Steps.{bytes_in, added_by, total, takes, ahead, behind}
-use Rattle.us_steps.specs.Machines.{Ledger, raised, with_row, without_word, with_open, with_built, after, are_set, is_done, run}
-use Rattle.us_steps.specs.Accounts.{IsSized, unadded}
-use Rattle.us_steps.proofs.LedgerLemmas.{placed, neither, raised-in, raised-length, balance, balance_after, sized_after}
+use Rattle.us_steps.specs.Machines.{raised, are_set}
+use Rattle.us_steps.specs.Tallies.{Tally, with_row, without_word, with_open, with_built, after, is_done, run, IsSized, unadded}
+use Rattle.us_steps.proofs.TallyLemmas.{placed, neither, raised-in, raised-length, balance, balance_after, sized_after}
 use Rattle.us_steps.proofs.StepLemmas.{found-true}
 use Rattle.us_steps.proofs.FlagLemmas.{unset-full, set-none, clear-inside, set-other}
 
 -- what the steps to come bring into the cut of a word, and what they leave in it
-abbrev pub cut_to : List Ask → Ledger → List Step → ℕ → ℕ
+abbrev pub cut_to : List Ask → Tally → List Step → ℕ → ℕ
 cut_to asks l steps q =
     slice_index l.cut q
     + (if get_or l.taken q true then 0 else slice_index l.words q + total (added_by asks q) (ahead (takes q) steps))
 
-abbrev pub left_to : List Ask → Ledger → List Step → ℕ → ℕ
+abbrev pub left_to : List Ask → Tally → List Step → ℕ → ℕ
 left_to asks l steps q =
     if get_or l.taken q true then slice_index l.words q + total (added_by asks q) steps
     else total (added_by asks q) (behind (takes q) steps)
 
 -- A step changes neither.
 
-row_to : (asks : List Ask) (l : Ledger) (row seat q : ℕ) (steps : List Step) → IsSized asks l →
+row_to : (asks : List Ask) (l : Tally) (row seat q : ℕ) (steps : List Step) → IsSized asks l →
     (cut_to asks (with_row asks l row) steps q ≡ cut_to asks l (step.Add row seat ∷ steps) q)
     × (left_to asks (with_row asks l row) steps q ≡ left_to asks l (step.Add row seat ∷ steps) q)
 row_to asks l row seat q steps ready =
@@ -37,7 +37,7 @@ row_to asks l row seat q steps ready =
       | inr clear ↦ rw clear (omega (arith, more), refl)
     ]
 
-word_to : (asks : List Ask) (l : Ledger) (word seat q : ℕ) (steps : List Step) → IsSized asks l →
+word_to : (asks : List Ask) (l : Tally) (word seat q : ℕ) (steps : List Step) → IsSized asks l →
     get_or l.taken word true ≡ false →
     (cut_to asks (without_word l word) steps q ≡ cut_to asks l (step.Take word seat ∷ steps) q)
     × (left_to asks (without_word l word) steps q ≡ left_to asks l (step.Take word seat ∷ steps) q)
@@ -69,25 +69,25 @@ word_to asks l word seat q steps ready clear =
           ])
     ]
 
-abbrev IsKept : List Ask → Ledger → Ledger → Step → List Step → ℕ → Type 0
+abbrev IsKept : List Ask → Tally → Tally → Step → List Step → ℕ → Type 0
 IsKept asks l next s steps q =
     (cut_to asks next steps q ≡ cut_to asks l (s ∷ steps) q) × (left_to asks next steps q ≡ left_to asks l (s ∷ steps) q)
 
-open_to : (asks : List Ask) (l : Ledger) (channel q : ℕ) (steps : List Step) →
+open_to : (asks : List Ask) (l : Tally) (channel q : ℕ) (steps : List Step) →
     IsKept asks l (with_open l channel) (step.Open channel) steps q
 open_to asks l channel q steps = elim (cases_Bool (get_or l.taken q true)) [
   | inl full ↦ rw full (refl, omega arith)
   | inr free ↦ rw free (omega arith, refl)
 ]
 
-built_to : (asks : List Ask) (l : Ledger) (channel q : ℕ) (steps : List Step) →
+built_to : (asks : List Ask) (l : Tally) (channel q : ℕ) (steps : List Step) →
     IsKept asks l (with_built l channel) (step.Built channel) steps q
 built_to asks l channel q steps = elim (cases_Bool (get_or l.taken q true)) [
   | inl full ↦ rw full (refl, omega arith)
   | inr free ↦ rw free (omega arith, refl)
 ]
 
-kept_to : (asks : List Ask) (l next : Ledger) (s : Step) (q : ℕ) (steps : List Step) → IsSized asks l →
+kept_to : (asks : List Ask) (l next : Tally) (s : Step) (q : ℕ) (steps : List Step) → IsSized asks l →
     after asks l s ≡ Some next → IsKept asks l next s steps q
 unfolding after
 kept_to asks l next (step.Add row seat) q steps ready to =
@@ -107,7 +107,7 @@ kept_to asks l next (step.Built channel) q steps ready to =
 -- All steps.
 
 -- what the machine has in the end
-pub record IsEnd (asks : List Ask) (l end : Ledger) (steps : List Step) : Type 0 where
+pub record IsEnd (asks : List Ask) (l end : Tally) (steps : List Step) : Type 0 where
   pub cut : (q : ℕ) → slice_index end.cut q ≡ cut_to asks l steps q
   pub words : (q : ℕ) → slice_index end.words q ≡ left_to asks l steps q
   pub balance : (q : ℕ) → slice_index end.cut q + slice_index end.words q ≡ balance asks l q
@@ -128,7 +128,7 @@ none-unadded q (ask ∷ asks) [] all = refl
 none-unadded q (ask ∷ asks) (true ∷ flags) all = omega (arith, none-unadded q asks flags all)
 none-unadded q (ask ∷ asks) (false ∷ flags) all = absurd (cc all)
 
-words-long : (asks : List Ask) (l next : Ledger) (s : Step) → after asks l s ≡ Some next → length next.words ≡ length l.words
+words-long : (asks : List Ask) (l next : Tally) (s : Step) → after asks l s ≡ Some next → length next.words ≡ length l.words
 unfolding after
 words-long asks l next (step.Add row seat) to =
     let at = placed (get_or l.added row true) (with_row asks l row) next to in
@@ -143,7 +143,7 @@ words-long asks l next (step.Built channel) to =
     let at = placed (not (get_or l.opened channel false) || get_or l.built channel true) (with_built l channel) next to in
     ap (λ n. length n.words) (sym at.1)
 
-done-end : (asks : List Ask) (l : Ledger) → IsSized asks l → is_done l ≡ true → IsEnd asks l l []
+done-end : (asks : List Ask) (l : Tally) → IsSized asks l → is_done l ≡ true → IsEnd asks l l []
 done-end asks l ready done =
     let both = first-two (are_set l.added) (are_set l.taken) (are_set l.opened && are_set l.built) done in
     record {
@@ -154,7 +154,7 @@ done-end asks l ready done =
       same = refl;
     }
 
-pub run_end_is : (asks : List Ask) (l end : Ledger) (steps : List Step) → IsSized asks l → run asks l steps ≡ Some end →
+pub run_end_is : (asks : List Ask) (l end : Tally) (steps : List Step) → IsSized asks l → run asks l steps ≡ Some end →
     IsEnd asks l end steps
 unfolding run
 run_end_is asks l end [] ready to =
@@ -163,8 +163,8 @@ run_end_is asks l end [] ready to =
 run_end_is asks l end (s ∷ steps) ready to =
     by (after asks l s) refl (λ next. run_end_is asks next end steps)
   where
-    by : (found : Option Ledger) → after asks l s ≡ found →
-        ((next : Ledger) → IsSized asks next → run asks next steps ≡ Some end → IsEnd asks next end steps) →
+    by : (found : Option Tally) → after asks l s ≡ found →
+        ((next : Tally) → IsSized asks next → run asks next steps ≡ Some end → IsEnd asks next end steps) →
         IsEnd asks l end (s ∷ steps)
     by None none rest = absurd (cc (ap (λ o. option_and_then (λ n. run asks n steps) o) (sym none) ∙ to))
     by (Some next) made rest =

@@ -1,8 +1,9 @@
 pub mod FlagLemmas
-pub mod LedgerLemmas
+pub mod TallyLemmas
 pub mod StepLemmas
 pub mod CutLemmas
 pub mod PlayLemmas
-pub mod PlayLaws
+pub mod MachineLemmas
+pub mod ChannelLemmas
 pub mod SeatLaws
-pub mod PartLaws
+pub mod PlayLaws

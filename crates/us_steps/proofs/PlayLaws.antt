@@ -1,18 +1,25 @@
--- The laws of steps and plays.
-use Rattle.std.proofs.Common.{◌≡◌, ℕ, ◌+◌, ◌<◌, Bool, true, false, if◌then◌else◌, List, [], ◌∷◌, length, map, slice_index, Option, Some, None, refl, ap, sym, subst, ◌∙◌, arith}
-use Rattle.std.specs.Prelude.{option_map, option_and_then}
+-- The laws of the machine and of plays.
+use Rattle.std.proofs.Common.{◌≡◌, ℕ, ◌+◌, ◌<◌, List, [], ◌∷◌, length, map, slice_index, Option, Some, None, refl, ap, sym, subst, ◌∙◌, arith}
+use Rattle.std.specs.Prelude.{option_map}
 use Rattle.std.specs.List.{AllByRecursion}
 use Rattle.us_flows.specs.Tables.{Tables}
+use Rattle.us_requests.specs.declared.asks.Ask.{Ask}
 use Rattle.us_requests.specs.Cuts as requests
-use Rattle.us_round.specs.Rounds.{State, opening, round_of, round_from, schedule, final}
+use Rattle.us_round.specs.Rounds.{State, opening, begun, fills_of, builds_of, ended, round_of, round_from, schedule, final}
 use Rattle.us_round.specs.Outputs.{out_of}
+use Rattle.us_steps.specs.declared.steps.Step.{Step}
 use Rattle.us_steps.specs.Steps.{IsComplete, total, cut_of, left_of}
-use Rattle.us_steps.specs.Machines.{Ledger, Machine, opening_ledger, after, after_step, counted, is_done, run, run_machine}
+use Rattle.us_steps.specs.Machines.{Stand, Machine, Done, opening_machine, run, builds_in}
+use Rattle.us_steps.specs.Tallies as tallies
+use Rattle.us_steps.specs.Tallies.{Tally, tally_of, opening_tally}
 use Rattle.us_steps.specs.Plays.{Play, run_of, state_after, cuts_of, words_after}
-use Rattle.us_steps.specs.Laws.{PlaysAreRounds, NothingIsLost, Makes, MachineMakesCuts, SeatsChangeNothing}
+use Rattle.us_steps.specs.Laws.{PlaysAreRounds, NothingIsLost, IsPlayed, GoesThrough, MachineMakesRounds}
 use Rattle.us_steps.proofs.StepLemmas.{complete, incomplete}
 use Rattle.us_steps.proofs.CutLemmas.{IsEnd, run_end_is}
 use Rattle.us_steps.proofs.PlayLemmas.{opening-sized, end-cut, end-words, conserved, left-long}
+use Rattle.us_steps.proofs.MachineLemmas.{run-tally, opening-is}
+use Rattle.us_steps.proofs.ChannelLemmas.{end-channels, builds-in}
+use Rattle.us_steps.proofs.SeatLaws.{balances}
 
 -- a round keeps the tables
 tables-kept : (s : State) (cut : List ℕ) → (round_of s cut).state.tables ≡ s.tables
@@ -54,37 +61,48 @@ lost-none channels n words (p ∷ plays) q long all below =
 pub nothing_is_lost : NothingIsLost
 nothing_is_lost channels words plays q all below = lost-none channels (length words) words plays q refl all below
 
-pub machine_makes_cuts : MachineMakesCuts
-machine_makes_cuts words rows channels steps known = by (run rows (opening_ledger words (length rows) channels) steps) refl
+-- what channels that are done come to is the round of their cut
+round-is : (s : State) (cut end : List ℕ) (channels : List Stand) → end ≡ cut →
+    channels ≡ map (λ b. Done b) (builds_of (begun s cut)) →
+    ended (begun s end) (builds_in channels) ≡ round_of s cut
+unfolding round_of round_from
+round-is s cut end channels same are =
+    ap (λ c. ended (begun s c) (builds_in channels)) same
+    ∙ ap (λ bs. ended (begun s cut) bs) (ap builds_in are ∙ builds-in (builds_of (begun s cut)))
+
+pub machine_makes_rounds : MachineMakesRounds
+machine_makes_rounds s words rows steps known = by (run s rows m steps) refl
   where
-    by : (found : Option Ledger) → run rows (opening_ledger words (length rows) channels) steps ≡ found →
-        Makes words rows channels steps found
-    by None none = incomplete rows words channels steps none
+    m : Machine
+    m = opening_machine s words (length rows)
+
+    n : ℕ
+    n = length (fills_of s)
+
+    first : Tally
+    first = opening_tally words (length rows) n
+
+    tallied : (found : Option Machine) → run s rows m steps ≡ found →
+        tallies.run rows first steps ≡ option_map tally_of found
+    tallied found is =
+        ap (λ t. tallies.run rows t steps) (sym (opening-is s words (length rows)))
+        ∙ sym (run-tally s rows m steps) ∙ ap (λ o. option_map tally_of o) is
+
+    by : (found : Option Machine) → run s rows m steps ≡ found → GoesThrough s words rows steps found
+    by None none = incomplete rows words n steps (tallied None none)
     by (Some end) made =
-        let is : IsEnd rows (opening_ledger words (length rows) channels) end steps =
-        run_end_is rows (opening_ledger words (length rows) channels) end steps (opening-sized words rows channels known) made in (
-          complete rows words channels end steps made,
-          end-cut rows words channels end steps is,
-          end-words rows words channels end steps is,
-        )
-
-abbrev ledger_of : Machine → Ledger
-ledger_of m = m.ledger
-
-pub seats_change_nothing : SeatsChangeNothing
-unfolding run run_machine after_step
-seats_change_nothing rows m [] = by (is_done m.ledger)
-  where
-    by : (done : Bool) → option_map ledger_of (if done then Some m else None) ≡ (if done then Some m.ledger else None)
-    by true = refl
-    by false = refl
-seats_change_nothing rows m (s ∷ steps) =
-    by (after rows m.ledger s) (λ next. seats_change_nothing rows next steps)
-  where
-    by : (found : Option Ledger) →
-        ((next : Machine) → option_map ledger_of (run_machine rows next steps) ≡ run rows next.ledger steps) →
-        option_map ledger_of (option_and_then (λ next. run_machine rows next steps)
-        (option_map (λ l. record { ledger = l; seats = counted rows m.ledger m.seats s }) found))
-        ≡ option_and_then (λ next. run rows next steps) found
-    by None rest = refl
-    by (Some l) rest = rest (record { ledger = l; seats = counted rows m.ledger m.seats s })
+        let ran : tallies.run rows first steps ≡ Some (tally_of end) = tallied (Some end) made in
+        let is : IsEnd rows first (tally_of end) steps =
+        run_end_is rows first (tally_of end) steps (opening-sized words rows n known) ran in
+        let cut : end.cut ≡ cut_of words rows steps = end-cut rows words n (tally_of end) steps is in
+        let channels : end.channels ≡ map (λ b. Done b) (builds_of (begun s (cut_of words rows steps))) =
+        end-channels s rows words end steps made ∙ ap (λ c. map (λ b. Done b) (builds_of (begun s c))) cut in
+        record {
+          complete = complete rows words n (tally_of end) steps ran;
+          words = end-words rows words n (tally_of end) steps is;
+          cut = cut;
+          channels = channels;
+          round = round-is s (cut_of words rows steps) end.cut end.channels cut channels;
+          seats = λ seats seated q. balances s words rows steps end seats q known seated made
+              (subst (λ t. IsEnd rows t (tally_of end) steps) (sym (opening-is s words (length rows))) is);
+        }

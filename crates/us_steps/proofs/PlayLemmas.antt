@@ -1,4 +1,4 @@
--- From a ledger before the first step to a round.
+-- From a tally before the first step to a round.
 use Rattle.std.proofs.Common.{◌≡◌, ℕ, zero, suc, ◌+◌, ◌^◌, ◌<◌, ◌≤◌, ◌==◌, Bool, true, false, List, [], ◌∷◌, length, map, replicate, get_or, slice_index, slice_set, refl, ap, sym, ◌∙◌, inl, inr, arith}
 use Rattle.std.specs.Prelude.{filter, zip}
 use Rattle.std.specs.List.{AllByRecursion, range_with_len}
@@ -10,11 +10,10 @@ use Rattle.us_requests.specs.Cuts as requests
 use Rattle.us_steps.specs.declared.steps.Step.{Step}
 use Rattle.us_steps.specs.declared.steps.Step.TheVariants as step
 use Rattle.us_steps.specs.Steps.{bytes_for, added_by, total, count, adds, takes, ahead, behind, IsThere, IsComplete, cut_at, left_at, cut_of, left_of}
-use Rattle.us_steps.specs.Machines.{Ledger, opening_ledger}
-use Rattle.us_steps.specs.Accounts.{IsReady, IsSized, unadded}
+use Rattle.us_steps.specs.Tallies.{Tally, opening_tally, IsReady, IsSized, unadded}
 use Rattle.std.proofs.lemmas.List.FromFn.{length-map-range_with_len, get_or-map-range_with_len}
 use Rattle.us_steps.proofs.FlagLemmas.{unset, unset-fresh, set-counted, set-over, none-set}
-use Rattle.us_steps.proofs.LedgerLemmas.{unadded-set}
+use Rattle.us_steps.proofs.TallyLemmas.{unadded-set}
 use Rattle.us_steps.proofs.CutLemmas.{IsEnd, cut_to, left_to, none-unadded}
 
 -- the bytes of a cluster's rows, counted one by one
@@ -50,7 +49,7 @@ zeros (suc n) (suc q) = zeros n q
 
 pub opening-sized : (words : List ℕ) (asks : List Ask) (channels : ℕ) →
     AllByRecursion (λ ask. ask.cluster < length words) asks →
-    IsSized asks (opening_ledger words (length asks) channels)
+    IsSized asks (opening_tally words (length asks) channels)
 opening-sized words asks channels known = record {
   added = length-replicate (length asks) false;
   clusters = known;
@@ -61,7 +60,7 @@ opening-sized words asks channels known = record {
 
 pub opening-ready : (words : List ℕ) (asks : List Ask) (channels : ℕ) →
     AllByRecursion (λ ask. ask.cluster < length words) asks → ((q : ℕ) → q < length words → slice_index words q + requests.asked asks q < 2 ^ 62) →
-    IsReady asks (opening_ledger words (length asks) channels)
+    IsReady asks (opening_tally words (length asks) channels)
 opening-ready words asks channels known small = record {
   sized = opening-sized words asks channels known;
   room = λ q. elim (cases_lt q (length words)) [
@@ -103,22 +102,22 @@ not-taken : (words : List ℕ) (q : ℕ) → q < length words → get_or (replic
 not-taken words q below = get_or-replicate (length words) q false true below
 
 -- the cut,
-pub end-cut : (asks : List Ask) (words : List ℕ) (channels : ℕ) (end : Ledger) (steps : List Step) →
-    IsEnd asks (opening_ledger words (length asks) channels) end steps → end.cut ≡ cut_of words asks steps
+pub end-cut : (asks : List Ask) (words : List ℕ) (channels : ℕ) (end : Tally) (steps : List Step) →
+    IsEnd asks (opening_tally words (length asks) channels) end steps → end.cut ≡ cut_of words asks steps
 unfolding cut_of
 end-cut asks words channels end steps is =
     mapped-at (cut_at words asks steps) end.cut (length words) (is.long ∙ is.same) (λ q below.
-    let at : cut_to asks (opening_ledger words (length asks) channels) steps q ≡ cut_at words asks steps q =
+    let at : cut_to asks (opening_tally words (length asks) channels) steps q ≡ cut_at words asks steps q =
     rw (not-taken words q below) (omega (arith, zeros (length words) q)) in
     is.cut q ∙ at)
 
 -- what is left in the words,
-pub end-words : (asks : List Ask) (words : List ℕ) (channels : ℕ) (end : Ledger) (steps : List Step) →
-    IsEnd asks (opening_ledger words (length asks) channels) end steps → end.words ≡ left_of words asks steps
+pub end-words : (asks : List Ask) (words : List ℕ) (channels : ℕ) (end : Tally) (steps : List Step) →
+    IsEnd asks (opening_tally words (length asks) channels) end steps → end.words ≡ left_of words asks steps
 unfolding left_of
 end-words asks words channels end steps is =
     mapped-at (left_at asks steps) end.words (length words) is.same (λ q below.
-    let at : left_to asks (opening_ledger words (length asks) channels) steps q ≡ left_at asks steps q =
+    let at : left_to asks (opening_tally words (length asks) channels) steps q ≡ left_at asks steps q =
     rw (not-taken words q below) refl in
     is.words q ∙ at)
 

@@ -1,4 +1,4 @@
--- That the machine goes through a list of steps where the list is complete, and nowhere else.
+-- That a tally goes through a list of steps where the list is complete, and nowhere else.
 use Rattle.std.proofs.Common.{◌≡◌, ℕ, zero, suc, ◌<◌, ◌==◌, Bool, true, false, not, ◌&&◌, ◌||◌, if◌then◌else◌, List, [], ◌∷◌, length, replicate, get_or, slice_set, Option, Some, None, refl, ap, sym, subst, ◌∙◌, inl, inr, arith}
 use Rattle.std.specs.Prelude.{option_and_then}
 use Rattle.std.specs.List.{AllByRecursion}
@@ -8,9 +8,10 @@ use Rattle.us_requests.specs.declared.asks.Ask.{Ask}
 use Rattle.us_steps.specs.declared.steps.Step.{Step}
 use Rattle.us_steps.specs.declared.steps.Step.TheVariants as step
 use Rattle.us_steps.specs.Steps.{count, behind, adds, takes, opens, builds, takes_one, opens_one, IsThere, IsComplete}
-use Rattle.us_steps.specs.Machines.{Ledger, opening_ledger, with_row, without_word, with_open, with_built, after, are_set, is_done, run}
+use Rattle.us_steps.specs.Machines.{are_set}
+use Rattle.us_steps.specs.Tallies.{Tally, opening_tally, with_row, without_word, with_open, with_built, after, is_done, run}
 use Rattle.us_round.proofs.StateLemmas.{eqb-self}
-use Rattle.us_steps.proofs.LedgerLemmas.{placed, unplaced, neither, not-false}
+use Rattle.us_steps.proofs.TallyLemmas.{placed, unplaced, neither, not-false}
 use Rattle.us_steps.proofs.FlagLemmas.{unset, unset-few, unset-full, clear-inside, set-same, set-other, set-counted, counted-set, set-over, set-none, none-set, unset-fresh, behind-few}
 
 -- How many steps take a word too late, and how many tell that an opened channel is built: the ones behind its opening, all
@@ -23,14 +24,14 @@ abbrev pub late_builds : ℕ → Bool → List Step → ℕ
 late_builds c opened steps = if opened then count (builds c) steps else count (builds c) (behind (opens c) steps)
 
 -- there are as many flags as rows, words and channels
-pub record IsFor (rows words channels : ℕ) (l : Ledger) : Type 0 where
+pub record IsFor (rows words channels : ℕ) (l : Tally) : Type 0 where
   pub added : length l.added ≡ rows
   pub taken : length l.taken ≡ words
   pub opened : length l.opened ≡ channels
   pub built : length l.built ≡ channels
 
 -- the steps to come do all that isn't done yet
-pub record Completes (rows words channels : ℕ) (l : Ledger) (steps : List Step) : Type 0 where
+pub record Completes (rows words channels : ℕ) (l : Tally) (steps : List Step) : Type 0 where
   pub there : AllByRecursion (IsThere rows words channels) steps
   pub added : (r : ℕ) → r < rows → count (adds r) steps ≡ unset l.added r
   pub taken : (q : ℕ) → q < words → count (takes q) steps ≡ unset l.taken q
@@ -99,7 +100,7 @@ builds-built c channel false steps begun = elim (cases_Bool (channel == c)) [
 
 -- One step.
 
-for-after : (asks : List Ask) (rows words channels : ℕ) (l next : Ledger) (s : Step) → IsFor rows words channels l →
+for-after : (asks : List Ask) (rows words channels : ℕ) (l next : Tally) (s : Step) → IsFor rows words channels l →
     after asks l s ≡ Some next → IsFor rows words channels next
 unfolding after
 for-after asks rows words channels l next (step.Add row seat) is to =
@@ -141,8 +142,8 @@ opened-true [] i is = refl
 opened-true (flag ∷ flags) zero is = is
 opened-true (flag ∷ flags) (suc i) is = opened-true flags i is
 
--- what completes a ledger completes it behind a step,
-completes-after : (asks : List Ask) (rows words channels : ℕ) (l next : Ledger) (s : Step) (steps : List Step) →
+-- what completes a tally completes it behind a step,
+completes-after : (asks : List Ask) (rows words channels : ℕ) (l next : Tally) (s : Step) (steps : List Step) →
     after asks l s ≡ Some next → Completes rows words channels l (s ∷ steps) → Completes rows words channels next steps
 unfolding after
 completes-after asks rows words channels l next (step.Add row seat) steps to all =
@@ -197,7 +198,7 @@ completes-after asks rows words channels l next (step.Built channel) steps to al
     })
 
 -- and with the step before it,
-completes-before : (asks : List Ask) (rows words channels : ℕ) (l next : Ledger) (s : Step) (steps : List Step) →
+completes-before : (asks : List Ask) (rows words channels : ℕ) (l next : Tally) (s : Step) (steps : List Step) →
     IsFor rows words channels l → after asks l s ≡ Some next → Completes rows words channels next steps →
     Completes rows words channels l (s ∷ steps)
 unfolding after
@@ -264,7 +265,7 @@ completes-before asks rows words channels l next (step.Built channel) steps is t
 counted-here : (flags : List Bool) (i n : ℕ) → (if i == i then suc n else n) ≡ unset flags i → suc n ≡ unset flags i
 counted-here flags i n is = rw (eqb-self i i refl) at is
 
-refused : (asks : List Ask) (rows words channels : ℕ) (l : Ledger) (s : Step) (steps : List Step) →
+refused : (asks : List Ask) (rows words channels : ℕ) (l : Tally) (s : Step) (steps : List Step) →
     IsFor rows words channels l → after asks l s ≡ None → Completes rows words channels l (s ∷ steps) → ⊥
 unfolding after
 refused asks rows words channels l (step.Add row seat) steps is none all =
@@ -301,6 +302,11 @@ pub found-true : {X : Type 0} (b : Bool) (x y : X) → (if b then Some x else No
 found-true true x y is = (refl, cc)
 found-true false x y is = absurd (cc is)
 
+pub last-three : (a b c : Bool) → (a && (b && c)) ≡ true → c ≡ true
+last-three true true c is = is
+last-three true false c is = absurd (cc is)
+last-three false b c is = absurd (cc is)
+
 all-four : (a b c d : Bool) → a ≡ true → b ≡ true → c ≡ true → d ≡ true → (a && (b && (c && d))) ≡ true
 all-four a b c d i j k h = rw (i, j, k, h) refl
 
@@ -311,8 +317,8 @@ each-four true true false d is = absurd (cc is)
 each-four true false c d is = absurd (cc is)
 each-four false b c d is = absurd (cc is)
 
--- where nothing is to be done any more, no step completes a ledger that is done, and none other
-done-none : (rows words channels : ℕ) (l : Ledger) → IsFor rows words channels l → Completes rows words channels l [] →
+-- where nothing is to be done any more, no step completes a tally that is done, and none other
+done-none : (rows words channels : ℕ) (l : Tally) → IsFor rows words channels l → Completes rows words channels l [] →
     is_done l ≡ true
 done-none rows words channels l is all =
     all-four (are_set l.added) (are_set l.taken) (are_set l.opened) (are_set l.built)
@@ -321,7 +327,7 @@ done-none rows words channels l is all =
     (none-set l.opened (λ i below. all.opened i (omega (arith, below, is.opened))))
     (none-set l.built (λ i below. all.built i (omega (arith, below, is.built))))
 
-none-done : (rows words channels : ℕ) (l : Ledger) → is_done l ≡ true → Completes rows words channels l []
+none-done : (rows words channels : ℕ) (l : Tally) → is_done l ≡ true → Completes rows words channels l []
 none-done rows words channels l done =
     let each = each-four (are_set l.added) (are_set l.taken) (are_set l.opened) (are_set l.built) done in
     record {
@@ -342,8 +348,8 @@ none-done rows words channels l done =
     no-builds c true = refl
     no-builds c false = refl
 
--- the machine goes through the steps that complete its ledger,
-pub complete_runs : (asks : List Ask) (rows words channels : ℕ) (l : Ledger) (steps : List Step) →
+-- the machine goes through the steps that complete its tally,
+pub complete_runs : (asks : List Ask) (rows words channels : ℕ) (l : Tally) (steps : List Step) →
     IsFor rows words channels l → Completes rows words channels l steps → run asks l steps ≡ None → ⊥
 unfolding run
 complete_runs asks rows words channels l [] is all none =
@@ -351,8 +357,8 @@ complete_runs asks rows words channels l [] is all none =
 complete_runs asks rows words channels l (s ∷ steps) is all none =
     by (after asks l s) refl (λ next. complete_runs asks rows words channels next steps)
   where
-    by : (found : Option Ledger) → after asks l s ≡ found →
-        ((next : Ledger) → IsFor rows words channels next → Completes rows words channels next steps →
+    by : (found : Option Tally) → after asks l s ≡ found →
+        ((next : Tally) → IsFor rows words channels next → Completes rows words channels next steps →
         run asks next steps ≡ None → ⊥) → ⊥
     by None to rest = refused asks rows words channels l s steps is to all
     by (Some next) to rest =
@@ -361,7 +367,7 @@ complete_runs asks rows words channels l (s ∷ steps) is all none =
         (ap (λ o. option_and_then (λ n. run asks n steps) o) (sym to) ∙ none)
 
 -- and through no others
-pub runs_complete : (asks : List Ask) (rows words channels : ℕ) (l end : Ledger) (steps : List Step) →
+pub runs_complete : (asks : List Ask) (rows words channels : ℕ) (l end : Tally) (steps : List Step) →
     IsFor rows words channels l → run asks l steps ≡ Some end → Completes rows words channels l steps
 unfolding run
 runs_complete asks rows words channels l end [] is to =
@@ -369,8 +375,8 @@ runs_complete asks rows words channels l end [] is to =
 runs_complete asks rows words channels l end (s ∷ steps) is to =
     by (after asks l s) refl (λ next. runs_complete asks rows words channels next end steps)
   where
-    by : (found : Option Ledger) → after asks l s ≡ found →
-        ((next : Ledger) → IsFor rows words channels next → run asks next steps ≡ Some end →
+    by : (found : Option Tally) → after asks l s ≡ found →
+        ((next : Tally) → IsFor rows words channels next → run asks next steps ≡ Some end →
         Completes rows words channels next steps) → Completes rows words channels l (s ∷ steps)
     by None none rest = absurd (cc (ap (λ o. option_and_then (λ n. run asks n steps) o) (sym none) ∙ to))
     by (Some next) made rest =
@@ -381,7 +387,7 @@ runs_complete asks rows words channels l end (s ∷ steps) is to =
 -- From the opening.
 
 opening-for : (words : List ℕ) (rows channels : ℕ) →
-    IsFor rows (length words) channels (opening_ledger words rows channels)
+    IsFor rows (length words) channels (opening_tally words rows channels)
 opening-for words rows channels = record {
   added = length-replicate rows false;
   taken = length-replicate (length words) false;
@@ -394,7 +400,7 @@ fresh n i below = get_or-replicate n i false true below
 
 opening-completes : (words : List ℕ) (rows channels : ℕ) (steps : List Step) →
     IsComplete rows (length words) channels steps →
-    Completes rows (length words) channels (opening_ledger words rows channels) steps
+    Completes rows (length words) channels (opening_tally words rows channels) steps
 opening-completes words rows channels steps all = record {
   there = all.there;
   added = λ r below. all.added r below ∙ sym (unset-fresh rows r below);
@@ -407,7 +413,7 @@ opening-completes words rows channels steps all = record {
 }
 
 completes-opening : (words : List ℕ) (rows channels : ℕ) (steps : List Step) →
-    Completes rows (length words) channels (opening_ledger words rows channels) steps →
+    Completes rows (length words) channels (opening_tally words rows channels) steps →
     IsComplete rows (length words) channels steps
 completes-opening words rows channels steps all = record {
   there = all.there;
@@ -421,17 +427,17 @@ completes-opening words rows channels steps all = record {
 }
 
 -- the machine goes through complete lists, and through no others
-pub complete : (asks : List Ask) (words : List ℕ) (channels : ℕ) (end : Ledger) (steps : List Step) →
-    run asks (opening_ledger words (length asks) channels) steps ≡ Some end →
+pub complete : (asks : List Ask) (words : List ℕ) (channels : ℕ) (end : Tally) (steps : List Step) →
+    run asks (opening_tally words (length asks) channels) steps ≡ Some end →
     IsComplete (length asks) (length words) channels steps
 complete asks words channels end steps to =
     completes-opening words (length asks) channels steps
-    (runs_complete asks (length asks) (length words) channels (opening_ledger words (length asks) channels) end steps
+    (runs_complete asks (length asks) (length words) channels (opening_tally words (length asks) channels) end steps
     (opening-for words (length asks) channels) to)
 
 pub incomplete : (asks : List Ask) (words : List ℕ) (channels : ℕ) (steps : List Step) →
-    run asks (opening_ledger words (length asks) channels) steps ≡ None →
+    run asks (opening_tally words (length asks) channels) steps ≡ None →
     IsComplete (length asks) (length words) channels steps → ⊥
 incomplete asks words channels steps none all =
-    complete_runs asks (length asks) (length words) channels (opening_ledger words (length asks) channels) steps
+    complete_runs asks (length asks) (length words) channels (opening_tally words (length asks) channels) steps
     (opening-for words (length asks) channels) (opening-completes words (length asks) channels steps all) none

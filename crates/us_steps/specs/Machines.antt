@@ -1,147 +1,163 @@
--- The step machine: what stands after each step, and what each seat added and took.
-use Rattle.std.specs.Prelude.{ℕ, ◌+◌, ◌==◌, Bool, true, false, not, ◌&&◌, ◌||◌, if◌then◌else◌, List, [], ◌∷◌, length, replicate, get_or, slice_index, slice_get, slice_set, Option, Some, None, option_map, option_and_then}
+-- The step machine: what stands after each step of a round, in words, seats and channels.
+use Rattle.std.specs.Prelude.{ℕ, ◌+◌, ◌==◌, Bool, true, false, ◌&&◌, ◌||◌, if◌then◌else◌, List, [], ◌∷◌, length, map, replicate, get_or, slice_index, slice_get, slice_set, Option, Some, None, option_map, option_and_then}
 use Rattle.us_requests.specs.declared.asks.Ask.{Ask}
+use Rattle.us_round.specs.Rounds.{State, Filled, Built, begun, fills_of, round_plan, build_on}
 use Rattle.us_steps.specs.Steps.{bytes_in}
 use Rattle.us_steps.specs.declared.steps.Step.{Step}
 use Rattle.us_steps.specs.declared.steps.Step.TheVariants as step
 
--- the word and the cut of each cluster; which rows were added and which words taken; which channels were opened and which
--- built, a channel being at home before it is opened, and out until it is built; whether any channel was opened
-pub record Ledger : Type 0 where
+-- A channel is at home, after its reserves and its calendar; or out with a worker; or done: its claims are placed.
+pub data Stand : Type 0 where
+  Home : Filled → Stand
+  Out : Filled → Stand
+  Done : Built → Stand
+
+-- the bytes that each seat added to each word, and those that it took of it
+pub record Seats : Type 0 where
+  pub added : ℕ → ℕ → ℕ
+  pub took : ℕ → ℕ → ℕ
+
+-- what each word has, and what of it is cut so far; what each seat added and took; which rows were added, and which words
+-- were taken; and where each channel stands
+pub record Machine : Type 0 where
   pub words : List ℕ
   pub cut : List ℕ
+  pub seats : Seats
   pub added : List Bool
   pub taken : List Bool
-  pub opened : List Bool
-  pub built : List Bool
-  pub settled : Bool
+  pub channels : List Stand
 
--- before the first step
-abbrev pub opening_ledger : List ℕ → ℕ → ℕ → Ledger
-opening_ledger words rows channels = record {
+abbrev pub no_seats : Seats
+no_seats = record { added = λ seat word. 0; took = λ seat word. 0 }
+
+-- before the first step of a state's round, with these words and so many rows
+abbrev pub opening_machine : State → List ℕ → ℕ → Machine
+opening_machine s words rows = record {
   words = words;
   cut = replicate (length words) 0;
+  seats = no_seats;
   added = replicate rows false;
   taken = replicate (length words) false;
-  opened = replicate channels false;
-  built = replicate channels false;
-  settled = false;
+  channels = map (λ f. Home f) (fills_of s);
 }
+
+-- Rows.
 
 -- words with a row's bytes
 abbrev pub raised : List ℕ → Option Ask → List ℕ
 raised words None = words
 raised words (Some ask) = slice_set words ask.cluster (slice_index words ask.cluster + ask.bytes)
 
--- a row's bytes are added to its cluster's word,
-abbrev pub with_row : List Ask → Ledger → ℕ → Ledger
-with_row rows l row = record {
-  words = raised l.words (slice_get rows row);
-  cut = l.cut;
-  added = slice_set l.added row true;
-  taken = l.taken;
-  opened = l.opened;
-  built = l.built;
-  settled = l.settled;
+-- a seat that adds a row adds its bytes to its cluster's word
+abbrev pub having_added : Seats → ℕ → Option Ask → Seats
+having_added seats by row = record {
+  added = λ seat word. if seat == by then seats.added seat word + bytes_in word row else seats.added seat word;
+  took = seats.took;
 }
 
--- a word moves into the cut, and leaves 0,
-abbrev pub without_word : Ledger → ℕ → Ledger
-without_word l word = record {
-  words = slice_set l.words word 0;
-  cut = slice_set l.cut word (slice_index l.cut word + slice_index l.words word);
-  added = l.added;
-  taken = slice_set l.taken word true;
-  opened = l.opened;
-  built = l.built;
-  settled = l.settled;
+abbrev pub with_row : List Ask → Machine → ℕ → ℕ → Machine
+with_row rows m row by = record {
+  words = raised m.words (slice_get rows row);
+  cut = m.cut;
+  seats = having_added m.seats by (slice_get rows row);
+  added = slice_set m.added row true;
+  taken = m.taken;
+  channels = m.channels;
 }
 
--- a channel goes out,
-abbrev pub with_open : Ledger → ℕ → Ledger
-with_open l channel = record {
-  words = l.words;
-  cut = l.cut;
-  added = l.added;
-  taken = l.taken;
-  opened = slice_set l.opened channel true;
-  built = l.built;
-  settled = true;
+-- Words.
+
+-- a seat that takes a word takes what it has
+abbrev pub having_taken : Seats → ℕ → ℕ → ℕ → Seats
+having_taken seats by taken bytes = record {
+  added = seats.added;
+  took = λ seat word. if (seat == by) && (word == taken) then seats.took seat word + bytes else seats.took seat word;
 }
 
--- and is built
-abbrev pub with_built : Ledger → ℕ → Ledger
-with_built l channel = record {
-  words = l.words;
-  cut = l.cut;
-  added = l.added;
-  taken = l.taken;
-  opened = l.opened;
-  built = slice_set l.built channel true;
-  settled = l.settled;
+-- the word moves into the cut, and leaves 0
+abbrev pub without_word : Machine → ℕ → ℕ → Machine
+without_word m word by = record {
+  words = slice_set m.words word 0;
+  cut = slice_set m.cut word (slice_index m.cut word + slice_index m.words word);
+  seats = having_taken m.seats by word (slice_index m.words word);
+  added = m.added;
+  taken = slice_set m.taken word true;
+  channels = m.channels;
 }
 
--- the ledger after a step; none where the step has no place there, a row, word or channel that isn't there being one that
--- was added, taken or opened already
-unfoldable pub after : List Ask → Ledger → Step → Option Ledger
-after rows l (step.Add row seat) = if get_or l.added row true then None else Some (with_row rows l row)
-after rows l (step.Take word seat) =
-    if l.settled || get_or l.taken word true then None else Some (without_word l word)
-after rows l (step.Open channel) = if get_or l.opened channel true then None else Some (with_open l channel)
-after rows l (step.Built channel) =
-    if not (get_or l.opened channel false) || get_or l.built channel true then None else Some (with_built l channel)
+-- Channels.
 
--- all rows are added, all words taken, and all channels built
+-- one that is at home goes out
+abbrev pub opened : Stand → Option Stand
+opened (Home f) = Some (Out f)
+opened (Out f) = None
+opened (Done b) = None
+
+-- the round's plan, of the state that has begun, places claims on a channel
+abbrev pub placed : State → Filled → Built
+placed s f = build_on (round_plan s) f
+
+-- and one that is out is done then
+abbrev pub built : State → Stand → Option Stand
+built s (Home f) = None
+built s (Out f) = Some (Done (placed s f))
+built s (Done b) = None
+
+abbrev pub with_channel : Machine → ℕ → Stand → Machine
+with_channel m channel stand = record {
+  words = m.words;
+  cut = m.cut;
+  seats = m.seats;
+  added = m.added;
+  taken = m.taken;
+  channels = slice_set m.channels channel stand;
+}
+
+-- whether a channel was opened, and whether it is done
+abbrev pub is_open : Stand → Bool
+is_open (Home f) = false
+is_open (Out f) = true
+is_open (Done b) = true
+
+abbrev pub is_built : Stand → Bool
+is_built (Home f) = false
+is_built (Out f) = false
+is_built (Done b) = true
+
+abbrev pub any_open : List Stand → Bool
+any_open [] = false
+any_open (channel ∷ channels) = is_open channel || any_open channels
+
+-- Steps.
+
+-- the machine after a step. There is none where the step has no place: its row was added, its word was taken, or any
+-- channel was opened before the word; its channel isn't at home to be opened, or isn't out to be done; or there is no such
+-- row, word or channel
+unfoldable pub after_step : State → List Ask → Machine → Step → Option Machine
+after_step s rows m (step.Add row by) = if get_or m.added row true then None else Some (with_row rows m row by)
+after_step s rows m (step.Take word by) =
+    if any_open m.channels || get_or m.taken word true then None else Some (without_word m word by)
+after_step s rows m (step.Open channel) =
+    option_map (with_channel m channel) (option_and_then opened (slice_get m.channels channel))
+after_step s rows m (step.Built channel) =
+    option_map (with_channel m channel) (option_and_then (built (begun s m.cut)) (slice_get m.channels channel))
+
 abbrev pub are_set : List Bool → Bool
 are_set [] = true
 are_set (flag ∷ flags) = flag && are_set flags
 
-abbrev pub is_done : Ledger → Bool
-is_done l = are_set l.added && (are_set l.taken && (are_set l.opened && are_set l.built))
+-- all rows are added, all words taken, and all channels done
+abbrev pub is_done : Machine → Bool
+is_done m = are_set m.added && (are_set m.taken && are_set (map is_built m.channels))
 
--- the ledger after all steps; none where one has no place, or something isn't done
-unfoldable pub run : List Ask → Ledger → List Step → Option Ledger
-run rows l [] = if is_done l then Some l else None
-run rows l (s ∷ steps) = option_and_then (λ next. run rows next steps) (after rows l s)
+-- the machine after all steps; none where one has no place, or something isn't done
+unfoldable pub run : State → List Ask → Machine → List Step → Option Machine
+run s rows m [] = if is_done m then Some m else None
+run s rows m (next ∷ steps) = option_and_then (λ after. run s rows after steps) (after_step s rows m next)
 
--- Seats.
-
--- the bytes that each seat added to each word, and those that it took of it
-pub record Account : Type 0 where
-  pub added : ℕ → ℕ → ℕ
-  pub took : ℕ → ℕ → ℕ
-
--- a ledger with the account of its seats
-pub record Machine : Type 0 where
-  pub ledger : Ledger
-  pub seats : Account
-
-abbrev pub opening_machine : List ℕ → ℕ → ℕ → Machine
-opening_machine words rows channels = record {
-  ledger = opening_ledger words rows channels;
-  seats = record { added = λ seat word. 0; took = λ seat word. 0 };
-}
-
--- what a step adds to the account: who adds a row adds its bytes to its cluster's word, and who takes a word takes what
--- it has
-abbrev pub counted : List Ask → Ledger → Account → Step → Account
-counted rows l seats (step.Add row by) = record {
-  added = λ seat word. if seat == by then seats.added seat word + bytes_in word (slice_get rows row) else seats.added seat word;
-  took = seats.took;
-}
-counted rows l seats (step.Take taken by) = record {
-  added = seats.added;
-  took = λ seat word.
-      if (seat == by) && (word == taken) then seats.took seat word + slice_index l.words word else seats.took seat word;
-}
-counted rows l seats (step.Open channel) = seats
-counted rows l seats (step.Built channel) = seats
-
--- the machine after a step
-unfoldable pub after_step : List Ask → Machine → Step → Option Machine
-after_step rows m s = option_map (λ l. record { ledger = l; seats = counted rows m.ledger m.seats s }) (after rows m.ledger s)
-
--- the machine after all steps; none where its ledger doesn't come to an end
-unfoldable pub run_machine : List Ask → Machine → List Step → Option Machine
-run_machine rows m [] = if is_done m.ledger then Some m else None
-run_machine rows m (s ∷ steps) = option_and_then (λ next. run_machine rows next steps) (after_step rows m s)
+-- the channels that are done
+abbrev pub builds_in : List Stand → List Built
+builds_in [] = []
+builds_in (Home f ∷ channels) = builds_in channels
+builds_in (Out f ∷ channels) = builds_in channels
+builds_in (Done b ∷ channels) = b ∷ builds_in channels

@@ -6,7 +6,7 @@ ghost use Rattle.us_requests.specs.Cuts as requests;
 ghost use Rattle.us_steps.specs.Plays.{Plays};
 
 use crate::Step;
-use crate::tallies::tally;
+use crate::tallies::tallied;
 use std::alloc::Global;
 use us_requests::Ask;
 use us_round::{RoundFault, RoundOut, State, round_alone};
@@ -36,7 +36,7 @@ pub fn play(
         (option_map (λ done. record { state = done.0; words = done.1.items; out = done.2 }) found)) }
     ensures fault { IfErr result (λ given. given ≡ RoundFault.NoMemory) }
 {
-    let Some((cut, left)) = tally(alloc, words, rows, state.channels(), steps)? else {
+    let Some((cut, left)) = tallied(alloc, words, rows, state.channels(), steps)? else {
         return Ok(None);
     };
     let (state, out) = round_alone(alloc, state, &cut)?;

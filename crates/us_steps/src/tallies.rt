@@ -1,8 +1,9 @@
 ghost use Rattle.std.specs.Prelude.{◌≡◌, ◌+◌, ◌^◌, ◌<◌, ℕ, Bool, not, ◌||◌, if◌then◌else◌, length, get_or, slice_index, slice_set, Some, None, true, false, option_map, IfOk, IsTrue};
 ghost use Rattle.std.specs.List.{AllByRecursion};
-ghost use Rattle.us_steps.specs.Machines as spec;
+ghost use Rattle.us_steps.specs.Machines as machine;
+ghost use Rattle.us_steps.specs.Tallies as spec;
 ghost use Rattle.us_requests.specs.Cuts as requests;
-ghost use Rattle.us_steps.specs.Accounts.{IsReady, Tallies};
+ghost use Rattle.us_steps.specs.Tallies.{IsReady, IsTallied};
 ghost use Rattle.us_steps.specs.declared.steps.Step.TheVariants as step;
 
 use crate::Step;
@@ -12,7 +13,7 @@ use us_requests::Ask;
 use us_slots::NoMemory;
 
 /// What stands after each step: the words, the cut, and what was done so far.
-struct Ledger {
+struct Tally {
     words: Vec<u64>,
     cut: Vec<u64>,
     added: Vec<bool>,
@@ -22,8 +23,8 @@ struct Ledger {
     settled: bool,
 }
 
-impl Model for Ledger {
-    ghost Value = { spec.Ledger };
+impl Model for Tally {
+    ghost Value = { spec.Tally };
 
     ghost view = { λ l. record {
       words = l.words.items;
@@ -36,10 +37,10 @@ impl Model for Ledger {
     } };
 }
 
-/// Gives the ledger up. It is written out so that it is one step wherever a ledger ends.
-impl Drop for Ledger {
+/// Gives the tally up. It is written out so that it is one step wherever a tally ends.
+impl Drop for Tally {
     fn drop(self) {
-        let Ledger {
+        let Tally {
             words: _,
             cut: _,
             added: _,
@@ -51,10 +52,10 @@ impl Drop for Ledger {
     }
 }
 
-impl Ledger {
+impl Tally {
     /// Before the first step.
-    fn new(alloc: Global, words: &[u64], rows: usize, channels: usize) -> Result<Ledger, NoMemory>
-        ensures { IfOk result (λ ledger. ledger ≡ spec.opening_ledger words.now rows channels) }
+    fn new(alloc: Global, words: &[u64], rows: usize, channels: usize) -> Result<Tally, NoMemory>
+        ensures { IfOk result (λ tally. tally ≡ spec.opening_tally words.now rows channels) }
     {
         let cut = vec![in alloc; 0; words.len()]?;
         let added = vec![in alloc; false; rows]?;
@@ -62,7 +63,7 @@ impl Ledger {
         let opened = vec![in alloc; false; channels]?;
         let built = vec![in alloc; false; channels]?;
         let words = words.to_vec(alloc)?;
-        Ok(Ledger {
+        Ok(Tally {
             words,
             cut,
             added,
@@ -78,7 +79,7 @@ impl Ledger {
         ensures cut { result.0.items ≡ self.cut }
         ensures words { result.1.items ≡ self.words }
     {
-        let Ledger {
+        let Tally {
             words,
             cut,
             added: _,
@@ -177,7 +178,7 @@ impl Ledger {
 }
 
 /// The cut of these steps, and what they leave in the words, if they are complete.
-pub(crate) fn tally(
+pub(crate) fn tallied(
     alloc: Global,
     words: &[u64],
     rows: &[Ask],
@@ -187,28 +188,28 @@ pub(crate) fn tally(
     requires rows { AllByRecursion (λ ask. ask.cluster < length words.now) rows.now }
     requires room { (q : ℕ) → q < length words.now →
         slice_index words.now q + requests.asked rows.now q < 2 ^ 62 }
-    ensures { IfOk result (λ found. Tallies words.now rows.now channels steps.now
+    ensures { IfOk result (λ found. IsTallied words.now rows.now channels steps.now
         (option_map (λ parts. (parts.0.items, parts.1.items)) found)) }
 {
-    let mut ledger = Ledger::new(alloc, words, rows.len(), channels)?;
-    if walk(&mut ledger, rows, steps) {
-        Ok(Some(ledger.into_parts()))
+    let mut tally = Tally::new(alloc, words, rows.len(), channels)?;
+    if walk(&mut tally, rows, steps) {
+        Ok(Some(tally.into_parts()))
     } else {
         Ok(None)
     }
 }
 
 /// Makes these steps, and tells whether each has a place there, and all is done then.
-fn walk(ledger: &mut Ledger, rows: &[Ask], steps: &[Step]) -> bool
-    requires { IsReady rows.now ledger.old }
-    ensures { spec.run rows.now ledger.old steps.now ≡ (if result then Some ledger.new else None) }
+fn walk(tally: &mut Tally, rows: &[Ask], steps: &[Step]) -> bool
+    requires { IsReady rows.now tally.old }
+    ensures { spec.run rows.now tally.old steps.now ≡ (if result then Some tally.new else None) }
 {
     for next in steps {
-        if !ledger.step(rows, *next) {
+        if !tally.step(rows, *next) {
             return false;
         }
     }
-    ledger.is_done()
+    tally.is_done()
 }
 
 /// Sets a flag, and tells whether it is there and wasn't set.
@@ -233,7 +234,7 @@ fn is_set(flags: &[bool], place: usize) -> bool
 
 /// Whether all flags are set.
 fn are_set(flags: &[bool]) -> bool
-    ensures { result ≡ spec.are_set flags.now }
+    ensures { result ≡ machine.are_set flags.now }
 {
     for flag in flags {
         if !*flag {
@@ -247,7 +248,7 @@ fn are_set(flags: &[bool]) -> bool
 fn raise(words: &mut [u64], ask: Ask)
     requires inside { ask.cluster < length words.old }
     requires room { slice_index words.old ask.cluster + ask.bytes < 2 ^ 64 }
-    ensures { words.new ≡ spec.raised words.old (Some ask) }
+    ensures { words.new ≡ machine.raised words.old (Some ask) }
 {
     words[usize::from(ask.cluster)] += u64::from(ask.bytes);
 }

@@ -1,4 +1,4 @@
--- What a ledger keeps from step to step: nothing is lost, and no number grows too large.
+-- What a tally keeps from step to step: nothing is lost, and no number grows too large.
 use Rattle.std.proofs.Common.{◌≡◌, ℕ, zero, suc, ◌+◌, ◌^◌, ◌<◌, ◌≤◌, ◌==◌, Bool, true, false, not, ◌||◌, if◌then◌else◌, List, [], ◌∷◌, length, drop, set, get_or, slice_index, slice_get, slice_set, Option, Some, None, refl, ap, sym, subst, ◌∙◌, inl, inr, arith}
 use Rattle.std.specs.Prelude.{option_and_then}
 use Rattle.std.specs.List.{AllByRecursion}
@@ -9,8 +9,8 @@ use Rattle.us_requests.specs.declared.asks.Ask.{Ask}
 use Rattle.us_steps.specs.declared.steps.Step.{Step}
 use Rattle.us_steps.specs.declared.steps.Step.TheVariants as step
 use Rattle.us_steps.specs.Steps.{bytes_for, bytes_in}
-use Rattle.us_steps.specs.Machines.{Ledger, raised, with_row, without_word, with_open, with_built, after, is_done, run}
-use Rattle.us_steps.specs.Accounts.{IsReady, IsSized, unadded}
+use Rattle.us_steps.specs.Machines.{raised}
+use Rattle.us_steps.specs.Tallies.{Tally, with_row, without_word, with_open, with_built, after, is_done, run, IsReady, IsSized, unadded}
 use Rattle.us_round.proofs.PartLemmas.{all_found}
 use Rattle.us_round.proofs.StateLemmas.{eqb-self}
 use Rattle.us_steps.proofs.FlagLemmas.{clear-inside}
@@ -104,21 +104,21 @@ moved cut words w q inside long = elim (cases_Bool (w == q)) [
 ]
 
 -- the bytes of a cluster in all places: its cut, its word, and its rows that aren't added yet
-abbrev pub balance : List Ask → Ledger → ℕ → ℕ
+abbrev pub balance : List Ask → Tally → ℕ → ℕ
 balance rows l q = slice_index l.cut q + (slice_index l.words q + unadded q rows l.added)
 
-pub row_balance : (rows : List Ask) (l : Ledger) (row q : ℕ) → IsSized rows l → get_or l.added row true ≡ false →
+pub row_balance : (rows : List Ask) (l : Tally) (row q : ℕ) → IsSized rows l → get_or l.added row true ≡ false →
     balance rows (with_row rows l row) q ≡ balance rows l q
 row_balance rows l row q ready clear =
     omega (arith, raised-in l.words rows row q ready.clusters, unadded-set q rows l.added row ready.added clear)
 
-pub word_balance : (rows : List Ask) (l : Ledger) (word q : ℕ) → IsSized rows l → get_or l.taken word true ≡ false →
+pub word_balance : (rows : List Ask) (l : Tally) (word q : ℕ) → IsSized rows l → get_or l.taken word true ≡ false →
     balance rows (without_word l word) q ≡ balance rows l q
 word_balance rows l word q ready clear =
     let inside : word < length l.words = omega (arith, clear-inside l.taken word clear, ready.taken) in
     omega (arith, moved l.cut l.words word q inside ready.cut)
 
-sized_row : (rows : List Ask) (l : Ledger) (row : ℕ) → IsSized rows l → get_or l.added row true ≡ false →
+sized_row : (rows : List Ask) (l : Tally) (row : ℕ) → IsSized rows l → get_or l.added row true ≡ false →
     IsSized rows (with_row rows l row)
 sized_row rows l row ready clear =
     let long : length (raised l.words (slice_get rows row)) ≡ length l.words = raised-length l.words (slice_get rows row) in
@@ -130,7 +130,7 @@ sized_row rows l row ready clear =
       built = ready.built;
     }
 
-sized_word : (rows : List Ask) (l : Ledger) (word : ℕ) → IsSized rows l → get_or l.taken word true ≡ false →
+sized_word : (rows : List Ask) (l : Tally) (word : ℕ) → IsSized rows l → get_or l.taken word true ≡ false →
     IsSized rows (without_word l word)
 sized_word rows l word ready clear =
     let long : length (slice_set l.words word 0) ≡ length l.words = length-set l.words word 0 in
@@ -142,7 +142,7 @@ sized_word rows l word ready clear =
       built = ready.built;
     }
 
-sized_open : (rows : List Ask) (l : Ledger) (channel : ℕ) → IsSized rows l → IsSized rows (with_open l channel)
+sized_open : (rows : List Ask) (l : Tally) (channel : ℕ) → IsSized rows l → IsSized rows (with_open l channel)
 sized_open rows l channel ready = record {
   added = ready.added;
   clusters = ready.clusters;
@@ -151,7 +151,7 @@ sized_open rows l channel ready = record {
   built = ready.built ∙ sym (length-set l.opened channel true);
 }
 
-sized_built : (rows : List Ask) (l : Ledger) (channel : ℕ) → IsSized rows l → IsSized rows (with_built l channel)
+sized_built : (rows : List Ask) (l : Tally) (channel : ℕ) → IsSized rows l → IsSized rows (with_built l channel)
 sized_built rows l channel ready = record {
   added = ready.added;
   clusters = ready.clusters;
@@ -161,7 +161,7 @@ sized_built rows l channel ready = record {
 }
 
 -- no step changes how many there are,
-pub sized_after : (rows : List Ask) (l next : Ledger) (s : Step) → IsSized rows l → after rows l s ≡ Some next →
+pub sized_after : (rows : List Ask) (l next : Tally) (s : Step) → IsSized rows l → after rows l s ≡ Some next →
     IsSized rows next
 unfolding after
 sized_after rows l next (step.Add row seat) ready is =
@@ -178,7 +178,7 @@ sized_after rows l next (step.Built channel) ready is =
     subst (λ n. IsSized rows n) at.1 (sized_built rows l channel ready)
 
 -- and no byte is lost
-pub balance_after : (rows : List Ask) (l next : Ledger) (s : Step) (q : ℕ) → IsSized rows l → after rows l s ≡ Some next →
+pub balance_after : (rows : List Ask) (l next : Tally) (s : Step) (q : ℕ) → IsSized rows l → after rows l s ≡ Some next →
     balance rows next q ≡ balance rows l q
 unfolding after
 balance_after rows l next (step.Add row seat) q ready is =
@@ -196,7 +196,7 @@ balance_after rows l next (step.Built channel) q ready is =
     ap (λ n. balance rows n q) (sym at.1)
 
 -- so there is room still
-pub ready_after : (rows : List Ask) (l next : Ledger) (s : Step) → IsReady rows l → after rows l s ≡ Some next →
+pub ready_after : (rows : List Ask) (l next : Tally) (s : Step) → IsReady rows l → after rows l s ≡ Some next →
     IsReady rows next
 ready_after rows l next s ready is = record {
   sized = sized_after rows l next s ready.sized is;
@@ -204,7 +204,7 @@ ready_after rows l next s ready is = record {
 }
 
 -- a row's bytes have room in its word
-pub row_room : (rows : List Ask) (l : Ledger) (row : ℕ) (d : Ask) → IsReady rows l → get_or l.added row true ≡ false →
+pub row_room : (rows : List Ask) (l : Tally) (row : ℕ) (d : Ask) → IsReady rows l → get_or l.added row true ≡ false →
     slice_index l.words (get_or rows row d).cluster + (get_or rows row d).bytes < 2 ^ 62
 row_room rows l row d ready clear =
     let ask : Ask = get_or rows row d in
@@ -215,7 +215,7 @@ row_room rows l row d ready clear =
     omega (arith, ready.room ask.cluster, unadded-set ask.cluster rows l.added row ready.sized.added clear, own)
 
 -- what adding a row leaves
-pub row_added : (rows : List Ask) (l m : Ledger) (row : ℕ) (d : Ask) (words : List ℕ) (added : List Bool) → m ≡ l →
+pub row_added : (rows : List Ask) (l m : Tally) (row : ℕ) (d : Ask) (words : List ℕ) (added : List Bool) → m ≡ l →
     length l.added ≡ length rows → get_or l.added row true ≡ false →
     words ≡ raised m.words (Some (get_or rows row d)) → added ≡ slice_set m.added row true →
     (if get_or l.added row true then None else Some (with_row rows l row)) ≡ Some (record {
@@ -242,7 +242,7 @@ row_added rows l m row d words added same long clear more flag =
 -- All steps.
 
 -- the first of them, and then the others,
-pub run_first : (rows : List Ask) (l : Ledger) (steps : List Step) (i : ℕ) (d : Step) (next : Option Ledger) →
+pub run_first : (rows : List Ask) (l : Tally) (steps : List Step) (i : ℕ) (d : Step) (next : Option Tally) →
     i < length steps → after rows l (get_or steps i d) ≡ next →
     run rows l (drop i steps) ≡ option_and_then (λ n. run rows n (drop (i + 1) steps)) next
 unfolding run
@@ -251,7 +251,7 @@ run_first rows l steps i d next below to =
     ∙ ap (λ n. option_and_then (λ m. run rows m (drop (i + 1) steps)) n) to
 
 -- and behind the last
-pub run_end : (rows : List Ask) (l : Ledger) (steps : List Step) (i : ℕ) → length steps ≤ i →
+pub run_end : (rows : List Ask) (l : Tally) (steps : List Step) (i : ℕ) → length steps ≤ i →
     run rows l (drop i steps) ≡ (if is_done l then Some l else None)
 unfolding run
 run_end rows l steps i past = ap (λ rest. run rows l rest) (drop_all i steps past)

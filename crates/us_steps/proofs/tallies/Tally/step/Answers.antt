@@ -1,6 +1,6 @@
 use Rattle.std.proofs.Common.{ap, ◌∙◌}
-use Rattle.us_steps.specs.Machines.{after}
-use Rattle.us_steps.proofs.tallies.Ledger.step.Goals as goal
+use Rattle.us_steps.specs.Tallies.{after}
+use Rattle.us_steps.proofs.tallies.Tally.step.Goals as goal
 
 pub returns-in-Add : goal.returns-in-Add
 unfolding after
