@@ -8,15 +8,16 @@ ghost use Rattle.us_round.specs.Rounds as spec;
 ghost use Rattle.us_round.specs.Outputs.{out_of};
 ghost use Rattle.us_round.specs.Stages.{AreFilled, AreBuilt};
 
-use crate::building::{Built, Filled, build_on, fill};
+use crate::building::{Built, Filled};
 use crate::cores::Core;
 use crate::faults::RoundFault;
 use crate::lanes::Lane;
-use crate::phases::with_channels;
+use crate::phases::{Building, Filling, answers, with_channels};
 use crate::round_outs::RoundOut;
 use crate::rounds::{begin, finish, plan_round};
 use crate::states::State;
 use std::alloc::Global;
+use us_crew::map_alone;
 use us_flows::Config;
 use us_slots::NoMemory;
 use us_split::TurnShares;
@@ -68,12 +69,7 @@ fn fill_each(alloc: Global, core: &Core, calendars: Vec<Lane>) -> Result<Vec<Fil
     let config = core.config();
     let round = core.round();
     let items = with_channels(alloc, config, calendars)?;
-    let mut all = Vec::with_capacity(alloc, items.len())?;
-    for item in items {
-        let (channel, lane) = item;
-        all.push(fill(alloc, config, &channel, lane, round)?)?;
-    }
-    Ok(all)
+    answers(map_alone(alloc, &Filling { config, round }, items))
 }
 
 /// Places the claims of a plan on all channels.
@@ -87,9 +83,5 @@ fn build_each(
     requires ticks { AllByRecursion (kept.HasFewTicks) all.items }
     ensures { IfOk result (λ builds. builds.items ≡ map (kept.kept_build config.now plan.now) all.items) }
 {
-    let mut builds = Vec::with_capacity(alloc, all.len())?;
-    for filled in all {
-        builds.push(build_on(alloc, config, plan, filled)?)?;
-    }
-    Ok(builds)
+    answers(map_alone(alloc, &Building { config, plan }, all))
 }

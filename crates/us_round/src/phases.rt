@@ -19,9 +19,9 @@ use us_split::TurnShares;
 
 /// Does the reserves and the calendar of a channel.
 #[derive(Clone, Copy)]
-struct Filling<'a> {
-    config: &'a Config,
-    round: u32,
+pub(crate) struct Filling<'a> {
+    pub config: &'a Config,
+    pub round: u32,
 }
 
 impl<'a> Work<(Channel, Lane), Filled, NoMemory> for Filling<'a> {
@@ -41,9 +41,9 @@ impl<'a> Work<(Channel, Lane), Filled, NoMemory> for Filling<'a> {
 
 /// Places the claims of a plan on a channel.
 #[derive(Clone, Copy)]
-struct Building<'a> {
-    config: &'a Config,
-    plan: &'a [TurnShares],
+pub(crate) struct Building<'a> {
+    pub config: &'a Config,
+    pub plan: &'a [TurnShares],
 }
 
 impl<'a> Work<Filled, Built, NoMemory> for Building<'a> {
@@ -118,8 +118,8 @@ pub(crate) fn build_all<H: Threads + Sync, G: Gate + Sync>(
     answers(map_owned(threads, alloc, &work, Phase::Build, all, workers, gate))
 }
 
-/// What workers answered, or want of memory.
-fn answers<R: Drop>(answered: Result<Vec<R>, CrewFault<NoMemory>>) -> Result<Vec<R>, NoMemory>
+/// What was answered for all channels, or want of memory.
+pub(crate) fn answers<R: Drop>(answered: Result<Vec<R>, CrewFault<NoMemory>>) -> Result<Vec<R>, NoMemory>
     ensures { IfOk result (λ all. answered ≡ Ok all) }
 {
     match answered {

@@ -1,10 +1,11 @@
 -- Small lists of steps, computed by the definitions alone.
-use Rattle.std.specs.Prelude.{◌≡◌, ℕ, List, [], ◌∷◌, slice_index, Option, Some, None, option_map, refl}
+use Rattle.std.specs.Prelude.{◌≡◌, ℕ, List, [], ◌∷◌, slice_index, false, Option, Some, None, option_map, refl}
 use Rattle.std.specs.List.{AllByRecursion}
 use Rattle.std.proofs.Common.{arith}
 use Rattle.us_requests.specs.declared.asks.Ask.{Ask}
-use Rattle.us_steps.specs.Steps.{adds, builds, count, cut_of, left_of, IsComplete}
-use Rattle.us_steps.specs.Machines.{Ledger, Machine, after, run, opening_ledger, after_step, run_machine, opening_machine}
+use Rattle.us_steps.specs.Steps.{adds, count, cut_of, left_of, IsComplete}
+use Rattle.us_round.specs.Rounds.{State, Filled, begun}
+use Rattle.us_steps.specs.Machines.{Stand, Home, Done, Machine, no_seats, placed, after_step, run}
 use Rattle.us_steps.specs.Plays.{cuts_of, words_after}
 use Rattle.us_steps.specs.Laws.{IsSeated, all_added, all_took}
 use Rattle.us_steps.specs.declared.steps.Step.{Step}
@@ -62,37 +63,54 @@ added_twice all =
 
 -- The machine.
 
--- the cut and the words in the end
-abbrev ends : List Step → Option (List ℕ × List ℕ)
-ends steps = option_map (λ (l : Ledger). (l.cut, l.words)) (run rows (opening_ledger (0 ∷ []) 2 1) steps)
+-- the word has so many bytes, and the one channel is at home
+abbrev start : ℕ → Filled → Machine
+start word f = record {
+  words = word ∷ [];
+  cut = 0 ∷ [];
+  seats = no_seats;
+  added = false ∷ false ∷ [];
+  taken = false ∷ [];
+  channels = Home f ∷ [];
+}
 
-goes_on : (ends in_time ≡ Some (1200 ∷ [], 0 ∷ [])) × (ends one_late ≡ Some (700 ∷ [], 500 ∷ []))
-unfolding run after
-goes_on = (refl, refl)
+-- the cut, the words and the channels in the end
+abbrev ends : State → Filled → List Step → Option (List ℕ × List ℕ × List Stand)
+ends s f steps = option_map (λ (m : Machine). (m.cut, m.words, m.channels)) (run s rows (start 0 f) steps)
 
--- it stops where a channel isn't built, a row is added twice, a word is taken once a channel is out, a channel is built
--- at home, and where there is no such row
-stops :
-    (ends not_built ≡ None) ×
-    (ends twice ≡ None) ×
-    (ends (step.Add 1 4 ∷ step.Add 0 3 ∷ step.Open 0 ∷ step.Take 0 3 ∷ step.Built 0 ∷ []) ≡ None) ×
-    (ends (step.Add 1 4 ∷ step.Add 0 3 ∷ step.Take 0 3 ∷ step.Built 0 ∷ step.Open 0 ∷ []) ≡ None) ×
-    (ends (step.Add 2 4 ∷ in_time) ≡ None)
-unfolding run after
-stops = (refl, refl, refl, refl, refl)
+-- the channel is built for the cut that stands in the list
+goes_on : (s : State) (f : Filled) →
+    (ends s f in_time ≡ Some (1200 ∷ [], 0 ∷ [], Done (placed (begun s (1200 ∷ [])) f) ∷ [])) ×
+    (ends s f one_late ≡ Some (700 ∷ [], 500 ∷ [], Done (placed (begun s (700 ∷ [])) f) ∷ []))
+unfolding run after_step
+goes_on s f = (refl, refl)
+
+-- the machine stops where a channel isn't built, or is built twice, or at home; where a row is added twice, or isn't there;
+-- and where a word is taken once a channel is out
+stops : (s : State) (f : Filled) →
+    (ends s f not_built ≡ None) ×
+    (ends s f (step.Add 1 4 ∷ step.Add 0 3 ∷ step.Take 0 3 ∷ step.Open 0 ∷ step.Built 0 ∷ step.Built 0 ∷ []) ≡ None) ×
+    (ends s f (step.Add 1 4 ∷ step.Add 0 3 ∷ step.Take 0 3 ∷ step.Built 0 ∷ step.Open 0 ∷ []) ≡ None) ×
+    (ends s f twice ≡ None) ×
+    (ends s f (step.Add 2 4 ∷ in_time) ≡ None) ×
+    (ends s f (step.Add 1 4 ∷ step.Add 0 3 ∷ step.Open 0 ∷ step.Take 0 3 ∷ step.Built 0 ∷ []) ≡ None)
+unfolding run after_step
+stops s f = (refl, refl, refl, refl, refl, refl)
 
 -- what seats 3 and 4 added to the word, and what seat 3 took of it
-accounts : option_map {U = ℕ × ℕ × ℕ} (λ (m : Machine). (m.seats.added 3 0, m.seats.added 4 0, m.seats.took 3 0))
-    (run_machine rows (opening_machine (0 ∷ []) 2 1) one_late) ≡ Some (500, 700, 700)
-unfolding run_machine after_step after
-accounts = refl
+seats_tell : (s : State) (f : Filled) →
+    option_map {U = ℕ × ℕ × ℕ} (λ (m : Machine). (m.seats.added 3 0, m.seats.added 4 0, m.seats.took 3 0))
+    (run s rows (start 0 f) one_late) ≡ Some (500, 700, 700)
+unfolding run after_step
+seats_tell s f = refl
 
 -- of a word that had 30 bytes, both together added 1200 and took 730, and 500 are left
 seated : AllByRecursion (IsSeated (3 ∷ 4 ∷ [])) one_late
 seated = (refl, (refl, (tt, (refl, (tt, tt)))))
 
-balance : option_map {U = ℕ × ℕ × ℕ}
-    (λ (m : Machine). (all_added (3 ∷ 4 ∷ []) m 0, all_took (3 ∷ 4 ∷ []) m 0, slice_index m.ledger.words 0))
-    (run_machine rows (opening_machine (30 ∷ []) 2 1) one_late) ≡ Some (1200, 730, 500)
-unfolding run_machine after_step after
-balance = refl
+balance : (s : State) (f : Filled) →
+    option_map {U = ℕ × ℕ × ℕ}
+    (λ (m : Machine). (all_added (3 ∷ 4 ∷ []) m 0, all_took (3 ∷ 4 ∷ []) m 0, slice_index m.words 0))
+    (run s rows (start 30 f) one_late) ≡ Some (1200, 730, 500)
+unfolding run after_step
+balance s f = refl

@@ -24,10 +24,7 @@ mod plays;
 // Laws of steps and of rounds made by them.
 mod laws;
 
-pub use laws::{
-    any_order_builds, machine_makes_cuts, nothing_is_lost, plays_are_rounds, seats_balance,
-    seats_change_nothing,
-};
+pub use laws::{machine_makes_rounds, nothing_is_lost, plays_are_rounds, seats_change_nothing};
 pub use plays::play;
 pub use steps::Step;
 

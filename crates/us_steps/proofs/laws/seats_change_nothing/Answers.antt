@@ -1,4 +1,4 @@
-use Rattle.us_steps.proofs.PlayLaws.{seats_change_nothing}
+use Rattle.us_steps.proofs.SeatLaws.{seats_change_nothing}
 use Rattle.us_steps.proofs.laws.seats_change_nothing.Goals as goal
 
 pub returns : goal.returns

@@ -5,8 +5,8 @@ use Rattle.us_steps.specs.Steps.{IsComplete}
 use Rattle.us_steps.proofs.PlayLemmas.{cut-long, cut-room}
 use Rattle.us_steps.proofs.plays.play.Goals as goal
 
-pub tally-requires-clause-room : goal.tally-requires-clause-room
-tally-requires-clause-room c = λ q below. omega (arith, c.requires.room q below)
+pub tallied-requires-clause-room : goal.tallied-requires-clause-room
+tallied-requires-clause-room c = λ q below. omega (arith, c.requires.room q below)
 
 pub round_alone-requires-clause-clusters : goal.round_alone-requires-clause-clusters
 round_alone-requires-clause-clusters c =
@@ -16,16 +16,15 @@ round_alone-requires-clause-clusters c =
 pub round_alone-requires-clause-room : goal.round_alone-requires-clause-room
 round_alone-requires-clause-room c =
     let told = rw c.in-Some.is at c.in_ok-cut.ensures in
-    rw (c.deref.ensures.value, told.1) (cut-room c.args.state.outstanding c.args.words.now c.args.rows.now
-    (length c.channels-channels.result.now) c.args.steps.now c.requires.room told.0)
+    rw (c.deref.ensures.value, told.1) (cut-room c.args.state.outstanding c.args.words.now c.args.rows.now c.channels.result
+    c.args.steps.now c.requires.room told.0)
 
 pub returns-clause-played : goal.returns-clause-played
 returns-clause-played c =
     let told = rw c.in-Some.is at c.in_ok-cut.ensures in
     let cut = c.deref.ensures.value ∙ told.1 in
-    let channels = c.channels-channels.ensures.value ∙ ap (λ t. t.channels) (c.config.ensures.value ∙ c.core.ensures.tables) in
     let s = c.args.state in (
-      subst (λ cs. IsComplete (length c.args.rows.now) (length c.args.words.now) (length cs) c.args.steps.now) channels told.0,
+      subst (λ n. IsComplete (length c.args.rows.now) (length c.args.words.now) n c.args.steps.now) c.channels.ensures told.0,
       rw (
         c.in_ok-state.ensures.state ∙ ap (λ xs. (round_of s xs).state) cut,
         told.2,
