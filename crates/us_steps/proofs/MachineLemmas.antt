@@ -46,19 +46,19 @@ or-true false = refl
 
 now-open : (channels : List Stand) (n : ℕ) (was now : Stand) → slice_get channels n ≡ Some was → is_open now ≡ true →
     any_open (slice_set channels n now) ≡ true
-now-open [] n was now is open = absurd (cc is)
-now-open (c ∷ channels) zero was now is open = ap (λ b. b || any_open channels) open
-now-open (c ∷ channels) (suc n) was now is open =
-    ap (λ b. is_open c || b) (now-open channels n was now is open) ∙ or-true (is_open c)
+now-open [] n was now is opens = absurd (cc is)
+now-open (c ∷ channels) zero was now is opens = ap (λ b. b || any_open channels) opens
+now-open (c ∷ channels) (suc n) was now is opens =
+    ap (λ b. is_open c || b) (now-open channels n was now is opens) ∙ or-true (is_open c)
 
 found-open : (channels : List Stand) (n : ℕ) (was : Stand) → slice_get channels n ≡ Some was → is_open was ≡ true →
     any_open channels ≡ true
-found-open [] n was is open = absurd (cc is)
-found-open (c ∷ channels) zero was is open =
+found-open [] n was is opens = absurd (cc is)
+found-open (c ∷ channels) zero was is opens =
     let same : c ≡ was = cc in
-    ap (λ b. b || any_open channels) (ap is_open same ∙ open)
-found-open (c ∷ channels) (suc n) was is open =
-    ap (λ b. is_open c || b) (found-open channels n was is open) ∙ or-true (is_open c)
+    ap (λ b. b || any_open channels) (ap is_open same ∙ opens)
+found-open (c ∷ channels) (suc n) was is opens =
+    ap (λ b. is_open c || b) (found-open channels n was is opens) ∙ or-true (is_open c)
 
 -- One step.
 

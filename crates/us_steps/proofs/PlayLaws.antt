@@ -99,7 +99,7 @@ machine_makes_rounds s words rows steps known = by (run s rows m steps) refl
         end-channels s rows words end steps made ∙ ap (λ c. map (λ b. Done b) (builds_of (begun s c))) cut in
         record {
           complete = complete rows words n (tally_of end) steps ran;
-          words = end-words rows words n (tally_of end) steps is;
+          left = end-words rows words n (tally_of end) steps is;
           cut = cut;
           channels = channels;
           round = round-is s (cut_of words rows steps) end.cut end.channels cut channels;

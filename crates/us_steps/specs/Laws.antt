@@ -40,7 +40,7 @@ pub record Balances (words : List ℕ) (rows : List Ask) (seats : List ℕ) (end
 -- opened and built; so what the channels come to is that round; and what the seats added and took balances.
 pub record IsPlayed (s : State) (words : List ℕ) (rows : List Ask) (steps : List Step) (end : Machine) : Type 0 where
   pub complete : IsComplete (length rows) (length words) (length (fills_of s)) steps
-  pub words : end.words ≡ left_of words rows steps
+  pub left : end.words ≡ left_of words rows steps
   pub cut : end.cut ≡ cut_of words rows steps
   pub channels : end.channels ≡ map (λ b. Done b) (builds_of (begun s (cut_of words rows steps)))
   pub round : ended (begun s end.cut) (builds_in end.channels) ≡ round_of s (cut_of words rows steps)
