@@ -32,5 +32,7 @@ pub mod Claims
 pub mod Cores
 -- the memory of a channel,
 pub mod Tracks
--- and the stages of a round
+-- the stages of a round,
 pub mod Stages
+-- and who does its phases
+pub mod Doers

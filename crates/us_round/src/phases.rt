@@ -4,6 +4,7 @@ ghost use Rattle.us_flows.specs.Tables.{max_run_ticks};
 ghost use Rattle.us_flows.specs.Lawful.{AreTables};
 ghost use Rattle.us_round.specs.Claims as kept;
 ghost use Rattle.us_round.specs.Cores.{AreCalendars, IsReady};
+ghost use Rattle.us_round.specs.Doers.{DoesFill, DoesBuild};
 ghost use Rattle.us_round.specs.Rounds as spec;
 ghost use Rattle.us_round.specs.Stages.{AreFilled};
 
@@ -11,8 +12,7 @@ use crate::building::{Built, Filled, build_on, fill};
 use crate::cores::Core;
 use crate::lanes::Lane;
 use std::alloc::Global;
-use std::thread::Threads;
-use us_crew::{CrewFault, Gate, Phase, Work, map_owned};
+use us_crew::{CrewFault, Work};
 use us_flows::{Channel, Config};
 use us_slots::NoMemory;
 use us_split::TurnShares;
@@ -61,28 +61,28 @@ impl<'a> Work<Filled, Built, NoMemory> for Building<'a> {
     }
 }
 
-/// The channels of a round in table order, each after its reserves and its calendar, which workers do.
-pub(crate) fn fill_all<H: Threads + Sync, G: Gate + Sync>(
-    threads: &H,
+/// The channels of a round in table order, each after its reserves and its calendar, which `fill` does.
+pub(crate) fn fill_all<
+    F: FnOnce(&Filling<'_>, Vec<(Channel, Lane)>) -> Result<Vec<Filled>, CrewFault<NoMemory>> + Drop,
+>(
     alloc: Global,
     core: &Core,
     calendars: Vec<Lane>,
-    workers: usize,
-    gate: &G,
+    fill: F,
 ) -> Result<Vec<Filled>, NoMemory>
     requires calendars { AreCalendars core.now.tables core.now.round calendars.items }
     requires time { (core.now.round + 1) * core.now.tables.round_ticks ≤ max_run_ticks }
+    requires fill { DoesFill F.FnOnce fill }
     ensures { IfOk result (λ all. AreFilled core.now calendars.items all.items) }
 {
     let config = core.config();
     let round = core.round();
     let items = with_channels(alloc, config, calendars)?;
-    let work = Filling { config, round };
-    answers(map_owned(threads, alloc, &work, Phase::Fill, items, workers, gate))
+    answers(fill(&Filling { config, round }, items))
 }
 
 /// The channels in table order, each with its calendar.
-pub(crate) fn with_channels(
+fn with_channels(
     alloc: Global,
     config: &Config,
     calendars: Vec<Lane>,
@@ -100,26 +100,25 @@ pub(crate) fn with_channels(
     Ok(all)
 }
 
-/// Places the claims of a plan on all channels, which workers do.
-pub(crate) fn build_all<H: Threads + Sync, G: Gate + Sync>(
-    threads: &H,
-    alloc: Global,
+/// Places the claims of a plan on all channels, which `build` does.
+pub(crate) fn build_all<
+    B: FnOnce(&Building<'_>, Vec<Filled>) -> Result<Vec<Built>, CrewFault<NoMemory>> + Drop,
+>(
     config: &Config,
     plan: &[TurnShares],
     all: Vec<Filled>,
-    workers: usize,
-    gate: &G,
+    build: B,
 ) -> Result<Vec<Built>, NoMemory>
     requires bursts { AllByRecursion (kept.AreKeptBursts config.now) plan.now }
     requires ticks { AllByRecursion (kept.HasFewTicks) all.items }
+    requires build { DoesBuild B.FnOnce build }
     ensures { IfOk result (λ builds. builds.items ≡ map (kept.kept_build config.now plan.now) all.items) }
 {
-    let work = Building { config, plan };
-    answers(map_owned(threads, alloc, &work, Phase::Build, all, workers, gate))
+    answers(build(&Building { config, plan }, all))
 }
 
 /// What was answered for all channels, or want of memory.
-pub(crate) fn answers<R: Drop>(answered: Result<Vec<R>, CrewFault<NoMemory>>) -> Result<Vec<R>, NoMemory>
+fn answers<R: Drop>(answered: Result<Vec<R>, CrewFault<NoMemory>>) -> Result<Vec<R>, NoMemory>
     ensures { IfOk result (λ all. answered ≡ Ok all) }
 {
     match answered {

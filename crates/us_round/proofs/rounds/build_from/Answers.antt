@@ -3,7 +3,7 @@ use Rattle.std.proofs.lemmas.Result.{IfOk-weaker}
 use Rattle.us_round.specs.Claims.{kept_build}
 use Rattle.us_round.specs.Stages.{AreBuilt}
 use Rattle.us_round.proofs.StageLemmas.{room_as, bursts_as, ticks_as, built_as}
-use Rattle.us_round.proofs.rounds.build.Goals as goal
+use Rattle.us_round.proofs.rounds.build_from.Goals as goal
 
 pub plan_round-requires-clause-room : goal.plan_round-requires-clause-room
 plan_round-requires-clause-room g c =
@@ -11,12 +11,12 @@ plan_round-requires-clause-room g c =
     c.in_ok-filled.ensures c.deref.ensures.value
 
 pub build_all-requires-clause-bursts : goal.build_all-requires-clause-bursts
-build_all-requires-clause-bursts g c κs within =
+build_all-requires-clause-bursts g c =
     bursts_as c.args.core.now c.deref.result.now c.config.result.now c.in_ok-plan.plan c.turns.result.now
     c.in_ok-plan.ensures c.config.ensures.value c.turns.ensures
 
 pub build_all-requires-clause-ticks : goal.build_all-requires-clause-ticks
-build_all-requires-clause-ticks g c κs within =
+build_all-requires-clause-ticks g c =
     ticks_as c.args.core.now c.args.calendars.items c.in_ok-filled.filled.items c.deref.result.now c.in_ok-plan.plan
     c.requires.calendars c.in_ok-filled.ensures c.in_ok-plan.ensures
 

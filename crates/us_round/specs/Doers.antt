@@ -1,0 +1,39 @@
+-- Inside the crate, and of no use to a reader of the promise: who does a phase of a round with all channels, workers or the
+-- calling thread, as a function that is passed.
+use Rattle.std.specs.Prelude.{◌≡◌, Result, IfOk}
+use Rattle.std.specs.Global.{Vec}
+use Rattle.std.specs.List.{AllByRecursion}
+use denote.Ref.{Bor}
+use denote.Param.Members.{Once}
+use Rattle.us_crew.specs.Values.{values_of}
+use Rattle.us_crew.specs.declared.faults.CrewFault.{CrewFault}
+use Rattle.us_flows.specs.declared.channels.Channel.{Channel}
+use Rattle.us_calendar.specs.Calendars.{Calendar}
+use Rattle.us_round.specs.Claims.{AreKeptBursts, HasFewTicks, kept_build}
+use Rattle.us_round.specs.Cores.{IsReady}
+use Rattle.us_round.specs.Rounds.{Filled, Built, fill}
+use Rattle.us_round.specs.declared.phases.Filling.{Filling}
+use Rattle.us_round.specs.declared.phases.Building.{Building}
+
+-- it may be called for items that the work accepts, and answers their values, in the order of the items, or a fault
+abbrev pub DoesEach : {F W T R E : Type 0} → Once F (Bor W × (Vec T × Unit {0})) (Result (Vec R) (CrewFault E)) →
+    (W → T → Type 0) → (W → T → R) → F → Type 0
+DoesEach {F} {W} {T} {R} {E} calls accepts value f = (work : Bor W) (items : Vec T) →
+    AllByRecursion (accepts work.now) items.items →
+    calls.pre f (work, (items, tt)) × ((answered : Result (Vec R) (CrewFault E)) →
+    calls.post f (work, (items, tt)) answered →
+    IfOk answered (λ answers. answers.items ≡ values_of (λ _ item. value work.now item) items.items))
+
+-- reserves and calendars of channels,
+abbrev pub DoesFill : {F E : Type 0} →
+    Once F (Bor Filling × (Vec (Channel × Calendar) × Unit {0})) (Result (Vec Filled) (CrewFault E)) → F → Type 0
+DoesFill calls f =
+    DoesEach calls (λ work item. IsReady work.config.now work.round item)
+    (λ work item. fill work.config.now work.round item.0 item.1) f
+
+-- and their claims
+abbrev pub DoesBuild : {F E : Type 0} →
+    Once F (Bor Building × (Vec Filled × Unit {0})) (Result (Vec Built) (CrewFault E)) → F → Type 0
+DoesBuild calls f =
+    DoesEach calls (λ work item. AllByRecursion (AreKeptBursts work.config.now) work.plan.now × HasFewTicks item)
+    (λ work item. kept_build work.config.now work.plan.now item) f
