@@ -24,16 +24,24 @@ DoesEach {F} {W} {T} {R} {E} calls accepts value f = (work : Bor W) (items : Vec
     calls.post f (work, (items, tt)) answered →
     IfOk answered (λ answers. answers.items ≡ values_of (λ _ item. value work.now item) items.items))
 
--- reserves and calendars of channels,
+-- a channel with its calendar that reserves and calendar may be done for, and what they leave
+abbrev pub CanFill : Filling → Channel × Calendar → Type 0
+CanFill work item = IsReady work.config.now work.round item
+
+abbrev pub filled_by : Filling → Channel × Calendar → Filled
+filled_by work item = fill work.config.now work.round item.0 item.1
+
 abbrev pub DoesFill : {F E : Type 0} →
     Once F (Bor Filling × (Vec (Channel × Calendar) × Unit {0})) (Result (Vec Filled) (CrewFault E)) → F → Type 0
-DoesFill calls f =
-    DoesEach calls (λ work item. IsReady work.config.now work.round item)
-    (λ work item. fill work.config.now work.round item.0 item.1) f
+DoesFill calls f = DoesEach calls CanFill filled_by f
 
--- and their claims
+-- a channel whose claims may be placed, and with these
+abbrev pub CanBuild : Building → Filled → Type 0
+CanBuild work item = AllByRecursion (AreKeptBursts work.config.now) work.plan.now × HasFewTicks item
+
+abbrev pub built_by : Building → Filled → Built
+built_by work item = kept_build work.config.now work.plan.now item
+
 abbrev pub DoesBuild : {F E : Type 0} →
     Once F (Bor Building × (Vec Filled × Unit {0})) (Result (Vec Built) (CrewFault E)) → F → Type 0
-DoesBuild calls f =
-    DoesEach calls (λ work item. AllByRecursion (AreKeptBursts work.config.now) work.plan.now × HasFewTicks item)
-    (λ work item. kept_build work.config.now work.plan.now item) f
+DoesBuild calls f = DoesEach calls CanBuild built_by f

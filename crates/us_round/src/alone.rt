@@ -3,8 +3,7 @@ ghost use Rattle.std.specs.List.{AllByRecursion};
 ghost use Rattle.us_flows.specs.Tables.{max_run_ticks};
 ghost use Rattle.us_flows.specs.Clusters.{clusters_of};
 ghost use Rattle.us_crew.specs.Values.{values_of};
-ghost use Rattle.us_round.specs.Claims.{AreKeptBursts, HasFewTicks, kept_build};
-ghost use Rattle.us_round.specs.Cores.{IsReady};
+ghost use Rattle.us_round.specs.Doers.{CanFill, CanBuild, filled_by, built_by};
 ghost use Rattle.us_round.specs.Rounds as spec;
 ghost use Rattle.us_round.specs.Outputs.{out_of};
 
@@ -35,16 +34,16 @@ pub fn round_alone(
     ensures out { IfOk result (λ done. done.1 ≡ out_of state.tables (spec.round_of state cuts.now).scheduled) }
     ensures fault { IfErr result (λ given. given ≡ RoundFault.NoMemory) }
 {
-    let fill = |work: &Filling<'_>, items: Vec<(Channel, Lane)>| -> Result<Vec<Filled>, CrewFault<NoMemory>>
-        requires { AllByRecursion (IsReady work.now.config.now work.now.round) items.items }
-        ensures { IfOk result (λ all. all.items ≡
-            values_of (λ _ item. spec.fill work.now.config.now work.now.round item.0 item.1) items.items) }
+    let fill = |work: &Filling<'_>, items: Vec<(Channel, Lane)>| -> Result<
+        Vec<Filled>,
+        CrewFault<NoMemory>,
+    >
+        requires { AllByRecursion (CanFill work.now) items.items }
+        ensures { IfOk result (λ all. all.items ≡ values_of (λ _ item. filled_by work.now item) items.items) }
     { map_alone(alloc, work, items) };
     let build = |work: &Building<'_>, items: Vec<Filled>| -> Result<Vec<Built>, CrewFault<NoMemory>>
-        requires { AllByRecursion (λ item. AllByRecursion (AreKeptBursts work.now.config.now) work.now.plan.now
-            × HasFewTicks item) items.items }
-        ensures { IfOk result (λ all. all.items ≡
-            values_of (λ _ item. kept_build work.now.config.now work.now.plan.now item) items.items) }
+        requires { AllByRecursion (CanBuild work.now) items.items }
+        ensures { IfOk result (λ all. all.items ≡ values_of (λ _ item. built_by work.now item) items.items) }
     { map_alone(alloc, work, items) };
     let done = round_by(alloc, state, cuts, fill, build)?;
     Ok(done)

@@ -3,9 +3,8 @@ ghost use Rattle.std.specs.List.{AllByRecursion};
 ghost use Rattle.us_flows.specs.Tables.{max_run_ticks};
 ghost use Rattle.us_flows.specs.Lawful.{AreTables};
 ghost use Rattle.us_round.specs.Claims as kept;
-ghost use Rattle.us_round.specs.Cores.{AreCalendars, IsReady};
-ghost use Rattle.us_round.specs.Doers.{DoesFill, DoesBuild};
-ghost use Rattle.us_round.specs.Rounds as spec;
+ghost use Rattle.us_round.specs.Cores.{AreCalendars};
+ghost use Rattle.us_round.specs.Doers.{CanFill, CanBuild, DoesFill, DoesBuild, filled_by, built_by};
 ghost use Rattle.us_round.specs.Stages.{AreFilled};
 
 use crate::building::{Built, Filled, build_on, fill};
@@ -25,9 +24,9 @@ pub(crate) struct Filling<'a> {
 }
 
 impl<'a> Work<(Channel, Lane), Filled, NoMemory> for Filling<'a> {
-    ghost accepts = { λ work _ item. IsReady work.config.now work.round item };
+    ghost accepts = { λ work _ item. CanFill work item };
 
-    ghost value = { λ work _ item. spec.fill work.config.now work.round item.0 item.1 };
+    ghost value = { λ work _ item. filled_by work item };
 
     ghost may_fail = { λ _ _ _ _. ⊤ };
 
@@ -47,10 +46,9 @@ pub(crate) struct Building<'a> {
 }
 
 impl<'a> Work<Filled, Built, NoMemory> for Building<'a> {
-    ghost accepts = { λ work _ item.
-        AllByRecursion (kept.AreKeptBursts work.config.now) work.plan.now × kept.HasFewTicks item };
+    ghost accepts = { λ work _ item. CanBuild work item };
 
-    ghost value = { λ work _ item. kept.kept_build work.config.now work.plan.now item };
+    ghost value = { λ work _ item. built_by work item };
 
     ghost may_fail = { λ _ _ _ _. ⊤ };
 
@@ -63,13 +61,9 @@ impl<'a> Work<Filled, Built, NoMemory> for Building<'a> {
 
 /// The channels of a round in table order, each after its reserves and its calendar, which `fill` does.
 pub(crate) fn fill_all<
-    F: FnOnce(&Filling<'_>, Vec<(Channel, Lane)>) -> Result<Vec<Filled>, CrewFault<NoMemory>> + Drop,
->(
-    alloc: Global,
-    core: &Core,
-    calendars: Vec<Lane>,
-    fill: F,
-) -> Result<Vec<Filled>, NoMemory>
+    F: FnOnce(&Filling<'_>, Vec<(Channel, Lane)>) -> Result<Vec<Filled>, CrewFault<NoMemory>>
+        + Drop,
+>(alloc: Global, core: &Core, calendars: Vec<Lane>, fill: F) -> Result<Vec<Filled>, NoMemory>
     requires calendars { AreCalendars core.now.tables core.now.round calendars.items }
     requires time { (core.now.round + 1) * core.now.tables.round_ticks ≤ max_run_ticks }
     requires fill { DoesFill F.FnOnce fill }
@@ -103,12 +97,7 @@ fn with_channels(
 /// Places the claims of a plan on all channels, which `build` does.
 pub(crate) fn build_all<
     B: FnOnce(&Building<'_>, Vec<Filled>) -> Result<Vec<Built>, CrewFault<NoMemory>> + Drop,
->(
-    config: &Config,
-    plan: &[TurnShares],
-    all: Vec<Filled>,
-    build: B,
-) -> Result<Vec<Built>, NoMemory>
+>(config: &Config, plan: &[TurnShares], all: Vec<Filled>, build: B) -> Result<Vec<Built>, NoMemory>
     requires bursts { AllByRecursion (kept.AreKeptBursts config.now) plan.now }
     requires ticks { AllByRecursion (kept.HasFewTicks) all.items }
     requires build { DoesBuild B.FnOnce build }

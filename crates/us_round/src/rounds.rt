@@ -5,9 +5,8 @@ ghost use Rattle.us_flows.specs.Clusters.{clusters_of};
 ghost use Rattle.us_flows.specs.Lawful.{AreTables};
 ghost use Rattle.us_split.specs.Plans.{IsIdle};
 ghost use Rattle.us_crew.specs.Values.{values_of};
-ghost use Rattle.us_round.specs.Claims.{AreKeptBursts, HasFewTicks, kept_build};
-ghost use Rattle.us_round.specs.Cores.{AreCalendars, IsReady, scheduled_of};
-ghost use Rattle.us_round.specs.Doers.{DoesFill, DoesBuild};
+ghost use Rattle.us_round.specs.Cores.{AreCalendars, scheduled_of};
+ghost use Rattle.us_round.specs.Doers.{CanFill, CanBuild, DoesFill, DoesBuild, filled_by, built_by};
 ghost use Rattle.us_round.specs.Leftovers.{AreInside, IsBuiltFor};
 ghost use Rattle.us_round.specs.Rounds as spec;
 ghost use Rattle.us_round.specs.Outputs.{out_of, AreWithinLimits};
@@ -70,16 +69,16 @@ pub fn round<H: Threads + Sync, G: Gate + Sync>(
     if workers == 0 || workers > MAX_WORKERS {
         return Err(RoundFault::Workers);
     }
-    let fill = |work: &Filling<'_>, items: Vec<(Channel, Lane)>| -> Result<Vec<Filled>, CrewFault<NoMemory>>
-        requires { AllByRecursion (IsReady work.now.config.now work.now.round) items.items }
-        ensures { IfOk result (λ all. all.items ≡
-            values_of (λ _ item. spec.fill work.now.config.now work.now.round item.0 item.1) items.items) }
+    let fill = |work: &Filling<'_>, items: Vec<(Channel, Lane)>| -> Result<
+        Vec<Filled>,
+        CrewFault<NoMemory>,
+    >
+        requires { AllByRecursion (CanFill work.now) items.items }
+        ensures { IfOk result (λ all. all.items ≡ values_of (λ _ item. filled_by work.now item) items.items) }
     { map_owned(threads, alloc, work, Phase::Fill, items, workers, gate) };
     let build = |work: &Building<'_>, items: Vec<Filled>| -> Result<Vec<Built>, CrewFault<NoMemory>>
-        requires { AllByRecursion (λ item. AllByRecursion (AreKeptBursts work.now.config.now) work.now.plan.now
-            × HasFewTicks item) items.items }
-        ensures { IfOk result (λ all. all.items ≡
-            values_of (λ _ item. kept_build work.now.config.now work.now.plan.now item) items.items) }
+        requires { AllByRecursion (CanBuild work.now) items.items }
+        ensures { IfOk result (λ all. all.items ≡ values_of (λ _ item. built_by work.now item) items.items) }
     { map_owned(threads, alloc, work, Phase::Build, items, workers, gate) };
     let done = round_by(alloc, state, cuts, fill, build)?;
     Ok(done)
@@ -88,7 +87,8 @@ pub fn round<H: Threads + Sync, G: Gate + Sync>(
 /// The round of a state and a cut, in which `fill` does the reserves and the calendars of all channels, and `build` places
 /// their claims.
 pub(crate) fn round_by<
-    F: FnOnce(&Filling<'_>, Vec<(Channel, Lane)>) -> Result<Vec<Filled>, CrewFault<NoMemory>> + Drop,
+    F: FnOnce(&Filling<'_>, Vec<(Channel, Lane)>) -> Result<Vec<Filled>, CrewFault<NoMemory>>
+        + Drop,
     B: FnOnce(&Building<'_>, Vec<Filled>) -> Result<Vec<Built>, CrewFault<NoMemory>> + Drop,
 >(
     alloc: Global,
@@ -111,11 +111,7 @@ pub(crate) fn round_by<
 
 /// Begins the round of a state: what the clusters ask for is outstanding too, and the buckets grow. The answer has what
 /// is outstanding then.
-fn begin(
-    alloc: Global,
-    state: State,
-    cuts: &[u64],
-) -> Result<(Core, Vec<u64>, Vec<Lane>), NoMemory>
+fn begin(alloc: Global, state: State, cuts: &[u64]) -> Result<(Core, Vec<u64>, Vec<Lane>), NoMemory>
     requires clusters { length cuts.now ≡ length (clusters_of state.tables) }
     requires room { AllByRecursion (λ pair. pair.0 + pair.1 < 2 ^ 62) (zip state.outstanding cuts.now) }
     ensures { IfOk result (λ parts. IsBegun (spec.begun state cuts.now) parts.0 parts.1.items parts.2.items) }
@@ -129,7 +125,8 @@ fn begin(
 /// The channels of a round that has begun, with all claims placed: boards are planned together, once reserves and
 /// calendars have their minislots, and built one by one.
 fn build_from<
-    F: FnOnce(&Filling<'_>, Vec<(Channel, Lane)>) -> Result<Vec<Filled>, CrewFault<NoMemory>> + Drop,
+    F: FnOnce(&Filling<'_>, Vec<(Channel, Lane)>) -> Result<Vec<Filled>, CrewFault<NoMemory>>
+        + Drop,
     B: FnOnce(&Building<'_>, Vec<Filled>) -> Result<Vec<Built>, CrewFault<NoMemory>> + Drop,
 >(
     alloc: Global,

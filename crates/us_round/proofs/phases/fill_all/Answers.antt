@@ -14,17 +14,12 @@ with_channels-requires g c =
     channels_for c.args.core.now c.args.calendars.items c.config-config.result.now c.config-config.ensures.value
     c.requires.calendars
 
--- all items are ready
-ready : (g : _) (c : goal.After-fill-arg-1 g) →
-    AllByRecursion (IsReady c.config-config.result.now c.round-round.result) c.in_ok-items.items.items
-ready g c =
-    ready_as c.args.core.now c.args.calendars.items c.config-config.result.now c.round-round.result
-    c.in_ok-items.items.items c.config-config.ensures.value c.round-round.ensures c.requires.time
-    c.in_ok-items.ensures.lawful c.requires.calendars c.in_ok-items.ensures.value
-
 pub fill-requires : goal.fill-requires
 fill-requires g c =
-    let all : AllByRecursion (IsReady c.config-config.result.now c.round-round.result) c.in_ok-items.items.items = ready g c in
+    let all : AllByRecursion (IsReady c.config-config.result.now c.round-round.result) c.in_ok-items.items.items =
+    ready_as c.args.core.now c.args.calendars.items c.config-config.result.now c.round-round.result
+    c.in_ok-items.items.items c.config-config.ensures.value c.round-round.ensures c.requires.time
+    c.in_ok-items.ensures.lawful c.requires.calendars c.in_ok-items.ensures.value in
     search rules
 
 pub returns : goal.returns
@@ -32,9 +27,8 @@ returns g c =
     let t = c.config-config.result.now in
     let n = c.round-round.result in
     let all : AllByRecursion (IsReady t n) c.in_ok-items.items.items =
-    ready_as c.args.core.now c.args.calendars.items c.config-config.result.now c.round-round.result
-    c.in_ok-items.items.items c.config-config.ensures.value c.round-round.ensures c.requires.time
-    c.in_ok-items.ensures.lawful c.requires.calendars c.in_ok-items.ensures.value in
+    ready_as c.args.core.now c.args.calendars.items t n c.in_ok-items.items.items c.config-config.ensures.value
+    c.round-round.ensures c.requires.time c.in_ok-items.ensures.lawful c.requires.calendars c.in_ok-items.ensures.value in
     answered_so (λ all. AreFilled c.args.core.now c.args.calendars.items all.items) c.fill.result c.answers.result
     c.answers.ensures
     (IfOk-weaker c.fill.result
