@@ -10,14 +10,13 @@ ghost use Rattle.us_round.specs.Outputs.{out_of};
 use crate::building::{Built, Filled};
 use crate::faults::RoundFault;
 use crate::lanes::Lane;
-use crate::phases::{Building, Filling};
+use crate::phases::{Answered, Building, Filling};
 use crate::round_outs::RoundOut;
 use crate::rounds::round_by;
 use crate::states::State;
 use std::alloc::Global;
-use us_crew::{CrewFault, map_alone};
+use us_crew::map_alone;
 use us_flows::Channel;
-use us_slots::NoMemory;
 
 /// Schedules the round of a state as `round` does, in which the calling thread does all channels, one after another.
 ///
@@ -34,14 +33,11 @@ pub fn round_alone(
     ensures out { IfOk result (λ done. done.1 ≡ out_of state.tables (spec.round_of state cuts.now).scheduled) }
     ensures fault { IfErr result (λ given. given ≡ RoundFault.NoMemory) }
 {
-    let fill = |work: &Filling<'_>, items: Vec<(Channel, Lane)>| -> Result<
-        Vec<Filled>,
-        CrewFault<NoMemory>,
-    >
+    let fill = |work: &Filling<'_>, items: Vec<(Channel, Lane)>| -> Answered<Filled>
         requires { AllByRecursion (CanFill work.now) items.items }
         ensures { IfOk result (λ all. all.items ≡ values_of (λ _ item. filled_by work.now item) items.items) }
     { map_alone(alloc, work, items) };
-    let build = |work: &Building<'_>, items: Vec<Filled>| -> Result<Vec<Built>, CrewFault<NoMemory>>
+    let build = |work: &Building<'_>, items: Vec<Filled>| -> Answered<Built>
         requires { AllByRecursion (CanBuild work.now) items.items }
         ensures { IfOk result (λ all. all.items ≡ values_of (λ _ item. built_by work.now item) items.items) }
     { map_alone(alloc, work, items) };

@@ -16,6 +16,9 @@ use us_flows::{Channel, Config};
 use us_slots::NoMemory;
 use us_split::TurnShares;
 
+/// What those who do a phase answer, for each channel in their order.
+pub(crate) type Answered<R> = Result<Vec<R>, CrewFault<NoMemory>>;
+
 /// Does the reserves and the calendar of a channel.
 #[derive(Clone, Copy)]
 pub(crate) struct Filling<'a> {
@@ -59,20 +62,22 @@ impl<'a> Work<Filled, Built, NoMemory> for Building<'a> {
     }
 }
 
-/// The channels of a round in table order, each after its reserves and its calendar, which `fill` does.
-pub(crate) fn fill_all<
-    F: FnOnce(&Filling<'_>, Vec<(Channel, Lane)>) -> Result<Vec<Filled>, CrewFault<NoMemory>>
-        + Drop,
->(alloc: Global, core: &Core, calendars: Vec<Lane>, fill: F) -> Result<Vec<Filled>, NoMemory>
+/// The channels of a round in table order, each after its reserves and its calendar. `each` does them.
+pub(crate) fn fill_all<F: FnOnce(&Filling<'_>, Vec<(Channel, Lane)>) -> Answered<Filled> + Drop>(
+    alloc: Global,
+    core: &Core,
+    calendars: Vec<Lane>,
+    each: F,
+) -> Result<Vec<Filled>, NoMemory>
     requires calendars { AreCalendars core.now.tables core.now.round calendars.items }
     requires time { (core.now.round + 1) * core.now.tables.round_ticks ≤ max_run_ticks }
-    requires fill { DoesFill F.FnOnce fill }
+    requires each { DoesFill F.FnOnce each }
     ensures { IfOk result (λ all. AreFilled core.now calendars.items all.items) }
 {
     let config = core.config();
     let round = core.round();
     let items = with_channels(alloc, config, calendars)?;
-    answers(fill(&Filling { config, round }, items))
+    answers(each(&Filling { config, round }, items))
 }
 
 /// The channels in table order, each with its calendar.
@@ -94,20 +99,23 @@ fn with_channels(
     Ok(all)
 }
 
-/// Places the claims of a plan on all channels, which `build` does.
-pub(crate) fn build_all<
-    B: FnOnce(&Building<'_>, Vec<Filled>) -> Result<Vec<Built>, CrewFault<NoMemory>> + Drop,
->(config: &Config, plan: &[TurnShares], all: Vec<Filled>, build: B) -> Result<Vec<Built>, NoMemory>
+/// Places the claims of a plan on all channels. `each` does so on each.
+pub(crate) fn build_all<B: FnOnce(&Building<'_>, Vec<Filled>) -> Answered<Built> + Drop>(
+    config: &Config,
+    plan: &[TurnShares],
+    all: Vec<Filled>,
+    each: B,
+) -> Result<Vec<Built>, NoMemory>
     requires bursts { AllByRecursion (kept.AreKeptBursts config.now) plan.now }
     requires ticks { AllByRecursion (kept.HasFewTicks) all.items }
-    requires build { DoesBuild B.FnOnce build }
+    requires each { DoesBuild B.FnOnce each }
     ensures { IfOk result (λ builds. builds.items ≡ map (kept.kept_build config.now plan.now) all.items) }
 {
-    answers(build(&Building { config, plan }, all))
+    answers(each(&Building { config, plan }, all))
 }
 
 /// What was answered for all channels, or want of memory.
-fn answers<R: Drop>(answered: Result<Vec<R>, CrewFault<NoMemory>>) -> Result<Vec<R>, NoMemory>
+fn answers<R: Drop>(answered: Answered<R>) -> Result<Vec<R>, NoMemory>
     ensures { IfOk result (λ all. answered ≡ Ok all) }
 {
     match answered {

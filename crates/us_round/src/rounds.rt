@@ -19,13 +19,13 @@ use crate::faults::RoundFault;
 use crate::lanes::Lane;
 use crate::mapping::maps_of;
 use crate::pendings::pending_seats;
-use crate::phases::{Building, Filling, build_all, fill_all};
+use crate::phases::{Answered, Building, Filling, build_all, fill_all};
 use crate::reporting::rows_of;
 use crate::round_outs::RoundOut;
 use crate::states::State;
 use std::alloc::Global;
 use std::thread::Threads;
-use us_crew::{CrewFault, Gate, MAX_WORKERS, Phase, map_owned};
+use us_crew::{Gate, MAX_WORKERS, Phase, map_owned};
 use us_flows::Channel;
 use us_slots::NoMemory;
 use us_split::{Plan, plan_with};
@@ -69,14 +69,11 @@ pub fn round<H: Threads + Sync, G: Gate + Sync>(
     if workers == 0 || workers > MAX_WORKERS {
         return Err(RoundFault::Workers);
     }
-    let fill = |work: &Filling<'_>, items: Vec<(Channel, Lane)>| -> Result<
-        Vec<Filled>,
-        CrewFault<NoMemory>,
-    >
+    let fill = |work: &Filling<'_>, items: Vec<(Channel, Lane)>| -> Answered<Filled>
         requires { AllByRecursion (CanFill work.now) items.items }
         ensures { IfOk result (λ all. all.items ≡ values_of (λ _ item. filled_by work.now item) items.items) }
     { map_owned(threads, alloc, work, Phase::Fill, items, workers, gate) };
-    let build = |work: &Building<'_>, items: Vec<Filled>| -> Result<Vec<Built>, CrewFault<NoMemory>>
+    let build = |work: &Building<'_>, items: Vec<Filled>| -> Answered<Built>
         requires { AllByRecursion (CanBuild work.now) items.items }
         ensures { IfOk result (λ all. all.items ≡ values_of (λ _ item. built_by work.now item) items.items) }
     { map_owned(threads, alloc, work, Phase::Build, items, workers, gate) };
@@ -87,9 +84,8 @@ pub fn round<H: Threads + Sync, G: Gate + Sync>(
 /// The round of a state and a cut, in which `fill` does the reserves and the calendars of all channels, and `build` places
 /// their claims.
 pub(crate) fn round_by<
-    F: FnOnce(&Filling<'_>, Vec<(Channel, Lane)>) -> Result<Vec<Filled>, CrewFault<NoMemory>>
-        + Drop,
-    B: FnOnce(&Building<'_>, Vec<Filled>) -> Result<Vec<Built>, CrewFault<NoMemory>> + Drop,
+    F: FnOnce(&Filling<'_>, Vec<(Channel, Lane)>) -> Answered<Filled> + Drop,
+    B: FnOnce(&Building<'_>, Vec<Filled>) -> Answered<Built> + Drop,
 >(
     alloc: Global,
     state: State,
@@ -125,9 +121,8 @@ fn begin(alloc: Global, state: State, cuts: &[u64]) -> Result<(Core, Vec<u64>, V
 /// The channels of a round that has begun, with all claims placed: boards are planned together, once reserves and
 /// calendars have their minislots, and built one by one.
 fn build_from<
-    F: FnOnce(&Filling<'_>, Vec<(Channel, Lane)>) -> Result<Vec<Filled>, CrewFault<NoMemory>>
-        + Drop,
-    B: FnOnce(&Building<'_>, Vec<Filled>) -> Result<Vec<Built>, CrewFault<NoMemory>> + Drop,
+    F: FnOnce(&Filling<'_>, Vec<(Channel, Lane)>) -> Answered<Filled> + Drop,
+    B: FnOnce(&Building<'_>, Vec<Filled>) -> Answered<Built> + Drop,
 >(
     alloc: Global,
     core: &Core,

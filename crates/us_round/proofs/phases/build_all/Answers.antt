@@ -9,8 +9,8 @@ use Rattle.us_round.proofs.phases.build_all.Goals as goal
 pub returns : goal.returns
 returns g c =
     answered_so (λ builds. builds.items ≡ map (kept_build c.args.config.now c.args.plan.now) c.args.all.items)
-    c.build.result c.answers.result c.answers.ensures
-    (IfOk-weaker c.build.result
+    c.each.result c.answers.result c.answers.ensures
+    (IfOk-weaker c.each.result
     (λ builds. builds.items ≡ values_of (λ _ item. kept_build c.args.config.now c.args.plan.now item) c.args.all.items) _
     (λ builds is. is ∙ values_are (kept_build c.args.config.now c.args.plan.now) 0 c.args.all.items)
-    ((c.requires.build _ c.args.all (all_beside _ HasFewTicks c.args.all.items c.requires.bursts c.requires.ticks)).1 _ c.build.ensures))
+    ((c.requires.each _ c.args.all (all_beside _ HasFewTicks c.args.all.items c.requires.bursts c.requires.ticks)).1 _ c.each.ensures))

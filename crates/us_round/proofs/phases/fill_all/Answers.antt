@@ -14,8 +14,8 @@ with_channels-requires g c =
     channels_for c.args.core.now c.args.calendars.items c.config-config.result.now c.config-config.ensures.value
     c.requires.calendars
 
-pub fill-requires : goal.fill-requires
-fill-requires g c =
+pub each-requires : goal.each-requires
+each-requires g c =
     let all : AllByRecursion (IsReady c.config-config.result.now c.round-round.result) c.in_ok-items.items.items =
     ready_as c.args.core.now c.args.calendars.items c.config-config.result.now c.round-round.result
     c.in_ok-items.items.items c.config-config.ensures.value c.round-round.ensures c.requires.time
@@ -29,12 +29,12 @@ returns g c =
     let all : AllByRecursion (IsReady t n) c.in_ok-items.items.items =
     ready_as c.args.core.now c.args.calendars.items t n c.in_ok-items.items.items c.config-config.ensures.value
     c.round-round.ensures c.requires.time c.in_ok-items.ensures.lawful c.requires.calendars c.in_ok-items.ensures.value in
-    answered_so (λ all. AreFilled c.args.core.now c.args.calendars.items all.items) c.fill.result c.answers.result
+    answered_so (λ all. AreFilled c.args.core.now c.args.calendars.items all.items) c.each.result c.answers.result
     c.answers.ensures
-    (IfOk-weaker c.fill.result
+    (IfOk-weaker c.each.result
     (λ all. all.items ≡ values_of (λ _ item. fill t n item.0 item.1) c.in_ok-items.items.items) _
     (λ all is. filled_as c.args.core.now c.args.calendars.items t n all.items c.config-config.ensures.value
     c.round-round.ensures c.requires.time c.in_ok-items.ensures.lawful c.requires.calendars
     (is ∙ values_are (λ item. fill t n item.0 item.1) 0 c.in_ok-items.items.items
     ∙ ap (λ items. map (λ item. fill t n item.0 item.1) items) c.in_ok-items.ensures.value))
-    ((c.requires.fill _ c.in_ok-items.items all).1 _ c.fill.ensures))
+    ((c.requires.each _ c.in_ok-items.items all).1 _ c.each.ensures))
