@@ -28,7 +28,7 @@ mod mapping;
 
 pub use faults::CrewFault;
 pub use gates::{Gate, OpenGate, Phase};
-pub use mapping::{MAX_WORKERS, map_owned};
+pub use mapping::{MAX_WORKERS, map_alone, map_owned};
 pub use works::Work;
 
 #[cfg(test)]

@@ -1,10 +1,11 @@
-ghost use Rattle.std.specs.Prelude.{◌≡◌, ◌<◌, ◌≤◌, ◌⊎◌, ◌↔◌, ℕ, [], Option, Err, IsOk, OnOk, IfOk, IfErr};
+ghost use Rattle.std.specs.Prelude.{◌≡◌, ◌<◌, ◌≤◌, ◌⊎◌, ◌↔◌, ℕ, ⊤, [], Option, Err, IsOk, OnOk, IfOk, IfErr};
 ghost use Rattle.us_crew.specs.Items.{AreAccepted};
 ghost use Rattle.us_crew.specs.Values.{values_of};
 ghost use Rattle.us_crew.specs.Faults.{AreFaults, AreSound, NamesFault, SaysFirst, first_fault};
 
 use super::halves::in_halves;
-use crate::{CrewFault, Gate, Phase, Work};
+use super::turns::in_turn;
+use crate::{CrewFault, Gate, OpenGate, Phase, Work};
 use std::alloc::Global;
 use std::thread::Threads;
 
@@ -56,4 +57,27 @@ pub fn map_owned<
         return Ok(Vec::new(alloc));
     }
     in_halves(threads, alloc, work, phase, 0, items, workers, gate)
+}
+
+/// Does the work with items as `map_owned` does, by the calling thread alone: it starts no thread, enters no gate, and
+/// waits for nobody.
+///
+/// On a fault the items are given up.
+pub fn map_alone<W: Work<T, R, E>, T: Drop, R: Drop, E>(
+    alloc: Global,
+    work: &W,
+    items: Vec<T>,
+) -> Result<Vec<R>, CrewFault<E>>
+    requires { AreAccepted (λ _. ⊤) (W.accepts work.now) items.items }
+    ensures values { IfOk result (λ answers. answers.items ≡ values_of (W.value work.now) items.items) }
+    ensures sound { OnOk result (AreSound (W.must_fail work.now) items.items) }
+    ensures first { IfErr result (λ said. SaysFirst (W.may_fail work.now) (W.must_fail work.now) items.items said) }
+    ensures named { (fault_of : ℕ → T → Option E) → AreFaults fault_of (W.may_fail work.now) (W.must_fail work.now) →
+        NamesFault (first_fault fault_of items.items) result }
+
+    // There are no workers to be blamed.
+    ensures workers { ¬ (result ≡ Err CrewFault.Workers) }
+{
+    // The gate is open in each phase.
+    in_turn(alloc, work, Phase::Build, 0, items, &OpenGate)
 }

@@ -21,11 +21,3 @@ pub mod RoundLemmas
 pub mod SoundLemmas
 pub mod PhaseLemmas
 pub mod StageLemmas
-pub mod FlagLemmas
-pub mod LedgerLemmas
-pub mod StepLemmas
-pub mod CutLemmas
-pub mod PlayLemmas
-pub mod PlayLaws
-pub mod SeatLaws
-pub mod PartLaws

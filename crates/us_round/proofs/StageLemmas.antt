@@ -1,8 +1,7 @@
 -- From stage to stage of a round.
-use Rattle.std.proofs.Common.{◌≡◌, ℕ, ◌+◌, ◌*◌, ◌≤◌, ◌++◌, List, [], ◌∷◌, Option, length, map, ap, sym, subst, ◌∙◌}
+use Rattle.std.proofs.Common.{◌≡◌, ℕ, ◌+◌, ◌*◌, ◌≤◌, List, Option, length, map, ap, sym, subst, ◌∙◌}
 use Rattle.std.specs.Prelude.{sum_by, zip}
 use Rattle.std.specs.List.{AllByRecursion}
-use Rattle.std.proofs.lemmas.List.{append-nil, nil_from_length}
 use Rattle.us_flows.specs.declared.channels.Channel.{Channel}
 use Rattle.us_flows.specs.Tables.{Tables, max_run_ticks}
 use Rattle.us_flows.specs.Clusters.{turns_of}
@@ -22,18 +21,6 @@ use Rattle.us_round.proofs.PhaseLemmas.{calendars_ready, filled_sound, filled_co
 use Rattle.us_round.proofs.SoundLemmas.{sound, turns_planned, builds_are, claims_for}
 use Rattle.us_round.proofs.CalendarLemmas.{counted}
 use Rattle.us_round.proofs.RoundLemmas.{run_state, run_out, run_limits, run_few}
-
--- what holds of all items holds of the next one
-pub all_left : {A : Type 0} (P : A → Type 0) (done left rest : List A) (x : A) → AllByRecursion P (done ++ left) →
-    left ≡ x ∷ rest → P x
-all_left P [] left rest x all is = (subst (λ xs. AllByRecursion P xs) is all).0
-all_left P (y ∷ done) left rest x all is = all_left P done left rest x all.1 is
-
--- and what is made of each, once none is left, is made of all
-pub mapped_all : {A B : Type 0} (f : A → B) (done left all : List A) (made : List B) → made ≡ map f done →
-    done ++ left ≡ all → length left ≡ 0 → made ≡ map f all
-mapped_all f done left all made is parts none =
-    is ∙ ap (λ xs. map f xs) (sym (append-nil done) ∙ ap (λ xs. done ++ xs) (sym (nil_from_length left none)) ∙ parts)
 
 -- The beginning.
 
@@ -68,15 +55,6 @@ ready_as core cs t round items same number time lawful are is =
     (subst (λ u. AllByRecursion (IsReady u round) (zip u.channels cs)) (sym same)
     (subst (λ n. AllByRecursion (IsReady core.tables n) (zip core.tables.channels cs)) (sym number)
     (calendars_ready core.tables core.round cs time (subst (λ u. AreTables u) same lawful) are)))
-
--- where items are left, the next one is ready
-pub ready_here : (core : Core) (cs : List Calendar) (t : Tables) (round : ℕ) (done left rest : List (Channel × Calendar))
-    (item : Channel × Calendar) → t ≡ core.tables → round ≡ core.round →
-    (core.round + 1) * core.tables.round_ticks ≤ max_run_ticks → AreTables t → AreCalendars core.tables core.round cs →
-    done ++ left ≡ zip t.channels cs → left ≡ item ∷ rest → IsReady t round item
-ready_here core cs t round done left rest item same number time lawful are parts is =
-    all_left (IsReady t round) done left rest item
-    (ready_as core cs t round (done ++ left) same number time lawful are parts) is
 
 pub filled_as : (core : Core) (cs : List Calendar) (t : Tables) (round : ℕ) (fs : List Filled) →
     t ≡ core.tables → round ≡ core.round → (core.round + 1) * core.tables.round_ticks ≤ max_run_ticks → AreTables t →

@@ -26,23 +26,11 @@ pub mod States
 pub mod Faults
 -- who is pending, by what is outstanding before and after the grants; what boards keep
 pub mod Leftovers
--- the steps that a round is made of: when a list of them is complete, and the cut that it makes,
-pub mod Steps
--- the machine that goes through them,
-pub mod Machines
--- the channels that they open and build,
-pub mod Parts
--- the round that they come to, and runs of such rounds,
-pub mod Plays
--- the laws of all these,
-pub mod PlayLaws
--- and small lists of steps
-pub mod StepExamples
--- inside the crate, and of no use to a reader of the promise: what a ledger of steps keeps,
-pub mod Accounts
 -- a state without its calendars,
 pub mod Cores
 -- the memory of a channel,
 pub mod Tracks
--- and the stages of a round
+-- the stages of a round,
 pub mod Stages
+-- and who does its phases
+pub mod Doers

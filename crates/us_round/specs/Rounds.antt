@@ -189,18 +189,22 @@ credited state builds =
       calendars = map (λ b. b.calendar) builds;
     }
 
--- a round that has begun
-unfoldable pub round_from : State → Step
-round_from state =
-    let grants : List PlacedClaim = all_grants (builds_of state) in
+-- a round that has begun, once its channels are these
+abbrev pub ended : State → List Built → Step
+ended state builds =
+    let grants : List PlacedClaim = all_grants builds in
     record {
-      state = credited state (builds_of state);
+      state = credited state builds;
       scheduled = record {
         round = state.round;
-        channels = builds_of state;
+        channels = builds;
         pending = pending_seats grants (left_of grants 0 state.outstanding) (turns_of state.tables);
       };
     }
+
+-- and with those that it comes to
+unfoldable pub round_from : State → Step
+round_from state = ended state (builds_of state)
 
 -- the round of a state, with the bytes that are newly asked for of each cluster
 unfoldable pub round_of : State → List ℕ → Step

@@ -63,9 +63,7 @@ mod rounds;
 // and a round that no worker has a part in.
 mod alone;
 
-// A round, step by step.
-pub mod steps;
-
+pub use alone::round_alone;
 pub use faults::RoundFault;
 pub use output_laws::{lines_are_of_grants, lines_bear_round};
 pub use round_outs::RoundOut;

@@ -1,33 +1,34 @@
-ghost use Rattle.std.specs.Prelude.{◌≡◌, ◌+◌, ◌*◌, ◌≤◌, ⊤, [], length, slice_index_or, zip, IfOk, Ok, OnOk};
+ghost use Rattle.std.specs.Prelude.{◌≡◌, ◌+◌, ◌*◌, ◌≤◌, ⊤, length, map, zip, IfOk, Ok, OnOk};
 ghost use Rattle.std.specs.List.{AllByRecursion};
 ghost use Rattle.us_flows.specs.Tables.{max_run_ticks};
 ghost use Rattle.us_flows.specs.Lawful.{AreTables};
-ghost use Rattle.us_split.specs.Claims.{IsClaimOn};
-ghost use Rattle.us_round.specs.Cores.{AreCalendars, HasFewTicks, IsReady};
-ghost use Rattle.us_round.specs.Rounds as spec;
+ghost use Rattle.us_round.specs.Cores.{AreCalendars, HasFewTicks};
+ghost use Rattle.us_round.specs.Doers.{CanFill, CanBuild, DoesFill, DoesBuild, filled_at, built_at};
 ghost use Rattle.us_round.specs.Stages.{AreClaimsOn, AreFilled, built_by};
 
 use crate::building::{Built, Filled, build_on, fill};
 use crate::cores::Core;
 use crate::lanes::Lane;
 use std::alloc::Global;
-use std::thread::Threads;
-use us_crew::{CrewFault, Gate, Phase, Work, map_owned};
+use us_crew::{CrewFault, Work};
 use us_flows::{Channel, Config};
 use us_slots::NoMemory;
 use us_split::Plan;
 
+/// What those who do a phase answer, for each channel in their order.
+pub(crate) type Answered<R> = Result<Vec<R>, CrewFault<NoMemory>>;
+
 /// Does the reserves and the calendar of a channel.
 #[derive(Clone, Copy)]
-struct Filling<'a> {
-    config: &'a Config,
-    round: u32,
+pub(crate) struct Filling<'a> {
+    pub config: &'a Config,
+    pub round: u32,
 }
 
 impl<'a> Work<(Channel, Lane), Filled, NoMemory> for Filling<'a> {
-    ghost accepts = { λ work _ item. IsReady work.config.now work.round item };
+    ghost accepts = { λ work place item. CanFill work place item };
 
-    ghost value = { λ work _ item. spec.fill work.config.now work.round item.0 item.1 };
+    ghost value = { λ work place item. filled_at work place item };
 
     ghost may_fail = { λ _ _ _ _. ⊤ };
 
@@ -41,15 +42,14 @@ impl<'a> Work<(Channel, Lane), Filled, NoMemory> for Filling<'a> {
 
 /// Places the claims of a plan on the channel at each place.
 #[derive(Clone, Copy)]
-struct Building<'a> {
-    plan: &'a Plan,
+pub(crate) struct Building<'a> {
+    pub plan: &'a Plan,
 }
 
 impl<'a> Work<Filled, Built, NoMemory> for Building<'a> {
-    ghost accepts = { λ work index item.
-        AllByRecursion (IsClaimOn item.channel) (slice_index_or work.plan.now index []) × HasFewTicks item };
+    ghost accepts = { λ work place item. CanBuild work place item };
 
-    ghost value = { λ work index item. spec.build_with (slice_index_or work.plan.now index []) item };
+    ghost value = { λ work place item. built_at work place item };
 
     ghost may_fail = { λ _ _ _ _. ⊤ };
 
@@ -60,28 +60,26 @@ impl<'a> Work<Filled, Built, NoMemory> for Building<'a> {
     }
 }
 
-/// The channels of a round in table order, each after its reserves and its calendar, which workers do.
-pub(crate) fn fill_all<H: Threads + Sync, G: Gate + Sync>(
-    threads: &H,
+/// The channels of a round in table order, each after its reserves and its calendar. `each` does them.
+pub(crate) fn fill_all<F: FnOnce(&Filling<'_>, Vec<(Channel, Lane)>) -> Answered<Filled> + Drop>(
     alloc: Global,
     core: &Core,
     calendars: Vec<Lane>,
-    workers: usize,
-    gate: &G,
+    each: F,
 ) -> Result<Vec<Filled>, NoMemory>
     requires calendars { AreCalendars core.now.tables core.now.round calendars.items }
     requires time { (core.now.round + 1) * core.now.tables.round_ticks ≤ max_run_ticks }
+    requires each { DoesFill F.FnOnce each }
     ensures { IfOk result (λ all. AreFilled core.now calendars.items all.items) }
 {
     let config = core.config();
     let round = core.round();
     let items = with_channels(alloc, config, calendars)?;
-    let work = Filling { config, round };
-    answers(map_owned(threads, alloc, &work, Phase::Fill, items, workers, gate))
+    answers(each(&Filling { config, round }, items))
 }
 
 /// The channels in table order, each with its calendar.
-pub(crate) fn with_channels(
+fn with_channels(
     alloc: Global,
     config: &Config,
     calendars: Vec<Lane>,
@@ -99,25 +97,22 @@ pub(crate) fn with_channels(
     Ok(all)
 }
 
-/// Places the claims of a plan on all channels, which workers do.
-pub(crate) fn build_all<H: Threads + Sync, G: Gate + Sync>(
-    threads: &H,
-    alloc: Global,
+/// Places the claims of a plan on all channels. `each` does so on each.
+pub(crate) fn build_all<B: FnOnce(&Building<'_>, Vec<Filled>) -> Answered<Built> + Drop>(
     plan: &Plan,
     all: Vec<Filled>,
-    workers: usize,
-    gate: &G,
+    each: B,
 ) -> Result<Vec<Built>, NoMemory>
     requires claims { AreClaimsOn plan.now all.items }
     requires ticks { AllByRecursion HasFewTicks all.items }
+    requires each { DoesBuild B.FnOnce each }
     ensures { IfOk result (λ builds. builds.items ≡ built_by plan.now all.items) }
 {
-    let work = Building { plan };
-    answers(map_owned(threads, alloc, &work, Phase::Build, all, workers, gate))
+    answers(each(&Building { plan }, all))
 }
 
-/// What workers answered, or want of memory.
-fn answers<R: Drop>(answered: Result<Vec<R>, CrewFault<NoMemory>>) -> Result<Vec<R>, NoMemory>
+/// What was answered for all channels, or want of memory.
+fn answers<R: Drop>(answered: Answered<R>) -> Result<Vec<R>, NoMemory>
     ensures { IfOk result (λ all. answered ≡ Ok all) }
 {
     match answered {

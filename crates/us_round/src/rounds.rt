@@ -1,15 +1,18 @@
-ghost use Rattle.std.specs.Prelude.{◌≡◌, ◌+◌, ◌*◌, ◌^◌, ◌<◌, ◌≤◌, ◌⊎◌, ◌↔◌, length, zip, Err, IfOk, OnOk};
+ghost use Rattle.std.specs.Prelude.{◌≡◌, ◌+◌, ◌*◌, ◌^◌, ◌<◌, ◌≤◌, ◌⊎◌, ◌↔◌, ⊤, length, zip, Err, IfOk, OnOk};
 ghost use Rattle.std.specs.List.{AllByRecursion};
 ghost use Rattle.us_flows.specs.Tables.{max_run_ticks};
 ghost use Rattle.us_flows.specs.Clusters.{clusters_of};
 ghost use Rattle.us_flows.specs.Lawful.{AreTables};
 ghost use Rattle.us_holes.specs.Boards.{max_assignments};
 ghost use Rattle.us_split.specs.Plans.{IsIdle};
+ghost use Rattle.us_crew.specs.Items.{AreAccepted};
+ghost use Rattle.us_crew.specs.Values.{values_of};
 ghost use Rattle.us_round.specs.Cores.{AreCalendars, scheduled_of};
+ghost use Rattle.us_round.specs.Doers.{CanFill, CanBuild, DoesFill, DoesBuild, filled_at, built_at};
 ghost use Rattle.us_round.specs.Leftovers.{AreInside, IsBuiltFor};
 ghost use Rattle.us_round.specs.Rounds as spec;
 ghost use Rattle.us_round.specs.Outputs.{out_of, AreWithinLimits};
-ghost use Rattle.us_round.specs.Stages.{IsBegun, IsPlanned, AreBuilt, AreAllBuilt, IsOverFor};
+ghost use Rattle.us_round.specs.Stages.{IsBegun, IsPlanned, AreBuilt, AreAllBuilt, IsOver, IsOverFor};
 ghost use Rattle.us_round.specs.States.{AreSound, settled_by};
 
 use crate::building::{Built, Filled, lanes_of};
@@ -18,13 +21,14 @@ use crate::faults::RoundFault;
 use crate::lanes::Lane;
 use crate::mapping::maps_of;
 use crate::pendings::pending_seats;
-use crate::phases::{build_all, fill_all};
+use crate::phases::{Answered, Building, Filling, build_all, fill_all};
 use crate::reporting::rows_of;
 use crate::round_outs::RoundOut;
 use crate::states::State;
 use std::alloc::Global;
 use std::thread::Threads;
-use us_crew::{Gate, MAX_WORKERS};
+use us_crew::{Gate, MAX_WORKERS, Phase, map_owned};
+use us_flows::Channel;
 use us_slots::NoMemory;
 use us_split::{Plan, plan_with};
 
@@ -67,19 +71,45 @@ pub fn round<H: Threads + Sync, G: Gate + Sync>(
     if workers == 0 || workers > MAX_WORKERS {
         return Err(RoundFault::Workers);
     }
-    let (core, before, calendars) = begin(alloc, state, cuts)?;
-    let built = build(threads, alloc, &core, &before, calendars, workers, gate)?;
-    let done = finish(alloc, core, before, built)?;
+    let fill = |work: &Filling<'_>, items: Vec<(Channel, Lane)>| -> Answered<Filled>
+        requires { AreAccepted (λ _. ⊤) (CanFill work.now) items.items }
+        ensures { IfOk result (λ all. all.items ≡ values_of (filled_at work.now) items.items) }
+    { map_owned(threads, alloc, work, Phase::Fill, items, workers, gate) };
+    let build = |work: &Building<'_>, items: Vec<Filled>| -> Answered<Built>
+        requires { AreAccepted (λ _. ⊤) (CanBuild work.now) items.items }
+        ensures { IfOk result (λ all. all.items ≡ values_of (built_at work.now) items.items) }
+    { map_owned(threads, alloc, work, Phase::Build, items, workers, gate) };
+    let done = round_by(alloc, state, cuts, fill, build)?;
     Ok(done)
+}
+
+/// The round of a state and a cut, in which `fill` does the reserves and the calendars of all channels, and `build` places
+/// their claims.
+pub(crate) fn round_by<
+    F: FnOnce(&Filling<'_>, Vec<(Channel, Lane)>) -> Answered<Filled> + Drop,
+    B: FnOnce(&Building<'_>, Vec<Filled>) -> Answered<Built> + Drop,
+>(
+    alloc: Global,
+    state: State,
+    cuts: &[u64],
+    fill: F,
+    build: B,
+) -> Result<(State, RoundOut), NoMemory>
+    requires clusters { length cuts.now ≡ length (clusters_of state.tables) }
+    requires room { AllByRecursion (λ pair. pair.0 + pair.1 < 2 ^ 62) (zip state.outstanding cuts.now) }
+    requires time { (state.round + 1) * state.tables.round_ticks ≤ max_run_ticks }
+    requires fill { DoesFill F.FnOnce fill }
+    requires build { DoesBuild B.FnOnce build }
+    ensures { IfOk result (λ done. IsOver (spec.begun state cuts.now) done.0 done.1) }
+{
+    let (core, before, calendars) = begin(alloc, state, cuts)?;
+    let built = build_from(alloc, &core, &before, calendars, fill, build)?;
+    finish(alloc, core, before, built)
 }
 
 /// Begins the round of a state: what the clusters ask for is outstanding too, and the buckets grow. The answer has what
 /// is outstanding then.
-pub(crate) fn begin(
-    alloc: Global,
-    state: State,
-    cuts: &[u64],
-) -> Result<(Core, Vec<u64>, Vec<Lane>), NoMemory>
+fn begin(alloc: Global, state: State, cuts: &[u64]) -> Result<(Core, Vec<u64>, Vec<Lane>), NoMemory>
     requires clusters { length cuts.now ≡ length (clusters_of state.tables) }
     requires room { AllByRecursion (λ pair. pair.0 + pair.1 < 2 ^ 62) (zip state.outstanding cuts.now) }
     ensures { IfOk result (λ parts. IsBegun (spec.begun state cuts.now) parts.0 parts.1.items parts.2.items) }
@@ -92,27 +122,31 @@ pub(crate) fn begin(
 
 /// The channels of a round that has begun, with all claims placed: boards are planned together, once reserves and
 /// calendars have their minislots, and built one by one.
-fn build<H: Threads + Sync, G: Gate + Sync>(
-    threads: &H,
+fn build_from<
+    F: FnOnce(&Filling<'_>, Vec<(Channel, Lane)>) -> Answered<Filled> + Drop,
+    B: FnOnce(&Building<'_>, Vec<Filled>) -> Answered<Built> + Drop,
+>(
     alloc: Global,
     core: &Core,
     demands: &[u64],
     calendars: Vec<Lane>,
-    workers: usize,
-    gate: &G,
+    fill: F,
+    build: B,
 ) -> Result<Vec<Built>, NoMemory>
     requires demands { demands.now ≡ core.now.outstanding }
     requires calendars { AreCalendars core.now.tables core.now.round calendars.items }
     requires time { (core.now.round + 1) * core.now.tables.round_ticks ≤ max_run_ticks }
+    requires fill { DoesFill F.FnOnce fill }
+    requires build { DoesBuild B.FnOnce build }
     ensures { IfOk result (λ built. AreBuilt core.now calendars.items built.items) }
 {
-    let filled = fill_all(threads, alloc, core, calendars, workers, gate)?;
+    let filled = fill_all(alloc, core, calendars, fill)?;
     let plan = plan_round(alloc, core, demands, &filled)?;
-    build_all(threads, alloc, &plan, filled, workers, gate)
+    build_all(&plan, filled, build)
 }
 
 /// The plan of a round that has begun, over boards with reserves and calendars.
-pub(crate) fn plan_round(
+fn plan_round(
     alloc: Global,
     core: &Core,
     demands: &[u64],
@@ -139,7 +173,7 @@ fn idle_of(alloc: Global, filled: &[Filled]) -> Result<Vec<u32>, NoMemory>
 }
 
 /// Ends a round whose claims are all placed, with so much outstanding before them.
-pub(crate) fn finish(
+fn finish(
     alloc: Global,
     core: Core,
     before: Vec<u64>,

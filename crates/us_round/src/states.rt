@@ -1,4 +1,4 @@
-ghost use Rattle.std.specs.Prelude.{◌≡◌, ◌≤◌, map, IfErr, IfOk};
+ghost use Rattle.std.specs.Prelude.{◌≡◌, ◌≤◌, length, map, IfErr, IfOk};
 ghost use Rattle.us_calendar.specs.Calendars as calendars;
 ghost use Rattle.us_round.specs.Cores.{AreCalendars, with_calendars};
 ghost use Rattle.us_round.specs.Rounds as spec;
@@ -90,6 +90,13 @@ impl State {
         let core = self.core();
         let rows = reporting::final_rows(alloc, core.config(), core.outstanding(), core.buckets())?;
         Ok(rows)
+    }
+
+    /// How many channels there are.
+    pub fn channels(&self) -> usize
+        ensures { result ≡ length self.now.tables.channels }
+    {
+        self.core.config().channels().len()
     }
 
     /// The number of the next round.

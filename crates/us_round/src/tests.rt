@@ -7,5 +7,4 @@ mod entering;
 mod memory;
 mod memory_of_workers;
 mod rounds;
-mod steps;
 mod workers;

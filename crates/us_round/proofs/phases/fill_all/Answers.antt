@@ -1,4 +1,5 @@
-use Rattle.std.proofs.Common.{◌≡◌, map, ap, ◌∙◌}
+use Rattle.std.proofs.Common.{◌≡◌, map, ap, ◌∙◌, rules}
+use Rattle.std.specs.List.{AllByRecursion}
 use Rattle.std.proofs.lemmas.Result.{IfOk-weaker}
 use Rattle.us_crew.specs.Values.{values_of}
 use Rattle.us_round.specs.Rounds.{fill}
@@ -13,22 +14,27 @@ with_channels-requires g c =
     channels_for c.args.core.now c.args.calendars.items c.config-config.result.now c.config-config.ensures.value
     c.requires.calendars
 
-pub map_owned-requires-after_bounds : goal.map_owned-requires-after_bounds
-map_owned-requires-after_bounds g c κs within =
-    accepted _ (IsReady c.config-config.result.now c.round-round.result) c.in_ok-items.items.items
-    (ready_as c.args.core.now c.args.calendars.items c.config-config.result.now c.round-round.result
+pub each-requires : goal.each-requires
+each-requires g c =
+    let all : AllByRecursion (IsReady c.config-config.result.now c.round-round.result) c.in_ok-items.items.items =
+    ready_as c.args.core.now c.args.calendars.items c.config-config.result.now c.round-round.result
     c.in_ok-items.items.items c.config-config.ensures.value c.round-round.ensures c.requires.time
-    c.in_ok-items.ensures.lawful c.requires.calendars c.in_ok-items.ensures.value)
+    c.in_ok-items.ensures.lawful c.requires.calendars c.in_ok-items.ensures.value in
+    (c.requires.each _ c.in_ok-items.items (accepted _ (IsReady c.config-config.result.now c.round-round.result) c.in_ok-items.items.items all)).0
 
 pub returns : goal.returns
 returns g c =
     let t = c.config-config.result.now in
     let n = c.round-round.result in
-    answered_so (λ all. AreFilled c.args.core.now c.args.calendars.items all.items) c.map_owned.result c.answers.result
+    let all : AllByRecursion (IsReady t n) c.in_ok-items.items.items =
+    ready_as c.args.core.now c.args.calendars.items t n c.in_ok-items.items.items c.config-config.ensures.value
+    c.round-round.ensures c.requires.time c.in_ok-items.ensures.lawful c.requires.calendars c.in_ok-items.ensures.value in
+    answered_so (λ all. AreFilled c.args.core.now c.args.calendars.items all.items) c.each.result c.answers.result
     c.answers.ensures
-    (IfOk-weaker c.map_owned.result
+    (IfOk-weaker c.each.result
     (λ all. all.items ≡ values_of (λ _ item. fill t n item.0 item.1) c.in_ok-items.items.items) _
     (λ all is. filled_as c.args.core.now c.args.calendars.items t n all.items c.config-config.ensures.value
     c.round-round.ensures c.requires.time c.in_ok-items.ensures.lawful c.requires.calendars
     (is ∙ values_are (λ item. fill t n item.0 item.1) 0 c.in_ok-items.items.items
-    ∙ ap (λ items. map (λ item. fill t n item.0 item.1) items) c.in_ok-items.ensures.value)) c.map_owned.ensures.values)
+    ∙ ap (λ items. map (λ item. fill t n item.0 item.1) items) c.in_ok-items.ensures.value))
+    ((c.requires.each _ c.in_ok-items.items (accepted _ (IsReady t n) c.in_ok-items.items.items all)).1 _ c.each.ensures))

@@ -1,5 +1,0 @@
-use Rattle.us_round.proofs.PlayLaws.{plays_are_rounds}
-use Rattle.us_round.proofs.steps.laws.plays_are_rounds.Goals as goal
-
-pub returns : goal.returns
-returns c = plays_are_rounds

@@ -1,5 +1,0 @@
-use Rattle.us_round.proofs.PlayLaws.{seats_change_nothing}
-use Rattle.us_round.proofs.steps.laws.seats_change_nothing.Goals as goal
-
-pub returns : goal.returns
-returns c = seats_change_nothing

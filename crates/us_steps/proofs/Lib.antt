@@ -1,0 +1,9 @@
+pub mod FlagLemmas
+pub mod TallyLemmas
+pub mod StepLemmas
+pub mod CutLemmas
+pub mod PlayLemmas
+pub mod MachineLemmas
+pub mod ChannelLemmas
+pub mod SeatLaws
+pub mod PlayLaws

@@ -1,0 +1,116 @@
+-- Small lists of steps, computed by the definitions alone.
+use Rattle.std.specs.Prelude.{◌≡◌, ℕ, List, [], ◌∷◌, slice_index, false, Option, Some, None, option_map, refl}
+use Rattle.std.specs.List.{AllByRecursion}
+use Rattle.std.proofs.Common.{arith}
+use Rattle.us_requests.specs.declared.asks.Ask.{Ask}
+use Rattle.us_steps.specs.Steps.{adds, builds, count, cut_of, left_of, IsComplete}
+use Rattle.us_round.specs.Rounds.{State, Filled, begun}
+use Rattle.us_steps.specs.Machines.{Stand, Home, Done, Machine, no_seats, placed, after_step, run}
+use Rattle.us_steps.specs.Plays.{cuts_of, words_after}
+use Rattle.us_steps.specs.Laws.{IsSeated, all_added, all_took}
+use Rattle.us_steps.specs.declared.steps.Step.{Step}
+use Rattle.us_steps.specs.declared.steps.Step.TheVariants as step
+
+-- 500 and 700 bytes of the one cluster
+abbrev rows : List Ask
+rows = record { cluster = 0; bytes = 500 } ∷ record { cluster = 0; bytes = 700 } ∷ []
+
+-- the second row is added by seat 4, the first by seat 3, which takes the word; then the one channel is built
+abbrev in_time : List Step
+in_time = step.Add 1 4 ∷ step.Add 0 3 ∷ step.Take 0 3 ∷ step.Open 0 ∷ step.Built 0 ∷ []
+
+-- the same, but the first row comes when the channel is out
+abbrev one_late : List Step
+one_late = step.Add 1 4 ∷ step.Take 0 3 ∷ step.Open 0 ∷ step.Add 0 3 ∷ step.Built 0 ∷ []
+
+-- both rows are cut, and what the word had before
+all_cut : (cut_of (0 ∷ []) rows in_time ≡ 1200 ∷ []) × (left_of (0 ∷ []) rows in_time ≡ 0 ∷ [])
+    × (cut_of (30 ∷ []) rows in_time ≡ 1230 ∷ [])
+unfolding cut_of left_of
+all_cut = (refl, refl, refl)
+
+-- a late row is left in the word,
+one_left : (cut_of (0 ∷ []) rows one_late ≡ 700 ∷ []) × (left_of (0 ∷ []) rows one_late ≡ 500 ∷ [])
+unfolding cut_of left_of
+one_left = (refl, refl)
+
+-- and is cut in the next round
+next_cut :
+    (cuts_of (0 ∷ []) (record { rows = rows; steps = one_late } ∷ record { rows = rows; steps = in_time } ∷ [])
+    ≡ (700 ∷ []) ∷ (1700 ∷ []) ∷ []) ×
+    (words_after (0 ∷ []) (record { rows = rows; steps = one_late } ∷ record { rows = rows; steps = in_time } ∷ [])
+    ≡ 0 ∷ [])
+unfolding cuts_of words_after cut_of left_of
+next_cut = (refl, refl)
+
+-- a list in which a channel isn't built isn't complete,
+abbrev not_built : List Step
+not_built = step.Add 1 4 ∷ step.Add 0 3 ∷ step.Take 0 3 ∷ step.Open 0 ∷ []
+
+never_built : ¬ IsComplete 2 1 1 not_built
+never_built all =
+    let none : count (builds 0) not_built ≡ 0 = refl in
+    omega (arith, none, all.built 0 (omega arith))
+
+-- nor is one in which a row is added twice
+abbrev twice : List Step
+twice = step.Add 1 4 ∷ in_time
+
+added_twice : ¬ IsComplete 2 1 1 twice
+added_twice all =
+    let two : count (adds 1) twice ≡ 2 = refl in
+    omega (arith, two, all.added 1 (omega arith))
+
+-- The machine.
+
+-- the word has so many bytes, and the one channel is at home
+abbrev start : ℕ → Filled → Machine
+start word f = record {
+  words = word ∷ [];
+  cut = 0 ∷ [];
+  seats = no_seats;
+  added = false ∷ false ∷ [];
+  taken = false ∷ [];
+  channels = Home f ∷ [];
+}
+
+-- the cut, the words and the channels in the end
+abbrev ends : State → Filled → List Step → Option (List ℕ × List ℕ × List Stand)
+ends s f steps = option_map (λ (m : Machine). (m.cut, m.words, m.channels)) (run s rows (start 0 f) steps)
+
+-- the channel is built for the cut that stands in the list
+goes_on : (s : State) (f : Filled) →
+    (ends s f in_time ≡ Some (1200 ∷ [], 0 ∷ [], Done (placed (begun s (1200 ∷ [])) f) ∷ [])) ×
+    (ends s f one_late ≡ Some (700 ∷ [], 500 ∷ [], Done (placed (begun s (700 ∷ [])) f) ∷ []))
+unfolding run after_step
+goes_on s f = (refl, refl)
+
+-- the machine stops where a channel isn't built, or is built twice, or at home; where a row is added twice, or isn't there;
+-- and where a word is taken once a channel is out
+stops : (s : State) (f : Filled) →
+    (ends s f not_built ≡ None) ×
+    (ends s f (step.Add 1 4 ∷ step.Add 0 3 ∷ step.Take 0 3 ∷ step.Open 0 ∷ step.Built 0 ∷ step.Built 0 ∷ []) ≡ None) ×
+    (ends s f (step.Add 1 4 ∷ step.Add 0 3 ∷ step.Take 0 3 ∷ step.Built 0 ∷ step.Open 0 ∷ []) ≡ None) ×
+    (ends s f twice ≡ None) ×
+    (ends s f (step.Add 2 4 ∷ in_time) ≡ None) ×
+    (ends s f (step.Add 1 4 ∷ step.Add 0 3 ∷ step.Open 0 ∷ step.Take 0 3 ∷ step.Built 0 ∷ []) ≡ None)
+unfolding run after_step
+stops s f = (refl, refl, refl, refl, refl, refl)
+
+-- what seats 3 and 4 added to the word, and what seat 3 took of it
+seats_tell : (s : State) (f : Filled) →
+    option_map {U = ℕ × ℕ × ℕ} (λ (m : Machine). (m.seats.added 3 0, m.seats.added 4 0, m.seats.took 3 0))
+    (run s rows (start 0 f) one_late) ≡ Some (500, 700, 700)
+unfolding run after_step
+seats_tell s f = refl
+
+-- of a word that had 30 bytes, both together added 1200 and took 730, and 500 are left
+seated : AllByRecursion (IsSeated (3 ∷ 4 ∷ [])) one_late
+seated = (refl, (refl, (tt, (refl, (tt, tt)))))
+
+balance : (s : State) (f : Filled) →
+    option_map {U = ℕ × ℕ × ℕ}
+    (λ (m : Machine). (all_added (3 ∷ 4 ∷ []) m 0, all_took (3 ∷ 4 ∷ []) m 0, slice_index m.words 0))
+    (run s rows (start 30 f) one_late) ≡ Some (1200, 730, 500)
+unfolding run after_step
+balance s f = refl

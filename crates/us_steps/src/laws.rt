@@ -1,0 +1,25 @@
+//! Laws of the definitions of steps and plays, each as the contract of a function that does nothing.
+
+ghost use Rattle.us_steps.specs.Laws.{MachineMakesRounds, SeatsChangeNothing, PlaysAreRounds, NothingIsLost};
+
+/// The machine goes through complete lists of steps alone. It ends with the words and the cut that `play` tells, and each
+/// channel as the round of that cut has it, in whichever order channels were opened and built; and what the seats added
+/// and took balances.
+pub fn machine_makes_rounds()
+    ensures { MachineMakesRounds }
+{}
+
+/// Whoever adds and takes, all but what is told of seats comes out the same.
+pub fn seats_change_nothing()
+    ensures { SeatsChangeNothing }
+{}
+
+/// Plays one after another, each from the state and the words that the last one left, are the schedule over their cuts.
+pub fn plays_are_rounds()
+    ensures { PlaysAreRounds }
+{}
+
+/// The cuts of a cluster and what is left in its word are what its word had at first, and all its rows.
+pub fn nothing_is_lost()
+    ensures { NothingIsLost }
+{}

@@ -1,0 +1,32 @@
+//! A round, step by step: what workers do to its words and channels, in an order that a list tells. Whatever the order is,
+//! a complete list makes the round of the cut that stands in it.
+//!
+//! ```
+//! // two rows are added, the word of their cluster is taken, and the one channel is given to a worker and built
+//! let add = |row| Step::Add { row, seat: 0 };
+//! let steps = [add(1), add(0), Step::Take { word: 0, seat: 0 }, Step::Open { channel: 0 }, Step::Built { channel: 0 }];
+//! let played = play(alloc, state, &words, &rows, &steps)?; // None if something were missing, or done twice
+//! let (state, words, out) = played?; // the next round's state, what is left in the words, MAPs and lines
+//! ```
+//!
+//! What these words mean stands in `specs/`, in the order of its `Lib.antt`.
+#![tactic(auto)]
+
+// The steps that a round is made of.
+mod steps;
+
+// What stands after each step.
+mod tallies;
+
+// The round that a list of steps makes.
+mod plays;
+
+// Laws of steps and of rounds made by them.
+mod laws;
+
+pub use laws::{machine_makes_rounds, nothing_is_lost, plays_are_rounds, seats_change_nothing};
+pub use plays::play;
+pub use steps::Step;
+
+#[cfg(test)]
+mod tests;

@@ -1,0 +1,3 @@
+//! What no clause says: worked lists of steps, and each allocation refused in turn.
+
+mod steps;

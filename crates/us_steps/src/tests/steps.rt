@@ -1,0 +1,150 @@
+use crate::{Step, play};
+use std::alloc::{AllocError, Global};
+use std::process::Abort;
+use std::test::Fail;
+use us_flows::Config;
+use us_requests::Ask;
+use us_round::{RoundFault, RoundOut, State};
+use us_slots::NoMemory;
+
+/// One channel, whose MAPs have 160 minislots of 64 symbols of 4 bits, the last 10 for contention; and one flow of one
+/// cluster without limit.
+const TEXT: &str = "round_ticks = 320
+lead_ticks = 160
+[[channel]]
+id = 1
+minislot_log2 = 1
+rate_log2 = 5
+ucd_count = 0
+ranging_backoff = [2, 6]
+data_backoff = [3, 8]
+request_minislots = 2
+contention_minislots = 10
+maintenance_minislots = 0
+maintenance_every = 1
+station_minislots = 4
+long = { bits = 4, preamble = 24, guard = 8, fec_t = 0, fec_k = 200, shortened = false }
+short = { bits = 4, preamble = 24, guard = 8, fec_t = 0, fec_k = 200, shortened = false, max_minislots = 10 }
+unsolicited = { bits = 4, preamble = 24, guard = 8, fec_t = 0, fec_k = 200, shortened = false }
+[[flow]]
+id = 1
+type = 2
+channels = [1]
+clusters = [[291]]
+priority = 0
+rate = 0
+burst = 3044
+unit = 4
+headers = true
+";
+
+const TAKE: Step = Step::Take { word: 0, seat: 0 };
+
+const OPEN: Step = Step::Open { channel: 0 };
+
+const BUILT: Step = Step::Built { channel: 0 };
+
+/// The round in which a row of 500 bytes comes too late: 700 bytes are granted, 23 minislots.
+const LATE: &str = "round 0, elements at 0 23 150 160; left [500]";
+
+/// The one comparison of these tests.
+fn same(rt: &impl Abort, name: &str, found: &str, wanted: &str) {
+    assert_eq!(rt; found, wanted, "{name}");
+}
+
+/// Seat 0 adds this row.
+const fn add(row: usize) -> Step {
+    Step::Add { row, seat: 0 }
+}
+
+/// What the first round comes to by these steps, with rows of 500 and 700 bytes.
+fn answer_of(alloc: Global, steps: &[Step]) -> Result<String, AllocError> {
+    let mut answer = String::new(alloc);
+    match Config::read(alloc, TEXT.as_bytes()) {
+        Ok(config) => {
+            if let Err(fault) = tell_first(alloc, &mut answer, config, steps) {
+                write!(answer, "{fault}")?;
+            }
+        }
+        Err(fault) => write!(answer, "{fault}")?,
+    }
+    Ok(answer)
+}
+
+/// What can only be wrong with the configuration is said to be want of memory.
+fn first_play(
+    alloc: Global,
+    config: Config,
+    steps: &[Step],
+) -> Result<Option<(State, Vec<u64>, RoundOut)>, RoundFault> {
+    if config.clusters() != 1 || config.round_ticks() > 4096 {
+        return Err(RoundFault::NoMemory);
+    }
+    let rows = [
+        Ask {
+            cluster: 0,
+            bytes: 500,
+        },
+        Ask {
+            cluster: 0,
+            bytes: 700,
+        },
+    ];
+    let state = State::new(alloc, config)?;
+    play(alloc, state, &[0], &rows, steps)
+}
+
+fn tell_first(
+    alloc: Global,
+    answer: &mut String,
+    config: Config,
+    steps: &[Step],
+) -> Result<(), RoundFault> {
+    let Some((_state, words, out)) = first_play(alloc, config, steps)? else {
+        return Ok(());
+    };
+    tell_play(answer, &words, &out)?;
+    Ok(())
+}
+
+/// Where the elements of the round's MAPs start, and what is left in the words.
+fn tell_play(answer: &mut String, words: &[u64], out: &RoundOut) -> Result<(), NoMemory> {
+    write!(answer, "round {}, elements at", out.round())?;
+    for map in out.maps() {
+        for element in map.elements() {
+            write!(answer, " {}", element.offset())?;
+        }
+    }
+    write!(answer, "; left {words:?}")?;
+    Ok(())
+}
+
+#[test]
+fn worked_steps(rt: HostRuntime) -> Result<(), Fail> {
+    let whole = answer_of(rt.alloc(), &[add(1), add(0), TAKE, OPEN, BUILT])?;
+    same(
+        &rt,
+        "all rows",
+        whole.as_str(),
+        "round 0, elements at 0 39 150 160; left [0]",
+    );
+    let late = answer_of(rt.alloc(), &[add(1), TAKE, OPEN, add(0), BUILT])?;
+    same(&rt, "a late row", late.as_str(), LATE);
+    let open = answer_of(rt.alloc(), &[add(1), add(0), TAKE, OPEN])?;
+    same(&rt, "a channel that isn't built", open.as_str(), "");
+    let twice = answer_of(rt.alloc(), &[add(1), add(0), add(0), TAKE, OPEN, BUILT])?;
+    same(&rt, "a row that is added twice", twice.as_str(), "");
+    Ok(())
+}
+
+/// Run by `tools/refuse-memory` too, where each allocation is refused in turn: a play is answered whole, or as want of
+/// memory.
+#[test]
+fn refused_memory(rt: HostRuntime) {
+    // else it was refused to the answer's text
+    if let Ok(answer) = answer_of(rt.alloc(), &[add(1), TAKE, OPEN, add(0), BUILT]) {
+        if !answer.as_str().ends_with("out of memory") {
+            same(&rt, "a late row", answer.as_str(), LATE);
+        }
+    }
+}
