@@ -26,9 +26,3 @@ pub all_weaker : {A : Type 0} (P Q : A → Type 0) → ((x : A) → P x → Q x)
     AllByRecursion Q xs
 all_weaker P Q then [] h = tt
 all_weaker P Q then (x ∷ xs) h = (then x h.0, all_weaker P Q then xs h.1)
-
--- and what holds beside them holds beside each
-pub all_beside : {A : Type 0} (Q : Type 0) (P : A → Type 0) (xs : List A) → Q → AllByRecursion P xs →
-    AllByRecursion (λ x. Q × P x) xs
-all_beside Q P [] q h = tt
-all_beside Q P (x ∷ xs) q h = ((q, h.0), all_beside Q P xs q h.1)

@@ -36,34 +36,6 @@ pub values_are : {T R : Type 0} (value : T → R) (first : ℕ) (items : List T)
 values_are value first [] = refl
 values_are value first (item ∷ items) = ap (λ more. value item ∷ more) (values_are value (first + 1) items)
 
--- the values of one more item
-pub values_more : {T R : Type 0} (value : ℕ → T → R) (first : ℕ) (items : List T) (item : T) →
-    values_from value first (items ++ item ∷ []) ≡ values_from value first items ++ value (first + length items) item ∷ []
-values_more value first [] item = let here : first + 0 ≡ first = omega arith in rw here refl
-values_more value first (x ∷ items) item =
-    let next : first + 1 + length items ≡ first + suc (length items) = omega arith in
-    ap (λ more. value first x ∷ more) (values_more value (first + 1) items item ∙
-    ap (λ n. values_from value (first + 1) items ++ value n item ∷ []) next)
-
-pub values_long : {T R : Type 0} (value : ℕ → T → R) (first : ℕ) (items : List T) →
-    length (values_from value first items) ≡ length items
-values_long value first [] = refl
-values_long value first (item ∷ items) = ap suc (values_long value (first + 1) items)
-
--- One more channel that one thread builds.
-
--- the claims at the next place are those of the next channel
-pub next_claims : {T : Type 0} (P : ℕ → T → Type 0) (items done left rest : List T) (item : T) (place : ℕ) →
-    ((k : ℕ) (x : T) → slice_get items k ≡ Some x → P k x) → done ++ left ≡ items → left ≡ item ∷ rest →
-    place ≡ length done → P place item
-next_claims P items done left rest item place all parts is at =
-    subst (λ n. P n item) (sym at)
-    (all (length done) item (ap (λ xs. slice_get xs (length done)) (sym parts ∙ ap (λ xs. done ++ xs) is) ∙ behind done))
-  where
-    behind : (done : List T) → slice_get (done ++ item ∷ rest) (length done) ≡ Some item
-    behind [] = refl
-    behind (x ∷ done) = behind done
-
 -- what is known of what workers answered is known of what is answered
 pub answered_so : {A E F : Type 0} (P : A → Type 0) (answered : Result A E) (result : Result A F) →
     IfOk result (λ all. answered ≡ Ok all) → IfOk answered P → IfOk result P

@@ -138,7 +138,7 @@ unmaintained = rows.Missed (record { round = 4; channel = 1; entry = words.Stati
 lines_by_start : rows_on 4 (record {
   channel = channel;
   board = empty_board 8;
-  calendar = record { pace = record { time = channel.bursts.time; len = 8 }; next_round = 5; rows = [] };
+  calendar = record { pace = record { time = channel.bursts.time; len = 8 }; next_round = 5; states = [] };
   settled = settled.Granted kinds.RealTimePoll 9 6 0 1 2 (record { sid = 300; iuc = 1 })
       ∷ settled.Missed kinds.Station 2 3 0 ∷ [];
   grants = placed 5 30 ∷ placed 0 20 ∷ placed 3 10 ∷ [];
