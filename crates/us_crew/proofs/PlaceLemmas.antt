@@ -84,7 +84,6 @@ module _ {A T R E : Type 0} (read : A → List R) (value : ℕ → T → R) (may
   tells-first (Err fault.NoMemory) tells = tt
   tells-first (Err (fault.Item place said)) tells = fault-first may must said xs place tells
 
-
   pub tells-workers : (result : Result A (CrewFault E)) → Tells read value may must 0 xs result → ¬ (result ≡ Err fault.Workers)
   tells-workers (Ok answers) tells = λ is. absurd (cc is)
   tells-workers (Err fault.Workers) tells = λ is. tells

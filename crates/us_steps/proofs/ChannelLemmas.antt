@@ -1,11 +1,11 @@
 -- That channels may be opened and built in any order: wherever each stands, it is the round's.
-use Rattle.std.proofs.Common.{◌≡◌, ℕ, zero, suc, Bool, true, false, ◌&&◌, ◌||◌, if◌then◌else◌, List, [], ◌∷◌, length, map, get_or, slice_set, Option, Some, None, refl, ap, sym, subst, ◌∙◌}
+use Rattle.std.proofs.Common.{◌≡◌, ℕ, zero, suc, true, false, ◌||◌, List, [], ◌∷◌, length, map, get_or, slice_set, Option, Some, None, refl, ap, sym, subst, ◌∙◌}
 use Rattle.std.specs.Prelude.{slice_get, option_map, option_and_then, ⊤}
 use Rattle.us_requests.specs.declared.asks.Ask.{Ask}
 use Rattle.us_round.specs.Rounds.{State, Filled, Built, begun, fills_of, builds_of}
 use Rattle.us_steps.specs.declared.steps.Step.{Step}
 use Rattle.us_steps.specs.declared.steps.Step.TheVariants as step
-use Rattle.us_steps.specs.Machines.{Stand, Home, Out, Done, Machine, opening_machine, with_row, without_word, with_channel, placed, opened, built, is_open, is_built, any_open, after_step, are_set, is_done, run, builds_in}
+use Rattle.us_steps.specs.Machines.{Stand, Home, Out, Done, Machine, opening_machine, with_row, without_word, with_channel, placed, opened, built, is_built, any_open, after_step, are_set, is_done, run, builds_in}
 use Rattle.us_steps.proofs.TallyLemmas as step_of
 use Rattle.us_steps.proofs.TallyLemmas.{neither}
 use Rattle.us_steps.proofs.StepLemmas.{found-true, last-three}

@@ -3,17 +3,15 @@ use Rattle.std.proofs.Common.{◌≡◌, ℕ, ◌+◌, ◌<◌, List, [], ◌∷
 use Rattle.std.specs.Prelude.{option_map}
 use Rattle.std.specs.List.{AllByRecursion}
 use Rattle.us_flows.specs.Tables.{Tables}
-use Rattle.us_requests.specs.declared.asks.Ask.{Ask}
 use Rattle.us_requests.specs.Cuts as requests
 use Rattle.us_round.specs.Rounds.{State, opening, begun, fills_of, builds_of, ended, round_of, round_from, schedule, final}
 use Rattle.us_round.specs.Outputs.{out_of}
-use Rattle.us_steps.specs.declared.steps.Step.{Step}
 use Rattle.us_steps.specs.Steps.{IsComplete, total, cut_of, left_of}
 use Rattle.us_steps.specs.Machines.{Stand, Machine, Done, opening_machine, run, builds_in}
 use Rattle.us_steps.specs.Tallies as tallies
 use Rattle.us_steps.specs.Tallies.{Tally, tally_of, opening_tally}
 use Rattle.us_steps.specs.Plays.{Play, run_of, state_after, cuts_of, words_after}
-use Rattle.us_steps.specs.Laws.{PlaysAreRounds, NothingIsLost, IsPlayed, GoesThrough, MachineMakesRounds}
+use Rattle.us_steps.specs.Laws.{PlaysAreRounds, NothingIsLost, GoesThrough, MachineMakesRounds}
 use Rattle.us_steps.proofs.StepLemmas.{complete, incomplete}
 use Rattle.us_steps.proofs.CutLemmas.{IsEnd, run_end_is}
 use Rattle.us_steps.proofs.PlayLemmas.{opening-sized, end-cut, end-words, conserved, left-long}

@@ -1,5 +1,5 @@
-use super::base::{Case, map_case, same, tell};
-use crate::{CrewFault, OpenGate};
+use super::base::{Case, Doubling, map_case, numbers_to, same, tell};
+use crate::{CrewFault, OpenGate, map_alone};
 use std::test::Fail;
 
 pub(super) const DOUBLED: Case<'static> = Case {
@@ -62,6 +62,18 @@ fn answers_and_faults(rt: HostRuntime) -> Result<(), Fail> {
         let answer = map_case(&rt, rt.alloc(), case, &OpenGate)?;
         let told = tell(rt.alloc(), &answer)?;
         same(&rt, case.name, told.as_str(), case.answer);
+    }
+    Ok(())
+}
+
+/// The calling thread alone answers the same.
+#[test]
+fn answers_alone(rt: HostRuntime) -> Result<(), Fail> {
+    for (most, wanted) in [(u64::MAX, DOUBLED.answer), (2, "CR3: item 2: 3")] {
+        let numbers = numbers_to(rt.alloc(), DOUBLED.numbers)?;
+        let answer = map_alone(rt.alloc(), &Doubling { most }, numbers);
+        let told = tell(rt.alloc(), &answer)?;
+        same(&rt, "alone", told.as_str(), wanted);
     }
     Ok(())
 }
