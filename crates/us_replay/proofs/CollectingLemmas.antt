@@ -10,7 +10,7 @@ use Rattle.us_crew.specs.Items.{AreAccepted}
 use Rattle.us_crew.specs.Values.{values_from, values_of}
 use Rattle.us_intake.specs.Tallies.{empty_tally, raised, added}
 use Rattle.us_intake.specs.Seats.{Intake, Seat, joined_seat, seat_after_submit, seat_after_split, spent}
-use Rattle.us_intake.proofs.TallyLemmas.{sum-added, sum-empty, length-added, length-empty}
+use Rattle.us_intake.proofs.TallyLemmas.{sum-added, length-added}
 use Rattle.us_requests.specs.declared.asks.Ask.{Ask}
 use Rattle.us_requests.specs.Cuts.{asked, cut_of}
 use Rattle.us_requests.specs.Traces.{max_ask}
