@@ -6,7 +6,8 @@ use Rattle.us_steps.specs.Steps.{bytes_in}
 use Rattle.us_steps.specs.declared.steps.Step.{Step}
 use Rattle.us_steps.specs.declared.steps.Step.TheVariants as step
 
--- A channel is at home, after its reserves and its calendar; or out with a worker; or done: its claims are placed.
+-- A channel is at home, its board filled by reserves and calendar; or it is out with a worker; or it is done, and its claims
+-- are placed on its board.
 pub data Stand : Type 0 where
   Home : Filled → Stand
   Out : Filled → Stand
@@ -93,11 +94,11 @@ opened (Home f) = Some (Out f)
 opened (Out f) = None
 opened (Done b) = None
 
--- the round's plan, of the state that has begun, places claims on a channel
+-- the claims that the plan of a round that has begun has for a channel are placed on its board
 abbrev pub placed : State → Filled → Built
 placed s f = build_on (round_plan s) f
 
--- and one that is out is done then
+-- so one that is out is done
 abbrev pub built : State → Stand → Option Stand
 built s (Home f) = None
 built s (Out f) = Some (Done (placed s f))
@@ -130,9 +131,9 @@ any_open (channel ∷ channels) = is_open channel || any_open channels
 
 -- Steps.
 
--- the machine after a step. There is none where the step has no place: its row was added, its word was taken, or any
--- channel was opened before the word; its channel isn't at home to be opened, or isn't out to be done; or there is no such
--- row, word or channel
+-- The machine after a step. There is none where the step has no place: a row that was added, a word that was taken, a word
+-- once any channel is open, a channel that isn't at home to be opened, or isn't out to be built; and where there is no such
+-- row, word or channel. A channel is built for the cut so far, which is the whole cut where no word is taken any more.
 unfoldable pub after_step : State → List Ask → Machine → Step → Option Machine
 after_step s rows m (step.Add row by) = if get_or m.added row true then None else Some (with_row rows m row by)
 after_step s rows m (step.Take word by) =
