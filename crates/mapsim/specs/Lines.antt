@@ -11,6 +11,7 @@ use Rattle.us_flows.specs.declared.faults.ConfigFault.TheVariants as config
 use Rattle.us_requests.specs.Codes as trace_codes
 use Rattle.us_requests.specs.declared.faults.TraceFault.{TraceFault}
 use Rattle.us_requests.specs.declared.faults.TraceFault.TheVariants as trace
+use Rattle.us_replay.specs.Faults as run_faults
 use Rattle.us_replay.specs.declared.faults.RunFault.{RunFault}
 use Rattle.us_replay.specs.declared.faults.RunFault.TheVariants as run
 use Rattle.mapsim.specs.declared.faults.Stream.{Stream}
@@ -53,26 +54,12 @@ trace_line trace.Read = io_line stream.Trace
 trace_line f = line (trace_codes.code_of f) (option_map decimal (trace_codes.record_of f))
 
 -- of a run with the rounds done
-abbrev pub run_code : RunFault → List ℕ
-run_code run.Rounds = codes "RU1"
-run_code run.Workers = codes "RU2"
-run_code (run.Trace f) = codes "RU3"
-run_code (run.WriteMaps rounds) = codes "RU4"
-run_code (run.WriteReport rounds) = codes "RU5"
-run_code (run.NoMemory rounds) = codes "RU6"
-
-abbrev pub run_rounds : RunFault → Option ℕ
-run_rounds run.Rounds = None
-run_rounds run.Workers = None
-run_rounds (run.Trace f) = None
-run_rounds (run.WriteMaps rounds) = Some rounds
-run_rounds (run.WriteReport rounds) = Some rounds
-run_rounds (run.NoMemory rounds) = Some rounds
-
 abbrev pub run_line : RunFault → List ℕ
-run_line (run.Trace f) = trace_line f
 run_line (run.NoMemory rounds) = memory_line
-run_line f = line (run_code f) (option_map decimal (run_rounds f))
+run_line (run.Trace f) = trace_line f
+run_line (run.WriteMaps rounds) = line (run_faults.code_of (run.WriteMaps rounds)) (Some (decimal rounds))
+run_line (run.WriteReport rounds) = line (run_faults.code_of (run.WriteReport rounds)) (Some (decimal rounds))
+run_line f = line (run_faults.code_of f) None
 
 -- of a MAP with the index of its record
 abbrev pub map_line : MapFault → ℕ → List ℕ

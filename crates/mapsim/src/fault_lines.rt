@@ -1,6 +1,6 @@
 ghost use Rattle.std.specs.Prelude.{◌≡◌, Some};
 ghost use Rattle.mapsim.specs.Lines;
-ghost use Rattle.mapsim.specs.Lines.{line_text, run_code, run_rounds};
+ghost use Rattle.mapsim.specs.Lines.{line_text};
 
 use crate::faults::Stream;
 use std::fmt;
@@ -85,41 +85,16 @@ pub fn run_line(fault: RunFault) -> Line
     ensures { line_text result ≡ Lines.run_line fault }
 {
     match fault {
-        RunFault::Trace(fault) => trace_line(fault),
         RunFault::NoMemory(_) => MEMORY,
-        _ => Line {
-            word: code_of_run(fault),
-            named: match rounds_of_run(fault) {
-                Some(rounds) => Named::Number(rounds as usize),
-                None => Named::Nothing,
-            },
+        RunFault::Trace(reason) => trace_line(reason),
+        RunFault::WriteMaps(rounds) | RunFault::WriteReport(rounds) => Line {
+            word: fault.code(),
+            named: Named::Number(rounds as usize),
         },
-    }
-}
-
-/// The code of a fault of a replay.
-pub fn code_of_run(fault: RunFault) -> &'static str
-    ensures { result.now ≡ run_code fault }
-{
-    match fault {
-        RunFault::Rounds => "RU1",
-        RunFault::Workers => "RU2",
-        RunFault::Trace(_) => "RU3",
-        RunFault::WriteMaps(_) => "RU4",
-        RunFault::WriteReport(_) => "RU5",
-        RunFault::NoMemory(_) => "RU6",
-    }
-}
-
-/// How many rounds were done before a fault of a replay.
-fn rounds_of_run(fault: RunFault) -> Option<u32>
-    ensures { result ≡ run_rounds fault }
-{
-    match fault {
-        RunFault::WriteMaps(rounds)
-        | RunFault::WriteReport(rounds)
-        | RunFault::NoMemory(rounds) => Some(rounds),
-        RunFault::Rounds | RunFault::Workers | RunFault::Trace(_) => None,
+        RunFault::Rounds | RunFault::Workers => Line {
+            word: fault.code(),
+            named: Named::Nothing,
+        },
     }
 }
 

@@ -1,6 +1,5 @@
 // What help says behind the options. The codes and the sentences of faults are those of the faults' types.
 
-use crate::fault_lines::code_of_run;
 use std::alloc::{AllocError, Global};
 use std::fmt::Write;
 use us_flows::{ConfigFault, Place, TableName};
@@ -177,7 +176,7 @@ fn push_run_faults(
     faults: &[(RunFault, &'static str)],
 ) -> Result<(), AllocError> {
     for (fault, sentence) in faults {
-        push_printed(text, code_of_run(*fault), named)?;
+        push_printed(text, fault.code(), named)?;
         writeln!(text, "{sentence}")?;
     }
     Ok(())

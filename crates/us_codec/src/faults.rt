@@ -36,8 +36,8 @@ impl MapFault {
     ghost use Rattle.us_codec.specs.Codes.{code_of};
 
     /// Its code, M1 to M11.
-    pub fn code(&self) -> &'static str
-        ensures { result.now ≡ code_of self.now }
+    pub fn code(self) -> &'static str
+        ensures { result.now ≡ code_of self }
     {
         match self {
             MapFault::Short => "M1",
@@ -55,7 +55,7 @@ impl MapFault {
     }
 
     /// What it says, behind its code.
-    fn sentence(&self) -> &'static str {
+    fn sentence(self) -> &'static str {
         match self {
             MapFault::Short => "the body has under 16 bytes",
             MapFault::LengthMismatch => "the length is not that of the counted elements",

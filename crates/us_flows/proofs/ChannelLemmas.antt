@@ -80,7 +80,7 @@ profile_is t whole h =
 
 short_profile_is : (t : Members) → lacks short_keys t ≡ false → profile_strays short_keys t ≡ false →
     IsBurstProfile (profile_of t) × Between 1 max_short_minislots (number_at (codes "max_minislots") t)
-unfolding short_keys
+unfolding short_keys profile_keys
 short_profile_is t whole h =
     let parts = or_parts (strays short_keys t) (nat_lt max_codeword (number_at (codes "fec_k") t + 2 * number_at
     (codes "fec_t") t)) h in

@@ -1,6 +1,6 @@
 -- The keys of each table of a configuration, and the rule of each value: of two numbers the first is the least and the
 -- second the greatest.
-use Rattle.std.specs.Prelude.{ℕ, Bool, true, not, if◌then◌else◌, List, [], ◌∷◌, map, codes}
+use Rattle.std.specs.Prelude.{ℕ, Bool, true, not, if◌then◌else◌, List, [], ◌∷◌, ◌++◌, map, codes}
 use Rattle.std.specs.Borrow.{Bor}
 use Rattle.us_flows.specs.Ranges.{max_channels, max_flows, max_stations, max_round_ticks, max_lead_ticks, max_channel_id, max_minislot_log2, max_rate_log2, max_ucd_count, max_exponent, max_request_minislots, max_reserve_minislots, max_station_minislots, max_maintenance_every, min_bits, max_bits, max_preamble, max_guard, max_fec_t, min_fec_k, max_fec_k, max_short_minislots, max_id, max_unicast_sid, max_channels_of_flow, max_clusters_of_flow, max_priority, max_rate, max_burst, max_grant_bytes, max_grants, min_interval_us, max_us}
 use Rattle.us_flows.specs.declared.flows.SchedulingType.{SchedulingType}
@@ -54,14 +54,7 @@ profile_keys =
 
 -- a profile of short data grants has one key more
 unfoldable pub short_keys : List Key
-short_keys =
-    (codes "bits", rule.Number min_bits max_bits) ∷
-    (codes "preamble", rule.Number 0 max_preamble) ∷
-    (codes "guard", rule.Number 0 max_guard) ∷
-    (codes "fec_t", rule.Number 0 max_fec_t) ∷
-    (codes "fec_k", rule.Number min_fec_k max_fec_k) ∷
-    (codes "shortened", rule.Flag) ∷
-    (codes "max_minislots", rule.Number 1 max_short_minislots) ∷ []
+short_keys = profile_keys ++ (codes "max_minislots", rule.Number 1 max_short_minislots) ∷ []
 
 -- whether a flow of a type has a key of these types
 abbrev pub has_key : Types → SchedulingType → Bool

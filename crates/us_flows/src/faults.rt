@@ -112,8 +112,8 @@ impl ConfigFault {
     ghost use Rattle.us_flows.specs.Places.{place_of};
 
     /// Its code, C1 to C13.
-    pub fn code(&self) -> &'static str
-        ensures { result.now ≡ code_of self.now }
+    pub fn code(self) -> &'static str
+        ensures { result.now ≡ code_of self }
     {
         match self {
             ConfigFault::Text => "C1",
@@ -133,7 +133,7 @@ impl ConfigFault {
     }
 
     /// What it says behind its code, up to the table that it names.
-    pub fn sentence(&self) -> &'static str {
+    pub fn sentence(self) -> &'static str {
         match self {
             ConfigFault::Text => "no TOML document of at most 4194304 bytes",
             ConfigFault::Missing(_) => "a key is missing in ",
@@ -152,8 +152,8 @@ impl ConfigFault {
     }
 
     /// The table that it names.
-    pub fn place(&self) -> Option<Place>
-        ensures { result ≡ place_of self.now }
+    pub fn place(self) -> Option<Place>
+        ensures { result ≡ place_of self }
     {
         match self {
             ConfigFault::Missing(place)
@@ -166,7 +166,7 @@ impl ConfigFault {
             | ConfigFault::ReservesTooLong(place)
             | ConfigFault::Jitter(place)
             | ConfigFault::GrantLongerThanMap(place)
-            | ConfigFault::Headers(place) => Some(*place),
+            | ConfigFault::Headers(place) => Some(place),
             ConfigFault::Text | ConfigFault::NoMemory => None,
         }
     }

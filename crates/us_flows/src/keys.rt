@@ -96,16 +96,8 @@ static CHANNEL_KEYS: [Key; 14] = [
     ("unsolicited", Rule::Table),
 ];
 
-static PROFILE_KEYS: [Key; 6] = [
-    ("bits", Rule::Number(MIN_BITS, MAX_BITS)),
-    ("preamble", Rule::Number(0, MAX_PREAMBLE)),
-    ("guard", Rule::Number(0, MAX_GUARD)),
-    ("fec_t", Rule::Number(0, MAX_FEC_T)),
-    ("fec_k", Rule::Number(MIN_FEC_K, MAX_FEC_K)),
-    ("shortened", Rule::Flag),
-];
-
-static SHORT_KEYS: [Key; 7] = [
+/// The keys of a profile; behind these, that of short data grants alone.
+static PROFILE_KEYS: [Key; 7] = [
     ("bits", Rule::Number(MIN_BITS, MAX_BITS)),
     ("preamble", Rule::Number(0, MAX_PREAMBLE)),
     ("guard", Rule::Number(0, MAX_GUARD)),
@@ -193,15 +185,15 @@ pub(crate) fn channel_keys() -> &'static [Key]
 pub(crate) fn profile_keys() -> &'static [Key]
     ensures { keys_of result.now ≡ profile_keys }
 {
-    PROFILE_KEYS.as_slice()
+    &PROFILE_KEYS[..PROFILE_KEYS.len() - 1]
 }
 
 /// The keys of the profile of short data grants.
-#[tactic(auto, unfolding(crate::specs::Keys::short_keys))]
+#[tactic(auto, unfolding(crate::specs::Keys::profile_keys, crate::specs::Keys::short_keys))]
 pub(crate) fn short_keys() -> &'static [Key]
     ensures { keys_of result.now ≡ short_keys }
 {
-    SHORT_KEYS.as_slice()
+    PROFILE_KEYS.as_slice()
 }
 
 /// The keys of all flows.

@@ -20,8 +20,8 @@ impl IntakeFault {
     ghost use Rattle.us_intake.specs.Codes.{code_of};
 
     /// Its code, I1 to I3.
-    pub fn code(&self) -> &'static str
-        ensures { result.now ≡ code_of self.now }
+    pub fn code(self) -> &'static str
+        ensures { result.now ≡ code_of self }
     {
         match self {
             IntakeFault::QuotaSpent => "I1",
@@ -31,7 +31,7 @@ impl IntakeFault {
     }
 
     /// What it says, behind its code.
-    fn sentence(&self) -> &'static str {
+    fn sentence(self) -> &'static str {
         match self {
             IntakeFault::QuotaSpent => "the bytes are over what the seat's quota leaves",
             IntakeFault::BadQuota => "the quota is none that can be given",

@@ -27,8 +27,8 @@ impl TraceFault {
     ghost use Rattle.us_requests.specs.Codes.{code_of, record_of};
 
     /// Its code, TR1 to TR6.
-    pub fn code(&self) -> &'static str
-        ensures { result.now ≡ code_of self.now }
+    pub fn code(self) -> &'static str
+        ensures { result.now ≡ code_of self }
     {
         match self {
             TraceFault::Header => "TR1",
@@ -41,18 +41,18 @@ impl TraceFault {
     }
 
     /// The record that it names, counted from 1, with the header.
-    pub fn record(&self) -> Option<u32>
-        ensures { result ≡ record_of self.now }
+    pub fn record(self) -> Option<u32>
+        ensures { result ≡ record_of self }
     {
         match self {
-            TraceFault::Fields(record) | TraceFault::Number(record) => Some(*record),
+            TraceFault::Fields(record) | TraceFault::Number(record) => Some(record),
             TraceFault::Header | TraceFault::TooLarge | TraceFault::Read | TraceFault::NoMemory =>
                 None,
         }
     }
 
     /// What it says, behind its code and the record that it names.
-    pub fn sentence(&self) -> &'static str {
+    pub fn sentence(self) -> &'static str {
         match self {
             TraceFault::Header => "the first record is not the header",
             TraceFault::Fields(_) => "has not four fields",
