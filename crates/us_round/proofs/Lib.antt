@@ -21,6 +21,7 @@ pub mod RoundLemmas
 pub mod SoundLemmas
 pub mod PhaseLemmas
 pub mod StageLemmas
+pub mod TurnLemmas
 pub mod FlagLemmas
 pub mod LedgerLemmas
 pub mod StepLemmas

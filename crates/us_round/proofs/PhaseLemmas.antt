@@ -1,6 +1,6 @@
 -- Channels that are moved to workers and back: which may be, what reserves and calendars make of them, and what is
 -- answered for all of them.
-use Rattle.std.proofs.Common.{◌≡◌, ℕ, ◌+◌, ◌*◌, ◌-◌, ◌%◌, ◌<◌, ◌≤◌, ◌==◌, suc, List, [], ◌∷◌, ◌++◌, length, get_or, append_assoc, map, true, Option, None, Some, slice_get, Result, Ok, Err, IfOk, refl, ap, sym, subst, ◌∙◌, inl, inr, arith}
+use Rattle.std.proofs.Common.{◌≡◌, ℕ, ◌+◌, ◌*◌, ◌-◌, ◌%◌, ◌<◌, ◌≤◌, ◌==◌, suc, List, [], ◌∷◌, ◌++◌, length, get_or, append_assoc, map, true, Option, None, Some, slice_get, Result, Ok, Err, IfOk, refl, ap, ap₂, sym, subst, ◌∙◌, inl, inr, arith}
 use Rattle.std.specs.Prelude.{zip, sum_by}
 use Rattle.std.specs.List.{AllByRecursion}
 use Rattle.std.proofs.lemmas.Bool.{cases_Bool}
@@ -52,11 +52,22 @@ values_long value first (item ∷ items) = ap suc (values_long value (first + 1)
 
 -- One more channel that one thread builds.
 
+pub next_place : {T R : Type 0} (value : ℕ → T → R) (done : List T) (made : List R) (place : ℕ) →
+    made ≡ values_from value 0 done → place ≡ length made → place ≡ length done
+next_place value done made place is at = at ∙ ap (λ xs. length xs) is ∙ values_long value 0 done
+
+pub next_value : {T R : Type 0} (value : ℕ → T → R) (done : List T) (item : T) (made new : List R) (one : R) (place : ℕ) →
+    made ≡ values_from value 0 done → place ≡ length made → one ≡ value place item → new ≡ made ++ one ∷ [] →
+    new ≡ values_from value 0 (done ++ item ∷ [])
+next_value value done item made new one place is at own put =
+    let here : place ≡ 0 + length done = next_place value done made place is at ∙ omega arith in
+    put ∙ ap₂ (λ xs x. xs ++ x ∷ []) is (own ∙ ap (λ n. value n item) here) ∙ sym (values_more value 0 done item)
+
 -- the claims at the next place are those of the next channel
 pub next_claims : {T : Type 0} (P : ℕ → T → Type 0) (items done left rest : List T) (item : T) (place : ℕ) →
     ((k : ℕ) (x : T) → slice_get items k ≡ Some x → P k x) → done ++ left ≡ items → left ≡ item ∷ rest →
     place ≡ length done → P place item
-next_claims P items done left rest item place all parts is at =
+next_claims {T = T} P items done left rest item place all parts is at =
     subst (λ n. P n item) (sym at)
     (all (length done) item (ap (λ xs. slice_get xs (length done)) (sym parts ∙ ap (λ xs. done ++ xs) is) ∙ behind done))
   where
