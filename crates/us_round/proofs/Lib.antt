@@ -21,3 +21,4 @@ pub mod RoundLemmas
 pub mod SoundLemmas
 pub mod PhaseLemmas
 pub mod StageLemmas
+pub mod TurnLemmas

@@ -76,7 +76,7 @@ built_of P plan (f ∷ fs) h =
     (all_grants (map (build_on plan) fs))
     (granted_of P f.channel.bursts f.board (claims_on f.channel plan) (claims_of P f.channel 0 plan h)) (built_of P plan fs h)
 
-by_turns : (P : Turn → Type 0) (plan : List Planned) (turns : List Turn) → map (λ planned. planned.turn) plan ≡ turns →
+pub by_turns : (P : Turn → Type 0) (plan : List Planned) (turns : List Turn) → map (λ planned. planned.turn) plan ≡ turns →
     AllByRecursion P turns → AllByRecursion (λ planned. P planned.turn) plan
 by_turns P [] turns is h = tt
 by_turns P (planned ∷ plan) [] is h = absurd (cc is)

@@ -8,6 +8,8 @@ pub mod Reserves
 pub mod Placements
 -- a round, and the schedule
 pub mod Rounds
+-- the order in which claims are placed
+pub mod TurnByTurn
 -- the MAPs and the lines that a round comes to
 pub mod Outputs
 -- laws of what a round gives
@@ -18,6 +20,8 @@ pub mod PlacementExamples
 pub mod OutputExamples
 -- whole rounds,
 pub mod RoundExamples
+-- one turn after another,
+pub mod TurnExamples
 -- and rounds with calendars
 pub mod CalendarExamples
 -- what a round's grants take, and what a state keeps

@@ -33,6 +33,9 @@ mod placing;
 // and all claims of a channel.
 mod building;
 
+// The order in which claims are placed.
+mod placing_laws;
+
 // Channels moved to workers and back.
 mod phases;
 
@@ -66,6 +69,7 @@ mod alone;
 pub use alone::round_alone;
 pub use faults::RoundFault;
 pub use output_laws::{lines_are_of_grants, lines_bear_round};
+pub use placing_laws::turns_are_placed_in_order;
 pub use round_outs::RoundOut;
 pub use rounds::round;
 pub use rows::{EntryWord, FinalState, Grant, MissedOccurrence, Row, TraceCounts};

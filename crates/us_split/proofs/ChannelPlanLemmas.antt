@@ -7,13 +7,14 @@ use Rattle.std.proofs.lemmas.Nat.{mul-le}
 use Rattle.std.proofs.lemmas.Bool.{cases_eq}
 use Rattle.us_flows.specs.declared.channels.Channel.{Channel}
 use Rattle.us_flows.specs.Tables.{Tables}
+use Rattle.us_flows.specs.Ranges.{max_round_ticks}
 use Rattle.us_flows.specs.Lawful.{AreApart, AreTables}
 use Rattle.us_split.specs.Plans.{IsIdle, Planned, budget_of, cost_on, header_bytes, share_at, share_cost}
 use Rattle.us_split.specs.Claims.{claim_at}
 use Rattle.us_split.specs.Grants.{Asker, ChannelPlan, IsPlaceOf, asker_of, budget_in, channel_of, claimed_at, claimed_from, with_claim, with_share, with_turn}
 use Rattle.us_split.proofs.ChannelShareLemmas.{first_place, later_place}
 
-pub fewer_ticks : (slots less ticks : ℕ) → slots * ticks ≤ 4096 → (slots - less) * ticks ≤ 4096
+pub fewer_ticks : (slots less ticks : ℕ) → slots * ticks ≤ max_round_ticks → (slots - less) * ticks ≤ max_round_ticks
 fewer_ticks slots less ticks h =
     let product : (slots - less) * ticks ≤ slots * ticks = mul-le (slots - less) ticks slots ticks (omega arith) (omega arith) in
     omega arith

@@ -1,7 +1,7 @@
 ghost use Rattle.std.specs.Prelude.{◌≡◌, ℕ, ◌+◌, ◌*◌, ◌≤◌, [], length, map, slice_index, Some, None, MatchOption, IfOk, OnOk};
 ghost use Rattle.us_slots.specs.Times.{minislot_ticks};
 ghost use Rattle.us_flows.specs.Lawful.{AreApart};
-ghost use Rattle.us_flows.specs.Ranges.{max_channels_of_flow};
+ghost use Rattle.us_flows.specs.Ranges.{max_channels_of_flow, max_round_ticks};
 ghost use Rattle.us_split.specs.Plans.{budget_of, weight, segment_header_bytes, max_burst_bytes};
 ghost use Rattle.us_split.specs.Grants as spec;
 ghost use Rattle.us_split.specs.Grants.{budget_in, channel_of, IsPlaceOf, with_claim, with_share, claimed_at, claimed_from};
@@ -41,13 +41,13 @@ impl Model for ChannelPlan {
 
     ghost view = { λ c. record { channel = c.channel; slots = c.slots; claims = c.claims.items } };
 
-    ghost invariant = { λ c. c.slots * minislot_ticks c.channel.bursts.time ≤ 4096 };
+    ghost invariant = { λ c. c.slots * minislot_ticks c.channel.bursts.time ≤ max_round_ticks };
 }
 
 impl ChannelPlan {
     /// So many minislots of a channel, which are no more than a MAP has, and no claims.
     pub(crate) fn new(alloc: Global, channel: Channel, slots: u32) -> ChannelPlan
-        requires { slots * minislot_ticks channel.bursts.time ≤ 4096 }
+        requires { slots * minislot_ticks channel.bursts.time ≤ max_round_ticks }
         ensures { let plan : spec.ChannelPlan = record { channel = channel; slots = slots; claims = [] } in result ≡ plan }
     {
         ChannelPlan {

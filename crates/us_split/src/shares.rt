@@ -22,7 +22,7 @@ impl Model for Shares {
 
     ghost view = { λ shares. take shares.count shares.bytes };
 
-    ghost invariant = { λ shares. shares.count ≤ 8 };
+    ghost invariant = { λ shares. shares.count ≤ max_channels_of_flow };
 }
 
 impl Shares {
