@@ -10,7 +10,7 @@ use Rattle.us_flows.specs.Clusters.{clusters_of}
 use Rattle.us_intake.specs.Tallies.{added}
 use Rattle.us_intake.proofs.TallyLemmas.{index-added, index-empty, index_le_sum}
 use Rattle.us_round.specs.Placements.{PlacedClaim}
-use Rattle.us_round.specs.Rounds.{State, all_grants, asked, begun, builds_of, final, left_of, opening, round_from, round_of, schedule}
+use Rattle.us_round.specs.Rounds.{State, all_grants, asked, begun, builds_of, final, uncredited, opening, round_from, round_of, schedule}
 use Rattle.us_round.specs.Outputs.{out_of}
 use Rattle.us_live.specs.Lives.{logged, rounds_of}
 
@@ -39,7 +39,7 @@ rounds-more t log cut =
 -- What a round makes of a state.
 
 index-left : (grants : List PlacedClaim) (number : ℕ) (outstanding : List ℕ) (cluster : ℕ) →
-    slice_index (left_of grants number outstanding) cluster ≤ slice_index outstanding cluster
+    slice_index (uncredited grants number outstanding) cluster ≤ slice_index outstanding cluster
 index-left grants number [] cluster = omega arith
 index-left grants number (bytes ∷ more) zero = omega arith
 index-left grants number (bytes ∷ more) (suc cluster) = index-left grants (number + 1) more cluster

@@ -7,19 +7,19 @@ use Rattle.us_codec.specs.MapsFiles.{Piece, record_bytes, maps_file}
 use Rattle.us_flows.specs.Tables.{Tables}
 use Rattle.us_calendar.specs.Calendars as calendars
 use Rattle.us_round.specs.Placements.{PlacedClaim}
-use Rattle.us_round.specs.Rounds.{State, all_grants, asked, begun, build_on, builds_of, credits, fills_of, is_of_cluster, left_of, opening, round_from, round_of, round_plan}
+use Rattle.us_round.specs.Rounds.{State, all_grants, asked, begun, build_on, builds_of, credits, fills_of, is_of_cluster, uncredited, opening, round_from, round_of, round_plan}
 use Rattle.us_round.specs.Outputs.{RoundOut, built_map, out_of}
 use Rattle.us_replay.specs.Files.{records}
 use Rattle.us_replay.proofs.SumLemmas.{sum-cons, sum-added}
 
 -- States.
 
-sum-left : (grants : List PlacedClaim) (number : ℕ) (xs : List ℕ) → sum (left_of grants number xs) ≤ sum xs
+sum-left : (grants : List PlacedClaim) (number : ℕ) (xs : List ℕ) → sum (uncredited grants number xs) ≤ sum xs
 sum-left grants number [] = omega arith
 sum-left grants number (x ∷ xs) =
     omega (
       arith,
-      sum-cons (x - credits (is_of_cluster number) grants) (left_of grants (number + 1) xs),
+      sum-cons (x - credits (is_of_cluster number) grants) (uncredited grants (number + 1) xs),
       sum-cons x xs,
       sum-left grants (number + 1) xs,
     )

@@ -13,7 +13,7 @@ use Rattle.us_requests.specs.declared.asks.Ask.{Ask}
 use Rattle.us_requests.specs.declared.asks.Counts.{Counts}
 use Rattle.us_requests.specs.Cuts.{cut_of}
 use Rattle.us_requests.specs.Traces.{TraceAsks, asks_in, asked_before, asks_before, max_ask, max_asked, max_asks}
-use Rattle.us_round.specs.Rounds.{State, Step, opening, round_of, schedule, final}
+use Rattle.us_round.specs.Rounds.{State, RoundResult, opening, round_of, schedule, final}
 use Rattle.us_round.specs.States.{settled_by}
 use Rattle.us_round.specs.Outputs.{RoundOut, AreWithinLimits, final_rows, out_of}
 use Rattle.us_replay.specs.declared.summaries.Summary.{Summary}
@@ -131,7 +131,7 @@ pub record CanMake (state : State) (p : Progress) (asks : List Ask) : Type 0 whe
   pub few_missed : AreFewBefore state p.missed
 
 -- the round of a state and these asks
-abbrev pub step_of : State → Progress → List Ask → Step
+abbrev pub step_of : State → Progress → List Ask → RoundResult
 step_of state p asks = round_of state (cut_of (length p.cut) asks)
 
 abbrev pub out_after : State → Progress → List Ask → RoundOut

@@ -5,12 +5,12 @@ use Rattle.std.specs.Prelude.{option_to_list}
 use Rattle.us_slots.specs.Bursts.{ChannelBursts}
 use Rattle.us_holes.specs.Boards.{Board, assign_all}
 use Rattle.us_split.specs.Claims.{Claim}
-use Rattle.us_round.specs.Placements.{PlacedClaim, grant_of, with_grant, grants_of, intervals}
+use Rattle.us_round.specs.Placements.{PlacedClaim, grant_of, with_grant, grants_of, assignments}
 
--- a grant's interval is assigned first
+-- a grant's assignment is assigned first
 pub assign_step : (board : Board) (found : Option PlacedClaim) (grants : List PlacedClaim) →
-    assign_all board (intervals (option_to_list found ++ grants))
-    ≡ assign_all (with_grant board found) (intervals grants)
+    assign_all board (assignments (option_to_list found ++ grants))
+    ≡ assign_all (with_grant board found) (assignments grants)
 unfolding assign_all
 assign_step board None grants = refl
 assign_step board (Some g) grants = refl
@@ -19,10 +19,10 @@ assign_step board (Some g) grants = refl
 pub build_more : (b : ChannelBursts) (claims : List Claim) (place : ℕ) (claim : Claim)
     (board new : Board) (grants more all : List PlacedClaim) (end : Board) → place < length claims →
     claim ≡ get_or claims place claim → grants ++ grants_of b board (drop place claims) ≡ all →
-    assign_all board (intervals (grants_of b board (drop place claims))) ≡ end →
+    assign_all board (assignments (grants_of b board (drop place claims))) ≡ end →
     more ≡ grants ++ option_to_list (grant_of b board claim) → new ≡ with_grant board (grant_of b board claim) →
     (more ++ grants_of b new (drop (place + 1) claims) ≡ all)
-    × (assign_all new (intervals (grants_of b new (drop (place + 1) claims))) ≡ end)
+    × (assign_all new (assignments (grants_of b new (drop (place + 1) claims))) ≡ end)
 unfolding grants_of
 build_more b claims place claim board new grants more all end inside is granted assigned longer placed =
     let rest : drop place claims ≡ claim ∷ drop (place + 1) claims =
@@ -32,7 +32,7 @@ build_more b claims place claim board new grants more all end inside is granted 
     let parts : grants_of b board (drop place claims) ≡ option_to_list found ++ later = ap (grants_of b board) rest in (
       rw (longer, placed) (append_assoc grants (option_to_list found) later
           ∙ ap (λ list. grants ++ list) (sym parts) ∙ granted),
-      rw placed (sym (assign_step board found later) ∙ ap (λ list. assign_all board (intervals list)) (sym parts)
+      rw placed (sym (assign_step board found later) ∙ ap (λ list. assign_all board (assignments list)) (sym parts)
           ∙ assigned),
     )
 
@@ -40,7 +40,7 @@ build_more b claims place claim board new grants more all end inside is granted 
 pub build_end : (b : ChannelBursts) (claims : List Claim) (place : ℕ) (board : Board)
     (grants all : List PlacedClaim) (end : Board) → length claims ≤ place →
     grants ++ grants_of b board (drop place claims) ≡ all →
-    assign_all board (intervals (grants_of b board (drop place claims))) ≡ end → (grants ≡ all) × (board ≡ end)
+    assign_all board (assignments (grants_of b board (drop place claims))) ≡ end → (grants ≡ all) × (board ≡ end)
 unfolding grants_of assign_all
 build_end b claims place board grants all end past granted assigned =
     let none : drop place claims ≡ [] = drop_all place claims past in

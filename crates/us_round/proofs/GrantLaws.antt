@@ -8,7 +8,7 @@ use Rattle.us_slots.specs.Bursts.{ChannelBursts, IsChannelBursts, burst_cost, gr
 use Rattle.us_slots.proofs.CostLaws.{bytes_cost_minislots}
 use Rattle.us_holes.specs.Boards.{Board, fits, assign, AllFit}
 use Rattle.us_split.specs.Claims.{Claimant, Claim}
-use Rattle.us_round.specs.Placements.{Spot, PlacedClaim, spot, grant_at, grant_of, with_grant, grants_of, intervals}
+use Rattle.us_round.specs.Placements.{Spot, PlacedClaim, spot, grant_at, grant_of, with_grant, grants_of, assignments}
 use Rattle.us_round.specs.Rounds.{credits}
 use Rattle.us_round.proofs.SumLemmas.{sum_passing}
 use Rattle.us_round.proofs.SpotLaws.{IsSpot, spot_is}
@@ -16,13 +16,13 @@ use Rattle.us_round.proofs.SpotLaws.{IsSpot, spot_is}
 -- a grant of a claim on a board
 pub record IsGrantOf (b : ChannelBursts) (board : Board) (claim : Claim) (g : PlacedClaim) : Type 0 where
   pub claimant : g.claimant ≡ claim.claimant
-  pub sid : g.interval.owner.sid ≡ claim.sid
-  pub cost : (g.interval.slots, g.interval.owner.iuc) ≡ grant_cost b (g.credit + claim.header)
-  pub usage : (g.interval.owner.iuc ≡ 9) ⊎ (g.interval.owner.iuc ≡ 10)
+  pub sid : g.assignment.owner.sid ≡ claim.sid
+  pub cost : (g.assignment.slots, g.assignment.owner.iuc) ≡ grant_cost b (g.credit + claim.header)
+  pub usage : (g.assignment.owner.iuc ≡ 9) ⊎ (g.assignment.owner.iuc ≡ 10)
   pub credit : 1 ≤ g.credit
   pub few : g.credit ≤ claim.share
-  pub slots : 0 < g.interval.slots
-  pub fits : fits board g.interval.slots g.interval.start ≡ true
+  pub slots : 0 < g.assignment.slots
+  pub fits : fits board g.assignment.slots g.assignment.start ≡ true
 
 cost_usage : (b : ChannelBursts) (bytes : ℕ) → ((grant_cost b bytes).1 ≡ 9) ⊎ ((grant_cost b bytes).1 ≡ 10)
 cost_usage b bytes =
@@ -73,7 +73,7 @@ Granted b board [] (g ∷ gs) = ⊥
 Granted b board (claim ∷ cs) [] = Granted b board cs []
 Granted b board (claim ∷ cs) (g ∷ gs) =
     Granted b board cs (g ∷ gs)
-    ⊎ (IsGrantOf b board claim g × Granted b (assign board g.interval.start g.interval.slots g.interval.owner) cs gs)
+    ⊎ (IsGrantOf b board claim g × Granted b (assign board g.assignment.start g.assignment.slots g.assignment.owner) cs gs)
 
 passed : (b : ChannelBursts) (board : Board) (claim : Claim) (cs : List Claim) (gs : List PlacedClaim) →
     Granted b board cs gs → Granted b board (claim ∷ cs) gs
@@ -95,12 +95,12 @@ grants_are b board (claim ∷ cs) is some =
     by (Some g) at rest =
         inr (
           grant_is b board claim g is some.0 at,
-          rest (assign board g.interval.start g.interval.slots g.interval.owner),
+          rest (assign board g.assignment.start g.assignment.slots g.assignment.owner),
         )
 
 -- each fits after those before it
 pub grants_fit : (b : ChannelBursts) (board : Board) (cs : List Claim) (gs : List PlacedClaim) → Granted b board cs gs →
-    AllFit board (intervals gs)
+    AllFit board (assignments gs)
 unfolding AllFit Granted
 grants_fit b board [] [] all = tt
 grants_fit b board [] (g ∷ gs) all = absurd all
@@ -109,7 +109,7 @@ grants_fit b board (claim ∷ cs) (g ∷ gs) all = elim all [
   | inl rest ↦ grants_fit b board cs (g ∷ gs) rest
   | inr own ↦ (
     own.0.fits,
-    grants_fit b (assign board g.interval.start g.interval.slots g.interval.owner) cs gs own.1,
+    grants_fit b (assign board g.assignment.start g.assignment.slots g.assignment.owner) cs gs own.1,
   )
 ]
 
@@ -132,7 +132,7 @@ credits_few b passes board (claim ∷ cs) (g ∷ gs) all =
     elim all [
       | inl rest ↦ omega (arith, credits_few b passes board cs (g ∷ gs) rest, more)
       | inr own ↦
-          let few = credits_few b passes (assign board g.interval.start g.interval.slots g.interval.owner) cs gs own.1 in
+          let few = credits_few b passes (assign board g.assignment.start g.assignment.slots g.assignment.owner) cs gs own.1 in
           let one : credits (λ g. passes g.claimant) (g ∷ gs)
           ≡ cond (passes g.claimant) g.credit 0 + credits (λ g. passes g.claimant) gs =
           sum_passing (λ g. g.credit) (λ g. passes g.claimant) g gs in

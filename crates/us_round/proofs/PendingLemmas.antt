@@ -10,7 +10,7 @@ use Rattle.us_flows.specs.Turns.{turn_at, in_flow}
 use Rattle.us_flows.specs.Clusters.{Turn, turns_of}
 use Rattle.us_flows.specs.Lawful.{AreTables, IsFlow, Between}
 use Rattle.us_round.specs.Placements.{PlacedClaim}
-use Rattle.us_round.specs.Rounds.{credits, is_of_cluster, left_of, first_seat, pending_seat, pending_seats}
+use Rattle.us_round.specs.Rounds.{credits, is_of_cluster, uncredited, first_sid, pending_sid, pending_sids}
 use Rattle.us_round.specs.Leftovers.{still_asking, still_asking_at}
 use Rattle.us_round.proofs.PartLemmas.{all_found, all_weaker}
 
@@ -31,15 +31,15 @@ by_turns : (t : Tables) (before left : List ℕ) (turns : List places.Turn) →
 by_turns t before left turns same = told (turn_at t) (still_asking before left) turns (turns_of t) same
 
 -- the end of the loop over turns
-pub all_turns : (t : Tables) (before left : List ℕ) (turns : List places.Turn) (seats : List (ℕ × ℕ)) (i : ℕ) →
+pub all_turns : (t : Tables) (before left : List ℕ) (turns : List places.Turn) (pendings : List (ℕ × ℕ)) (i : ℕ) →
     length turns ≤ i →
-    seats ++ filter_map (still_asking_at t before left) (drop i turns) ≡
+    pendings ++ filter_map (still_asking_at t before left) (drop i turns) ≡
     filter_map (still_asking_at t before left) turns →
-    map (turn_at t) turns ≡ map Some (turns_of t) → seats ≡ filter_map (still_asking before left) (turns_of t)
-all_turns t before left turns seats i end so_far same =
+    map (turn_at t) turns ≡ map Some (turns_of t) → pendings ≡ filter_map (still_asking before left) (turns_of t)
+all_turns t before left turns pendings i end so_far same =
     let none : drop i turns ≡ [] = drop_all i turns end in
-    let all : seats ++ [] ≡ filter_map (still_asking_at t before left) turns = rw none at so_far in
-    sym (append-nil seats) ∙ all ∙ by_turns t before left turns same
+    let all : pendings ++ [] ≡ filter_map (still_asking_at t before left) turns = rw none at so_far in
+    sym (append-nil pendings) ∙ all ∙ by_turns t before left turns same
 
 -- the first of two lists
 pub first_pair : (xs ys : List ℕ) → 0 < length xs → 0 < length ys →
@@ -96,7 +96,7 @@ not_asking t before left turn no_bytes = by_flow (slice_get t.flows turn.flow)
     by_flow (Some flow) = by_sids flow (slice_get flow.clusters turn.list)
 
 pub asking : (t : Tables) (before left : List ℕ) (turn : places.Turn) → asks before left turn ≡ true →
-    still_asking_at t before left turn ≡ option_and_then first_seat (turn_at t turn)
+    still_asking_at t before left turn ≡ option_and_then first_sid (turn_at t turn)
 asking t before left turn bytes = by_flow (slice_get t.flows turn.flow)
   where
     by_sids : (flow : FlowTable) (sids : Option (List ℕ)) →
@@ -104,7 +104,7 @@ asking t before left turn bytes = by_flow (slice_get t.flows turn.flow)
           number = turn.cluster;
           place = turn.flow;
           cluster = record { flow = flow; list = turn.list; sids = sids };
-        }) sids) ≡ option_and_then first_seat (option_map (λ sids. record {
+        }) sids) ≡ option_and_then first_sid (option_map (λ sids. record {
           number = turn.cluster;
           place = turn.flow;
           cluster = record { flow = flow; list = turn.list; sids = sids };
@@ -114,43 +114,43 @@ asking t before left turn bytes = by_flow (slice_get t.flows turn.flow)
 
     by_flow : (flow : Option FlowTable) →
         option_and_then (still_asking before left) (option_and_then (in_flow turn) flow) ≡
-        option_and_then first_seat (option_and_then (in_flow turn) flow)
+        option_and_then first_sid (option_and_then (in_flow turn) flow)
     by_flow None = refl
     by_flow (Some flow) = by_sids flow (slice_get flow.clusters turn.list)
 
--- SIDs on a channel, one seat after another
+-- SIDs on a channel, one pending after another
 abbrev pub sids_at : ℕ → List (ℕ × ℕ) → List ℕ
-sids_at id seats = map (λ seat. seat.1) (filter (λ seat. seat.0 == id) seats)
+sids_at id pendings = map (λ pending. pending.1) (filter (λ pending. pending.0 == id) pendings)
 
-pub one_sid : (id : ℕ) (seats : List (ℕ × ℕ)) (sids : List ℕ) (i sid : ℕ) (seat : ℕ × ℕ) → i < length seats →
-    seat ≡ get_or seats i seat → (seat.0 == id) ≡ true → sid ≡ seat.1 → length sids < 38 →
-    (sids ++ sid ∷ []) ++ take (38 - length (sids ++ sid ∷ [])) (sids_at id (drop (i + 1) seats)) ≡
-    sids ++ take (38 - length sids) (sids_at id (drop i seats))
-one_sid id seats sids i sid seat inside is on same few =
-    let rest : List ℕ = sids_at id (drop (i + 1) seats) in
-    let here : drop i seats ≡ seat ∷ drop (i + 1) seats =
-    drop_more seats i seat inside ∙ ap (λ s. s ∷ drop (i + 1) seats) (sym is) in
-    let now : sids_at id (drop i seats) ≡ sid ∷ rest = rw here (rw on (ap (λ n. n ∷ rest) (sym same))) in
+pub one_sid : (id : ℕ) (pendings : List (ℕ × ℕ)) (sids : List ℕ) (i sid : ℕ) (pending : ℕ × ℕ) → i < length pendings →
+    pending ≡ get_or pendings i pending → (pending.0 == id) ≡ true → sid ≡ pending.1 → length sids < 38 →
+    (sids ++ sid ∷ []) ++ take (38 - length (sids ++ sid ∷ [])) (sids_at id (drop (i + 1) pendings)) ≡
+    sids ++ take (38 - length sids) (sids_at id (drop i pendings))
+one_sid id pendings sids i sid pending inside is on same few =
+    let rest : List ℕ = sids_at id (drop (i + 1) pendings) in
+    let here : drop i pendings ≡ pending ∷ drop (i + 1) pendings =
+    drop_more pendings i pending inside ∙ ap (λ s. s ∷ drop (i + 1) pendings) (sym is) in
+    let now : sids_at id (drop i pendings) ≡ sid ∷ rest = rw here (rw on (ap (λ n. n ∷ rest) (sym same))) in
     let room : 38 - length sids ≡ suc (38 - length (sids ++ sid ∷ [])) =
     omega (arith, length-append sids (sid ∷ []), few) in
     append_assoc sids (sid ∷ []) (take (38 - length (sids ++ sid ∷ [])) rest) ∙
     ap₂ (λ n xs. sids ++ take n xs) (sym room) (sym now)
 
-pub no_sid : (id : ℕ) (seats : List (ℕ × ℕ)) (sids : List ℕ) (i : ℕ) (seat : ℕ × ℕ) → i < length seats →
-    seat ≡ get_or seats i seat → (seat.0 == id) ≡ false →
-    sids ++ take (38 - length sids) (sids_at id (drop (i + 1) seats)) ≡
-    sids ++ take (38 - length sids) (sids_at id (drop i seats))
-no_sid id seats sids i seat inside is other =
-    let here : drop i seats ≡ seat ∷ drop (i + 1) seats =
-    drop_more seats i seat inside ∙ ap (λ s. s ∷ drop (i + 1) seats) (sym is) in
-    let now : sids_at id (drop i seats) ≡ sids_at id (drop (i + 1) seats) = rw here (rw other refl) in
+pub no_sid : (id : ℕ) (pendings : List (ℕ × ℕ)) (sids : List ℕ) (i : ℕ) (pending : ℕ × ℕ) → i < length pendings →
+    pending ≡ get_or pendings i pending → (pending.0 == id) ≡ false →
+    sids ++ take (38 - length sids) (sids_at id (drop (i + 1) pendings)) ≡
+    sids ++ take (38 - length sids) (sids_at id (drop i pendings))
+no_sid id pendings sids i pending inside is other =
+    let here : drop i pendings ≡ pending ∷ drop (i + 1) pendings =
+    drop_more pendings i pending inside ∙ ap (λ s. s ∷ drop (i + 1) pendings) (sym is) in
+    let now : sids_at id (drop i pendings) ≡ sids_at id (drop (i + 1) pendings) = rw here (rw other refl) in
     ap (λ xs. sids ++ take (38 - length sids) xs) (sym now)
 
-pub all_sids : (id : ℕ) (seats : List (ℕ × ℕ)) (sids whole : List ℕ) (i : ℕ) → length seats ≤ i →
-    sids ++ take (38 - length sids) (sids_at id (drop i seats)) ≡ whole → sids ≡ whole
-all_sids id seats sids whole i end so_far =
-    let rest : List ℕ = sids_at id (drop i seats) in
-    let none : rest ≡ [] = rw (drop_all i seats end) refl in
+pub all_sids : (id : ℕ) (pendings : List (ℕ × ℕ)) (sids whole : List ℕ) (i : ℕ) → length pendings ≤ i →
+    sids ++ take (38 - length sids) (sids_at id (drop i pendings)) ≡ whole → sids ≡ whole
+all_sids id pendings sids whole i end so_far =
+    let rest : List ℕ = sids_at id (drop i pendings) in
+    let none : rest ≡ [] = rw (drop_all i pendings end) refl in
     let taken : take (38 - length sids) rest ≡ rest = take_all (38 - length sids) rest (rw none (omega arith)) in
     sym (append-nil sids) ∙ ap (λ xs. sids ++ xs) (sym (taken ∙ none)) ∙ so_far
 
@@ -173,7 +173,7 @@ known_sids t place flow lawful found =
 
 -- what is left of a cluster
 left-index : (grants : List PlacedClaim) (from : ℕ) (before : List ℕ) (n : ℕ) →
-    slice_index (left_of grants from before) n ≡ slice_index before n - credits (is_of_cluster (from + n)) grants
+    slice_index (uncredited grants from before) n ≡ slice_index before n - credits (is_of_cluster (from + n)) grants
 left-index grants from [] n = omega arith
 left-index grants from (bytes ∷ more) zero =
     let same : from ≡ from + 0 = omega arith in
@@ -187,20 +187,20 @@ stays : (left before credit : ℕ) → left ≡ before - credit →
     (nat_lt 0 left && (left == before)) ≡ (nat_lt 0 left && (credit == 0))
 stays left before credit is = grind (arith, is)
 
-same_seat : (grants : List PlacedClaim) (before left : List ℕ) (turn : Turn) → left ≡ left_of grants 0 before →
-    still_asking before left turn ≡ pending_seat grants left turn
-same_seat grants before left turn is =
+same_pending : (grants : List PlacedClaim) (before left : List ℕ) (turn : Turn) → left ≡ uncredited grants 0 before →
+    still_asking before left turn ≡ pending_sid grants left turn
+same_pending grants before left turn is =
     let own : 0 + turn.number ≡ turn.number = omega arith in
     let now : slice_index left turn.number ≡ slice_index before turn.number - credits (is_of_cluster turn.number) grants =
     ap (λ l. slice_index l turn.number) is ∙ left-index grants 0 before turn.number ∙
     ap (λ k. slice_index before turn.number - credits (is_of_cluster k) grants) own in
-    ap (λ b. if b then first_seat turn else None)
+    ap (λ b. if b then first_sid turn else None)
     (stays (slice_index left turn.number) (slice_index before turn.number) (credits (is_of_cluster turn.number) grants) now)
 
--- where credits leave what is left, these are the seats that are pending
-pub same_seats : (grants : List PlacedClaim) (before left : List ℕ) (turns : List Turn) → left ≡ left_of grants 0 before →
-    filter_map (still_asking before left) turns ≡ pending_seats grants left turns
-unfolding pending_seats
-same_seats grants before left [] is = refl
-same_seats grants before left (turn ∷ turns) is =
-    ap₂ (λ o more. cons_option o more) (same_seat grants before left turn is) (same_seats grants before left turns is)
+-- where credits leave what is left, these are the pendings that are pending
+pub same_pendings : (grants : List PlacedClaim) (before left : List ℕ) (turns : List Turn) → left ≡ uncredited grants 0 before →
+    filter_map (still_asking before left) turns ≡ pending_sids grants left turns
+unfolding pending_sids
+same_pendings grants before left [] is = refl
+same_pendings grants before left (turn ∷ turns) is =
+    ap₂ (λ o more. cons_option o more) (same_pending grants before left turn is) (same_pendings grants before left turns is)

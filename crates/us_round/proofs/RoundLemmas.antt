@@ -11,7 +11,7 @@ use Rattle.us_flows.specs.Lawful.{AreTables}
 use Rattle.us_round.specs.declared.rows.Row.{Row}
 use Rattle.us_calendar.specs.Calendars.{Calendar, settled_in, granted_in}
 use Rattle.us_calendar.specs.declared.settled.Settled.{Settled}
-use Rattle.us_round.specs.Rounds.{State, Built, left_of, all_grants, pending_seats, credited, builds_of, round_from}
+use Rattle.us_round.specs.Rounds.{State, Built, uncredited, all_grants, pending_sids, credited, builds_of, round_from}
 use Rattle.us_round.specs.Outputs.{RoundOut, is_granted, settled_row, grant_row, granted_rows, missed_rows, rows_on, by_start, out_of, IsWithinLimits, AreWithinLimits}
 use Rattle.us_round.specs.Leftovers.{still_asking, AreInside}
 use Rattle.us_round.specs.Cores.{Core, AreCalendars, AreCounted, with_calendars, credited_core, scheduled_of}
@@ -21,7 +21,7 @@ use Rattle.us_round.proofs.OutputLaws.{by_start_moves}
 use Rattle.std.proofs.lemmas.List.{length-append, length-map}
 use Rattle.std.proofs.lemmas.List.Sorted.{length_permutation}
 use Rattle.us_round.specs.States.{AreSound}
-use Rattle.us_round.proofs.PendingLemmas.{same_seats}
+use Rattle.us_round.proofs.PendingLemmas.{same_pendings}
 
 -- The round.
 
@@ -40,11 +40,11 @@ pub run_scheduled : (core next : Core) (cs : List Calendar) (round : ℕ) (befor
 unfolding round_from
 run_scheduled core next cs round before built is after number was =
     let s : State = with_calendars core cs in
-    let left : List ℕ = left_of (all_grants (builds_of s)) 0 core.outstanding in
-    let seats : filter_map (still_asking core.outstanding left) (turns_of core.tables)
-    ≡ pending_seats (all_grants (builds_of s)) left (turns_of core.tables) =
-    same_seats (all_grants (builds_of s)) core.outstanding left (turns_of core.tables) refl in
-    rw (after, number, was, is) (ap (λ seats. record { round = core.round; channels = builds_of s; pending = seats }) seats)
+    let left : List ℕ = uncredited (all_grants (builds_of s)) 0 core.outstanding in
+    let pendings : filter_map (still_asking core.outstanding left) (turns_of core.tables)
+    ≡ pending_sids (all_grants (builds_of s)) left (turns_of core.tables) =
+    same_pendings (all_grants (builds_of s)) core.outstanding left (turns_of core.tables) refl in
+    rw (after, number, was, is) (ap (λ pendings. record { round = core.round; channels = builds_of s; pending = pendings }) pendings)
 
 pub run_out : (core next : Core) (cs : List Calendar) (round : ℕ) (before : List ℕ) (built : List Built) (out : RoundOut) →
     built ≡ builds_of (with_calendars core cs) → next ≡ credited_core core built → round ≡ core.round →

@@ -20,7 +20,7 @@ use Rattle.us_flows.specs.declared.channels.Channel.{Channel}
 use Rattle.us_split.specs.Claims.{Claim, Claimant, claimant_of, claim_at, claims_from, claims_on, all_claims, AreClaims, IsClaimOn}
 use Rattle.us_crew.specs.Values.{values_from}
 use Rattle.us_split.specs.PlanLaws.{IsLawfulPlan, planned_bytes}
-use Rattle.us_round.specs.Placements.{PlacedClaim, Spot, spot, grant_at, grants_of, with_grant, intervals}
+use Rattle.us_round.specs.Placements.{PlacedClaim, Spot, spot, grant_at, grants_of, with_grant, assignments}
 use Rattle.us_round.specs.Rounds.{State, Filled, idle, fills_of, build_with, build_on, builds_of, round_plan, all_grants, credits, is_of_flow}
 use Rattle.us_round.specs.Stages.{AreClaimsOn, built_by}
 use Rattle.us_round.specs.Leftovers.{StartsInside, IsBuiltFor, AreInside}
@@ -115,10 +115,10 @@ lengths b board [] (g ∷ gs) h = absurd h
 lengths b board (claim ∷ cs) [] h = tt
 lengths b board (claim ∷ cs) (g ∷ gs) (inl later) = lengths b board cs (g ∷ gs) later
 lengths b board (claim ∷ cs) (g ∷ gs) (inr now) =
-    let next : Board = assign board g.interval.start g.interval.slots g.interval.owner in
+    let next : Board = assign board g.assignment.start g.assignment.slots g.assignment.owner in
     let same : length next.cells ≡ length board.cells =
-    fit_length board g.interval.start g.interval.slots g.interval.owner now.0.fits in (
-      fit_inside board g.interval.slots g.interval.start now.0.fits now.0.slots,
+    fit_length board g.assignment.start g.assignment.slots g.assignment.owner now.0.fits in (
+      fit_inside board g.assignment.slots g.assignment.start now.0.fits now.0.slots,
       subst (λ n. AllByRecursion (StartsInside n) gs) same (lengths b next cs gs now.1),
     )
 
@@ -130,10 +130,10 @@ built_sound t plan f is sound =
     let cs : List Claim = claims_on f.channel plan in
     let gs : List PlacedClaim = grants_of f.channel.bursts f.board cs in
     let granted : Granted f.channel.bursts f.board cs gs = grants_are f.channel.bursts f.board cs is.bursts (claims_some f.channel plan) in
-    let kept : length (assign_all f.board (intervals gs)).cells ≡ length f.board.cells =
-    assign_all-length f.board (intervals gs) (grants_fit f.channel.bursts f.board cs gs granted) in
-    let standing = assign_all-standing f.board (intervals gs) in
-    let many : length (intervals gs) ≡ length gs = length-map gs (λ g. g.interval) in (
+    let kept : length (assign_all f.board (assignments gs)).cells ≡ length f.board.cells =
+    assign_all-length f.board (assignments gs) (grants_fit f.channel.bursts f.board cs gs granted) in
+    let standing = assign_all-standing f.board (assignments gs) in
+    let many : length (assignments gs) ≡ length gs = length-map gs (λ g. g.assignment) in (
       record { channel = is; len = kept ∙ sound.len },
       record {
         settled = subst (λ n. AllByRecursion (calendars.StartsInside n) f.settled) (sym kept) sound.inside;

@@ -73,7 +73,7 @@ pub granted_at : (bursts : ChannelBursts) (board : Board) (claim : Claim) (start
     answer.At start many ≡ placed board 0 (length board.cells - 1) claim.slots →
     Some (record {
       claimant = claim.claimant;
-      interval = record { start = start; slots = many; owner = owner };
+      assignment = record { start = start; slots = many; owner = owner };
       credit = claim.share;
     }) ≡ grant_of bursts board claim
 granted_at bursts board claim start many owner priced owned is =

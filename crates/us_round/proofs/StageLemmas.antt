@@ -28,7 +28,7 @@ pub begun_as : (s : State) (cut : List ℕ) (old core : Core) (before : List ℕ
     AreCalendars s.tables s.round cs → IsBegun (begun s cut) core before cs
 begun_as s cut old core before cs parts is was lawful are = record {
   value = ap (λ k. with_calendars k cs) is ∙ ap (λ s. begun s cut) parts;
-  before = was;
+  told = was;
   lawful = subst (λ k. AreTables k.tables) (sym is) lawful;
   calendars = subst (λ k. AreCalendars k.tables k.round cs) (sym is)
       (subst (λ s. AreCalendars s.tables s.round cs) (sym parts) are);
@@ -77,21 +77,21 @@ room_as core cs fs told are all is =
     subst (λ fs. IsIdle core.tables (idle fs)) (sym is)
     (filled_idle core.tables core.round cs fs are all.value all.sound)
 
--- the plan of these tables, demands, allowances and idle minislots
+-- the plan of these tables, outstanding, allowances and idle minislots
 abbrev IsPlanOf : List (List Claim) → Tables → List ℕ → List (Option ℕ) → List ℕ → Type 0
-IsPlanOf plan t demands most free =
-    (plan ≡ all_claims t (plan_for t demands most free)) × IsLawfulPlan t demands most free (plan_for t demands most free)
-    × AreClaims t (plan_for t demands most free) × AreTables t
+IsPlanOf plan t outstanding most free =
+    (plan ≡ all_claims t (plan_for t outstanding most free)) × IsLawfulPlan t outstanding most free (plan_for t outstanding most free)
+    × AreClaims t (plan_for t outstanding most free) × AreTables t
 
-pub planned_as : (core : Core) (fs : List Filled) (t : Tables) (demands : List ℕ) (most : List (Option ℕ)) (free : List ℕ)
-    (plan : List (List Claim)) → IsCore core → t ≡ core.tables → demands ≡ core.outstanding → most ≡ map bytes_in core.buckets →
-    free ≡ idle fs → IsPlanOf plan t demands most free → IsPlanned core fs plan
-planned_as core fs t demands most free plan known same was allowed left is =
+pub planned_as : (core : Core) (fs : List Filled) (t : Tables) (outstanding : List ℕ) (most : List (Option ℕ)) (free : List ℕ)
+    (plan : List (List Claim)) → IsCore core → t ≡ core.tables → outstanding ≡ core.outstanding → most ≡ map bytes_in core.buckets →
+    free ≡ idle fs → IsPlanOf plan t outstanding most free → IsPlanned core fs plan
+planned_as core fs t outstanding most free plan known same was allowed left is =
     let made : IsPlanOf plan core.tables core.outstanding (map bytes_in core.buckets) (idle fs) =
     subst (λ xs. IsPlanOf plan core.tables core.outstanding (map bytes_in core.buckets) xs) left
     (subst (λ ms. IsPlanOf plan core.tables core.outstanding ms free) allowed
     (subst (λ ds. IsPlanOf plan core.tables ds most free) was
-    (subst (λ u. IsPlanOf plan u demands most free) same is))) in
+    (subst (λ u. IsPlanOf plan u outstanding most free) same is))) in
     record { known = known; value = made.0; law = made.1; claims = made.2; lawful = made.3 }
 
 -- Claims.

@@ -9,7 +9,7 @@ use Rattle.std.proofs.lemmas.List.Sums.{sum_by-cons}
 use Rattle.us_bucket.specs.Levels.{Level, full, spent, bytes_in, units_per_byte}
 use Rattle.us_split.specs.PlanLaws.{Within}
 use Rattle.us_round.specs.Placements.{PlacedClaim}
-use Rattle.us_round.specs.Rounds.{Built, credits, all_grants, is_of_cluster, is_of_flow, left_of, spent_of}
+use Rattle.us_round.specs.Rounds.{Built, credits, all_grants, is_of_cluster, is_of_flow, uncredited, spent_of}
 use Rattle.us_round.specs.States.{IsKnown, Covers}
 
 -- a grant's credit counts where it passes
@@ -44,7 +44,7 @@ eqb-self m n same = elim (cases_Bool (eqb m n)) [
 
 -- a grant takes nothing of the clusters behind its own,
 left_behind : (g : PlacedClaim) (gs : List PlacedClaim) (number : ℕ) (os : List ℕ) → g.claimant.cluster < number →
-    left_of (g ∷ gs) number os ≡ left_of gs number os
+    uncredited (g ∷ gs) number os ≡ uncredited gs number os
 left_behind g gs number [] h = refl
 left_behind g gs number (o ∷ os) h =
     let none : credits (is_of_cluster number) (g ∷ gs) ≡ credits (is_of_cluster number) gs =
@@ -54,7 +54,7 @@ left_behind g gs number (o ∷ os) h =
 -- and its credit of its own
 left_from : (g : PlacedClaim) (gs : List PlacedClaim) (number place left d : ℕ) (os : List ℕ) → g.claimant.cluster ≡ number + place →
     place < length os → left + g.credit ≡ get_or os place d →
-    left_of (g ∷ gs) number os ≡ left_of gs number (set os place left)
+    uncredited (g ∷ gs) number os ≡ uncredited gs number (set os place left)
 left_from g gs number place left d [] at inside is = absurd (omega (arith, inside))
 left_from g gs number zero left d (o ∷ os) at inside is =
     let own : credits (is_of_cluster number) (g ∷ gs) ≡ g.credit + credits (is_of_cluster number) gs =
@@ -69,10 +69,10 @@ left_from g gs number (suc place) left d (o ∷ os) at inside is =
 
 pub left_first : (g : PlacedClaim) (gs : List PlacedClaim) (left d : ℕ) (os : List ℕ) → g.claimant.cluster < length os →
     left + g.credit ≡ slice_index_or os g.claimant.cluster d →
-    left_of (g ∷ gs) 0 os ≡ left_of gs 0 (slice_set os g.claimant.cluster left)
+    uncredited (g ∷ gs) 0 os ≡ uncredited gs 0 (slice_set os g.claimant.cluster left)
 left_first g gs left d os inside is = left_from g gs 0 g.claimant.cluster left d os (omega arith) inside is
 
-pub left_none : (number : ℕ) (os : List ℕ) → left_of [] number os ≡ os
+pub left_none : (number : ℕ) (os : List ℕ) → uncredited [] number os ≡ os
 left_none number [] = refl
 left_none number (o ∷ os) =
     let same : o - credits (is_of_cluster number) [] ≡ o = omega arith in
@@ -244,11 +244,11 @@ may_spend g gs os bs place credit d h at is =
 -- what stands after a grant, where its definitions came to these before
 pub after_grant : (g : PlacedClaim) (gs : List PlacedClaim) (os wanted : List ℕ) (bs wished : List Level)
     (cluster place credit left d : ℕ) (b e : Level) →
-    Covers os bs (g ∷ gs) → left_of (g ∷ gs) 0 os ≡ wanted → spent_of (g ∷ gs) 0 bs ≡ wished →
+    Covers os bs (g ∷ gs) → uncredited (g ∷ gs) 0 os ≡ wanted → spent_of (g ∷ gs) 0 bs ≡ wished →
     cluster ≡ g.claimant.cluster → place ≡ g.claimant.place → credit ≡ g.credit →
     left + credit ≡ slice_index_or os cluster d → b ≡ spent credit (slice_index_or bs place e) →
     Covers (slice_set os cluster left) (slice_set bs place b) gs
-    × (left_of gs 0 (slice_set os cluster left) ≡ wanted)
+    × (uncredited gs 0 (slice_set os cluster left) ≡ wanted)
     × (spent_of gs 0 (slice_set bs place b) ≡ wished)
 after_grant g gs os wanted bs wished cluster place credit left d b e h lefts spents at there is takes spends =
     let taken : left + g.credit ≡ slice_index_or os g.claimant.cluster d = rw (at, is) at takes in
@@ -282,7 +282,7 @@ covers_front xs ys os bs h = record {
 
 -- and what they leave covers those behind
 pub covers_back : (xs ys : List PlacedClaim) (os : List ℕ) (bs : List Level) → Covers os bs (xs ++ ys) →
-    Covers (left_of xs 0 os) (spent_of xs 0 bs) ys
+    Covers (uncredited xs 0 os) (spent_of xs 0 bs) ys
 covers_back [] ys os bs h = rw (left_none 0 os, spent_none 0 bs) h
 covers_back (g ∷ xs) ys os bs h =
     let none : Level = full 0 0 in
@@ -296,7 +296,7 @@ covers_back (g ∷ xs) ys os bs h =
     (covers_back xs ys (slice_set os g.claimant.cluster left) (slice_set bs g.claimant.place bucket) rest)
 
 pub left_append : (xs ys : List PlacedClaim) (number : ℕ) (os : List ℕ) →
-    left_of (xs ++ ys) number os ≡ left_of ys number (left_of xs number os)
+    uncredited (xs ++ ys) number os ≡ uncredited ys number (uncredited xs number os)
 left_append xs ys number [] = refl
 left_append xs ys number (o ∷ os) =
     let first : o - credits (is_of_cluster number) (xs ++ ys)
@@ -314,7 +314,7 @@ spent_append xs ys place (b ∷ bs) =
     ∙ spent-twice (credits (is_of_flow place) xs) (credits (is_of_flow place) ys) b in
     rw (first, spent_append xs ys (place + 1) bs) refl
 
-pub left-length : (gs : List PlacedClaim) (number : ℕ) (os : List ℕ) → length (left_of gs number os) ≡ length os
+pub left-length : (gs : List PlacedClaim) (number : ℕ) (os : List ℕ) → length (uncredited gs number os) ≡ length os
 left-length gs number [] = refl
 left-length gs number (o ∷ os) = ap (λ n. suc n) (left-length gs (number + 1) os)
 
@@ -325,9 +325,9 @@ spent-length gs place (b ∷ bs) = ap (λ n. suc n) (spent-length gs (place + 1)
 -- what stands after a channel's grants, where its definitions came to these before
 pub after_channel : (built : Built) (more : List Built) (gs : List PlacedClaim) (os wanted : List ℕ) (bs wished : List Level)
     (left : List ℕ) (spends : List Level) → gs ≡ built.grants →
-    Covers os bs (all_grants (built ∷ more)) → left_of (all_grants (built ∷ more)) 0 os ≡ wanted →
-    spent_of (all_grants (built ∷ more)) 0 bs ≡ wished → left ≡ left_of gs 0 os → spends ≡ spent_of gs 0 bs →
-    Covers left spends (all_grants more) × (left_of (all_grants more) 0 left ≡ wanted)
+    Covers os bs (all_grants (built ∷ more)) → uncredited (all_grants (built ∷ more)) 0 os ≡ wanted →
+    spent_of (all_grants (built ∷ more)) 0 bs ≡ wished → left ≡ uncredited gs 0 os → spends ≡ spent_of gs 0 bs →
+    Covers left spends (all_grants more) × (uncredited (all_grants more) 0 left ≡ wanted)
     × (spent_of (all_grants more) 0 spends ≡ wished)
 after_channel built more gs os wanted bs wished left spends same h lefts spents is are =
     rw (is, are, same) (

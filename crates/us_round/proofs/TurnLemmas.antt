@@ -12,7 +12,7 @@ use Rattle.us_holes.specs.Boards.{Board, assign_all}
 use Rattle.us_split.specs.Plans.{Planned}
 use Rattle.us_split.specs.Claims.{Claim, claim_at, claim_on, claims_from}
 use Rattle.us_split.proofs.ChannelShareLemmas.{first_place, later_place}
-use Rattle.us_round.specs.Placements.{PlacedClaim, grant_of, grants_of, intervals, with_grant}
+use Rattle.us_round.specs.Placements.{PlacedClaim, grant_of, grants_of, assignments, with_grant}
 use Rattle.us_round.specs.Rounds.{State, Filled, Built, build_on, builds_of, fills_of, round_plan}
 use Rattle.us_round.specs.TurnByTurn.{ByTurnsIsByChannels, RoundsAreByTurns, place_channels, place_share, place_turns, unbuilt, with_claim_on, with_grant_on}
 use Rattle.us_round.proofs.BuildLemmas.{assign_step}
@@ -128,7 +128,7 @@ from_start c turn planned (Some k) = let start : 0 + k ≡ k = omega arith in ap
 abbrev with_grants : Built → List PlacedClaim → Built
 with_grants b grants = record {
   channel = b.channel;
-  board = assign_all b.board (intervals grants);
+  board = assign_all b.board (assignments grants);
   calendar = b.calendar;
   settled = b.settled;
   grants = b.grants ++ grants;
@@ -147,7 +147,7 @@ one_more b None grants = refl
 one_more b (Some g) grants =
     ap (λ gs. let b : Built = record {
       channel = b.channel;
-      board = assign_all (with_grant b.board (Some g)) (intervals grants);
+      board = assign_all (with_grant b.board (Some g)) (assignments grants);
       calendar = b.calendar;
       settled = b.settled;
       grants = gs;

@@ -12,7 +12,7 @@ use Rattle.us_bucket.specs.Levels.{Level, full, bytes_in}
 use Rattle.us_calendar.specs.Calendars as calendars
 use Rattle.us_calendar.specs.Calendars.{Calendar, pace_of, settled_in, granted_in}
 use Rattle.us_split.specs.Plans.{Planned, plan_for}
-use Rattle.us_round.specs.Rounds.{State, Filled, Built, Scheduled, asked, grown, idle, all_grants, left_of, spent_of}
+use Rattle.us_round.specs.Rounds.{State, Filled, Built, Scheduled, asked, grown, idle, all_grants, uncredited, spent_of}
 use Rattle.us_round.specs.Leftovers.{still_asking}
 
 -- all of a state but its calendars
@@ -60,7 +60,7 @@ abbrev pub credited_core : Core → List Built → Core
 credited_core core builds = record {
   tables = core.tables;
   round = core.round + 1;
-  outstanding = left_of (all_grants builds) 0 core.outstanding;
+  outstanding = uncredited (all_grants builds) 0 core.outstanding;
   buckets = spent_of (all_grants builds) 0 core.buckets;
 }
 
@@ -105,8 +105,8 @@ plan_over core fs = plan_for core.tables core.outstanding (map bytes_in core.buc
 
 -- what these channels were scheduled, where so much was outstanding before, and the core tells what is left
 abbrev pub scheduled_of : Core → ℕ → List ℕ → List Built → Scheduled
-scheduled_of core round before builds = record {
+scheduled_of core round outstanding builds = record {
   round = round;
   channels = builds;
-  pending = filter_map (still_asking before core.outstanding) (turns_of core.tables);
+  pending = filter_map (still_asking outstanding core.outstanding) (turns_of core.tables);
 }

@@ -11,21 +11,21 @@ use Rattle.us_round.specs.Placements.{PlacedClaim}
 use Rattle.us_calendar.specs.declared.settled.Settled.{Settled}
 use Rattle.us_round.specs.Outputs.{start_of, is_granted}
 use Rattle.us_round.specs.declared.rows.Row.{Row}
-use Rattle.us_round.specs.Rounds.{Built, first_seat}
+use Rattle.us_round.specs.Rounds.{Built, first_sid}
 
--- a turn that has bytes left, as many as it had before, is pending
+-- a turn that has bytes left, as many as were outstanding of it before, is pending
 abbrev pub still_asking : List ℕ → List ℕ → Turn → Option (ℕ × ℕ)
-still_asking before left turn =
-    if nat_lt 0 (slice_index left turn.number) && (slice_index left turn.number == slice_index before turn.number)
-    then first_seat turn else None
+still_asking outstanding left turn =
+    if nat_lt 0 (slice_index left turn.number) && (slice_index left turn.number == slice_index outstanding turn.number)
+    then first_sid turn else None
 
 -- the same of a turn that is told by its places in the tables
 abbrev pub still_asking_at : Tables → List ℕ → List ℕ → places.Turn → Option (ℕ × ℕ)
-still_asking_at t before left turn = option_and_then (still_asking before left) (turn_at t turn)
+still_asking_at t outstanding left turn = option_and_then (still_asking outstanding left) (turn_at t turn)
 
 -- a grant starts inside a MAP of this length
 abbrev pub StartsInside : ℕ → PlacedClaim → Type 0
-StartsInside len g = g.interval.start < len
+StartsInside len g = g.assignment.start < len
 
 -- a channel of these tables, whose board has the length of its MAPs
 pub record IsBuiltFor (t : Tables) (built : Built) : Type 0 where

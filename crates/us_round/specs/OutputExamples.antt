@@ -11,7 +11,7 @@ use Rattle.us_holes.specs.Runs.{runs_from}
 use Rattle.us_calendar.specs.declared.kinds.Kind.TheVariants as kinds
 use Rattle.us_calendar.specs.declared.settled.Settled.TheVariants as settled
 use Rattle.us_round.specs.Placements.{PlacedClaim}
-use Rattle.us_round.specs.Rounds.{left_of, pending_seat, pendings_on}
+use Rattle.us_round.specs.Rounds.{uncredited, pending_sid, pendings_on}
 use Rattle.us_round.specs.Outputs.{elements_of, head_of, by_start, rows_on, final_row}
 use Rattle.us_round.specs.declared.rows.Row.{Row}
 use Rattle.us_round.specs.declared.rows.Row.TheVariants as rows
@@ -96,7 +96,7 @@ no_ack = refl
 abbrev placed : ℕ → ℕ → PlacedClaim
 placed start credit = record {
   claimant = record { cluster = 0; place = 0; flow = 7; list = 0 };
-  interval = record { start = start; slots = 1; owner = long_grant };
+  assignment = record { start = start; slots = 1; owner = long_grant };
   credit = credit;
 }
 
@@ -167,15 +167,15 @@ no_units = refl
 -- Pendings.
 
 -- a turn with bytes left and no credit is pending on its flow's first channel, by the SID there,
-pending : pending_seat (placed 0 20 ∷ []) (left_of (placed 0 20 ∷ []) 0 (20 ∷ 6 ∷ [])) turn ≡ Some (2, 294)
+pending : pending_sid (placed 0 20 ∷ []) (uncredited (placed 0 20 ∷ []) 0 (20 ∷ 6 ∷ [])) turn ≡ Some (2, 294)
 pending = refl
 
 -- but not where nothing is left,
-none_left : pending_seat [] (0 ∷ 0 ∷ []) turn ≡ None
+none_left : pending_sid [] (0 ∷ 0 ∷ []) turn ≡ None
 none_left = refl
 
 -- nor where any grant credits some bytes
-credited : pending_seat (record (placed 0 20) { claimant = record { cluster = 1; place = 0; flow = 7; list = 1 } } ∷ [])
+credited : pending_sid (record (placed 0 20) { claimant = record { cluster = 1; place = 0; flow = 7; list = 1 } } ∷ [])
     (5 ∷ 6 ∷ []) turn ≡ None
 credited = refl
 

@@ -125,10 +125,10 @@ grant_row round c placed = rows.Granted (record {
   id = placed.claimant.flow;
   i = placed.claimant.list;
   k = 0;
-  sid = placed.interval.owner.sid;
-  iuc = placed.interval.owner.iuc;
-  start = placed.interval.start;
-  slots = placed.interval.slots;
+  sid = placed.assignment.owner.sid;
+  iuc = placed.assignment.owner.iuc;
+  start = placed.assignment.start;
+  slots = placed.assignment.slots;
   credit = placed.credit;
 })
 

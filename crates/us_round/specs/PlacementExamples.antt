@@ -44,7 +44,7 @@ claim header share = record {
 abbrev grant : ℕ → ℕ → ℕ → ℕ → PlacedClaim
 grant start slots iuc credit = record {
   claimant = claimant;
-  interval = record { start = start; slots = slots; owner = record { sid = 291; iuc = iuc } };
+  assignment = record { start = start; slots = slots; owner = record { sid = 291; iuc = iuc } };
   credit = credit;
 }
 

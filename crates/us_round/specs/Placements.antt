@@ -40,7 +40,7 @@ spot bursts header share board =
 -- a claim that was placed: its minislots and owner, and the bytes that it credits, without the header
 pub record PlacedClaim : Type 0 where
   pub claimant : Claimant
-  pub interval : Assignment
+  pub assignment : Assignment
   pub credit : ℕ
 
 -- the grant of a claim at a spot
@@ -49,7 +49,7 @@ grant_at bursts claim found =
     let cost : ℕ × ℕ = grant_cost bursts (found.credit + claim.header) in
     record {
       claimant = claim.claimant;
-      interval = record { start = found.start; slots = cost.0; owner = record { sid = claim.sid; iuc = cost.1 } };
+      assignment = record { start = found.start; slots = cost.0; owner = record { sid = claim.sid; iuc = cost.1 } };
       credit = found.credit;
     }
 
@@ -60,7 +60,7 @@ grant_of bursts board claim = option_map (grant_at bursts claim) (spot bursts cl
 -- a board with one more grant
 abbrev pub with_grant : Board → Option PlacedClaim → Board
 with_grant board None = board
-with_grant board (Some g) = assign board g.interval.start g.interval.slots g.interval.owner
+with_grant board (Some g) = assign board g.assignment.start g.assignment.slots g.assignment.owner
 
 -- what all claims of a channel are granted, one after another
 unfoldable pub grants_of : ChannelBursts → Board → List Claim → List PlacedClaim
@@ -69,6 +69,6 @@ grants_of bursts board (claim ∷ rest) =
     let found : Option PlacedClaim = grant_of bursts board claim in
     option_to_list found ++ grants_of bursts (with_grant board found) rest
 
--- the intervals of grants
-abbrev pub intervals : List PlacedClaim → List Assignment
-intervals grants = map (λ g. g.interval) grants
+-- the assignments of grants
+abbrev pub assignments : List PlacedClaim → List Assignment
+assignments grants = map (λ g. g.assignment) grants

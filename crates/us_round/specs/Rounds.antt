@@ -11,7 +11,7 @@ use Rattle.us_calendar.specs.declared.settled.Settled.{Settled}
 use Rattle.us_split.specs.Plans.{Planned, plan_for}
 use Rattle.us_split.specs.Claims.{Claim, claims_on}
 use Rattle.us_round.specs.Reserves.{reserves}
-use Rattle.us_round.specs.Placements.{PlacedClaim, grants_of, intervals}
+use Rattle.us_round.specs.Placements.{PlacedClaim, grants_of, assignments}
 
 -- what a round starts from: the tables, its number, the outstanding bytes of each cluster, the bucket of each flow, and
 -- the calendar of each channel
@@ -79,7 +79,7 @@ build_with claims f =
     let grants : List PlacedClaim = grants_of f.channel.bursts f.board claims in
     record {
       channel = f.channel;
-      board = assign_all f.board (intervals grants);
+      board = assign_all f.board (assignments grants);
       calendar = f.calendar;
       settled = f.settled;
       grants = grants;
@@ -107,10 +107,10 @@ abbrev pub is_of_flow : ℕ → PlacedClaim → Bool
 is_of_flow place g = g.claimant.place == place
 
 -- credits leave the outstanding bytes of the clusters from `number` on,
-abbrev pub left_of : List PlacedClaim → ℕ → List ℕ → List ℕ
-left_of grants number [] = []
-left_of grants number (bytes ∷ more) =
-    (bytes - credits (is_of_cluster number) grants) ∷ left_of grants (number + 1) more
+abbrev pub uncredited : List PlacedClaim → ℕ → List ℕ → List ℕ
+uncredited grants number [] = []
+uncredited grants number (bytes ∷ more) =
+    (bytes - credits (is_of_cluster number) grants) ∷ uncredited grants (number + 1) more
 
 -- and the buckets of the flows from `place` on
 abbrev pub spent_of : List PlacedClaim → ℕ → List Level → List Level
@@ -125,22 +125,22 @@ abbrev pub max_pendings : ℕ
 max_pendings = 38
 
 -- the first channel of a turn's flow, by its id, with the turn's SID there
-abbrev pub first_seat : Turn → Option (ℕ × ℕ)
-first_seat turn = slice_get (zip turn.cluster.flow.channels turn.cluster.sids) 0
+abbrev pub first_sid : Turn → Option (ℕ × ℕ)
+first_sid turn = slice_get (zip turn.cluster.flow.channels turn.cluster.sids) 0
 
 -- a turn that still has outstanding bytes and was credited nothing is pending there
-abbrev pub pending_seat : List PlacedClaim → List ℕ → Turn → Option (ℕ × ℕ)
-pending_seat grants left turn =
+abbrev pub pending_sid : List PlacedClaim → List ℕ → Turn → Option (ℕ × ℕ)
+pending_sid grants left turn =
     if nat_lt 0 (slice_index left turn.number) && (credits (is_of_cluster turn.number) grants == 0)
-    then first_seat turn else None
+    then first_sid turn else None
 
 -- all of them in the order of turns
-unfoldable pub pending_seats : List PlacedClaim → List ℕ → List Turn → List (ℕ × ℕ)
-pending_seats grants left turns = filter_map (pending_seat grants left) turns
+unfoldable pub pending_sids : List PlacedClaim → List ℕ → List Turn → List (ℕ × ℕ)
+pending_sids grants left turns = filter_map (pending_sid grants left) turns
 
 -- the SIDs that a MAP lists: the first that are pending on its channel
 unfoldable pub pendings_on : ℕ → List (ℕ × ℕ) → List ℕ
-pendings_on id seats = take max_pendings (map (λ seat. seat.1) (filter (λ seat. seat.0 == id) seats))
+pendings_on id pendings = take max_pendings (map (λ pending. pending.1) (filter (λ pending. pending.0 == id) pendings))
 
 -- Rounds.
 
@@ -151,7 +151,7 @@ pub record Scheduled : Type 0 where
   pub pending : List (ℕ × ℕ)
 
 -- a round, and what the next one starts from
-pub record Step : Type 0 where
+pub record RoundResult : Type 0 where
   pub state : State
   pub scheduled : Scheduled
 
@@ -184,13 +184,13 @@ credited state builds =
     record {
       tables = state.tables;
       round = state.round + 1;
-      outstanding = left_of grants 0 state.outstanding;
+      outstanding = uncredited grants 0 state.outstanding;
       buckets = spent_of grants 0 state.buckets;
       calendars = map (λ b. b.calendar) builds;
     }
 
 -- a round that has begun, once its channels are these
-abbrev pub ended : State → List Built → Step
+abbrev pub ended : State → List Built → RoundResult
 ended state builds =
     let grants : List PlacedClaim = all_grants builds in
     record {
@@ -198,16 +198,16 @@ ended state builds =
       scheduled = record {
         round = state.round;
         channels = builds;
-        pending = pending_seats grants (left_of grants 0 state.outstanding) (turns_of state.tables);
+        pending = pending_sids grants (uncredited grants 0 state.outstanding) (turns_of state.tables);
       };
     }
 
 -- and with those that it comes to
-unfoldable pub round_from : State → Step
+unfoldable pub round_from : State → RoundResult
 round_from state = ended state (builds_of state)
 
 -- the round of a state, with the bytes that are newly asked for of each cluster
-unfoldable pub round_of : State → List ℕ → Step
+unfoldable pub round_of : State → List ℕ → RoundResult
 round_of state cut = round_from (begun state cut)
 
 -- the rounds of these cuts, one after another

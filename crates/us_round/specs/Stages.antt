@@ -15,9 +15,9 @@ use Rattle.us_round.specs.States.{AreSound, settled_by}
 use Rattle.us_round.specs.Cores.{Core, IsCore, AreCalendars, AreCounted, IsFilledFor, settled_now, settled_then, plan_over, with_calendars}
 
 -- it has begun: the state has come apart, and what is outstanding is told
-pub record IsBegun (s : State) (core : Core) (demands : List ℕ) (cs : List Calendar) : Type 0 where
+pub record IsBegun (s : State) (core : Core) (outstanding : List ℕ) (cs : List Calendar) : Type 0 where
   pub value : with_calendars core cs ≡ s
-  pub before : demands ≡ core.outstanding
+  pub told : outstanding ≡ core.outstanding
   pub lawful : AreTables core.tables
   pub calendars : AreCalendars core.tables core.round cs
 

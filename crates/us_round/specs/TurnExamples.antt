@@ -13,7 +13,7 @@ state = record (opening (tables (channel_with 1 150 0 1 ∷ channel_with 2 150 0
 
 -- the first minislot of each grant on each channel, its SID, and its credit
 abbrev grants : List Built → List (List (ℕ × ℕ × ℕ))
-grants builds = map (λ b. map (λ g. (g.interval.start, g.interval.owner.sid, g.credit)) b.grants) builds
+grants builds = map (λ b. map (λ g. (g.assignment.start, g.assignment.owner.sid, g.credit)) b.grants) builds
 
 -- after so many turns
 abbrev after : ℕ → List (List (ℕ × ℕ × ℕ))

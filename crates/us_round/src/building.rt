@@ -7,7 +7,7 @@ ghost use Rattle.us_calendar.specs.Calendars.{IsCalendar, pace_of};
 ghost use Rattle.us_holes.specs.Boards.{assign_all, free_count};
 ghost use Rattle.us_split.specs.Claims.{IsClaimOn};
 ghost use Rattle.us_round.specs.Cores.{HasFewTicks};
-ghost use Rattle.us_round.specs.Placements.{grant_of, grants_of, intervals, with_grant};
+ghost use Rattle.us_round.specs.Placements.{grant_of, grants_of, assignments, with_grant};
 ghost use Rattle.us_round.specs.Rounds as spec;
 
 use crate::lanes::{Lane, Track};
@@ -153,7 +153,7 @@ fn grant_all(
     requires ticks { length board.old.cells * minislot_ticks channel.now.bursts.time ≤ MAX_MAP_TICKS }
     ensures grants { IfOk result (λ grants. grants.items ≡ grants_of channel.now.bursts board.old claims.now) }
     ensures board { OnOk result
-        (board.new ≡ assign_all board.old (intervals (grants_of channel.now.bursts board.old claims.now))) }
+        (board.new ≡ assign_all board.old (assignments (grants_of channel.now.bursts board.old claims.now))) }
     ensures len { length board.new.cells ≡ length board.old.cells }
 {
     let mut grants = Vec::with_capacity(alloc, claims.len().min(MAX_ASSIGNMENTS as usize))?;

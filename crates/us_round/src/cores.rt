@@ -105,7 +105,7 @@ impl Core {
     }
 
     /// The outstanding bytes of each cluster.
-    pub(crate) fn demands(&self, alloc: Global) -> Result<Vec<u64>, NoMemory>
+    pub(crate) fn outstanding_bytes(&self, alloc: Global) -> Result<Vec<u64>, NoMemory>
         ensures value { IfOk result (λ bytes. bytes.items ≡ self.now.outstanding) }
         ensures known { spec.IsCore self.now }
     {

@@ -10,7 +10,7 @@ ghost use Rattle.us_round.specs.Leftovers.{IsBuiltFor};
 ghost use Rattle.us_round.specs.Outputs as spec;
 
 use crate::building::Built;
-use crate::pendings::{PendingSeat, sids_on};
+use crate::pendings::{PendingSid, sids_on};
 use crate::reserving::BROADCAST;
 use std::alloc::Global;
 use us_codec::{Element, Head, Map};
@@ -21,23 +21,23 @@ use us_slots::{Iuc, NoMemory};
 /// The SID that addresses nobody (the standard's).
 const NOBODY: u16 = 0;
 
-/// The MAP of each channel of a round, with the seats that are pending.
+/// The MAP of each channel of a round, with the pendings that are pending.
 pub(crate) fn maps_of(
     alloc: Global,
     config: &Config,
     round: u32,
     built: &[Built],
-    seats: &[PendingSeat],
+    pendings: &[PendingSid],
 ) -> Result<Vec<Map>, NoMemory>
     requires built { AllByRecursion (IsBuiltFor config.now) built.now }
     requires time { (round + 1) * config.now.round_ticks ≤ max_run_ticks }
-    ensures value { IfOk result (λ maps. maps.items ≡ map (spec.built_map config.now round seats.now) built.now) }
-    ensures limits { IfOk result (λ _. AllByRecursion (spec.IsWithinLimits config.now round seats.now) built.now) }
+    ensures value { IfOk result (λ maps. maps.items ≡ map (spec.built_map config.now round pendings.now) built.now) }
+    ensures limits { IfOk result (λ _. AllByRecursion (spec.IsWithinLimits config.now round pendings.now) built.now) }
 {
     let mut runs = Vec::new(alloc);
     let mut maps = Vec::with_capacity(alloc, built.len())?;
     for part in built {
-        maps.push(built_map(alloc, config, round, part, seats, &mut runs)?)?;
+        maps.push(built_map(alloc, config, round, part, pendings, &mut runs)?)?;
     }
     Ok(maps)
 }
@@ -49,15 +49,15 @@ fn built_map(
     config: &Config,
     round: u32,
     part: &Built,
-    seats: &[PendingSeat],
+    pendings: &[PendingSid],
     runs: &mut Vec<Run>,
 ) -> Result<Map, NoMemory>
     requires built { IsBuiltFor config.now part.now }
     requires time { (round + 1) * config.now.round_ticks ≤ max_run_ticks }
-    ensures value { IfOk result (λ map. map ≡ spec.built_map config.now round seats.now part.now) }
-    ensures limits { IfOk result (λ _. spec.IsWithinLimits config.now round seats.now part.now) }
+    ensures value { IfOk result (λ map. map ≡ spec.built_map config.now round pendings.now part.now) }
+    ensures limits { IfOk result (λ _. spec.IsWithinLimits config.now round pendings.now part.now) }
 {
-    let sids = sids_on(alloc, seats, part.channel.id)?;
+    let sids = sids_on(alloc, pendings, part.channel.id)?;
     map_of(
         alloc,
         config,

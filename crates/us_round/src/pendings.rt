@@ -16,22 +16,22 @@ const MAX_PENDINGS: usize = 38;
 
 /// Where a turn is pending: a channel, by its id, and the SID there, of 14 bits.
 #[derive(Clone, Copy)]
-pub(crate) struct PendingSeat {
+pub(crate) struct PendingSid {
     channel: u8,
     sid: u16,
 }
 
-impl Model for PendingSeat {
+impl Model for PendingSid {
     ghost Value = { ℕ × ℕ };
 
-    ghost view = { λ seat. (seat.channel, seat.sid) };
+    ghost view = { λ pending. (pending.channel, pending.sid) };
 
-    ghost invariant = { λ seat. seat.sid < 2 ^ 14 };
+    ghost invariant = { λ pending. pending.sid < 2 ^ 14 };
 
-    ghost inverse = { λ seat. record { channel = seat.0; sid = seat.1 } };
+    ghost inverse = { λ pending. record { channel = pending.0; sid = pending.1 } };
 }
 
-impl PendingSeat {
+impl PendingSid {
     /// Whether it is on the channel with this id.
     fn is_on(&self, id: u8) -> bool
         ensures { result ≡ (self.now.0 == id) }
@@ -48,42 +48,42 @@ impl PendingSeat {
     }
 }
 
-/// Who is pending after a round: in the order of turns, those with as many outstanding bytes `left` as `before` their
+/// Who is pending after a round: in the order of turns, those with as many bytes `left` as were `outstanding` before their
 /// channels placed, and with one at least.
-pub(crate) fn pending_seats(
+pub(crate) fn pending_sids(
     alloc: Global,
     config: &Config,
-    before: &[u64],
+    outstanding: &[u64],
     left: &[ClusterState],
-) -> Result<Vec<PendingSeat>, NoMemory>
-    ensures { IfOk result (λ seats.
-        seats.items ≡ filter_map (still_asking before.now left.now) (turns_of config.now)) }
+) -> Result<Vec<PendingSid>, NoMemory>
+    ensures { IfOk result (λ pendings.
+        pendings.items ≡ filter_map (still_asking outstanding.now left.now) (turns_of config.now)) }
 {
-    let mut seats = Vec::new(alloc);
+    let mut pendings = Vec::new(alloc);
     let turns = config.turns();
     for turn in turns {
-        if let Some(seat) = pending_seat(config, turn, before, left) {
-            seats.push(seat)?;
+        if let Some(pending) = pending_sid(config, turn, outstanding, left) {
+            pendings.push(pending)?;
         }
     }
-    Ok(seats)
+    Ok(pendings)
 }
 
 /// Where a turn is pending, if it is.
-fn pending_seat(
+fn pending_sid(
     config: &Config,
     turn: &Turn,
-    before: &[u64],
+    outstanding: &[u64],
     left: &[ClusterState],
-) -> Option<PendingSeat>
-    ensures { result ≡ still_asking_at config.now before.now left.now turn.now }
+) -> Option<PendingSid>
+    ensures { result ≡ still_asking_at config.now outstanding.now left.now turn.now }
 {
     let bytes = left_at(left, turn.cluster);
-    if bytes == 0 || bytes != bytes_at(before, turn.cluster) {
+    if bytes == 0 || bytes != bytes_at(outstanding, turn.cluster) {
         return None;
     }
     match config.flows().get(turn.flow) {
-        Some(flow) => first_seat(flow, turn),
+        Some(flow) => first_sid(flow, turn),
         None => None,
     }
 }
@@ -98,37 +98,37 @@ pub(crate) fn left_at(left: &[ClusterState], number: usize) -> u64
     }
 }
 
-/// Those that it had before.
-fn bytes_at(before: &[u64], number: usize) -> u64
-    ensures { result ≡ slice_index before.now number }
+/// Those that were outstanding of it before.
+fn bytes_at(outstanding: &[u64], number: usize) -> u64
+    ensures { result ≡ slice_index outstanding.now number }
 {
-    match before.get(number) {
+    match outstanding.get(number) {
         Some(bytes) => *bytes,
         None => 0,
     }
 }
 
 /// The first channel of a flow, with the SID there of the turn's cluster.
-fn first_seat(flow: &Flow, turn: &Turn) -> Option<PendingSeat>
+fn first_sid(flow: &Flow, turn: &Turn) -> Option<PendingSid>
     requires { AllByRecursion (λ sids. AllByRecursion (λ sid. sid < 2 ^ 14) sids) flow.now.clusters }
-    ensures { result ≡ option_and_then spec.first_seat (in_flow turn.now flow.now) }
+    ensures { result ≡ option_and_then spec.first_sid (in_flow turn.now flow.now) }
 {
     match flow.clusters().get(turn.list) {
-        Some(sids) => seat_of(flow.channels(), sids),
+        Some(sids) => sid_of(flow.channels(), sids),
         None => None,
     }
 }
 
 /// The first of these channels, with the first of the SIDs.
 #[tactic(auto, using(crate::proofs::PendingLemmas::first_pair))]
-fn seat_of(channels: &[u8], sids: &[u16]) -> Option<PendingSeat>
+fn sid_of(channels: &[u8], sids: &[u16]) -> Option<PendingSid>
     requires { AllByRecursion (λ sid. sid < 2 ^ 14) sids.now }
     ensures { result ≡ slice_get (zip channels.now sids.now) 0 }
 {
     if channels.is_empty() || sids.is_empty() {
         return None;
     }
-    Some(PendingSeat {
+    Some(PendingSid {
         channel: channels[0],
         sid: sids[0],
     })
@@ -136,18 +136,18 @@ fn seat_of(channels: &[u8], sids: &[u16]) -> Option<PendingSeat>
 
 /// The SIDs that the MAP of a channel lists: the first that are pending there, at most 38.
 #[tactic(auto, unfolding(crate::specs::Rounds::pendings_on))]
-pub(crate) fn sids_on(alloc: Global, seats: &[PendingSeat], id: u8) -> Result<Vec<u16>, NoMemory>
-    ensures value { IfOk result (λ sids. sids.items ≡ spec.pendings_on id seats.now) }
+pub(crate) fn sids_on(alloc: Global, pendings: &[PendingSid], id: u8) -> Result<Vec<u16>, NoMemory>
+    ensures value { IfOk result (λ sids. sids.items ≡ spec.pendings_on id pendings.now) }
     ensures few { IfOk result (λ sids. length sids.items ≤ 38) }
     ensures bits { IfOk result (λ sids. AllByRecursion (λ sid. sid < 2 ^ 14) sids.items) }
 {
     let mut sids = Vec::new(alloc);
-    for seat in seats {
+    for pending in pendings {
         if sids.len() == MAX_PENDINGS {
             break;
         }
-        if seat.is_on(id) {
-            sids.push(seat.sid())?;
+        if pending.is_on(id) {
+            sids.push(pending.sid())?;
         }
     }
     Ok(sids)

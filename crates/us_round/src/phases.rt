@@ -64,17 +64,17 @@ impl<'a> Work<Filled, Built, NoMemory> for Building<'a> {
 pub(crate) fn fill_all<F: FnOnce(&Filling<'_>, Vec<(Channel, Lane)>) -> Answered<Filled> + Drop>(
     alloc: Global,
     core: &Core,
-    calendars: Vec<Lane>,
+    lanes: Vec<Lane>,
     each: F,
 ) -> Result<Vec<Filled>, NoMemory>
-    requires calendars { AreCalendars core.now.tables core.now.round calendars.items }
+    requires calendars { AreCalendars core.now.tables core.now.round lanes.items }
     requires time { (core.now.round + 1) * core.now.tables.round_ticks ≤ max_run_ticks }
     requires each { DoesFill F.FnOnce each }
-    ensures { IfOk result (λ all. AreFilled core.now calendars.items all.items) }
+    ensures { IfOk result (λ all. AreFilled core.now lanes.items all.items) }
 {
     let config = core.config();
     let round = core.round();
-    let items = with_channels(alloc, config, calendars)?;
+    let items = with_channels(alloc, config, lanes)?;
     answers(each(&Filling { config, round }, items))
 }
 
@@ -82,17 +82,17 @@ pub(crate) fn fill_all<F: FnOnce(&Filling<'_>, Vec<(Channel, Lane)>) -> Answered
 fn with_channels(
     alloc: Global,
     config: &Config,
-    calendars: Vec<Lane>,
+    lanes: Vec<Lane>,
 ) -> Result<Vec<(Channel, Lane)>, NoMemory>
-    requires { length calendars.items ≡ length config.now.channels }
-    ensures value { IfOk result (λ all. all.items ≡ zip config.now.channels calendars.items) }
+    requires { length lanes.items ≡ length config.now.channels }
+    ensures value { IfOk result (λ all. all.items ≡ zip config.now.channels lanes.items) }
     ensures lawful { OnOk result (AreTables config.now) }
 {
     let channels = config.channels();
     let mut all = Vec::with_capacity(alloc, channels.len())?;
-    for calendar in calendars {
+    for lane in lanes {
         let place = all.len();
-        all.push((channels[place], calendar))?;
+        all.push((channels[place], lane))?;
     }
     Ok(all)
 }

@@ -31,15 +31,15 @@ impl Model for PlacedClaim {
 
     ghost view = { λ g. record {
       claimant = g.claimant;
-      interval = record { start = g.start; slots = g.slots; owner = g.owner };
+      assignment = record { start = g.start; slots = g.slots; owner = g.owner };
       credit = g.credit;
     } };
 
     ghost inverse = { λ g. record {
       claimant = g.claimant;
-      start = g.interval.start;
-      slots = g.interval.slots;
-      owner = g.interval.owner;
+      start = g.assignment.start;
+      slots = g.assignment.slots;
+      owner = g.assignment.owner;
       credit = g.credit;
     } };
 }
@@ -98,7 +98,7 @@ pub(crate) fn place(board: &mut Board, bursts: &BurstSet, claim: &Claim) -> Opti
     ensures len { length board.new.cells ≡ length board.old.cells }
     ensures some { IfSome result (λ grant. 1 ≤ grant.credit) }
     ensures few { IfSome result (λ grant. grant.credit ≤ claim.now.share) }
-    ensures inside { IfSome result (λ grant. grant.interval.start < length board.old.cells) }
+    ensures inside { IfSome result (λ grant. grant.assignment.start < length board.old.cells) }
 {
     let owner = Owner::new(claim.sid, claim.iuc);
     match board.place_earliest(0, board.len() - 1, claim.slots, owner) {
@@ -125,7 +125,7 @@ fn place_part(board: &mut Board, bursts: &BurstSet, claim: &Claim) -> Option<Pla
     ensures len { length board.new.cells ≡ length board.old.cells }
     ensures some { IfSome result (λ grant. 1 ≤ grant.credit) }
     ensures few { IfSome result (λ grant. grant.credit ≤ claim.now.share) }
-    ensures inside { IfSome result (λ grant. grant.interval.start < length board.old.cells) }
+    ensures inside { IfSome result (λ grant. grant.assignment.start < length board.old.cells) }
 {
     let spot = carried(board, bursts, claim)?;
     let (slots, iuc) = grant_cost(bursts, spot.credit + u32::from(claim.header));

@@ -20,7 +20,7 @@ use crate::cores::Core;
 use crate::faults::RoundFault;
 use crate::lanes::Lane;
 use crate::mapping::maps_of;
-use crate::pendings::pending_seats;
+use crate::pendings::pending_sids;
 use crate::phases::{Answered, Building, Filling, build_all, fill_all};
 use crate::reporting::rows_of;
 use crate::round_outs::RoundOut;
@@ -102,9 +102,9 @@ pub(crate) fn round_by<
     requires build { DoesBuild B.FnOnce build }
     ensures { IfOk result (λ done. IsOver (spec.begun state cuts.now) done.0 done.1) }
 {
-    let (core, before, calendars) = begin(alloc, state, cuts)?;
-    let built = build_from(alloc, &core, &before, calendars, fill, build)?;
-    finish(alloc, core, before, built)
+    let (core, outstanding, lanes) = begin(alloc, state, cuts)?;
+    let built = build_from(alloc, &core, &outstanding, lanes, fill, build)?;
+    finish(alloc, core, outstanding, built)
 }
 
 /// Begins the round of a state: what the clusters ask for is outstanding too, and the buckets grow. The answer has what
@@ -114,10 +114,10 @@ fn begin(alloc: Global, state: State, cuts: &[u64]) -> Result<(Core, Vec<u64>, V
     requires room { AllByRecursion (λ pair. pair.0 + pair.1 < 2 ^ 62) (zip state.outstanding cuts.now) }
     ensures { IfOk result (λ parts. IsBegun (spec.begun state cuts.now) parts.0 parts.1.items parts.2.items) }
 {
-    let (mut core, calendars) = state.into_parts();
+    let (mut core, lanes) = state.into_parts();
     core.begin(cuts);
-    let before = core.demands(alloc)?;
-    Ok((core, before, calendars))
+    let outstanding = core.outstanding_bytes(alloc)?;
+    Ok((core, outstanding, lanes))
 }
 
 /// The channels of a round that has begun, with all claims placed: boards are planned together, once reserves and
@@ -128,20 +128,20 @@ fn build_from<
 >(
     alloc: Global,
     core: &Core,
-    demands: &[u64],
-    calendars: Vec<Lane>,
+    outstanding: &[u64],
+    lanes: Vec<Lane>,
     fill: F,
     build: B,
 ) -> Result<Vec<Built>, NoMemory>
-    requires demands { demands.now ≡ core.now.outstanding }
-    requires calendars { AreCalendars core.now.tables core.now.round calendars.items }
+    requires outstanding { outstanding.now ≡ core.now.outstanding }
+    requires calendars { AreCalendars core.now.tables core.now.round lanes.items }
     requires time { (core.now.round + 1) * core.now.tables.round_ticks ≤ max_run_ticks }
     requires fill { DoesFill F.FnOnce fill }
     requires build { DoesBuild B.FnOnce build }
-    ensures { IfOk result (λ built. AreBuilt core.now calendars.items built.items) }
+    ensures { IfOk result (λ built. AreBuilt core.now lanes.items built.items) }
 {
-    let filled = fill_all(alloc, core, calendars, fill)?;
-    let plan = plan_round(alloc, core, demands, &filled)?;
+    let filled = fill_all(alloc, core, lanes, fill)?;
+    let plan = plan_round(alloc, core, outstanding, &filled)?;
     build_all(&plan, filled, build)
 }
 
@@ -149,16 +149,16 @@ fn build_from<
 fn plan_round(
     alloc: Global,
     core: &Core,
-    demands: &[u64],
+    outstanding: &[u64],
     filled: &[Filled],
 ) -> Result<Plan, NoMemory>
-    requires demands { demands.now ≡ core.now.outstanding }
+    requires outstanding { outstanding.now ≡ core.now.outstanding }
     requires room { IsIdle core.now.tables (spec.idle filled.now) }
     ensures { IfOk result (λ plan. IsPlanned core.now filled.now plan) }
 {
     let allowances = core.allowances(alloc)?;
     let idle = idle_of(alloc, filled)?;
-    plan_with(alloc, core.config(), demands, allowances, &idle)
+    plan_with(alloc, core.config(), outstanding, allowances, &idle)
 }
 
 /// The idle minislots of each channel.
@@ -176,10 +176,10 @@ fn idle_of(alloc: Global, filled: &[Filled]) -> Result<Vec<u32>, NoMemory>
 fn finish(
     alloc: Global,
     core: Core,
-    before: Vec<u64>,
+    outstanding: Vec<u64>,
     built: Vec<Built>,
 ) -> Result<(State, RoundOut), NoMemory>
-    requires before { before.items ≡ core.outstanding }
+    requires outstanding { outstanding.items ≡ core.outstanding }
     requires lawful { AreTables core.tables }
     requires time { (core.round + 1) * core.tables.round_ticks ≤ max_run_ticks }
     requires built { AreAllBuilt core built.items }
@@ -188,9 +188,9 @@ fn finish(
     let mut core = core;
     let round = core.round();
     core.close(&built);
-    let out = report(alloc, &core, round, &before, &built)?;
-    let calendars = lanes_of(alloc, built)?;
-    Ok((State::of(core, calendars), out))
+    let out = report(alloc, &core, round, &outstanding, &built)?;
+    let lanes = lanes_of(alloc, built)?;
+    Ok((State::of(core, lanes), out))
 }
 
 /// What a round gives of its channels, and of what was outstanding before it and is left after it.
@@ -198,19 +198,19 @@ fn report(
     alloc: Global,
     core: &Core,
     round: u32,
-    before: &[u64],
+    outstanding: &[u64],
     built: &[Built],
 ) -> Result<RoundOut, NoMemory>
     requires built { AllByRecursion (IsBuiltFor core.now.tables) built.now }
     requires inside { AllByRecursion AreInside built.now }
     requires time { (round + 1) * core.now.tables.round_ticks ≤ max_run_ticks }
     ensures out { IfOk result (λ out. out ≡
-        out_of core.now.tables (scheduled_of core.now round before.now built.now)) }
-    ensures limits { OnOk result (AreWithinLimits core.now.tables (scheduled_of core.now round before.now built.now)) }
+        out_of core.now.tables (scheduled_of core.now round outstanding.now built.now)) }
+    ensures limits { OnOk result (AreWithinLimits core.now.tables (scheduled_of core.now round outstanding.now built.now)) }
 {
     let config = core.config();
-    let seats = pending_seats(alloc, config, before, core.outstanding())?;
-    let maps = maps_of(alloc, config, round, built, &seats)?;
+    let pendings = pending_sids(alloc, config, outstanding, core.outstanding())?;
+    let maps = maps_of(alloc, config, round, built, &pendings)?;
     let rows = rows_of(alloc, round, built)?;
     Ok(RoundOut::new(round, maps, rows))
 }

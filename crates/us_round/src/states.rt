@@ -19,25 +19,22 @@ use us_slots::NoMemory;
 /// bucket of each flow, and the calendar of each channel.
 pub struct State {
     core: Core,
-    calendars: Vec<Lane>,
+    lanes: Vec<Lane>,
 }
 
 impl Model for State {
     ghost Value = { spec.State };
 
-    ghost view = { λ s. with_calendars s.core s.calendars.items };
+    ghost view = { λ s. with_calendars s.core s.lanes.items };
 
-    ghost invariant = { λ s. IsState (with_calendars s.core s.calendars.items)
-        × (settled_by (with_calendars s.core s.calendars.items) ≤ max_settled_by) };
+    ghost invariant = { λ s. IsState (with_calendars s.core s.lanes.items)
+        × (settled_by (with_calendars s.core s.lanes.items) ≤ max_settled_by) };
 }
 
 /// Gives the state up. It is written out so that it is one step wherever a state ends.
 impl Drop for State {
     fn drop(self) {
-        let State {
-            core: _,
-            calendars: _,
-        } = self;
+        let State { core: _, lanes: _ } = self;
     }
 }
 
@@ -48,18 +45,18 @@ impl State {
         ensures state { IfOk result (λ state. state ≡ spec.opening config) }
         ensures fault { IfErr result (λ given. given ≡ RoundFault.NoMemory) }
     {
-        let calendars = lanes_of(alloc, &config)?;
+        let lanes = lanes_of(alloc, &config)?;
         let core = Core::new(alloc, config)?;
-        Ok(State::of(core, calendars))
+        Ok(State::of(core, lanes))
     }
 
     /// The state of a core and of its calendars.
-    pub(crate) fn of(core: Core, calendars: Vec<Lane>) -> State
-        requires state { IsState (with_calendars core calendars.items) }
-        requires few { settled_by (with_calendars core calendars.items) ≤ max_settled_by }
-        ensures { result ≡ with_calendars core calendars.items }
+    pub(crate) fn of(core: Core, lanes: Vec<Lane>) -> State
+        requires state { IsState (with_calendars core lanes.items) }
+        requires few { settled_by (with_calendars core lanes.items) ≤ max_settled_by }
+        ensures { result ≡ with_calendars core lanes.items }
     {
-        State { core, calendars }
+        State { core, lanes }
     }
 
     /// Its core and its calendars.
@@ -67,8 +64,8 @@ impl State {
         ensures value { with_calendars result.0 result.1.items ≡ self }
         ensures calendars { AreCalendars self.tables self.round result.1.items }
     {
-        let State { core, calendars } = self;
-        (core, calendars)
+        let State { core, lanes } = self;
+        (core, lanes)
     }
 
     /// All but its calendars.

@@ -1,5 +1,5 @@
 ghost use Rattle.std.specs.Prelude.{◌≡◌, length};
-ghost use Rattle.us_round.specs.Rounds.{all_grants, left_of, spent_of};
+ghost use Rattle.us_round.specs.Rounds.{all_grants, uncredited, spent_of};
 ghost use Rattle.us_round.specs.States.{Covers};
 
 use crate::building::Built;
@@ -11,7 +11,7 @@ use us_requests::ClusterState;
 /// their flows.
 pub(super) fn credit_all(outstanding: &mut [ClusterState], buckets: &mut [Bucket], built: &[Built])
     requires { Covers outstanding.old buckets.old (all_grants built.now) }
-    ensures outstanding { outstanding.new ≡ left_of (all_grants built.now) 0 outstanding.old }
+    ensures outstanding { outstanding.new ≡ uncredited (all_grants built.now) 0 outstanding.old }
     ensures buckets { buckets.new ≡ spent_of (all_grants built.now) 0 buckets.old }
 {
     for channel in built {
@@ -22,7 +22,7 @@ pub(super) fn credit_all(outstanding: &mut [ClusterState], buckets: &mut [Bucket
 /// The same of the grants of one channel.
 fn credit_grants(outstanding: &mut [ClusterState], buckets: &mut [Bucket], grants: &[PlacedClaim])
     requires { Covers outstanding.old buckets.old grants.now }
-    ensures outstanding { outstanding.new ≡ left_of grants.now 0 outstanding.old }
+    ensures outstanding { outstanding.new ≡ uncredited grants.now 0 outstanding.old }
     ensures buckets { buckets.new ≡ spent_of grants.now 0 buckets.old }
 {
     for grant in grants {

@@ -7,8 +7,8 @@ use Rattle.us_round.proofs.mapping.maps_of.Given as goal
 -- what is left leads to the same
 abbrev pub invariant-loop-part : goal.invariant-loop-part
 invariant-loop-part l =
-    (l.maps.items ++ map (built_map l.config l.round l.seats) (drop l.part-index l.built) ≡
-    map (built_map l.config l.round l.seats) l.built)
+    (l.maps.items ++ map (built_map l.config l.round l.pendings) (drop l.part-index l.built) ≡
+    map (built_map l.config l.round l.pendings) l.built)
     × AllByRecursion (IsBuiltFor l.config) (drop l.part-index l.built)
-    × (AllByRecursion (IsWithinLimits l.config l.round l.seats) (drop l.part-index l.built) →
-    AllByRecursion (IsWithinLimits l.config l.round l.seats) l.built)
+    × (AllByRecursion (IsWithinLimits l.config l.round l.pendings) (drop l.part-index l.built) →
+    AllByRecursion (IsWithinLimits l.config l.round l.pendings) l.built)

@@ -3,9 +3,9 @@ use Rattle.std.specs.Prelude.{filter}
 use Rattle.std.specs.List.{AllByRecursion}
 use Rattle.us_round.proofs.pendings.sids_on.Given as goal
 
-abbrev pub invariant-loop-seat : goal.invariant-loop-seat
-invariant-loop-seat l =
-    (l.sids.items ++ take (38 - length l.sids.items) (map (λ seat. seat.1) (filter (λ seat. seat.0 == l.id)
-    (drop l.seat-index l.seats))) ≡ take 38 (map (λ seat. seat.1) (filter (λ seat. seat.0 == l.id) l.seats)))
+abbrev pub invariant-loop-pending : goal.invariant-loop-pending
+invariant-loop-pending l =
+    (l.sids.items ++ take (38 - length l.sids.items) (map (λ pending. pending.1) (filter (λ pending. pending.0 == l.id)
+    (drop l.pending-index l.pendings))) ≡ take 38 (map (λ pending. pending.1) (filter (λ pending. pending.0 == l.id) l.pendings)))
     × (length l.sids.items ≤ 38)
     × AllByRecursion (λ sid. sid < 2 ^ 14) l.sids.items

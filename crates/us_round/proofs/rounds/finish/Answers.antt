@@ -23,19 +23,19 @@ report-requires-clause-time c = rw (c.close.ensures, c.round-round.ensures) c.re
 pub of-requires-clause-state : goal.of-requires-clause-state
 of-requires-clause-state c =
     let built = c.requires.built.1 in
-    rw (c.close.ensures, c.deref.ensures.value, c.in_ok-calendars.ensures.value)
+    rw (c.close.ensures, c.deref.ensures.value, c.in_ok-lanes.ensures.value)
     (state_next c.args.core c.requires.built.0 c.args.built.items built.known built.calendars built.value)
 
 pub of-requires-clause-few : goal.of-requires-clause-few
 of-requires-clause-few c =
     let built = c.requires.built.1 in
-    settled_few c.args.core c.requires.built.0 c.in_ok-calendars.calendars.items c.args.built.items c.requires.lawful
-    built.calendars built.value c.in_ok-calendars.ensures.value c.in_ok-calendars.ensures.known
+    settled_few c.args.core c.requires.built.0 c.in_ok-lanes.lanes.items c.args.built.items c.requires.lawful
+    built.calendars built.value c.in_ok-lanes.ensures.value c.in_ok-lanes.ensures.known
 
 pub returns : goal.returns
 returns c = λ cs built.
-    over_as c.args.core c.close.new.self cs c.in_ok-calendars.calendars.items c.round-round.result c.deref-2.result.now
+    over_as c.args.core c.close.new.self cs c.in_ok-lanes.lanes.items c.round-round.result c.deref-2.result.now
     c.args.built.items c.deref-3.result.now c.in_ok-out.out c.of.result built c.deref-3.ensures.value
     (c.close.ensures ∙ ap (λ bs. credited_core c.args.core bs) (c.deref.ensures.value ∙ sym c.deref-3.ensures.value))
-    c.round-round.ensures (c.deref-2.ensures.value ∙ c.requires.before) c.in_ok-out.ensures.out c.in_ok-out.ensures.limits
-    c.in_ok-calendars.ensures.value c.of.ensures
+    c.round-round.ensures (c.deref-2.ensures.value ∙ c.requires.outstanding) c.in_ok-out.ensures.out c.in_ok-out.ensures.limits
+    c.in_ok-lanes.ensures.value c.of.ensures

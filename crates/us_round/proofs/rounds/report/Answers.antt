@@ -10,7 +10,7 @@ returns-clause-out c =
       c.in_ok-maps.ensures.value,
       c.in_ok-rows.ensures,
       c.deref.ensures.value,
-      c.in_ok-seats.ensures,
+      c.in_ok-pendings.ensures,
       c.config-config.ensures.value,
       c.outstanding.ensures.value,
     ) refl

@@ -1,6 +1,6 @@
 use Rattle.std.proofs.Common.{◌≡◌, ℕ, ◌+◌, ◌<◌, ◌∷◌, List, drop, length, slice_index_or, sym, ap, subst, ◌∙◌, arith}
 use Rattle.std.proofs.lemmas.List.{drop_more, drop_all}
-use Rattle.us_round.specs.Rounds.{Built, all_grants, left_of, spent_of}
+use Rattle.us_round.specs.Rounds.{Built, all_grants, uncredited, spent_of}
 use Rattle.us_round.specs.States.{Covers}
 use Rattle.us_round.proofs.StateLemmas.{left_none, spent_none, channel_covered, after_channel}
 use Rattle.us_round.proofs.cores.crediting.credit_all.Goals as goal
@@ -23,11 +23,11 @@ loop-channel-preserved c =
     let more = drop (c.loop-channel.channel-index + 1) c.args.built.now in
     let same = rest c.args.built.now c.loop-channel.channel-index c.channel-item.result c.loop-channel-test.true c.channel-item.is in
     after_channel c.channel-item.result more c.grants.result.now
-    c.loop-channel.outstanding (left_of (all_grants c.args.built.now) 0 c.args.outstanding.now)
+    c.loop-channel.outstanding (uncredited (all_grants c.args.built.now) 0 c.args.outstanding.now)
     c.loop-channel.buckets (spent_of (all_grants c.args.built.now) 0 c.args.buckets.now)
     c.credit_grants.new.outstanding c.credit_grants.new.buckets c.grants.ensures
     (subst (λ xs. Covers c.loop-channel.outstanding c.loop-channel.buckets (all_grants xs)) same c.loop-channel.invariant.0)
-    (ap (λ xs. left_of (all_grants xs) 0 c.loop-channel.outstanding) (sym same) ∙ c.loop-channel.invariant.1)
+    (ap (λ xs. uncredited (all_grants xs) 0 c.loop-channel.outstanding) (sym same) ∙ c.loop-channel.invariant.1)
     (ap (λ xs. spent_of (all_grants xs) 0 c.loop-channel.buckets) (sym same) ∙ c.loop-channel.invariant.2)
     c.credit_grants.ensures.outstanding c.credit_grants.ensures.buckets
 
@@ -35,7 +35,7 @@ pub returns-clause-outstanding : goal.returns-clause-outstanding
 returns-clause-outstanding c =
     let none = drop_all c.loop-channel.channel-index c.args.built.now (omega (arith, c.loop-channel-test.false)) in
     sym (left_none 0 c.loop-channel.outstanding)
-    ∙ ap (λ xs. left_of (all_grants xs) 0 c.loop-channel.outstanding) (sym none) ∙ c.loop-channel.invariant.1
+    ∙ ap (λ xs. uncredited (all_grants xs) 0 c.loop-channel.outstanding) (sym none) ∙ c.loop-channel.invariant.1
 
 pub returns-clause-buckets : goal.returns-clause-buckets
 returns-clause-buckets c =

@@ -3,10 +3,10 @@ use Rattle.std.specs.Prelude.{slice_get, zip}
 use Rattle.std.specs.List.{AllByRecursion}
 use Rattle.us_round.proofs.PartLemmas.{all_found}
 use Rattle.us_round.proofs.PendingLemmas.{list_found, no_list}
-use Rattle.us_round.proofs.pendings.first_seat.Goals as goal
+use Rattle.us_round.proofs.pendings.first_sid.Goals as goal
 
-pub seat_of-requires : goal.seat_of-requires
-seat_of-requires c =
+pub sid_of-requires : goal.sid_of-requires
+sid_of-requires c =
     let h = c.in-Some.ensures.lookup in
     let found = list_found (λ sids. sids.items) c.clusters.result.now c.args.flow.now.clusters c.args.turn.now.list
     c.in-Some.sids.now c.clusters.ensures.value h.3.0 h.1 in
@@ -19,7 +19,7 @@ returns-in-Some c =
     let found = list_found (λ sids. sids.items) c.clusters.result.now c.args.flow.now.clusters c.args.turn.now.list
     c.in-Some.sids.now c.clusters.ensures.value h.3.0 h.1 in
     let same = ap₂ (λ xs ys. slice_get (zip xs ys) 0) c.channels.ensures.value c.deref.ensures.value in
-    rw found (c.seat_of.ensures ∙ same)
+    rw found (c.sid_of.ensures ∙ same)
 
 pub returns-in-None : goal.returns-in-None
 returns-in-None c =

@@ -1,8 +1,8 @@
 use Rattle.std.proofs.Common.{length, inl, inr, sym, ◌∙◌}
 use Rattle.std.proofs.lemmas.Bool.{eqb-true}
 use Rattle.us_round.proofs.PendingLemmas.{no_pair}
-use Rattle.us_round.proofs.pendings.seat_of.Goals.{then-is_empty-via-then-is_empty, then-is_empty-via-else-is_empty+then-is_empty-2}
-use Rattle.us_round.proofs.pendings.seat_of.Goals as goal
+use Rattle.us_round.proofs.pendings.sid_of.Goals.{then-is_empty-via-then-is_empty, then-is_empty-via-else-is_empty+then-is_empty-2}
+use Rattle.us_round.proofs.pendings.sid_of.Goals as goal
 
 pub returns-then-is_empty : goal.returns-then-is_empty
 returns-then-is_empty c =
