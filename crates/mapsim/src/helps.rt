@@ -18,14 +18,17 @@ Example, at the top of the repository:
 Status: 0 done, 2 the words are refused, 3 what was read is refused, 4 a file or stream failed,
 5 out of memory.";
 
-/// What the help of each subcommand says.
+/// What the help of each subcommand says behind the options.
 #[derive(Drop)]
 pub struct Helps {
+    /// Of `replay`.
     pub replay: String,
+    /// Of `pipe`.
     pub pipe: String,
 }
 
 impl Helps {
+    /// All helps, which are texts of a few thousand bytes.
     pub fn new(alloc: Global) -> Result<Helps, AllocError> {
         Ok(Helps {
             replay: help_of(alloc, &REPLAY)?,
@@ -35,7 +38,7 @@ impl Helps {
 }
 
 /// What the help of a subcommand says that is its own.
-struct Own {
+struct SubcommandHelp {
     /// What it does.
     does: &'static str,
     /// Lines of faults that it refuses, before those of the configuration.
@@ -46,7 +49,7 @@ struct Own {
     streams: &'static str,
 }
 
-const REPLAY: Own = Own {
+const REPLAY: SubcommandHelp = SubcommandHelp {
     does: "Example, at the top of the repository:
   mapsim replay --config examples/plant.toml --trace examples/plant.csv --rounds 4 \\
       --maps /tmp/maps --report /tmp/report
@@ -67,7 +70,7 @@ length of the MAP body in bytes (2 bytes, big-endian), and the body.",
     streams: "  fault io NAME     the file or stream failed: config, trace, maps, report or output\n",
 };
 
-const PIPE: Own = Own {
+const PIPE: SubcommandHelp = SubcommandHelp {
     does: "Example, at the top of the repository:
   (cat examples/plant.toml; echo %%; cat examples/plant.csv) | mapsim pipe --rounds 4
 
@@ -115,6 +118,7 @@ const PLACE: Place = Place {
     index: 0,
 };
 
+/// The faults of a configuration, but for want of memory.
 const CONFIG_FAULTS: [ConfigFault; 12] = [
     ConfigFault::Text,
     ConfigFault::Missing(PLACE),
@@ -139,6 +143,7 @@ const RUN_FAULTS: [(RunFault, &str); 2] = [
     (RunFault::Workers, "the workers are not 1 to 64"),
 ];
 
+/// The faults of a trace's text.
 const TRACE_FAULTS: [TraceFault; 4] = [
     TraceFault::Header,
     TraceFault::Fields(0),
@@ -147,7 +152,7 @@ const TRACE_FAULTS: [TraceFault; 4] = [
 ];
 
 /// The help of a subcommand.
-fn help_of(alloc: Global, own: &Own) -> Result<String, AllocError> {
+fn help_of(alloc: Global, own: &SubcommandHelp) -> Result<String, AllocError> {
     let mut text = String::from_str(alloc, own.does)?;
     text.push_str(REPORT_AND_UNITS)?;
     text.push_str(own.refused)?;
@@ -194,8 +199,11 @@ fn push_trace_faults(text: &mut String) -> Result<(), AllocError> {
     Ok(())
 }
 
+/// The columns of a code and of what the fault names, without the space between.
+const PRINTED_COLUMNS: usize = 11;
+
 /// Appends a fault as it is printed, up to the column of what faults say.
 fn push_printed(text: &mut String, code: &str, named: &str) -> Result<(), AllocError> {
-    let width = 11_usize.saturating_sub(code.len());
+    let width = PRINTED_COLUMNS.saturating_sub(code.len());
     write!(text, "  fault {code} {named:<width$}")
 }

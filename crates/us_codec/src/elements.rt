@@ -63,8 +63,6 @@ impl Element {
         ensures value { result ≡ record { sid = sid; iuc = iuc; offset = offset } }
         ensures in_range { IsMapElement result }
     {
-        // Called for its clause `in_range` alone.
-        let _ = iuc.number();
         Element { sid, iuc, offset }
     }
 

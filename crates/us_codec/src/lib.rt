@@ -11,6 +11,8 @@
 //! Whoever holds a [`Map`] holds a lawful body. A caller whose own contract says that the parts are sound takes
 //! [`Element::from_fields`] and [`Map::from_parts`], which judge nothing. What is lawful stands in `specs/`, in the order
 //! of its `Lib.antt`.
+// An attribute of a function's own says what its proof needs beside: `unfolding` opens the definitions that it computes,
+// which are closed elsewhere, and `using` names lemmas.
 #![tactic(auto)]
 
 // To whom minislots are assigned, what for, and from where on.

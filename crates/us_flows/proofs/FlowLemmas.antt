@@ -45,13 +45,6 @@ numbers_within least most (boolean b) h = absurd (false≢true h)
 numbers_within least most (datetime x) h = absurd (false≢true h)
 numbers_within least most (table ms) h = absurd (false≢true h)
 
-pub first_list : (least most : ℕ) (values : List Value) (i : ℕ) (value d : Value) → i < length values → value ≡
-    get_or values i d →
-    all_items (is_number_list least most) (items_view (drop i values)) ≡ true →
-    all_items (is_number least most) (items_of (view value)) ≡ true
-first_list least most values i value d within is h =
-    numbers_within least most (view value) (next_item (is_number_list least most) values i value d within is h).0
-
 unit_number : (n : ℕ) → (n == 1 || (n == 2 || (n == 4 || (n == 8 || n == 16)))) ≡ true → IsUnit n
 unit_number n h = elim (cases_Bool (n == 1)) [
   | inl t ↦ inl (eqb-true n 1 t)

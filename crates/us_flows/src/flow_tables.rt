@@ -186,7 +186,6 @@ fn cluster_of(alloc: Global, items: &[Value]) -> Result<Vec<u16>, AllocError>
 }
 
 /// The clusters of a list of lists.
-#[tactic(auto, using(crate::proofs::FlowLemmas::first_list))]
 fn clusters_of(alloc: Global, items: &[Value]) -> Result<Vec<Vec<u16>>, AllocError>
     requires { Shapes.all_items (Shapes.is_number_list 1 max_unicast_sid) (items_view items.now) ≡ true }
     ensures { IfOk result (λ clusters.

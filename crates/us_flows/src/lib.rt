@@ -8,6 +8,8 @@
 //!
 //! Whoever holds a [`Config`] holds tables in their ranges, which fit one another. What that means, and every fault in
 //! order, stands in `specs/`, in the order of its `Lib.antt`.
+// An attribute of a function's own says what its proof needs beside: `unfolding` opens the definitions that it computes,
+// which are closed elsewhere, and `using` names lemmas.
 #![tactic(auto)]
 
 // Every refusal of this crate, and the table that it names.

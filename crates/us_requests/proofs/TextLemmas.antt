@@ -10,22 +10,6 @@ use Rattle.us_requests.specs.Records.{Record, TakesRecord}
 use Rattle.us_requests.specs.Texts.{max_records, is_header, are_numbers, request_of, record_checks, first_of, or_else, fault_from, records_fault}
 use Rattle.us_requests.specs.Readings.{AreRequests, Tells, IsFirst}
 
-pub header-read : (old left : List Record) (fields : Record) → TakesRecord old left fields true →
-    is_header fields ≡ true →
-    (left ≡ drop 1 old) × (records_fault old ≡ fault_from 2 left)
-header-read old left fields takes header = rw (takes, header) (refl, refl)
-
-pub no-records : (old left : List Record) (fields : Record) → TakesRecord old left fields false →
-    records_fault old ≡ Some fault.Header
-no-records old left fields takes = rw takes refl
-
-pub no-header : (old left : List Record) (fields : Record) → TakesRecord old left fields true →
-    is_header fields ≡ false →
-    records_fault old ≡ Some fault.Header
-no-header old left fields takes header = rw (takes, header) refl
-
-pub ruleset headings = (header-read, no-records, no-header)
-
 -- of these records, such requests were read and these records are left, the first of which has this number
 pub record IsPartRead (all : List Record) (number : ℕ) (requests : List Request) (left : List Record) : Type 0 where
   pub first : fault_from number left ≡ fault_from 2 all

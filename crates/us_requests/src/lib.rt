@@ -9,6 +9,8 @@
 //! ```
 //!
 //! What a trace says stands in `specs/`, in the order of its `Lib.antt`.
+// An attribute of a function's own says what its proof needs beside: `unfolding` opens the definitions that it computes,
+// which are closed elsewhere, and `using` names lemmas.
 #![tactic(auto)]
 
 // What is outstanding of a cluster.

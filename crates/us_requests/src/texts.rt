@@ -24,7 +24,6 @@ pub(crate) fn requests_in(alloc: Global, text: &[u8]) -> Result<Vec<Request>, Tr
 }
 
 /// Reads the header, which is record 1.
-#[tactic(auto, using(crate::proofs::TextLemmas::headings))]
 fn read_header(reader: &mut RecordReader<'_>, fields: &mut ByteRecord) -> Result<(), TraceFault>
     ensures left { OnOk result (reader.new ≡ drop 1 reader.old) }
     ensures later { OnOk result (records_fault reader.old ≡ fault_from 2 reader.new) }
