@@ -1,5 +1,5 @@
 -- The credits of a round: of any claimants, on all channels together, at most what is planned for them.
-use Rattle.std.proofs.Common.{◌≡◌, ◌≢◌, ℕ, ◌+◌, ◌≤◌, ◌<◌, ◌==◌, eq-eqb, ne_eqb, List, [], ◌∷◌, ◌++◌, map, filter, Bool, cond, Option, Some, None, refl, arith, inl, inr}
+use Rattle.std.proofs.Common.{◌≡◌, ◌≢◌, ℕ, ◌+◌, ◌≤◌, ◌==◌, eq-eqb, ne_eqb, List, [], ◌∷◌, ◌++◌, map, filter, Bool, cond, Option, Some, None, refl, arith, inl, inr}
 use Rattle.std.specs.Prelude.{sum, sum_by, option_to_list, position, slice_index, option_and_then}
 use Rattle.std.specs.List.{AllByRecursion}
 use Rattle.std.proofs.lemmas.Bool.{cases_Bool, cases_eq, cases_lt}
@@ -11,7 +11,7 @@ use Rattle.us_flows.specs.Lawful.{AreApart}
 use Rattle.us_split.proofs.ChannelShareLemmas.{channel_shares}
 use Rattle.us_split.specs.Plans.{Planned, header_bytes, share_at, share_on}
 use Rattle.us_split.specs.PlanLaws.{planned_bytes}
-use Rattle.us_split.specs.Claims.{Claimant, Claim, claimant_of, claim_at, claim_on, claims_from, claims_on}
+use Rattle.us_split.specs.Claims.{Claimant, Claim, claimant_of, claim_at, claims_from, claims_on}
 use Rattle.us_round.specs.Placements.{PlacedClaim, grants_of}
 use Rattle.us_round.specs.Rounds.{Filled, build_on, all_grants, credits}
 use Rattle.us_round.proofs.SumLemmas.{sum_passing, sum_passing_both, sum_least, sum_both, sum_none}

@@ -5,11 +5,10 @@ use Rattle.std.specs.List.{AllByRecursion}
 use Rattle.std.proofs.lemmas.List.{append-nil, nil_from_length}
 use Rattle.us_flows.specs.declared.channels.Channel.{Channel}
 use Rattle.us_flows.specs.Tables.{Tables, max_run_ticks}
-use Rattle.us_flows.specs.Clusters.{turns_of}
 use Rattle.us_flows.specs.Lawful.{AreTables}
 use Rattle.us_bucket.specs.Levels.{bytes_in}
 use Rattle.us_calendar.specs.Calendars.{Calendar, settled_in}
-use Rattle.us_split.specs.Plans.{IsIdle, plan_for, ledger_of}
+use Rattle.us_split.specs.Plans.{IsIdle, plan_for}
 use Rattle.us_split.specs.PlanLaws.{IsLawfulPlan}
 use Rattle.us_split.specs.Claims.{Claim, AreClaims, all_claims}
 use Rattle.us_round.specs.Rounds.{State, Filled, Built, begun, filled, fills_of, idle, round_plan, builds_of}

@@ -1,4 +1,4 @@
-use Rattle.std.proofs.Common.{◌+◌, ◌-◌, length, sym, subst, ◌∙◌, ap}
+use Rattle.std.proofs.Common.{◌-◌, length, sym, subst, ◌∙◌, ap}
 use Rattle.std.specs.Prelude.{option_map}
 use Rattle.us_holes.specs.Placements.{placed}
 use Rattle.us_split.specs.Claims.{Claim}
