@@ -8,14 +8,13 @@ use Rattle.us_flows.specs.Clusters.{IsTurnIn, Turn, turns_of}
 use Rattle.us_flows.specs.Lawful.{AreApart, AreTables, IsFlow}
 use Rattle.us_flows.specs.Tables.{Tables}
 use Rattle.us_flows.proofs.TurnLaws.{turns_of-turns}
-use Rattle.us_holes.specs.Boards.{Board, assign_all}
+use Rattle.us_holes.specs.Boards.{assign_all}
 use Rattle.us_split.specs.Plans.{Planned}
 use Rattle.us_split.specs.Claims.{Claim, claim_at, claim_on, claims_from}
 use Rattle.us_split.proofs.ChannelShareLemmas.{first_place, later_place}
 use Rattle.us_round.specs.Placements.{PlacedClaim, grant_of, grants_of, assignments, with_grant}
-use Rattle.us_round.specs.Rounds.{State, Filled, Built, build_on, builds_of, fills_of, round_plan}
+use Rattle.us_round.specs.Rounds.{Filled, Built, build_on, builds_of, fills_of, round_plan}
 use Rattle.us_round.specs.TurnByTurn.{ByTurnsIsByChannels, RoundsAreByTurns, place_channels, place_share, place_turns, unbuilt, with_claim_on, with_grant_on}
-use Rattle.us_round.proofs.BuildLemmas.{assign_step}
 use Rattle.us_round.proofs.PartLemmas.{all_found}
 use Rattle.us_round.proofs.SoundLemmas.{by_turns, turns_planned}
 
