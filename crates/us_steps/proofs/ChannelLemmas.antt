@@ -1,11 +1,13 @@
 -- That channels may be opened and built in any order: wherever each stands, it is the round's.
-use Rattle.std.proofs.Common.{◌≡◌, ℕ, zero, suc, true, false, ◌||◌, List, [], ◌∷◌, length, map, get_or, slice_set, Option, Some, None, refl, ap, sym, subst, ◌∙◌}
-use Rattle.std.specs.Prelude.{slice_get, option_map, option_and_then, ⊤}
+use Rattle.std.proofs.Common.{◌≡◌, ℕ, zero, suc, true, false, ◌||◌, List, [], ◌∷◌, length, map, get_or, slice_set, Option, Some, None, refl, ap, sym, subst, ◌∙◌, arith}
+use Rattle.std.specs.Prelude.{slice_get, zip, option_map, option_and_then, ⊤}
 use Rattle.us_requests.specs.declared.asks.Ask.{Ask}
-use Rattle.us_round.specs.Rounds.{State, Filled, Built, begun, fills_of, builds_of}
+use Rattle.us_round.specs.Rounds.{State, Filled, Built, begun, fill, fills_of, builds_of}
+use Rattle.us_round.proofs.FillLemmas.{calendars_long}
 use Rattle.us_steps.specs.declared.steps.Step.{Step}
 use Rattle.us_steps.specs.declared.steps.Step.TheVariants as step
 use Rattle.us_steps.specs.Machines.{Stand, Home, Out, Done, Machine, opening_machine, with_row, without_word, with_channel, placed, opened, built, is_built, any_open, after_step, are_set, is_done, run, builds_in}
+use Rattle.us_steps.specs.Laws.{EachChannelIsFilled}
 use Rattle.us_steps.proofs.TallyLemmas as step_of
 use Rattle.us_steps.proofs.TallyLemmas.{neither}
 use Rattle.us_steps.proofs.StepLemmas.{found-true, last-three}
@@ -140,3 +142,16 @@ end-channels s rows words end steps to =
 pub builds-in : (bs : List Built) → builds_in (map (λ b. Done b) bs) ≡ bs
 builds-in [] = refl
 builds-in (b ∷ bs) = ap (λ more. b ∷ more) (builds-in bs)
+
+-- as many channels are filled as have a calendar
+each-long : {X Y Z : Type 0} (f : X × Y → Z) (xs : List X) (ys : List Y) → length ys ≡ length xs →
+    length (map f (zip xs ys)) ≡ length xs
+each-long f [] [] same = refl
+each-long f [] (y ∷ ys) same = absurd (omega (arith, same))
+each-long f (x ∷ xs) [] same = absurd (omega (arith, same))
+each-long f (x ∷ xs) (y ∷ ys) same = ap (λ n. suc n) (each-long f xs ys (omega (arith, same)))
+
+pub each_channel_is_filled : EachChannelIsFilled
+each_channel_is_filled s is =
+    each-long (λ pair. fill s.tables s.round pair.0 pair.1) s.tables.channels s.calendars
+    (calendars_long s.tables s.round s.calendars (record { paces = is.paces; rounds = is.rounds }))

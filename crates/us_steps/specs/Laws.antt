@@ -6,6 +6,7 @@ use Rattle.us_requests.specs.declared.asks.Ask.{Ask}
 use Rattle.us_requests.specs.Cuts as requests
 use Rattle.us_round.specs.Rounds.{State, opening, begun, fills_of, builds_of, ended, round_of, schedule, final}
 use Rattle.us_round.specs.Outputs.{out_of}
+use Rattle.us_round.specs.States.{IsState}
 use Rattle.us_steps.specs.declared.steps.Step.{Step}
 use Rattle.us_steps.specs.declared.steps.Step.TheVariants as step
 use Rattle.us_steps.specs.Steps.{IsComplete, count, total, cut_of, left_of}
@@ -51,12 +52,15 @@ abbrev pub GoesThrough : State → List ℕ → List Ask → List Step → Optio
 GoesThrough s words rows steps None = IsComplete (length rows) (length words) (length (fills_of s)) steps → ⊥
 GoesThrough s words rows steps (Some end) = IsPlayed s words rows steps end
 
--- The theorem of the machine: through these steps it comes to the round that `play` answers. A state has as many channels
--- to fill as its tables have channels with a calendar.
+-- the theorem of the machine: through these steps it comes to the round that `play` answers
 abbrev pub MachineMakesRounds : Type 0
 MachineMakesRounds = (s : State) (words : List ℕ) (rows : List Ask) (steps : List Step) →
     AllByRecursion (λ ask. ask.cluster < length words) rows →
     GoesThrough s words rows steps (run s rows (opening_machine s words (length rows)) steps)
+
+-- where there is a calendar for each channel, as in every state that `play` takes, each channel of the tables is filled
+abbrev pub EachChannelIsFilled : Type 0
+EachChannelIsFilled = (s : State) → IsState s → length (fills_of s) ≡ length s.tables.channels
 
 -- Seats.
 

@@ -1,12 +1,17 @@
 //! Laws of the definitions of steps and plays, each as the contract of a function that does nothing.
 
-ghost use Rattle.us_steps.specs.Laws.{MachineMakesRounds, SeatsChangeNothing, PlaysAreRounds, NothingIsLost};
+ghost use Rattle.us_steps.specs.Laws.{MachineMakesRounds, EachChannelIsFilled, SeatsChangeNothing, PlaysAreRounds, NothingIsLost};
 
 /// The machine goes through complete lists of steps alone. It ends with the words and the cut that `play` tells, and each
 /// channel as the round of that cut has it, in whichever order channels were opened and built; and what the seats added
 /// and took balances.
 pub fn machine_makes_rounds()
     ensures { MachineMakesRounds }
+{}
+
+/// The channels that the machine opens and builds are all that the tables have.
+pub fn each_channel_is_filled()
+    ensures { EachChannelIsFilled }
 {}
 
 /// Whoever adds and takes, all but what is told of seats comes out the same.

@@ -24,7 +24,10 @@ mod plays;
 // Laws of steps and of rounds made by them.
 mod laws;
 
-pub use laws::{machine_makes_rounds, nothing_is_lost, plays_are_rounds, seats_change_nothing};
+pub use laws::{
+    each_channel_is_filled, machine_makes_rounds, nothing_is_lost, plays_are_rounds,
+    seats_change_nothing,
+};
 pub use plays::play;
 pub use steps::Step;
 
