@@ -1,26 +1,24 @@
-//! The base configuration, which the tests of several crates begin with. It stands here once, and no program has it.
+//! The input of the stored run, and in it the base configuration, with which the tests of several crates begin. It stands
+//! here once, and no program has it.
 //!
 //! ```
-//! let text = base(alloc)?; // one channel, and a flow of best effort
-//! let config = Config::read(alloc, text.as_bytes())?;
+//! let config = Config::read(alloc, base().as_bytes())?; // one channel, and a flow of best effort
 //! ```
 //!
 //! Its texts are answers of functions, since a long text is dear to prove with wherever it stands.
 #![tactic(auto)]
 
-use std::alloc::{AllocError, Global};
+use std::alloc::AllocError;
 
-/// The keys of the top level: rounds of 320 ticks, and a lead of 160.
-pub fn top() -> &'static str {
+/// The base configuration, the line `%%`, and a trace of one request, of 1,000 bytes at tick 0. The MAPs of the channel have
+/// 160 minislots of 64 symbols of 4 bits; the last 10 are for contention, and the others carry 4,784 bytes behind no header.
+pub fn stored_input() -> &'static str {
     "round_ticks = 320
 lead_ticks = 160
-"
-}
 
-/// A channel but for its id. Its MAPs have 160 minislots of 64 symbols of 4 bits; the last 10 are for contention, and the
-/// others carry 4,784 bytes behind no header.
-pub fn channel() -> &'static str {
-    "minislot_log2 = 1
+[[channel]]
+id = 1
+minislot_log2 = 1
 rate_log2 = 5
 ucd_count = 0
 ranging_backoff = [2, 6]
@@ -33,12 +31,9 @@ station_minislots = 4
 long = { bits = 4, preamble = 24, guard = 8, fec_t = 0, fec_k = 200, shortened = false }
 short = { bits = 4, preamble = 24, guard = 8, fec_t = 0, fec_k = 200, shortened = false, max_minislots = 10 }
 unsolicited = { bits = 4, preamble = 24, guard = 8, fec_t = 0, fec_k = 200, shortened = false }
-"
-}
 
-/// A flow of best effort without a limit, on SID 291 of channel 1.
-pub fn flow() -> &'static str {
-    "id = 1
+[[flow]]
+id = 1
 type = 2
 channels = [1]
 clusters = [[291]]
@@ -47,22 +42,29 @@ rate = 0
 burst = 3044
 unit = 4
 headers = true
+%%
+tick,channel,sid,units
+0,1,291,250
 "
 }
 
-/// The base configuration: channel 1 and the flow. The fault is want of memory.
-pub fn base(alloc: Global) -> Result<String, AllocError> {
-    let mut text = String::new(alloc);
-    put_channel(&mut text, 1)?;
-    write!(text, "\n[[flow]]\n{}", flow())?;
-    Ok(text)
+/// The base configuration: channel 1, and a flow of best effort without a limit on SID 291.
+pub fn base() -> &'static str {
+    parted(stored_input(), "%%").0
 }
 
-/// Puts a channel with this id behind a text, and the top level before it where the text is empty. The fault is want of
-/// memory.
+/// Puts a channel like that of the base configuration, but with this id, behind a text, and the keys of the top level
+/// before it where the text is empty. The fault is want of memory.
 pub fn put_channel(text: &mut String, id: u8) -> Result<(), AllocError> {
+    let (top, tables) = parted(base(), "[[channel]]\nid = 1\n");
+    let (channel, _) = parted(tables, "[[flow]]");
     if text.is_empty() {
-        text.push_str(top())?;
+        text.push_str(top)?;
     }
-    write!(text, "\n[[channel]]\nid = {id}\n{}", channel())
+    write!(text, "[[channel]]\nid = {id}\n{channel}")
+}
+
+/// What stands before a mark, and what behind it; all and nothing where it isn't there.
+fn parted(text: &'static str, mark: &str) -> (&'static str, &'static str) {
+    text.split_once(mark).unwrap_or((text, ""))
 }

@@ -7,43 +7,8 @@ use std::process::Abort;
 use std::rt::Files;
 use std::str;
 use std::thread::Threads;
+use us_samples::stored_input;
 use us_slots::{FromRead, FromWrite};
-
-/// The input of the stored run: the base configuration, and a request of 1,000 bytes at tick 0.
-pub const INPUT: &str = "\
-round_ticks = 320
-lead_ticks = 160
-
-[[channel]]
-id = 1
-minislot_log2 = 1
-rate_log2 = 5
-ucd_count = 0
-ranging_backoff = [2, 6]
-data_backoff = [3, 8]
-request_minislots = 2
-contention_minislots = 10
-maintenance_minislots = 0
-maintenance_every = 1
-station_minislots = 4
-long = { bits = 4, preamble = 24, guard = 8, fec_t = 0, fec_k = 200, shortened = false }
-short = { bits = 4, preamble = 24, guard = 8, fec_t = 0, fec_k = 200, shortened = false, max_minislots = 10 }
-unsolicited = { bits = 4, preamble = 24, guard = 8, fec_t = 0, fec_k = 200, shortened = false }
-
-[[flow]]
-id = 1
-type = 2
-channels = [1]
-clusters = [[291]]
-priority = 0
-rate = 0
-burst = 3044
-unit = 4
-headers = true
-%%
-tick,channel,sid,units
-0,1,291,250
-";
 
 /// What the stored run prints.
 pub const OUTPUT: &str = "\
@@ -66,7 +31,8 @@ pub struct Setting<'a> {
     pub name: &'a str,
     /// The words, the program's name first.
     pub words: &'a [&'a str],
-    pub input: &'a str,
+    /// The text of the input; none is that of the stored run.
+    pub input: Option<&'a str>,
     /// Whether the input fails behind its text, and doesn't end.
     pub input_fails: bool,
     pub output: Limits,
@@ -95,7 +61,7 @@ pub const WIDE: Limits = Limits {
 pub const STORED: Setting<'static> = Setting {
     name: "stored run",
     words: &["mapsim"],
-    input: INPUT,
+    input: None,
     input_fails: false,
     output: WIDE,
     errors: WIDE,
@@ -177,7 +143,7 @@ fn tell(
     let mut output = NarrowWriter::new(rt.alloc(), setting.output);
     let mut errors = NarrowWriter::new(rt.alloc(), setting.errors);
     let input = Tape {
-        left: setting.input.as_bytes(),
+        left: setting.input.unwrap_or(stored_input()).as_bytes(),
         fails: setting.input_fails,
     };
     let status = run(

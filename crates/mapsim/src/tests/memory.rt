@@ -1,5 +1,6 @@
-use super::base::{INPUT, OUTPUT};
+use super::base::OUTPUT;
 use crate::programs::run;
+use us_samples::stored_input;
 use us_slots::{FromRead, FromWrite};
 
 /// Run by `tools/refuse-memory` too, where each allocation is refused in turn. A refused one is answered as
@@ -11,7 +12,7 @@ fn refused_memory(rt: HostRuntime) {
     let status = run(
         &rt,
         &["mapsim"],
-        &mut FromRead::new(INPUT.as_bytes()),
+        &mut FromRead::new(stored_input().as_bytes()),
         &mut FromWrite::new(&mut output[..]),
         &mut errors[..],
     );

@@ -15,12 +15,12 @@ fn each_status(rt: HostRuntime) {
             },
             Setting {
                 name: "refused",
-                input: "",
+                input: Some(""),
                 ..STORED
             },
             Setting {
                 name: "device failed",
-                input: "",
+                input: Some(""),
                 input_fails: true,
                 ..STORED
             },
@@ -51,7 +51,7 @@ fn devices_that_fail(rt: HostRuntime) {
         &[
             Setting {
                 name: "within the mark",
-                input: "%",
+                input: Some("%"),
                 input_fails: true,
                 ..STORED
             },
@@ -110,7 +110,7 @@ fn devices_that_fail(rt: HostRuntime) {
             Setting {
                 name: "errors of a refusal",
                 words: &["mapsim", "pipe"],
-                input: "",
+                input: Some(""),
                 errors: Limits {
                     room: 3,
                     fails: false,

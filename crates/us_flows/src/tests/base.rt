@@ -3,38 +3,6 @@ use crate::{Config, ConfigFault};
 use std::alloc::Global;
 use std::test::Fail;
 
-/// The base configuration: one channel and one flow of best effort.
-const BASE: &str = r#"round_ticks = 320
-lead_ticks = 160
-
-[[channel]]
-id = 1
-minislot_log2 = 1
-rate_log2 = 5
-ucd_count = 0
-ranging_backoff = [2, 6]
-data_backoff = [3, 8]
-request_minislots = 2
-contention_minislots = 10
-maintenance_minislots = 0
-maintenance_every = 1
-station_minislots = 4
-long = { bits = 4, preamble = 24, guard = 8, fec_t = 0, fec_k = 200, shortened = false }
-short = { bits = 4, preamble = 24, guard = 8, fec_t = 0, fec_k = 200, shortened = false, max_minislots = 10 }
-unsolicited = { bits = 4, preamble = 24, guard = 8, fec_t = 0, fec_k = 200, shortened = false }
-
-[[flow]]
-id = 1
-type = 2
-channels = [1]
-clusters = [[291]]
-priority = 0
-rate = 0
-burst = 3044
-unit = 4
-headers = true
-"#;
-
 /// A configuration of two channels, a flow of each type and two stations. No line but a header is there twice, so that
 /// a change names its place by the line. The MAPs of the channels have 320 and 160 minislots.
 const BIG: &str = r#"round_ticks = 640
@@ -139,12 +107,7 @@ interval_us = 50000
 jitter_us = 1000
 "#;
 
-/// The base configuration. It is held here alone, since a long text is dear to prove with wherever it stands.
-pub fn base() -> &'static str {
-    BASE
-}
-
-/// The larger configuration, likewise.
+/// The larger configuration. It is held here alone, since a long text is dear to prove with wherever it stands.
 pub fn big() -> &'static str {
     BIG
 }

@@ -1,7 +1,8 @@
-use super::base::{Asked, NO_FLOWS, base, big, check};
+use super::base::{Asked, NO_FLOWS, big, check};
 use crate::Config;
 use std::alloc::AllocError;
 use std::test::Fail;
+use us_samples::base;
 
 /// Writes how many clusters there are, and all that SIDs ask for on some channels: the channel, the SID and the answer.
 pub fn tell_sids(out: &mut String, config: &Config) -> Result<(), AllocError> {

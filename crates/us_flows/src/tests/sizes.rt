@@ -1,7 +1,8 @@
-use super::base::{Asked, base, check, same, tell};
+use super::base::{Asked, check, same, tell};
 use crate::MAX_CONFIG_BYTES;
 use std::alloc::Global;
 use std::test::Fail;
+use us_samples::base;
 
 /// Writes a configuration of so many channels, flows and stations, each with ids from 1 on. The flows are on channel 1,
 /// with their ids as SIDs.

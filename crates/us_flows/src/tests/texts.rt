@@ -1,8 +1,9 @@
-use super::base::{Asked, base, same, tell};
+use super::base::{Asked, same, tell};
 use crate::faults::TOP;
 use crate::{ConfigFault, Place, TableName};
 use std::alloc::{AllocError, Global};
 use std::test::Fail;
+use us_samples::base;
 
 /// Texts that no change makes: with other ends of lines, without a byte, and with bytes that are no text.
 #[test]

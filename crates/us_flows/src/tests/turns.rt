@@ -1,7 +1,8 @@
-use super::base::{Asked, NO_FLOWS, base, big, check};
+use super::base::{Asked, NO_FLOWS, big, check};
 use crate::Config;
 use std::alloc::AllocError;
 use std::test::Fail;
+use us_samples::base;
 
 /// Writes the turns of a round, each as the places of its flow and of its cluster in it, with the cluster's number:
 /// `2.0.1`.

@@ -10,27 +10,12 @@ use us_crew::Gate;
 use us_flows::Config;
 use us_intake::{Intake, Seat};
 use us_round::RoundOut;
+use us_samples::put_channel;
 
 /// The one comparison of these tests.
 pub(super) fn same(rt: &impl Abort, name: &str, found: &str, wanted: &str) {
     assert_eq!(rt; found, wanted, "{name}");
 }
-
-/// A channel but for its id. Its MAPs have 160 minislots; the last 10 are for contention.
-const CHANNEL: &str = "minislot_log2 = 1
-rate_log2 = 5
-ucd_count = 0
-ranging_backoff = [2, 6]
-data_backoff = [3, 8]
-request_minislots = 2
-contention_minislots = 10
-maintenance_minislots = 0
-maintenance_every = 1
-station_minislots = 4
-long = { bits = 4, preamble = 24, guard = 8, fec_t = 0, fec_k = 200, shortened = false }
-short = { bits = 4, preamble = 24, guard = 8, fec_t = 0, fec_k = 200, shortened = false, max_minislots = 10 }
-unsolicited = { bits = 4, preamble = 24, guard = 8, fec_t = 0, fec_k = 200, shortened = false }
-";
 
 /// One flow, of one channel or of two.
 pub(super) const ONE: &str = "channels = [1]\nclusters = [[291]]";
@@ -60,10 +45,9 @@ pub(super) fn open(
 
 fn text_of(alloc: Global, flow: &str) -> Result<String, AllocError> {
     let mut text = String::new(alloc);
-    text.push_str("round_ticks = 320\nlead_ticks = 160\n")?;
-    let channels = if flow == TWO { 2_u8 } else { 1 };
+    let channels = if flow == TWO { 2 } else { 1 };
     for id in 1..=channels {
-        write!(text, "[[channel]]\nid = {id}\n{CHANNEL}")?;
+        put_channel(&mut text, id)?;
     }
     if flow != NONE {
         write!(

@@ -2,38 +2,7 @@ use std::alloc::Global;
 use std::fmt::Debug;
 use std::process::Abort;
 use us_flows::{Config, ConfigFault};
-
-/// The base configuration of the formats: one channel of 160 minislots, one best-effort flow with SID 291.
-const BASE: &str = "round_ticks = 320
-lead_ticks = 160
-
-[[channel]]
-id = 1
-minislot_log2 = 1
-rate_log2 = 5
-ucd_count = 0
-ranging_backoff = [2, 6]
-data_backoff = [3, 8]
-request_minislots = 2
-contention_minislots = 10
-maintenance_minislots = 0
-maintenance_every = 1
-station_minislots = 4
-long = { bits = 4, preamble = 24, guard = 8, fec_t = 0, fec_k = 200, shortened = false }
-short = { bits = 4, preamble = 24, guard = 8, fec_t = 0, fec_k = 200, shortened = false, max_minislots = 10 }
-unsolicited = { bits = 4, preamble = 24, guard = 8, fec_t = 0, fec_k = 200, shortened = false }
-
-[[flow]]
-id = 1
-type = 2
-channels = [1]
-clusters = [[291]]
-priority = 0
-rate = 0
-burst = 3044
-unit = 4
-headers = true
-";
+use us_samples::{self as samples, put_channel};
 
 /// The trace of the stored run, which has 2 rounds.
 pub(super) const TRACE: &[u8] = b"tick,channel,sid,units\n0,1,291,250\n";
@@ -48,42 +17,8 @@ pub(super) const MAPS: &[u8] =
 /// Its report: no line of round 0, and one of round 1.
 pub(super) const REPORT: &[u8] = b"G,1,1,req,1,0,0,291,10,0,32,1000\nF,1,0,0,-\nU,0,0,0\n";
 
-/// Two channels as the base's, a flow with two clusters bonded over both, and an unsolicited grant on the second.
-const BONDED: &str = "round_ticks = 320
-lead_ticks = 160
-
-[[channel]]
-id = 1
-minislot_log2 = 1
-rate_log2 = 5
-ucd_count = 0
-ranging_backoff = [2, 6]
-data_backoff = [3, 8]
-request_minislots = 2
-contention_minislots = 10
-maintenance_minislots = 0
-maintenance_every = 1
-station_minislots = 4
-long = { bits = 4, preamble = 24, guard = 8, fec_t = 0, fec_k = 200, shortened = false }
-short = { bits = 4, preamble = 24, guard = 8, fec_t = 0, fec_k = 200, shortened = false, max_minislots = 10 }
-unsolicited = { bits = 4, preamble = 24, guard = 8, fec_t = 0, fec_k = 200, shortened = false }
-
-[[channel]]
-id = 2
-minislot_log2 = 1
-rate_log2 = 5
-ucd_count = 0
-ranging_backoff = [2, 6]
-data_backoff = [3, 8]
-request_minislots = 2
-contention_minislots = 10
-maintenance_minislots = 0
-maintenance_every = 1
-station_minislots = 4
-long = { bits = 4, preamble = 24, guard = 8, fec_t = 0, fec_k = 200, shortened = false }
-short = { bits = 4, preamble = 24, guard = 8, fec_t = 0, fec_k = 200, shortened = false, max_minislots = 10 }
-unsolicited = { bits = 4, preamble = 24, guard = 8, fec_t = 0, fec_k = 200, shortened = false }
-
+/// The flows of the bonded run: one with two clusters bonded over channels 1 and 2, and an unsolicited grant on the second.
+const BONDED_FLOWS: &str = "
 [[flow]]
 id = 1
 type = 2
@@ -133,11 +68,15 @@ U,0,0,0
 ";
 
 pub(super) fn base(alloc: Global) -> Result<Config, ConfigFault> {
-    Config::read(alloc, BASE.as_bytes())
+    Config::read(alloc, samples::base().as_bytes())
 }
 
 pub(super) fn bonded(alloc: Global) -> Result<Config, ConfigFault> {
-    Config::read(alloc, BONDED.as_bytes())
+    let mut text = String::new(alloc);
+    put_channel(&mut text, 1)?;
+    put_channel(&mut text, 2)?;
+    text.push_str(BONDED_FLOWS)?;
+    Config::read(alloc, text.as_bytes())
 }
 
 /// The one assertion of these tests, since each costs the proof of the function that it stands in. `place` says where

@@ -9,29 +9,13 @@ use us_codec::Map;
 use us_crew::{Gate, OpenGate};
 use us_flows::{Config, ConfigFault};
 use us_requests::ClusterState;
+use us_samples::put_channel;
 use us_slots::NoMemory;
 
 /// The one comparison of these tests.
 pub(super) fn same(rt: &impl Abort, name: &str, found: &str, wanted: &str) {
     assert_eq!(rt; found, wanted, "{name}");
 }
-
-/// A channel but for its id. Its MAPs have 160 minislots of 64 symbols of 4 bits; the last 10 are for contention, and
-/// the others carry 4,784 bytes.
-const CHANNEL: &str = "minislot_log2 = 1
-rate_log2 = 5
-ucd_count = 0
-ranging_backoff = [2, 6]
-data_backoff = [3, 8]
-request_minislots = 2
-contention_minislots = 10
-maintenance_minislots = 0
-maintenance_every = 1
-station_minislots = 4
-long = { bits = 4, preamble = 24, guard = 8, fec_t = 0, fec_k = 200, shortened = false }
-short = { bits = 4, preamble = 24, guard = 8, fec_t = 0, fec_k = 200, shortened = false, max_minislots = 10 }
-unsolicited = { bits = 4, preamble = 24, guard = 8, fec_t = 0, fec_k = 200, shortened = false }
-";
 
 /// A run, in which clusters ask for bytes in round 1 only.
 #[derive(Clone, Copy)]
@@ -97,9 +81,8 @@ pub(super) fn config_of(alloc: Global, case: &Case<'_>) -> Result<Config, Config
 
 fn text_of(alloc: Global, case: &Case<'_>) -> Result<String, AllocError> {
     let mut text = String::new(alloc);
-    text.push_str("round_ticks = 320\nlead_ticks = 160\n")?;
     for id in 1..=case.channels {
-        write!(text, "[[channel]]\nid = {id}\n{CHANNEL}")?;
+        put_channel(&mut text, id)?;
     }
     write!(text, "[[flow]]\nid = 1\n{}\n", case.flow)?;
     for id in 2..=case.flows {

@@ -5,28 +5,13 @@ use crate::{Claim, Plan, plan};
 use std::alloc::{AllocError, Global};
 use std::process::Abort;
 use us_flows::Config;
+use us_samples::put_channel;
 use us_slots::NoMemory;
 
 /// The one assertion of these tests, since each costs the proof of the function that it stands in.
 pub fn same(rt: &impl Abort, found: &str, wanted: &str, place: &str) {
     assert_eq!(rt; found, wanted, "{place}");
 }
-
-/// A channel but for its id. Its MAPs have 160 minislots of 64 symbols of 4 bits; 150 of them carry 4,784 bytes.
-const CHANNEL: &str = "minislot_log2 = 1
-rate_log2 = 5
-ucd_count = 0
-ranging_backoff = [2, 6]
-data_backoff = [3, 8]
-request_minislots = 2
-contention_minislots = 10
-maintenance_minislots = 0
-maintenance_every = 1
-station_minislots = 4
-long = { bits = 4, preamble = 24, guard = 8, fec_t = 0, fec_k = 200, shortened = false }
-short = { bits = 4, preamble = 24, guard = 8, fec_t = 0, fec_k = 200, shortened = false, max_minislots = 10 }
-unsolicited = { bits = 4, preamble = 24, guard = 8, fec_t = 0, fec_k = 200, shortened = false }
-";
 
 /// What flows of best effort have in common.
 const FLOW: &str = "type = 2
@@ -53,9 +38,8 @@ pub struct Case<'a> {
 /// The configuration of a case, as text.
 fn text_of(alloc: Global, case: &Case<'_>) -> Result<String, AllocError> {
     let mut text = String::new(alloc);
-    text.push_str("round_ticks = 320\nlead_ticks = 160\n")?;
     for id in 1..=case.channels {
-        write!(text, "[[channel]]\nid = {id}\n{CHANNEL}")?;
+        put_channel(&mut text, id)?;
     }
     for flow in case.flows {
         write!(text, "[[flow]]\n{flow}\n{FLOW}")?;

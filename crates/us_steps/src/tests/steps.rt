@@ -5,38 +5,8 @@ use std::test::Fail;
 use us_flows::Config;
 use us_requests::Ask;
 use us_round::{RoundFault, RoundOut, State};
+use us_samples::base;
 use us_slots::NoMemory;
-
-/// One channel, whose MAPs have 160 minislots of 64 symbols of 4 bits, the last 10 for contention; and one flow of one
-/// cluster without limit.
-const TEXT: &str = "round_ticks = 320
-lead_ticks = 160
-[[channel]]
-id = 1
-minislot_log2 = 1
-rate_log2 = 5
-ucd_count = 0
-ranging_backoff = [2, 6]
-data_backoff = [3, 8]
-request_minislots = 2
-contention_minislots = 10
-maintenance_minislots = 0
-maintenance_every = 1
-station_minislots = 4
-long = { bits = 4, preamble = 24, guard = 8, fec_t = 0, fec_k = 200, shortened = false }
-short = { bits = 4, preamble = 24, guard = 8, fec_t = 0, fec_k = 200, shortened = false, max_minislots = 10 }
-unsolicited = { bits = 4, preamble = 24, guard = 8, fec_t = 0, fec_k = 200, shortened = false }
-[[flow]]
-id = 1
-type = 2
-channels = [1]
-clusters = [[291]]
-priority = 0
-rate = 0
-burst = 3044
-unit = 4
-headers = true
-";
 
 const TAKE: Step = Step::Take { word: 0, seat: 0 };
 
@@ -57,10 +27,10 @@ const fn add(row: usize) -> Step {
     Step::Add { row, seat: 0 }
 }
 
-/// What the first round comes to by these steps, with rows of 500 and 700 bytes.
+/// What the first round of the base configuration comes to by these steps, with rows of 500 and 700 bytes.
 fn answer_of(alloc: Global, steps: &[Step]) -> Result<String, AllocError> {
     let mut answer = String::new(alloc);
-    match Config::read(alloc, TEXT.as_bytes()) {
+    match Config::read(alloc, base().as_bytes()) {
         Ok(config) => {
             if let Err(fault) = tell_first(alloc, &mut answer, config, steps) {
                 write!(answer, "{fault}")?;
