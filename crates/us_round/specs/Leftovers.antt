@@ -1,5 +1,5 @@
 -- How a round tells who is pending, by the outstanding bytes before and after its grants; and what its boards keep.
-use Rattle.std.specs.Prelude.{◌≡◌, ℕ, Bool, not, ◌+◌, ◌<◌, ◌≤◌, nat_lt, ◌==◌, ◌&&◌, if◌then◌else◌, List, length, slice_get, slice_index, Option, None, IfSome, option_and_then}
+use Rattle.std.specs.Prelude.{◌≡◌, ℕ, ◌+◌, ◌<◌, ◌≤◌, nat_lt, ◌==◌, ◌&&◌, if◌then◌else◌, List, ◌++◌, length, take, drop, slice_get, slice_index, Option, None, IfSome, option_and_then}
 use Rattle.std.specs.List.{AllByRecursion}
 use Rattle.us_flows.specs.Tables.{Tables, map_len}
 use Rattle.us_flows.specs.Turns.{turn_at}
@@ -8,8 +8,7 @@ use Rattle.us_flows.specs.declared.turns.Turn as places
 use Rattle.us_flows.specs.Lawful.{IsChannel}
 use Rattle.us_calendar.specs.Calendars as calendars
 use Rattle.us_round.specs.Placements.{PlacedClaim}
-use Rattle.us_calendar.specs.declared.settled.Settled.{Settled}
-use Rattle.us_round.specs.Outputs.{start_of, is_granted}
+use Rattle.us_round.specs.Outputs.{start_of, by_start}
 use Rattle.us_round.specs.declared.rows.Row.{Row}
 use Rattle.us_round.specs.Rounds.{Built, first_sid}
 
@@ -42,6 +41,9 @@ abbrev pub IsUpTo : ℕ → ℕ → List Row → Type 0
 IsUpTo start place lines =
     (before : ℕ) → place ≡ before + 1 → IfSome (slice_get lines before) (λ line. start_of line ≤ start)
 
--- what a calendar granted, or what it missed
-abbrev pub is_granted_as : Bool → Settled → Bool
-is_granted_as granted s = if granted then is_granted s else not (is_granted s)
+-- Among the lines from a place on, which stand by where they start, more were put in; those before the place stay.
+pub record ArePutIn (from : ℕ) (more old new : List Row) : Type 0 where
+  pub place : from ≤ length new
+  pub front : take from new ≡ take from old
+  pub order : (len : ℕ) (lines : List Row) → AllByRecursion (λ line. start_of line < len) more →
+      drop from old ≡ by_start len lines → drop from new ≡ by_start len (lines ++ more)
