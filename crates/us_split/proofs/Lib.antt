@@ -1,6 +1,6 @@
 pub mod DivisionLemmas
 pub mod ChannelPlanLemmas
-pub mod DraftLemmas
+pub mod PartialPlanLemmas
 pub mod TurnAtLemmas
 pub mod ShareLemmas
 pub mod PlanLawLemmas

@@ -96,34 +96,34 @@ with_turn place planned c = record {
 }
 
 -- a plan in the making: its channels, and what turns still are allowed
-pub record Draft : Type 0 where
+pub record PartialPlan : Type 0 where
   pub channels : List ChannelPlan
   pub allowances : List (Option ℕ)
 
 -- before the first turn
-abbrev pub idle_draft : Tables → List (Option ℕ) → List ℕ → Draft
-idle_draft t allowances idle = record {
+abbrev pub idle_plan : Tables → List (Option ℕ) → List ℕ → PartialPlan
+idle_plan t allowances idle = record {
   channels = map (λ pair. record { channel = pair.0; slots = pair.1; claims = [] }) (zip t.channels idle);
   allowances = allowances;
 }
 
 -- what turns still may plan with
-abbrev pub ledger_in : Draft → Ledger
-ledger_in draft = record { budgets = map budget_in draft.channels; allowances = draft.allowances }
+abbrev pub ledger_in : PartialPlan → Ledger
+ledger_in partial = record { budgets = map budget_in partial.channels; allowances = partial.allowances }
 
 -- after a planned turn
-unfoldable pub drafted : ℕ → Planned → Draft → Draft
-drafted place planned draft = record {
-  channels = map (with_turn place planned) draft.channels;
-  allowances = allowed_less planned draft.allowances;
+unfoldable pub planned_further : ℕ → Planned → PartialPlan → PartialPlan
+planned_further place planned partial = record {
+  channels = map (with_turn place planned) partial.channels;
+  allowances = allowed_less planned partial.allowances;
 }
 
 -- a turn with the shares that such a plan gives it
-abbrev pub planned_in : List ℕ → Draft → Turn → Planned
-planned_in outstanding draft turn = record { turn = turn; shares = shares_of outstanding (ledger_in draft) turn }
+abbrev pub planned_in : List ℕ → PartialPlan → Turn → Planned
+planned_in outstanding partial turn = record { turn = turn; shares = shares_of outstanding (ledger_in partial) turn }
 
 -- after all turns, of which the first has this place
-unfoldable pub drafted_all : List ℕ → ℕ → Draft → List Turn → Draft
-drafted_all outstanding place draft [] = draft
-drafted_all outstanding place draft (turn ∷ turns) =
-    drafted_all outstanding (place + 1) (drafted place (planned_in outstanding draft turn) draft) turns
+unfoldable pub planned_through : List ℕ → ℕ → PartialPlan → List Turn → PartialPlan
+planned_through outstanding place partial [] = partial
+planned_through outstanding place partial (turn ∷ turns) =
+    planned_through outstanding (place + 1) (planned_further place (planned_in outstanding partial turn) partial) turns

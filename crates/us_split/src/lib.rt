@@ -22,7 +22,7 @@ mod channel_plans;
 mod shares;
 
 // What is planned on all channels: while it is made,
-mod drafts;
+mod partial_plans;
 
 // and in the end.
 mod plans;

@@ -5,7 +5,7 @@ ghost use Rattle.us_split.specs.Plans.{IsIdle, plan_for};
 ghost use Rattle.us_split.specs.Claims.{AreClaims, all_claims, share_of};
 ghost use Rattle.us_split.specs.PlanLaws.{IsLawfulPlan};
 
-use crate::drafts::Draft;
+use crate::partial_plans::PartialPlan;
 use crate::plans::Plan;
 use std::alloc::Global;
 use us_flows::Config;
@@ -81,13 +81,13 @@ pub fn plan_with(
     ensures lawful { AreTables config.now }
 {
     let turns = config.turns();
-    let mut draft = Draft::new(alloc, config, allowances, idle)?;
+    let mut partial = PartialPlan::new(alloc, config, allowances, idle)?;
     for (place, turn) in turns.iter().enumerate() {
         let bytes = outstanding[turn.cluster];
         if bytes == 0 {
             continue;
         }
-        draft.grant(place as u16, turn, &config.flows()[turn.flow], bytes)?;
+        partial.grant(place as u16, turn, &config.flows()[turn.flow], bytes)?;
     }
-    Ok(draft.into_plan())
+    Ok(partial.into_plan())
 }

@@ -47,7 +47,7 @@ pub record IsPlayed (s : State) (words : List ℕ) (rows : List Ask) (steps : Li
   pub round : ended (begun s end.cut) (builds_in end.channels) ≡ round_of s (cut_of words rows steps)
   pub seats : (seats : List ℕ) → AllByRecursion (IsSeated seats) steps → (q : ℕ) → Balances words rows seats end q
 
--- it goes through no list that isn't complete, and stops in no other
+-- it goes through complete lists, and through no others
 abbrev pub GoesThrough : State → List ℕ → List Ask → List Step → Option Machine → Type 0
 GoesThrough s words rows steps None = IsComplete (length rows) (length words) (length (fills_of s)) steps → ⊥
 GoesThrough s words rows steps (Some end) = IsPlayed s words rows steps end

@@ -5,8 +5,9 @@
 //! // two rows are added, the word of their cluster is taken, and the one channel is given to a worker and built
 //! let add = |row| Step::Add { row, seat: 0 };
 //! let steps = [add(1), add(0), Step::Take { word: 0, seat: 0 }, Step::Open { channel: 0 }, Step::Built { channel: 0 }];
-//! let played = play(alloc, state, &words, &rows, &steps)?; // None if something were missing, or done twice
-//! let (state, words, out) = played?; // the next round's state, what is left in the words, MAPs and lines
+//! // None if something were missing, or done twice; else the state that the next round starts from, what is left in the
+//! // words, and what the round gives
+//! let played = play(alloc, state, &words, &rows, &steps)?;
 //! ```
 //!
 //! What these words mean stands in `specs/`, in the order of its `Lib.antt`.
@@ -15,7 +16,7 @@
 // The steps that a round is made of.
 mod steps;
 
-// What stands after each step.
+// What the code keeps of the machine: what stands after each step.
 mod tallies;
 
 // The round that a list of steps makes.

@@ -7,10 +7,10 @@ use Rattle.us_flows.specs.Lawful.{AreApart}
 use Rattle.us_flows.specs.declared.turns.Turn as places
 use Rattle.us_split.specs.Plans.{Planned}
 use Rattle.us_split.specs.Claims.{share_of}
-use Rattle.us_split.specs.Grants.{IsTurnOf, Draft, drafted, drafted_all, ledger_in, planned_in}
+use Rattle.us_split.specs.Grants.{IsTurnOf, PartialPlan, planned_further, planned_through, ledger_in, planned_in}
 use Rattle.us_split.proofs.ChannelPlanLemmas.{ids, idle_apart}
 use Rattle.us_split.proofs.ClaimLemmas.{plan_for-claims, share_of-plan}
-use Rattle.us_split.proofs.DraftLemmas.{claims_of_plan, drafted_apart, drafted_flows, drafted_more, nothing_drafted}
+use Rattle.us_split.proofs.PartialPlanLemmas.{claims_of_plan, planned_further_apart, planned_further_flows, planned_further_more, nothing_planned_further}
 use Rattle.us_split.proofs.PlanLawLemmas.{shares_of-asked}
 use Rattle.us_split.proofs.TurnAtLemmas.{turn_of, no_turns, few_channels, channels_apart, place_small, turn_small}
 use Rattle.us_split.proofs.planning.plan_with.Goals as goal
@@ -20,10 +20,10 @@ blank = record { flow = 0; list = 0; cluster = 0 }
 
 pub loop-place-init : goal.loop-place-init
 loop-place-init c = record {
-  drafted = ap (λ d. drafted_all c.args.outstanding.now 0 d (turns_of c.args.config.now)) c.in_ok-draft.ensures;
-  apart = subst (λ d. AreApart (ids d.channels)) (sym c.in_ok-draft.ensures)
+  planned_further = ap (λ d. planned_through c.args.outstanding.now 0 d (turns_of c.args.config.now)) c.in_ok-partial.ensures;
+  apart = subst (λ d. AreApart (ids d.channels)) (sym c.in_ok-partial.ensures)
       (idle_apart c.args.config.now c.args.idle.now c.turns-turns.ensures.lawful c.requires.idle);
-  flows = ap (λ d. length d.allowances) c.in_ok-draft.ensures;
+  flows = ap (λ d. length d.allowances) c.in_ok-partial.ensures;
 }
 
 -- a cluster of which nothing is outstanding gets nothing
@@ -31,16 +31,16 @@ pub loop-place-preserved-then-bytes-eq0 : goal.loop-place-preserved-then-bytes-e
 loop-place-preserved-then-bytes-eq0 c =
     let t = c.args.config.now in
     let place : ℕ = c.loop-place.place in
-    let draft : Draft = c.loop-place.draft in
+    let partial : PartialPlan = c.loop-place.partial in
     let at = turn_of c.args.config.now c.turns-turns.result.now c.loop-place.place blank c.turns-turns.ensures.value c.loop-place-test.true in
-    let planned : Planned = planned_in c.args.outstanding.now draft at.turn in
+    let planned : Planned = planned_in c.args.outstanding.now partial at.turn in
     let asked = ap (slice_index c.args.outstanding.now) at.number in
-    let none : sum planned.shares ≡ 0 = omega (arith, shares_of-asked c.args.outstanding.now (ledger_in draft) at.turn, asked, c.if-bytes-eq0.true) in
+    let none : sum planned.shares ≡ 0 = omega (arith, shares_of-asked c.args.outstanding.now (ledger_in partial) at.turn, asked, c.if-bytes-eq0.true) in
     record {
-      drafted = drafted_more c.args.outstanding.now place draft draft at.turn (drop (place + 1) (turns_of t))
-          (nothing_drafted place planned draft none) ∙
-          ap (λ rest. drafted_all c.args.outstanding.now place draft rest) (sym at.rest) ∙
-          c.loop-place.invariant.drafted;
+      planned_further = planned_further_more c.args.outstanding.now place partial partial at.turn (drop (place + 1) (turns_of t))
+          (nothing_planned_further place planned partial none) ∙
+          ap (λ rest. planned_through c.args.outstanding.now place partial rest) (sym at.rest) ∙
+          c.loop-place.invariant.planned_further;
       apart = c.loop-place.invariant.apart;
       flows = c.loop-place.invariant.flows;
     }
@@ -90,34 +90,34 @@ pub loop-place-preserved : goal.loop-place-preserved
 loop-place-preserved c =
     let t = c.args.config.now in
     let place : ℕ = c.loop-place.place in
-    let draft : Draft = c.loop-place.draft in
-    let next : Draft = c.grant.new.self in
+    let partial : PartialPlan = c.loop-place.partial in
+    let next : PartialPlan = c.grant.new.self in
     let u : places.Turn = get_or c.turns-turns.result.now place blank in
     let at = turn_of c.args.config.now c.turns-turns.result.now c.loop-place.place blank c.turns-turns.ensures.value c.loop-place-test.true in
-    let planned : Planned = planned_in c.args.outstanding.now draft at.turn in
+    let planned : Planned = planned_in c.args.outstanding.now partial at.turn in
     let flow = c.index-flows-turn.is ∙ ap (λ flows. get_or flows u.flow c.index-flows-turn.result) c.flows.ensures.value in
     let own = subst (λ f. IsTurnOf u f at.turn) (sym flow) (at.own c.index-flows-turn.result) in
     let asked = ap (slice_index c.args.outstanding.now) own.number in
-    let is : next ≡ drafted place planned draft = c.in_ok-grant.ensures at.turn c.args.outstanding.now own asked in
+    let is : next ≡ planned_further place planned partial = c.in_ok-grant.ensures at.turn c.args.outstanding.now own asked in
     record {
-      drafted = drafted_more c.args.outstanding.now place draft next at.turn (drop (place + 1) (turns_of t)) is ∙
-          ap (λ rest. drafted_all c.args.outstanding.now place draft rest) (sym at.rest) ∙
-          c.loop-place.invariant.drafted;
-      apart = drafted_apart place planned draft next is c.loop-place.invariant.apart;
-      flows = drafted_flows place planned draft next is ∙ c.loop-place.invariant.flows;
+      planned_further = planned_further_more c.args.outstanding.now place partial next at.turn (drop (place + 1) (turns_of t)) is ∙
+          ap (λ rest. planned_through c.args.outstanding.now place partial rest) (sym at.rest) ∙
+          c.loop-place.invariant.planned_further;
+      apart = planned_further_apart place planned partial next is c.loop-place.invariant.apart;
+      flows = planned_further_flows place planned partial next is ∙ c.loop-place.invariant.flows;
     }
 
 pub returns-clause-value : goal.returns-clause-value
-unfolding drafted_all
+unfolding planned_through
 returns-clause-value c =
     let t = c.args.config.now in
     let place : ℕ = c.loop-place.place in
-    let draft : Draft = c.loop-place.draft in
+    let partial : PartialPlan = c.loop-place.partial in
     let past = no_turns t c.turns-turns.result.now place c.turns-turns.ensures.value c.loop-place-test.false in
     c.into_plan.ensures ∙
     ap (λ d. map (λ x. x.claims) d.channels)
-    (ap (λ rest. drafted_all c.args.outstanding.now place draft rest) (sym (drop_all place (turns_of t) past)) ∙
-    c.loop-place.invariant.drafted) ∙
+    (ap (λ rest. planned_through c.args.outstanding.now place partial rest) (sym (drop_all place (turns_of t) past)) ∙
+    c.loop-place.invariant.planned_further) ∙
     claims_of_plan t c.args.outstanding.now c.args.allowances.items c.args.idle.now c.requires.idle.one_each
 
 pub returns-clause-shares : goal.returns-clause-shares
@@ -126,8 +126,8 @@ returns-clause-shares c = λ turn position.
     share_of-plan c.args.config.now c.args.outstanding.now c.args.allowances.items c.args.idle.now
     c.turns-turns.ensures.lawful c.requires.idle turn position
 
-pub returns-in_err-draft-clause-claims : goal.returns-in_err-draft-clause-claims
-returns-in_err-draft-clause-claims c =
+pub returns-in_err-partial-clause-claims : goal.returns-in_err-partial-clause-claims
+returns-in_err-partial-clause-claims c =
     plan_for-claims c.args.config.now c.args.outstanding.now c.args.allowances.items c.args.idle.now
     c.turns-turns.ensures.lawful c.requires.idle
 

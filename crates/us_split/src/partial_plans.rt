@@ -7,7 +7,7 @@ ghost use Rattle.us_split.specs.Divisions.{divided};
 ghost use Rattle.us_split.specs.Plans.{IsIdle, header_bytes, segment_header_bytes, max_burst_bytes, weights, at_most};
 ghost use Rattle.us_split.specs.Claims as claims_spec;
 ghost use Rattle.us_split.specs.Grants as spec;
-ghost use Rattle.us_split.specs.Grants.{IsTurnOf, IsSmall, budget_in, idle_draft, planned_in, drafted};
+ghost use Rattle.us_split.specs.Grants.{IsTurnOf, IsSmall, budget_in, idle_plan, planned_in, planned_further};
 
 use crate::channel_plans::{Asker, ChannelPlan, claim_all};
 use crate::claims::Claimant;
@@ -22,40 +22,40 @@ use us_slots::NoMemory;
 const HEADER_BYTES: u8 = 8;
 
 /// A plan in the making: what is planned on each channel, and the bytes that the bucket of each flow still allows.
-pub(crate) struct Draft {
+pub(crate) struct PartialPlan {
     channels: Vec<ChannelPlan>,
     allowances: Vec<Option<u64>>,
 }
 
-impl Model for Draft {
-    ghost Value = { spec.Draft };
+impl Model for PartialPlan {
+    ghost Value = { spec.PartialPlan };
 
     ghost view = { λ d. record { channels = d.channels.items; allowances = d.allowances.items } };
 }
 
-/// Gives both lists up. It is written out so that it is one step wherever a draft ends.
-impl Drop for Draft {
+/// Gives both lists up. It is written out so that it is one step wherever a partial plan ends.
+impl Drop for PartialPlan {
     fn drop(self) {
-        let Draft {
+        let PartialPlan {
             channels: _,
             allowances: _,
         } = self;
     }
 }
 
-impl Draft {
+impl PartialPlan {
     /// Before the first turn: no claims, all idle minislots, and all that the buckets allow.
     pub(crate) fn new(
         alloc: Global,
         config: &Config,
         allowances: Vec<Option<u64>>,
         idle: &[u32],
-    ) -> Result<Draft, NoMemory>
+    ) -> Result<PartialPlan, NoMemory>
         requires { IsIdle config.now idle.now }
-        ensures { IfOk result (λ draft. draft ≡ idle_draft config.now allowances.items idle.now) }
+        ensures { IfOk result (λ partial. partial ≡ idle_plan config.now allowances.items idle.now) }
     {
         let channels = channels_of(alloc, config, idle)?;
-        Ok(Draft {
+        Ok(PartialPlan {
             channels,
             allowances,
         })
@@ -65,7 +65,7 @@ impl Draft {
     pub(crate) fn into_plan(self) -> Plan
         ensures { result ≡ map (λ c. c.claims) self.channels }
     {
-        let Draft {
+        let PartialPlan {
             channels,
             allowances: _,
         } = self;
@@ -88,7 +88,7 @@ impl Draft {
         requires channels { AreApart (map (λ c. c.channel.id) self.old.channels) }
         ensures { (own : Clusters.Turn) (all : List ℕ) → IsTurnOf turn.now flow.now own →
             slice_index all own.number ≡ outstanding →
-            OnOk result (self.new ≡ drafted place (planned_in all self.old own) self.old) }
+            OnOk result (self.new ≡ planned_further place (planned_in all self.old own) self.old) }
     {
         let demand = self.demand(outstanding, turn.flow);
         if demand == 0 {

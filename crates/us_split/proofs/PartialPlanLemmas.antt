@@ -13,7 +13,7 @@ use Rattle.us_flows.specs.declared.turns.Turn as places
 use Rattle.us_split.specs.Divisions.{divided}
 use Rattle.us_split.specs.Plans.{Ledger, Planned, weights, at_most, shares_of, share_at, share_on, share_cost, cost_on, header_bytes, lowered, allowed_less, after_turn, plan_of, plan_for, ledger_of}
 use Rattle.us_split.specs.Claims.{all_claims, claim_at, claim_on, claims_from}
-use Rattle.us_split.specs.Grants.{IsTurnOf, Asker, ChannelPlan, Draft, asker_of, budget_in, claimed_from, drafted, drafted_all, idle_draft, ledger_in, planned_in, with_turn}
+use Rattle.us_split.specs.Grants.{IsTurnOf, Asker, ChannelPlan, PartialPlan, asker_of, budget_in, claimed_from, planned_further, planned_through, idle_plan, ledger_in, planned_in, with_turn}
 use Rattle.us_split.proofs.DivisionLemmas.{divided-sum}
 use Rattle.us_split.proofs.ChannelPlanLemmas.{ids, claimed_turn}
 
@@ -25,14 +25,14 @@ share-le-sum shares k = elim (cases_lt k (length shares)) [
 ]
 
 -- the shares of a turn, by its places
-pub shares_of-is : (outstanding : List ℕ) (draft : Draft) (turn : Turn) (u : places.Turn) (bytes : ℕ) (flow : FlowTable) →
+pub shares_of-is : (outstanding : List ℕ) (partial : PartialPlan) (turn : Turn) (u : places.Turn) (bytes : ℕ) (flow : FlowTable) →
     IsTurnOf u flow turn → slice_index outstanding turn.number ≡ bytes →
-    shares_of outstanding (ledger_in draft) turn ≡
-    divided (at_most (slice_index_or draft.allowances u.flow None) bytes) (weights flow (map budget_in draft.channels))
+    shares_of outstanding (ledger_in partial) turn ≡
+    divided (at_most (slice_index_or partial.allowances u.flow None) bytes) (weights flow (map budget_in partial.channels))
 unfolding shares_of
-shares_of-is outstanding draft turn u bytes flow is asked =
-    ap₂ (λ p n. divided (at_most (slice_index_or draft.allowances p None) n) (weights turn.cluster.flow (map budget_in draft.channels))) is.place asked ∙
-    ap (λ f. divided (at_most (slice_index_or draft.allowances u.flow None) bytes) (weights f (map budget_in draft.channels))) is.own
+shares_of-is outstanding partial turn u bytes flow is asked =
+    ap₂ (λ p n. divided (at_most (slice_index_or partial.allowances p None) n) (weights turn.cluster.flow (map budget_in partial.channels))) is.place asked ∙
+    ap (λ f. divided (at_most (slice_index_or partial.allowances u.flow None) bytes) (weights f (map budget_in partial.channels))) is.own
 
 -- no bytes, no shares
 pub none_divided : (ws : List ℕ) → sum (divided 0 ws) ≡ 0
@@ -79,15 +79,15 @@ none_less planned allowances none =
     same None = refl
     same (Some most) = let all : most - sum planned.shares ≡ most = omega arith in ap Some all
 
-pub nothing_drafted : (place : ℕ) (planned : Planned) (draft : Draft) → sum planned.shares ≡ 0 →
-    draft ≡ drafted place planned draft
-unfolding drafted
-nothing_drafted place planned draft none =
-    sym (ap₂ (λ cs limits. let d : Draft = record { channels = cs; allowances = limits } in d)
-    (none_with place planned draft.channels none) (none_less planned draft.allowances none))
+pub nothing_planned_further : (place : ℕ) (planned : Planned) (partial : PartialPlan) → sum planned.shares ≡ 0 →
+    partial ≡ planned_further place planned partial
+unfolding planned_further
+nothing_planned_further place planned partial none =
+    sym (ap₂ (λ cs limits. let d : PartialPlan = record { channels = cs; allowances = limits } in d)
+    (none_with place planned partial.channels none) (none_less planned partial.allowances none))
 
 -- What is left after shares.
-pub share_drafted : (place total : ℕ) (old new : Draft) (turn : Turn) (u : places.Turn) (flow : FlowTable)
+pub share_planned_further : (place total : ℕ) (old new : PartialPlan) (turn : Turn) (u : places.Turn) (flow : FlowTable)
     (asker : Asker) (shares sids planned : List ℕ) → IsTurnOf u flow turn → AreApart flow.channels →
     asker ≡ record {
       claimant = record { cluster = u.cluster; place = u.flow; flow = flow.id; list = u.list };
@@ -97,14 +97,14 @@ pub share_drafted : (place total : ℕ) (old new : Draft) (turn : Turn) (u : pla
     new.channels ≡ map (claimed_from asker 0 flow.channels sids shares) old.channels →
     new.allowances ≡ set old.allowances u.flow
     (option_map (λ most. most - total) (slice_index_or old.allowances u.flow None)) →
-    new ≡ drafted place (record { turn = turn; shares = planned }) old
-unfolding drafted
-share_drafted place total old new turn u flow asker shares sids planned is apart asks same own all channels allowances =
+    new ≡ planned_further place (record { turn = turn; shares = planned }) old
+unfolding planned_further
+share_planned_further place total old new turn u flow asker shares sids planned is apart asks same own all channels allowances =
     let p : Planned = record { turn = turn; shares = planned } in
     let apart_too : AreApart turn.cluster.flow.channels = subst (λ f. AreApart f.channels) (sym is.own) apart in
     let who : asker ≡ asker_of place turn =
     asks ∙ rw (is.number, is.place, is.list, is.own) refl in
-    ap₂ (λ cs limits. let d : Draft = record { channels = cs; allowances = limits } in d)
+    ap₂ (λ cs limits. let d : PartialPlan = record { channels = cs; allowances = limits } in d)
     (channels ∙
     ap₂ (λ a f. map (claimed_from a 0 f.channels sids shares) old.channels) who (sym is.own) ∙
     ap₂ (λ xs ys. map (claimed_from (asker_of place turn) 0 turn.cluster.flow.channels xs ys) old.channels) own same ∙
@@ -125,27 +125,27 @@ with_turn-ids : (place : ℕ) (planned : Planned) (cs : List ChannelPlan) → id
 with_turn-ids place planned [] = refl
 with_turn-ids place planned (c ∷ cs) = ap (λ ns. c.channel.id ∷ ns) (with_turn-ids place planned cs)
 
-pub drafted_apart : (place : ℕ) (planned : Planned) (old new : Draft) → new ≡ drafted place planned old →
+pub planned_further_apart : (place : ℕ) (planned : Planned) (old new : PartialPlan) → new ≡ planned_further place planned old →
     AreApart (ids old.channels) → AreApart (ids new.channels)
-unfolding drafted
-drafted_apart place planned old new is apart =
+unfolding planned_further
+planned_further_apart place planned old new is apart =
     subst (λ d. AreApart (ids d.channels)) (sym is) (subst AreApart (sym (with_turn-ids place planned old.channels)) apart)
 
 -- and each flow keeps an allowance
-pub drafted_flows : (place : ℕ) (planned : Planned) (old new : Draft) → new ≡ drafted place planned old →
+pub planned_further_flows : (place : ℕ) (planned : Planned) (old new : PartialPlan) → new ≡ planned_further place planned old →
     length new.allowances ≡ length old.allowances
-unfolding drafted
-drafted_flows place planned old new is =
+unfolding planned_further
+planned_further_flows place planned old new is =
     ap (λ d. length d.allowances) is ∙
     length-set old.allowances planned.turn.place
     (option_map (λ most. most - sum planned.shares) (slice_index_or old.allowances planned.turn.place None))
 
 -- One turn more.
-pub drafted_more : (outstanding : List ℕ) (place : ℕ) (old new : Draft) (turn : Turn) (rest : List Turn) →
-    new ≡ drafted place (planned_in outstanding old turn) old →
-    drafted_all outstanding (place + 1) new rest ≡ drafted_all outstanding place old (turn ∷ rest)
-unfolding drafted_all
-drafted_more outstanding place old new turn rest is = ap (λ d. drafted_all outstanding (place + 1) d rest) is
+pub planned_further_more : (outstanding : List ℕ) (place : ℕ) (old new : PartialPlan) (turn : Turn) (rest : List Turn) →
+    new ≡ planned_further place (planned_in outstanding old turn) old →
+    planned_through outstanding (place + 1) new rest ≡ planned_through outstanding place old (turn ∷ rest)
+unfolding planned_through
+planned_further_more outstanding place old new turn rest is = ap (λ d. planned_through outstanding (place + 1) d rest) is
 
 -- What all turns come to.
 
@@ -154,12 +154,12 @@ after_with : (place : ℕ) (planned : Planned) (cs : List ChannelPlan) →
 after_with place planned [] = refl
 after_with place planned (c ∷ cs) = ap (λ bs. budget_in (with_turn place planned c) ∷ bs) (after_with place planned cs)
 
-ledger_after : (place : ℕ) (planned : Planned) (draft : Draft) →
-    ledger_in (drafted place planned draft) ≡ after_turn (ledger_in draft) planned
-unfolding drafted after_turn
-ledger_after place planned draft =
-    ap (λ bs. let l : Ledger = record { budgets = bs; allowances = allowed_less planned draft.allowances } in l)
-    (after_with place planned draft.channels)
+ledger_after : (place : ℕ) (planned : Planned) (partial : PartialPlan) →
+    ledger_in (planned_further place planned partial) ≡ after_turn (ledger_in partial) planned
+unfolding planned_further after_turn
+ledger_after place planned partial =
+    ap (λ bs. let l : Ledger = record { budgets = bs; allowances = allowed_less planned partial.allowances } in l)
+    (after_with place planned partial.channels)
 
 claims_more : (place : ℕ) (planned : Planned) (plan : List Planned) (cs : List ChannelPlan) →
     map (λ c. c.claims ++ claims_from c.channel (place + 1) plan) (map (with_turn place planned) cs) ≡
@@ -177,24 +177,24 @@ unfolding claims_from
 claims_end place [] = refl
 claims_end place (c ∷ cs) = ap₂ (λ x xs. x ∷ xs) (sym (append-nil c.claims)) (claims_end place cs)
 
-next_claims : (place : ℕ) (planned : Planned) (draft : Draft) (plan : List Planned) →
-    map (λ c. c.claims ++ claims_from c.channel (place + 1) plan) (drafted place planned draft).channels ≡
-    map (λ c. c.claims ++ claims_from c.channel place (planned ∷ plan)) draft.channels
-unfolding drafted
-next_claims place planned draft plan = claims_more place planned plan draft.channels
+next_claims : (place : ℕ) (planned : Planned) (partial : PartialPlan) (plan : List Planned) →
+    map (λ c. c.claims ++ claims_from c.channel (place + 1) plan) (planned_further place planned partial).channels ≡
+    map (λ c. c.claims ++ claims_from c.channel place (planned ∷ plan)) partial.channels
+unfolding planned_further
+next_claims place planned partial plan = claims_more place planned plan partial.channels
 
-drafted_claims : (outstanding : List ℕ) (place : ℕ) (draft : Draft) (turns : List Turn) →
-    map (λ c. c.claims) (drafted_all outstanding place draft turns).channels ≡
-    map (λ c. c.claims ++ claims_from c.channel place (plan_of outstanding (ledger_in draft) turns)) draft.channels
-unfolding drafted_all plan_of
-drafted_claims outstanding place draft [] = claims_end place draft.channels
-drafted_claims outstanding place draft (turn ∷ turns) =
-    let planned : Planned = planned_in outstanding draft turn in
-    let next : Draft = drafted place planned draft in
-    drafted_claims outstanding (place + 1) next turns ∙
+planned_further_claims : (outstanding : List ℕ) (place : ℕ) (partial : PartialPlan) (turns : List Turn) →
+    map (λ c. c.claims) (planned_through outstanding place partial turns).channels ≡
+    map (λ c. c.claims ++ claims_from c.channel place (plan_of outstanding (ledger_in partial) turns)) partial.channels
+unfolding planned_through plan_of
+planned_further_claims outstanding place partial [] = claims_end place partial.channels
+planned_further_claims outstanding place partial (turn ∷ turns) =
+    let planned : Planned = planned_in outstanding partial turn in
+    let next : PartialPlan = planned_further place planned partial in
+    planned_further_claims outstanding (place + 1) next turns ∙
     ap (λ l. map (λ c. c.claims ++ claims_from c.channel (place + 1) (plan_of outstanding l turns)) next.channels)
-    (ledger_after place planned draft) ∙
-    next_claims place planned draft (plan_of outstanding (after_turn (ledger_in draft) planned) turns)
+    (ledger_after place planned partial) ∙
+    next_claims place planned partial (plan_of outstanding (after_turn (ledger_in partial) planned) turns)
 
 idle_budgets : (channels : List Channel) (idle : List ℕ) →
     map budget_in (map (λ pair. record { channel = pair.0; slots = pair.1; claims = [] }) (zip channels idle)) ≡
@@ -216,11 +216,11 @@ idle_claims plan (c ∷ channels) (slots ∷ idle) same =
 
 pub claims_of_plan : (t : Tables) (outstanding : List ℕ) (allowances : List (Option ℕ)) (idle : List ℕ) →
     length idle ≡ length t.channels →
-    map (λ c. c.claims) (drafted_all outstanding 0 (idle_draft t allowances idle) (turns_of t)).channels ≡
+    map (λ c. c.claims) (planned_through outstanding 0 (idle_plan t allowances idle) (turns_of t)).channels ≡
     all_claims t (plan_for t outstanding allowances idle)
 unfolding plan_for
 claims_of_plan t outstanding allowances idle same =
-    drafted_claims outstanding 0 (idle_draft t allowances idle) (turns_of t) ∙
-    ap (λ bs. map (λ c. c.claims ++ claims_from c.channel 0 (plan_of outstanding (record { budgets = bs; allowances = allowances }) (turns_of t))) (idle_draft t allowances idle).channels)
+    planned_further_claims outstanding 0 (idle_plan t allowances idle) (turns_of t) ∙
+    ap (λ bs. map (λ c. c.claims ++ claims_from c.channel 0 (plan_of outstanding (record { budgets = bs; allowances = allowances }) (turns_of t))) (idle_plan t allowances idle).channels)
     (idle_budgets t.channels idle) ∙
     idle_claims (plan_of outstanding (ledger_of t allowances idle) (turns_of t)) t.channels idle same

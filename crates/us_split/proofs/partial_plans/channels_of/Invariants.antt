@@ -1,7 +1,7 @@
 use Rattle.std.proofs.Common.{◌≡◌, ◌++◌, ℕ, [], drop, map, zip}
 use Rattle.us_flows.specs.declared.channels.Channel.{Channel}
 use Rattle.us_split.specs.Grants.{ChannelPlan}
-use Rattle.us_split.proofs.drafts.channels_of.Given as goal
+use Rattle.us_split.proofs.partial_plans.channels_of.Given as goal
 
 -- the other channels are still to come
 abbrev pub invariant-loop-place : goal.invariant-loop-place

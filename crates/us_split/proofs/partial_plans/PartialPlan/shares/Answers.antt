@@ -5,7 +5,7 @@ use Rattle.us_split.specs.Divisions.{divided}
 use Rattle.us_split.specs.Plans.{header_bytes, weights, weight, budget_of}
 use Rattle.us_split.specs.Grants.{budget_in}
 use Rattle.us_split.proofs.DivisionLemmas.{divided-within, divided-length}
-use Rattle.us_split.proofs.drafts.Draft.shares.Goals as goal
+use Rattle.us_split.proofs.partial_plans.PartialPlan.shares.Goals as goal
 
 weighed : (c : goal.After-divided) →
     c.weights-weights.result ≡ weights c.args.flow.now (map budget_in c.args.self.now.channels)
