@@ -1,11 +1,11 @@
 -- What a round gives (ours): the MAP of each channel, and its lines.
-use Rattle.std.specs.Prelude.{ℕ, Bool, true, false, not, ◌+◌, ◌-◌, ◌*◌, ◌/◌, ◌==◌, ◌≤◌, nat_le, if◌then◌else◌, List, ◌++◌, length, map, filter, flat_map, slice_get, slice_index, Option, Some, None, option_and_then}
+use Rattle.std.specs.Prelude.{ℕ, Bool, true, false, not, ◌-◌, ◌*◌, ◌/◌, ◌==◌, ◌≤◌, nat_le, if◌then◌else◌, List, ◌++◌, length, map, filter, flat_map, slice_get, slice_index, Option, Some, None, option_and_then}
 use Rattle.std.specs.List.{AllByRecursion, range_with_len}
 use Rattle.us_slots.specs.Times.{minislot_ticks}
 use Rattle.us_slots.specs.UsageCodes as codes
 use Rattle.us_codec.specs.declared.heads.Head.{Head}
 use Rattle.us_codec.specs.Elements.{MapElement}
-use Rattle.us_codec.specs.Bodies.{MapBody, body_of, max_elements, spelling}
+use Rattle.us_codec.specs.Bodies.{MapBody, body_of, max_body_bytes, max_elements, spelling}
 use Rattle.us_flows.specs.declared.channels.Channel.{Channel}
 use Rattle.us_flows.specs.Tables.{Tables, map_len}
 use Rattle.us_flows.specs.Clusters.{Turn, table_order}
@@ -174,12 +174,12 @@ out_of t s = record {
 
 -- Limits.
 
--- no channel's MAP passes its most assignments, pendings and elements, nor the bytes of a head and so many elements
+-- no channel's MAP passes its most assignments, pendings and elements, nor its most bytes
 pub record IsWithinLimits (t : Tables) (round : ℕ) (pending : List (ℕ × ℕ)) (built : Built) : Type 0 where
   pub assignments : built.board.standing ≤ max_assignments
   pub pendings : length (pendings_on built.channel.id pending) ≤ max_pendings
   pub elements : length (built_map t round pending built).elements ≤ max_elements
-  pub bytes : length (spelling (built_map t round pending built)) ≤ 16 + 4 * max_elements
+  pub bytes : length (spelling (built_map t round pending built)) ≤ max_body_bytes
 
 abbrev pub AreWithinLimits : Tables → Scheduled → Type 0
 AreWithinLimits t s = AllByRecursion (IsWithinLimits t s.round s.pending) s.channels

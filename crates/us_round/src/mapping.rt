@@ -5,9 +5,11 @@ ghost use Rattle.us_codec.specs.Elements.{MapElement, IsMapElement};
 ghost use Rattle.us_codec.specs.Bodies.{IsHead, IsMapBody, spelling};
 ghost use Rattle.us_flows.specs.Tables.{map_len, max_run_ticks};
 ghost use Rattle.us_flows.specs.Lawful.{IsChannel};
+ghost use Rattle.us_holes.specs.Boards.{max_assignments};
 ghost use Rattle.us_holes.specs.Runs.{FollowOn, runs_of};
 ghost use Rattle.us_round.specs.Leftovers.{IsBuiltFor};
 ghost use Rattle.us_round.specs.Outputs as spec;
+ghost use Rattle.us_round.specs.Rounds.{max_pendings};
 
 use crate::building::Built;
 use crate::pendings::{PendingSid, sids_on};
@@ -83,11 +85,11 @@ pub(crate) fn map_of(
     requires lawful { IsChannel config.now channel.now }
     requires len { length board.now.cells ≡ map_len config.now channel.now }
     requires time { (round + 1) * config.now.round_ticks ≤ max_run_ticks }
-    requires few { length sids.now ≤ 38 }
+    requires few { length sids.now ≤ max_pendings }
     requires bits { AllByRecursion (λ sid. sid < 2 ^ 14) sids.now }
     ensures value { IfOk result (λ map. map ≡ spec.map_of config.now round channel.now board.now sids.now) }
     ensures grammar { IfOk result (λ map. IsMapBody map) }
-    ensures standing { IfOk result (λ _. board.now.standing ≤ 100) }
+    ensures standing { IfOk result (λ _. board.now.standing ≤ max_assignments) }
 {
     let head = head_of(config, channel, round);
     let elements = elements_of(alloc, channel, board, runs, 1 + sids.len())?;

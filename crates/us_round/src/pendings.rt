@@ -138,7 +138,7 @@ fn sid_of(channels: &[u8], sids: &[u16]) -> Option<PendingSid>
 #[tactic(auto, unfolding(crate::specs::Rounds::pendings_on))]
 pub(crate) fn sids_on(alloc: Global, pendings: &[PendingSid], id: u8) -> Result<Vec<u16>, NoMemory>
     ensures value { IfOk result (λ sids. sids.items ≡ spec.pendings_on id pendings.now) }
-    ensures few { IfOk result (λ sids. length sids.items ≤ 38) }
+    ensures few { IfOk result (λ sids. length sids.items ≤ spec.max_pendings) }
     ensures bits { IfOk result (λ sids. AllByRecursion (λ sid. sid < 2 ^ 14) sids.items) }
 {
     let mut sids = Vec::new(alloc);
