@@ -24,12 +24,12 @@ pub(super) struct Case<'a> {
     pub(super) answer: &'a str,
 }
 
-/// A reader of a text, then of so many copies of a piece, and then of a last one, behind which may be a fault. It gives
+/// A reader of a text, then of so many copies of another, and then of a last one, behind which may be a fault. It gives
 /// at most `piece` bytes a call, and counts its calls.
 #[derive(Clone, Copy, Drop)]
 pub(super) struct Repeated<'a> {
     pub(super) text: &'a [u8],
-    pub(super) piece: &'a [u8],
+    pub(super) repeated: &'a [u8],
     pub(super) left: u32,
     pub(super) last: &'a [u8],
     pub(super) piece: usize,
@@ -41,7 +41,7 @@ impl<'a> Read for Repeated<'a> {
     fn read(&mut self, buf: &mut [u8]) -> io::Result<usize> {
         self.reads = self.reads.saturating_add(1);
         if self.text.is_empty() && self.left > 0 {
-            self.text = self.piece;
+            self.text = self.repeated;
             self.left -= 1;
         } else if self.text.is_empty() {
             self.text = self.last;
@@ -60,7 +60,7 @@ impl<'a> Read for Repeated<'a> {
 /// The header, and no request.
 pub(super) const HEADER: Repeated<'static> = Repeated {
     text: b"tick,channel,sid,units\n",
-    piece: b"",
+    repeated: b"",
     left: 0,
     last: b"",
     piece: usize::MAX,

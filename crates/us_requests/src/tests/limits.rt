@@ -22,7 +22,7 @@ static RECORDS: [Case<'static>; 11] = [
         name: "as many asks as may be",
         rounds: 2,
         reader: Repeated {
-            piece: b"0,1,291,1\n",
+            repeated: b"0,1,291,1\n",
             last: b"\n\n",
             ..REQUESTS
         },
@@ -131,7 +131,7 @@ static RECORDS: [Case<'static>; 11] = [
 ];
 
 const REQUESTS: Repeated<'static> = Repeated {
-    piece: b"0,1,9,1\n",
+    repeated: b"0,1,9,1\n",
     left: 1_000_000,
     ..HEADER
 };
@@ -207,7 +207,7 @@ static BYTES: [Case<'static>; 7] = [
 /// The header and blank lines, in pieces of 32 bytes.
 const LINES: Repeated<'static> = Repeated {
     text: b"tick,channel,sid,units\n\n\n\n\n\n\n\n\n\n",
-    piece: &[b'\n'; 32],
+    repeated: &[b'\n'; 32],
     left: 1_048_575,
     ..HEADER
 };

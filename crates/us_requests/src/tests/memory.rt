@@ -17,7 +17,7 @@ static CASE: Case<'static> = Case {
     name: "memory",
     rounds: 7,
     reader: Repeated {
-        piece: REQUESTS,
+        repeated: REQUESTS,
         left: 6,
         ..HEADER
     },
