@@ -1,4 +1,4 @@
--- The code of a fault, by which lines and help name it (ours).
+-- The code of a fault (ours): its text begins with it.
 use Rattle.std.specs.Prelude.{ℕ, List, codes}
 use Rattle.us_codec.specs.declared.faults.MapFault.{MapFault}
 use Rattle.us_codec.specs.declared.faults.MapFault.TheVariants as fault

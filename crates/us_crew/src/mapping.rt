@@ -75,9 +75,15 @@ pub fn map_alone<W: Work<T, R, E>, T: Drop, R: Drop, E>(
     ensures named { (fault_of : ℕ → T → Option E) → AreFaults fault_of (W.may_fail work.now) (W.must_fail work.now) →
         NamesFault (first_fault fault_of items.items) result }
 
+    // No memory is taken for no items.
+    ensures none { items.items ≡ [] → IsOk result }
+
     // There are no workers to be blamed.
     ensures workers { ¬ (result ≡ Err CrewFault.Workers) }
 {
+    if items.is_empty() {
+        return Ok(Vec::new(alloc));
+    }
     // The gate is open in each phase.
     in_turn(alloc, work, Phase::Build, 0, items, &OpenGate)
 }

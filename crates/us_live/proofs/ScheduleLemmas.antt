@@ -10,7 +10,7 @@ use Rattle.us_flows.specs.Clusters.{clusters_of}
 use Rattle.us_intake.specs.Tallies.{added}
 use Rattle.us_intake.proofs.TallyLemmas.{index-added, index-empty, index_le_sum}
 use Rattle.us_round.specs.Placements.{PlacedClaim}
-use Rattle.us_round.specs.Rounds.{State, all_grants, asked, begun, builds_of, final, uncredited, opening, round_from, round_of, schedule}
+use Rattle.us_round.specs.Rounds.{State, all_grants, with_cut, begun, builds_of, final, uncredited, opening, round_from, round_of, schedule}
 use Rattle.us_round.specs.Outputs.{out_of}
 use Rattle.us_live.specs.Lives.{logged, rounds_of}
 
@@ -45,7 +45,7 @@ index-left grants number (bytes ∷ more) zero = omega arith
 index-left grants number (bytes ∷ more) (suc cluster) = index-left grants (number + 1) more cluster
 
 index-asked : (outstanding cut : List ℕ) (cluster : ℕ) →
-    slice_index (asked outstanding cut) cluster ≤ slice_index outstanding cluster + slice_index cut cluster
+    slice_index (with_cut outstanding cut) cluster ≤ slice_index outstanding cluster + slice_index cut cluster
 index-asked [] cut cluster = omega arith
 index-asked (bytes ∷ more) [] cluster = omega arith
 index-asked (bytes ∷ more) (newly ∷ cut) zero = omega arith
@@ -61,7 +61,7 @@ pub record After (state : State) (cut : List ℕ) (next : State) : Type 0 where
 pub after : (state : State) (cut : List ℕ) → After state cut (round_of state cut).state
 unfolding round_of round_from
 after state cut =
-    let now : List ℕ = asked state.outstanding cut in
+    let now : List ℕ = with_cut state.outstanding cut in
     let grants : List PlacedClaim = all_grants (builds_of (begun state cut)) in
     record {
       tables_are = refl;

@@ -7,7 +7,7 @@ use Rattle.us_codec.specs.MapsFiles.{Piece, record_bytes, maps_file}
 use Rattle.us_flows.specs.Tables.{Tables}
 use Rattle.us_calendar.specs.Calendars as calendars
 use Rattle.us_round.specs.Placements.{PlacedClaim}
-use Rattle.us_round.specs.Rounds.{State, all_grants, asked, begun, build_on, builds_of, credits, fills_of, is_of_cluster, uncredited, opening, round_from, round_of, round_plan}
+use Rattle.us_round.specs.Rounds.{State, all_grants, begun, build_planned, builds_of, credits, fills_of, is_of_cluster, uncredited, opening, round_from, round_of, round_plan, with_cut}
 use Rattle.us_round.specs.Outputs.{RoundOut, built_map, out_of}
 use Rattle.us_replay.specs.Files.{records}
 use Rattle.us_replay.proofs.SumLemmas.{sum-cons, sum-added}
@@ -33,7 +33,7 @@ pub record After (state : State) (cut : List ℕ) (next : State) : Type 0 where
 pub after : (state : State) (cut : List ℕ) → After state cut (round_of state cut).state
 unfolding round_of round_from
 after state cut =
-    let now : List ℕ = asked state.outstanding cut in
+    let now : List ℕ = with_cut state.outstanding cut in
     let grants : List PlacedClaim = all_grants (builds_of (begun state cut)) in
     record {
       tables_are = refl;
@@ -60,7 +60,7 @@ length-builds : (state : State) (cut : List ℕ) → HasCalendars state →
     length (builds_of (begun state cut)) ≡ length state.tables.channels
 unfolding builds_of
 length-builds state cut has =
-    length-map (fills_of (begun state cut)) (build_on (round_plan (begun state cut))) ∙
+    length-map (fills_of (begun state cut)) (build_planned (round_plan (begun state cut))) ∙
     length-map (zip state.tables.channels state.calendars) _ ∙
     length-pairs state.tables.channels state.calendars has
 

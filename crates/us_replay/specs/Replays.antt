@@ -136,7 +136,7 @@ abbrev pub TookNothing : Growth → Growth → Type 0
 TookNothing to_maps to_report = Took to_maps [] × Took to_report []
 
 -- why a replay is refused: a number of rounds that doesn't fit is answered first, then a number of workers that can't be
--- had, and then a fault of the trace
+-- had, and then a fault of the trace. Which numbers of workers those are is said by the clause `workers` of `replay`.
 abbrev pub IsRefused : Tables → ℕ → Option (List ℕ) → Refusal → Type 0
 IsRefused t rounds told Rounds = rounds_fit t rounds ≡ false
 IsRefused t rounds told Workers = rounds_fit t rounds ≡ true

@@ -24,7 +24,7 @@ pub enum RunFault {
 }
 
 impl RunFault {
-    /// Its code, by which texts and lines name it: RU1 to RU6.
+    /// Its code, RU1 to RU6: its text begins with it.
     pub fn code(self) -> &'static str
         ensures { result.now ≡ spec.code_of self }
     {

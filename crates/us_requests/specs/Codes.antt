@@ -1,4 +1,4 @@
--- The code of a fault, by which lines and help name it (ours), and the record that a fault names.
+-- The code of a fault (ours): its text begins with it, and the record that a fault names.
 use Rattle.std.specs.Prelude.{ℕ, List, codes, Option, Some, None}
 use Rattle.us_requests.specs.declared.faults.TraceFault.{TraceFault}
 use Rattle.us_requests.specs.declared.faults.TraceFault.TheVariants as fault

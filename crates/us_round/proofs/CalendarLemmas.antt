@@ -13,7 +13,7 @@ use Rattle.us_calendar.specs.Settling.{EntryState}
 use Rattle.us_bucket.specs.Levels.{full}
 use Rattle.us_flows.specs.Clusters.{clusters_of}
 use Rattle.us_split.specs.Plans.{Planned}
-use Rattle.us_round.specs.Rounds.{State, Filled, Built, fill, build_on, round_plan, builds_of}
+use Rattle.us_round.specs.Rounds.{State, Filled, Built, fill, build_planned, round_plan, builds_of}
 use Rattle.us_round.specs.Cores.{Core, IsCore, opening_core, AreCalendars, AreCounted, settled_now, settled_then, with_calendars, credited_core}
 use Rattle.us_round.specs.States.{IsState, max_settled_by}
 use Rattle.us_round.proofs.FillLemmas.{calendars_long}
@@ -22,13 +22,13 @@ use Rattle.us_round.proofs.StateLemmas.{left-length, spent-length}
 -- the channels of a round, built
 abbrev built_on : Tables → ℕ → List Planned → List Channel → List Calendar → List Built
 built_on t round plan channels cs =
-    map (build_on plan) (map (λ (pair : Channel × Calendar). fill t round pair.0 pair.1) (zip channels cs))
+    map (build_planned plan) (map (λ (pair : Channel × Calendar). fill t round pair.0 pair.1) (zip channels cs))
 
 paces_kept : (t : Tables) (round : ℕ) (plan : List Planned) (channels : List Channel) (cs : List Calendar) →
     length cs ≡ length channels →
     map (λ calendar. calendar.pace) (map (λ b. b.calendar) (built_on t round plan channels cs))
     ≡ map (λ calendar. calendar.pace) cs
-unfolding build_on
+unfolding build_planned
 paces_kept t round plan [] [] is = refl
 paces_kept t round plan [] (calendar ∷ cs) is = absurd (omega (arith, is))
 paces_kept t round plan (c ∷ channels) [] is = absurd (omega (arith, is))
@@ -38,7 +38,7 @@ paces_kept t round plan (c ∷ channels) (calendar ∷ cs) is =
 rounds_next : (t : Tables) (round : ℕ) (plan : List Planned) (channels : List Channel) (cs : List Calendar) →
     AllByRecursion (λ calendar. calendar.next_round ≡ round) cs →
     AllByRecursion (λ calendar. calendar.next_round ≡ round + 1) (map (λ b. b.calendar) (built_on t round plan channels cs))
-unfolding build_on
+unfolding build_planned
 rounds_next t round plan [] cs are = tt
 rounds_next t round plan (c ∷ channels) [] are = tt
 rounds_next t round plan (c ∷ channels) (calendar ∷ cs) are =
@@ -103,31 +103,31 @@ settled_few core cs left built lawful are is those known =
 
 -- What built channels tell of their calendars is what the filled ones do.
 now_kept : (plan : List Planned) (fs : List Filled) →
-    sum_by (λ b. length b.settled) (map (build_on plan) fs) ≡ settled_now fs
-unfolding build_on
+    sum_by (λ b. length b.settled) (map (build_planned plan) fs) ≡ settled_now fs
+unfolding build_planned
 now_kept plan [] = refl
 now_kept plan (f ∷ fs) =
     omega (
       arith,
-      sum_by-cons (λ b. length b.settled) (build_on plan f) (map (build_on plan) fs),
+      sum_by-cons (λ b. length b.settled) (build_planned plan f) (map (build_planned plan) fs),
       sum_by-cons (λ f. length f.settled) f fs,
       now_kept plan fs,
     )
 
 then_kept : (plan : List Planned) (fs : List Filled) →
-    sum_by (λ b. settled_in b.calendar) (map (build_on plan) fs) ≡ settled_then fs
-unfolding build_on
+    sum_by (λ b. settled_in b.calendar) (map (build_planned plan) fs) ≡ settled_then fs
+unfolding build_planned
 then_kept plan [] = refl
 then_kept plan (f ∷ fs) =
     omega (
       arith,
-      sum_by-cons (λ b. settled_in b.calendar) (build_on plan f) (map (build_on plan) fs),
+      sum_by-cons (λ b. settled_in b.calendar) (build_planned plan f) (map (build_planned plan) fs),
       sum_by-cons (λ f. settled_in f.calendar) f fs,
       then_kept plan fs,
     )
 
 pub counted : (plan : List Planned) (fs : List Filled) (cs : List Calendar) →
-    settled_now fs + sum_by settled_in cs ≡ settled_then fs → AreCounted cs (map (build_on plan) fs)
+    settled_now fs + sum_by settled_in cs ≡ settled_then fs → AreCounted cs (map (build_planned plan) fs)
 counted plan fs cs counts = omega (arith, counts, now_kept plan fs, then_kept plan fs)
 
 -- Before round 0.

@@ -13,7 +13,7 @@ use Rattle.us_split.specs.Plans.{Planned, header_bytes, share_at, share_on}
 use Rattle.us_split.specs.PlanLaws.{planned_bytes}
 use Rattle.us_split.specs.Claims.{Claimant, Claim, claimant_of, claim_at, claims_from, claims_on}
 use Rattle.us_round.specs.Placements.{PlacedClaim, grants_of}
-use Rattle.us_round.specs.Rounds.{Filled, build_on, all_grants, credits}
+use Rattle.us_round.specs.Rounds.{Filled, build_planned, all_grants, credits}
 use Rattle.us_round.proofs.SumLemmas.{sum_passing, sum_passing_both, sum_least, sum_both, sum_none}
 use Rattle.us_round.proofs.GrantLaws.{AreShares, grants_are, credits_few}
 
@@ -123,14 +123,14 @@ claims_some c plan = claims_some_from c 0 plan
 
 builds_few : (passes : Claimant → Bool) (plan : List Planned) (fs : List Filled) →
     AllByRecursion (λ f. IsChannelBursts f.channel.bursts) fs →
-    credits (λ g. passes g.claimant) (all_grants (map (build_on plan) fs))
+    credits (λ g. passes g.claimant) (all_grants (map (build_planned plan) fs))
     ≤ sum_by (passing passes plan) (map (λ f. f.channel) fs)
-unfolding build_on
+unfolding build_planned
 builds_few passes plan [] lawful = omega arith
 builds_few passes plan (f ∷ fs) lawful =
     let cs : List Claim = claims_on f.channel plan in
     let gs : List PlacedClaim = grants_of f.channel.bursts f.board cs in
-    let more : List PlacedClaim = all_grants (map (build_on plan) fs) in
+    let more : List PlacedClaim = all_grants (map (build_planned plan) fs) in
     let one : credits (λ g. passes g.claimant) gs ≤ passing passes plan f.channel =
     credits_few f.channel.bursts passes f.board cs gs
     (grants_are f.channel.bursts f.board cs lawful.0 (claims_some f.channel plan)) in
@@ -142,15 +142,15 @@ builds_few passes plan (f ∷ fs) lawful =
     sum_by-cons (passing passes plan) f.channel (map (λ f. f.channel) fs) in
     let rest : credits (λ g. passes g.claimant) more ≤ sum_by (passing passes plan) (map (λ f. f.channel) fs) =
     builds_few passes plan fs lawful.1 in
-    let split : all_grants (map (build_on plan) (f ∷ fs)) ≡ gs ++ more =
-    flat_map-cons (λ b. b.grants) (build_on plan f) (map (build_on plan) fs) in
+    let split : all_grants (map (build_planned plan) (f ∷ fs)) ≡ gs ++ more =
+    flat_map-cons (λ b. b.grants) (build_planned plan f) (map (build_planned plan) fs) in
     rw split (omega (arith, one, both, parts, rest))
 
 -- of the claimants that pass, all channels together credit at most what is planned for them
 pub credits_planned : (passes : Claimant → Bool) (plan : List Planned) (fs : List Filled) →
     AllByRecursion (λ f. IsChannelBursts f.channel.bursts) fs →
     AreApart (map (λ c. c.id) (map (λ f. f.channel) fs)) →
-    credits (λ g. passes g.claimant) (all_grants (map (build_on plan) fs))
+    credits (λ g. passes g.claimant) (all_grants (map (build_planned plan) fs))
     ≤ planned_bytes (filter (λ planned. passes (claimant_of planned.turn)) plan)
 credits_planned passes plan fs lawful apart =
     omega (arith, builds_few passes plan fs lawful, claims_few 0 passes plan (map (λ f. f.channel) fs) apart)

@@ -21,7 +21,7 @@ use Rattle.us_split.specs.Claims.{Claim, Claimant, claimant_of, claim_at, claims
 use Rattle.us_crew.specs.Values.{values_from}
 use Rattle.us_split.specs.PlanLaws.{IsLawfulPlan, planned_bytes}
 use Rattle.us_round.specs.Placements.{PlacedClaim, Spot, spot, grant_at, grants_of, with_grant, assignments}
-use Rattle.us_round.specs.Rounds.{State, Filled, idle, fills_of, build_with, build_on, builds_of, round_plan, all_grants, credits, is_of_flow}
+use Rattle.us_round.specs.Rounds.{State, Filled, idle, fills_of, build_on, build_planned, builds_of, round_plan, all_grants, credits, is_of_flow}
 use Rattle.us_round.specs.Stages.{AreClaimsOn, built_by}
 use Rattle.us_round.specs.Leftovers.{StartsInside, IsBuiltFor, AreInside}
 use Rattle.us_round.specs.States.{IsKnown, AreSound}
@@ -68,12 +68,12 @@ granted_of P b board (claim ∷ cs) h =
 
 built_of : (P : Claimant → Type 0) (plan : List Planned) (fs : List Filled) →
     AllByRecursion (λ planned. P (claimant_of planned.turn)) plan →
-    AllByRecursion (λ g. P g.claimant) (all_grants (map (build_on plan) fs))
-unfolding build_on
+    AllByRecursion (λ g. P g.claimant) (all_grants (map (build_planned plan) fs))
+unfolding build_planned
 built_of P plan [] h = tt
 built_of P plan (f ∷ fs) h =
     all_append (λ g. P g.claimant) (grants_of f.channel.bursts f.board (claims_on f.channel plan))
-    (all_grants (map (build_on plan) fs))
+    (all_grants (map (build_planned plan) fs))
     (granted_of P f.channel.bursts f.board (claims_on f.channel plan) (claims_of P f.channel 0 plan h)) (built_of P plan fs h)
 
 pub by_turns : (P : Turn → Type 0) (plan : List Planned) (turns : List Turn) → map (λ planned. planned.turn) plan ≡ turns →
@@ -95,11 +95,11 @@ Known os bs c = (c.cluster < length os) × (c.place < length bs)
 
 all_known : (t : Tables) (plan : List Planned) (fs : List Filled) (os : List ℕ) (bs : List Level) →
     map (λ planned. planned.turn) plan ≡ turns_of t → length os ≡ length (clusters_of t) →
-    length bs ≡ length t.flows → AllByRecursion (IsKnown (length os) (length bs)) (all_grants (map (build_on plan) fs))
+    length bs ≡ length t.flows → AllByRecursion (IsKnown (length os) (length bs)) (all_grants (map (build_planned plan) fs))
 all_known t plan fs os bs turns clusters flows =
     all_weaker (λ g. Known os bs g.claimant) (IsKnown (length os) (length bs))
     (λ g k. record { cluster = k.0; place = k.1 })
-    (all_grants (map (build_on plan) fs))
+    (all_grants (map (build_planned plan) fs))
     (built_of (Known os bs) plan fs (by_turns (λ turn. Known os bs (claimant_of turn)) plan (turns_of t) turns
     (all_weaker (IsTurnIn t) (λ turn. Known os bs (claimant_of turn))
     (λ turn is. (omega (arith, clusters, is.number), omega (arith, flows, slice_get-below t.flows turn.place turn.cluster.flow is.flow)))
@@ -123,9 +123,9 @@ lengths b board (claim ∷ cs) (g ∷ gs) (inr now) =
     )
 
 built_sound : (t : Tables) (plan : List Planned) (f : Filled) → IsChannel t f.channel → IsFilledFor t f →
-    IsBuiltFor t (build_on plan f) × AreInside (build_on plan f)
-    × (granted_in (build_on plan f).settled + length (build_on plan f).grants ≤ (build_on plan f).board.standing)
-unfolding build_on
+    IsBuiltFor t (build_planned plan f) × AreInside (build_planned plan f)
+    × (granted_in (build_planned plan f).settled + length (build_planned plan f).grants ≤ (build_planned plan f).board.standing)
+unfolding build_planned
 built_sound t plan f is sound =
     let cs : List Claim = claims_on f.channel plan in
     let gs : List PlacedClaim = grants_of f.channel.bursts f.board cs in
@@ -146,8 +146,8 @@ built_sound t plan f is sound =
 
 channels_sound : (t : Tables) (plan : List Planned) (fs : List Filled) → AllByRecursion (λ f. IsChannel t f.channel) fs →
     AllByRecursion (IsFilledFor t) fs →
-    AllByRecursion (IsBuiltFor t) (map (build_on plan) fs) × AllByRecursion AreInside (map (build_on plan) fs)
-    × AllByRecursion (λ b. granted_in b.settled + length b.grants ≤ b.board.standing) (map (build_on plan) fs)
+    AllByRecursion (IsBuiltFor t) (map (build_planned plan) fs) × AllByRecursion AreInside (map (build_planned plan) fs)
+    × AllByRecursion (λ b. granted_in b.settled + length b.grants ≤ b.board.standing) (map (build_planned plan) fs)
 channels_sound t plan [] are long = (tt, tt, tt)
 channels_sound t plan (f ∷ fs) are long =
     let first = built_sound t plan f are.0 long.0 in
@@ -177,7 +177,7 @@ sound s lawful all clusters flows law turns long =
         asked = λ number.
             omega (arith, credits_planned (λ c. c.cluster == number) plan fs bursts apart, law.asked number);
         allowed = λ place bucket at.
-            within_less (bytes_in bucket) (credits (is_of_flow place) (all_grants (map (build_on plan) fs)))
+            within_less (bytes_in bucket) (credits (is_of_flow place) (all_grants (map (build_planned plan) fs)))
             (planned_bytes (filter (λ planned. planned.turn.place == place) plan))
             (credits_planned (λ c. c.place == place) plan fs bursts apart)
             (law.allowed place (bytes_in bucket) (slice_get-map bytes_in s.buckets place ∙ ap (λ o. option_map bytes_in o) at));
@@ -197,8 +197,8 @@ turns_planned s =
 -- the channel at each place of the table places the claims that the plan has there
 built_from : (plan : List Planned) (all before : List (List Claim)) (place : ℕ) (fs : List Filled) →
     all ≡ before ++ map (λ c. claims_on c plan) (map (λ f. f.channel) fs) → place ≡ length before →
-    values_from (λ place f. build_with (slice_index_or all place []) f) place fs ≡ map (build_on plan) fs
-unfolding build_on
+    values_from (λ place f. build_on (slice_index_or all place []) f) place fs ≡ map (build_planned plan) fs
+unfolding build_planned
 built_from plan all before place [] is at = refl
 built_from plan all before place (f ∷ fs) is at =
     let own : List Claim = claims_on f.channel plan in
@@ -207,7 +207,7 @@ built_from plan all before place (f ∷ fs) is at =
     ap₂ (λ xs n. slice_index_or xs n []) is at ∙ get-behind before own rest in
     let more = built_from plan all (before ++ own ∷ []) (place + 1) fs (is ∙ sym (append_assoc before (own ∷ []) rest))
     (omega (arith, at, length-append before (own ∷ []))) in
-    ap₂ (λ b bs. b ∷ bs) (ap (λ cs. build_with cs f) here) more
+    ap₂ (λ b bs. b ∷ bs) (ap (λ cs. build_on cs f) here) more
   where
     get-behind : (before : List (List Claim)) (own : List Claim) (rest : List (List Claim)) →
         slice_index_or (before ++ own ∷ rest) (length before) [] ≡ own

@@ -13,7 +13,7 @@ use Rattle.us_split.specs.Plans.{Planned}
 use Rattle.us_split.specs.Claims.{Claim, claim_at, claim_on, claims_from}
 use Rattle.us_split.proofs.ChannelShareLemmas.{first_place, later_place}
 use Rattle.us_round.specs.Placements.{PlacedClaim, grant_of, grants_of, assignments, with_grant}
-use Rattle.us_round.specs.Rounds.{Filled, Built, build_on, builds_of, fills_of, round_plan}
+use Rattle.us_round.specs.Rounds.{Filled, Built, build_planned, builds_of, fills_of, round_plan}
 use Rattle.us_round.specs.TurnByTurn.{ByTurnsIsByChannels, RoundsAreByTurns, place_channels, place_share, place_turns, unbuilt, with_claim_on, with_grant_on}
 use Rattle.us_round.proofs.PartLemmas.{all_found}
 use Rattle.us_round.proofs.SoundLemmas.{by_turns, turns_planned}
@@ -185,8 +185,8 @@ turns_claims turn (planned ∷ plan) b apart =
 
 built_alike : (plan : List Planned) (fs : List Filled) →
     AllByRecursion (λ planned. AreApart planned.turn.cluster.flow.channels) plan →
-    map (turns_on_one 0 plan) (map unbuilt fs) ≡ map (build_on plan) fs
-unfolding build_on
+    map (turns_on_one 0 plan) (map unbuilt fs) ≡ map (build_planned plan) fs
+unfolding build_planned
 built_alike plan [] apart = refl
 built_alike plan (f ∷ fs) apart =
     ap₂ (λ b bs. b ∷ bs) (turns_claims 0 plan (unbuilt f) apart) (built_alike plan fs apart)

@@ -12,7 +12,7 @@ use Rattle.us_bucket.specs.Levels.{Level, full, bytes_in}
 use Rattle.us_calendar.specs.Calendars as calendars
 use Rattle.us_calendar.specs.Calendars.{Calendar, pace_of, settled_in, granted_in}
 use Rattle.us_split.specs.Plans.{Planned, plan_for}
-use Rattle.us_round.specs.Rounds.{State, Filled, Built, Scheduled, asked, grown, idle, all_grants, uncredited, spent_of}
+use Rattle.us_round.specs.Rounds.{State, Filled, Built, Scheduled, with_cut, grown, idle, all_grants, uncredited, spent_of}
 use Rattle.us_round.specs.Leftovers.{still_asking}
 
 -- all of a state but its calendars
@@ -51,7 +51,7 @@ abbrev pub begun_core : Core → List ℕ → Core
 begun_core core cut = record {
   tables = core.tables;
   round = core.round;
-  outstanding = asked core.outstanding cut;
+  outstanding = with_cut core.outstanding cut;
   buckets = grown (with_calendars core []);
 }
 

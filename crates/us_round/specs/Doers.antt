@@ -12,7 +12,7 @@ use Rattle.us_flows.specs.declared.channels.Channel.{Channel}
 use Rattle.us_calendar.specs.Calendars.{Calendar}
 use Rattle.us_split.specs.Claims.{IsClaimOn}
 use Rattle.us_round.specs.Cores.{HasFewTicks, IsReady}
-use Rattle.us_round.specs.Rounds.{Filled, Built, fill, build_with}
+use Rattle.us_round.specs.Rounds.{Filled, Built, fill, build_on}
 use Rattle.us_round.specs.declared.phases.Filling.{Filling}
 use Rattle.us_round.specs.declared.phases.Building.{Building}
 
@@ -43,7 +43,7 @@ CanBuild work place item =
     AllByRecursion (IsClaimOn item.channel) (slice_index_or work.plan.now place []) × HasFewTicks item
 
 abbrev pub built_at : Building → ℕ → Filled → Built
-built_at work place item = build_with (slice_index_or work.plan.now place []) item
+built_at work place item = build_on (slice_index_or work.plan.now place []) item
 
 abbrev pub DoesBuild : {F E : Type 0} →
     Once F (Bor Building × (Vec Filled × Unit {0})) (Result (Vec Built) (CrewFault E)) → F → Type 0

@@ -19,7 +19,7 @@ use Rattle.us_split.specs.Plans.{after_turn, cost_on, plan_for, plan_of, shares_
 use Rattle.us_split.specs.Claims.{claims_from}
 use Rattle.us_round.specs.Reserves.{reserves}
 use Rattle.us_round.specs.Placements.{grants_of, spot}
-use Rattle.us_round.specs.Rounds.{RoundResult, build_on, builds_of, final, opening, pending_sids, pendings_on, round_from, round_of, round_plan, schedule}
+use Rattle.us_round.specs.Rounds.{RoundResult, build_planned, builds_of, final, opening, pending_sids, pendings_on, round_from, round_of, round_plan, schedule}
 use Rattle.us_round.specs.Outputs.{RoundOut, by_start, elements_of, final_rows, head_of, map_of, out_of, rows_on}
 use Rattle.us_round.specs.declared.rows.Grant.{Grant}
 use Rattle.us_round.specs.declared.rows.Row.TheVariants as rows
@@ -29,7 +29,7 @@ use Rattle.us_round.specs.declared.rows.EntryWord.TheVariants as words
 unfoldable pub round_steps : ⊤
 unfolding coded_length burst_cost greatest_up_to capacity_of turns_of bytes_in refilled spent units_in assign_all
     first_of longest_up_to runs_from divided after_turn cost_on plan_for plan_of shares_of weights reserves claims_from
-    grants_of spot build_on builds_of final pending_sids pendings_on round_from round_of schedule by_start elements_of
+    grants_of spot build_planned builds_of final pending_sids pendings_on round_from round_of schedule by_start elements_of
     final_rows head_of map_of out_of rows_on word_of entries run_entries
 round_steps = tt
 

@@ -34,9 +34,9 @@ opening t = record {
 
 -- The start of a round.
 
--- the bytes that are newly asked for of each cluster are outstanding too
-abbrev pub asked : List ℕ → List ℕ → List ℕ
-asked outstanding cut = map (λ pair. pair.0 + pair.1) (zip outstanding cut)
+-- with a cut: the bytes that are newly asked for of each cluster are outstanding too
+abbrev pub with_cut : List ℕ → List ℕ → List ℕ
+with_cut outstanding cut = map (λ pair. pair.0 + pair.1) (zip outstanding cut)
 
 -- in every round but the first the buckets grow by what a round's time brings
 abbrev pub grown : State → List Level
@@ -44,7 +44,7 @@ grown state = if state.round == 0 then state.buckets else map (refilled state.ta
 
 -- Channels.
 
--- a channel whose reserves stand, and what its calendar settled
+-- a channel whose reserves stand, what its calendar settled, and that calendar as the next round finds it
 pub record Filled : Type 0 where
   pub channel : Channel
   pub board : Board
@@ -65,7 +65,7 @@ filled t round cs = map (λ pair. fill t round pair.0 pair.1) (zip t.channels cs
 abbrev pub idle : List Filled → List ℕ
 idle fs = map (λ f. free_count f.board.cells) fs
 
--- a channel whose claims are placed
+-- a channel whose claims are placed; its calendar is the one that the next round finds
 pub record Built : Type 0 where
   pub channel : Channel
   pub board : Board
@@ -74,8 +74,8 @@ pub record Built : Type 0 where
   pub grants : List PlacedClaim
 
 -- a channel with these claims placed
-abbrev pub build_with : List Claim → Filled → Built
-build_with claims f =
+abbrev pub build_on : List Claim → Filled → Built
+build_on claims f =
     let grants : List PlacedClaim = grants_of f.channel.bursts f.board claims in
     record {
       channel = f.channel;
@@ -86,8 +86,8 @@ build_with claims f =
     }
 
 -- each channel places its claims of the plan, and reads no other channel's board
-unfoldable pub build_on : List Planned → Filled → Built
-build_on plan f = build_with (claims_on f.channel plan) f
+unfoldable pub build_planned : List Planned → Filled → Built
+build_planned plan f = build_on (claims_on f.channel plan) f
 
 -- The end of a round.
 
@@ -155,12 +155,12 @@ pub record RoundResult : Type 0 where
   pub state : State
   pub scheduled : Scheduled
 
--- a state in whose round the bytes that are newly asked for stand, and the growth of the buckets
+-- a state whose round has begun: what is newly asked for is outstanding too, and the buckets have grown
 abbrev pub begun : State → List ℕ → State
 begun state cut = record {
   tables = state.tables;
   round = state.round;
-  outstanding = asked state.outstanding cut;
+  outstanding = with_cut state.outstanding cut;
   buckets = grown state;
   calendars = state.calendars;
 }
@@ -175,7 +175,7 @@ round_plan state = plan_for state.tables state.outstanding (map bytes_in state.b
 
 -- and its channels, once all claims are placed
 unfoldable pub builds_of : State → List Built
-builds_of state = map (build_on (round_plan state)) (fills_of state)
+builds_of state = map (build_planned (round_plan state)) (fills_of state)
 
 -- what the channels of a round leave of a state to the next one
 abbrev pub credited : State → List Built → State

@@ -9,7 +9,7 @@ use Rattle.us_holes.specs.Boards.{max_assignments}
 use Rattle.us_calendar.specs.Calendars.{Calendar, settled_in}
 use Rattle.us_split.specs.PlanLaws.{IsLawfulPlan}
 use Rattle.us_split.specs.Claims.{Claim, AreClaims, IsClaimOn, all_claims}
-use Rattle.us_round.specs.Rounds.{State, Filled, Built, idle, fills_of, build_with, builds_of, round_from}
+use Rattle.us_round.specs.Rounds.{State, Filled, Built, idle, fills_of, build_on, builds_of, round_from}
 use Rattle.us_round.specs.Outputs.{RoundOut, out_of, AreWithinLimits}
 use Rattle.us_round.specs.States.{AreSound, settled_by}
 use Rattle.us_round.specs.Cores.{Core, IsCore, AreCalendars, AreCounted, IsFilledFor, settled_now, settled_then, plan_over, with_calendars}
@@ -42,7 +42,7 @@ AreClaimsOn plan fs = (place : ℕ) (f : Filled) → slice_get fs place ≡ Some
 
 -- each channel places its own,
 abbrev pub built_by : List (List Claim) → List Filled → List Built
-built_by plan fs = values_of (λ place f. build_with (slice_index_or plan place []) f) fs
+built_by plan fs = values_of (λ place f. build_on (slice_index_or plan place []) f) fs
 
 -- all claims are placed,
 pub record AreBuilt (core : Core) (cs : List Calendar) (bs : List Built) : Type 0 where

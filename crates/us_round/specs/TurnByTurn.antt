@@ -6,7 +6,7 @@ use Rattle.us_flows.specs.Lawful.{AreApart, AreTables}
 use Rattle.us_split.specs.Plans.{Planned}
 use Rattle.us_split.specs.Claims.{Claim, claim_at}
 use Rattle.us_round.specs.Placements.{PlacedClaim, grant_of, with_grant}
-use Rattle.us_round.specs.Rounds.{State, Filled, Built, fills_of, round_plan, build_on, builds_of}
+use Rattle.us_round.specs.Rounds.{State, Filled, Built, fills_of, round_plan, build_planned, builds_of}
 
 -- a channel on which no claim is placed yet
 abbrev pub unbuilt : Filled → Built
@@ -50,7 +50,7 @@ place_turns turn (planned ∷ plan) builds =
 abbrev pub ByTurnsIsByChannels : Type 0
 ByTurnsIsByChannels = (plan : List Planned) (fs : List Filled) →
     AllByRecursion (λ planned. AreApart planned.turn.cluster.flow.channels) plan →
-    place_turns 0 plan (map unbuilt fs) ≡ map (build_on plan) fs
+    place_turns 0 plan (map unbuilt fs) ≡ map (build_planned plan) fs
 
 -- and so in each round of a configuration
 abbrev pub RoundsAreByTurns : Type 0

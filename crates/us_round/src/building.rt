@@ -125,7 +125,7 @@ pub(crate) fn fill(
 pub(crate) fn build_on(alloc: Global, claims: &[Claim], filled: Filled) -> Result<Built, NoMemory>
     requires claims { AllByRecursion (IsClaimOn filled.channel) claims.now }
     requires ticks { HasFewTicks filled }
-    ensures value { IfOk result (λ built. built ≡ spec.build_with claims.now filled) }
+    ensures value { IfOk result (λ built. built ≡ spec.build_on claims.now filled) }
     ensures len { IfOk result (λ built. length built.board.cells ≡ length filled.board.cells) }
 {
     let Filled {
@@ -191,7 +191,7 @@ pub(crate) fn lanes_of(alloc: Global, built: Vec<Built>) -> Result<Vec<Lane>, No
     let mut all = Vec::with_capacity(alloc, built.len())?;
     for part in built {
         let Built { track, .. } = part;
-        all.push(Lane::of(track))?;
+        all.push_reserved(Lane::of(track));
     }
     Ok(all)
 }

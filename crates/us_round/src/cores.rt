@@ -3,7 +3,7 @@ ghost use Rattle.std.specs.List.{AllByRecursion};
 ghost use Rattle.us_flows.specs.Clusters.{clusters_of};
 ghost use Rattle.us_flows.specs.Lawful.{AreTables};
 ghost use Rattle.us_bucket.specs.Levels.{bytes_in, full, refilled};
-ghost use Rattle.us_round.specs.Rounds.{asked, all_grants};
+ghost use Rattle.us_round.specs.Rounds.{with_cut, all_grants};
 ghost use Rattle.us_round.specs.Cores as spec;
 ghost use Rattle.us_round.specs.States.{Covers};
 
@@ -111,7 +111,7 @@ impl Core {
     {
         let mut bytes = Vec::with_capacity(alloc, self.outstanding.len())?;
         for state in &self.outstanding {
-            bytes.push(state.outstanding())?;
+            bytes.push_reserved(state.outstanding());
         }
         Ok(bytes)
     }
@@ -123,7 +123,7 @@ impl Core {
     {
         let mut most = Vec::with_capacity(alloc, self.buckets.len())?;
         for bucket in &self.buckets {
-            most.push(bucket.bytes())?;
+            most.push_reserved(bucket.bytes());
         }
         Ok(most)
     }
@@ -179,7 +179,7 @@ fn full_buckets(alloc: Global, flows: &[Flow]) -> Result<Vec<Bucket>, NoMemory>
 fn add_all(outstanding: &mut [ClusterState], cuts: &[u64])
     requires clusters { length outstanding.old ≡ length cuts.now }
     requires room { AllByRecursion (λ pair. pair.0 + pair.1 < 2 ^ 62) (zip outstanding.old cuts.now) }
-    ensures { outstanding.new ≡ asked outstanding.old cuts.now }
+    ensures { outstanding.new ≡ with_cut outstanding.old cuts.now }
 {
     for place in 0..cuts.len() {
         outstanding[place].add(cuts[place]);

@@ -23,7 +23,7 @@ use us_slots::{Iuc, NoMemory};
 /// The SID that addresses nobody (the standard's).
 const NOBODY: u16 = 0;
 
-/// The MAP of each channel of a round, with the pendings that are pending.
+/// The MAP of each channel of a round, with the SIDs that are pending there.
 pub(crate) fn maps_of(
     alloc: Global,
     config: &Config,
@@ -39,7 +39,7 @@ pub(crate) fn maps_of(
     let mut runs = Vec::new(alloc);
     let mut maps = Vec::with_capacity(alloc, built.len())?;
     for part in built {
-        maps.push(built_map(alloc, config, round, part, pendings, &mut runs)?)?;
+        maps.push_reserved(built_map(alloc, config, round, part, pendings, &mut runs)?);
     }
     Ok(maps)
 }

@@ -92,7 +92,7 @@ fn with_channels(
     let mut all = Vec::with_capacity(alloc, channels.len())?;
     for lane in lanes {
         let place = all.len();
-        all.push((channels[place], lane))?;
+        all.push_reserved((channels[place], lane));
     }
     Ok(all)
 }

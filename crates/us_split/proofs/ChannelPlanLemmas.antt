@@ -11,7 +11,7 @@ use Rattle.us_flows.specs.Ranges.{max_round_ticks}
 use Rattle.us_flows.specs.Lawful.{AreApart, AreTables}
 use Rattle.us_split.specs.Plans.{IsIdle, Planned, budget_of, cost_on, header_bytes, share_at, share_cost}
 use Rattle.us_split.specs.Claims.{claim_at}
-use Rattle.us_split.specs.Grants.{Asker, ChannelPlan, IsPlaceOf, asker_of, budget_in, channel_of, claimed_at, claimed_from, with_claim, with_share, with_turn}
+use Rattle.us_split.specs.PartialPlans.{Asker, ChannelPlan, IsPlaceOf, asker_of, budget_in, channel_of, claimed_at, claimed_from, with_claim, with_share, with_turn}
 use Rattle.us_split.proofs.ChannelShareLemmas.{first_place, later_place}
 
 pub fewer_ticks : (slots less ticks : ℕ) → slots * ticks ≤ max_round_ticks → (slots - less) * ticks ≤ max_round_ticks

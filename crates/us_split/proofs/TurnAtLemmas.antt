@@ -13,7 +13,7 @@ use Rattle.us_flows.specs.Turns.{turn_at, in_flow}
 use Rattle.us_flows.specs.Lawful.{AreApart, AreTables, IsFlow}
 use Rattle.us_flows.specs.declared.turns.Turn as places
 use Rattle.us_flows.proofs.TurnLaws.{in_order-few, table_order-length}
-use Rattle.us_split.specs.Grants.{IsTurnOf, IsSmall}
+use Rattle.us_split.specs.PartialPlans.{IsTurnOf, IsSmall}
 
 -- an item of the one list leads to that of the other
 at_item : {X Y : Type 0} (f : X → Option Y) (xs : List X) (ys : List Y) (i : ℕ) (d : X) → map f xs ≡ map Some ys →

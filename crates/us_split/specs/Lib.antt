@@ -14,4 +14,4 @@ pub mod PlanLaws
 -- the definitions at small inputs
 pub mod Examples
 -- inside the crate, and of no use to a reader of the promise: a plan in the making
-pub mod Grants
+pub mod PartialPlans

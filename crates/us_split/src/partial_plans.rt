@@ -6,8 +6,8 @@ ghost use Rattle.us_flows.specs.Ranges.{max_channels_of_flow};
 ghost use Rattle.us_split.specs.Divisions.{divided};
 ghost use Rattle.us_split.specs.Plans.{IsIdle, header_bytes, segment_header_bytes, max_burst_bytes, weights, at_most};
 ghost use Rattle.us_split.specs.Claims as claims_spec;
-ghost use Rattle.us_split.specs.Grants as spec;
-ghost use Rattle.us_split.specs.Grants.{IsTurnOf, IsSmall, budget_in, idle_plan, planned_in, planned_further};
+ghost use Rattle.us_split.specs.PartialPlans as spec;
+ghost use Rattle.us_split.specs.PartialPlans.{IsTurnOf, IsSmall, budget_in, idle_plan, planned_in, planned_further};
 
 use crate::channel_plans::{Asker, ChannelPlan, claim_all};
 use crate::claims::Claimant;
@@ -74,7 +74,7 @@ impl PartialPlan {
 
     /// Plans a turn of this flow, of so many outstanding bytes. What its shares take is no longer there for the turns after
     /// it.
-    pub(crate) fn grant(
+    pub(crate) fn plan_turn(
         &mut self,
         place: u16,
         turn: &Turn,
@@ -230,7 +230,7 @@ fn channels_of(alloc: Global, config: &Config, idle: &[u32]) -> Result<Vec<Chann
 {
     let mut channels = Vec::with_capacity(alloc, config.channels().len())?;
     for (place, channel) in config.channels().iter().enumerate() {
-        channels.push(ChannelPlan::new(alloc, *channel, idle[place]))?;
+        channels.push_reserved(ChannelPlan::new(alloc, *channel, idle[place]));
     }
     Ok(channels)
 }

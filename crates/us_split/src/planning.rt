@@ -87,7 +87,7 @@ pub fn plan_with(
         if bytes == 0 {
             continue;
         }
-        partial.grant(place as u16, turn, &config.flows()[turn.flow], bytes)?;
+        partial.plan_turn(place as u16, turn, &config.flows()[turn.flow], bytes)?;
     }
     Ok(partial.into_plan())
 }

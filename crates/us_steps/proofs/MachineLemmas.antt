@@ -5,7 +5,7 @@ use Rattle.us_requests.specs.declared.asks.Ask.{Ask}
 use Rattle.us_round.specs.Rounds.{State, Filled, begun, fills_of}
 use Rattle.us_steps.specs.declared.steps.Step.{Step}
 use Rattle.us_steps.specs.declared.steps.Step.TheVariants as step
-use Rattle.us_steps.specs.Machines.{Stand, Home, Out, Done, Machine, opening_machine, with_row, without_word, with_channel, placed, opened, built, is_open, is_built, any_open, after_step, are_set, is_done, run}
+use Rattle.us_steps.specs.Machines.{Stand, Home, Out, Done, Machine, opening_machine, with_row, without_word, with_channel, placed, opened, built, was_opened, is_built, any_open, after_step, are_set, is_done, run}
 use Rattle.us_steps.specs.Tallies as tallies
 use Rattle.us_steps.specs.Tallies.{Tally, tally_of, opening_tally, after}
 
@@ -44,21 +44,21 @@ or-true : (b : Bool) → (b || true) ≡ true
 or-true true = refl
 or-true false = refl
 
-now-open : (channels : List Stand) (n : ℕ) (was now : Stand) → slice_get channels n ≡ Some was → is_open now ≡ true →
+now-open : (channels : List Stand) (n : ℕ) (was now : Stand) → slice_get channels n ≡ Some was → was_opened now ≡ true →
     any_open (slice_set channels n now) ≡ true
 now-open [] n was now is opens = absurd (cc is)
 now-open (c ∷ channels) zero was now is opens = ap (λ b. b || any_open channels) opens
 now-open (c ∷ channels) (suc n) was now is opens =
-    ap (λ b. is_open c || b) (now-open channels n was now is opens) ∙ or-true (is_open c)
+    ap (λ b. was_opened c || b) (now-open channels n was now is opens) ∙ or-true (was_opened c)
 
-found-open : (channels : List Stand) (n : ℕ) (was : Stand) → slice_get channels n ≡ Some was → is_open was ≡ true →
+found-open : (channels : List Stand) (n : ℕ) (was : Stand) → slice_get channels n ≡ Some was → was_opened was ≡ true →
     any_open channels ≡ true
 found-open [] n was is opens = absurd (cc is)
 found-open (c ∷ channels) zero was is opens =
     let same : c ≡ was = cc in
-    ap (λ b. b || any_open channels) (ap is_open same ∙ opens)
+    ap (λ b. b || any_open channels) (ap was_opened same ∙ opens)
 found-open (c ∷ channels) (suc n) was is opens =
-    ap (λ b. is_open c || b) (found-open channels n was is opens) ∙ or-true (is_open c)
+    ap (λ b. was_opened c || b) (found-open channels n was is opens) ∙ or-true (was_opened c)
 
 -- One step.
 
@@ -69,17 +69,17 @@ open-tally s rows m channel = by (slice_get m.channels channel) refl
   where
     by : (found : Option Stand) → slice_get m.channels channel ≡ found →
         option_map tally_of (option_map (with_channel m channel) (option_and_then opened found))
-        ≡ (if get_or (map is_open m.channels) channel true then None else Some (tallies.with_open (tally_of m) channel))
-    by None is = rw (no-flag is_open m.channels channel true is) refl
+        ≡ (if get_or (map was_opened m.channels) channel true then None else Some (tallies.with_open (tally_of m) channel))
+    by None is = rw (no-flag was_opened m.channels channel true is) refl
     by (Some (Home f)) is =
         rw (
-          found-flag is_open m.channels channel true (Home f) is,
-          set-flag is_open m.channels channel (Out f),
+          found-flag was_opened m.channels channel true (Home f) is,
+          set-flag was_opened m.channels channel (Out f),
           kept-flag is_built m.channels channel (Home f) (Out f) is refl,
           now-open m.channels channel (Home f) (Out f) is refl,
         ) refl
-    by (Some (Out f)) is = rw (found-flag is_open m.channels channel true (Out f) is) refl
-    by (Some (Done b)) is = rw (found-flag is_open m.channels channel true (Done b) is) refl
+    by (Some (Out f)) is = rw (found-flag was_opened m.channels channel true (Out f) is) refl
+    by (Some (Done b)) is = rw (found-flag was_opened m.channels channel true (Done b) is) refl
 
 built-tally : (s : State) (rows : List Ask) (m : Machine) (channel : ℕ) →
     option_map tally_of (after_step s rows m (step.Built channel)) ≡ after rows (tally_of m) (step.Built channel)
@@ -88,23 +88,23 @@ built-tally s rows m channel = by (slice_get m.channels channel) refl
   where
     by : (found : Option Stand) → slice_get m.channels channel ≡ found →
         option_map tally_of (option_map (with_channel m channel) (option_and_then (built (begun s m.cut)) found))
-        ≡ (if not (get_or (map is_open m.channels) channel false) || get_or (map is_built m.channels) channel true
+        ≡ (if not (get_or (map was_opened m.channels) channel false) || get_or (map is_built m.channels) channel true
         then None else Some (tallies.with_built (tally_of m) channel))
-    by None is = rw (no-flag is_open m.channels channel false is) refl
-    by (Some (Home f)) is = rw (found-flag is_open m.channels channel false (Home f) is) refl
+    by None is = rw (no-flag was_opened m.channels channel false is) refl
+    by (Some (Home f)) is = rw (found-flag was_opened m.channels channel false (Home f) is) refl
     by (Some (Out f)) is =
         let done : Stand = Done (placed (begun s m.cut) f) in
         rw (
-          found-flag is_open m.channels channel false (Out f) is,
+          found-flag was_opened m.channels channel false (Out f) is,
           found-flag is_built m.channels channel true (Out f) is,
-          kept-flag is_open m.channels channel (Out f) done is refl,
+          kept-flag was_opened m.channels channel (Out f) done is refl,
           set-flag is_built m.channels channel done,
           now-open m.channels channel (Out f) done is refl,
           found-open m.channels channel (Out f) is refl,
         ) refl
     by (Some (Done b)) is =
         rw (
-          found-flag is_open m.channels channel false (Done b) is,
+          found-flag was_opened m.channels channel false (Done b) is,
           found-flag is_built m.channels channel true (Done b) is,
         ) refl
 
@@ -136,10 +136,10 @@ and-false false = refl
 
 -- what is done was opened
 both-set : (channels : List Stand) →
-    (are_set (map is_open channels) && are_set (map is_built channels)) ≡ are_set (map is_built channels)
+    (are_set (map was_opened channels) && are_set (map is_built channels)) ≡ are_set (map is_built channels)
 both-set [] = refl
 both-set (Home f ∷ channels) = refl
-both-set (Out f ∷ channels) = and-false (are_set (map is_open channels))
+both-set (Out f ∷ channels) = and-false (are_set (map was_opened channels))
 both-set (Done b ∷ channels) = both-set channels
 
 done-tally : (m : Machine) → tallies.is_done (tally_of m) ≡ is_done m
@@ -183,7 +183,7 @@ pub opening-is : (s : State) (words : List ℕ) (rows : ℕ) →
     tally_of (opening_machine s words rows) ≡ opening_tally words rows (length (fills_of s))
 opening-is s words rows =
     rw (
-      fresh-flags is_open (fills_of s) (λ f. refl),
+      fresh-flags was_opened (fills_of s) (λ f. refl),
       fresh-flags is_built (fills_of s) (λ f. refl),
       none-open (fills_of s),
     ) refl

@@ -1,7 +1,7 @@
 -- The step machine: what stands after each step of a round, in words, seats and channels.
 use Rattle.std.specs.Prelude.{ℕ, ◌+◌, ◌==◌, Bool, true, false, ◌&&◌, ◌||◌, if◌then◌else◌, List, [], ◌∷◌, length, map, replicate, get_or, slice_index, slice_get, slice_set, Option, Some, None, option_map, option_and_then}
 use Rattle.us_requests.specs.declared.asks.Ask.{Ask}
-use Rattle.us_round.specs.Rounds.{State, Filled, Built, begun, fills_of, round_plan, build_on}
+use Rattle.us_round.specs.Rounds.{State, Filled, Built, begun, fills_of, round_plan, build_planned}
 use Rattle.us_steps.specs.Steps.{bytes_in}
 use Rattle.us_steps.specs.declared.steps.Step.{Step}
 use Rattle.us_steps.specs.declared.steps.Step.TheVariants as step
@@ -96,7 +96,7 @@ opened (Done b) = None
 
 -- the claims that the plan of a round that has begun has for a channel are placed on its board
 abbrev pub placed : State → Filled → Built
-placed s f = build_on (round_plan s) f
+placed s f = build_planned (round_plan s) f
 
 -- so one that is out is done
 abbrev pub built : State → Stand → Option Stand
@@ -115,10 +115,10 @@ with_channel m channel stand = record {
 }
 
 -- whether a channel was opened, and whether it is done
-abbrev pub is_open : Stand → Bool
-is_open (Home f) = false
-is_open (Out f) = true
-is_open (Done b) = true
+abbrev pub was_opened : Stand → Bool
+was_opened (Home f) = false
+was_opened (Out f) = true
+was_opened (Done b) = true
 
 abbrev pub is_built : Stand → Bool
 is_built (Home f) = false
@@ -127,7 +127,7 @@ is_built (Done b) = true
 
 abbrev pub any_open : List Stand → Bool
 any_open [] = false
-any_open (channel ∷ channels) = is_open channel || any_open channels
+any_open (channel ∷ channels) = was_opened channel || any_open channels
 
 -- Steps.
 

@@ -3,7 +3,7 @@ use Rattle.std.specs.Prelude.{◌≡◌, ℕ, ◌+◌, ◌^◌, ◌<◌, Bool, t
 use Rattle.std.specs.List.{AllByRecursion}
 use Rattle.us_requests.specs.declared.asks.Ask.{Ask}
 use Rattle.us_steps.specs.Steps.{bytes_for, IsComplete, cut_of, left_of}
-use Rattle.us_steps.specs.Machines.{Machine, raised, are_set, is_open, is_built, any_open}
+use Rattle.us_steps.specs.Machines.{Machine, raised, are_set, was_opened, is_built, any_open}
 use Rattle.us_steps.specs.declared.steps.Step.{Step}
 use Rattle.us_steps.specs.declared.steps.Step.TheVariants as step
 
@@ -104,7 +104,7 @@ tally_of m = record {
   cut = m.cut;
   added = m.added;
   taken = m.taken;
-  opened = map is_open m.channels;
+  opened = map was_opened m.channels;
   built = map is_built m.channels;
   settled = any_open m.channels;
 }

@@ -1,4 +1,4 @@
-use Rattle.std.proofs.Common.{◌≡◌, ◌++◌, map, drop}
+use Rattle.std.proofs.Common.{◌≡◌, ◌≤◌, ◌++◌, length, map, drop, vec_len, vec_capacity}
 use Rattle.std.specs.List.{AllByRecursion}
 use Rattle.us_round.specs.Outputs.{built_map, IsWithinLimits}
 use Rattle.us_round.specs.Leftovers.{IsBuiltFor}
@@ -11,4 +11,5 @@ invariant-loop-part l =
     map (built_map l.config l.round l.pendings) l.built)
     × AllByRecursion (IsBuiltFor l.config) (drop l.part-index l.built)
     × (AllByRecursion (IsWithinLimits l.config l.round l.pendings) (drop l.part-index l.built) →
-    AllByRecursion (IsWithinLimits l.config l.round l.pendings) l.built)
+    AllByRecursion (IsWithinLimits l.config l.round l.pendings) l.built) ×
+    (vec_len l.maps ≡ l.part-index) × (length l.built ≤ vec_capacity l.maps)

@@ -2,7 +2,7 @@ use Rattle.std.proofs.Common.{◌≡◌, ℕ, List, ◌∷◌, ◌+◌, ◌<◌,
 use Rattle.std.specs.Prelude.{slice_index}
 use Rattle.std.proofs.lemmas.List.{drop_more, drop_all}
 use Rattle.us_flows.specs.Lawful.{AreApart}
-use Rattle.us_split.specs.Grants.{claimed_at, claimed_from}
+use Rattle.us_split.specs.PartialPlans.{claimed_at, claimed_from}
 use Rattle.us_split.proofs.ChannelPlanLemmas.{ids, claimed_more, claimed_end, claimed_at-ids}
 use Rattle.us_split.proofs.channel_plans.claim_all.Goals as goal
 

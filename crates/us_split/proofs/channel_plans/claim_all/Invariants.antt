@@ -1,6 +1,6 @@
 use Rattle.std.proofs.Common.{◌≡◌, drop, map}
 use Rattle.us_flows.specs.Lawful.{AreApart}
-use Rattle.us_split.specs.Grants.{claimed_from}
+use Rattle.us_split.specs.PartialPlans.{claimed_from}
 use Rattle.us_split.proofs.channel_plans.claim_all.Given as goal
 
 -- the shares on the other channels are still to be claimed

@@ -1,5 +1,5 @@
 use Rattle.std.proofs.Common.{◌≡◌, drop}
-use Rattle.us_split.specs.Grants.{channel_of}
+use Rattle.us_split.specs.PartialPlans.{channel_of}
 use Rattle.us_split.proofs.channel_plans.searched.Given as goal
 
 -- the channel isn't among those before

@@ -1,6 +1,6 @@
 use Rattle.std.proofs.Common.{◌≡◌, ℕ, ◌<◌, ◌+◌, ◌≤◌, take, map, get_or}
 use Rattle.us_split.specs.Plans.{budget_of, weight}
-use Rattle.us_split.specs.Grants.{budget_in}
+use Rattle.us_split.specs.PartialPlans.{budget_in}
 use Rattle.us_split.proofs.channel_plans.weigh.Given as goal
 
 -- the weights so far

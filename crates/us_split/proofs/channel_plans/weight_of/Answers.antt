@@ -1,6 +1,6 @@
 use Rattle.std.proofs.Common.{Some, ap, ◌∙◌, sym}
 use Rattle.us_split.specs.Plans.{weight}
-use Rattle.us_split.specs.Grants.{budget_in}
+use Rattle.us_split.specs.PartialPlans.{budget_in}
 use Rattle.us_split.proofs.ChannelPlanLemmas.{budget_at, no_budget}
 use Rattle.us_split.proofs.channel_plans.weight_of.Goals as goal
 

@@ -7,7 +7,7 @@ use Rattle.us_flows.specs.Lawful.{AreApart}
 use Rattle.us_flows.specs.declared.turns.Turn as places
 use Rattle.us_split.specs.Plans.{Planned}
 use Rattle.us_split.specs.Claims.{share_of}
-use Rattle.us_split.specs.Grants.{IsTurnOf, PartialPlan, planned_further, planned_through, ledger_in, planned_in}
+use Rattle.us_split.specs.PartialPlans.{IsTurnOf, PartialPlan, planned_further, planned_through, ledger_in, planned_in}
 use Rattle.us_split.proofs.ChannelPlanLemmas.{ids, idle_apart}
 use Rattle.us_split.proofs.ClaimLemmas.{plan_for-claims, share_of-plan}
 use Rattle.us_split.proofs.PartialPlanLemmas.{claims_of_plan, planned_further_apart, planned_further_flows, planned_further_more, nothing_planned_further}
@@ -59,28 +59,28 @@ bounds-flows-turn c =
     let at = turn_of c.args.config.now c.turns-turns.result.now c.loop-place.place blank c.turns-turns.ensures.value c.loop-place-test.true in
     omega (arith, at.within, ap length c.flows.ensures.value)
 
-pub grant-requires-clause-small : goal.grant-requires-clause-small
-grant-requires-clause-small c =
+pub plan_turn-requires-clause-small : goal.plan_turn-requires-clause-small
+plan_turn-requires-clause-small c =
     let at = turn_of c.args.config.now c.turns-turns.result.now c.loop-place.place blank c.turns-turns.ensures.value c.loop-place-test.true in
     turn_small c.args.config.now (get_or c.turns-turns.result.now c.loop-place.place blank) c.loop-place.place
     c.turns-turns.ensures.lawful at
     (All-from_recursion (λ turn. turn.cluster < length (clusters_of c.args.config.now)) c.turns-turns.result.now
     c.turns-turns.ensures.numbers c.loop-place.place blank c.loop-place-test.true)
 
-pub grant-requires-clause-place : goal.grant-requires-clause-place
-grant-requires-clause-place c =
+pub plan_turn-requires-clause-place : goal.plan_turn-requires-clause-place
+plan_turn-requires-clause-place c =
     let at = turn_of c.args.config.now c.turns-turns.result.now c.loop-place.place blank c.turns-turns.ensures.value c.loop-place-test.true in
     omega (arith, at.within, c.loop-place.invariant.flows, c.requires.flows)
 
-pub grant-requires-clause-few : goal.grant-requires-clause-few
-grant-requires-clause-few c =
+pub plan_turn-requires-clause-few : goal.plan_turn-requires-clause-few
+plan_turn-requires-clause-few c =
     let u : places.Turn = get_or c.turns-turns.result.now c.loop-place.place blank in
     let at = turn_of c.args.config.now c.turns-turns.result.now c.loop-place.place blank c.turns-turns.ensures.value c.loop-place-test.true in
     let few = few_channels c.args.config.now u.flow c.index-flows-turn.result c.turns-turns.ensures.lawful at.within in
     subst (λ f. length f.channels ≤ 8) (sym (c.index-flows-turn.is ∙ ap (λ flows. get_or flows u.flow c.index-flows-turn.result) c.flows.ensures.value)) few
 
-pub grant-requires-clause-apart : goal.grant-requires-clause-apart
-grant-requires-clause-apart c =
+pub plan_turn-requires-clause-apart : goal.plan_turn-requires-clause-apart
+plan_turn-requires-clause-apart c =
     let u : places.Turn = get_or c.turns-turns.result.now c.loop-place.place blank in
     let at = turn_of c.args.config.now c.turns-turns.result.now c.loop-place.place blank c.turns-turns.ensures.value c.loop-place-test.true in
     let apart = channels_apart c.args.config.now u.flow c.index-flows-turn.result c.turns-turns.ensures.lawful at.within in
@@ -91,14 +91,14 @@ loop-place-preserved c =
     let t = c.args.config.now in
     let place : ℕ = c.loop-place.place in
     let partial : PartialPlan = c.loop-place.partial in
-    let next : PartialPlan = c.grant.new.self in
+    let next : PartialPlan = c.plan_turn.new.self in
     let u : places.Turn = get_or c.turns-turns.result.now place blank in
     let at = turn_of c.args.config.now c.turns-turns.result.now c.loop-place.place blank c.turns-turns.ensures.value c.loop-place-test.true in
     let planned : Planned = planned_in c.args.outstanding.now partial at.turn in
     let flow = c.index-flows-turn.is ∙ ap (λ flows. get_or flows u.flow c.index-flows-turn.result) c.flows.ensures.value in
     let own = subst (λ f. IsTurnOf u f at.turn) (sym flow) (at.own c.index-flows-turn.result) in
     let asked = ap (slice_index c.args.outstanding.now) own.number in
-    let is : next ≡ planned_further place planned partial = c.in_ok-grant.ensures at.turn c.args.outstanding.now own asked in
+    let is : next ≡ planned_further place planned partial = c.in_ok-plan_turn.ensures at.turn c.args.outstanding.now own asked in
     record {
       planned_further = planned_further_more c.args.outstanding.now place partial next at.turn (drop (place + 1) (turns_of t)) is ∙
           ap (λ rest. planned_through c.args.outstanding.now place partial rest) (sym at.rest) ∙

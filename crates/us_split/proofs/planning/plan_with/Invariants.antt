@@ -1,7 +1,7 @@
 use Rattle.std.proofs.Common.{◌≡◌, length, drop, map}
 use Rattle.us_flows.specs.Clusters.{turns_of}
 use Rattle.us_flows.specs.Lawful.{AreApart}
-use Rattle.us_split.specs.Grants.{planned_through, idle_plan}
+use Rattle.us_split.specs.PartialPlans.{planned_through, idle_plan}
 use Rattle.us_split.proofs.planning.plan_with.Given as goal
 
 -- the other turns are still to come

@@ -3,7 +3,7 @@ use Rattle.std.specs.Prelude.{slice_index}
 use Rattle.std.proofs.lemmas.List.{length-map}
 use Rattle.us_split.specs.Divisions.{divided}
 use Rattle.us_split.specs.Plans.{header_bytes, weights, weight, budget_of}
-use Rattle.us_split.specs.Grants.{budget_in}
+use Rattle.us_split.specs.PartialPlans.{budget_in}
 use Rattle.us_split.proofs.DivisionLemmas.{divided-within, divided-length}
 use Rattle.us_split.proofs.partial_plans.PartialPlan.shares.Goals as goal
 

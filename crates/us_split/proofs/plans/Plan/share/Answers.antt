@@ -2,7 +2,7 @@ use Rattle.std.proofs.Common.{◌≡◌, ℕ, List, [], ◌∷◌, ◌+◌, ◌<
 use Rattle.std.specs.Prelude.{find}
 use Rattle.std.proofs.lemmas.List.{drop_more, length-map, get_or-map}
 use Rattle.us_split.specs.Claims.{Claim, is_at, share_of, share_or}
-use Rattle.us_split.specs.Grants.{ChannelPlan}
+use Rattle.us_split.specs.PartialPlans.{ChannelPlan}
 use Rattle.us_split.proofs.plans.Plan.share.Goals as goal
 
 abbrev claims_in : List ChannelPlan → List (List Claim)

@@ -2,9 +2,9 @@ use Rattle.std.proofs.Common.{◌≡◌, ◌-◌, List, ℕ, map, set, option_ma
 use Rattle.std.specs.Prelude.{sum, slice_index_or, None}
 use Rattle.us_split.specs.Divisions.{divided}
 use Rattle.us_split.specs.Plans.{at_most, shares_of, weights}
-use Rattle.us_split.specs.Grants.{budget_in, ledger_in, planned_in}
+use Rattle.us_split.specs.PartialPlans.{budget_in, ledger_in, planned_in}
 use Rattle.us_split.proofs.PartialPlanLemmas.{shares_of-is, none_divided, nothing_planned_further, share_planned_further}
-use Rattle.us_split.proofs.partial_plans.PartialPlan.grant.Goals as goal
+use Rattle.us_split.proofs.partial_plans.PartialPlan.plan_turn.Goals as goal
 
 pub returns-then-demand-eq0 : goal.returns-then-demand-eq0
 returns-then-demand-eq0 c = λ turn all is asked.
