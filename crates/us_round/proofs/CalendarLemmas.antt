@@ -13,7 +13,8 @@ use Rattle.us_calendar.specs.Settling.{EntryState}
 use Rattle.us_bucket.specs.Levels.{full}
 use Rattle.us_flows.specs.Clusters.{clusters_of}
 use Rattle.us_split.specs.Plans.{Planned}
-use Rattle.us_round.specs.Rounds.{State, Filled, Built, fill, build_planned, round_plan, builds_of}
+use Rattle.us_channel.specs.Channels.{Filled, Built, fill}
+use Rattle.us_round.specs.Rounds.{State, build_planned, round_plan, builds_of}
 use Rattle.us_round.specs.Cores.{Core, IsCore, opening_core, AreCalendars, AreCounted, settled_now, settled_then, with_calendars, credited_core}
 use Rattle.us_round.specs.States.{IsState, max_settled_by}
 use Rattle.us_round.proofs.FillLemmas.{calendars_long}

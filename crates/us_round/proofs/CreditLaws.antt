@@ -12,10 +12,11 @@ use Rattle.us_split.proofs.ChannelShareLemmas.{channel_shares}
 use Rattle.us_split.specs.Plans.{Planned, header_bytes, share_at, share_on}
 use Rattle.us_split.specs.PlanLaws.{planned_bytes}
 use Rattle.us_split.specs.Claims.{Claimant, Claim, claimant_of, claim_at, claims_from, claims_on}
-use Rattle.us_round.specs.Placements.{PlacedClaim, grants_of}
-use Rattle.us_round.specs.Rounds.{Filled, build_planned, all_grants, credits}
-use Rattle.us_round.proofs.SumLemmas.{sum_passing, sum_passing_both, sum_least, sum_both, sum_none}
-use Rattle.us_round.proofs.GrantLaws.{AreShares, grants_are, credits_few}
+use Rattle.us_channel.specs.Placements.{PlacedClaim, grants_of, credits}
+use Rattle.us_channel.specs.Channels.{Filled}
+use Rattle.us_round.specs.Rounds.{build_planned, all_grants}
+use Rattle.us_channel.proofs.SumLemmas.{sum_passing, sum_passing_both, sum_least, sum_both, sum_none}
+use Rattle.us_channel.proofs.GrantLaws.{AreShares, grants_are, credits_few}
 
 -- Claims.
 

@@ -12,9 +12,9 @@ use Rattle.us_flows.specs.Lawful.{AreApart, AreTables, IsChannel}
 use Rattle.us_holes.specs.Boards.{Holder, free_count}
 use Rattle.us_split.specs.Plans.{IsIdle}
 use Rattle.us_calendar.specs.Calendars.{Calendar, pace_of}
-use Rattle.us_round.specs.Rounds.{Filled, fill, filled, idle}
+use Rattle.us_channel.specs.Channels.{Filled, fill, HasFewTicks}
+use Rattle.us_round.specs.Rounds.{filled, idle}
 use Rattle.us_round.specs.Cores.{AreCalendars, IsFilledFor}
-use Rattle.us_round.specs.Cores.{HasFewTicks}
 
 -- a calendar for each channel
 pub calendars_long : (t : Tables) (round : ℕ) (cs : List Calendar) → AreCalendars t round cs →

@@ -1,11 +1,3 @@
-pub mod FitLemmas
-pub mod SpotLemmas
-pub mod PlaceLemmas
-pub mod ReserveLemmas
-pub mod BuildLemmas
-pub mod SumLemmas
-pub mod SpotLaws
-pub mod GrantLaws
 pub mod CreditLaws
 pub mod FillLemmas
 pub mod PartLemmas

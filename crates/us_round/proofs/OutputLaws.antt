@@ -8,7 +8,7 @@ use Rattle.std.proofs.lemmas.List.Sorted.{IsPermutation-refl, IsPermutation-tran
 use Rattle.us_flows.specs.declared.channels.Channel.{Channel}
 use Rattle.us_calendar.specs.declared.settled.Settled.{Settled}
 use Rattle.us_calendar.specs.declared.settled.Settled.TheVariants as settled
-use Rattle.us_round.specs.Placements.{PlacedClaim}
+use Rattle.us_channel.specs.Placements.{PlacedClaim}
 use Rattle.us_round.specs.declared.rows.Row.{Row}
 use Rattle.us_round.specs.Outputs.{start_of, by_start, is_granted, settled_row, grant_row, granted_rows, missed_rows, rows_on}
 use Rattle.us_round.specs.OutputLaws.{IsLineOf, ByStartMoves, LinesBearRound}

@@ -9,8 +9,8 @@ use Rattle.us_flows.specs.Tables.{Tables, FlowTable}
 use Rattle.us_flows.specs.Turns.{turn_at, in_flow}
 use Rattle.us_flows.specs.Clusters.{Turn, turns_of}
 use Rattle.us_flows.specs.Lawful.{AreTables, IsFlow, Between}
-use Rattle.us_round.specs.Placements.{PlacedClaim}
-use Rattle.us_round.specs.Rounds.{credits, is_of_cluster, uncredited, first_sid, pending_sid, pending_sids}
+use Rattle.us_channel.specs.Placements.{PlacedClaim, credits}
+use Rattle.us_round.specs.Rounds.{is_of_cluster, uncredited, first_sid, pending_sid, pending_sids}
 use Rattle.us_round.specs.Leftovers.{still_asking, still_asking_at}
 use Rattle.us_round.proofs.PartLemmas.{all_found, all_weaker}
 

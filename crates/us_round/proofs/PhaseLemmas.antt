@@ -1,27 +1,27 @@
 -- Channels that are moved to workers and back: which may be, what reserves and calendars make of them, and what is
 -- answered for all of them.
-use Rattle.std.proofs.Common.{◌≡◌, ℕ, ◌+◌, ◌*◌, ◌-◌, ◌%◌, ◌<◌, ◌≤◌, ◌==◌, suc, List, [], ◌∷◌, ◌++◌, length, get_or, append_assoc, map, true, Option, None, Result, Ok, Err, IfOk, refl, ap, sym, subst, ◌∙◌, inl, inr, arith}
+use Rattle.std.proofs.Common.{◌≡◌, ℕ, ◌+◌, ◌*◌, ◌<◌, ◌≤◌, suc, List, [], ◌∷◌, ◌++◌, length, get_or, append_assoc, map, Result, Ok, Err, IfOk, refl, ap, sym, subst, ◌∙◌, arith}
 use Rattle.std.specs.Prelude.{zip, sum_by}
 use Rattle.std.specs.List.{AllByRecursion}
-use Rattle.std.proofs.lemmas.Bool.{cases_Bool}
-use Rattle.std.proofs.lemmas.List.{length-append, length-replicate}
+use Rattle.std.proofs.lemmas.List.{length-append}
 use Rattle.std.proofs.lemmas.List.Sums.{sum_by-cons}
 use Rattle.us_flows.specs.declared.channels.Channel.{Channel}
 use Rattle.us_flows.specs.Tables.{Tables, map_len, max_run_ticks}
 use Rattle.us_flows.specs.Lawful.{AreTables, IsChannel}
-use Rattle.us_holes.specs.Boards.{Board, Holder, empty_board, fits}
-use Rattle.us_holes.proofs.LawLemmas.{assign_all-length, fit_length}
+use Rattle.us_holes.specs.Boards.{Board}
+use Rattle.us_holes.proofs.LawLemmas.{assign_all-length}
 use Rattle.us_calendar.specs.Calendars.{Calendar, StartsInside, pace_of, ran, settled_in}
 use Rattle.us_calendar.proofs.FitLaws.{grants_fit}
 use Rattle.us_calendar.proofs.RunLaws.{run_ended}
 use Rattle.us_crew.specs.Items.{AreAccepted}
 use Rattle.us_crew.specs.Values.{values_from}
-use Rattle.us_round.specs.Reserves.{reserved, maintenance, reserves}
-use Rattle.us_round.specs.Rounds.{Filled, fill, filled}
+use Rattle.us_channel.specs.Reserves.{reserves}
+use Rattle.us_channel.specs.Channels.{Filled, fill}
+use Rattle.us_round.specs.Rounds.{filled}
 use Rattle.us_round.specs.Cores.{AreCalendars, IsFilledFor, IsReady, settled_now, settled_then}
 use Rattle.us_round.proofs.FillLemmas.{calendars_long}
 use Rattle.us_round.proofs.PartLemmas.{all_found}
-use Rattle.us_round.proofs.ReserveLemmas.{empty_fits, maintained_fits}
+use Rattle.us_channel.proofs.ReserveLemmas.{reserves_length}
 
 -- Items and answers.
 
@@ -79,31 +79,6 @@ pair_more xs done x y left rest all place pairs new same parts is so_far here at
       put ∙ ap (λ ps. ps ++ (x, y) ∷ []) so_far ∙ sym (zip_more xs done x y known.0 (at ∙ ap (λ n. get_or xs n x) place_is)),
       append_assoc done (y ∷ []) rest ∙ ap (λ more. done ++ more) (sym is) ∙ parts,
     )
-
--- Reserves leave a board its length.
-
-reserved_length : (board : Board) (start slots iuc : ℕ) → fits board slots start ≡ true →
-    length (reserved board start slots iuc).cells ≡ length board.cells
-reserved_length board start slots iuc fit = elim (cases_Bool (slots == 0)) [
-  | inl none ↦ rw none refl
-  | inr some ↦ rw some (fit_length board start slots (record { sid = 16383; iuc = iuc }) fit)
-]
-
-maintained_length : (c : Channel) (len round : ℕ) → c.maintenance_minislots ≤ len →
-    length (maintenance c round (empty_board len)).cells ≡ len
-maintained_length c len round few = elim (cases_Bool (round % c.maintenance_every == 0)) [
-  | inl meets ↦ rw meets
-      (reserved_length (empty_board len) 0 c.maintenance_minislots 3 (empty_fits len c.maintenance_minislots few)
-      ∙ length-replicate {A = Option Holder} len None)
-  | inr other ↦ rw other (length-replicate {A = Option Holder} len None)
-]
-
-reserves_length : (c : Channel) (len round : ℕ) → c.maintenance_minislots + c.contention_minislots ≤ len →
-    length (reserves c len round).cells ≡ len
-unfolding reserves
-reserves_length c len round few =
-    reserved_length (maintenance c round (empty_board len)) (len - c.contention_minislots) c.contention_minislots 1
-    (maintained_fits c len round few) ∙ maintained_length c len round (omega (arith, few))
 
 -- Calendars.
 

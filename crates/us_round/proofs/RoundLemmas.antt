@@ -11,7 +11,8 @@ use Rattle.us_flows.specs.Lawful.{AreTables}
 use Rattle.us_round.specs.declared.rows.Row.{Row}
 use Rattle.us_calendar.specs.Calendars.{Calendar, settled_in, granted_in}
 use Rattle.us_calendar.specs.declared.settled.Settled.{Settled}
-use Rattle.us_round.specs.Rounds.{State, Built, uncredited, all_grants, pending_sids, credited, builds_of, round_from}
+use Rattle.us_channel.specs.Channels.{Built}
+use Rattle.us_round.specs.Rounds.{State, uncredited, all_grants, pending_sids, credited, builds_of, round_from}
 use Rattle.us_round.specs.Outputs.{RoundOut, is_granted, settled_row, grant_row, granted_rows, missed_rows, rows_on, by_start, out_of, IsWithinLimits, AreWithinLimits}
 use Rattle.us_round.specs.Leftovers.{still_asking, AreInside}
 use Rattle.us_round.specs.Cores.{Core, AreCalendars, AreCounted, with_calendars, credited_core, scheduled_of}

@@ -20,16 +20,17 @@ use Rattle.us_flows.specs.declared.channels.Channel.{Channel}
 use Rattle.us_split.specs.Claims.{Claim, Claimant, claimant_of, claim_at, claims_from, claims_on, all_claims, AreClaims, IsClaimOn}
 use Rattle.us_crew.specs.Values.{values_from}
 use Rattle.us_split.specs.PlanLaws.{IsLawfulPlan, planned_bytes}
-use Rattle.us_round.specs.Placements.{PlacedClaim, Spot, spot, grant_at, grants_of, with_grant, assignments}
-use Rattle.us_round.specs.Rounds.{State, Filled, idle, fills_of, build_on, build_planned, builds_of, round_plan, all_grants, credits, is_of_flow}
+use Rattle.us_channel.specs.Placements.{PlacedClaim, Spot, spot, grant_at, grants_of, with_grant, assignments, credits}
+use Rattle.us_channel.specs.Channels.{Filled, build_on}
+use Rattle.us_round.specs.Rounds.{State, idle, fills_of, build_planned, builds_of, round_plan, all_grants, is_of_flow}
 use Rattle.us_round.specs.Stages.{AreClaimsOn, built_by}
 use Rattle.us_round.specs.Leftovers.{StartsInside, IsBuiltFor, AreInside}
 use Rattle.us_round.specs.States.{IsKnown, AreSound}
 use Rattle.us_round.specs.Cores.{AreCalendars, IsFilledFor}
 use Rattle.us_round.proofs.PartLemmas.{all_append, all_found, all_weaker}
-use Rattle.us_round.proofs.FitLemmas.{fit_inside}
+use Rattle.us_channel.proofs.FitLemmas.{fit_inside}
 use Rattle.us_round.proofs.FillLemmas.{filled_apart, filled_all, filled_channels}
-use Rattle.us_round.proofs.GrantLaws.{Granted, grants_are, grants_fit}
+use Rattle.us_channel.proofs.GrantLaws.{Granted, grants_are, grants_fit}
 use Rattle.us_round.proofs.CreditLaws.{claims_some, credits_planned}
 use Rattle.us_round.proofs.StateLemmas.{within_less}
 

@@ -10,10 +10,11 @@ use Rattle.us_calendar.specs.Calendars.{Calendar, settled_in}
 use Rattle.us_split.specs.Plans.{IsIdle, plan_for}
 use Rattle.us_split.specs.PlanLaws.{IsLawfulPlan}
 use Rattle.us_split.specs.Claims.{Claim, AreClaims, all_claims}
-use Rattle.us_round.specs.Rounds.{State, Filled, Built, begun, filled, fills_of, idle, round_plan, builds_of}
+use Rattle.us_channel.specs.Channels.{Filled, Built, HasFewTicks}
+use Rattle.us_round.specs.Rounds.{State, begun, filled, fills_of, idle, round_plan, builds_of}
 use Rattle.us_round.specs.Outputs.{RoundOut, out_of, AreWithinLimits}
 use Rattle.us_round.specs.States.{AreSound, settled_by}
-use Rattle.us_round.specs.Cores.{Core, IsCore, AreCalendars, AreCounted, HasFewTicks, IsFilledFor, IsReady, begun_core, credited_core, plan_over, scheduled_of, settled_now, settled_then, with_calendars}
+use Rattle.us_round.specs.Cores.{Core, IsCore, AreCalendars, AreCounted, IsFilledFor, IsReady, begun_core, credited_core, plan_over, scheduled_of, settled_now, settled_then, with_calendars}
 use Rattle.us_round.specs.Stages.{IsBegun, AreFilled, IsPlanned, AreClaimsOn, built_by, AreBuilt, IsOver, IsOverFor}
 use Rattle.us_round.proofs.FillLemmas.{calendars_long, filled_channels, filled_idle, filled_ticks}
 use Rattle.us_round.proofs.PhaseLemmas.{calendars_ready, filled_sound, filled_counted}

@@ -8,8 +8,9 @@ use Rattle.std.proofs.lemmas.Option.{slice_get-get_or, get_or_from_slice_get, sl
 use Rattle.std.proofs.lemmas.List.Sums.{sum_by-cons}
 use Rattle.us_bucket.specs.Levels.{Level, full, spent, bytes_in, units_per_byte}
 use Rattle.us_split.specs.PlanLaws.{Within}
-use Rattle.us_round.specs.Placements.{PlacedClaim}
-use Rattle.us_round.specs.Rounds.{Built, credits, all_grants, is_of_cluster, is_of_flow, uncredited, spent_of}
+use Rattle.us_channel.specs.Placements.{PlacedClaim, credits}
+use Rattle.us_channel.specs.Channels.{Built}
+use Rattle.us_round.specs.Rounds.{all_grants, is_of_cluster, is_of_flow, uncredited, spent_of}
 use Rattle.us_round.specs.States.{IsKnown, Covers}
 
 -- a grant's credit counts where it passes

@@ -12,8 +12,9 @@ use Rattle.us_holes.specs.Boards.{assign_all}
 use Rattle.us_split.specs.Plans.{Planned}
 use Rattle.us_split.specs.Claims.{Claim, claim_at, claim_on, claims_from}
 use Rattle.us_split.proofs.ChannelShareLemmas.{first_place, later_place}
-use Rattle.us_round.specs.Placements.{PlacedClaim, grant_of, grants_of, assignments, with_grant}
-use Rattle.us_round.specs.Rounds.{Filled, Built, build_planned, builds_of, fills_of, round_plan}
+use Rattle.us_channel.specs.Placements.{PlacedClaim, grant_of, grants_of, assignments, with_grant}
+use Rattle.us_channel.specs.Channels.{Filled, Built}
+use Rattle.us_round.specs.Rounds.{build_planned, builds_of, fills_of, round_plan}
 use Rattle.us_round.specs.TurnByTurn.{ByTurnsIsByChannels, RoundsAreByTurns, place_channels, place_share, place_turns, unbuilt, with_claim_on, with_grant_on}
 use Rattle.us_round.proofs.PartLemmas.{all_found}
 use Rattle.us_round.proofs.SoundLemmas.{by_turns, turns_planned}

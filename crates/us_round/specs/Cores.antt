@@ -2,8 +2,6 @@
 -- channel by themselves; and what the channels of a round keep on the way.
 use Rattle.std.specs.Prelude.{◌≡◌, ℕ, ◌+◌, ◌*◌, ◌≤◌, List, [], length, map, filter_map, replicate, sum_by}
 use Rattle.std.specs.List.{AllByRecursion}
-use Rattle.us_slots.specs.Times.{minislot_ticks}
-use Rattle.us_flows.specs.Ranges.{max_round_ticks}
 use Rattle.us_flows.specs.declared.channels.Channel.{Channel}
 use Rattle.us_flows.specs.Tables.{Tables, map_len, max_run_ticks}
 use Rattle.us_flows.specs.Lawful.{IsChannel}
@@ -12,7 +10,8 @@ use Rattle.us_bucket.specs.Levels.{Level, full, bytes_in}
 use Rattle.us_calendar.specs.Calendars as calendars
 use Rattle.us_calendar.specs.Calendars.{Calendar, pace_of, settled_in, granted_in}
 use Rattle.us_split.specs.Plans.{Planned, plan_for}
-use Rattle.us_round.specs.Rounds.{State, Filled, Built, Scheduled, with_cut, grown, idle, all_grants, uncredited, spent_of}
+use Rattle.us_channel.specs.Channels.{Filled, Built}
+use Rattle.us_round.specs.Rounds.{State, Scheduled, with_cut, grown, idle, all_grants, uncredited, spent_of}
 use Rattle.us_round.specs.Leftovers.{still_asking}
 
 -- all of a state but its calendars
@@ -82,10 +81,6 @@ pub record IsFilledFor (t : Tables) (f : Filled) : Type 0 where
   pub len : length f.board.cells ≡ map_len t f.channel
   pub inside : AllByRecursion (calendars.StartsInside (length f.board.cells)) f.settled
   pub few : granted_in f.settled ≤ f.board.standing
-
--- the MAP of a channel has at most so many ticks as any has
-abbrev pub HasFewTicks : Filled → Type 0
-HasFewTicks f = length f.board.cells * minislot_ticks f.channel.bursts.time ≤ max_round_ticks
 
 -- how many occurrences the calendars of channels settled in a round, and so far
 abbrev pub settled_now : List Filled → ℕ

@@ -11,8 +11,8 @@ use Rattle.us_crew.specs.declared.faults.CrewFault.{CrewFault}
 use Rattle.us_flows.specs.declared.channels.Channel.{Channel}
 use Rattle.us_calendar.specs.Calendars.{Calendar}
 use Rattle.us_split.specs.Claims.{IsClaimOn}
-use Rattle.us_round.specs.Cores.{HasFewTicks, IsReady}
-use Rattle.us_round.specs.Rounds.{Filled, Built, fill, build_on}
+use Rattle.us_channel.specs.Channels.{HasFewTicks, Filled, Built, fill, build_on}
+use Rattle.us_round.specs.Cores.{IsReady}
 use Rattle.us_round.specs.declared.phases.Filling.{Filling}
 use Rattle.us_round.specs.declared.phases.Building.{Building}
 

@@ -7,10 +7,11 @@ use Rattle.us_flows.specs.Clusters.{Turn}
 use Rattle.us_flows.specs.declared.turns.Turn as places
 use Rattle.us_flows.specs.Lawful.{IsChannel}
 use Rattle.us_calendar.specs.Calendars as calendars
-use Rattle.us_round.specs.Placements.{PlacedClaim}
+use Rattle.us_channel.specs.Placements.{PlacedClaim}
 use Rattle.us_round.specs.Outputs.{start_of, by_start}
 use Rattle.us_round.specs.declared.rows.Row.{Row}
-use Rattle.us_round.specs.Rounds.{Built, first_sid}
+use Rattle.us_channel.specs.Channels.{Built}
+use Rattle.us_round.specs.Rounds.{first_sid}
 
 -- a turn that has bytes left, as many as were outstanding of it before, is pending
 abbrev pub still_asking : List ℕ → List ℕ → Turn → Option (ℕ × ℕ)

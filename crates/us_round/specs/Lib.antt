@@ -1,11 +1,7 @@
--- Read in this order: the reserves of a board; where claims are granted; the round and the schedule; what a round gives,
--- and its laws; then examples. What calendars settle stands in us_calendar. In a definition `≡` is equals, `×` and, `→`
+-- Read in this order: the round and the schedule; what a round gives, and its laws; then examples. What a channel comes to
+-- in a round stands in us_channel. In a definition `≡` is equals, `×` and, `→`
 -- implies, `++` one list behind another, `∷` one item before a list, and ℕ has the whole numbers from 0; `-` stops at 0.
 
--- minislots that belong to all modems
-pub mod Reserves
--- where a claim is granted
-pub mod Placements
 -- a round, and the schedule
 pub mod Rounds
 -- the order in which claims are placed
@@ -14,9 +10,7 @@ pub mod TurnByTurn
 pub mod Outputs
 -- laws of what a round gives
 pub mod OutputLaws
--- the definitions at small inputs: placings,
-pub mod PlacementExamples
--- what a round gives,
+-- the definitions at small inputs: what a round gives,
 pub mod OutputExamples
 -- whole rounds,
 pub mod RoundExamples
@@ -32,8 +26,6 @@ pub mod Faults
 pub mod Leftovers
 -- a state without its calendars,
 pub mod Cores
--- the memory of a channel,
-pub mod Tracks
 -- the stages of a round,
 pub mod Stages
 -- and who does its phases

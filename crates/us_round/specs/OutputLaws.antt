@@ -2,7 +2,7 @@
 use Rattle.std.specs.Prelude.{◌≡◌, ℕ, ◌<◌, List, IsPermutation}
 use Rattle.std.specs.List.{AllByRecursion}
 use Rattle.us_flows.specs.declared.channels.Channel.{Channel}
-use Rattle.us_round.specs.Rounds.{Built}
+use Rattle.us_channel.specs.Channels.{Built}
 use Rattle.us_round.specs.Outputs.{start_of, by_start, rows_on}
 use Rattle.us_round.specs.declared.rows.Row.{Row}
 use Rattle.us_round.specs.declared.rows.Row.TheVariants as rows

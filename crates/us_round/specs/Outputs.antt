@@ -16,9 +16,10 @@ use Rattle.us_calendar.specs.declared.kinds.Kind.{Kind}
 use Rattle.us_calendar.specs.declared.kinds.Kind.TheVariants as kinds
 use Rattle.us_calendar.specs.declared.settled.Settled.{Settled}
 use Rattle.us_calendar.specs.declared.settled.Settled.TheVariants as settled
-use Rattle.us_round.specs.Reserves.{broadcast}
-use Rattle.us_round.specs.Placements.{PlacedClaim}
-use Rattle.us_round.specs.Rounds.{State, Built, Scheduled, max_pendings, pendings_on}
+use Rattle.us_channel.specs.Reserves.{broadcast}
+use Rattle.us_channel.specs.Placements.{PlacedClaim}
+use Rattle.us_channel.specs.Channels.{Built}
+use Rattle.us_round.specs.Rounds.{State, Scheduled, max_pendings, pendings_on}
 use Rattle.us_round.specs.declared.rows.Row.{Row}
 use Rattle.us_round.specs.declared.rows.Row.TheVariants as rows
 use Rattle.us_round.specs.declared.rows.EntryWord.{EntryWord}

@@ -4,14 +4,13 @@ use Rattle.us_flows.specs.declared.channels.Channel.{Channel}
 use Rattle.us_flows.specs.Tables.{Tables, map_len}
 use Rattle.us_flows.specs.Clusters.{Turn, clusters_of, turns_of}
 use Rattle.us_bucket.specs.Levels.{Level, full, refilled, spent, bytes_in}
-use Rattle.us_holes.specs.Boards.{Board, free_count, assign_all}
+use Rattle.us_holes.specs.Boards.{free_count}
 use Rattle.us_calendar.specs.Calendars as calendars
-use Rattle.us_calendar.specs.Calendars.{Calendar, Ran}
-use Rattle.us_calendar.specs.declared.settled.Settled.{Settled}
+use Rattle.us_calendar.specs.Calendars.{Calendar}
 use Rattle.us_split.specs.Plans.{Planned, plan_for}
-use Rattle.us_split.specs.Claims.{Claim, claims_on}
-use Rattle.us_round.specs.Reserves.{reserves}
-use Rattle.us_round.specs.Placements.{PlacedClaim, grants_of, assignments}
+use Rattle.us_split.specs.Claims.{claims_on}
+use Rattle.us_channel.specs.Placements.{PlacedClaim, credits}
+use Rattle.us_channel.specs.Channels.{Filled, fill, Built, build_on}
 
 -- what a round starts from: the tables, its number, the outstanding bytes of each cluster, the bucket of each flow, and
 -- the calendar of each channel
@@ -44,46 +43,13 @@ grown state = if state.round == 0 then state.buckets else map (refilled state.ta
 
 -- Channels.
 
--- a channel whose reserves stand, what its calendar settled, and that calendar as the next round finds it
-pub record Filled : Type 0 where
-  pub channel : Channel
-  pub board : Board
-  pub calendar : Calendar
-  pub settled : List Settled
-
--- the calendar of a channel goes over what its reserves leave
-abbrev pub fill : Tables → ℕ → Channel → Calendar → Filled
-fill t round c calendar =
-    let board : Board = reserves c (map_len t c) round in
-    let ran : Ran = calendars.ran calendar board in
-    record { channel = c; board = ran.board; calendar = calendars.after calendar board; settled = ran.settled }
-
+-- the channels of a round, each with its reserves and its calendar
 abbrev pub filled : Tables → ℕ → List Calendar → List Filled
 filled t round cs = map (λ pair. fill t round pair.0 pair.1) (zip t.channels cs)
 
 -- the minislots that are idle then are what the plan has to give
 abbrev pub idle : List Filled → List ℕ
 idle fs = map (λ f. free_count f.board.cells) fs
-
--- a channel whose claims are placed; its calendar is the one that the next round finds
-pub record Built : Type 0 where
-  pub channel : Channel
-  pub board : Board
-  pub calendar : Calendar
-  pub settled : List Settled
-  pub grants : List PlacedClaim
-
--- a channel with these claims placed
-abbrev pub build_on : List Claim → Filled → Built
-build_on claims f =
-    let grants : List PlacedClaim = grants_of f.channel.bursts f.board claims in
-    record {
-      channel = f.channel;
-      board = assign_all f.board (assignments grants);
-      calendar = f.calendar;
-      settled = f.settled;
-      grants = grants;
-    }
 
 -- each channel places its claims of the plan, and reads no other channel's board
 unfoldable pub build_planned : List Planned → Filled → Built
@@ -94,10 +60,6 @@ build_planned plan f = build_on (claims_on f.channel plan) f
 -- the grants of all channels
 abbrev pub all_grants : List Built → List PlacedClaim
 all_grants builds = flat_map (λ b. b.grants) builds
-
--- the bytes that grants credit, of those that pass
-abbrev pub credits : (PlacedClaim → Bool) → List PlacedClaim → ℕ
-credits passes grants = sum_by (λ g. g.credit) (filter passes grants)
 
 -- whether a grant is of the cluster with this number, and whether it is of the flow at this place
 abbrev pub is_of_cluster : ℕ → PlacedClaim → Bool

@@ -9,7 +9,8 @@ use Rattle.us_holes.specs.Boards.{max_assignments}
 use Rattle.us_calendar.specs.Calendars.{Calendar, settled_in}
 use Rattle.us_split.specs.PlanLaws.{IsLawfulPlan}
 use Rattle.us_split.specs.Claims.{Claim, AreClaims, IsClaimOn, all_claims}
-use Rattle.us_round.specs.Rounds.{State, Filled, Built, idle, fills_of, build_on, builds_of, round_from}
+use Rattle.us_channel.specs.Channels.{Filled, Built, build_on}
+use Rattle.us_round.specs.Rounds.{State, idle, fills_of, builds_of, round_from}
 use Rattle.us_round.specs.Outputs.{RoundOut, out_of, AreWithinLimits}
 use Rattle.us_round.specs.States.{AreSound, settled_by}
 use Rattle.us_round.specs.Cores.{Core, IsCore, AreCalendars, AreCounted, IsFilledFor, settled_now, settled_then, plan_over, with_calendars}

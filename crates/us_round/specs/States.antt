@@ -5,8 +5,9 @@ use Rattle.us_flows.specs.Clusters.{clusters_of}
 use Rattle.us_bucket.specs.Levels.{Level, bytes_in}
 use Rattle.us_split.specs.PlanLaws.{Within}
 use Rattle.us_calendar.specs.Calendars.{pace_of, settled_in, max_settled, granted_in}
-use Rattle.us_round.specs.Placements.{PlacedClaim}
-use Rattle.us_round.specs.Rounds.{State, Built, credits, all_grants, is_of_cluster, is_of_flow}
+use Rattle.us_channel.specs.Placements.{PlacedClaim, credits}
+use Rattle.us_channel.specs.Channels.{Built}
+use Rattle.us_round.specs.Rounds.{State, all_grants, is_of_cluster, is_of_flow}
 use Rattle.us_round.specs.Leftovers.{IsBuiltFor, AreInside}
 
 -- there is a number for each cluster, a bucket for each flow, and a calendar for each channel, at this round

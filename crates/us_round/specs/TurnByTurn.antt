@@ -5,8 +5,9 @@ use Rattle.std.specs.List.{AllByRecursion}
 use Rattle.us_flows.specs.Lawful.{AreApart, AreTables}
 use Rattle.us_split.specs.Plans.{Planned}
 use Rattle.us_split.specs.Claims.{Claim, claim_at}
-use Rattle.us_round.specs.Placements.{PlacedClaim, grant_of, with_grant}
-use Rattle.us_round.specs.Rounds.{State, Filled, Built, fills_of, round_plan, build_planned, builds_of}
+use Rattle.us_channel.specs.Placements.{PlacedClaim, grant_of, with_grant}
+use Rattle.us_channel.specs.Channels.{Filled, Built}
+use Rattle.us_round.specs.Rounds.{State, fills_of, round_plan, build_planned, builds_of}
 
 -- a channel on which no claim is placed yet
 abbrev pub unbuilt : Filled → Built

@@ -1,6 +1,7 @@
 -- Placing turn by turn on small boards, computed by the definitions alone.
 use Rattle.std.specs.Prelude.{◌≡◌, ℕ, List, [], ◌∷◌, map, take, refl}
-use Rattle.us_round.specs.Rounds.{State, Built, fills_of, opening, round_plan}
+use Rattle.us_channel.specs.Channels.{Built}
+use Rattle.us_round.specs.Rounds.{State, fills_of, opening, round_plan}
 use Rattle.us_round.specs.TurnByTurn.{place_channels, place_turns, unbuilt}
 use Rattle.us_round.specs.RoundExamples.{channel_with, flow_with, round_steps, tables}
 

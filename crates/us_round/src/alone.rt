@@ -8,14 +8,13 @@ ghost use Rattle.us_round.specs.Doers.{CanFill, CanBuild, filled_at, built_at};
 ghost use Rattle.us_round.specs.Rounds as spec;
 ghost use Rattle.us_round.specs.Outputs.{out_of};
 
-use crate::building::{Built, Filled};
 use crate::faults::RoundFault;
-use crate::lanes::Lane;
 use crate::phases::{Answered, Building, Filling};
 use crate::round_outs::RoundOut;
 use crate::rounds::round_by;
 use crate::states::State;
 use std::alloc::Global;
+use us_channel::{Built, Filled, Lane};
 use us_crew::map_alone;
 use us_flows::Channel;
 

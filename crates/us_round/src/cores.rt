@@ -7,10 +7,10 @@ ghost use Rattle.us_round.specs.Rounds.{with_cut, all_grants};
 ghost use Rattle.us_round.specs.Cores as spec;
 ghost use Rattle.us_round.specs.States.{Covers};
 
-use crate::building::Built;
 use std::alloc::Global;
 use std::marker::Model;
 use us_bucket::Bucket;
+use us_channel::Built;
 use us_flows::{Config, Flow};
 use us_requests::ClusterState;
 use us_slots::NoMemory;

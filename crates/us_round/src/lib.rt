@@ -18,21 +18,6 @@ mod faults;
 // The lines of a round.
 mod rows;
 
-// What a channel keeps from round to round.
-mod lanes;
-
-// The reserves of a round's boards.
-mod reserving;
-
-// Who is granted what: minislots that are assigned where they fit,
-mod assigning;
-
-// where a claim is placed,
-mod placing;
-
-// and all claims of a channel.
-mod building;
-
 // The order in which claims are placed.
 mod placing_laws;
 

@@ -11,10 +11,9 @@ ghost use Rattle.us_round.specs.Leftovers.{IsBuiltFor};
 ghost use Rattle.us_round.specs.Outputs as spec;
 ghost use Rattle.us_round.specs.Rounds.{max_pendings};
 
-use crate::building::Built;
 use crate::pendings::{PendingSid, sids_on};
-use crate::reserving::BROADCAST;
 use std::alloc::Global;
+use us_channel::{BROADCAST, Built};
 use us_codec::{Element, Head, Map};
 use us_flows::{Channel, Config};
 use us_holes::{Board, Run};
@@ -59,12 +58,12 @@ fn built_map(
     ensures value { IfOk result (λ map. map ≡ spec.built_map config.now round pendings.now part.now) }
     ensures limits { IfOk result (λ _. spec.IsWithinLimits config.now round pendings.now part.now) }
 {
-    let sids = sids_on(alloc, pendings, part.channel.id)?;
+    let sids = sids_on(alloc, pendings, part.channel().id)?;
     map_of(
         alloc,
         config,
         round,
-        &part.channel,
+        part.channel(),
         part.board(),
         &sids,
         runs,

@@ -2,14 +2,14 @@ ghost use Rattle.std.specs.Prelude.{◌≡◌, ◌+◌, ◌*◌, ◌≤◌, ⊤,
 ghost use Rattle.std.specs.List.{AllByRecursion};
 ghost use Rattle.us_flows.specs.Tables.{max_run_ticks};
 ghost use Rattle.us_flows.specs.Lawful.{AreTables};
-ghost use Rattle.us_round.specs.Cores.{AreCalendars, HasFewTicks};
+ghost use Rattle.us_channel.specs.Channels.{HasFewTicks};
+ghost use Rattle.us_round.specs.Cores.{AreCalendars};
 ghost use Rattle.us_round.specs.Doers.{CanFill, CanBuild, DoesFill, DoesBuild, filled_at, built_at};
 ghost use Rattle.us_round.specs.Stages.{AreClaimsOn, AreFilled, built_by};
 
-use crate::building::{Built, Filled, build_on, fill};
 use crate::cores::Core;
-use crate::lanes::Lane;
 use std::alloc::Global;
+use us_channel::{Built, Filled, Lane, build_on, fill};
 use us_crew::{CrewFault, Work};
 use us_flows::{Channel, Config};
 use us_slots::NoMemory;

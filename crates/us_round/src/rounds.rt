@@ -15,10 +15,8 @@ ghost use Rattle.us_round.specs.Outputs.{out_of, AreWithinLimits};
 ghost use Rattle.us_round.specs.Stages.{IsBegun, IsPlanned, AreBuilt, AreAllBuilt, IsOver, IsOverFor};
 ghost use Rattle.us_round.specs.States.{AreSound, settled_by};
 
-use crate::building::{Built, Filled, lanes_of};
 use crate::cores::Core;
 use crate::faults::RoundFault;
-use crate::lanes::Lane;
 use crate::mapping::maps_of;
 use crate::pendings::pending_sids;
 use crate::phases::{Answered, Building, Filling, build_all, fill_all};
@@ -27,6 +25,7 @@ use crate::round_outs::RoundOut;
 use crate::states::State;
 use std::alloc::Global;
 use std::thread::Threads;
+use us_channel::{Built, Filled, Lane, lanes_of};
 use us_crew::{Gate, MAX_WORKERS, Phase, map_owned};
 use us_flows::Channel;
 use us_slots::NoMemory;

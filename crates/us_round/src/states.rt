@@ -7,11 +7,11 @@ ghost use Rattle.us_round.specs.States.{IsState, settled_by, max_settled_by};
 
 use crate::cores::Core;
 use crate::faults::RoundFault;
-use crate::lanes::Lane;
 use crate::reporting;
 use crate::rows::Row;
 use std::alloc::Global;
 use std::marker::Model;
+use us_channel::Lane;
 use us_flows::Config;
 use us_slots::NoMemory;
 

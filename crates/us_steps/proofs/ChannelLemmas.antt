@@ -2,7 +2,8 @@
 use Rattle.std.proofs.Common.{◌≡◌, ℕ, zero, suc, true, false, ◌||◌, List, [], ◌∷◌, length, map, get_or, slice_set, Option, Some, None, refl, ap, sym, subst, ◌∙◌, arith}
 use Rattle.std.specs.Prelude.{slice_get, zip, option_map, option_and_then, ⊤}
 use Rattle.us_requests.specs.declared.asks.Ask.{Ask}
-use Rattle.us_round.specs.Rounds.{State, Filled, Built, begun, fill, fills_of, builds_of}
+use Rattle.us_channel.specs.Channels.{Filled, Built, fill}
+use Rattle.us_round.specs.Rounds.{State, begun, fills_of, builds_of}
 use Rattle.us_round.proofs.FillLemmas.{calendars_long}
 use Rattle.us_steps.specs.declared.steps.Step.{Step}
 use Rattle.us_steps.specs.declared.steps.Step.TheVariants as step

@@ -2,7 +2,8 @@
 use Rattle.std.proofs.Common.{◌≡◌, ℕ, zero, suc, Bool, true, false, not, ◌&&◌, ◌||◌, if◌then◌else◌, List, [], ◌∷◌, length, map, replicate, get_or, slice_set, Option, Some, None, refl, ap, sym, ◌∙◌}
 use Rattle.std.specs.Prelude.{slice_get, option_map, option_and_then}
 use Rattle.us_requests.specs.declared.asks.Ask.{Ask}
-use Rattle.us_round.specs.Rounds.{State, Filled, begun, fills_of}
+use Rattle.us_channel.specs.Channels.{Filled}
+use Rattle.us_round.specs.Rounds.{State, begun, fills_of}
 use Rattle.us_steps.specs.declared.steps.Step.{Step}
 use Rattle.us_steps.specs.declared.steps.Step.TheVariants as step
 use Rattle.us_steps.specs.Machines.{Stand, Home, Out, Done, Machine, opening_machine, with_row, without_word, with_channel, placed, opened, built, was_opened, is_built, any_open, after_step, are_set, is_done, run}

@@ -4,7 +4,8 @@ use Rattle.std.specs.List.{AllByRecursion}
 use Rattle.std.proofs.Common.{arith}
 use Rattle.us_requests.specs.declared.asks.Ask.{Ask}
 use Rattle.us_steps.specs.Steps.{adds, builds, count, cut_of, left_of, IsComplete}
-use Rattle.us_round.specs.Rounds.{State, Filled, begun}
+use Rattle.us_channel.specs.Channels.{Filled}
+use Rattle.us_round.specs.Rounds.{State, begun}
 use Rattle.us_steps.specs.Machines.{Stand, Home, Done, Machine, no_seats, placed, after_step, run}
 use Rattle.us_steps.specs.Plays.{cuts_of, words_after}
 use Rattle.us_steps.specs.Laws.{IsSeated, all_added, all_took}

@@ -1,7 +1,8 @@
 -- The step machine: what stands after each step of a round, in words, seats and channels.
 use Rattle.std.specs.Prelude.{ℕ, ◌+◌, ◌==◌, Bool, true, false, ◌&&◌, ◌||◌, if◌then◌else◌, List, [], ◌∷◌, length, map, replicate, get_or, slice_index, slice_get, slice_set, Option, Some, None, option_map, option_and_then}
 use Rattle.us_requests.specs.declared.asks.Ask.{Ask}
-use Rattle.us_round.specs.Rounds.{State, Filled, Built, begun, fills_of, round_plan, build_planned}
+use Rattle.us_channel.specs.Channels.{Filled, Built}
+use Rattle.us_round.specs.Rounds.{State, begun, fills_of, round_plan, build_planned}
 use Rattle.us_steps.specs.Steps.{bytes_in}
 use Rattle.us_steps.specs.declared.steps.Step.{Step}
 use Rattle.us_steps.specs.declared.steps.Step.TheVariants as step

@@ -2,9 +2,8 @@ ghost use Rattle.std.specs.Prelude.{◌≡◌, length};
 ghost use Rattle.us_round.specs.Rounds.{all_grants, uncredited, spent_of};
 ghost use Rattle.us_round.specs.States.{Covers};
 
-use crate::building::Built;
-use crate::placing::PlacedClaim;
 use us_bucket::Bucket;
+use us_channel::{Built, PlacedClaim};
 use us_requests::ClusterState;
 
 /// Takes the credits of all channels' grants from the outstanding bytes of their clusters, and from the buckets of

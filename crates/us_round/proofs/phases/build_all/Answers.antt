@@ -1,5 +1,5 @@
 use Rattle.std.proofs.Common.{◌≡◌}
-use Rattle.us_round.specs.Cores.{HasFewTicks}
+use Rattle.us_channel.specs.Channels.{HasFewTicks}
 use Rattle.us_round.specs.Stages.{built_by}
 use Rattle.us_round.proofs.PartLemmas.{all_found}
 use Rattle.us_round.proofs.PhaseLemmas.{answered_so}

@@ -2,7 +2,7 @@ use Rattle.std.proofs.Common.{◌≡◌, map, ap, ◌∙◌}
 use Rattle.std.specs.List.{AllByRecursion}
 use Rattle.std.proofs.lemmas.Result.{IfOk-weaker}
 use Rattle.us_crew.specs.Values.{values_of}
-use Rattle.us_round.specs.Rounds.{fill}
+use Rattle.us_channel.specs.Channels.{fill}
 use Rattle.us_round.specs.Cores.{IsReady}
 use Rattle.us_round.specs.Stages.{AreFilled}
 use Rattle.us_round.proofs.PhaseLemmas.{accepted, answered_so, values_are}

@@ -131,8 +131,8 @@ returns-in_err-partial-clause-claims c =
     plan_for-claims c.args.config.now c.args.outstanding.now c.args.allowances.items c.args.idle.now
     c.turns-turns.ensures.lawful c.requires.idle
 
-pub returns-in_err-grant-clause-claims : goal.returns-in_err-grant-clause-claims
-returns-in_err-grant-clause-claims c =
+pub returns-in_err-plan_turn-clause-claims : goal.returns-in_err-plan_turn-clause-claims
+returns-in_err-plan_turn-clause-claims c =
     plan_for-claims c.args.config.now c.args.outstanding.now c.args.allowances.items c.args.idle.now
     c.turns-turns.ensures.lawful c.requires.idle
 

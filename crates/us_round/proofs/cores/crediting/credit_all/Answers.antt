@@ -1,6 +1,7 @@
 use Rattle.std.proofs.Common.{◌≡◌, ℕ, ◌+◌, ◌<◌, ◌∷◌, List, drop, length, slice_index_or, sym, ap, subst, ◌∙◌, arith}
 use Rattle.std.proofs.lemmas.List.{drop_more, drop_all}
-use Rattle.us_round.specs.Rounds.{Built, all_grants, uncredited, spent_of}
+use Rattle.us_channel.specs.Channels.{Built}
+use Rattle.us_round.specs.Rounds.{all_grants, uncredited, spent_of}
 use Rattle.us_round.specs.States.{Covers}
 use Rattle.us_round.proofs.StateLemmas.{left_none, spent_none, channel_covered, after_channel}
 use Rattle.us_round.proofs.cores.crediting.credit_all.Goals as goal

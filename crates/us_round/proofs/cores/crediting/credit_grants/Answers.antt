@@ -1,6 +1,6 @@
 use Rattle.std.proofs.Common.{◌≡◌, ℕ, ◌+◌, ◌<◌, ◌∷◌, List, drop, length, slice_index_or, sym, ap, subst, ◌∙◌, arith}
 use Rattle.std.proofs.lemmas.List.{drop_more, drop_all}
-use Rattle.us_round.specs.Placements.{PlacedClaim}
+use Rattle.us_channel.specs.Placements.{PlacedClaim}
 use Rattle.us_round.specs.Rounds.{uncredited, spent_of}
 use Rattle.us_round.specs.States.{Covers}
 use Rattle.us_round.proofs.StateLemmas.{left_none, spent_none, may_spend, after_grant}

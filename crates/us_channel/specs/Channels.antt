@@ -1,0 +1,51 @@
+-- One channel in a round (ours): its reserves, what its calendar settles, and the claims that are placed on it.
+use Rattle.std.specs.Prelude.{ℕ, ◌*◌, ◌≤◌, List, length}
+use Rattle.us_slots.specs.Times.{minislot_ticks}
+use Rattle.us_flows.specs.declared.channels.Channel.{Channel}
+use Rattle.us_flows.specs.Ranges.{max_round_ticks}
+use Rattle.us_flows.specs.Tables.{Tables, map_len}
+use Rattle.us_holes.specs.Boards.{Board, assign_all}
+use Rattle.us_calendar.specs.Calendars as calendars
+use Rattle.us_calendar.specs.Calendars.{Calendar, Ran}
+use Rattle.us_calendar.specs.declared.settled.Settled.{Settled}
+use Rattle.us_split.specs.Claims.{Claim}
+use Rattle.us_channel.specs.Reserves.{reserves}
+use Rattle.us_channel.specs.Placements.{PlacedClaim, grants_of, assignments}
+
+-- a channel whose reserves stand, what its calendar settled, and that calendar as the next round finds it
+pub record Filled : Type 0 where
+  pub channel : Channel
+  pub board : Board
+  pub calendar : Calendar
+  pub settled : List Settled
+
+-- the calendar of a channel goes over what its reserves leave
+abbrev pub fill : Tables → ℕ → Channel → Calendar → Filled
+fill t round c calendar =
+    let board : Board = reserves c (map_len t c) round in
+    let ran : Ran = calendars.ran calendar board in
+    record { channel = c; board = ran.board; calendar = calendars.after calendar board; settled = ran.settled }
+
+-- a channel whose claims are placed; its calendar is the one that the next round finds
+pub record Built : Type 0 where
+  pub channel : Channel
+  pub board : Board
+  pub calendar : Calendar
+  pub settled : List Settled
+  pub grants : List PlacedClaim
+
+-- a channel with these claims placed
+abbrev pub build_on : List Claim → Filled → Built
+build_on claims f =
+    let grants : List PlacedClaim = grants_of f.channel.bursts f.board claims in
+    record {
+      channel = f.channel;
+      board = assign_all f.board (assignments grants);
+      calendar = f.calendar;
+      settled = f.settled;
+      grants = grants;
+    }
+
+-- the MAP of a channel has at most so many ticks as any has
+abbrev pub HasFewTicks : Filled → Type 0
+HasFewTicks f = length f.board.cells * minislot_ticks f.channel.bursts.time ≤ max_round_ticks

@@ -1,0 +1,36 @@
+//! One channel in a round: its reserves, what its calendar settles, and the claims of the plan that are placed on it.
+//!
+//! ```
+//! let lane = Lane::new(alloc, &config, 0)?; // the first channel, before round 0
+//! let filled = fill(alloc, &config, &config.channels()[0], lane, 0)?; // reserves and calendar have their minislots
+//! let idle = filled.idle(); // what the plan has to give there
+//! let built = build_on(alloc, plan.claims(0), filled)?; // and its claims are placed
+//! let grants = built.grants(); // in the order of turns
+//! ```
+//!
+//! What these are stands in `specs/`, in the order of its `Lib.antt`. No function here reads another channel, so that each
+//! channel may be done by a worker of its own.
+#![tactic(auto)]
+
+// What a channel keeps from round to round.
+mod lanes;
+
+// The reserves of a round's board.
+mod reserving;
+
+// Who is granted what: minislots that are assigned where they fit,
+mod assigning;
+
+// where a claim is placed,
+mod placing;
+
+// and all claims of a channel.
+mod building;
+
+pub use building::{Built, Filled, build_on, fill, lanes_of};
+pub use lanes::Lane;
+pub use placing::PlacedClaim;
+pub use reserving::BROADCAST;
+
+#[cfg(test)]
+mod tests;
