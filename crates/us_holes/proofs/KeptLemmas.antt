@@ -124,7 +124,7 @@ kept_put assigned holes ranked len free place one lists few some has =
     free_count (assign (board_of assigned len) one.start one.slots one.owner).cells =
     ap (λ board. free_count board.cells) is in
     record {
-      board = rw is (assign_is_board (board_of assigned len) one.start one.slots one.owner lists.board few idle);
+      board = rw is (assign_is_board (board_of assigned len) one.start one.slots one.owner lists.board few some idle);
       order = put_order 0 assigned len one lists.order some room;
       between = rw lists.between (sym (put_holes 0 assigned len one lists.order some place has));
       by_rank = refl;
