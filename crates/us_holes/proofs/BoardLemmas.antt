@@ -1,13 +1,13 @@
 -- What an assignment changes of a board, and what it keeps.
 use Rattle.std.proofs.Common.{◌≡◌, ℕ, zero, suc, ◌+◌, ◌-◌, ◌<◌, ◌≤◌, ◌⊎◌, nat_le, List, [], ◌∷◌, ◌++◌, length, replicate, take, drop, get_or, true, false, cond, Option, Some, None, is_none, refl, ap, sym, ◌∙◌, inl, inr, arith}
 use Rattle.std.specs.List.{list_all}
-use Rattle.std.proofs.lemmas.Bool.{cases_Bool, cases_lt, and_parts}
+use Rattle.std.proofs.lemmas.Bool.{cases_Bool, cases_lt, and_parts, eq-eqb, ne_eqb}
 use Rattle.std.proofs.lemmas.List.{drop-drop, take-append-drop, length-replicate, length-append, length-take-le, length-drop, get_or-append_right, get_or_append_left, get_or-take, get_or-replicate, get_or-drop, get_or_default}
 use Rattle.std.proofs.lemmas.List.Sums.{sum_by-append, sum_by-cons}
 use Rattle.std.proofs.lemmas.List.Folds.{sum_by-replicate}
 use Rattle.us_holes.specs.Boards.{Owner, Holder, Board, empty_board, is_idle_at, assign, free_count}
 use Rattle.us_holes.specs.Runs.{same_cell}
-use Rattle.us_holes.specs.Kept.{cell_at, AreHeldFromStart, changes, IsBoard}
+use Rattle.us_holes.specs.Kept.{cell_at, AreHeldFromStart, begun, changes, IsBoard}
 use Rattle.us_holes.proofs.RunLemmas.{same_cell-refl}
 use Rattle.us_holes.proofs.IdleLemmas.{idle_inside, idle_cells, nobody}
 
@@ -178,6 +178,79 @@ nobody_holds zero at = refl
 nobody_holds (suc len) zero = refl
 nobody_holds (suc len) (suc at) = nobody_holds len at
 
+-- Minislots that begin an assignment are counted part by part.
+begun-append : (at : ℕ) (xs ys : List (Option Holder)) → begun at (xs ++ ys) ≡ begun at xs + begun (at + length xs) ys
+unfolding begun
+begun-append at [] ys =
+    let place : at + 0 ≡ at = omega arith in
+    omega (arith, ap (λ n. begun n ys) place)
+begun-append at (x ∷ xs) ys =
+    let place : at + 1 + length xs ≡ at + length (x ∷ xs) = omega arith in
+    omega (arith, begun-append (at + 1) xs ys, ap (λ n. begun n ys) place)
+
+begun-idle : (at : ℕ) (cells : List (Option Holder)) → list_all is_none cells ≡ true → begun at cells ≡ 0
+unfolding begun
+begun-idle at [] h = refl
+begun-idle at (None ∷ cells) h = omega (arith, begun-idle (at + 1) cells h)
+begun-idle at (Some holder ∷ cells) h = let no : false ≡ true = h in absurd cc
+
+begun-none : (at count : ℕ) → begun at (replicate count None) ≡ 0
+unfolding begun
+begun-none at zero = refl
+begun-none at (suc count) = omega (arith, begun-none (at + 1) count)
+
+begun-later : (count at : ℕ) (holder : Holder) → holder.start < at → begun at (replicate count (Some holder)) ≡ 0
+unfolding begun
+begun-later zero at holder h = refl
+begun-later (suc count) at holder h =
+    rw (ne_eqb holder.start at (λ same. omega (arith, h, same)))
+    (omega (arith, begun-later count (at + 1) holder (omega (arith, h))))
+
+begun-held : (slots : ℕ) (holder : Holder) → 0 < slots → begun holder.start (replicate slots (Some holder)) ≡ 1
+unfolding begun
+begun-held zero holder some = absurd (omega (arith, some))
+begun-held (suc slots) holder some =
+    rw (eq-eqb holder.start holder.start refl)
+    (omega (arith, begun-later slots (holder.start + 1) holder (omega arith)))
+
+-- One more assignment on idle minislots begins once.
+begun-assign : (cells : List (Option Holder)) (start slots : ℕ) (owner : Owner) → 0 < slots →
+    is_idle_at cells slots start ≡ true →
+    begun 0 (take start cells ++ replicate slots (Some (record { start = start; owner = owner })) ++ drop (start + slots) cells) ≡
+    begun 0 cells + 1
+begun-assign cells start slots owner some idle =
+    let holder : Holder = record { start = start; owner = owner } in
+    let held : List (Option Holder) = replicate slots (Some holder) in
+    let inside : start + slots ≤ length cells = idle_inside cells slots start idle in
+    let middle : begun start (take slots (drop start cells)) ≡ 0 =
+    begun-idle start (take slots (drop start cells))
+    (and_parts (nat_le (start + slots) (length cells)) (list_all is_none (take slots (drop start cells))) idle).1 in
+    let front : 0 + length (take start cells) ≡ start = omega (arith, length-take-le start cells (omega (arith, inside))) in
+    let both : 0 + length (take start cells ++ held) ≡ start + slots =
+    omega (arith, front_length start slots (Some holder) cells inside) in
+    let seam : start + length (take slots (drop start cells)) ≡ start + slots =
+    omega (arith, length-take-le slots (drop start cells) (rw (length-drop start cells) (omega (arith, inside)))) in
+    let whole : begun 0 cells ≡ begun 0 (take start cells) + begun (0 + length (take start cells)) (drop start cells) =
+    ap (λ xs. begun 0 xs) (sym (take-append-drop start cells)) ∙ begun-append 0 (take start cells) (drop start cells) in
+    let back : begun start (drop start cells) ≡
+    begun start (take slots (drop start cells)) + begun (start + length (take slots (drop start cells))) (drop slots (drop start cells)) =
+    ap (λ xs. begun start xs) (sym (take-append-drop slots (drop start cells)))
+    ∙ begun-append start (take slots (drop start cells)) (drop slots (drop start cells)) in
+    omega (
+      arith,
+      middle,
+      whole,
+      back,
+      ap (λ n. begun n (drop start cells)) front,
+      ap (λ n. begun n held) front,
+      ap (λ n. begun n (drop slots (drop start cells))) seam,
+      ap (λ xs. begun (start + slots) xs) (drop-drop slots start cells),
+      ap (λ n. begun n (drop (start + slots) cells)) both,
+      begun-append 0 (take start cells ++ held) (drop (start + slots) cells),
+      begun-append 0 (take start cells) held,
+      begun-held slots holder some,
+    )
+
 pub empty_is_board : (len : ℕ) → 1 ≤ len → len ≤ 4096 → IsBoard (empty_board len)
 empty_is_board len some most =
     let idle : Option Holder = None in
@@ -185,13 +258,14 @@ empty_is_board len some most =
       some = rw (length-replicate len idle) some;
       most = rw (length-replicate len idle) most;
       standing = omega arith;
+      begun = begun-none 0 len;
       held = λ at holder e. absurd (some_none holder (cell_at (replicate len None) at) (nobody_holds len at) e);
       changes = omega (arith, changes-replicate len idle);
     }
 
-pub assign_is_board : (board : Board) (start slots : ℕ) (owner : Owner) → IsBoard board → board.standing < 100 →
+pub assign_is_board : (board : Board) (start slots : ℕ) (owner : Owner) → IsBoard board → board.standing < 100 → 0 < slots →
     is_idle_at board.cells slots start ≡ true → IsBoard (assign board start slots owner)
-assign_is_board board start slots owner is few idle =
+assign_is_board board start slots owner is few some idle =
     let holder : Option Holder = Some (record { start = start; owner = owner }) in
     let long : length (assign board start slots owner).cells ≡ length board.cells =
     length-middle start slots holder board.cells (idle_inside board.cells slots start idle) in
@@ -199,6 +273,7 @@ assign_is_board board start slots owner is few idle =
       some = omega (arith, long, is.some);
       most = omega (arith, long, is.most);
       standing = omega (arith, few);
+      begun = omega (arith, is.begun, begun-assign board.cells start slots owner some idle);
       held = assign_held board.cells start slots owner is.held idle;
       changes = omega (arith, is.changes, changes-middle start slots holder board.cells);
     }

@@ -3,7 +3,8 @@ use Rattle.std.proofs.Common.{◌≡◌, ℕ, zero, suc, ◌+◌, ◌-◌, ◌�
 use Rattle.std.proofs.lemmas.Bool.{cases_lt, lt-ltb, le-ltb}
 use Rattle.std.proofs.lemmas.List.{length-append, length-replicate, get_or_append_left, get_or-append_right, get_or-replicate}
 use Rattle.us_holes.specs.Boards.{Holder, Assignment, is_idle_at}
-use Rattle.us_holes.specs.Lists.{end_of, its_holder, InOrder, cells_of, Hole, hole_end, hole_in, holes_of}
+use Rattle.us_holes.specs.Runs.{end_of, InOrder}
+use Rattle.us_holes.specs.Lists.{its_holder, cells_of, Hole, hole_end, hole_in, holes_of}
 use Rattle.us_holes.proofs.IdleLemmas.{idle_cells, cells_idle, IsIdle, nobody}
 
 pub ordered_end : (from : ℕ) (assigned : List Assignment) (to : ℕ) → InOrder from assigned to → from ≤ to

@@ -4,7 +4,8 @@ use Rattle.std.specs.List.{insert, remove}
 use Rattle.std.proofs.lemmas.Bool.{cases_Bool, cases_lt, and_parts, and_from, leb-true, le-leb, lt-ltb, le-ltb}
 use Rattle.std.proofs.lemmas.List.{append-nil}
 use Rattle.us_holes.specs.Boards.{Assignment}
-use Rattle.us_holes.specs.Lists.{end_of, InOrder, put, Hole, hole_end, hole_from, hole_in, holes_of, fits_in, fit, HasAt, narrowed_at}
+use Rattle.us_holes.specs.Runs.{end_of, InOrder}
+use Rattle.us_holes.specs.Lists.{put, Hole, hole_end, hole_from, hole_in, holes_of, fits_in, fit, HasAt, narrowed_at}
 use Rattle.us_holes.proofs.CellLemmas.{HasRoom, room_inside, hole_alone}
 use Rattle.us_holes.proofs.PutLemmas.{put_first, put_later, put_alone}
 

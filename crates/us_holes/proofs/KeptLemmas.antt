@@ -2,7 +2,8 @@
 use Rattle.std.proofs.Common.{◌≡◌, ℕ, ◌+◌, ◌-◌, ◌<◌, ◌≤◌, List, [], ◌∷◌, ◌++◌, length, false, Option, Some, None, IfSome, IfNone, refl, ap, sym, ◌∙◌, inl, inr, arith}
 use Rattle.std.proofs.lemmas.Bool.{cases_lt, lt-ltb, le-ltb, false_from_ne_true}
 use Rattle.us_holes.specs.Boards.{Holder, Assignment, empty_board, is_idle_at, assign, free_count, IsLeastWithin, IsFirstLongest, longest_idle}
-use Rattle.us_holes.specs.Lists.{end_of, its_holder, InOrder, cells_of, board_of, put, Hole, hole_in, holes_of, fit, HasAt, narrowed_at, place_for, rank, first_in, AreLists}
+use Rattle.us_holes.specs.Runs.{end_of, InOrder}
+use Rattle.us_holes.specs.Lists.{its_holder, cells_of, board_of, put, Hole, hole_in, holes_of, fit, HasAt, narrowed_at, place_for, rank, first_in, AreLists}
 use Rattle.us_holes.proofs.IdleLemmas.{longest-some, longest-none}
 use Rattle.us_holes.proofs.BoardLemmas.{empty_is_board, empty_free, assign_is_board, assign_free}
 use Rattle.us_holes.proofs.CellLemmas.{HasRoom, room_inside, room_is_idle, idle_has_room, cells_length}
@@ -123,7 +124,7 @@ kept_put assigned holes ranked len free place one lists few some has =
     free_count (assign (board_of assigned len) one.start one.slots one.owner).cells =
     ap (λ board. free_count board.cells) is in
     record {
-      board = rw is (assign_is_board (board_of assigned len) one.start one.slots one.owner lists.board few idle);
+      board = rw is (assign_is_board (board_of assigned len) one.start one.slots one.owner lists.board few some idle);
       order = put_order 0 assigned len one lists.order some room;
       between = rw lists.between (sym (put_holes 0 assigned len one lists.order some place has));
       by_rank = refl;

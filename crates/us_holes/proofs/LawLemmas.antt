@@ -1,6 +1,6 @@
 -- Laws of the definitions, for the crates above: what a search found, what a fit is, and what assignments keep.
 use Rattle.std.proofs.Common.{◌≡◌, ℕ, zero, suc, ◌+◌, ◌-◌, ◌⊎◌, ◌<◌, ◌≤◌, nat_le, nat_lt, List, [], ◌∷◌, ◌++◌, length, take, drop, replicate, Bool, true, false, Option, Some, None, is_none, refl, sym, ◌∙◌, inl, inr, arith}
-use Rattle.std.specs.List.{list_all, sum_by}
+use Rattle.std.specs.List.{list_all, sum_by, AllByRecursion}
 use Rattle.std.proofs.lemmas.Bool.{cases_Bool, cases_lt, cases_eq, and_parts, and_from, le-leb, ltb-true, false_from_ne_true}
 use Rattle.std.proofs.lemmas.List.{length-replicate}
 use Rattle.std.proofs.lemmas.List.Sums.{sum_by-cons}
@@ -207,12 +207,12 @@ fit board slots start h =
       inside = idle_inside board.cells slots start parts.1;
     }
 
--- An assignment at a fit keeps what every board keeps,
-pub fit_is_board : (board : Board) (start slots : ℕ) (owner : Owner) → IsBoard board → fits board slots start ≡ true →
-    IsBoard (assign board start slots owner)
-fit_is_board board start slots owner is h =
+-- An assignment of a minislot or more at a fit keeps what every board keeps,
+pub fit_is_board : (board : Board) (start slots : ℕ) (owner : Owner) → IsBoard board → 0 < slots →
+    fits board slots start ≡ true → IsBoard (assign board start slots owner)
+fit_is_board board start slots owner is some h =
     let known = fit board slots start h in
-    assign_is_board board start slots owner is known.few known.idle
+    assign_is_board board start slots owner is known.few some known.idle
 
 -- takes its minislots from those that are idle,
 pub fit_free : (board : Board) (start slots : ℕ) (owner : Owner) → fits board slots start ≡ true →
@@ -247,7 +247,7 @@ AllFit-parts board (i ∷ more) other h =
     let rest = AllFit-parts (assign board i.start i.slots i.owner) more other h.1 in
     ((h.0, rest.0), rest.1)
 
--- They keep the length, and what every board keeps,
+-- They keep the length, and, where each has a minislot, what every board keeps,
 pub assign_all-length : (board : Board) (assignments : List Assignment) → AllFit board assignments →
     length (assign_all board assignments).cells ≡ length board.cells
 unfolding assign_all AllFit
@@ -256,11 +256,12 @@ assign_all-length board (i ∷ more) h =
     assign_all-length (assign board i.start i.slots i.owner) more h.1 ∙ fit_length board i.start i.slots i.owner h.0
 
 pub assign_all-is_board : (board : Board) (assignments : List Assignment) → IsBoard board → AllFit board assignments →
-    IsBoard (assign_all board assignments)
+    AllByRecursion (λ (one : Assignment). 0 < one.slots) assignments → IsBoard (assign_all board assignments)
 unfolding assign_all AllFit
-assign_all-is_board board [] is h = is
-assign_all-is_board board (i ∷ more) is h =
-    assign_all-is_board (assign board i.start i.slots i.owner) more (fit_is_board board i.start i.slots i.owner is h.0) h.1
+assign_all-is_board board [] is h some = is
+assign_all-is_board board (i ∷ more) is h some =
+    assign_all-is_board (assign board i.start i.slots i.owner) more
+    (fit_is_board board i.start i.slots i.owner is some.0 h.0) h.1 some.1
 
 -- and count: as many stand more, and as many minislots as all have are no longer idle.
 pub assign_all-standing : (board : Board) (assignments : List Assignment) →
@@ -311,15 +312,15 @@ placed_says board from to slots = elim (cases_Bool (is_full board)) [
   ]
 ]
 
--- and what it leaves: a board.
-said_keeps : (board : Board) (from to slots : ℕ) (owner : Owner) (answered : Placed) → IsBoard board →
+-- and what it leaves, where a minislot or more is to be placed: a board.
+said_keeps : (board : Board) (from to slots : ℕ) (owner : Owner) (answered : Placed) → IsBoard board → 0 < slots →
     Says board from to slots answered → IsBoard (after_placing board owner answered)
-said_keeps board from to slots owner (answer.At start many) is says =
-    rw says.0 (fit_is_board board start slots owner is says.1.least.passing)
-said_keeps board from to slots owner answer.Full is says = is
-said_keeps board from to slots owner answer.NoRoom is says = is
+said_keeps board from to slots owner (answer.At start many) is some says =
+    rw says.0 (fit_is_board board start slots owner is some says.1.least.passing)
+said_keeps board from to slots owner answer.Full is some says = is
+said_keeps board from to slots owner answer.NoRoom is some says = is
 
-pub placed_keeps : (board : Board) (from to slots : ℕ) (owner : Owner) → IsBoard board →
+pub placed_keeps : (board : Board) (from to slots : ℕ) (owner : Owner) → IsBoard board → 0 < slots →
     IsBoard (after_placing board owner (placed board from to slots))
-placed_keeps board from to slots owner is =
-    said_keeps board from to slots owner (placed board from to slots) is (placed_says board from to slots)
+placed_keeps board from to slots owner is some =
+    said_keeps board from to slots owner (placed board from to slots) is some (placed_says board from to slots)

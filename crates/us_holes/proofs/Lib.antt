@@ -11,3 +11,4 @@ pub mod KeptLemmas
 pub mod PlacingLemmas
 pub mod LawLemmas
 pub mod StandLemmas
+pub mod OrderLaws

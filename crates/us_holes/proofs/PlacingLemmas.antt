@@ -4,7 +4,8 @@ use Rattle.us_holes.specs.Boards.{Board, Assignment, is_full, is_idle_at, assign
 use Rattle.us_holes.specs.Placements.{placed, IsPlacedAt, HasNoRoom}
 use Rattle.us_holes.specs.declared.placements.Placed.TheVariants as answer
 use Rattle.us_holes.specs.declared.boards.Board.TheInside.{Inside}
-use Rattle.us_holes.specs.Lists.{InOrder, cells_of, board_of, put, fit, HasAt, narrowed_at, rank, AreLists}
+use Rattle.us_holes.specs.Runs.{InOrder}
+use Rattle.us_holes.specs.Lists.{cells_of, board_of, put, fit, HasAt, narrowed_at, rank, AreLists}
 use Rattle.us_holes.proofs.FitLemmas.{not_full, placed-at, says-at, placed-none}
 use Rattle.us_holes.proofs.CellLemmas.{cells_length}
 use Rattle.us_holes.proofs.PutLemmas.{order_within}

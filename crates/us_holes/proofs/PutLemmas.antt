@@ -4,7 +4,8 @@ use Rattle.std.proofs.lemmas.Bool.{cases_lt, lt-ltb, le-ltb}
 use Rattle.std.proofs.lemmas.List.{append_assoc, append-nil, length-replicate, replicate-append-replicate}
 use Rattle.std.proofs.Math.Seq.{take-append_seam, drop-append_seam, take-append-add, drop-append-add}
 use Rattle.us_holes.specs.Boards.{Holder, Assignment, assign}
-use Rattle.us_holes.specs.Lists.{end_of, its_holder, InOrder, cells_of, board_of, place_among, put, holes_of}
+use Rattle.us_holes.specs.Runs.{end_of, InOrder}
+use Rattle.us_holes.specs.Lists.{its_holder, cells_of, board_of, place_among, put, holes_of}
 use Rattle.us_holes.proofs.CellLemmas.{HasRoom, room_cases, alone_cases, room_inside}
 
 -- What is written over the middle of a list,

@@ -4,8 +4,8 @@ use Rattle.std.specs.List.{flat_map}
 use Rattle.std.proofs.lemmas.Bool.{cases_Bool, cases_lt, lt-ltb, le-ltb, eqb-true, eq-eqb, ne_eqb, and_parts, and_from, and_left}
 use Rattle.std.proofs.lemmas.List.{append-nil}
 use Rattle.us_holes.specs.Boards.{Owner, Holder, Board, Assignment}
-use Rattle.us_holes.specs.Runs.{Run, same_holder, same_cell, goes_on, owner_of, lengthened, runs_from, runs_of, FollowOn, holder_of, minislots_of, Differ}
-use Rattle.us_holes.specs.Lists.{end_of, its_holder, InOrder, cells_of, idle_run, runs_between}
+use Rattle.us_holes.specs.Runs.{Run, same_holder, same_cell, goes_on, owner_of, lengthened, runs_from, runs_of, FollowOn, holder_of, minislots_of, Differ, end_of, InOrder, idle_run, runs_between}
+use Rattle.us_holes.specs.Lists.{its_holder, cells_of}
 use Rattle.us_holes.specs.Kept.{cell_at, AreHeldFromStart, changes, IsBoard}
 
 -- A holder is the same as itself,

@@ -3,7 +3,7 @@ use Rattle.std.specs.Prelude.{◌≡◌, ℕ, [], ◌∷◌, true, false, Option
 use Rattle.us_holes.specs.Boards.{Owner, Holder, Board, empty_board, is_idle_at, assign, free_count, first_of, least_fit, longest_up_to, longest_idle}
 use Rattle.us_holes.specs.Placements.{placed, after_placing}
 use Rattle.us_holes.specs.Runs.{Run, runs_from, runs_of}
-use Rattle.us_holes.specs.Kept.{changes}
+use Rattle.us_holes.specs.Kept.{begun, changes}
 use Rattle.us_holes.specs.declared.placements.Placed.TheVariants as answer
 
 -- a broadcast request
@@ -89,6 +89,20 @@ two_runs : runs_of (assign (assign (empty_board 4) 0 2 broadcast) 2 2 broadcast)
     run 0 2 (Some broadcast) ∷ run 2 2 (Some broadcast) ∷ []
 unfolding runs_from
 two_runs = refl
+
+-- two assignments begin, and one side by side with another of its owner too
+two_begin : begun 0 granted.cells ≡ 2
+unfolding begun
+two_begin = refl
+
+both_begin : begun 0 (assign (assign (empty_board 4) 0 2 broadcast) 2 2 broadcast).cells ≡ 2
+unfolding begun
+both_begin = refl
+
+-- on idle minislots none does
+none_begins : begun 0 (empty_board 8).cells ≡ 0
+unfolding begun
+none_begins = refl
 
 three_changes : changes granted.cells ≡ 3
 unfolding changes

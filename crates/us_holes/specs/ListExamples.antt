@@ -2,8 +2,8 @@
 use Rattle.std.specs.Prelude.{◌≡◌, ℕ, List, [], ◌∷◌, Some, refl}
 use Rattle.us_holes.specs.Boards.{Owner, Assignment}
 use Rattle.us_holes.specs.Examples.{broadcast, grant, granted}
-use Rattle.us_holes.specs.Runs.{runs_of, runs_from}
-use Rattle.us_holes.specs.Lists.{cells_of, board_of, place_among, put, Hole, holes_of, fit, narrowed_at, place_for, rank, rank_narrowed, first_in, runs_between}
+use Rattle.us_holes.specs.Runs.{runs_of, runs_from, runs_between}
+use Rattle.us_holes.specs.Lists.{cells_of, board_of, place_among, put, Hole, holes_of, fit, narrowed_at, place_for, rank, rank_narrowed, first_in}
 
 abbrev assignment : ℕ → ℕ → Owner → Assignment
 assignment start slots owner = record { start = start; slots = slots; owner = owner }

@@ -2,21 +2,13 @@
 use Rattle.std.specs.Prelude.{◌≡◌, ℕ, zero, suc, ◌+◌, ◌-◌, ◌<◌, ◌≤◌, nat_le, nat_lt, nat_eq, max, Bool, ◌&&◌, ◌||◌, if◌then◌else◌, List, [], ◌∷◌, ◌++◌, length, take, drop, replicate, slice_index_or, Option, Some, None}
 use Rattle.std.specs.List.{insert, remove}
 use Rattle.us_holes.specs.Boards.{Holder, Board, Assignment, max_assignments, free_count}
-use Rattle.us_holes.specs.Runs.{Run}
+use Rattle.us_holes.specs.Runs.{end_of, InOrder}
 use Rattle.us_holes.specs.Kept.{IsBoard}
 
 -- Assignments by start.
 
-abbrev pub end_of : Assignment → ℕ
-end_of one = one.start + one.slots
-
 abbrev pub its_holder : Assignment → Holder
 its_holder one = record { start = one.start; owner = one.owner }
-
--- none begins before the one before it ends, all lie from `from` to `to`, and each has a minislot
-unfoldable pub InOrder : ℕ → List Assignment → ℕ → Type 0
-InOrder from [] to = from ≤ to
-InOrder from (one ∷ more) to = (from ≤ one.start) × (0 < one.slots) × InOrder (end_of one) more to
 
 -- the minislots from `from` to `to`
 unfoldable pub cells_of : ℕ → List Assignment → ℕ → List (Option Holder)
@@ -118,19 +110,6 @@ rank_narrowed hole start slots ranked = rise_in hole.start start (rise_in (start
 abbrev pub first_in : List Hole → Option (ℕ × ℕ)
 first_in [] = None
 first_in (hole ∷ more) = Some (hole.start, hole.slots)
-
--- Runs.
-
-abbrev pub run_of : Assignment → Run
-run_of one = record { start = one.start; len = one.slots; owner = Some one.owner }
-
-abbrev pub idle_run : ℕ → ℕ → List Run
-idle_run from to = if nat_lt from to then record { start = from; len = to - from; owner = None } ∷ [] else []
-
--- the runs from `from` to `to`
-unfoldable pub runs_between : ℕ → List Assignment → ℕ → List Run
-runs_between from [] to = idle_run from to
-runs_between from (one ∷ more) to = idle_run from one.start ++ (run_of one ∷ runs_between (end_of one) more to)
 
 -- What the fields of a board are.
 pub record AreLists (assigned : List Assignment) (holes ranked : List Hole) (len free : ℕ) : Type 0 where

@@ -1,7 +1,7 @@
 -- Runs: the minislots of a MAP as they follow on, one run for each assignment and one for each gap (ours).
-use Rattle.std.specs.Prelude.{◌≡◌, ℕ, ◌+◌, ◌-◌, ◌<◌, nat_eq, Bool, false, ◌&&◌, if◌then◌else◌, List, [], ◌∷◌, replicate, Option, Some, None}
+use Rattle.std.specs.Prelude.{◌≡◌, ℕ, ◌+◌, ◌-◌, ◌<◌, ◌≤◌, nat_eq, nat_lt, Bool, false, ◌&&◌, if◌then◌else◌, List, [], ◌∷◌, ◌++◌, replicate, Option, Some, None}
 use Rattle.std.specs.Option.{option_eq}
-use Rattle.us_holes.specs.Boards.{Owner, Holder}
+use Rattle.us_holes.specs.Boards.{Owner, Holder, Assignment}
 
 -- a run: minislots side by side that one assignment holds, or that are idle (`None`), as many as there are
 pub record Run : Type 0 where
@@ -60,3 +60,26 @@ Differ [] = Unit {0}
 Differ (run ∷ []) = Unit {0}
 Differ (run ∷ next ∷ runs) =
     (same_cell (holder_of run.start run.owner) (holder_of next.start next.owner) ≡ false) × Differ (next ∷ runs)
+
+-- Assignments by start, and the runs that are made of them and of the gaps between them.
+
+-- the minislot behind an assignment
+abbrev pub end_of : Assignment → ℕ
+end_of one = one.start + one.slots
+
+-- none begins before the one before it ends, all lie from `from` to `to`, and each has a minislot
+unfoldable pub InOrder : ℕ → List Assignment → ℕ → Type 0
+InOrder from [] to = from ≤ to
+InOrder from (one ∷ more) to = (from ≤ one.start) × (0 < one.slots) × InOrder (end_of one) more to
+
+abbrev pub run_of : Assignment → Run
+run_of one = record { start = one.start; len = one.slots; owner = Some one.owner }
+
+-- a gap has a minislot
+abbrev pub idle_run : ℕ → ℕ → List Run
+idle_run from to = if nat_lt from to then record { start = from; len = to - from; owner = None } ∷ [] else []
+
+-- the runs from `from` to `to`
+unfoldable pub runs_between : ℕ → List Assignment → ℕ → List Run
+runs_between from [] to = idle_run from to
+runs_between from (one ∷ more) to = idle_run from one.start ++ (run_of one ∷ runs_between (end_of one) more to)

@@ -1,6 +1,7 @@
 ghost use Rattle.std.specs.Prelude.{◌≡◌, ◌<◌, ◌≤◌, length, vec_capacity};
 ghost use Rattle.us_holes.specs.Boards as spec;
 ghost use Rattle.us_holes.specs.Lists as lists;
+ghost use Rattle.us_holes.specs.Runs as runs;
 
 use crate::assignments::{self, Assignment};
 use crate::holes::{self, Hole};
@@ -17,7 +18,7 @@ pub(crate) fn assign(
     requires few { length assigned.old.items < spec.max_assignments }
     requires holes { length holes.old.items ≤ spec.max_assignments }
     requires by_rank { ranked.old.items ≡ lists.rank holes.old.items }
-    requires order { lists.InOrder 0 assigned.old.items spec.max_minislots }
+    requires order { runs.InOrder 0 assigned.old.items spec.max_minislots }
     requires some { 1 ≤ one.slots }
     requires has { lists.HasAt holes.old.items place one.start one.slots }
     requires room { lists.HaveRoom (vec_capacity assigned.old) (vec_capacity holes.old) (vec_capacity ranked.old) }

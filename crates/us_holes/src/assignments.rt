@@ -1,6 +1,7 @@
 ghost use Rattle.std.specs.Prelude.{◌≡◌, ◌+◌, ◌<◌, ◌≤◌, vec_len, vec_capacity};
 ghost use Rattle.us_holes.specs.Boards as spec;
 ghost use Rattle.us_holes.specs.Lists as lists;
+ghost use Rattle.us_holes.specs.Runs as runs;
 
 use crate::owners::Owner;
 use std::marker::Model;
@@ -59,8 +60,8 @@ impl Assignment {
 
     /// The minislot behind it.
     pub(crate) fn end(self) -> u32
-        ensures value { result ≡ lists.end_of self }
-        ensures inside { lists.end_of self ≤ spec.max_minislots }
+        ensures value { result ≡ runs.end_of self }
+        ensures inside { runs.end_of self ≤ spec.max_minislots }
     {
         self.start() + self.slots()
     }
@@ -69,7 +70,7 @@ impl Assignment {
 /// Puts an assignment among the others, by its start: from behind, before all that begin later. It needs no memory.
 pub(crate) fn put(assigned: &mut Vec<Assignment>, one: Assignment)
     requires room { vec_len assigned.old < vec_capacity assigned.old }
-    requires order { lists.InOrder 0 assigned.old.items spec.max_minislots }
+    requires order { runs.InOrder 0 assigned.old.items spec.max_minislots }
     ensures items { assigned.new.items ≡ lists.put one assigned.old.items }
     ensures capacity { vec_capacity assigned.old ≤ vec_capacity assigned.new }
 {

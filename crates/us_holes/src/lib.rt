@@ -34,7 +34,11 @@ mod runs;
 // The board, which keeps these lists.
 mod boards;
 
+// What follows of the definitions alone.
+mod laws;
+
 pub use boards::{Board, MAX_ASSIGNMENTS, MAX_MINISLOTS};
+pub use laws::assignments_stand_in_order;
 pub use owners::Owner;
 pub use placements::Placed;
 pub use runs::Run;

@@ -1,6 +1,5 @@
 ghost use Rattle.std.specs.Prelude.{◌≡◌, ◌≤◌, ◌++◌, OnOk, length};
 ghost use Rattle.us_holes.specs.Boards.{max_assignments};
-ghost use Rattle.us_holes.specs.Lists as lists;
 ghost use Rattle.us_holes.specs.Runs as spec;
 
 use crate::assignments::Assignment;
@@ -50,7 +49,7 @@ impl Run {
 impl Run {
     /// The run of an assignment.
     fn of(one: Assignment) -> Run
-        ensures { result ≡ lists.run_of one }
+        ensures { result ≡ spec.run_of one }
     {
         Run {
             start: one.start(),
@@ -62,7 +61,7 @@ impl Run {
 
 /// Adds the idle run from `from` to `to`, where there are such minislots.
 fn push_idle(found: &mut Vec<Run>, from: u32, to: u32) -> Result<(), NoMemory>
-    ensures { OnOk result (found.new.items ≡ found.old.items ++ lists.idle_run from to) }
+    ensures { OnOk result (found.new.items ≡ found.old.items ++ spec.idle_run from to) }
 {
     if from < to {
         found.push(Run {
@@ -75,14 +74,14 @@ fn push_idle(found: &mut Vec<Run>, from: u32, to: u32) -> Result<(), NoMemory>
 }
 
 /// Adds the runs of a board of `len` minislots with these assignments.
-#[tactic(auto, unfolding(crate::specs::Lists::runs_between))]
+#[tactic(auto, unfolding(crate::specs::Runs::runs_between))]
 pub(crate) fn push_runs(
     found: &mut Vec<Run>,
     assigned: &[Assignment],
     len: u32,
 ) -> Result<(), NoMemory>
     requires { length assigned.now ≤ max_assignments }
-    ensures { OnOk result (found.new.items ≡ found.old.items ++ lists.runs_between 0 assigned.now len) }
+    ensures { OnOk result (found.new.items ≡ found.old.items ++ spec.runs_between 0 assigned.now len) }
 {
     found.reserve(2 * assigned.len() + 1)?;
     let mut from = 0;

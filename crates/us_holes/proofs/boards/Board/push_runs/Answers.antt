@@ -1,7 +1,6 @@
 use Rattle.std.proofs.Common.{◌++◌, ◌∙◌, ap}
 use Rattle.std.proofs.lemmas.Result.{on_ok_weaker}
-use Rattle.us_holes.specs.Runs.{runs_of}
-use Rattle.us_holes.specs.Lists.{runs_between}
+use Rattle.us_holes.specs.Runs.{runs_of, runs_between}
 use Rattle.us_holes.proofs.RunLemmas.{runs_are}
 use Rattle.us_holes.proofs.boards.Board.push_runs.Goals as goal
 
