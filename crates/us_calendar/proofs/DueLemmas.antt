@@ -2,9 +2,8 @@
 use Rattle.std.proofs.Common.{◌≡◌, ℕ, zero, suc, ◌+◌, ◌*◌, ◌/◌, ◌<◌, ◌≤◌, nat_lt, nat_eq, ◌&&◌, not, Bool, true, false, cond, List, [], ◌∷◌, filter, refl, ap, ap₂, sym, ◌∙◌, inl, inr, ne_eqb, eq-eqb, lt-ltb, le-ltb, arith}
 use Rattle.std.specs.List.{list_any, range_with_len, AllByRecursion}
 use Rattle.std.proofs.lemmas.Bool.{cases_lt, cases_eq, cases_Bool, and_right, and_parts, ltb-true}
-use Rattle.us_calendar.specs.Entries.{Entry}
+use Rattle.us_calendar.specs.Entries.{Entry, IsEntry}
 use Rattle.us_calendar.specs.Occurrences.{ideal, due}
-use Rattle.us_calendar.specs.Kept.{IsEntry}
 use Rattle.us_calendar.proofs.IdealLemmas.{HasWindows, windows, ideal-rises, number-below, ideal-most, number-most, interval-below}
 
 -- a number is among those of a range, or it is not

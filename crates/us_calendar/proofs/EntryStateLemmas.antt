@@ -5,10 +5,10 @@ use Rattle.std.proofs.lemmas.List.FromFn.{length-range_with_len}
 use Rattle.std.proofs.lemmas.Nat.{mul-le}
 use Rattle.std.proofs.Math.Nat.{div-mul-le_self}
 use Rattle.us_slots.specs.Times.{minislot_ticks}
-use Rattle.us_calendar.specs.Entries.{Entry}
+use Rattle.us_calendar.specs.Entries.{Entry, IsEntry}
 use Rattle.us_calendar.specs.Occurrences.{Pace, ideal, end_of}
 use Rattle.us_calendar.specs.Settling.{EntryState}
-use Rattle.us_calendar.specs.Kept.{IsEntry, IsEntryState, IsQuiet, state_from}
+use Rattle.us_calendar.specs.Kept.{IsEntryState, IsQuiet, state_from}
 use Rattle.us_calendar.proofs.IdealLemmas.{windows}
 use Rattle.us_calendar.proofs.DueLemmas.{due-none}
 

@@ -4,9 +4,8 @@ use Rattle.std.proofs.lemmas.Nat.{mul-le, le-div}
 use Rattle.std.proofs.Math.Nat.{div-mul-le_self, div-le_self}
 use Rattle.std.proofs.lemmas.Bool.{cases_lt}
 use Rattle.us_slots.specs.Times.{minislot_ticks}
-use Rattle.us_calendar.specs.Entries.{Entry}
+use Rattle.us_calendar.specs.Entries.{Entry, IsEntry}
 use Rattle.us_calendar.specs.Occurrences.{Pace, ideal, end_of}
-use Rattle.us_calendar.specs.Kept.{IsEntry}
 
 -- an interval that begins no earlier has no lower number
 div-rises : (n m k : ℕ) → 0 < k → n ≤ m → n / k ≤ m / k

@@ -15,3 +15,4 @@ pub mod OnceLemmas
 pub mod OnceLaws
 pub mod SortedLemmas
 pub mod NameLaws
+pub mod EntryLaws

@@ -72,7 +72,7 @@ not_lower r i s j li lj h = elim (order_of s r) [
 
 -- of whose entries these are
 
-flow_made : (c : Channel) (f : FlowTable) → IfSome (entry_of_flow c f) (λ e. (e.id ≡ f.id) × (rank_of e.kind ≤ 2))
+pub flow_made : (c : Channel) (f : FlowTable) → IfSome (entry_of_flow c f) (λ e. (e.id ≡ f.id) × (rank_of e.kind ≤ 2))
 flow_made c f = by (slice_index f.channels 0 == c.id)
   where
     of_kind : (k : SchedulingType) → IfSome (scheduled c f k) (λ e. (e.id ≡ f.id) × (rank_of e.kind ≤ 2))
@@ -85,7 +85,7 @@ flow_made c f = by (slice_index f.channels 0 == c.id)
     by true = of_kind f.kind
     by false = tt
 
-station_made : (c : Channel) (s : Station) → IfSome (entry_of_station c s) (λ e. (e.id ≡ s.id) × (rank_of e.kind ≡ 3))
+pub station_made : (c : Channel) (s : Station) → IfSome (entry_of_station c s) (λ e. (e.id ≡ s.id) × (rank_of e.kind ≡ 3))
 station_made c s = by (s.channel == c.id)
   where
     by : (b : Bool) → IfSome {T = Entry} (if b then Some (record {

@@ -137,17 +137,19 @@ in_order-sorted es ids apart =
     sorted-in_place goes_before number es (sorted es) same apart (sorted_moved es)
     (non_decreasing (sorted es) (sorted_rises es))
 
+-- what holds of each entry that is made
+
+module _ {X : Type 0} (P : X → Type 0) (Q : Entry → Type 0) (h : X → Option Entry)
+    (each : (x : X) → P x → IfSome (h x) Q) where
+  with_made : (o : Option Entry) (es : List Entry) → IfSome o Q → AllByRecursion Q es → AllByRecursion Q (cons_option o es)
+  with_made None es is all = all
+  with_made (Some e) es is all = (is, all)
+
+  all_made : (xs : List X) → AllByRecursion P xs → AllByRecursion Q (filter_map h xs)
+  all_made [] all = tt
+  all_made (x ∷ xs) all = with_made (h x) (filter_map h xs) (each x all.0) (all_made xs all.1)
+
 -- windows
-
-module _ {X : Type 0} (P : X → Type 0) (h : X → Option Entry) (each : (x : X) → P x → IfSome (h x) HasWindows) where
-  with_windows : (o : Option Entry) (es : List Entry) → IfSome o HasWindows → AllByRecursion HasWindows es →
-      AllByRecursion HasWindows (cons_option o es)
-  with_windows None es is all = all
-  with_windows (Some e) es is all = (is, all)
-
-  all_windows : (xs : List X) → AllByRecursion P xs → AllByRecursion HasWindows (filter_map h xs)
-  all_windows [] all = tt
-  all_windows (x ∷ xs) all = with_windows (h x) (filter_map h xs) (each x all.0) (all_windows xs all.1)
 
 flow_windows : (t : Tables) (c : Channel) (f : FlowTable) → IsFlow t f → IfSome (entry_of_flow c f) HasWindows
 flow_windows t c f is = by (slice_index f.channels 0 == c.id)
@@ -195,10 +197,18 @@ module _ (t : Tables) (c : Channel) (lawful : AreTables t) where
       subst IsOrdered (sym entries_sorted) (rising_ordered (sorted unsorted)
       (moved_all HasId unsorted (sorted unsorted) moved (all_ids t c lawful)) (sorted_rises unsorted) apart)
 
+  -- these entries, sorted
+  pub entries_moved : IsPermutation unsorted (entries t c)
+  entries_moved = subst (IsPermutation unsorted) (sym entries_sorted) (sorted_moved unsorted)
+
+  -- what holds of the entries of flows and of stations holds of all
+  pub entries_all : (Q : Entry → Type 0) → ((f : FlowTable) → IsFlow t f → IfSome (entry_of_flow c f) Q) →
+      ((s : Station) → IsStation t s → IfSome (entry_of_station c s) Q) → AllByRecursion Q (entries t c)
+  entries_all Q flow station =
+      moved_all Q unsorted (entries t c) entries_moved
+      (all-append Q (flows_first t c lawful) (stations_then t c lawful)
+      (all_made (IsFlow t) Q (entry_of_flow c) flow t.flows lawful.flows)
+      (all_made (IsStation t) Q (entry_of_station c) station t.stations lawful.stations))
+
   pub entries_windows : AllByRecursion HasWindows (entries t c)
-  entries_windows =
-      let all = all-append HasWindows (flows_first t c lawful) (stations_then t c lawful)
-      (all_windows (IsFlow t) (entry_of_flow c) (flow_windows t c) t.flows lawful.flows)
-      (all_windows (IsStation t) (entry_of_station c) (station_windows t c) t.stations lawful.stations) in
-      subst (AllByRecursion HasWindows) (sym entries_sorted)
-      (moved_all HasWindows unsorted (sorted unsorted) (sorted_moved unsorted) all)
+  entries_windows = entries_all HasWindows (flow_windows t c) (station_windows t c)

@@ -1,14 +1,15 @@
 -- What a channel's calendar has (ours, where nothing else is said): unsolicited grants, polls and station maintenance.
-use Rattle.std.specs.Prelude.{ℕ, ◌*◌, ◌==◌, nat_lt, ◌&&◌, ◌||◌, Bool, if◌then◌else◌, List, [], ◌++◌, length, flat_map, filter, filter_map, count_by, slice_get, slice_index, Option, Some, None, unwrap_or}
+use Rattle.std.specs.Prelude.{ℕ, ◌*◌, ◌<◌, ◌≤◌, ◌==◌, nat_lt, ◌&&◌, ◌||◌, Bool, if◌then◌else◌, List, [], ◌++◌, length, flat_map, filter, filter_map, count_by, slice_get, slice_index, Option, Some, None, unwrap_or}
 use Rattle.std.specs.List.{range_with_len}
 use Rattle.us_slots.specs.Bursts.{burst_cost}
 use Rattle.us_slots.specs.UsageCodes as codes
+use Rattle.us_flows.specs.Ranges.{max_grants, max_us}
 use Rattle.us_flows.specs.declared.channels.Channel.{Channel}
 use Rattle.us_flows.specs.declared.stations.Station.{Station}
 use Rattle.us_flows.specs.declared.flows.SchedulingType.{SchedulingType}
 use Rattle.us_flows.specs.declared.flows.SchedulingType.TheVariants.{BestEffort, NonRealTimePolling, RealTimePolling, UnsolicitedGrant}
 use Rattle.us_flows.specs.Tables.{Tables, FlowTable}
-use Rattle.us_holes.specs.Boards.{Owner}
+use Rattle.us_holes.specs.Boards.{Owner, IsOwner}
 use Rattle.us_calendar.specs.declared.kinds.Kind.{Kind}
 use Rattle.us_calendar.specs.declared.kinds.Kind.TheVariants as kinds
 
@@ -27,6 +28,16 @@ pub record Entry : Type 0 where
 
 abbrev pub quarters : ℕ → ℕ
 quarters us = 4 * us
+
+-- it has a minislot and a grant at least, and its windows are apart
+pub record IsEntry (e : Entry) : Type 0 where
+  pub owner : IsOwner e.owner
+  pub slots : 1 ≤ e.slots
+  pub start : e.start ≤ quarters max_us
+  pub interval : e.interval ≤ quarters max_us
+  pub jitter : e.jitter < e.interval
+  pub grants : 1 ≤ e.grants
+  pub few_grants : e.grants ≤ max_grants
 
 -- the SID of a flow on its first channel, in its first cluster
 abbrev pub first_sid : FlowTable → ℕ

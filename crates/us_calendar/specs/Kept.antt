@@ -3,8 +3,8 @@
 use Rattle.std.specs.Prelude.{◌≡◌, ℕ, ◌+◌, ◌*◌, ◌<◌, ◌≤◌, ◌^◌, ◌⊎◌, List, [], length, Some, slice_get, slice_index}
 use Rattle.std.specs.List.{AllByRecursion, range_with_len, insert}
 use Rattle.us_slots.specs.Times.{minislot_ticks, IsTiming}
-use Rattle.us_holes.specs.Boards.{Board, IsOwner}
-use Rattle.us_calendar.specs.Entries.{Entry}
+use Rattle.us_holes.specs.Boards.{Board}
+use Rattle.us_calendar.specs.Entries.{Entry, IsEntry}
 use Rattle.us_calendar.specs.Occurrences.{Pace, end_of, due}
 use Rattle.us_calendar.specs.Settling.{EntryState, SettledEntry, settle_entry}
 use Rattle.us_calendar.specs.Calendars.{Calendar, IsCalendar}
@@ -14,16 +14,6 @@ pub record IsPace (pace : Pace) : Type 0 where
   pub time : IsTiming pace.time
   pub len : 1 ≤ pace.len
   pub ticks : pace.len * minislot_ticks pace.time ≤ 4096
-
--- an entry has a minislot and a grant at least, and its windows are apart
-pub record IsEntry (e : Entry) : Type 0 where
-  pub owner : IsOwner e.owner
-  pub slots : 1 ≤ e.slots
-  pub start : e.start ≤ 40000000
-  pub interval : e.interval ≤ 40000000
-  pub jitter : e.jitter < e.interval
-  pub grants : 1 ≤ e.grants
-  pub few_grants : e.grants ≤ 127
 
 -- no occurrence of a run has this number or one above it
 abbrev pub max_number : ℕ

@@ -1,15 +1,32 @@
--- Laws of settling.
+-- Laws of entries and of settling.
 use Rattle.std.specs.Prelude.{◌≡◌, ℕ, ◌<◌, ◌≤◌, List, flat_map}
-use Rattle.std.specs.List.{AllByRecursion, range_with_len}
+use Rattle.std.specs.List.{AllByRecursion, Contains, range_with_len}
 use Rattle.us_flows.specs.declared.channels.Channel.{Channel}
-use Rattle.us_flows.specs.Tables.{Tables}
+use Rattle.us_flows.specs.Tables.{Tables, map_len}
 use Rattle.us_flows.specs.Lawful.{AreTables}
 use Rattle.us_holes.specs.Boards.{Board, assign_all, AllFit}
-use Rattle.us_calendar.specs.Entries.{Entry, entries}
+use Rattle.us_calendar.specs.Entries.{Entry, IsEntry, entries}
 use Rattle.us_calendar.specs.Occurrences.{Pace}
 use Rattle.us_calendar.specs.Settling.{EntryState, settle_entry, after_settling}
 use Rattle.us_calendar.specs.Calendars.{run_entries, pace_of, opening}
 use Rattle.us_calendar.specs.Runs.{Round, assignments_of, rounds_on, IsOccurrence, IsSettledOnce}
+
+-- An entry of a kind and an id stands on one channel of the tables, and is one.
+abbrev pub EntriesAreApart : Type 0
+EntriesAreApart = (t : Tables) → AreTables t → (c d : Channel) → Contains t.channels c → Contains t.channels d →
+    (e f : Entry) → Contains (entries t c) e → Contains (entries t d) f → e.kind ≡ f.kind → e.id ≡ f.id →
+    (c ≡ d) × (e ≡ f)
+
+-- an entry, of which a grant has room in a MAP of a channel
+pub record IsLawfulEntry (t : Tables) (c : Channel) (e : Entry) : Type 0 where
+  pub entry : IsEntry e
+  pub room : e.slots ≤ map_len t c
+
+-- So is each entry of a channel of accepted tables: it has a lawful owner, a minislot and a grant at least, and a jitter
+-- below its interval.
+abbrev pub EntriesAreLawful : Type 0
+EntriesAreLawful = (t : Tables) → AreTables t → (c : Channel) → Contains t.channels c →
+    AllByRecursion (IsLawfulEntry t c) (entries t c)
 
 -- Where the settled occurrences of an entry are the first ones, as many as there are, so they are after a round: what is
 -- unsettled is all from one on. For an occurrence that waits leaves no minislot of its window to the others of its

@@ -1,7 +1,7 @@
 ghost use Rattle.std.specs.Prelude.{◌≡◌, ℕ, ◌≤◌, ◌<◌};
 ghost use Rattle.us_calendar.specs.Entries as spec;
 ghost use Rattle.us_calendar.specs.Occurrences.{ideal};
-ghost use Rattle.us_calendar.specs.Kept.{IsEntry, max_number};
+ghost use Rattle.us_calendar.specs.Kept.{max_number};
 
 use crate::kinds::Kind;
 use std::marker::Model;
@@ -34,7 +34,7 @@ impl Model for Entry {
       grants = e.grants;
     } };
 
-    ghost invariant = { λ e. IsEntry (record {
+    ghost invariant = { λ e. spec.IsEntry (record {
       kind = e.kind;
       id = e.id;
       owner = e.owner;
@@ -63,7 +63,7 @@ impl Entry {
     pub(crate) fn ideal(self, number: u64) -> u64
         requires { number ≤ max_number }
         ensures value { result ≡ ideal self number }
-        ensures known { IsEntry self }
+        ensures known { spec.IsEntry self }
     {
         u64::from(self.start) + number / u64::from(self.grants) * u64::from(self.interval)
     }

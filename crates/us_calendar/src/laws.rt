@@ -1,6 +1,16 @@
 //! Laws of the definitions of the calendar, each as the contract of a function that does nothing.
 
-ghost use Rattle.us_calendar.specs.Laws.{AreOccurrences, FirstOnes, GrantsFit, SettledOnce};
+ghost use Rattle.us_calendar.specs.Laws.{AreOccurrences, EntriesAreApart, EntriesAreLawful, FirstOnes, GrantsFit, SettledOnce};
+
+/// An entry of a kind and an id stands on one channel, and is one.
+pub fn entries_are_apart()
+    ensures { EntriesAreApart }
+{}
+
+/// Entries of accepted tables are lawful, and their grants have room in a MAP.
+pub fn entries_are_lawful()
+    ensures { EntriesAreLawful }
+{}
 
 /// What is settled of an entry are its first occurrences, and so they are after a round.
 pub fn first_ones()

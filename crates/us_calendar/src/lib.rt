@@ -46,7 +46,10 @@ mod laws;
 
 pub use calendars::Calendar;
 pub use kinds::Kind;
-pub use laws::{all_are_occurrences, first_ones, grants_fit, settled_once};
+pub use laws::{
+    all_are_occurrences, entries_are_apart, entries_are_lawful, first_ones, grants_fit,
+    settled_once,
+};
 pub use settled::Settled;
 
 #[cfg(test)]

@@ -5,7 +5,7 @@ ghost use Rattle.us_slots.specs.Times.{minislot_ticks};
 ghost use Rattle.us_flows.specs.Tables.{max_run_ticks};
 ghost use Rattle.us_calendar.specs.Occurrences.{ideal, end_of, is_over};
 ghost use Rattle.us_calendar.specs.Settling as spec;
-ghost use Rattle.us_calendar.specs.Kept.{IsEntry, max_number, settle_from};
+ghost use Rattle.us_calendar.specs.Kept.{max_number, settle_from};
 
 use crate::entries::Entry;
 use crate::paces::Pace;

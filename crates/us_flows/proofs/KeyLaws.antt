@@ -59,6 +59,14 @@ module _ {X : Type 0} (key : X → ℕ) where
   place_of_key (z ∷ zs) (suc i) (suc j) x y apart one other same =
       ap suc (place_of_key zs i j x y apart.1 one other same)
 
+  -- one key is of one item
+  pub item_of_key : (xs : List X) (i j : ℕ) (x y : X) → AreApart (map key xs) → slice_get xs i ≡ Some x →
+      slice_get xs j ≡ Some y → key x ≡ key y → x ≡ y
+  item_of_key xs i j x y apart one other same =
+      let place = place_of_key xs i j x y apart one other same in
+      let found : Some x ≡ Some y = sym one ∙ ap (slice_get xs) place ∙ other in
+      cc
+
   pub found_by_key : (xs : List X) (i : ℕ) (x : X) → AreApart (map key xs) → slice_get xs i ≡ Some x →
       find (λ y. key y == key x) xs ≡ Some x
   found_by_key [] i x apart at = at

@@ -2,13 +2,14 @@
 -- table order, and each number and each cluster has one turn at most.
 use Rattle.std.proofs.Common.{◌≡◌, ℕ, zero, suc, ◌+◌, ◌<◌, ◌≤◌, List, [], ◌∷◌, ◌++◌, length, map, take, filter, flat_map, count_by, Bool, true, cond, if◌then◌else◌, ◌==◌, ◌&&◌, nat_le, Option, Some, None, slice_get, option_map, option_and_then, refl, sym, ap, ap₂, ◌∙◌, subst, inl, inr, append_assoc, eq-eqb, ne_eqb, arith}
 use Rattle.std.specs.List.{AllByRecursion, range_with_len}
-use Rattle.std.proofs.lemmas.Bool.{cases_Bool, cases_eq, cases_lt, le-leb, lt-leb}
+use Rattle.std.proofs.lemmas.Bool.{cases_Bool, cases_eq, cases_lt, cases_order, le-leb, lt-leb}
 use Rattle.std.proofs.lemmas.Grind.{flat_map-append}
 use Rattle.std.proofs.lemmas.List.{length-append, map-append, length-map}
 use Rattle.std.proofs.lemmas.List.Recursion.{is_count_by}
 use Rattle.std.proofs.Math.Seq.{take-append_seam}
 use Rattle.us_flows.specs.Tables.{Tables, FlowTable}
 use Rattle.us_flows.specs.Clusters.{Turn, Cluster, IsTurnIn, clusters_from, clusters_of, goes_before, in_order, makes_requests, requesting, table_order, turns_for, turns_from, turns_of}
+use Rattle.us_flows.specs.Laws.{OneTurn}
 use Rattle.us_flows.specs.Lawful.{AreApart}
 use Rattle.us_flows.specs.Turns.{turn_at, in_flow}
 use Rattle.us_flows.specs.declared.turns.Turn as places
@@ -290,6 +291,70 @@ one_number t a b apart one other ids lists =
     let place = place_of_id t.flows a.place b.place a.cluster.flow b.cluster.flow apart one.flow other.flow ids in
     one.before ∙ ap₂ (λ place list. length (flat_map requesting (take place t.flows)) + list) place lists ∙
     sym other.before
+
+-- one number is of one turn
+
+slice_get-below : {X : Type 0} (xs : List X) (i : ℕ) (x : X) → slice_get xs i ≡ Some x → i < length xs
+slice_get-below [] i x at = let no : None ≡ Some x = at in cc
+slice_get-below (y ∷ xs) zero x at = omega arith
+slice_get-below (y ∷ xs) (suc i) x at = omega (arith, slice_get-below xs i x at)
+
+-- before a later flow, the clusters of a flow are counted
+earlier_count : (flows : List FlowTable) (i j : ℕ) (flow : FlowTable) → slice_get flows i ≡ Some flow → i < j →
+    length (flat_map requesting (take i flows)) + length (requesting flow)
+    ≤ length (flat_map requesting (take j flows))
+earlier_count [] i j flow at before = let no : None ≡ Some flow = at in cc
+earlier_count (f ∷ flows) i zero flow at before = absurd (omega (arith, before))
+earlier_count (f ∷ flows) zero (suc j) flow at before =
+    let is : Some f ≡ Some flow = at in
+    let same : f ≡ flow = cc in
+    let count : length (requesting f) ≡ length (requesting flow) = ap (λ g. length (requesting g)) same in
+    omega (arith, count, length-append (requesting f) (flat_map requesting (take j flows)))
+earlier_count (f ∷ flows) (suc i) (suc j) flow at before =
+    omega (
+      arith,
+      length-append (requesting f) (flat_map requesting (take i flows)),
+      length-append (requesting f) (flat_map requesting (take j flows)),
+      earlier_count flows i j flow at (omega (arith, before)),
+    )
+
+-- turns of an earlier flow have lower numbers
+lower_number : (t : Tables) (a b : Turn) → IsTurnIn t a → IsTurnIn t b → a.place < b.place → a.number < b.number
+lower_number t a b one other before =
+    omega (
+      arith,
+      one.before,
+      other.before,
+      slice_get-below a.cluster.flow.clusters a.cluster.list a.cluster.sids one.sids,
+      all_requesting a.cluster.flow one.requests,
+      earlier_count t.flows a.place b.place a.cluster.flow one.flow before,
+    )
+
+one_place : (t : Tables) (a b : Turn) → IsTurnIn t a → IsTurnIn t b → a.number ≡ b.number → a.place ≡ b.place
+one_place t a b one other same = elim (cases_order a.place b.place) [
+  | inl equal ↦ equal
+  | inr apart ↦ elim apart [
+    | inl before ↦ let lower = lower_number t a b one other before in absurd (omega (arith, lower, same))
+    | inr behind ↦ let lower = lower_number t b a other one behind in absurd (omega (arith, lower, same))
+  ]
+]
+
+pub one_turn : OneTurn
+one_turn t a b one other same =
+    let place = one_place t a b one other same in
+    let found : Some a.cluster.flow ≡ Some b.cluster.flow =
+    sym one.flow ∙ ap (slice_get t.flows) place ∙ other.flow in
+    let flow : a.cluster.flow ≡ b.cluster.flow = cc in
+    let list : a.cluster.list ≡ b.cluster.list =
+    omega (arith, one.before, other.before, same, ap (before_place t) place) in
+    let held : Some a.cluster.sids ≡ Some b.cluster.sids =
+    sym one.sids ∙ ap₂ (λ (f : FlowTable) i. slice_get f.clusters i) flow list ∙ other.sids in
+    let sids : a.cluster.sids ≡ b.cluster.sids = cc in
+    λ i. record {
+      number = same i;
+      place = place i;
+      cluster = record { flow = flow i; list = list i; sids = sids i };
+    }
 
 -- turns as places
 

@@ -1,6 +1,6 @@
--- Read in this order: the tables; clusters and turns, which follow of them; ranges, and what holds of all accepted
--- tables; then how a document is judged: its keys, its values, the shape of a table, what is read, the faults in order,
--- the answer.
+-- Read in this order: the tables; clusters and turns, which follow of them, with their laws; ranges, and what holds of all
+-- accepted tables; then how a document is judged: its keys, its values, the shape of a table, what is read, the faults in
+-- order, the answer.
 -- In a definition `≡` is equals, `≢` differs from, `≤` and `<` compare, `×` is and, `⊎` or, `→` implies, `∷` one item
 -- before a list, `++` one list behind another, and ℕ has the whole numbers from 0.
 
@@ -10,6 +10,8 @@ pub mod Tables
 pub mod Clusters
 -- turns as places in the tables
 pub mod Turns
+-- laws of turns
+pub mod Laws
 -- the least and the greatest of what a configuration may say
 pub mod Ranges
 -- what holds of all tables that are accepted

@@ -69,11 +69,15 @@ mod flow_grants;
 // Stations, read and judged.
 mod station_tables;
 
+// Laws of the definitions.
+mod laws;
+
 pub use channels::Channel;
 pub use config::Config;
 pub use faults::{ConfigFault, Place, TableName};
 pub use flows::{Flow, SchedulingType};
 pub use found::Found;
+pub use laws::one_turn;
 pub use reading::MAX_CONFIG_BYTES;
 pub use stations::Station;
 pub use turns::Turn;
