@@ -6,3 +6,4 @@ pub mod BuildLemmas
 pub mod SumLemmas
 pub mod SpotLaws
 pub mod GrantLaws
+pub mod BoardLaws

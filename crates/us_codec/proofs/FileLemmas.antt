@@ -169,6 +169,15 @@ one-reading (p ∷ ps) (q ∷ qs) r s hp hq hr hs e =
     let more : (ps ≡ qs) × (r ≡ s) = one-reading ps qs r s hp.1 hq.1 hr hs later in
     (ap (λ x. x ∷ ps) same ∙ ap (λ xs. q ∷ xs) more.0, more.1)
 
+-- so that a file has one list of records
+pub one_file : (ps qs : List Piece) → AllByRecursion IsPiece ps → AllByRecursion IsPiece qs →
+    maps_file ps ≡ maps_file qs → ps ≡ qs
+one_file ps qs hp hq e =
+    let same : (ps ≡ qs) × ([] ≡ []) =
+    one-reading ps qs [] [] hp hq (omega arith) (omega arith)
+    (append-nil (maps_file ps) ∙ e ∙ sym (append-nil (maps_file qs))) in
+    same.0
+
 -- Reading front to back.
 
 -- what was read, and where the rest begins
@@ -418,10 +427,8 @@ pub only-is : (r : Result (Vec Record Global) MapFault) (bytes : List ℕ) (piec
     IfOk r (λ v. IsMapsFile bytes v.items) → IfErr r (λ fault. fault ≢ NoMemory → EndsInside bytes) →
     AllByRecursion IsPiece pieces → bytes ≡ maps_file pieces → ListUnlessNoMemory r (Ok (places 0 pieces))
 only-is (Ok v) bytes pieces found inside each whole =
-    let same : (pieces ≡ found.pieces) × ([] ≡ []) =
-    one-reading pieces found.pieces [] [] each found.each (omega arith) (omega arith)
-    (append-nil (maps_file pieces) ∙ sym whole ∙ found.spelled ∙ sym (append-nil (maps_file found.pieces))) in
-    ap (λ ps. Ok (places 0 ps)) same.0 ∙ ap (λ rs. Ok rs) (sym found.placed)
+    let same : pieces ≡ found.pieces = one_file pieces found.pieces each found.each (sym whole ∙ found.spelled) in
+    ap (λ ps. Ok (places 0 ps)) same ∙ ap (λ rs. Ok rs) (sym found.placed)
 only-is (Err e) bytes pieces found inside each whole = λ known. absurd (not-both bytes pieces each whole (inside known))
 
 pub cut-is : (r : Result (Vec Record Global) MapFault) (bytes : List ℕ) →

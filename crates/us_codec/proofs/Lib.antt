@@ -4,3 +4,4 @@ pub mod WordLemmas
 pub mod BodyLemmas
 pub mod PutLemmas
 pub mod FileLemmas
+pub mod ReadingLaws

@@ -1,4 +1,5 @@
--- Read in this order: elements and bodies, which are the grammar; the first fault, and answers that have it; maps files.
+-- Read in this order: elements and bodies, which are the grammar; the first fault, and answers that have it; maps files;
+-- laws.
 -- In a definition `≡` is equals, `≢` differs from, `×` and, `→` implies, `++` one list behind another, `∷` one item
 -- before a list, and ℕ has the whole numbers from 0. `to_be_bytes` and `from_be_bytes` are big-endian.
 
@@ -12,6 +13,8 @@ pub mod Faults
 pub mod Answers
 -- maps files: records, one behind another
 pub mod MapsFiles
+-- that no bytes have two readings
+pub mod Laws
 -- the code of a fault
 pub mod Codes
 -- the definitions at small inputs

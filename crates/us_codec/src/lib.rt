@@ -39,11 +39,15 @@ mod decoding;
 // Files of bodies.
 mod maps_files;
 
+// Laws of the definitions.
+mod laws;
+
 pub use decoding::decode;
 pub use elements::Element;
 pub use encoding::{MAX_BODY_BYTES, encode_into};
 pub use faults::MapFault;
 pub use heads::Head;
+pub use laws::{one_reading, one_spelling};
 pub use maps::{MAX_ELEMENTS, MAX_LEN, Map};
 pub use maps_files::{Record, records};
 

@@ -22,7 +22,7 @@ use Rattle.us_split.proofs.PlanLawLemmas.{plan_for-lawful, plan_of-turns}
 use Rattle.us_split.proofs.ShareLemmas.{shares_of-length}
 
 -- what holds of all items holds of the one at a place
-all_at : {X : Type 0} (P : X → Type 0) (xs : List X) (i : ℕ) (x : X) → AllByRecursion P xs → slice_get xs i ≡ Some x → P x
+pub all_at : {X : Type 0} (P : X → Type 0) (xs : List X) (i : ℕ) (x : X) → AllByRecursion P xs → slice_get xs i ≡ Some x → P x
 all_at P xs i x all is =
     subst P (get_or_from_slice_get xs i x x is) (All-from_recursion P xs all i x (slice_get_within xs i x is))
 
@@ -59,7 +59,7 @@ plan_for-planned t outstanding allowances idle lawful is =
     (plan_for-lawful t outstanding allowances idle lawful is).bursts
     (one_each outstanding ledger (turns_of t))
 
-flow_of : (t : Tables) (turn : Turn) → AreTables t → IsTurnIn t turn → IsFlow t turn.cluster.flow
+pub flow_of : (t : Tables) (turn : Turn) → AreTables t → IsTurnIn t turn → IsFlow t turn.cluster.flow
 flow_of t turn lawful is = all_at (IsFlow t) t.flows turn.place turn.cluster.flow lawful.flows is.flow
 
 -- What holds of each claim.

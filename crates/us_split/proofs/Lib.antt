@@ -6,3 +6,4 @@ pub mod ShareLemmas
 pub mod PlanLawLemmas
 pub mod ClaimLemmas
 pub mod ChannelShareLemmas
+pub mod TurnClaimLaws

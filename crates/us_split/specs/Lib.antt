@@ -11,6 +11,8 @@ pub mod Plans
 pub mod Claims
 -- what holds of every plan
 pub mod PlanLaws
+-- whose the claims of a plan are
+pub mod Laws
 -- the definitions at small inputs
 pub mod Examples
 -- inside the crate, and of no use to a reader of the promise: a plan in the making

@@ -30,8 +30,12 @@ mod plans;
 // The plan of a round.
 mod planning;
 
+// Laws of its claims.
+mod laws;
+
 pub use claims::{Claim, Claimant};
 pub use divisions::{MAX_CHANNELS_OF_FLOW, divide};
+pub use laws::{claims_are_of_turns, clusters_claim_once};
 pub use planning::{plan, plan_with};
 pub use plans::Plan;
 
