@@ -13,4 +13,7 @@ pub mod RoundLemmas
 pub mod SoundLemmas
 pub mod PhaseLemmas
 pub mod StageLemmas
+pub mod ScheduleLaws
+pub mod ChannelRunLaws
+pub mod ByteLaws
 pub mod TurnLemmas
