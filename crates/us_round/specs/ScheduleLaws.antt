@@ -1,8 +1,9 @@
 -- Laws of the schedule: what holds of each of its rounds.
-use Rattle.std.specs.Prelude.{◌≡◌, ℕ, ◌+◌, List, [], ◌∷◌, length, map, sum_by, slice_get, slice_index, slice_index_or, Some}
+use Rattle.std.specs.Prelude.{◌≡◌, ℕ, ◌+◌, ◌^◌, ◌<◌, true, List, [], ◌∷◌, length, map, sum_by, slice_get, slice_index, slice_index_or, Some}
 use Rattle.std.specs.List.{AllByRecursion, range_with_len}
+use Rattle.us_codec.specs.Bodies.{IsMapBody}
 use Rattle.us_flows.specs.declared.channels.Channel.{Channel}
-use Rattle.us_flows.specs.Tables.{Tables, map_len}
+use Rattle.us_flows.specs.Tables.{Tables, map_len, rounds_fit}
 use Rattle.us_flows.specs.Clusters.{clusters_of}
 use Rattle.us_flows.specs.Lawful.{AreTables}
 use Rattle.us_holes.specs.Boards.{Board}
@@ -12,6 +13,7 @@ use Rattle.us_calendar.specs.declared.settled.Settled.{Settled}
 use Rattle.us_channel.specs.Reserves.{reserves}
 use Rattle.us_channel.specs.Placements.{credits}
 use Rattle.us_round.specs.Rounds.{State, Scheduled, opening, begun, builds_of, ended, round_of, schedule, final, all_grants, is_of_cluster}
+use Rattle.us_round.specs.Outputs.{built_map}
 use Rattle.us_round.specs.States.{IsState, AreSound}
 
 -- what each round starts from, once its cut is in
@@ -74,3 +76,12 @@ abbrev pub BytesAreKept : Type 0
 BytesAreKept = (t : Tables) (cuts : List (List ℕ)) (number : ℕ) → AreTables t → AreCuts t cuts →
     slice_index (final (opening t) cuts).outstanding number + credited_of number (schedule (opening t) cuts)
     ≡ asked_of number cuts
+
+-- the number of a round has four bytes, and the MAP of each channel is lawful
+abbrev pub HasLawfulMaps : Tables → Scheduled → Type 0
+HasLawfulMaps t s = (s.round < 2 ^ 32) × AllByRecursion (λ b. IsMapBody (built_map t s.round s.pending b)) s.channels
+
+-- So is every round from the opening on, where all fit into a run.
+abbrev pub MapsAreLawful : Type 0
+MapsAreLawful = (t : Tables) (cuts : List (List ℕ)) → AreTables t → AreCuts t cuts → rounds_fit t (length cuts) ≡ true →
+    AllByRecursion (HasLawfulMaps t) (schedule (opening t) cuts)

@@ -61,7 +61,9 @@ pub use placing_laws::turns_are_placed_in_order;
 pub use round_outs::RoundOut;
 pub use rounds::round;
 pub use rows::{EntryWord, FinalState, Grant, MissedOccurrence, Row, TraceCounts};
-pub use schedule_laws::{bytes_are_kept, calendars_run, rounds_are_sound, rounds_follow_on};
+pub use schedule_laws::{
+    bytes_are_kept, calendars_run, maps_are_lawful, rounds_are_sound, rounds_follow_on,
+};
 pub use states::State;
 
 #[cfg(test)]

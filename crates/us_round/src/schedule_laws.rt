@@ -1,6 +1,6 @@
 //! Laws of the schedule, each as the contract of a function that does nothing.
 
-ghost use Rattle.us_round.specs.ScheduleLaws.{BytesAreKept, CalendarsRun, ChannelsStay, RoundsAreNumbered, RoundsAreSound, ScheduleIsOfBegunRounds, TablesStay};
+ghost use Rattle.us_round.specs.ScheduleLaws.{BytesAreKept, CalendarsRun, ChannelsStay, MapsAreLawful, RoundsAreNumbered, RoundsAreSound, ScheduleIsOfBegunRounds, TablesStay};
 
 /// A schedule is what its rounds come to, each from the state that it begins with. They are numbered one after another,
 /// and are of the same tables.
@@ -25,4 +25,9 @@ pub fn calendars_run()
 /// After any rounds from the opening on, each byte that a cluster asked for is outstanding or was credited.
 pub fn bytes_are_kept()
     ensures { BytesAreKept }
+{}
+
+/// The MAP of every channel in every round from the opening on is lawful.
+pub fn maps_are_lawful()
+    ensures { MapsAreLawful }
 {}
