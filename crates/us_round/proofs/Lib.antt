@@ -13,4 +13,10 @@ pub mod RoundLemmas
 pub mod SoundLemmas
 pub mod PhaseLemmas
 pub mod StageLemmas
+pub mod ScheduleLaws
+pub mod ChannelRunLaws
+pub mod ByteLaws
+pub mod EntryLemmas
+pub mod OwnerLemmas
+pub mod MapLaws
 pub mod TurnLemmas

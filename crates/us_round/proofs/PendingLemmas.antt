@@ -172,7 +172,7 @@ known_sids t place flow lawful found =
     flow.clusters is.sids
 
 -- what is left of a cluster
-left-index : (grants : List PlacedClaim) (from : ℕ) (before : List ℕ) (n : ℕ) →
+pub left-index : (grants : List PlacedClaim) (from : ℕ) (before : List ℕ) (n : ℕ) →
     slice_index (uncredited grants from before) n ≡ slice_index before n - credits (is_of_cluster (from + n)) grants
 left-index grants from [] n = omega arith
 left-index grants from (bytes ∷ more) zero =

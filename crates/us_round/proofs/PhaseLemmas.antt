@@ -46,7 +46,7 @@ pub zip_none : {X Y : Type 0} (xs : List X) → (none : List Y) → none ≡ [] 
 zip_none [] none is = refl
 zip_none (x ∷ xs) none is = rw is refl
 
-zip_long : {X Y : Type 0} (xs : List X) (ys : List Y) → length ys ≤ length xs → length (zip xs ys) ≡ length ys
+pub zip_long : {X Y : Type 0} (xs : List X) (ys : List Y) → length ys ≤ length xs → length (zip xs ys) ≡ length ys
 zip_long [] [] few = refl
 zip_long [] (y ∷ ys) few = absurd (omega (arith, few))
 zip_long (x ∷ xs) [] few = refl
@@ -82,27 +82,33 @@ pair_more xs done x y left rest all place pairs new same parts is so_far here at
 
 -- Calendars.
 
-fill_sound : (t : Tables) (round : ℕ) (c : Channel) (calendar : Calendar) → IsReady t round (c, calendar) →
-    IsFilledFor t (fill t round c calendar)
-fill_sound t round c calendar ready =
+fill_sound : (t : Tables) (round : ℕ) (c : Channel) (calendar : Calendar) → IsChannel t c →
+    calendar.pace ≡ pace_of t c → IsFilledFor t (fill t round c calendar)
+fill_sound t round c calendar lawful pace =
     let board : Board = reserves c (map_len t c) round in
     let fitting = grants_fit calendar.pace calendar.next_round calendar.states board in
     let ended = run_ended calendar.pace calendar.next_round calendar.states board in
     let len : length (ran calendar board).board.cells ≡ map_len t c =
     ap (λ b. length b.cells) fitting.0 ∙ assign_all-length board _ fitting.1
-    ∙ reserves_length c (map_len t c) round ready.channel.reserves in
+    ∙ reserves_length c (map_len t c) round lawful.reserves in
     record {
       len = len;
       inside = subst (λ n. AllByRecursion (StartsInside n) (ran calendar board).settled)
-          (ap (λ p. p.len) ready.pace ∙ sym len) ended.inside;
+          (ap (λ p. p.len) pace ∙ sym len) ended.inside;
       few = omega (arith, ended.granted);
     }
 
-all_sound : (t : Tables) (round : ℕ) (items : List (Channel × Calendar)) → AllByRecursion (IsReady t round) items →
-    AllByRecursion (IsFilledFor t) (map (λ item. fill t round item.0 item.1) items)
-all_sound t round [] all = tt
-all_sound t round (item ∷ items) all =
-    (fill_sound t round item.0 item.1 all.0, all_sound t round items all.1)
+all_sound : (t : Tables) (round : ℕ) (channels : List Channel) (cs : List Calendar) →
+    AllByRecursion (IsChannel t) channels → map (λ calendar. calendar.pace) cs ≡ map (pace_of t) channels →
+    AllByRecursion (IsFilledFor t)
+    (map (λ (item : Channel × Calendar). fill t round item.0 item.1) (zip channels cs))
+all_sound t round [] cs lawful paces = tt
+all_sound t round (c ∷ channels) [] lawful paces = tt
+all_sound t round (c ∷ channels) (calendar ∷ cs) lawful paces =
+    let both : calendar.pace ∷ map (λ calendar. calendar.pace) cs ≡ pace_of t c ∷ map (pace_of t) channels = paces in
+    let rest : map (λ calendar. calendar.pace) cs ≡ map (pace_of t) channels = cc in
+    let first : calendar.pace ≡ pace_of t c = cc in
+    (fill_sound t round c calendar lawful.0 first, all_sound t round channels cs lawful.1 rest)
 
 all_ready : (t : Tables) (round : ℕ) (channels : List Channel) (cs : List Calendar) →
     (round + 1) * t.round_ticks ≤ max_run_ticks → AllByRecursion (IsChannel t) channels →
@@ -123,11 +129,10 @@ pub calendars_ready : (t : Tables) (round : ℕ) (cs : List Calendar) → (round
     AreTables t → AreCalendars t round cs → AllByRecursion (IsReady t round) (zip t.channels cs)
 calendars_ready t round cs time lawful are = all_ready t round t.channels cs time lawful.channels are.paces are.rounds
 
--- and is sound after it
-pub filled_sound : (t : Tables) (round : ℕ) (cs : List Calendar) → (round + 1) * t.round_ticks ≤ max_run_ticks →
-    AreTables t → AreCalendars t round cs → AllByRecursion (IsFilledFor t) (filled t round cs)
-filled_sound t round cs time lawful are =
-    all_sound t round (zip t.channels cs) (calendars_ready t round cs time lawful are)
+-- and is sound after it, whatever the time is
+pub filled_sound : (t : Tables) (round : ℕ) (cs : List Calendar) → AreTables t → AreCalendars t round cs →
+    AllByRecursion (IsFilledFor t) (filled t round cs)
+filled_sound t round cs lawful are = all_sound t round t.channels cs lawful.channels are.paces
 
 all_counted : (t : Tables) (round : ℕ) (channels : List Channel) (cs : List Calendar) → length cs ≡ length channels →
     settled_now (map (λ (item : Channel × Calendar). fill t round item.0 item.1) (zip channels cs)) + sum_by settled_in cs

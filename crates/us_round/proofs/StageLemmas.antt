@@ -57,15 +57,15 @@ ready_as core cs t round items same number time lawful are is =
     (calendars_ready core.tables core.round cs time (subst (λ u. AreTables u) same lawful) are)))
 
 pub filled_as : (core : Core) (cs : List Calendar) (t : Tables) (round : ℕ) (fs : List Filled) →
-    t ≡ core.tables → round ≡ core.round → (core.round + 1) * core.tables.round_ticks ≤ max_run_ticks → AreTables t →
-    AreCalendars core.tables core.round cs → fs ≡ filled t round cs → AreFilled core cs fs
-filled_as core cs t round fs same number time lawful are is =
+    t ≡ core.tables → round ≡ core.round → AreTables t → AreCalendars core.tables core.round cs → fs ≡ filled t round cs →
+    AreFilled core cs fs
+filled_as core cs t round fs same number lawful are is =
     let all : fs ≡ filled core.tables core.round cs =
     is ∙ ap (λ u. filled u round cs) same ∙ ap (λ n. filled core.tables n cs) number in
     record {
       value = all;
       sound = subst (λ fs. AllByRecursion (IsFilledFor core.tables) fs) (sym all)
-          (filled_sound core.tables core.round cs time (subst (λ u. AreTables u) same lawful) are);
+          (filled_sound core.tables core.round cs (subst (λ u. AreTables u) same lawful) are);
       counts = subst (λ fs. settled_now fs + sum_by settled_in cs ≡ settled_then fs) (sym all)
           (filled_counted core.tables core.round cs are);
     }

@@ -20,6 +20,8 @@ pub mod TurnExamples
 pub mod CalendarExamples
 -- what a round's grants take, and what a state keeps
 pub mod States
+-- laws of the schedule
+pub mod ScheduleLaws
 -- the texts of faults
 pub mod Faults
 -- who is pending, by what is outstanding before and after the grants; what boards keep

@@ -1,7 +1,6 @@
 -- A round of a bonding group (ours), and the schedule, round after round.
-use Rattle.std.specs.Prelude.{ℕ, ◌+◌, ◌-◌, ◌==◌, nat_lt, Bool, ◌&&◌, if◌then◌else◌, List, [], ◌∷◌, length, replicate, map, flat_map, filter, filter_map, sum_by, zip, take, slice_index, slice_get, Option, None}
-use Rattle.us_flows.specs.declared.channels.Channel.{Channel}
-use Rattle.us_flows.specs.Tables.{Tables, map_len}
+use Rattle.std.specs.Prelude.{ℕ, ◌+◌, ◌-◌, ◌==◌, nat_lt, Bool, ◌&&◌, if◌then◌else◌, List, [], ◌∷◌, length, replicate, map, flat_map, filter, filter_map, zip, take, slice_index, slice_get, Option, None}
+use Rattle.us_flows.specs.Tables.{Tables}
 use Rattle.us_flows.specs.Clusters.{Turn, clusters_of, turns_of}
 use Rattle.us_bucket.specs.Levels.{Level, full, refilled, spent, bytes_in}
 use Rattle.us_holes.specs.Boards.{free_count}

@@ -51,6 +51,9 @@ mod rounds;
 // and a round that no worker has a part in.
 mod alone;
 
+// Laws of all rounds of a schedule.
+mod schedule_laws;
+
 pub use alone::round_alone;
 pub use faults::RoundFault;
 pub use output_laws::{lines_are_of_grants, lines_bear_round};
@@ -58,6 +61,9 @@ pub use placing_laws::turns_are_placed_in_order;
 pub use round_outs::RoundOut;
 pub use rounds::round;
 pub use rows::{EntryWord, FinalState, Grant, MissedOccurrence, Row, TraceCounts};
+pub use schedule_laws::{
+    bytes_are_kept, calendars_run, maps_are_lawful, rounds_are_sound, rounds_follow_on,
+};
 pub use states::State;
 
 #[cfg(test)]

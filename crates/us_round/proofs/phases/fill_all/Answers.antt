@@ -34,7 +34,7 @@ returns g c =
     (IfOk-weaker c.each.result
     (λ all. all.items ≡ values_of (λ _ item. fill t n item.0 item.1) c.in_ok-items.items.items) _
     (λ all is. filled_as c.args.core.now c.args.lanes.items t n all.items c.config-config.ensures.value
-    c.round-round.ensures c.requires.time c.in_ok-items.ensures.lawful c.requires.calendars
+    c.round-round.ensures c.in_ok-items.ensures.lawful c.requires.calendars
     (is ∙ values_are (λ item. fill t n item.0 item.1) 0 c.in_ok-items.items.items
     ∙ ap (λ items. map (λ item. fill t n item.0 item.1) items) c.in_ok-items.ensures.value))
     ((c.requires.each _ c.in_ok-items.items (accepted _ (IsReady t n) c.in_ok-items.items.items all)).1 _ c.each.ensures))

@@ -1,0 +1,289 @@
+-- The MAP of every channel in every round is lawful.
+use Rattle.std.proofs.Common.{◌≡◌, ◌≢◌, ℕ, zero, suc, ◌+◌, ◌-◌, ◌*◌, ◌/◌, ◌^◌, ◌<◌, ◌≤◌, ◌==◌, ◌&&◌, nat_lt, nat_le, Bool, true, false, if◌then◌else◌, List, [], ◌∷◌, ◌++◌, length, map, zip, take, filter, Option, Some, None, IfSome, slice_get, slice_index, filter_map, Contains, refl, ap, sym, subst, ◌∙◌, inl, inr, mul_assoc, div-le_self, pow_pos, arith}
+use Rattle.std.specs.List.{AllByRecursion, cons_option}
+use Rattle.std.proofs.lemmas.Bool.{and_parts, leb-true}
+use Rattle.std.proofs.lemmas.Nat.{mul-le}
+use Rattle.std.proofs.lemmas.List.{length-append}
+use Rattle.us_slots.specs.Times.{minislot_ticks}
+use Rattle.us_slots.specs.UsageCodes as codes
+use Rattle.us_codec.specs.Elements.{IsMapElement}
+use Rattle.us_codec.specs.Bodies.{IsHead, IsMapBody}
+use Rattle.us_flows.specs.declared.channels.Channel.{Channel}
+use Rattle.us_flows.specs.Tables.{Tables, map_len, max_run_ticks, rounds_fit}
+use Rattle.us_flows.specs.Clusters.{Turn, IsTurnIn, turns_of}
+use Rattle.us_flows.specs.Lawful.{AreTables, IsChannel}
+use Rattle.us_flows.proofs.TurnLaws.{turns_of-turns}
+use Rattle.us_bucket.specs.Levels.{bytes_in}
+use Rattle.us_holes.specs.Boards.{Board, IsOwner}
+use Rattle.us_holes.specs.Kept.{IsBoard}
+use Rattle.us_holes.specs.Runs.{runs_of}
+use Rattle.us_holes.proofs.LawLemmas.{assign_all-is_board}
+use Rattle.us_holes.proofs.RunLemmas.{runs_follow, board_few}
+use Rattle.us_calendar.specs.Entries.{Entry, entries}
+use Rattle.us_calendar.specs.Settling.{EntryState}
+use Rattle.us_calendar.specs.Calendars as calendars
+use Rattle.us_calendar.specs.Calendars.{Calendar}
+use Rattle.us_calendar.specs.Runs.{assignments_of}
+use Rattle.us_calendar.proofs.FitLaws as calendar_laws
+use Rattle.us_split.specs.Plans.{Planned}
+use Rattle.us_split.specs.Claims.{Claim, IsClaimOn, AreClaims, claims_on}
+use Rattle.us_split.proofs.ClaimLemmas.{plan_for-claims}
+use Rattle.us_channel.specs.Reserves.{reserves}
+use Rattle.us_channel.specs.Placements.{PlacedClaim, assignments, credits, grants_of}
+use Rattle.us_channel.specs.Channels.{Filled, Built, fill}
+use Rattle.us_channel.proofs.GrantLaws as grant_laws
+use Rattle.us_round.specs.Rounds.{State, opening, begun, fills_of, idle, round_plan, build_planned, builds_of, all_grants, is_of_cluster, uncredited, ended, first_sid, pending_sid, pending_sids, pendings_on, round_from, round_of, schedule}
+use Rattle.us_round.specs.Outputs.{head_of, elements_of, map_of, built_map}
+use Rattle.us_round.specs.Leftovers.{IsBuiltFor}
+use Rattle.us_round.specs.States.{IsState}
+use Rattle.us_round.specs.ScheduleLaws.{begun_rounds, HasLawfulMaps, MapsAreLawful}
+use Rattle.us_round.proofs.PartLemmas.{all_append, all_both, all_contained, all_dropped, all_filtered, all_found, all_mapped, all_taken, all_weaker}
+use Rattle.us_round.proofs.MapLemmas.{board_map, follow_starts}
+use Rattle.us_round.proofs.PendingLemmas.{known_sids}
+use Rattle.us_round.proofs.CreditLaws.{claims_some}
+use Rattle.us_round.proofs.OwnerLemmas.{AreOwned, HasOwner, all_assigned, elements_lawful, grants_owned, reserves_board, reserves_owned, run_owned}
+use Rattle.us_round.proofs.EntryLemmas.{entries_have_owners}
+use Rattle.us_round.proofs.ScheduleLaws.{IsBegunIn, opening_begun, schedule_is_of_begun_rounds, state_idle, state_sound}
+
+-- Heads.
+
+start_small : (round len ticks round_ticks : ℕ) → len * ticks ≡ round_ticks → 1 ≤ ticks → round * round_ticks ≤ 67108864 →
+    round * len < 2 ^ 32
+start_small round len ticks round_ticks whole some time =
+    let same : round * len * ticks ≡ round * round_ticks = mul_assoc round len ticks ∙ ap (λ n. round * n) whole in
+    let least : round * len * 1 ≤ round * len * ticks =
+    mul-le (round * len) 1 (round * len) ticks (omega arith) some in
+    omega (arith, same, least, time)
+
+ack_small : (start lead ticks : ℕ) → start ≤ 67108864 → (start - lead) / ticks < 2 ^ 32
+ack_small start lead ticks time = omega (arith, div-le_self (start - lead) ticks, time)
+
+head_lawful : (t : Tables) (round : ℕ) (c : Channel) → IsChannel t c → round * t.round_ticks ≤ max_run_ticks →
+    IsHead (head_of t round c)
+unfolding head_of
+head_lawful t round c is time =
+    let ticks : ℕ = minislot_ticks c.bursts.time in
+    record {
+      channel = omega (arith, is.id.1);
+      ucd_count = omega (arith, is.ucd_count);
+      alloc_start = start_small round (map_len t c) ticks t.round_ticks is.whole (pow_pos c.bursts.time.minislot_log2) time;
+      ack = ack_small (round * t.round_ticks) t.lead_ticks ticks time;
+      four = omega (
+        arith,
+        length-append c.ranging_backoff c.data_backoff,
+        is.ranging_backoff.two,
+        is.data_backoff.two,
+      );
+      backoffs = all_append (λ backoff. backoff ≤ 15) c.ranging_backoff c.data_backoff is.ranging_backoff.each
+          is.data_backoff.each;
+    }
+
+-- Pendings.
+
+abbrev IsSmall : ℕ × ℕ → Type 0
+IsSmall pending = pending.1 < 2 ^ 14
+
+first_small : (ids sids : List ℕ) → AllByRecursion (λ sid. sid < 2 ^ 14) sids → IfSome (slice_get (zip ids sids) 0) IsSmall
+first_small [] sids all = tt
+first_small (id ∷ ids) [] all = tt
+first_small (id ∷ ids) (sid ∷ sids) all = all.0
+
+pending_small : (t : Tables) (grants : List PlacedClaim) (left : List ℕ) (turn : Turn) → AreTables t → IsTurnIn t turn →
+    IfSome (pending_sid grants left turn) IsSmall
+pending_small t grants left turn lawful is =
+    by (nat_lt 0 (slice_index left turn.number) && (credits (is_of_cluster turn.number) grants == 0))
+  where
+    by : (asks : Bool) → IfSome (if asks then first_sid turn else None) IsSmall
+    by true =
+        first_small turn.cluster.flow.channels turn.cluster.sids
+        (all_found (λ sids. AllByRecursion (λ sid. sid < 2 ^ 14) sids) turn.cluster.flow.clusters turn.cluster.list
+        turn.cluster.sids (known_sids t turn.place turn.cluster.flow lawful is.flow) is.sids)
+    by false = tt
+
+all_found_small : (found : Option (ℕ × ℕ)) (more : List (ℕ × ℕ)) → IfSome found IsSmall → AllByRecursion IsSmall more →
+    AllByRecursion IsSmall (cons_option found more)
+all_found_small None more is all = all
+all_found_small (Some one) more is all = (is, all)
+
+pendings_small : (t : Tables) (grants : List PlacedClaim) (left : List ℕ) (turns : List Turn) → AreTables t →
+    AllByRecursion (IsTurnIn t) turns → AllByRecursion IsSmall (pending_sids grants left turns)
+unfolding pending_sids
+pendings_small t grants left [] lawful all = tt
+pendings_small t grants left (turn ∷ turns) lawful all =
+    all_found_small (pending_sid grants left turn) (filter_map (pending_sid grants left) turns)
+    (pending_small t grants left turn lawful all.0) (pendings_small t grants left turns lawful all.1)
+
+take_few : {A : Type 0} (n : ℕ) (xs : List A) → length (take n xs) ≤ n
+take_few zero xs = omega arith
+take_few (suc n) [] = omega arith
+take_few (suc n) (x ∷ xs) = omega (arith, take_few n xs)
+
+sids_few : (id : ℕ) (pendings : List (ℕ × ℕ)) → length (pendings_on id pendings) ≤ 38
+unfolding pendings_on
+sids_few id pendings = take_few 38 (map (λ pending. pending.1) (filter (λ pending. pending.0 == id) pendings))
+
+sids_small : (id : ℕ) (pendings : List (ℕ × ℕ)) → AllByRecursion IsSmall pendings →
+    AllByRecursion (λ sid. sid < 2 ^ 14) (pendings_on id pendings)
+unfolding pendings_on
+sids_small id pendings all =
+    all_taken (λ sid. sid < 2 ^ 14) 38 (map (λ pending. pending.1) (filter (λ pending. pending.0 == id) pendings))
+    (all_mapped (λ sid. sid < 2 ^ 14) (λ (pending : ℕ × ℕ). pending.1) (filter (λ pending. pending.0 == id) pendings)
+    (all_filtered IsSmall (λ pending. pending.0 == id) pendings all))
+
+-- One channel.
+
+-- a board of assignments, whose owners are lawful
+abbrev IsMade : Board → Type 0
+IsMade board = IsBoard board × AreOwned board.cells
+
+abbrev AreKnown : Calendar → Type 0
+AreKnown calendar = AllByRecursion HasOwner calendar.states
+
+filled_made : (t : Tables) (round : ℕ) (c : Channel) (calendar : Calendar) → IsChannel t c → AreKnown calendar →
+    IsMade (fill t round c calendar).board
+filled_made t round c calendar lawful known =
+    let board : Board = reserves c (map_len t c) round in
+    let fitting = calendar_laws.grants_fit calendar.pace calendar.next_round calendar.states board in
+    let told = (run_owned calendar.pace calendar.next_round calendar.states board known).1 in
+    subst IsMade (sym fitting.0) (
+      assign_all-is_board board _ (reserves_board t c round lawful) fitting.1,
+      all_assigned board _ (reserves_owned c (map_len t c) round) told,
+    )
+
+built_made : (t : Tables) (plan : List Planned) (f : Filled) → IsChannel t f.channel → IsMade f.board →
+    AllByRecursion (IsClaimOn f.channel) (claims_on f.channel plan) → IsMade (build_planned plan f).board
+unfolding build_planned
+built_made t plan f lawful made claims =
+    let cs : List Claim = claims_on f.channel plan in
+    let gs : List PlacedClaim = grants_of f.channel.bursts f.board cs in
+    let granted = grant_laws.grants_are f.channel.bursts f.board cs lawful.bursts (claims_some f.channel plan) in
+    let small : AllByRecursion (λ claim. claim.sid < 2 ^ 14) cs =
+    all_weaker (IsClaimOn f.channel) (λ claim. claim.sid < 2 ^ 14) (λ claim is. is.sid) cs claims in (
+      assign_all-is_board f.board (assignments gs) made.0 (grant_laws.grants_fit f.channel.bursts f.board cs gs granted),
+      all_assigned f.board (assignments gs) made.1 (grants_owned f.channel.bursts f.board cs gs granted small),
+    )
+
+-- its MAP
+map_lawful : (t : Tables) (round : ℕ) (pending : List (ℕ × ℕ)) (b : Built) → IsBuiltFor t b → IsMade b.board →
+    round * t.round_ticks ≤ max_run_ticks → AllByRecursion IsSmall pending → IsMapBody (built_map t round pending b)
+unfolding map_of elements_of
+map_lawful t round pending b built made time small =
+    let c : Channel = b.channel in
+    let most : length b.board.cells ≤ 4096 = made.0.most in
+    let follow = runs_follow 0 (length b.board.cells) b.board.cells (omega arith) in
+    let elements = elements_lawful c b.board.cells made.1 (follow_starts b.board.cells follow most) in
+    board_map (head_of t round c) c b.board (map_len t c) (pendings_on c.id pending) (elements_of c b.board) _
+    (head_lawful t round c built.channel time) made.0 built.len follow (board_few b.board made.0)
+    (sids_few c.id pending) (sids_small c.id pending small) refl refl elements.0 elements.1
+
+-- All channels.
+
+builds_made : (t : Tables) (round : ℕ) (plan : List Planned) (channels : List Channel) (cs : List Calendar) →
+    AllByRecursion (IsChannel t) channels → AllByRecursion AreKnown cs →
+    AllByRecursion (λ c. AllByRecursion (IsClaimOn c) (claims_on c plan)) channels →
+    AllByRecursion (λ b. IsMade b.board)
+    (map (build_planned plan) (map (λ (pair : Channel × Calendar). fill t round pair.0 pair.1) (zip channels cs)))
+builds_made t round plan [] cs lawful known claims = tt
+builds_made t round plan (c ∷ channels) [] lawful known claims = tt
+builds_made t round plan (c ∷ channels) (calendar ∷ cs) lawful known claims = (
+  built_made t plan (fill t round c calendar) lawful.0 (filled_made t round c calendar lawful.0 known.0) claims.0,
+  builds_made t round plan channels cs lawful.1 known.1 claims.1,
+)
+
+-- calendars keep their entries
+calendars_known : (t : Tables) (round : ℕ) (plan : List Planned) (channels : List Channel) (cs : List Calendar) →
+    AllByRecursion AreKnown cs →
+    AllByRecursion AreKnown (map (λ b. b.calendar)
+    (map (build_planned plan) (map (λ (pair : Channel × Calendar). fill t round pair.0 pair.1) (zip channels cs))))
+unfolding build_planned
+calendars_known t round plan [] cs known = tt
+calendars_known t round plan (c ∷ channels) [] known = tt
+calendars_known t round plan (c ∷ channels) (calendar ∷ cs) known = (
+  (run_owned calendar.pace calendar.next_round calendar.states (reserves c (map_len t c) round) known.0).0,
+  calendars_known t round plan channels cs known.1,
+)
+
+-- All rounds.
+
+all_known : (s : State) (cuts : List (List ℕ)) → AllByRecursion AreKnown s.calendars →
+    AllByRecursion (λ (b : State). AllByRecursion AreKnown b.calendars) (begun_rounds s cuts)
+unfolding begun_rounds round_of round_from builds_of
+all_known s [] known = tt
+all_known s (cut ∷ cuts) known = (
+  known,
+  all_known (round_of s cut).state cuts
+      (calendars_known s.tables s.round (round_plan (begun s cut)) s.tables.channels s.calendars known),
+)
+
+-- the MAPs of a round
+state_maps : (s : State) → AreTables s.tables → IsState s → AllByRecursion AreKnown s.calendars →
+    s.round * s.tables.round_ticks ≤ max_run_ticks →
+    AllByRecursion (λ b. IsMapBody (built_map s.tables s.round (ended s (builds_of s)).scheduled.pending b)) (builds_of s)
+unfolding builds_of
+state_maps s lawful is known time =
+    let pending : List (ℕ × ℕ) = (ended s (builds_of s)).scheduled.pending in
+    let grants : List PlacedClaim = all_grants (builds_of s) in
+    let claims : AreClaims s.tables (round_plan s) =
+    plan_for-claims s.tables s.outstanding (map bytes_in s.buckets) (idle (fills_of s)) lawful (state_idle s lawful is) in
+    let made : AllByRecursion (λ b. IsMade b.board) (builds_of s) =
+    builds_made s.tables s.round (round_plan s) s.tables.channels s.calendars lawful.channels known claims.each in
+    let small : AllByRecursion IsSmall pending =
+    pendings_small s.tables grants (uncredited grants 0 s.outstanding) (turns_of s.tables) lawful
+    (turns_of-turns s.tables) in
+    all_weaker (λ b. IsBuiltFor s.tables b × IsMade b.board) (λ b. IsMapBody (built_map s.tables s.round pending b))
+    (λ b both. map_lawful s.tables s.round pending b both.0 both.1 time small) (builds_of s)
+    (all_both (IsBuiltFor s.tables) (λ b. IsMade b.board) (builds_of s) (state_sound s lawful is).boards made)
+
+abbrev IsKnownIn : Tables → ℕ → State → Type 0
+IsKnownIn t end s = IsBegunIn t end s × AllByRecursion AreKnown s.calendars
+
+round_maps : (t : Tables) (end : ℕ) → AreTables t → end * t.round_ticks ≤ max_run_ticks → (s : State) →
+    IsKnownIn t end s → HasLawfulMaps t (ended s (builds_of s)).scheduled
+round_maps t end lawful time s is =
+    let same : s.tables ≡ t = is.0.tables in
+    let before : s.round < end = is.0.before in
+    let least : end * 1 ≤ end * t.round_ticks = mul-le end 1 end t.round_ticks (omega arith) lawful.round_ticks.0 in
+    let less : s.round * t.round_ticks ≤ end * t.round_ticks =
+    mul-le s.round t.round_ticks end t.round_ticks (omega (arith, before)) (omega arith) in
+    let early : s.round * t.round_ticks ≤ max_run_ticks = omega (arith, less, time) in
+    let early_there : s.round * s.tables.round_ticks ≤ max_run_ticks =
+    subst (λ (u : Tables). s.round * u.round_ticks ≤ max_run_ticks) (sym same) early in
+    subst (λ u. HasLawfulMaps u (ended s (builds_of s)).scheduled) same (
+      omega (arith, before, least, time),
+      state_maps s (subst AreTables (sym same) lawful) is.0.state is.1 early_there,
+    )
+
+-- the entries of lawful tables have lawful owners
+abbrev pub EntriesHaveOwners : Type 0
+EntriesHaveOwners = (t : Tables) → AreTables t → (c : Channel) → Contains t.channels c →
+    AllByRecursion (λ e. IsOwner e.owner) (entries t c)
+
+opening_known : (t : Tables) (channels : List Channel) →
+    AllByRecursion (λ c. AllByRecursion (λ e. IsOwner e.owner) (entries t c)) channels →
+    AllByRecursion AreKnown (map (calendars.opening t) channels)
+opening_known t [] have = tt
+opening_known t (c ∷ channels) have = (
+  all_mapped HasOwner (λ e. record { entry = e; settled = [] }) (entries t c) have.0,
+  opening_known t channels have.1,
+)
+
+-- where they do, all MAPs are lawful
+pub maps_are_lawful_where : EntriesHaveOwners → MapsAreLawful
+maps_are_lawful_where owners t cuts lawful long fits =
+    let end : ℕ = 0 + length cuts in
+    let rounds : List State = begun_rounds (opening t) cuts in
+    let same : length cuts ≡ end = omega arith in
+    let time : end * t.round_ticks ≤ max_run_ticks =
+    subst (λ n. n * t.round_ticks ≤ max_run_ticks) same (leb-true (length cuts * t.round_ticks) max_run_ticks
+    (and_parts (nat_le 1 (length cuts)) (nat_le (length cuts * t.round_ticks) max_run_ticks) fits).1) in
+    let have = all_contained (λ c. AllByRecursion (λ e. IsOwner e.owner) (entries t c)) t.channels (owners t lawful) in
+    let known : AllByRecursion (λ (s : State). AllByRecursion AreKnown s.calendars) rounds =
+    all_known (opening t) cuts (opening_known t t.channels have) in
+    subst (AllByRecursion (HasLawfulMaps t)) (sym (schedule_is_of_begun_rounds (opening t) cuts))
+    (all_mapped (HasLawfulMaps t) (λ s. (ended s (builds_of s)).scheduled) rounds
+    (all_weaker (IsKnownIn t end) (λ s. HasLawfulMaps t (ended s (builds_of s)).scheduled)
+    (round_maps t end lawful time) rounds
+    (all_both (IsBegunIn t end) (λ s. AllByRecursion AreKnown s.calendars) rounds (opening_begun t cuts long) known)))
+
+pub maps_are_lawful : MapsAreLawful
+maps_are_lawful = maps_are_lawful_where entries_have_owners

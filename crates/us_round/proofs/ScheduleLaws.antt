@@ -1,0 +1,113 @@
+-- The rounds of a schedule, one after another: each begins with a state, and is sound.
+use Rattle.std.proofs.Common.{◌≡◌, ℕ, ◌+◌, ◌<◌, ◌==◌, List, [], ◌∷◌, length, map, refl, ap, sym, subst, ◌∙◌, inl, inr, arith}
+use Rattle.std.specs.Prelude.{zip}
+use Rattle.std.specs.List.{AllByRecursion}
+use Rattle.std.proofs.lemmas.Bool.{cases_Bool}
+use Rattle.std.proofs.lemmas.List.{length-map}
+use Rattle.us_flows.specs.Tables.{Tables}
+use Rattle.us_flows.specs.Clusters.{clusters_of}
+use Rattle.us_flows.specs.Lawful.{AreTables}
+use Rattle.us_bucket.specs.Levels.{refilled, bytes_in}
+use Rattle.us_split.specs.Plans.{IsIdle}
+use Rattle.us_split.proofs.PlanLawLemmas.{plan_for-lawful}
+use Rattle.us_round.specs.Rounds.{State, opening, grown, begun, fills_of, idle, builds_of, credited, round_from, round_of, schedule}
+use Rattle.us_round.specs.Cores.{Core, AreCalendars, IsFilledFor}
+use Rattle.us_round.specs.States.{IsState, AreSound}
+use Rattle.us_round.specs.ScheduleLaws.{begun_rounds, AreCuts, ScheduleIsOfBegunRounds, RoundsAreNumbered, TablesStay, RoundsAreSound}
+use Rattle.us_round.proofs.PartLemmas.{all_weaker}
+use Rattle.us_round.proofs.FillLemmas.{filled_idle}
+use Rattle.us_round.proofs.PhaseLemmas.{filled_sound, zip_long}
+use Rattle.us_round.proofs.CalendarLemmas.{state_next, opening_state}
+use Rattle.us_round.proofs.SoundLemmas.{sound, turns_planned}
+
+-- One round.
+
+grown_length : (s : State) → length (grown s) ≡ length s.buckets
+grown_length s = elim (cases_Bool (s.round == 0)) [
+  | inl first ↦ rw first refl
+  | inr later ↦ rw later (length-map s.buckets (refilled s.tables.round_ticks))
+]
+
+-- a round begins with a state,
+pub begun_state : (s : State) (cut : List ℕ) → IsState s → length cut ≡ length (clusters_of s.tables) → IsState (begun s cut)
+begun_state s cut is long = record {
+  clusters = length-map (zip s.outstanding cut) (λ (pair : ℕ × ℕ). pair.0 + pair.1)
+      ∙ zip_long s.outstanding cut (omega (arith, long, is.clusters)) ∙ long;
+  flows = grown_length s ∙ is.flows;
+  paces = is.paces;
+  rounds = is.rounds;
+}
+
+pub calendars_in : (s : State) → IsState s → AreCalendars s.tables s.round s.calendars
+calendars_in s is = record { paces = is.paces; rounds = is.rounds }
+
+-- leaves one,
+pub next_state : (s : State) → IsState s → IsState (credited s (builds_of s))
+next_state s is =
+    let core : Core = record { tables = s.tables; round = s.round; outstanding = s.outstanding; buckets = s.buckets } in
+    state_next core s.calendars (builds_of s) (record { clusters = is.clusters; flows = is.flows }) (calendars_in s is) refl
+
+-- has no more idle minislots than its MAPs have,
+pub state_filled : (s : State) → AreTables s.tables → IsState s → AllByRecursion (IsFilledFor s.tables) (fills_of s)
+state_filled s lawful is = filled_sound s.tables s.round s.calendars lawful (calendars_in s is)
+
+pub state_idle : (s : State) → AreTables s.tables → IsState s → IsIdle s.tables (idle (fills_of s))
+state_idle s lawful is =
+    filled_idle s.tables s.round s.calendars (fills_of s) (calendars_in s is) refl (state_filled s lawful is)
+
+-- and is sound
+pub state_sound : (s : State) → AreTables s.tables → IsState s → AreSound s (builds_of s)
+state_sound s lawful is =
+    sound s lawful (calendars_in s is) is.clusters is.flows
+    (plan_for-lawful s.tables s.outstanding (map bytes_in s.buckets) (idle (fills_of s)) lawful (state_idle s lawful is))
+    (turns_planned s) (state_filled s lawful is)
+
+-- All rounds.
+
+pub schedule_is_of_begun_rounds : ScheduleIsOfBegunRounds
+unfolding schedule begun_rounds round_of round_from
+schedule_is_of_begun_rounds state [] = refl
+schedule_is_of_begun_rounds state (cut ∷ cuts) =
+    ap (λ more. (round_of state cut).scheduled ∷ more) (schedule_is_of_begun_rounds (round_of state cut).state cuts)
+
+pub rounds_are_numbered : RoundsAreNumbered
+unfolding begun_rounds round_of round_from
+rounds_are_numbered state [] = refl
+rounds_are_numbered state (cut ∷ cuts) =
+    ap (λ more. state.round ∷ more) (rounds_are_numbered (round_of state cut).state cuts)
+
+pub tables_stay : TablesStay
+unfolding begun_rounds round_of round_from
+tables_stay state [] = tt
+tables_stay state (cut ∷ cuts) = (refl, tables_stay (round_of state cut).state cuts)
+
+-- a round with these tables begins with this state, and is before another one
+pub record IsBegunIn (t : Tables) (end : ℕ) (s : State) : Type 0 where
+  pub tables : s.tables ≡ t
+  pub state : IsState s
+  pub before : s.round < end
+
+pub all_begun : (s : State) (cuts : List (List ℕ)) → IsState s → AreCuts s.tables cuts →
+    AllByRecursion (IsBegunIn s.tables (s.round + length cuts)) (begun_rounds s cuts)
+unfolding begun_rounds round_of round_from
+all_begun s [] is long = tt
+all_begun s (cut ∷ cuts) is long =
+    let now : IsState (begun s cut) = begun_state s cut is long.0 in
+    let next : State = (round_of s cut).state in
+    let more : AllByRecursion (IsBegunIn s.tables (s.round + 1 + length cuts)) (begun_rounds next cuts) =
+    all_begun next cuts (next_state (begun s cut) now) long.1 in
+    let end : s.round + 1 + length cuts ≡ s.round + length (cut ∷ cuts) = omega arith in (
+      record { tables = refl; state = now; before = omega arith },
+      subst (λ n. AllByRecursion (IsBegunIn s.tables n) (begun_rounds next cuts)) end more,
+    )
+
+-- those of a configuration, from the opening on
+pub opening_begun : (t : Tables) (cuts : List (List ℕ)) → AreCuts t cuts →
+    AllByRecursion (IsBegunIn t (0 + length cuts)) (begun_rounds (opening t) cuts)
+opening_begun t cuts long = all_begun (opening t) cuts (opening_state t) long
+
+pub rounds_are_sound : RoundsAreSound
+rounds_are_sound t cuts lawful long =
+    all_weaker (IsBegunIn t (0 + length cuts)) (λ s. IsState s × AreSound s (builds_of s))
+    (λ s is. (is.state, state_sound s (subst AreTables (sym is.tables) lawful) is.state))
+    (begun_rounds (opening t) cuts) (opening_begun t cuts long)

@@ -1,0 +1,33 @@
+//! Laws of the schedule, each as the contract of a function that does nothing.
+
+ghost use Rattle.us_round.specs.ScheduleLaws.{BytesAreKept, CalendarsRun, ChannelsStay, MapsAreLawful, RoundsAreNumbered, RoundsAreSound, ScheduleIsOfBegunRounds, TablesStay};
+
+/// A schedule is what its rounds come to, each from the state that it begins with. They are numbered one after another,
+/// and are of the same tables.
+pub fn rounds_follow_on()
+    ensures begun { ScheduleIsOfBegunRounds }
+    ensures numbers { RoundsAreNumbered }
+    ensures tables { TablesStay }
+{}
+
+/// Every round from the opening on is sound.
+pub fn rounds_are_sound()
+    ensures { RoundsAreSound }
+{}
+
+/// A round's channels are those of the tables, and the calendar of each goes over the boards of its reserves, whatever the
+/// cuts are.
+pub fn calendars_run()
+    ensures channels { ChannelsStay }
+    ensures settled { CalendarsRun }
+{}
+
+/// After any rounds from the opening on, each byte that a cluster asked for is outstanding or was credited.
+pub fn bytes_are_kept()
+    ensures { BytesAreKept }
+{}
+
+/// The MAP of every channel in every round from the opening on is lawful.
+pub fn maps_are_lawful()
+    ensures { MapsAreLawful }
+{}
