@@ -16,7 +16,6 @@ pub mod StageLemmas
 pub mod ScheduleLaws
 pub mod ChannelRunLaws
 pub mod ByteLaws
-pub mod EntryLemmas
 pub mod OwnerLemmas
 pub mod MapLaws
 pub mod TurnLemmas

@@ -1,29 +1,26 @@
 -- The MAP of every channel in every round is lawful.
-use Rattle.std.proofs.Common.{◌≡◌, ◌≢◌, ℕ, zero, suc, ◌+◌, ◌-◌, ◌*◌, ◌/◌, ◌^◌, ◌<◌, ◌≤◌, ◌==◌, ◌&&◌, nat_lt, nat_le, Bool, true, false, if◌then◌else◌, List, [], ◌∷◌, ◌++◌, length, map, zip, take, filter, Option, Some, None, IfSome, slice_get, slice_index, filter_map, Contains, refl, ap, sym, subst, ◌∙◌, inl, inr, mul_assoc, div-le_self, pow_pos, arith}
+use Rattle.std.proofs.Common.{◌≡◌, ℕ, zero, suc, ◌+◌, ◌-◌, ◌*◌, ◌/◌, ◌^◌, ◌<◌, ◌≤◌, ◌==◌, ◌&&◌, nat_lt, nat_le, Bool, true, false, if◌then◌else◌, List, [], ◌∷◌, length, map, zip, take, filter, Option, Some, None, IfSome, slice_get, slice_index, filter_map, Contains, refl, ap, sym, subst, ◌∙◌, mul_assoc, div-le_self, pow_pos, arith}
 use Rattle.std.specs.List.{AllByRecursion, cons_option}
 use Rattle.std.proofs.lemmas.Bool.{and_parts, leb-true}
 use Rattle.std.proofs.lemmas.Nat.{mul-le}
 use Rattle.std.proofs.lemmas.List.{length-append}
 use Rattle.us_slots.specs.Times.{minislot_ticks}
-use Rattle.us_slots.specs.UsageCodes as codes
-use Rattle.us_codec.specs.Elements.{IsMapElement}
 use Rattle.us_codec.specs.Bodies.{IsHead, IsMapBody}
 use Rattle.us_flows.specs.declared.channels.Channel.{Channel}
-use Rattle.us_flows.specs.Tables.{Tables, map_len, max_run_ticks, rounds_fit}
+use Rattle.us_flows.specs.Tables.{Tables, map_len, max_run_ticks}
 use Rattle.us_flows.specs.Clusters.{Turn, IsTurnIn, turns_of}
 use Rattle.us_flows.specs.Lawful.{AreTables, IsChannel}
 use Rattle.us_flows.proofs.TurnLaws.{turns_of-turns}
 use Rattle.us_bucket.specs.Levels.{bytes_in}
 use Rattle.us_holes.specs.Boards.{Board, IsOwner}
 use Rattle.us_holes.specs.Kept.{IsBoard}
-use Rattle.us_holes.specs.Runs.{runs_of}
 use Rattle.us_holes.proofs.LawLemmas.{assign_all-is_board}
 use Rattle.us_holes.proofs.RunLemmas.{runs_follow, board_few}
 use Rattle.us_calendar.specs.Entries.{Entry, entries}
-use Rattle.us_calendar.specs.Settling.{EntryState}
 use Rattle.us_calendar.specs.Calendars as calendars
 use Rattle.us_calendar.specs.Calendars.{Calendar}
-use Rattle.us_calendar.specs.Runs.{assignments_of}
+use Rattle.us_calendar.specs.Laws.{IsLawfulEntry}
+use Rattle.us_calendar.proofs.EntryLaws.{entries_are_lawful}
 use Rattle.us_calendar.proofs.FitLaws as calendar_laws
 use Rattle.us_split.specs.Plans.{Planned}
 use Rattle.us_split.specs.Claims.{Claim, IsClaimOn, AreClaims, claims_on}
@@ -32,17 +29,16 @@ use Rattle.us_channel.specs.Reserves.{reserves}
 use Rattle.us_channel.specs.Placements.{PlacedClaim, assignments, credits, grants_of}
 use Rattle.us_channel.specs.Channels.{Filled, Built, fill}
 use Rattle.us_channel.proofs.GrantLaws as grant_laws
-use Rattle.us_round.specs.Rounds.{State, opening, begun, fills_of, idle, round_plan, build_planned, builds_of, all_grants, is_of_cluster, uncredited, ended, first_sid, pending_sid, pending_sids, pendings_on, round_from, round_of, schedule}
+use Rattle.us_round.specs.Rounds.{State, opening, begun, fills_of, idle, round_plan, build_planned, builds_of, all_grants, is_of_cluster, uncredited, ended, first_sid, pending_sid, pending_sids, pendings_on, round_from, round_of}
 use Rattle.us_round.specs.Outputs.{head_of, elements_of, map_of, built_map}
 use Rattle.us_round.specs.Leftovers.{IsBuiltFor}
 use Rattle.us_round.specs.States.{IsState}
 use Rattle.us_round.specs.ScheduleLaws.{begun_rounds, HasLawfulMaps, MapsAreLawful}
-use Rattle.us_round.proofs.PartLemmas.{all_append, all_both, all_contained, all_dropped, all_filtered, all_found, all_mapped, all_taken, all_weaker}
+use Rattle.us_round.proofs.PartLemmas.{all_append, all_both, all_contained, all_filtered, all_found, all_mapped, all_taken, all_weaker}
 use Rattle.us_round.proofs.MapLemmas.{board_map, follow_starts}
 use Rattle.us_round.proofs.PendingLemmas.{known_sids}
 use Rattle.us_round.proofs.CreditLaws.{claims_some}
-use Rattle.us_round.proofs.OwnerLemmas.{AreOwned, HasOwner, all_assigned, elements_lawful, grants_owned, reserves_board, reserves_owned, run_owned}
-use Rattle.us_round.proofs.EntryLemmas.{entries_have_owners}
+use Rattle.us_round.proofs.OwnerLemmas.{AreOwned, HasOwner, HaveOwners, IsOwnedPart, all_assigned, elements_lawful, grants_owned, reserves_board, reserves_owned, run_owned}
 use Rattle.us_round.proofs.ScheduleLaws.{IsBegunIn, opening_begun, schedule_is_of_begun_rounds, state_idle, state_sound}
 
 -- Heads.
@@ -146,7 +142,8 @@ filled_made t round c calendar lawful known =
     let fitting = calendar_laws.grants_fit calendar.pace calendar.next_round calendar.states board in
     let told = (run_owned calendar.pace calendar.next_round calendar.states board known).1 in
     subst IsMade (sym fitting.0) (
-      assign_all-is_board board _ (reserves_board t c round lawful) fitting.1,
+      assign_all-is_board board _ (reserves_board t c round lawful) fitting.1
+          (all_weaker IsOwnedPart (λ a. 0 < a.slots) (λ a has. has.1) _ told),
       all_assigned board _ (reserves_owned c (map_len t c) round) told,
     )
 
@@ -158,9 +155,11 @@ built_made t plan f lawful made claims =
     let gs : List PlacedClaim = grants_of f.channel.bursts f.board cs in
     let granted = grant_laws.grants_are f.channel.bursts f.board cs lawful.bursts (claims_some f.channel plan) in
     let small : AllByRecursion (λ claim. claim.sid < 2 ^ 14) cs =
-    all_weaker (IsClaimOn f.channel) (λ claim. claim.sid < 2 ^ 14) (λ claim is. is.sid) cs claims in (
-      assign_all-is_board f.board (assignments gs) made.0 (grant_laws.grants_fit f.channel.bursts f.board cs gs granted),
-      all_assigned f.board (assignments gs) made.1 (grants_owned f.channel.bursts f.board cs gs granted small),
+    all_weaker (IsClaimOn f.channel) (λ claim. claim.sid < 2 ^ 14) (λ claim is. is.sid) cs claims in
+    let owned : HaveOwners (assignments gs) = grants_owned f.channel.bursts f.board cs gs granted small in (
+      assign_all-is_board f.board (assignments gs) made.0 (grant_laws.grants_fit f.channel.bursts f.board cs gs granted)
+          (all_weaker IsOwnedPart (λ a. 0 < a.slots) (λ a has. has.1) (assignments gs) owned),
+      all_assigned f.board (assignments gs) made.1 owned,
     )
 
 -- its MAP
@@ -253,13 +252,17 @@ round_maps t end lawful time s is =
       state_maps s (subst AreTables (sym same) lawful) is.0.state is.1 early_there,
     )
 
--- the entries of lawful tables have lawful owners
-abbrev pub EntriesHaveOwners : Type 0
-EntriesHaveOwners = (t : Tables) → AreTables t → (c : Channel) → Contains t.channels c →
-    AllByRecursion (λ e. IsOwner e.owner) (entries t c)
+-- an entry has a minislot, and a lawful owner
+abbrev IsServed : Entry → Type 0
+IsServed e = IsOwner e.owner × (0 < e.slots)
+
+served : (t : Tables) → AreTables t → (c : Channel) → Contains t.channels c → AllByRecursion IsServed (entries t c)
+served t lawful c has =
+    all_weaker (IsLawfulEntry t c) IsServed (λ e is. (is.entry.owner, is.entry.slots)) (entries t c)
+    (entries_are_lawful t lawful c has)
 
 opening_known : (t : Tables) (channels : List Channel) →
-    AllByRecursion (λ c. AllByRecursion (λ e. IsOwner e.owner) (entries t c)) channels →
+    AllByRecursion (λ c. AllByRecursion IsServed (entries t c)) channels →
     AllByRecursion AreKnown (map (calendars.opening t) channels)
 opening_known t [] have = tt
 opening_known t (c ∷ channels) have = (
@@ -267,16 +270,15 @@ opening_known t (c ∷ channels) have = (
   opening_known t channels have.1,
 )
 
--- where they do, all MAPs are lawful
-pub maps_are_lawful_where : EntriesHaveOwners → MapsAreLawful
-maps_are_lawful_where owners t cuts lawful long fits =
+pub maps_are_lawful : MapsAreLawful
+maps_are_lawful t cuts lawful long fits =
     let end : ℕ = 0 + length cuts in
     let rounds : List State = begun_rounds (opening t) cuts in
     let same : length cuts ≡ end = omega arith in
     let time : end * t.round_ticks ≤ max_run_ticks =
     subst (λ n. n * t.round_ticks ≤ max_run_ticks) same (leb-true (length cuts * t.round_ticks) max_run_ticks
     (and_parts (nat_le 1 (length cuts)) (nat_le (length cuts * t.round_ticks) max_run_ticks) fits).1) in
-    let have = all_contained (λ c. AllByRecursion (λ e. IsOwner e.owner) (entries t c)) t.channels (owners t lawful) in
+    let have = all_contained (λ c. AllByRecursion IsServed (entries t c)) t.channels (served t lawful) in
     let known : AllByRecursion (λ (s : State). AllByRecursion AreKnown s.calendars) rounds =
     all_known (opening t) cuts (opening_known t t.channels have) in
     subst (AllByRecursion (HasLawfulMaps t)) (sym (schedule_is_of_begun_rounds (opening t) cuts))
@@ -284,6 +286,3 @@ maps_are_lawful_where owners t cuts lawful long fits =
     (all_weaker (IsKnownIn t end) (λ s. HasLawfulMaps t (ended s (builds_of s)).scheduled)
     (round_maps t end lawful time) rounds
     (all_both (IsBegunIn t end) (λ s. AllByRecursion AreKnown s.calendars) rounds (opening_begun t cuts long) known)))
-
-pub maps_are_lawful : MapsAreLawful
-maps_are_lawful = maps_are_lawful_where entries_have_owners

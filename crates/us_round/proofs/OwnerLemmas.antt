@@ -1,11 +1,12 @@
 -- Whose minislots are: each owner on a round's boards has a SID of 14 bits, and an IUC that ends no list.
-use Rattle.std.proofs.Common.{◌≡◌, ◌≢◌, ℕ, ◌+◌, ◌-◌, ◌%◌, ◌^◌, ◌<◌, ◌≤◌, ◌==◌, nat_le, true, false, ◌⊎◌, if◌then◌else◌, List, [], ◌∷◌, ◌++◌, length, take, drop, replicate, map, flat_map, zip, Option, Some, None, refl, ap, sym, subst, ◌∙◌, inl, inr, arith}
+use Rattle.std.proofs.Common.{◌≡◌, ◌≢◌, ℕ, ◌+◌, ◌-◌, ◌%◌, ◌^◌, ◌<◌, ◌≤◌, ◌==◌, nat_le, true, ◌⊎◌, List, [], ◌∷◌, ◌++◌, take, drop, replicate, map, flat_map, Option, Some, None, sym, subst, inl, inr, arith}
 use Rattle.std.specs.List.{AllByRecursion}
 use Rattle.std.proofs.lemmas.Bool.{cases_Bool}
+use Rattle.std.proofs.lemmas.Bool.Decides.{nat_tests}
 use Rattle.std.proofs.lemmas.Grind.{flat_map-append}
 use Rattle.us_slots.specs.Bursts.{ChannelBursts}
 use Rattle.us_slots.specs.UsageCodes as codes
-use Rattle.us_codec.specs.Elements.{MapElement, IsMapElement}
+use Rattle.us_codec.specs.Elements.{IsMapElement}
 use Rattle.us_flows.specs.declared.channels.Channel.{Channel}
 use Rattle.us_flows.specs.Tables.{Tables, map_len}
 use Rattle.us_flows.specs.Lawful.{IsChannel}
@@ -13,18 +14,17 @@ use Rattle.us_holes.specs.Boards.{Owner, Holder, Board, Assignment, IsOwner, emp
 use Rattle.us_holes.specs.Kept.{IsBoard}
 use Rattle.us_holes.specs.Runs.{Run, goes_on, lengthened, owner_of, runs_from, runs_of}
 use Rattle.us_holes.proofs.BoardLemmas.{empty_is_board}
-use Rattle.us_holes.proofs.LawLemmas.{fit_is_board, assign_all-is_board}
+use Rattle.us_holes.proofs.LawLemmas.{fit_is_board}
 use Rattle.us_calendar.specs.Entries.{Entry}
 use Rattle.us_calendar.specs.Occurrences.{Pace}
 use Rattle.us_calendar.specs.Settling.{EntryState, Settlement, SettledEntry, settle_entry, told_as}
-use Rattle.us_calendar.specs.Calendars.{Calendar, Ran, run_entries}
+use Rattle.us_calendar.specs.Calendars.{Ran, run_entries}
 use Rattle.us_calendar.specs.Runs.{assignments_of}
-use Rattle.us_calendar.proofs.FitLaws as calendar_laws
 use Rattle.us_split.specs.Claims.{Claim}
 use Rattle.us_channel.specs.Reserves.{reserved, maintenance, reserves}
 use Rattle.us_channel.specs.Placements.{PlacedClaim, assignments}
 use Rattle.us_channel.proofs.ReserveLemmas.{empty_fits, maintained_fits}
-use Rattle.us_channel.proofs.GrantLaws.{IsGrantOf, Granted}
+use Rattle.us_channel.proofs.GrantLaws.{Granted}
 use Rattle.us_round.specs.Outputs.{gap, element_by, run_element}
 use Rattle.us_round.proofs.PartLemmas.{all_append, all_taken, all_dropped, all_replicated}
 
@@ -36,9 +36,12 @@ IsOwned (Some holder) = IsOwner holder.owner
 abbrev pub AreOwned : List (Option Holder) → Type 0
 AreOwned cells = AllByRecursion IsOwned cells
 
--- and so are assignments
+-- an assignment has a minislot, and a lawful owner
+abbrev pub IsOwnedPart : Assignment → Type 0
+IsOwnedPart a = IsOwner a.owner × (0 < a.slots)
+
 abbrev pub HaveOwners : List Assignment → Type 0
-HaveOwners all = AllByRecursion (λ a. IsOwner a.owner) all
+HaveOwners all = AllByRecursion IsOwnedPart all
 
 -- Assignments.
 
@@ -57,7 +60,7 @@ unfolding assign_all
 all_assigned board [] all have = all
 all_assigned board (one ∷ more) all have =
     all_assigned (assign board one.start one.slots one.owner) more
-    (assigned board one.start one.slots one.owner all have.0) have.1
+    (assigned board one.start one.slots one.owner all have.0.0) have.1
 
 -- Reserves.
 
@@ -88,7 +91,9 @@ reserved_board : (board : Board) (start slots iuc : ℕ) → fits board slots st
     IsBoard (reserved board start slots iuc)
 reserved_board board start slots iuc fit is = elim (cases_Bool (slots == 0)) [
   | inl none ↦ rw none is
-  | inr some ↦ rw some (fit_is_board board start slots (record { sid = 16383; iuc = iuc }) is fit)
+  | inr some ↦
+    let any : 0 < slots = grind (arith, nat_tests, some) in
+    rw some (fit_is_board board start slots (record { sid = 16383; iuc = iuc }) is any fit)
 ]
 
 maintained_board : (c : Channel) (len round : ℕ) → 1 ≤ len → len ≤ 4096 → c.maintenance_minislots ≤ len →
@@ -111,20 +116,20 @@ reserves_board t c round is =
 
 -- Calendars.
 
--- the owner of an entry is lawful
+-- an entry has a minislot, and a lawful owner
 abbrev pub HasOwner : EntryState → Type 0
-HasOwner state = IsOwner state.entry.owner
+HasOwner state = IsOwner state.entry.owner × (0 < state.entry.slots)
 
-told_owned : (e : Entry) (number : ℕ) (start : Option ℕ) → IsOwner e.owner →
+told_owned : (e : Entry) (number : ℕ) (start : Option ℕ) → IsOwner e.owner × (0 < e.slots) →
     HaveOwners (assignments_of (told_as e (record { number = number; start = start })))
 told_owned e number None is = tt
 told_owned e number (Some at) is = (is, tt)
 
-all_told_owned : (e : Entry) (ms : List Settlement) → IsOwner e.owner →
+all_told_owned : (e : Entry) (ms : List Settlement) → IsOwner e.owner × (0 < e.slots) →
     HaveOwners (flat_map assignments_of (map (told_as e) ms))
 all_told_owned e [] is = tt
 all_told_owned e (m ∷ ms) is =
-    all_append (λ a. IsOwner a.owner) (assignments_of (told_as e m)) (flat_map assignments_of (map (told_as e) ms))
+    all_append IsOwnedPart (assignments_of (told_as e m)) (flat_map assignments_of (map (told_as e) ms))
     (told_owned e m.number m.start is) (all_told_owned e ms is)
 
 pub run_owned : (pace : Pace) (round : ℕ) (states : List EntryState) (board : Board) → AllByRecursion HasOwner states →
@@ -138,7 +143,7 @@ run_owned pace round (state ∷ states) board all =
     let others = run_owned pace round states one.board all.1 in (
       (all.0, others.0),
       subst HaveOwners (sym (flat_map-append assignments_of (map (told_as state.entry) one.settlements) rest.settled))
-          (all_append (λ a. IsOwner a.owner) (flat_map assignments_of (map (told_as state.entry) one.settlements))
+          (all_append IsOwnedPart (flat_map assignments_of (map (told_as state.entry) one.settlements))
           (flat_map assignments_of rest.settled) (all_told_owned state.entry one.settlements all.0) others.1),
     )
 
@@ -153,7 +158,7 @@ grants_owned b board (claim ∷ cs) [] all small = tt
 grants_owned b board (claim ∷ cs) (g ∷ gs) all small = elim all [
   | inl rest ↦ grants_owned b board cs (g ∷ gs) rest small.1
   | inr own ↦ (
-    owner own.0.sid own.0.usage small.0,
+    (owner own.0.sid own.0.usage small.0, omega (arith, own.0.slots)),
     grants_owned b (assign board g.assignment.start g.assignment.slots g.assignment.owner) cs gs own.1 small.1,
   )
 ]
