@@ -32,7 +32,9 @@ mod laws;
 
 pub use building::{Built, Filled, build_on, fill, lanes_of};
 pub use lanes::Lane;
-pub use laws::{boards_are_built, grants_are_of_claims, grants_fit, placed_have_minislots, reserves_fit};
+pub use laws::{
+    boards_are_built, grants_are_of_claims, grants_fit, placed_have_minislots, reserves_fit,
+};
 pub use placing::PlacedClaim;
 pub use reserving::BROADCAST;
 

@@ -92,8 +92,8 @@ reserved_board : (board : Board) (start slots iuc : ℕ) → fits board slots st
 reserved_board board start slots iuc fit is = elim (cases_Bool (slots == 0)) [
   | inl none ↦ rw none is
   | inr some ↦
-    let any : 0 < slots = grind (arith, nat_tests, some) in
-    rw some (fit_is_board board start slots (record { sid = 16383; iuc = iuc }) is any fit)
+      let any : 0 < slots = grind (arith, nat_tests, some) in
+      rw some (fit_is_board board start slots (record { sid = 16383; iuc = iuc }) is any fit)
 ]
 
 maintained_board : (c : Channel) (len round : ℕ) → 1 ≤ len → len ≤ 4096 → c.maintenance_minislots ≤ len →

@@ -1,0 +1,4 @@
+pub mod TestLemmas
+pub mod SameLemmas
+pub mod SpanLemmas
+pub mod PieceLemmas

@@ -1,0 +1,29 @@
+-- What is lawful: MAPs and lines of which each rule holds at each place, and texts that spell them.
+use Rattle.std.specs.Prelude.{◌≡◌, ◌^◌, ◌<◌, true}
+use Rattle.std.specs.List.{AllByRecursion}
+use Rattle.us_codec.specs.Bodies.{IsMapBody}
+use Rattle.us_lawful.specs.Runs.{Run, RoundMap, Judged, Place}
+use Rattle.us_lawful.specs.Headings.{HeadingsHold}
+use Rattle.us_lawful.specs.Places.{places_hold}
+use Rattle.us_lawful.specs.Spans.{spans_hold}
+use Rattle.us_lawful.specs.Marks.{marks_hold}
+use Rattle.us_lawful.specs.Rates.{rates_hold}
+use Rattle.us_lawful.specs.Credits.{credits_hold}
+use Rattle.us_lawful.specs.Finals.{FinalsHold, CountsHold}
+
+-- a round of four bytes, and a body in the grammar
+pub record IsRoundMap (m : RoundMap) : Type 0 where
+  pub round : m.round < 2 ^ 32
+  pub body : IsMapBody m.body
+
+-- the rules, at every place
+pub record IsLawful (run : Run) (judged : Judged) : Type 0 where
+  pub maps : AllByRecursion IsRoundMap judged.maps
+  pub headings : (p : Place) → HeadingsHold run judged p
+  pub lines : (p : Place) → places_hold run judged p ≡ true
+  pub spans : (p : Place) → spans_hold run judged p ≡ true
+  pub marks : (p : Place) → marks_hold run judged p ≡ true
+  pub rates : (p : Place) → rates_hold run judged p ≡ true
+  pub credits : (p : Place) → credits_hold run judged p ≡ true
+  pub finals : (p : Place) → FinalsHold run judged p
+  pub counts : (p : Place) → CountsHold run judged p

@@ -1,0 +1,28 @@
+-- Read in this order: what a run is judged by, and what is judged; the rules, each at a place; what is lawful.
+-- In a definition `≡` is equals, `×` is and, `→` implies, `++` one list behind another, `∷` one item before a list, and ℕ has the
+-- whole numbers from 0; `/` rounds down, and `-` stops at 0.
+
+-- runs, and what is judged of them
+pub mod Runs
+-- what each MAP says of itself
+pub mod Headings
+-- the rounds and channels of lines
+pub mod Places
+-- the minislots of MAPs
+pub mod Spans
+-- the occurrences of calendars
+pub mod Marks
+-- the rates of flows
+pub mod Rates
+-- what requests are credited
+pub mod Credits
+-- the end of a report
+pub mod Finals
+-- all rules
+pub mod Lawful
+-- laws of the rules
+pub mod Laws
+-- the rules at small inputs,
+pub mod Examples
+-- and those of calendars
+pub mod MarkExamples
