@@ -9,10 +9,12 @@ use Rattle.us_round.specs.declared.rows.EntryWord.TheVariants as words
 use Rattle.us_round.specs.declared.rows.Grant.{Grant}
 use Rattle.us_round.specs.declared.rows.Row.{Row}
 use Rattle.us_round.specs.declared.rows.Row.TheVariants as rows
-use Rattle.us_round.specs.RoundExamples.{base, base_channel}
+use Rattle.us_round.specs.RoundExamples.{base, base_channel, base_flow}
 use Rattle.us_lawful.specs.Runs.{Run, RoundMap, Judged, Place}
 use Rattle.us_lawful.specs.Places.{places_hold}
 use Rattle.us_lawful.specs.Spans.{pieces_of, spans_hold}
+use Rattle.us_lawful.specs.Rates.{rates_hold}
+use Rattle.us_lawful.specs.Credits.{credits_hold}
 use Rattle.us_lawful.specs.Finals.{level_after}
 
 -- The stored run.
@@ -130,3 +132,37 @@ unknown_channel :
     (places_hold stored judged (at 1 2 0) ≡ false) × (places_hold stored judged (at 1 1 0) ≡ true)
 unfolding steps
 unknown_channel = (refl, refl)
+
+-- Credits.
+
+lawful_credits : (credits_hold stored told (at 1 1 1) ≡ true) × (credits_hold stored told (at 1 0 1) ≡ true)
+unfolding steps
+lawful_credits = (refl, refl)
+
+-- a grant that credits nothing, and one whose third number isn't 0
+nothing_credited :
+    let judged : Judged = with_grants (rows.Granted (record stored_grant { credit = 0 }) ∷ []) in
+    (credits_hold stored judged (at 1 1 1) ≡ false) × (credits_hold stored judged (at 1 0 1) ≡ true)
+unfolding steps
+nothing_credited = (refl, refl)
+
+third_number :
+    let judged : Judged = with_grants (rows.Granted (record stored_grant { k = 1 }) ∷ []) in
+    (credits_hold stored judged (at 1 1 1) ≡ false) × (credits_hold stored judged (at 1 0 1) ≡ true)
+unfolding steps
+third_number = (refl, refl)
+
+-- 1,004 bytes are as many minislots, but nobody asked for them
+more_than_asked :
+    let judged : Judged = with_grants (rows.Granted (record stored_grant { credit = 1004; slots = 33 }) ∷ []) in
+    (credits_hold stored judged (at 1 0 1) ≡ false) × (credits_hold stored judged (at 1 1 1) ≡ true)
+unfolding steps
+more_than_asked = (refl, refl)
+
+-- a flow with a rate of 10 Mbit/s and bursts of 999 bytes
+limited : Run
+limited = record stored { tables = record base { flows = record base_flow { rate = 10000000; burst = 999 } ∷ [] } }
+
+above_the_bucket : (rates_hold limited told (at 1 0 1) ≡ false) × (rates_hold limited told (at 0 0 1) ≡ true)
+unfolding steps limited
+above_the_bucket = (refl, refl)

@@ -1,5 +1,5 @@
 -- The rule of marks at small inputs: a flow with one unsolicited grant, ideal at 1,900 microseconds.
-use Rattle.std.specs.Prelude.{◌≡◌, ℕ, true, List, [], ◌∷◌, ⊤, refl}
+use Rattle.std.specs.Prelude.{◌≡◌, ℕ, true, false, List, [], ◌∷◌, ⊤, refl}
 use Rattle.us_slots.specs.Bursts.{coded_length, burst_cost}
 use Rattle.us_flows.specs.declared.flows.SchedulingType.TheVariants.{UnsolicitedGrant}
 use Rattle.us_calendar.specs.Entries.{entries}
@@ -11,6 +11,7 @@ use Rattle.us_round.specs.declared.rows.Row.TheVariants as rows
 use Rattle.us_round.specs.RoundExamples.{base_channel, base_flow, tables}
 use Rattle.us_lawful.specs.Runs.{Run, Judged}
 use Rattle.us_lawful.specs.Examples.{at}
+use Rattle.us_lawful.specs.Places.{places_hold}
 use Rattle.us_lawful.specs.Marks.{closing_in, marks_hold}
 
 -- so many rounds of 2,000 microseconds
@@ -65,3 +66,56 @@ in_window :
     (marks_hold (run 800 2) judged (at 0 1 1) ≡ true) × (marks_hold (run 800 2) judged (at 1 1 1) ≡ true)
 unfolding steps
 in_window = (refl, refl)
+
+-- minislot 57 starts after it,
+late_grant :
+    let judged : Judged = with (rows.Granted (record grant { start = 57 }) ∷ []) in
+    (marks_hold (run 800 2) judged (at 1 1 1) ≡ false) × (marks_hold (run 800 2) judged (at 0 1 1) ≡ true)
+unfolding steps
+late_grant = (refl, refl)
+
+-- and round 0 has nothing of it
+early_grant :
+    let judged : Judged = with (rows.Granted (record grant { round = 0 }) ∷ []) in
+    (marks_hold (run 800 2) judged (at 0 1 1) ≡ false) × (marks_hold (run 800 2) judged (at 0 1 2) ≡ true)
+unfolding steps
+early_grant = (refl, refl)
+
+-- without its line, with the line twice, and with a credit
+missing_line :
+    (marks_hold (run 800 2) (with []) (at 1 1 1) ≡ false) × (marks_hold (run 800 2) (with []) (at 0 1 1) ≡ true)
+unfolding steps
+missing_line = (refl, refl)
+
+line_told_twice :
+    let judged : Judged = with (rows.Granted grant ∷ rows.Granted grant ∷ []) in
+    (marks_hold (run 800 2) judged (at 1 1 1) ≡ false) × (marks_hold (run 800 2) judged (at 1 1 2) ≡ true)
+unfolding steps
+line_told_twice = (refl, refl)
+
+grant_with_credit :
+    let judged : Judged = with (rows.Granted (record grant { credit = 16 }) ∷ []) in
+    (marks_hold (run 800 2) judged (at 1 1 1) ≡ false) × (marks_hold (run 800 2) judged (at 1 2 1) ≡ true)
+unfolding steps
+grant_with_credit = (refl, refl)
+
+-- With a jitter of 80 microseconds the window closes in round 0, and that is where it is missed.
+missed :
+    let judged : Judged = with (rows.Missed (missed_in 0) ∷ []) in
+    (marks_hold (run 80 2) judged (at 0 1 1) ≡ true) × (marks_hold (run 80 2) judged (at 1 1 1) ≡ true)
+unfolding steps
+missed = (refl, refl)
+
+missed_a_round_late :
+    let judged : Judged = with (rows.Missed (missed_in 1) ∷ []) in
+    (marks_hold (run 80 2) judged (at 1 1 1) ≡ false) × (marks_hold (run 80 2) judged (at 0 1 1) ≡ true)
+unfolding steps
+missed_a_round_late = (refl, refl)
+
+-- In one round a window that closes in the next one is still open: it isn't missed, not even in a round past the end.
+open_is_missed :
+    let judged : Judged = with (rows.Missed (missed_in 1) ∷ []) in
+    (marks_hold (run 800 1) judged (at 1 1 1) ≡ false) × (marks_hold (run 800 1) judged (at 0 1 1) ≡ true)
+    × (places_hold (run 800 1) judged (at 1 1 0) ≡ false)
+unfolding steps
+open_is_missed = (refl, refl, refl)
