@@ -15,7 +15,7 @@ use Rattle.us_lawful.specs.Places.{places_hold}
 use Rattle.us_lawful.specs.Spans.{pieces_of, spans_hold}
 use Rattle.us_lawful.specs.Rates.{rates_hold}
 use Rattle.us_lawful.specs.Credits.{credits_hold}
-use Rattle.us_lawful.specs.Finals.{level_after}
+use Rattle.us_lawful.specs.Finals.{level_left}
 
 -- The stored run.
 
@@ -79,7 +79,7 @@ told = with_grants (rows.Granted stored_grant ∷ [])
 
 -- what these computations unfold
 unfoldable steps : ⊤
-unfolding coded_length burst_cost refilled spent units_in head_of pieces_of level_after
+unfolding coded_length burst_cost refilled spent units_in head_of pieces_of level_left
 steps = tt
 
 -- Minislots.

@@ -13,15 +13,15 @@ use Rattle.us_lawful.specs.Rates.{flow_credits}
 use Rattle.us_lawful.specs.Credits.{credited_to, asked_to}
 
 -- a bucket after the credits of some rounds: each takes its bytes, and between two rounds it grows
-unfoldable pub level_after : ℕ → List ℕ → Level → Level
-level_after ticks [] l = l
-level_after ticks (bytes ∷ []) l = spent bytes l
-level_after ticks (bytes ∷ next ∷ credits) l = level_after ticks (next ∷ credits) (refilled ticks (spent bytes l))
+unfoldable pub level_left : ℕ → List ℕ → Level → Level
+level_left ticks [] l = l
+level_left ticks (bytes ∷ []) l = spent bytes l
+level_left ticks (bytes ∷ next ∷ credits) l = level_left ticks (next ∷ credits) (refilled ticks (spent bytes l))
 
 -- what is left in the bucket of a flow, by its lines
 abbrev pub units_left : Run → List Row → FlowTable → Option ℕ
 units_left run lines flow =
-    units_in (level_after run.tables.round_ticks (flow_credits run lines flow.id) (full flow.rate flow.burst))
+    units_in (level_left run.tables.round_ticks (flow_credits run lines flow.id) (full flow.rate flow.burst))
 
 -- the F line of a cluster: all that it asked for less all that it was credited, and its flow's bucket
 abbrev pub final_of : Run → List Row → Turn → FinalState
@@ -48,11 +48,11 @@ abbrev pub FinalsHold : Run → Judged → Place → Type 0
 FinalsHold run judged p = p.round ≡ run.rounds → p.channel ≡ 0 → FlowFinals run judged.lines p.third
 
 -- the U line of a run
-abbrev pub counts_of : Counts → TraceCounts
-counts_of counts =
+abbrev pub counts_told : Counts → TraceCounts
+counts_told counts =
     record { unknown = counts.unknown; not_requestable = counts.not_requestable; late = counts.late }
 
 -- there is one, behind the last round, where the channel and `third` are 0
 abbrev pub CountsHold : Run → Judged → Place → Type 0
 CountsHold run judged p =
-    p.round ≡ run.rounds → p.channel ≡ 0 → p.third ≡ 0 → counts_in judged.lines ≡ counts_of run.counts ∷ []
+    p.round ≡ run.rounds → p.channel ≡ 0 → p.third ≡ 0 → counts_in judged.lines ≡ counts_told run.counts ∷ []

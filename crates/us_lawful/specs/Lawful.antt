@@ -20,7 +20,7 @@ pub record IsRoundMap (m : RoundMap) : Type 0 where
 pub record IsLawful (run : Run) (judged : Judged) : Type 0 where
   pub maps : AllByRecursion IsRoundMap judged.maps
   pub headings : (p : Place) → HeadingsHold run judged p
-  pub lines : (p : Place) → places_hold run judged p ≡ true
+  pub places : (p : Place) → places_hold run judged p ≡ true
   pub spans : (p : Place) → spans_hold run judged p ≡ true
   pub marks : (p : Place) → marks_hold run judged p ≡ true
   pub rates : (p : Place) → rates_hold run judged p ≡ true
