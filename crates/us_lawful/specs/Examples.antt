@@ -1,8 +1,10 @@
 -- The rules at small inputs: the stored run, in which one modem asks for 1,000 bytes, and the same with one thing changed.
 -- Each rule fails at one place there, and holds beside it.
-use Rattle.std.specs.Prelude.{◌≡◌, ℕ, true, false, List, [], ◌∷◌, ◌++◌, None, ⊤, refl}
+use Rattle.std.specs.Prelude.{◌≡◌, ℕ, true, false, List, [], ◌∷◌, ◌++◌, map, Some, None, ⊤, refl}
 use Rattle.us_slots.specs.Bursts.{coded_length, burst_cost}
 use Rattle.us_codec.specs.Elements.{MapElement, null_at}
+use Rattle.us_codec.specs.Bodies.{MapBody}
+use Rattle.us_flows.specs.Clusters.{table_order}
 use Rattle.us_bucket.specs.Levels.{refilled, spent, units_in}
 use Rattle.us_round.specs.Outputs.{head_of}
 use Rattle.us_round.specs.declared.rows.EntryWord.TheVariants as words
@@ -11,11 +13,12 @@ use Rattle.us_round.specs.declared.rows.Row.{Row}
 use Rattle.us_round.specs.declared.rows.Row.TheVariants as rows
 use Rattle.us_round.specs.RoundExamples.{base, base_channel, base_flow}
 use Rattle.us_lawful.specs.Runs.{Run, RoundMap, Judged, Place}
+use Rattle.us_lawful.specs.Headings.{heading_told, headings_of}
 use Rattle.us_lawful.specs.Places.{places_hold}
 use Rattle.us_lawful.specs.Spans.{pieces_of, spans_hold}
 use Rattle.us_lawful.specs.Rates.{rates_hold}
 use Rattle.us_lawful.specs.Credits.{credits_hold}
-use Rattle.us_lawful.specs.Finals.{level_left}
+use Rattle.us_lawful.specs.Finals.{level_left, final_of}
 
 -- The stored run.
 
@@ -166,3 +169,34 @@ limited = record stored { tables = record base { flows = record base_flow { rate
 above_the_bucket : (rates_hold limited told (at 1 0 1) ≡ false) × (rates_hold limited told (at 0 0 1) ≡ true)
 unfolding steps limited
 above_the_bucket = (refl, refl)
+
+-- Headings.
+
+lawful_headings : map heading_told told.maps ≡ headings_of stored
+unfolding steps
+lawful_headings = refl
+
+-- where the Null stands a minislot early, that is the length that is told
+early_null :
+    let body : MapBody = record { head = head_of base 0 base_channel; elements = element 0 1 0 ∷ null_at 159 ∷ [] } in
+    (heading_told (record { round = 0; body = body })).len ≡ Some 159
+unfolding steps
+early_null = refl
+
+-- The F line of the one cluster, by other lines: with its grant, and without.
+
+final_lines :
+    (map (final_of stored told.lines) (table_order base)
+    ≡ record { flow = 1; cluster = 0; outstanding = 0; units = None } ∷ [])
+    × (map (final_of stored (ends 1000)) (table_order base)
+    ≡ record { flow = 1; cluster = 0; outstanding = 1000; units = None } ∷ [])
+unfolding steps
+final_lines = (refl, refl)
+
+-- and with the rate: the burst less 999 bytes, for the bucket is full again in round 1
+final_units :
+    let grant : Grant = record stored_grant { credit = 999 } in
+    map (final_of limited (rows.Granted grant ∷ [])) (table_order limited.tables)
+    ≡ record { flow = 1; cluster = 0; outstanding = 1; units = Some 0 } ∷ []
+unfolding steps limited
+final_units = refl

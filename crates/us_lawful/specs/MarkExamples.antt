@@ -119,3 +119,28 @@ open_is_missed :
     × (places_hold (run 800 1) judged (at 1 1 0) ≡ false)
 unfolding steps
 open_is_missed = (refl, refl, refl)
+
+-- A call each 2,000 microseconds from the start on, with one grant in an interval: that of interval 1 isn't told as a second one
+-- of interval 0.
+each_round : Run
+each_round = record {
+  tables = tables (base_channel ∷ []) (record base_flow {
+    kind = UnsolicitedGrant;
+    clusters = (513 ∷ []) ∷ [];
+    start_us = 0;
+    interval_us = 2000;
+    jitter_us = 800;
+    grant_bytes = 16;
+    grants_per_interval = 1;
+  } ∷ []);
+  rounds = 2;
+  cuts = [];
+  counts = record { unknown = 0; not_requestable = 0; late = 0 };
+}
+
+told_as_second :
+    let first : Grant = record grant { round = 0 } in
+    let judged : Judged = with (rows.Granted first ∷ rows.Granted (record grant { k = 1 }) ∷ []) in
+    (marks_hold each_round judged (at 1 1 1) ≡ false) × (marks_hold each_round judged (at 0 1 1) ≡ true)
+unfolding steps each_round
+told_as_second = (refl, refl)
