@@ -8,7 +8,8 @@ use Rattle.us_requests.specs.Texts.{trace_fault}
 use Rattle.us_replay.specs.declared.summaries.Summary.{Summary}
 use Rattle.us_replay.specs.declared.faults.RunFault.{RunFault}
 use Rattle.us_replay.specs.declared.faults.RunFault.TheVariants as run
-use Rattle.us_replay.specs.Replays.{Growth, Replayed, maps_text, report_text, output_for}
+use Rattle.us_lawful.specs.Output.{maps_text, report_text}
+use Rattle.us_replay.specs.Replays.{Growth, Replayed, output_for}
 use Rattle.mapsim.specs.Marks.{IsSplit}
 use Rattle.mapsim.specs.Inputs.{fault_in_memory}
 use Rattle.mapsim.specs.Dumps.{IsDump}

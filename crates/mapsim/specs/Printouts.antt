@@ -6,7 +6,8 @@ use Rattle.us_flows.specs.Answers.{Answers}
 use Rattle.us_requests.specs.Texts.{trace_fault}
 use Rattle.us_requests.specs.Readings.{Reads}
 use Rattle.us_replay.specs.declared.faults.RunFault.TheVariants as run
-use Rattle.us_replay.specs.Replays.{maps_text, report_text, output_for}
+use Rattle.us_lawful.specs.Output.{maps_text, report_text}
+use Rattle.us_replay.specs.Replays.{output_for}
 use Rattle.mapsim.specs.declared.faults.Stream.TheVariants as stream
 use Rattle.mapsim.specs.declared.faults.Fault.{Fault}
 use Rattle.mapsim.specs.declared.faults.Fault.TheVariants as fault

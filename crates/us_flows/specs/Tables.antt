@@ -1,5 +1,5 @@
 -- The tables of a configuration, as values (ours, but for what a field means).
-use Rattle.std.specs.Prelude.{ℕ, ◌*◌, ◌/◌, Bool, ◌==◌, nat_le, ◌&&◌, List, zip, flat_map, find, Option, option_and_then, slice_get}
+use Rattle.std.specs.Prelude.{ℕ, ◌*◌, ◌/◌, Bool, ◌==◌, nat_le, ◌&&◌, if◌then◌else◌, List, zip, flat_map, find, Option, option_and_then, slice_get}
 use Rattle.std.specs.List.{list_any}
 use Rattle.us_slots.specs.Times.{minislot_ticks}
 use Rattle.us_flows.specs.declared.channels.Channel.{Channel}
@@ -43,6 +43,14 @@ pub record Tables : Type 0 where
   pub channels : List Channel
   pub flows : List FlowTable
   pub stations : List Station
+
+-- the bytes of a segment header (the standard's)
+abbrev pub segment_header_bytes : ℕ
+segment_header_bytes = 8
+
+-- those of a flow: none where its grants carry no header
+abbrev pub header_bytes : FlowTable → ℕ
+header_bytes flow = if flow.headers then segment_header_bytes else 0
 
 -- the minislots of a channel's MAPs
 abbrev pub map_len : Tables → Channel → ℕ

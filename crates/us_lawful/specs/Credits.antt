@@ -3,9 +3,8 @@ use Rattle.std.specs.Prelude.{ℕ, ◌+◌, ◌==◌, nat_le, nat_lt, ◌&&◌, 
 use Rattle.std.specs.List.{list_all, list_any}
 use Rattle.us_slots.specs.Bursts.{grant_cost}
 use Rattle.us_flows.specs.declared.channels.Channel.{Channel}
-use Rattle.us_flows.specs.Tables.{channel_with}
+use Rattle.us_flows.specs.Tables.{channel_with, header_bytes}
 use Rattle.us_flows.specs.Clusters.{Cluster, Turn, has_sid, table_order}
-use Rattle.us_split.specs.Plans.{header_bytes}
 use Rattle.us_round.specs.declared.rows.Grant.{Grant}
 use Rattle.us_round.specs.declared.rows.Row.{Row}
 use Rattle.us_lawful.specs.Runs.{Run, Judged, Place, requested_in}

@@ -8,7 +8,7 @@ use Rattle.us_requests.specs.declared.asks.Counts.{Counts}
 use Rattle.us_round.specs.declared.rows.FinalState.{FinalState}
 use Rattle.us_round.specs.declared.rows.Row.{Row}
 use Rattle.us_round.specs.declared.rows.TraceCounts.{TraceCounts}
-use Rattle.us_lawful.specs.Runs.{Run, Judged, Place, finals_in, counts_in}
+use Rattle.us_lawful.specs.Runs.{Run, Judged, Place, finals_in, counts_in, counts_told}
 use Rattle.us_lawful.specs.Rates.{flow_credits}
 use Rattle.us_lawful.specs.Credits.{credited_to, asked_to}
 
@@ -46,11 +46,6 @@ pub record FlowFinals (run : Run) (lines : List Row) (id : ℕ) : Type 0 where
 -- so it is of the id `third`, behind the last round, where the channel is 0
 abbrev pub FinalsHold : Run → Judged → Place → Type 0
 FinalsHold run judged p = p.round ≡ run.rounds → p.channel ≡ 0 → FlowFinals run judged.lines p.third
-
--- the U line of a run
-abbrev pub counts_told : Counts → TraceCounts
-counts_told counts =
-    record { unknown = counts.unknown; not_requestable = counts.not_requestable; late = counts.late }
 
 -- there is one, behind the last round, where the channel and `third` are 0
 abbrev pub CountsHold : Run → Judged → Place → Type 0

@@ -1,9 +1,14 @@
--- Read in this order: what a run is judged by, and what is judged; the rules, each at a place; what is lawful.
+-- Read in this order: what a run is judged by, and what is judged; lines, files and the output of a schedule; the rules, each
+-- at a place; what is lawful.
 -- In a definition `≡` is equals, `×` is and, `→` implies, `++` one list behind another, `∷` one item before a list, and ℕ has the
 -- whole numbers from 0; `/` rounds down, and `-` stops at 0.
 
 -- runs, and what is judged of them
 pub mod Runs
+-- the text of a line; files; what a schedule gives
+pub mod Lines
+pub mod Files
+pub mod Output
 -- what each MAP says of itself
 pub mod Headings
 -- the rounds and channels of lines
@@ -22,7 +27,9 @@ pub mod Finals
 pub mod Lawful
 -- laws of the rules
 pub mod Laws
--- the rules at small inputs,
+-- lines at small inputs,
+pub mod LineExamples
+-- the rules,
 pub mod Examples
 -- and those of calendars
 pub mod MarkExamples

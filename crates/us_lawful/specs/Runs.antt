@@ -67,3 +67,8 @@ finals_in lines = filter_map as_final lines
 
 abbrev pub counts_in : List Row → List TraceCounts
 counts_in lines = filter_map as_counts lines
+
+-- what a U line tells of these counts
+abbrev pub counts_told : Counts → TraceCounts
+counts_told counts =
+    record { unknown = counts.unknown; not_requestable = counts.not_requestable; late = counts.late }

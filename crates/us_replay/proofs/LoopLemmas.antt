@@ -17,8 +17,9 @@ use Rattle.us_round.specs.declared.rows.Row.{Row}
 use Rattle.us_round.specs.Rounds.{State, Scheduled, round_of, opening, schedule, final}
 use Rattle.us_round.specs.Outputs.{RoundOut, AreWithinLimits, out_of, final_rows}
 use Rattle.us_replay.specs.Collecting.{AreAsks}
-use Rattle.us_replay.specs.Files.{records, lines, counts_row}
-use Rattle.us_replay.specs.Replays.{KeptLimits, all_rows, is_granted, is_missed, output_of, summary_of}
+use Rattle.us_lawful.specs.Files.{records, lines, counts_row}
+use Rattle.us_lawful.specs.Output.{all_rows, output_of}
+use Rattle.us_replay.specs.Replays.{KeptLimits, is_granted, is_missed, summary_of}
 use Rattle.us_replay.specs.Progress.{Progress, Along, CanMake, IsMade, cuts_in, opening_progress, out_after, output_in, step_of, summary_after, with_last, with_round}
 use Rattle.us_replay.proofs.RoundLemmas.{After, after, HasCalendars, opening-calendars, next-calendars, some-records}
 use Rattle.us_replay.proofs.CollectingLemmas.{all-within, are-asks}

@@ -11,7 +11,8 @@ use Rattle.us_requests.specs.Readings.{Reads}
 use Rattle.us_replay.specs.declared.summaries.Summary.{Summary}
 use Rattle.us_replay.specs.declared.faults.RunFault.{RunFault}
 use Rattle.us_replay.specs.Endings.{Ending, Refused, StoppedBy, ended, rounds_done}
-use Rattle.us_replay.specs.Replays.{Growth, Ran, RanText, KeptLimits, Stands, Replayed, cuts_of, output_of, output_for}
+use Rattle.us_lawful.specs.Output.{output_of}
+use Rattle.us_replay.specs.Replays.{Growth, Ran, RanText, KeptLimits, Stands, Replayed, cuts_of, output_for}
 use Rattle.us_replay.specs.Progress.{RanTrace, cuts_in}
 
 -- the asks of each round add up to the cut of the rows

@@ -1,12 +1,8 @@
--- Read in this order: the lines of the report; the maps file and the report of rounds; how a replay ends; replays. Then
--- examples. What a round is, and what it gives, stands with `us_round`.
+-- Read in this order: how a replay ends; replays. Then examples. What a round is, and what it gives, stands with
+-- `us_round`; lines, files and the output of a schedule with `us_lawful`.
 -- In a definition `≡` is equals, `×` and, `⊎` or, `→` implies, `++` one list behind another, `∷` one item before a list,
 -- and ℕ has the whole numbers from 0; `-` stops at 0.
 
--- the text of a line
-pub mod Lines
--- the records and the lines of a round
-pub mod Files
 -- how a replay ends: it is done, refused or stopped
 pub mod Endings
 -- what a replay writes, and what stands after one that ended early
@@ -14,7 +10,6 @@ pub mod Replays
 -- what its faults are told as
 pub mod Faults
 -- the definitions at small inputs
-pub mod LineExamples
 pub mod RunExamples
 -- inside the crate, and of no use to a reader of the promise: how requests are collected; what a replay keeps from one
 -- round to the next

@@ -19,9 +19,10 @@ use Rattle.us_round.specs.Outputs.{RoundOut, AreWithinLimits, final_rows, out_of
 use Rattle.us_replay.specs.declared.summaries.Summary.{Summary}
 use Rattle.us_replay.specs.declared.faults.RunFault.{RunFault}
 use Rattle.us_replay.specs.Collecting.{AreAsks, chunk_quota}
-use Rattle.us_replay.specs.Files.{records, round_lines, lines, counts_row}
+use Rattle.us_lawful.specs.Files.{records, round_lines, lines, counts_row}
 use Rattle.us_replay.specs.Endings.{ended, rounds_done, Ending, Refused, StoppedBy, Maps, Report, Memory}
-use Rattle.us_replay.specs.Replays.{Growth, Output, Took, Ran, KeptLimits, all_rows, is_granted, is_missed, output_of}
+use Rattle.us_lawful.specs.Output.{Output, all_rows, output_of}
+use Rattle.us_replay.specs.Replays.{Growth, Took, Ran, KeptLimits, is_granted, is_missed}
 
 -- Traces.
 

@@ -1,5 +1,5 @@
 -- Replays (ours): what a run writes, and what stands after it ended early.
-use Rattle.std.specs.Prelude.{◌≡◌, ℕ, ◌≤◌, List, [], ◌∷◌, ◌++◌, length, map, flat_map, count_by, take, Bool, true, false, Option, None, Result, Ok, Err}
+use Rattle.std.specs.Prelude.{◌≡◌, ℕ, ◌≤◌, List, [], length, map, flat_map, count_by, take, Bool, true, false, Option, None, Result, Ok, Err}
 use Rattle.std.specs.List.{AllByRecursion, range_with_len}
 use Rattle.std.specs.Io.KnownBytes.{Appends}
 use Rattle.us_flows.specs.Tables.{Tables, rounds_fit}
@@ -8,40 +8,21 @@ use Rattle.us_requests.specs.Asks.{Request, counts_of}
 use Rattle.us_requests.specs.Cuts.{cut_at}
 use Rattle.us_requests.specs.Texts.{trace_fault, requests_of}
 use Rattle.us_requests.specs.Readings.{IsTextOf, Reads}
-use Rattle.us_round.specs.Rounds.{opening, schedule, final}
-use Rattle.us_round.specs.Outputs.{RoundOut, AreWithinLimits, final_rows, out_of}
+use Rattle.us_round.specs.Rounds.{opening, schedule}
+use Rattle.us_round.specs.Outputs.{RoundOut, AreWithinLimits}
 use Rattle.us_round.specs.declared.rows.Row.{Row}
 use Rattle.us_round.specs.declared.rows.Row.TheVariants as rows
+use Rattle.us_lawful.specs.Files.{records, round_lines}
+use Rattle.us_lawful.specs.Output.{Output, output_of, maps_text, report_text, all_rows}
 use Rattle.us_replay.specs.declared.summaries.Summary.{Summary}
 use Rattle.us_replay.specs.declared.faults.RunFault.{RunFault}
 use Rattle.us_replay.specs.Endings.{Refusal, Rounds, Workers, Trace, Memory, Ending, Refused, StoppedBy, ended, rounds_done}
-use Rattle.us_replay.specs.Files.{records, round_lines, lines, counts_row}
 
 -- What a run gives.
 
 -- the cuts of all rounds: what each cluster asks for by the rows of the trace
 unfoldable pub cuts_of : Tables → ℕ → List Request → List (List ℕ)
 cuts_of t rounds requests = map (cut_at t rounds requests) (range_with_len 0 rounds)
-
--- what each round gives, and the lines at the end of the report
-pub record Output : Type 0 where
-  pub given : List RoundOut
-  pub last : List Row
-
--- the output of the schedule of these cuts, from the opening on
-unfoldable pub output_of : Tables → List (List ℕ) → Counts → Output
-output_of t cuts counts = record {
-  given = map (out_of t) (schedule (opening t) cuts);
-  last = final_rows (final (opening t) cuts) ++ counts_row counts ∷ [];
-}
-
--- the maps file
-abbrev pub maps_text : Output → List ℕ
-maps_text out = flat_map records out.given
-
--- the report
-abbrev pub report_text : Output → List ℕ
-report_text out = flat_map round_lines out.given ++ lines out.last
 
 -- whether a line is of a grant, and whether of a missed occurrence
 abbrev pub is_granted : Row → Bool
@@ -51,10 +32,6 @@ is_granted _ = false
 abbrev pub is_missed : Row → Bool
 is_missed (rows.Missed missed) = true
 is_missed _ = false
-
--- the lines of all rounds
-abbrev pub all_rows : List RoundOut → List Row
-all_rows given = flat_map (λ out. out.rows) given
 
 -- what a run did
 unfoldable pub summary_of : Output → Counts → Summary

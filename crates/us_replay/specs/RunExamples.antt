@@ -14,8 +14,9 @@ use Rattle.us_calendar.specs.Occurrences.{due}
 use Rattle.us_calendar.specs.Settling.{settle_each, settle_entry}
 use Rattle.us_calendar.specs.Calendars.{run_entries}
 use Rattle.us_round.specs.RoundExamples.{base, base_channel, base_flow, round_steps, tables, without_flows}
-use Rattle.us_replay.specs.Files.{records, lines}
-use Rattle.us_replay.specs.Replays.{Output, cuts_of, output_of, summary_of, maps_text, report_text}
+use Rattle.us_lawful.specs.Files.{records, lines}
+use Rattle.us_lawful.specs.Output.{Output, output_of, maps_text, report_text}
+use Rattle.us_replay.specs.Replays.{cuts_of, summary_of}
 
 -- what these computations unfold
 unfoldable all_steps : ⊤

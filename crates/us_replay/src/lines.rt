@@ -1,6 +1,6 @@
 ghost use Rattle.std.specs.Prelude.{◌≡◌, ◌+◌, ◌*◌, ◌<◌, ◌≤◌, [], ◌∷◌, ◌++◌, length, drop, OnOk};
 ghost use Rattle.std.specs.Fmt.{decimal};
-ghost use Rattle.us_replay.specs.Lines as spec;
+ghost use Rattle.us_lawful.specs.Lines as spec;
 
 use std::alloc::AllocError;
 use us_round::{EntryWord, FinalState, Grant, MissedOccurrence, Row, TraceCounts};

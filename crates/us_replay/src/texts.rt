@@ -1,7 +1,7 @@
 ghost use Rattle.std.specs.Prelude.{◌≡◌, ◌^◌, ◌<◌, ◌++◌, length, OnOk};
 ghost use Rattle.us_codec.specs.Bodies.{spelling};
 ghost use Rattle.us_codec.specs.MapsFiles.{Piece, record_bytes};
-ghost use Rattle.us_replay.specs.Files.{records, lines};
+ghost use Rattle.us_lawful.specs.Files.{records, lines};
 
 use crate::lines::{LINE_BYTES, push_line};
 use us_codec::{MAX_BODY_BYTES, Map, encode_into};

@@ -8,8 +8,9 @@ use Rattle.std.proofs.lemmas.List.Concat.{flat_map-cons}
 use Rattle.us_slots.specs.Bursts.{IsChannelBursts, grant_cost}
 use Rattle.us_flows.specs.declared.channels.Channel.{Channel}
 use Rattle.us_flows.specs.Lawful.{AreApart}
+use Rattle.us_flows.specs.Tables.{header_bytes}
 use Rattle.us_split.proofs.ChannelShareLemmas.{channel_shares}
-use Rattle.us_split.specs.Plans.{Planned, header_bytes, share_at, share_on}
+use Rattle.us_split.specs.Plans.{Planned, share_at, share_on}
 use Rattle.us_split.specs.PlanLaws.{planned_bytes}
 use Rattle.us_split.specs.Claims.{Claimant, Claim, claimant_of, claim_at, claims_from, claims_on}
 use Rattle.us_channel.specs.Placements.{PlacedClaim, grants_of, credits}

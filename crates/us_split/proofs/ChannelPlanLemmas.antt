@@ -6,10 +6,10 @@ use Rattle.std.specs.List.{AllByRecursion}
 use Rattle.std.proofs.lemmas.Nat.{mul-le}
 use Rattle.std.proofs.lemmas.Bool.{cases_eq}
 use Rattle.us_flows.specs.declared.channels.Channel.{Channel}
-use Rattle.us_flows.specs.Tables.{Tables}
+use Rattle.us_flows.specs.Tables.{Tables, header_bytes}
 use Rattle.us_flows.specs.Ranges.{max_round_ticks}
 use Rattle.us_flows.specs.Lawful.{AreApart, AreTables}
-use Rattle.us_split.specs.Plans.{IsIdle, Planned, budget_of, cost_on, header_bytes, share_at, share_cost}
+use Rattle.us_split.specs.Plans.{IsIdle, Planned, budget_of, cost_on, share_at, share_cost}
 use Rattle.us_split.specs.Claims.{claim_at}
 use Rattle.us_split.specs.PartialPlans.{Asker, ChannelPlan, IsPlaceOf, asker_of, budget_in, channel_of, claimed_at, claimed_from, with_claim, with_share, with_turn}
 use Rattle.us_split.proofs.ChannelShareLemmas.{first_place, later_place}

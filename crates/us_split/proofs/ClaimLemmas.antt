@@ -9,12 +9,12 @@ use Rattle.std.proofs.lemmas.Option.{slice_get_within, get_or_from_slice_get}
 use Rattle.us_slots.specs.Bursts.{IsChannelBursts, grant_cost}
 use Rattle.us_slots.proofs.CostLaws.{bytes_cost_minislots}
 use Rattle.us_flows.specs.declared.channels.Channel.{Channel}
-use Rattle.us_flows.specs.Tables.{Tables, has_channel}
+use Rattle.us_flows.specs.Tables.{Tables, has_channel, header_bytes}
 use Rattle.us_flows.specs.Clusters.{Turn, IsTurnIn, turns_of}
 use Rattle.us_flows.specs.Lawful.{AreApart, AreTables, Between, IsChannel, IsFlow}
 use Rattle.us_flows.proofs.TurnLaws.{turns_of-turns}
 use Rattle.us_flows.proofs.TurnLemmas.{all-append}
-use Rattle.us_split.specs.Plans.{IsIdle, Ledger, Planned, after_turn, header_bytes, ledger_of, plan_for, plan_of, shares_of}
+use Rattle.us_split.specs.Plans.{IsIdle, Ledger, Planned, after_turn, ledger_of, plan_for, plan_of, shares_of}
 use Rattle.us_split.specs.PlanLaws.{AreBursts}
 use Rattle.us_split.specs.Claims.{AreClaims, Claim, IsClaimOn, all_claims, claim_at, claim_on, claimant_of, claims_from, claims_on, is_at, share_of, share_or}
 use Rattle.us_split.proofs.ChannelShareLemmas.{first_place, later_place}

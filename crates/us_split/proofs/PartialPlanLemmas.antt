@@ -6,12 +6,12 @@ use Rattle.std.proofs.lemmas.Bool.{cases_lt}
 use Rattle.std.proofs.lemmas.List.{set-get_or, get_or_past, length-set}
 use Rattle.std.proofs.lemmas.List.Sums.{get_or-le-sum_by}
 use Rattle.us_flows.specs.declared.channels.Channel.{Channel}
-use Rattle.us_flows.specs.Tables.{Tables, FlowTable}
+use Rattle.us_flows.specs.Tables.{Tables, FlowTable, header_bytes}
 use Rattle.us_flows.specs.Clusters.{Turn, turns_of}
 use Rattle.us_flows.specs.Lawful.{AreApart}
 use Rattle.us_flows.specs.declared.turns.Turn as places
 use Rattle.us_split.specs.Divisions.{divided}
-use Rattle.us_split.specs.Plans.{Ledger, Planned, weights, at_most, shares_of, share_at, share_on, share_cost, cost_on, header_bytes, lowered, allowed_less, after_turn, plan_of, plan_for, ledger_of}
+use Rattle.us_split.specs.Plans.{Ledger, Planned, weights, at_most, shares_of, share_at, share_on, share_cost, cost_on, lowered, allowed_less, after_turn, plan_of, plan_for, ledger_of}
 use Rattle.us_split.specs.Claims.{all_claims, claim_at, claim_on, claims_from}
 use Rattle.us_split.specs.PartialPlans.{IsTurnOf, Asker, ChannelPlan, PartialPlan, asker_of, budget_in, claimed_from, planned_further, planned_through, idle_plan, ledger_in, planned_in, with_turn}
 use Rattle.us_split.proofs.DivisionLemmas.{divided-sum}

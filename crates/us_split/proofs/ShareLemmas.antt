@@ -12,9 +12,9 @@ use Rattle.us_slots.specs.Capacities.{greatest_up_to, capacity_of}
 use Rattle.us_slots.proofs.CapacityLemmas.{symbols_most, room_most}
 use Rattle.us_slots.proofs.CostLaws.{carried_bytes_fit}
 use Rattle.us_flows.specs.declared.channels.Channel.{Channel}
-use Rattle.us_flows.specs.Tables.{FlowTable}
+use Rattle.us_flows.specs.Tables.{FlowTable, header_bytes}
 use Rattle.us_flows.specs.Clusters.{Turn}
-use Rattle.us_split.specs.Plans.{Budget, Ledger, budget_of, weight, weights, demand, shares_of, share_at, share_cost, cost_on, header_bytes}
+use Rattle.us_split.specs.Plans.{Budget, Ledger, budget_of, weight, weights, demand, shares_of, share_at, share_cost, cost_on}
 use Rattle.us_split.specs.PlanLaws.{AreBursts}
 use Rattle.us_split.proofs.DivisionLemmas.{divided-sum, divided-within, divided-length}
 

@@ -6,12 +6,12 @@ use Rattle.std.proofs.lemmas.Bool.{cases_Bool}
 use Rattle.std.proofs.lemmas.List.Sums.{sum_by-append, sum_by-cons}
 use Rattle.us_slots.specs.Bursts.{grant_cost}
 use Rattle.us_flows.specs.declared.channels.Channel.{Channel}
-use Rattle.us_flows.specs.Tables.{Tables}
+use Rattle.us_flows.specs.Tables.{Tables, header_bytes}
 use Rattle.us_flows.specs.Clusters.{Turn, IsTurnIn, has_sid, turns_of}
 use Rattle.us_flows.specs.Lawful.{AreTables, Between}
 use Rattle.us_flows.proofs.TurnLaws.{turns_of-once, turns_of-turns}
 use Rattle.us_flows.proofs.TurnLemmas.{all-append}
-use Rattle.us_split.specs.Plans.{Ledger, Planned, header_bytes, ledger_of, plan_for, plan_of}
+use Rattle.us_split.specs.Plans.{Ledger, Planned, ledger_of, plan_for, plan_of}
 use Rattle.us_split.specs.Claims.{Claim, claim_at, claim_on, claimant_of, claims_from}
 use Rattle.us_split.specs.Laws.{ClaimsAreOfTurns, ClustersClaimOnce, IsOfTurn}
 use Rattle.us_split.proofs.ChannelShareLemmas.{first_place, later_place}

@@ -3,9 +3,9 @@ use Rattle.std.specs.Prelude.{◌≡◌, ℕ, ◌+◌, ◌^◌, ◌<◌, ◌≤�
 use Rattle.std.specs.List.{AllByRecursion}
 use Rattle.us_slots.specs.Bursts.{grant_cost}
 use Rattle.us_flows.specs.declared.channels.Channel.{Channel}
-use Rattle.us_flows.specs.Tables.{Tables}
+use Rattle.us_flows.specs.Tables.{Tables, header_bytes}
 use Rattle.us_flows.specs.Clusters.{Turn}
-use Rattle.us_split.specs.Plans.{Planned, header_bytes, max_burst_bytes}
+use Rattle.us_split.specs.Plans.{Planned, max_burst_bytes}
 
 -- the SID cluster that a claim is of: its number among all clusters, the place of its flow in the table, the flow's id,
 -- and its place in the flow

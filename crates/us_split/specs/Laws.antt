@@ -2,10 +2,10 @@
 use Rattle.std.specs.Prelude.{◌≡◌, ℕ, ◌≤◌, ◌==◌, true, List, count_by, Option}
 use Rattle.std.specs.List.{AllByRecursion}
 use Rattle.us_flows.specs.declared.channels.Channel.{Channel}
-use Rattle.us_flows.specs.Tables.{Tables}
+use Rattle.us_flows.specs.Tables.{Tables, header_bytes}
 use Rattle.us_flows.specs.Clusters.{Turn, IsTurnIn, has_sid}
 use Rattle.us_flows.specs.Lawful.{AreTables}
-use Rattle.us_split.specs.Plans.{header_bytes, plan_for}
+use Rattle.us_split.specs.Plans.{plan_for}
 use Rattle.us_split.specs.Claims.{Claim, claimant_of, claims_on}
 
 -- a claim on a channel that is of a turn of these tables: it names the turn's cluster, has the segment header of its flow,

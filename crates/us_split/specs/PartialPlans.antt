@@ -2,10 +2,10 @@
 use Rattle.std.specs.Prelude.{◌≡◌, ℕ, ◌+◌, ◌-◌, ◌^◌, ◌<◌, ◌==◌, if◌then◌else◌, List, [], ◌∷◌, ◌++◌, length, map, find, position, slice_index, slice_get, slice_index_or, zip, Option, Some, option_to_list}
 use Rattle.us_slots.specs.Bursts.{grant_cost}
 use Rattle.us_flows.specs.declared.channels.Channel.{Channel}
-use Rattle.us_flows.specs.Tables.{Tables, FlowTable}
+use Rattle.us_flows.specs.Tables.{Tables, FlowTable, header_bytes}
 use Rattle.us_flows.specs.Clusters.{Turn}
 use Rattle.us_flows.specs.declared.turns.Turn as places
-use Rattle.us_split.specs.Plans.{Budget, Ledger, Planned, shares_of, cost_on, header_bytes, allowed_less}
+use Rattle.us_split.specs.Plans.{Budget, Ledger, Planned, shares_of, cost_on, allowed_less}
 use Rattle.us_split.specs.Claims.{Claimant, Claim, claimant_of, claim_on}
 
 -- a turn of a flow, by its places, none of which is past 16 bits

@@ -2,8 +2,8 @@
 use Rattle.std.specs.Prelude.{◌≡◌, ◌⊎◌, ℕ, ◌+◌, ◌≤◌, ◌==◌, List, filter, sum, sum_by, slice_get, slice_index, Option, Some, None}
 use Rattle.std.specs.List.{AllByRecursion}
 use Rattle.us_flows.specs.declared.channels.Channel.{Channel}
-use Rattle.us_flows.specs.Tables.{Tables}
-use Rattle.us_split.specs.Plans.{Planned, header_bytes, cost_on, max_burst_bytes}
+use Rattle.us_flows.specs.Tables.{Tables, header_bytes}
+use Rattle.us_split.specs.Plans.{Planned, cost_on, max_burst_bytes}
 
 -- at most so many bytes, where there is a limit
 abbrev pub Within : Option ℕ → ℕ → Type 0

@@ -3,17 +3,9 @@ use Rattle.std.specs.Prelude.{ℕ, ◌+◌, ◌-◌, ◌≤◌, ◌≡◌, ◌==
 use Rattle.us_slots.specs.Bursts.{grant_cost}
 use Rattle.us_slots.specs.Capacities.{capacity_of}
 use Rattle.us_flows.specs.declared.channels.Channel.{Channel}
-use Rattle.us_flows.specs.Tables.{Tables, FlowTable, map_len}
+use Rattle.us_flows.specs.Tables.{Tables, FlowTable, map_len, header_bytes}
 use Rattle.us_flows.specs.Clusters.{Turn, turns_of}
 use Rattle.us_split.specs.Divisions.{divided}
-
--- the bytes of a segment header (the standard's)
-abbrev pub segment_header_bytes : ℕ
-segment_header_bytes = 8
-
--- those of a flow: none where its grants carry no header
-abbrev pub header_bytes : FlowTable → ℕ
-header_bytes flow = if flow.headers then segment_header_bytes else 0
 
 -- the most bytes of a burst
 abbrev pub max_burst_bytes : ℕ

@@ -2,7 +2,8 @@ ghost use Rattle.std.specs.Prelude.{◌≡◌, ℕ, ◌+◌, ◌*◌, ◌≤◌,
 ghost use Rattle.us_slots.specs.Times.{minislot_ticks};
 ghost use Rattle.us_flows.specs.Lawful.{AreApart};
 ghost use Rattle.us_flows.specs.Ranges.{max_channels_of_flow, max_round_ticks};
-ghost use Rattle.us_split.specs.Plans.{budget_of, weight, segment_header_bytes, max_burst_bytes};
+ghost use Rattle.us_flows.specs.Tables.{segment_header_bytes};
+ghost use Rattle.us_split.specs.Plans.{budget_of, weight, max_burst_bytes};
 ghost use Rattle.us_split.specs.PartialPlans as spec;
 ghost use Rattle.us_split.specs.PartialPlans.{budget_in, channel_of, IsPlaceOf, with_claim, with_share, claimed_at, claimed_from};
 

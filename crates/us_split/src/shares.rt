@@ -2,9 +2,10 @@ ghost use Rattle.std.specs.Prelude.{◌≡◌, ℕ, ◌+◌, ◌≤◌, length, 
 ghost use Rattle.std.specs.List.{AllByRecursion};
 ghost use Rattle.us_flows.specs.Lawful.{AreApart};
 ghost use Rattle.us_flows.specs.Ranges.{max_channels_of_flow};
+ghost use Rattle.us_flows.specs.Tables.{segment_header_bytes};
 ghost use Rattle.us_split.specs.Divisions.{divided};
 ghost use Rattle.us_split.specs.PartialPlans.{budget_in};
-ghost use Rattle.us_split.specs.Plans.{budget_of, weight, segment_header_bytes, max_burst_bytes};
+ghost use Rattle.us_split.specs.Plans.{budget_of, weight, max_burst_bytes};
 
 use crate::channel_plans::{ChannelPlan, weigh};
 use crate::divisions::{MAX_CHANNELS_OF_FLOW, divide, sum_of};

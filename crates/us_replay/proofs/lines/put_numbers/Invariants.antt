@@ -1,5 +1,5 @@
 use Rattle.std.proofs.Common.{◌≡◌, ◌+◌, ◌*◌, ◌≤◌, ◌++◌, length, drop}
-use Rattle.us_replay.specs.Lines as spec
+use Rattle.us_lawful.specs.Lines as spec
 use Rattle.us_replay.proofs.lines.put_numbers.Given as goal
 
 -- the numbers that were put, and the room for those that are left

@@ -1,5 +1,5 @@
 use Rattle.std.proofs.Common.{◌≡◌, ◌++◌, drop, flat_map}
-use Rattle.us_replay.specs.Lines.{text_of}
+use Rattle.us_lawful.specs.Lines.{text_of}
 use Rattle.us_replay.proofs.texts.push_lines.Given as goal
 
 -- what was added and what is left

@@ -1,8 +1,9 @@
 use Rattle.std.proofs.Common.{◌≡◌, length, map, ap, ap₂, ◌∙◌, arith}
 use Rattle.std.specs.Prelude.{slice_index}
 use Rattle.std.proofs.lemmas.List.{length-map}
+use Rattle.us_flows.specs.Tables.{header_bytes}
 use Rattle.us_split.specs.Divisions.{divided}
-use Rattle.us_split.specs.Plans.{header_bytes, weights, weight, budget_of}
+use Rattle.us_split.specs.Plans.{weights, weight, budget_of}
 use Rattle.us_split.specs.PartialPlans.{budget_in}
 use Rattle.us_split.proofs.DivisionLemmas.{divided-within, divided-length}
 use Rattle.us_split.proofs.partial_plans.PartialPlan.shares.Goals as goal

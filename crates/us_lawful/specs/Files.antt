@@ -7,7 +7,8 @@ use Rattle.us_requests.specs.declared.asks.Counts.{Counts}
 use Rattle.us_round.specs.Outputs.{RoundOut}
 use Rattle.us_round.specs.declared.rows.Row.{Row}
 use Rattle.us_round.specs.declared.rows.Row.TheVariants as rows
-use Rattle.us_replay.specs.Lines.{text_of}
+use Rattle.us_lawful.specs.Runs.{counts_told}
+use Rattle.us_lawful.specs.Lines.{text_of}
 
 -- the records of a round, one for each of its MAPs
 unfoldable pub records : RoundOut → List ℕ
@@ -23,8 +24,4 @@ round_lines out = lines out.rows
 
 -- the U line
 abbrev pub counts_row : Counts → Row
-counts_row counts = rows.Counts (record {
-  unknown = counts.unknown;
-  not_requestable = counts.not_requestable;
-  late = counts.late;
-})
+counts_row counts = rows.Counts (counts_told counts)

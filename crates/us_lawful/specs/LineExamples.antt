@@ -3,7 +3,7 @@ use Rattle.std.specs.Prelude.{◌≡◌, codes, Some, None, refl}
 use Rattle.std.specs.Fmt.{digits}
 use Rattle.us_round.specs.declared.rows.EntryWord.TheVariants as words
 use Rattle.us_round.specs.declared.rows.Grant.{Grant}
-use Rattle.us_replay.specs.Lines.{grant_text, missed_text, final_text, counts_text}
+use Rattle.us_lawful.specs.Lines.{grant_text, missed_text, final_text, counts_text}
 
 abbrev requested : Grant
 requested = record {
