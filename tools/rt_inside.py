@@ -8,7 +8,8 @@ module, and calls its functions. It is the one place that knows them, and was wr
   rtlib.crates_below(top)                 the crates below a folder, lowest first; of each `name`, `folder`, `below()`
                                           and `build_rlib(flags, anew)`, whose status is 0 where the library is built
   rtlib.guarded()                         has all that is started end with this program
-  read_edit(edit, folder)                 a pair, whose second part says why an edit can't be applied
+  read_edit(edit, folder)                 the texts of the files that an edit changes, and else why it can't be applied
+  unread(line, changed)                   whether a line says that a file of these paths could not be read
   checked(crate, texts, flags, kept)      a finished check, over what `kept` holds, with `returncode` and `stdout`
   must_fail(crate, edit, flags, kept)     what a try comes to (REFUSED, AT_LIMIT or something else), and what to say
   processors(), free()                    processors, and bytes of free memory
@@ -31,6 +32,7 @@ FUNCTIONS = {
     "rtlib.Crate.build_rlib": ("self", "flags", "anew"),
     "rtlib.guarded": (),
     "read_edit": ("edit", "folder"),
+    "unread": ("line", "changed"),
     "checked": ("crate", "texts", "flags", "kept"),
     "must_fail": ("crate", "edit", "flags", "kept"),
     "processors": (),
@@ -97,6 +99,23 @@ def crates():
 def why_unapplied(edit, folder):
     """Why an edit can't be applied to the crate in this folder, or None."""
     return rt.read_edit(edit, folder)[1]
+
+
+def texts_of(edit, folder):
+    """The texts of the files that an edit changes, by their paths in the crate, or None where it can't be applied."""
+    return rt.read_edit(edit, folder)[0]
+
+
+def is_unread(line, changed):
+    """Whether a line says that the prover could not read one of these changed texts."""
+    return rt.unread(line, changed)
+
+
+def said_of(crate, texts, kept):
+    """What the prover says of a crate with these texts in place of its own, where it refuses it; None where it doesn't."""
+    ran = rt.checked(crate, texts, FLAGS, kept)
+    lines = ran.stdout.rstrip("\n").split("\n")
+    return ran.stdout if ran.returncode == 1 and lines[-1].startswith("logic=not-proved") else None
 
 
 def is_built(crate):
