@@ -53,7 +53,7 @@ fn push_record(text: &mut Vec<u8>, round: u32, body: &[u8]) -> Result<(), NoMemo
 
 /// Adds the lines of some rows. What stood in `line` doesn't matter.
 // `lines` is closed elsewhere: only here is it the texts of rows.
-#[tactic(auto, unfolding(crate::specs::Files::lines))]
+#[tactic(auto, unfolding(us_lawful::specs::Files::lines))]
 pub(crate) fn push_lines(
     text: &mut Vec<u8>,
     line: &mut [u8; LINE_BYTES],
