@@ -25,6 +25,8 @@ pub mod Credits
 pub mod Finals
 -- all rules
 pub mod Lawful
+-- texts that are lawful
+pub mod Texts
 -- laws of the rules
 pub mod Laws
 -- lines at small inputs,

@@ -15,20 +15,6 @@ const FEED: usize = LINE_BYTES - 1;
 /// The most bytes of a comma and a number: the greatest has twenty digits.
 const FIELD_BYTES: usize = 21;
 
-/// The word of an entry.
-fn word(entry: EntryWord) -> &'static str
-    ensures value { result.now ≡ spec.word_text entry }
-    ensures short { length result.now ≤ 7 }
-{
-    match entry {
-        EntryWord::Unsolicited => "ugs",
-        EntryWord::RealTimePoll => "rtp",
-        EntryWord::NonRealTimePoll => "nrtp",
-        EntryWord::Station => "station",
-        EntryWord::Requested => "req",
-    }
-}
-
 /// Adds a row's line, with its line feed. What stood in `line` doesn't matter: the line is put together there from its last
 /// byte to its first, as digits are found, and then copied once.
 pub(crate) fn push_line(
@@ -148,7 +134,7 @@ fn put_event(
         (spec.word_text entry ++ (spec.numbers numbers.now ++ drop FEED line.old)))) }
 {
     let end = put_numbers(line, FEED, numbers);
-    let end = put_word(line, end, word(entry));
+    let end = put_entry(line, end, entry);
     put_front(line, end, letter, place)
 }
 
@@ -172,21 +158,38 @@ fn put_units(line: &mut [u8; LINE_BYTES], units: Option<u64>) -> usize
 {
     match units {
         Some(units) => put_number(line, FEED, units),
-        None => put_word(line, FEED, "-"),
+        None => put_text(line, FEED, b",-"),
     }
 }
 
-/// Puts a comma and a word before what stands from `end` on.
-fn put_word(line: &mut [u8; LINE_BYTES], end: usize, word: &str) -> usize
-    requires short { length word.now ≤ 7 }
+/// Puts a comma and the word of an entry before what stands from `end` on.
+fn put_entry(line: &mut [u8; LINE_BYTES], end: usize, entry: EntryWord) -> usize
     requires room { 8 ≤ end }
     requires end { end ≤ LINE_BYTES }
-    ensures start { result + (length word.now + 1) ≡ end }
-    ensures line { drop result line.new ≡ 44 ∷ (word.now ++ drop end line.old) }
+    ensures size { end ≤ result + 8 }
+    ensures start { result ≤ LINE_BYTES }
+    ensures line { drop result line.new ≡ 44 ∷ (spec.word_text entry ++ drop end line.old) }
 {
-    let start = end - word.len();
-    line[start..end].copy_from_slice(word.as_bytes());
-    put_byte(line, start, b',')
+    match entry {
+        EntryWord::Unsolicited => put_text(line, end, b",ugs"),
+        EntryWord::RealTimePoll => put_text(line, end, b",rtp"),
+        EntryWord::NonRealTimePoll => put_text(line, end, b",nrtp"),
+        EntryWord::Station => put_text(line, end, b",station"),
+        EntryWord::Requested => put_text(line, end, b",req"),
+    }
+}
+
+/// Puts a text before what stands from `end` on. Inlined, as a text of known length takes a move or two.
+#[inline(always)]
+fn put_text<const N: usize>(line: &mut [u8; LINE_BYTES], end: usize, text: &[u8; N]) -> usize
+    requires room { N ≤ end }
+    requires end { end ≤ LINE_BYTES }
+    ensures start { result + N ≡ end }
+    ensures line { drop result line.new ≡ text.now ++ drop end line.old }
+{
+    let start = end - N;
+    line[start..end].copy_from_slice(text);
+    start
 }
 
 /// Puts numbers, each behind a comma, before what stands from `end` on.

@@ -1,0 +1,48 @@
+-- Two texts that are lawful for a run: a maps file and a report.
+use Rattle.std.specs.Prelude.{◌≡◌, ℕ, ◌^◌, ◌<◌, ⊤, List, [], ◌∷◌, map, IfSome}
+use Rattle.std.specs.List.{AllByRecursion}
+use Rattle.us_codec.specs.Bodies.{spelling}
+use Rattle.us_codec.specs.MapsFiles.{Piece, maps_file}
+use Rattle.us_round.specs.declared.rows.EntryWord.{EntryWord}
+use Rattle.us_round.specs.declared.rows.EntryWord.TheVariants as words
+use Rattle.us_round.specs.declared.rows.Row.{Row}
+use Rattle.us_round.specs.declared.rows.Row.TheVariants as rows
+use Rattle.us_lawful.specs.Runs.{Run, RoundMap, Judged}
+use Rattle.us_lawful.specs.Files.{lines}
+use Rattle.us_lawful.specs.Lawful.{IsLawful}
+
+-- the record of a MAP: its round, and its body as bytes
+abbrev pub record_of : RoundMap → Piece
+record_of m = record { round = m.round; body = spelling m.body }
+
+abbrev pub Fit : List ℕ → Type 0
+Fit numbers = AllByRecursion (λ n. n < 2 ^ 64) numbers
+
+-- the numbers of a line have 64 bits,
+abbrev pub HasFields : Row → Type 0
+HasFields (rows.Granted g) =
+    Fit (g.round ∷ g.channel ∷ g.id ∷ g.i ∷ g.k ∷ g.sid ∷ g.iuc ∷ g.start ∷ g.slots ∷ g.credit ∷ [])
+HasFields (rows.Missed m) = Fit (m.round ∷ m.channel ∷ m.id ∷ m.i ∷ m.k ∷ [])
+HasFields (rows.Final f) = Fit (f.flow ∷ f.cluster ∷ f.outstanding ∷ []) × IfSome f.units (λ units. units < 2 ^ 64)
+HasFields (rows.Counts c) = Fit (c.unknown ∷ c.not_requestable ∷ c.late ∷ [])
+
+-- and what is missed is of a calendar
+abbrev pub IsOfCalendar : EntryWord → Type 0
+IsOfCalendar words.Requested = ⊥
+IsOfCalendar _ = ⊤
+
+abbrev pub CanBeTold : Row → Type 0
+CanBeTold (rows.Missed m) = IsOfCalendar m.entry
+CanBeTold _ = ⊤
+
+-- what a line of a report may tell
+abbrev pub IsRow : Row → Type 0
+IsRow row = HasFields row × CanBeTold row
+
+-- they spell MAPs and lines that are lawful
+pub record AreLawful (run : Run) (maps report : List ℕ) : Type 0 where
+  pub judged : Judged
+  pub records : maps ≡ maps_file (map record_of judged.maps)
+  pub rows : AllByRecursion IsRow judged.lines
+  pub lines_are : report ≡ lines judged.lines
+  pub lawful : IsLawful run judged
