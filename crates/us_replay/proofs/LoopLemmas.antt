@@ -18,9 +18,11 @@ use Rattle.us_round.specs.Rounds.{State, Scheduled, round_of, opening, schedule,
 use Rattle.us_round.specs.Outputs.{RoundOut, AreWithinLimits, out_of, final_rows}
 use Rattle.us_replay.specs.Collecting.{AreAsks}
 use Rattle.us_lawful.specs.Files.{records, lines, counts_row}
-use Rattle.us_lawful.specs.Output.{all_rows, output_of}
+use Rattle.us_round.proofs.PartLemmas.{all_append}
+use Rattle.us_lawful.specs.Output.{all_rows, judged_of, output_of}
+use Rattle.us_lawful.specs.Texts.{HasFields}
 use Rattle.us_replay.specs.Replays.{KeptLimits, is_granted, is_missed, summary_of}
-use Rattle.us_replay.specs.Progress.{Progress, Along, CanMake, IsMade, cuts_in, opening_progress, out_after, output_in, step_of, summary_after, with_last, with_round}
+use Rattle.us_replay.specs.Progress.{Progress, Along, CanMake, IsMade, cuts_in, last_rows, opening_progress, out_after, output_in, step_of, summary_after, with_last, with_round}
 use Rattle.us_replay.proofs.RoundLemmas.{After, after, HasCalendars, opening-calendars, next-calendars, some-records}
 use Rattle.us_replay.proofs.CollectingLemmas.{all-within, are-asks}
 use Rattle.us_replay.proofs.SumLemmas.{added-below, length-cut, sum-cut}
@@ -50,6 +52,7 @@ along-opening t v state p lawful opened empty = record {
   few_granted = omega (arith, ap (λ p. p.granted) empty);
   few_missed = omega (arith, ap (λ p. p.missed) empty);
   limits = tt;
+  fields = tt;
 }
 
 -- One round.
@@ -196,6 +199,8 @@ along-made t v k state next p q lawful along below made =
       );
       limits = limits-next (AreWithinLimits t) (schedule (opening t) (cuts_in t v)) k _ _ now along.limits
           (subst (λ u. AreWithinLimits u (step_of state p (asks_in v k)).scheduled) along.tables made.limits);
+      fields = subst (AllByRecursion HasFields) (sym (next-part (λ out. out.rows) (output_in t v).given k here _ given))
+          (all_append HasFields (all_rows (take k (output_in t v).given)) here.rows along.fields made.fields);
     }
 
 pub along-next : (t : Tables) (v : TraceAsks) (k : ℕ) (state next : State) (p q : Progress) (asks : List Ask) →
@@ -274,6 +279,21 @@ texts-last t v k state p q maps report along all made maps_are report_is =
       maps_are = maps_are ∙ ap (λ p. p.to_maps) made;
       report_is = report_is ∙ ap (λ p. p.to_report) made ∙ ap (λ s. lines (final_rows s ++ counts_row v.counts ∷ [])) ended;
     }
+
+-- what all lines have
+pub fields-last : (t : Tables) (v : TraceAsks) (k : ℕ) (state : State) (p : Progress) (counts : Counts) → Along t v k state p →
+    k ≡ v.rounds → counts ≡ v.counts → AllByRecursion HasFields (last_rows state counts) →
+    AllByRecursion HasFields (judged_of (output_in t v)).lines
+unfolding output_of final
+fields-last t v k state p counts along all same ends =
+    let none : drop k (cuts_in t v) ≡ [] = drop_all k (cuts_in t v) (omega (arith, all, length-cuts t v)) in
+    let ended : state ≡ final (opening t) (cuts_in t v) = sym (ap (final state) none) ∙ along.ends in
+    let whole : take k (output_in t v).given ≡ (output_in t v).given =
+    take_all k (output_in t v).given (omega (arith, all, length-given t v)) in
+    all_append HasFields (all_rows (output_in t v).given) (output_in t v).last
+    (subst (λ given. AllByRecursion HasFields (all_rows given)) whole along.fields)
+    (subst (λ s. AllByRecursion HasFields (last_rows s v.counts)) ended
+    (subst (λ told. AllByRecursion HasFields (last_rows state told)) same ends))
 
 -- the summary
 pub summary-is : (t : Tables) (v : TraceAsks) (k : ℕ) (state : State) (p q : Progress) → Along t v k state p →

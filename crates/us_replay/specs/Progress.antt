@@ -1,7 +1,7 @@
 -- A replay on its way: the cuts of the trace that was read, what is kept from one round to the next, and what one writing
 -- of texts leaves.
 use Rattle.std.specs.Prelude.{◌≡◌, ℕ, ◌+◌, ◌*◌, ◌^◌, ◌<◌, ◌≤◌, List, [], ◌∷◌, ◌++◌, length, map, drop, take, replicate, sum, sum_by, count_by, Result, Ok, Err}
-use Rattle.std.specs.List.{range_with_len}
+use Rattle.std.specs.List.{AllByRecursion, range_with_len}
 use Rattle.std.specs.Io.KnownBytes.{Keeps}
 use Rattle.us_slots.specs.Devices.{AppendsFront}
 use Rattle.us_flows.specs.Tables.{Tables, max_run_ticks}
@@ -15,6 +15,7 @@ use Rattle.us_requests.specs.Cuts.{cut_of}
 use Rattle.us_requests.specs.Traces.{TraceAsks, asks_in, asked_before, asks_before, max_ask, max_asked, max_asks}
 use Rattle.us_round.specs.Rounds.{State, RoundResult, opening, round_of, schedule, final}
 use Rattle.us_round.specs.States.{settled_by}
+use Rattle.us_round.specs.declared.rows.Row.{Row}
 use Rattle.us_round.specs.Outputs.{RoundOut, AreWithinLimits, final_rows, out_of}
 use Rattle.us_replay.specs.declared.summaries.Summary.{Summary}
 use Rattle.us_replay.specs.declared.faults.RunFault.{RunFault}
@@ -22,6 +23,7 @@ use Rattle.us_replay.specs.Collecting.{AreAsks, chunk_quota}
 use Rattle.us_lawful.specs.Files.{records, round_lines, lines, counts_row}
 use Rattle.us_replay.specs.Endings.{ended, rounds_done, Ending, Refused, StoppedBy, Maps, Report, Memory}
 use Rattle.us_lawful.specs.Output.{Output, all_rows, output_of}
+use Rattle.us_lawful.specs.Texts.{HasFields}
 use Rattle.us_replay.specs.Replays.{Growth, Took, Ran, KeptLimits, is_granted, is_missed}
 
 -- Traces.
@@ -95,13 +97,17 @@ with_round p out = record {
   missed = p.missed + count_by is_missed out.rows;
 }
 
--- the end of the report was made, of the state after all rounds
+-- the lines at the end of the report, of the state after all rounds
+abbrev pub last_rows : State → Counts → List Row
+last_rows state counts = final_rows state ++ counts_row counts ∷ []
+
+-- their text was made
 unfoldable pub with_last : Progress → State → Counts → Progress
 with_last p state counts = record {
   cut = p.cut;
   collected = p.collected;
   to_maps = [];
-  to_report = lines (final_rows state ++ counts_row counts ∷ []);
+  to_report = lines (last_rows state counts);
   granted = p.granted;
   missed = p.missed;
 }
@@ -144,6 +150,7 @@ pub record IsMade (state : State) (p : Progress) (asks : List Ask) (next : State
   pub progress_is : after ≡ with_round (with_asks p asks) (out_after state p asks)
   pub limits : AreWithinLimits state.tables (step_of state p asks).scheduled
   pub few : length (out_after state p asks).rows + settled_by state ≤ max_requested + settled_by next
+  pub fields : AllByRecursion HasFields (out_after state p asks).rows
 
 -- how a replay stands after k rounds
 pub record Along (t : Tables) (v : TraceAsks) (k : ℕ) (state : State) (p : Progress) : Type 0 where
@@ -163,6 +170,7 @@ pub record Along (t : Tables) (v : TraceAsks) (k : ℕ) (state : State) (p : Pro
   pub few_granted : AreFewBefore state p.granted
   pub few_missed : AreFewBefore state p.missed
   pub limits : KeptLimits t (cuts_in t v) k
+  pub fields : AllByRecursion HasFields (all_rows (take k (output_in t v).given))
 
 -- Writing.
 

@@ -6,9 +6,11 @@ ghost use Rattle.us_slots.specs.Devices.{TookAtMost};
 ghost use Rattle.us_requests.specs.Readings.{max_bytes};
 ghost use Rattle.us_requests.specs.Traces.{asks_in};
 ghost use Rattle.us_round.specs.Rounds.{opening};
+ghost use Rattle.us_lawful.specs.Output.{judged_of};
+ghost use Rattle.us_lawful.specs.Texts.{HasFields};
 ghost use Rattle.us_replay.specs.Endings.{comes_before, blames_maps, blames_report};
 ghost use Rattle.us_replay.specs.Replays.{Growth, Replayed};
-ghost use Rattle.us_replay.specs.Progress.{Along, CanMake, IsMade, RanTrace};
+ghost use Rattle.us_replay.specs.Progress.{Along, CanMake, IsMade, RanTrace, output_in};
 
 use crate::faults::RunFault;
 use crate::summaries::Summary;
@@ -105,6 +107,7 @@ fn run<H: Threads + Sync, W1: Sink, W2: Sink, G: Gate + Sync>(
     ensures ran { let to_maps : Growth = record { before = W1.contents maps.old; after = W1.contents maps.new } in
         let to_report : Growth = record { before = W2.contents report.old; after = W2.contents report.new } in
         RanTrace config.now trace.now to_maps to_report result }
+    ensures fields { OnOk result (AllByRecursion HasFields (judged_of (output_in config.now trace.now)).lines) }
     ensures maps_failed { W1.failed maps.new ≡ blames_maps result }
     ensures report_failed { W2.failed report.new ≡ blames_report result }
 {
@@ -161,6 +164,7 @@ fn run_on<H: Threads + Sync, W1: Sink, W2: Sink, G: Gate + Sync>(
     ensures ran { let to_maps : Growth = record { before = W1.contents maps.old; after = W1.contents maps.new } in
         let to_report : Growth = record { before = W2.contents report.old; after = W2.contents report.new } in
         RanTrace state.tables trace.now to_maps to_report result }
+    ensures fields { OnOk result (AllByRecursion HasFields (judged_of (output_in state.tables trace.now)).lines) }
     ensures maps_failed { W1.failed maps.new ≡ blames_maps result }
     ensures report_failed { W2.failed report.new ≡ blames_report result }
 {

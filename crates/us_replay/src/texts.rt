@@ -1,7 +1,9 @@
 ghost use Rattle.std.specs.Prelude.{◌≡◌, ◌^◌, ◌<◌, ◌++◌, length, OnOk};
+ghost use Rattle.std.specs.List.{AllByRecursion};
 ghost use Rattle.us_codec.specs.Bodies.{spelling};
 ghost use Rattle.us_codec.specs.MapsFiles.{Piece, record_bytes};
 ghost use Rattle.us_lawful.specs.Files.{records, lines};
+ghost use Rattle.us_lawful.specs.Texts.{HasFields};
 
 use crate::lines::{LINE_BYTES, push_line};
 use us_codec::{MAX_BODY_BYTES, Map, encode_into};
@@ -59,7 +61,8 @@ pub(crate) fn push_lines(
     line: &mut [u8; LINE_BYTES],
     rows: &[Row],
 ) -> Result<(), NoMemory>
-    ensures { OnOk result (text.new.items ≡ text.old.items ++ lines rows.now) }
+    ensures lines { OnOk result (text.new.items ≡ text.old.items ++ lines rows.now) }
+    ensures fields { OnOk result (AllByRecursion HasFields rows.now) }
 {
     for row in rows {
         push_line(text, line, row)?;

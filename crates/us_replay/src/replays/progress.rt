@@ -1,8 +1,10 @@
 ghost use Rattle.std.specs.Prelude.{◌≡◌, ◌+◌, ◌≤◌, length, IfOk, OnOk};
+ghost use Rattle.std.specs.List.{AllByRecursion};
 ghost use Rattle.us_requests.specs.Traces.{max_asked, max_asks};
+ghost use Rattle.us_lawful.specs.Texts.{HasFields};
 ghost use Rattle.us_replay.specs.Collecting.{AreAsks, chunk_quota};
 ghost use Rattle.us_replay.specs.Progress as spec;
-ghost use Rattle.us_replay.specs.Progress.{HasRoom, summary_after, with_asks, with_last, with_round};
+ghost use Rattle.us_replay.specs.Progress.{HasRoom, last_rows, summary_after, with_asks, with_last, with_round};
 
 use super::tallies::Tally;
 use crate::collecting::Collector;
@@ -94,7 +96,8 @@ impl Progress {
     #[tactic(auto, unfolding(crate::specs::Progress::with_round))]
     pub(crate) fn take_round(&mut self, out: &RoundOut) -> Result<(), NoMemory>
         requires { HasRoom self.old (length out.now.rows) }
-        ensures { OnOk result (self.new ≡ with_round self.old out.now) }
+        ensures progress { OnOk result (self.new ≡ with_round self.old out.now) }
+        ensures fields { OnOk result (AllByRecursion HasFields out.now.rows) }
     {
         self.tally.add(out.rows());
         self.to_maps.clear();
@@ -113,7 +116,8 @@ impl Progress {
         state: &State,
         counts: Counts,
     ) -> Result<(), NoMemory>
-        ensures { OnOk result (self.new ≡ with_last self.old state.now counts) }
+        ensures progress { OnOk result (self.new ≡ with_last self.old state.now counts) }
+        ensures fields { OnOk result (AllByRecursion HasFields (last_rows state.now counts)) }
     {
         let Ok(mut rows) = state.finals(alloc) else {
             return Err(NoMemory);

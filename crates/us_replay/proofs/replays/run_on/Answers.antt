@@ -5,7 +5,7 @@ use Rattle.us_replay.specs.Endings.{ending_of}
 use Rattle.us_replay.specs.Replays.{KeptLimits}
 use Rattle.us_replay.specs.Progress.{Along, Progress, RanTrace, cuts_in, output_in, summary_after}
 use Rattle.us_replay.proofs.ReplayStopLemmas.{passed-on, so-far-at, EndsBetween, stops-between, sent-stops, sent-kept, round-part, last-part, sent-round, sent-last, flush-stops, flushed-all, flushed-kept}
-use Rattle.us_replay.proofs.LoopLemmas.{along-next, can-make, last-made, texts-here, some-next, texts-last, length-given, summary-is}
+use Rattle.us_replay.proofs.LoopLemmas.{fields-last, along-next, can-make, last-made, texts-here, some-next, texts-last, length-given, summary-is}
 use Rattle.us_replay.proofs.replays.run_on.Goals as goal
 
 pub make_round-requires-clause-ready : goal.make_round-requires-clause-ready
@@ -84,7 +84,7 @@ returns-in_err-send-2-clause-ran g c =
     let ended : c.loop-done.done ≡ k = omega (arith, c.loop-done-test.false, c.loop-done.invariant.1.within, all) in
     let along : Along t v k c.loop-done.state p = subst (λ n. Along t v n c.loop-done.state p) ended c.loop-done.invariant.1 in
     let so_far = so-far-at (output_in t v) c.loop-done.done k _ _ ended c.loop-done.invariant.2 in
-    let made = last-made v c.loop-done.state p c.take_last.new.self c.counts.result c.in-Ok-take_last.ensures
+    let made = last-made v c.loop-done.state p c.take_last.new.self c.counts.result c.in-Ok-take_last.ensures.progress
     c.counts.ensures.value in
     let texts = texts-last t v k c.loop-done.state p c.take_last.new.self c.to_maps-2.result.now c.to_report-2.result.now
     along all made c.to_maps-2.ensures c.to_report-2.ensures in
@@ -107,7 +107,7 @@ returns-in_err-flush-clause-ran g c =
     let ended : c.loop-done.done ≡ k = omega (arith, c.loop-done-test.false, c.loop-done.invariant.1.within, all) in
     let along : Along t v k c.loop-done.state p = subst (λ n. Along t v n c.loop-done.state p) ended c.loop-done.invariant.1 in
     let so_far = so-far-at (output_in t v) c.loop-done.done k _ _ ended c.loop-done.invariant.2 in
-    let made = last-made v c.loop-done.state p c.take_last.new.self c.counts.result c.in-Ok-take_last.ensures
+    let made = last-made v c.loop-done.state p c.take_last.new.self c.counts.result c.in-Ok-take_last.ensures.progress
     c.counts.ensures.value in
     let texts = texts-last t v k c.loop-done.state p c.take_last.new.self c.to_maps-2.result.now c.to_report-2.result.now
     along all made c.to_maps-2.ensures c.to_report-2.ensures in
@@ -129,7 +129,7 @@ returns-clause-ran g c =
     let ended : c.loop-done.done ≡ k = omega (arith, c.loop-done-test.false, c.loop-done.invariant.1.within, all) in
     let along : Along t v k c.loop-done.state p = subst (λ n. Along t v n c.loop-done.state p) ended c.loop-done.invariant.1 in
     let so_far = so-far-at (output_in t v) c.loop-done.done k _ _ ended c.loop-done.invariant.2 in
-    let made = last-made v c.loop-done.state p c.take_last.new.self c.counts.result c.in-Ok-take_last.ensures
+    let made = last-made v c.loop-done.state p c.take_last.new.self c.counts.result c.in-Ok-take_last.ensures.progress
     c.counts.ensures.value in
     let texts = texts-last t v k c.loop-done.state p c.take_last.new.self c.to_maps-2.result.now c.to_report-2.result.now
     along all made c.to_maps-2.ensures c.to_report-2.ensures in
@@ -140,3 +140,15 @@ returns-clause-ran g c =
       (both.0, both.1, told ∙ summary-is t v k c.loop-done.state p c.take_last.new.self along all made),
       subst (λ s. KeptLimits t (cuts_in t v) s.rounds) (sym told) along.limits,
     )
+
+pub returns-clause-fields : goal.returns-clause-fields
+returns-clause-fields g c =
+    let t : Tables = c.args.state.tables in
+    let v : TraceAsks = c.args.trace.now in
+    let k : ℕ = c.rounds-rounds.result in
+    let all : k ≡ v.rounds = c.rounds-rounds.ensures.value in
+    let ended : c.loop-done.done ≡ k = omega (arith, c.loop-done-test.false, c.loop-done.invariant.1.within, all) in
+    let along : Along t v k c.loop-done.state c.loop-done.progress =
+    subst (λ n. Along t v n c.loop-done.state c.loop-done.progress) ended c.loop-done.invariant.1 in
+    fields-last t v k c.loop-done.state c.loop-done.progress c.counts.result along all c.counts.ensures.value
+    c.in-Ok-take_last.ensures.fields
