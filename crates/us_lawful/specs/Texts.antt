@@ -42,7 +42,7 @@ IsRow row = HasFields row × CanBeTold row
 -- they spell MAPs and lines that are lawful
 pub record AreLawful (run : Run) (maps report : List ℕ) : Type 0 where
   pub judged : Judged
-  pub records : maps ≡ maps_file (map record_of judged.maps)
+  pub maps_spelled : maps ≡ maps_file (map record_of judged.maps)
   pub rows : AllByRecursion IsRow judged.lines
-  pub lines_are : report ≡ lines judged.lines
+  pub report_spelled : report ≡ lines judged.lines
   pub lawful : IsLawful run judged
