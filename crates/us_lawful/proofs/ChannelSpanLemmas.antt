@@ -1,5 +1,6 @@
--- One channel's round: what is placed on it are its reserves and the grants of its lines, and stands as the elements of its MAP.
-use Rattle.std.proofs.Common.{◌≡◌, ◌≢◌, ℕ, ◌+◌, ◌-◌, ◌%◌, ◌<◌, ◌≤◌, ◌==◌, eq-eqb, ne_eqb, if◌then◌else◌, List, [], ◌∷◌, ◌++◌, length, map, cond, refl, sym, ap, ap₂, ◌∙◌, arith, inl, inr, true}
+-- One channel's round: its reserves and the grants of its lines are what is placed on its board, and its MAP has the
+-- elements of this board.
+use Rattle.std.proofs.Common.{◌≡◌, ◌≢◌, ℕ, ◌+◌, ◌-◌, ◌%◌, ◌<◌, ◌≤◌, ◌==◌, eq-eqb, ne_eqb, Bool, true, if◌then◌else◌, List, [], ◌∷◌, ◌++◌, map, cond, refl, sym, ap, ap₂, ◌∙◌, arith, inl, inr}
 use Rattle.std.specs.Prelude.{◌&&◌, filter, flat_map, sum_by}
 use Rattle.std.specs.List.{AllByRecursion}
 use Rattle.std.proofs.lemmas.Bool.{cases_Bool, cases_eq}
@@ -79,13 +80,10 @@ worth_counts f round id (rows.Missed m) none = refl
 worth_counts f round id (rows.Final state) none = refl
 worth_counts f round id (rows.Counts counts) none = refl
 
-worth_here : (f : Span → ℕ) (g : Grant) → span_worth f g.round g.channel (rows.Granted g) ≡ f (span_of g)
-worth_here f g = rw (eq-eqb g.round g.round refl, eq-eqb g.channel g.channel refl) refl
-
 sum_of_spans : (f : Span → ℕ) (round id : ℕ) (lines : List Row) →
     sum_by f (grant_spans round id lines) ≡ sum_by (span_worth f round id) lines
 sum_of_spans f round id lines =
-    let here : Grant → _ = λ g. (g.round == round) && (g.channel == id) in
+    let here : Grant → Bool = λ g. (g.round == round) && (g.channel == id) in
     sum_map f span_of (filter here (grants_in lines))
     ∙ sum_filter (λ g. f (span_of g)) here (grants_in lines)
     ∙ sum_filter_map (λ g. cond (here g) (f (span_of g)) 0) as_grant lines
@@ -110,7 +108,8 @@ settled_lines f round c (settled.Granted kind e i k start slots owner ∷ all) =
 settled_lines f round c (settled.Missed kind e i k ∷ all) =
     omega (
       arith,
-      sum_by-cons (span_worth f round c.id) (settled_row round c (settled.Missed kind e i k)) (map (settled_row round c) all),
+      sum_by-cons (span_worth f round c.id) (settled_row round c (settled.Missed kind e i k))
+          (map (settled_row round c) all),
       settled_lines f round c all,
     )
 
@@ -129,7 +128,7 @@ grant_lines f round c (g ∷ all) =
       grant_lines f round c all,
     )
 
--- lines that are those of this channel's round, and of others
+-- of this round and channel these lines are those of its board; others are left open
 abbrev pub AreLinesOf : ℕ → Built → List Row → Type 0
 AreLinesOf round b lines =
     (f : Row → ℕ) → CountsAt round b.channel.id f → sum_by f lines ≡ sum_by f (rows_in round b)
@@ -198,8 +197,8 @@ runs_other c (run ∷ runs) none =
     let all : sum_by null_one (e ∷ map (run_element c) runs) ≡ null_one e + sum_by null_one (map (run_element c) runs) =
     sum_by-cons null_one e (map (run_element c) runs) in (
       (λ same.
-      let one : null_one e ≡ 1 = rw (eq-eqb e.iuc codes.null same) refl in
-      omega (arith, all, one, none)),
+          let one : null_one e ≡ 1 = rw (eq-eqb e.iuc codes.null same) refl in
+          omega (arith, all, one, none)),
       runs_other c runs (omega (arith, all, none)),
     )
 

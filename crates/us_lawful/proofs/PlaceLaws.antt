@@ -1,10 +1,9 @@
 -- Each line of a schedule is of a round and a channel of its run.
-use Rattle.std.proofs.Common.{◌≡◌, ◌≢◌, ℕ, ◌+◌, ◌<◌, ◌≤◌, ◌==◌, ◌⊎◌, eqb-true, eq-eqb, ltb-false, Bool, true, false, List, [], ◌∷◌, length, map, cond, refl, sym, ap, subst, ◌∙◌, arith, inl, inr}
-use Rattle.std.specs.Prelude.{◌&&◌, ◌||◌, not, nat_lt, sum_by}
+use Rattle.std.proofs.Common.{◌≡◌, ◌≢◌, ℕ, ◌<◌, ◌≤◌, ◌==◌, ◌⊎◌, eq-eqb, ltb-false, Bool, true, false, List, [], ◌∷◌, length, map, cond, refl, sym, ap, ◌∙◌, arith, inl, inr}
+use Rattle.std.specs.Prelude.{◌||◌, not, nat_lt, sum_by}
 use Rattle.std.specs.List.{AllByRecursion, list_any}
 use Rattle.std.proofs.lemmas.Bool.{and_cases, cases_Bool, false≢true, or_left, or_parts, or_right}
 use Rattle.std.proofs.lemmas.List.Sums.{sum_by-cons}
-use Rattle.us_flows.specs.declared.channels.Channel.{Channel}
 use Rattle.us_flows.specs.Tables.{Tables, has_channel, rounds_fit}
 use Rattle.us_flows.specs.Lawful.{AreTables}
 use Rattle.us_requests.specs.declared.asks.Counts.{Counts}
@@ -38,7 +37,8 @@ none_passes p (row ∷ lines) none = elim (cases_Bool (p row)) [
 sum_failing : (p : Row → Bool) (lines : List Row) → AllByRecursion (λ row. p row ≡ false) lines →
     sum_by (one_if p) lines ≡ 0
 sum_failing p lines fail =
-    sum_none (one_if p) lines (all_weaker (λ row. p row ≡ false) (λ row. one_if p row ≡ 0) (λ row out. rw out refl) lines fail)
+    sum_none (one_if p) lines
+    (all_weaker (λ row. p row ≡ false) (λ row. one_if p row ≡ 0) (λ row out. rw out refl) lines fail)
 
 -- a channel of a round, where the round or the channel is another one
 abbrev IsElsewhere : ℕ → ℕ → State → Built → Type 0

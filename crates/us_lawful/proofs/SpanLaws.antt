@@ -1,6 +1,6 @@
 -- The minislots of every MAP of a schedule are what they must be.
-use Rattle.std.proofs.Common.{◌≡◌, ℕ, zero, suc, ◌+◌, ◌*◌, ◌<◌, ◌≤◌, ◌==◌, Bool, true, false, List, [], ◌∷◌, ◌++◌, length, map, Contains, Option, Some, None, option_map, slice_get, refl, sym, ap, subst, ◌∙◌, suc-mul, eqb-true, arith, inl, inr}
-use Rattle.std.specs.Prelude.{nat_lt, not, ◌||◌, flat_map, sum_by, zip, find, position}
+use Rattle.std.proofs.Common.{◌≡◌, ℕ, zero, suc, ◌+◌, ◌*◌, ◌<◌, ◌==◌, Bool, true, List, [], ◌∷◌, ◌++◌, length, map, Contains, Option, Some, None, option_map, slice_get, refl, sym, ap, subst, ◌∙◌, suc-mul, arith, inl, inr}
+use Rattle.std.specs.Prelude.{nat_lt, not, flat_map, sum_by, zip, find, position}
 use Rattle.std.specs.List.{AllByRecursion}
 use Rattle.std.proofs.lemmas.Bool.{cases_Bool, cases_lt, or_left, or_right, le-ltb, lt-ltb}
 use Rattle.std.proofs.lemmas.List.{length-map}
@@ -16,7 +16,6 @@ use Rattle.us_calendar.specs.Calendars as calendars
 use Rattle.us_calendar.specs.Calendars.{Calendar}
 use Rattle.us_calendar.specs.Runs.{Round, assignments_of, rounds_on}
 use Rattle.us_calendar.specs.Laws.{IsLawfulEntry}
-use Rattle.us_calendar.specs.declared.settled.Settled.{Settled}
 use Rattle.us_calendar.proofs.EntryLaws.{entries_are_lawful}
 use Rattle.us_split.specs.Plans.{Planned}
 use Rattle.us_split.specs.Claims.{claims_on}
@@ -25,7 +24,7 @@ use Rattle.us_channel.specs.Laws.{IsMadeOf, placed_on}
 use Rattle.us_channel.proofs.BoardLaws.{boards_are_built}
 use Rattle.us_requests.specs.declared.asks.Counts.{Counts}
 use Rattle.us_round.specs.Rounds.{State, Scheduled, opening, round_plan, build_planned, builds_of, ended, schedule}
-use Rattle.us_round.specs.Outputs.{RoundOut, built_map, out_of}
+use Rattle.us_round.specs.Outputs.{built_map, out_of}
 use Rattle.us_round.specs.Leftovers.{IsBuiltFor}
 use Rattle.us_round.specs.ScheduleLaws.{AreCuts, HasLawfulMaps, boards_of, settled_at}
 use Rattle.us_round.proofs.PartLemmas.{all_found, all_mapped, all_weaker}
@@ -95,7 +94,7 @@ found_place p xs x found =
 -- Rounds.
 
 -- a round of the schedule
-pub scheduled_at : (t : Tables) (cuts : List (List ℕ)) (r : ℕ) (s : State) → slice_get (rounds_of t cuts) r ≡ Some s →
+scheduled_at : (t : Tables) (cuts : List (List ℕ)) (r : ℕ) (s : State) → slice_get (rounds_of t cuts) r ≡ Some s →
     slice_get (schedule (opening t) cuts) r ≡ Some (ended s (builds_of s)).scheduled
 scheduled_at t cuts r s at =
     ap (λ rounds. slice_get rounds r) (schedule_is_of_begun_rounds (opening t) cuts)
@@ -255,7 +254,8 @@ channel_spans t cuts counts lawful long fits r place c at inside known =
     let holds : Holds b.channel s.round (pieces_of (built_map t s.round pending b).elements) =
     minislots_hold t s.round pending b judged.lines at
     (placed_round t cuts lawful long fits r place c s b known begun.1 found.1) lines in
-    let pieces : pieces_at (run_of t cuts counts) judged r (Some place) ≡ pieces_of (built_map t s.round pending b).elements =
+    let pieces : pieces_at (run_of t cuts counts) judged r (Some place)
+    ≡ pieces_of (built_map t s.round pending b).elements =
     ap pieces_in (map_at t cuts counts lawful long r place s b begun.1 found.1) in
     subst (λ c. Holds c r (pieces_at (run_of t cuts counts) judged r (Some place))) found.2
     (subst (λ n. Holds b.channel n (pieces_at (run_of t cuts counts) judged r (Some place))) number
