@@ -5,3 +5,6 @@ pub mod PieceLemmas
 pub mod SumLemmas
 pub mod RoundLemmas
 pub mod GrantLemmas
+pub mod ChannelSpanLemmas
+pub mod SpanLaws
+pub mod PlaceLaws
