@@ -5,3 +5,5 @@ pub mod PieceLemmas
 pub mod SumLemmas
 pub mod RoundLemmas
 pub mod GrantLemmas
+pub mod HeadingLaws
+pub mod CreditLineLaws
