@@ -27,7 +27,7 @@ use Rattle.us_round.specs.declared.rows.Row.TheVariants as rows
 use Rattle.us_round.specs.Rounds.{State, opening, builds_of, final}
 use Rattle.us_round.specs.Outputs.{entry_word, settled_row, grant_row, final_row, final_rows}
 use Rattle.us_round.specs.ScheduleLaws.{AreCuts}
-use Rattle.us_round.proofs.PartLemmas.{all_found}
+use Rattle.us_round.proofs.PartLemmas.{all_found, all_weaker}
 use Rattle.us_round.proofs.ChannelRunLaws.{channels_stay}
 use Rattle.us_lawful.specs.Runs.{Run, Place, as_grant, is_requested, grants_in, requested_in}
 use Rattle.us_lawful.specs.Files.{counts_row}
@@ -76,7 +76,7 @@ counted_there : {X : Type 0} (p : X → Bool) (xs : List X) (place : ℕ) (x : X
 counted_there p [] place x at is = absurd (cc at)
 counted_there p (y ∷ xs) zero x at is =
     let same : y ≡ x = cc in
-    let here : cond {A = ℕ} (p y) 1 0 ≡ 1 = ap (λ b. cond {A = ℕ} b 1 0) (ap p same ∙ is) in
+    let here : cond {A = ℕ} (p y) 1 0 ≡ 1 = ap (λ passes. cond {A = ℕ} passes 1 0) (ap p same ∙ is) in
     let all : count_by p (y ∷ xs) ≡ cond (p y) 1 0 + count_by p xs = sum_by-cons (λ x. cond (p x) 1 0) y xs in
     omega (arith, all, here)
 counted_there p (y ∷ xs) (suc place) x at is =
@@ -195,7 +195,9 @@ requested_pass q t cuts counts lawful long each =
     (λ r s at place b there.
     requested_rows fails s.round b
     ∙ ap (λ n. sum_by (λ g. fails (line_of n b.channel g)) b.grants) (round_at t cuts r s at)
-    ∙ sum_none (λ g. fails (line_of r b.channel g)) b.grants (all_pass_none r b (each r s at place b there))) in
+    ∙ sum_none (λ g. fails (line_of r b.channel g)) b.grants
+    (all_weaker (λ g. q (line_of r b.channel g) ≡ true) (λ g. fails (line_of r b.channel g) ≡ 0)
+    (λ g is. ap (λ passes. cond {A = ℕ} passes 0 1) is) b.grants (each r s at place b there))) in
     let of_round : AllByRecursion (λ s. sum_by (of_requested fails) (round_rows s) ≡ 0) (rounds_of t cuts) =
     all_placed (λ s. sum_by (of_requested fails) (round_rows s) ≡ 0) (rounds_of t cuts) (λ r s at.
     sum_flat_map (of_requested fails) (rows_in s.round) (builds_of s)
@@ -208,15 +210,6 @@ requested_pass q t cuts counts lawful long each =
       sum_none (λ s. sum_by (of_requested fails) (round_rows s)) (rounds_of t cuts) of_round,
       requested_last fails t cuts counts,
     ))
-  where
-    all_pass_none : (r : ℕ) (b : Built) → AllByRecursion (λ g. q (line_of r b.channel g) ≡ true) b.grants →
-        AllByRecursion (λ g. cond {A = ℕ} (q (line_of r b.channel g)) 0 1 ≡ 0) b.grants
-    all_pass_none r b all = by b.grants all
-      where
-        by : (gs : List PlacedClaim) → AllByRecursion (λ g. q (line_of r b.channel g) ≡ true) gs →
-            AllByRecursion (λ g. cond {A = ℕ} (q (line_of r b.channel g)) 0 1 ≡ 0) gs
-        by [] all = tt
-        by (g ∷ gs) all = (rw all.0 refl, by gs all.1)
 
 -- Lines that are like another one.
 
@@ -241,7 +234,8 @@ like_once t r b place g lawful has at is =
     let same : count_by like b.grants ≡ count_by own b.grants =
     sum_same (λ other. cond (like other) 1 0) (λ other. cond (own other) 1 0) b.grants
     (all_placed (λ other. cond {A = ℕ} (like other) 1 0 ≡ cond (own other) 1 0) b.grants
-    (λ there other found. ap (λ b. cond {A = ℕ} b 1 0) (like_cluster t r b.channel is.turn g other lawful is.known is.claimant
+    (λ there other found. ap (λ passes. cond {A = ℕ} passes 1 0)
+    (like_cluster t r b.channel is.turn g other lawful is.known is.claimant
     (all_found (IsTurnGrant t b.channel) b.grants there other (grants_of_turns t b has) found)))) in
     let mine : own g ≡ true = eq-eqb g.claimant.cluster number (ap (λ (x : Claimant). x.cluster) is.claimant) in
     omega (arith, same, grants_once t b number has, counted_there own b.grants place g at mine)
@@ -251,13 +245,15 @@ like_told : (r id : ℕ) (line : Grant) (row : Row) → line.round ≡ r → lin
     of_requested (λ other. cond (is_like line other) 1 0) row ≡ 0
 like_told r id line (rows.Granted other) round channel out =
     let unlike : is_like line other ≡ false =
-    rw (round, channel) (nothing (other.round == r) (other.channel == id) ((other.id == line.id) && (other.i == line.i)) out) in
+    rw (round, channel)
+    (nothing (other.round == r) (other.channel == id) ((other.id == line.id) && (other.i == line.i)) out) in
     rw unlike (zero_both (is_requested other.entry))
   where
     nothing : (a b c : Bool) → (a && b) ≡ false → (a && (b && c)) ≡ false
     nothing true true c out = absurd (cc out)
     nothing true false c out = refl
     nothing false b c out = refl
+
     zero_both : (b : Bool) → cond {A = ℕ} b 0 0 ≡ 0
     zero_both true = refl
     zero_both false = refl

@@ -86,9 +86,11 @@ null_told es before after len list joined =
     let IsThere : MapElement → Type 0 = λ e. e.iuc ≡ codes.null → e.offset ≡ list.len in
     let all : AllByRecursion IsThere (list.before ++ null_at list.len ∷ list.after) =
     all_append IsThere list.before (null_at list.len ∷ list.after)
-    (all_weaker (λ e. e.iuc ≢ codes.null) IsThere (λ e other is. absurd (other is)) list.before list.others)
-    ((λ is. refl), all_weaker (λ e. (e.iuc ≢ codes.null) × (e.offset ≡ list.len)) IsThere (λ e both is. both.1)
-    list.after list.pending) in
+    (all_weaker (λ e. e.iuc ≢ codes.null) IsThere (λ e other is. absurd (other is)) list.before list.others) (
+      (λ is. refl),
+      all_weaker (λ e. (e.iuc ≢ codes.null) × (e.offset ≡ list.len)) IsThere (λ e both is. both.1)
+          list.after list.pending,
+    ) in
     let same : list.before ++ null_at list.len ∷ list.after ≡ before ++ null_at len ∷ after = sym list.joined ∙ joined in
     let there : len ≡ list.len =
     item_behind IsThere before (null_at len) after (subst (AllByRecursion IsThere) same all) refl in
