@@ -8,3 +8,5 @@ pub mod GrantLemmas
 pub mod ChannelSpanLemmas
 pub mod SpanLaws
 pub mod PlaceLaws
+pub mod HeadingLaws
+pub mod CreditLineLaws
