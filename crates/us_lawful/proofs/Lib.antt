@@ -10,3 +10,8 @@ pub mod SpanLaws
 pub mod PlaceLaws
 pub mod HeadingLaws
 pub mod CreditLineLaws
+pub mod NameLemmas
+pub mod WindowLemmas
+pub mod MarkLemmas
+pub mod TimesLemmas
+pub mod MarkLaws
