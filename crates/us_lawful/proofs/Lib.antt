@@ -15,3 +15,4 @@ pub mod WindowLemmas
 pub mod MarkLemmas
 pub mod TimesLemmas
 pub mod MarkLaws
+pub mod TextLaws
