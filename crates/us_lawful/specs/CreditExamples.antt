@@ -35,7 +35,7 @@ unfolding steps
 more_than_asked = (refl, refl)
 
 -- a flow with a rate of 10 Mbit/s and bursts of 999 bytes
-pub limited : Run
+unfoldable pub limited : Run
 limited = record stored { tables = record base { flows = record base_flow { rate = 10000000; burst = 999 } ∷ [] } }
 
 above_the_bucket : (rates_hold limited told (at 1 0 1) ≡ false) × (rates_hold limited told (at 0 0 1) ≡ true)
