@@ -5,3 +5,14 @@ pub mod PieceLemmas
 pub mod SumLemmas
 pub mod RoundLemmas
 pub mod GrantLemmas
+pub mod ChannelSpanLemmas
+pub mod SpanLaws
+pub mod PlaceLaws
+pub mod HeadingLaws
+pub mod CreditLineLaws
+pub mod NameLemmas
+pub mod WindowLemmas
+pub mod MarkLemmas
+pub mod TimesLemmas
+pub mod MarkLaws
+pub mod TextLaws

@@ -80,7 +80,7 @@ found_inside [] place inside = absurd (omega (arith, inside))
 found_inside (x ∷ xs) zero inside = (x, refl)
 found_inside (x ∷ xs) (suc place) inside = found_inside xs place (omega (arith, inside))
 
-range_at : (from n place : ℕ) (x : ℕ) → slice_get (range_with_len from n) place ≡ Some x → x ≡ from + place
+pub range_at : (from n place : ℕ) (x : ℕ) → slice_get (range_with_len from n) place ≡ Some x → x ≡ from + place
 range_at from zero place x at = absurd (cc at)
 range_at from (suc n) zero x at =
     let same : from ≡ x = cc in

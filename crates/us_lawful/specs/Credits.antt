@@ -1,5 +1,5 @@
 -- P6: what lines of requests credit was asked for, and is what the grant carries.
-use Rattle.std.specs.Prelude.{ℕ, ◌+◌, ◌==◌, nat_le, nat_lt, ◌&&◌, ◌||◌, not, Bool, false, List, filter, sum_by, count_by, take, slice_index, Option, Some, None}
+use Rattle.std.specs.Prelude.{ℕ, ◌+◌, ◌-◌, ◌==◌, nat_le, nat_lt, ◌&&◌, ◌||◌, not, Bool, false, List, filter, sum_by, count_by, take, slice_index, Option, Some, None}
 use Rattle.std.specs.List.{list_all, list_any}
 use Rattle.us_slots.specs.Bursts.{grant_cost}
 use Rattle.us_flows.specs.declared.channels.Channel.{Channel}
@@ -48,18 +48,24 @@ credit_lines_hold run judged p =
 
 -- Sums.
 
--- the bytes that are credited to a cluster up to a round,
-abbrev pub credited_to : List Row → ℕ → Cluster → ℕ
-credited_to lines round cluster =
-    sum_by (λ g. g.credit) (filter (λ g. is_of cluster g && nat_le g.round round) (requested_in lines))
+-- the bytes that are credited to a cluster in a round,
+abbrev pub credited_in : List Row → ℕ → Cluster → ℕ
+credited_in lines round cluster =
+    sum_by (λ g. g.credit) (filter (λ g. is_of cluster g && (g.round == round)) (requested_in lines))
 
--- and those that it asks for up to there
-abbrev pub asked_to : Run → ℕ → ℕ → ℕ
-asked_to run round number = sum_by (λ cut. slice_index cut number) (take (round + 1) run.cuts)
+-- and in the first so many rounds, and those that it asks for in them
+abbrev pub credited_within : List Row → ℕ → Cluster → ℕ
+credited_within lines rounds cluster =
+    sum_by (λ g. g.credit) (filter (λ g. is_of cluster g && nat_lt g.round rounds) (requested_in lines))
 
--- no more is credited than was asked for
+abbrev pub asked_within : Run → ℕ → ℕ → ℕ
+asked_within run rounds number = sum_by (λ cut. slice_index cut number) (take rounds run.cuts)
+
+-- no more is credited in a round than is outstanding: what was asked for up to there and not credited before
 abbrev pub sum_holds : Run → List Row → ℕ → Turn → Bool
-sum_holds run lines round turn = nat_le (credited_to lines round turn.cluster) (asked_to run round turn.number)
+sum_holds run lines round turn =
+    nat_le (credited_in lines round turn.cluster)
+    (asked_within run (round + 1) turn.number - credited_within lines round turn.cluster)
 
 -- so it is of the clusters of the flow with the id `third`, where the channel is 0
 abbrev pub sums_hold : Run → Judged → Place → Bool

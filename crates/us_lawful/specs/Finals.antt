@@ -1,16 +1,16 @@
 -- P6, at the end of a report: one F line for each cluster, with what its other lines leave of it, and one U line.
-use Rattle.std.specs.Prelude.{◌≡◌, ℕ, ◌-◌, ◌==◌, ◌&&◌, Bool, true, List, [], ◌∷◌, filter, Option}
-use Rattle.std.specs.List.{AllByRecursion, list_any}
+use Rattle.std.specs.Prelude.{ℕ, ◌-◌, ◌==◌, ◌&&◌, nat_eq, if◌then◌else◌, Bool, true, List, [], ◌∷◌, length, count_by, Option}
+use Rattle.std.specs.List.{list_all, list_any}
+use Rattle.std.specs.Option.{option_eq}
 use Rattle.us_flows.specs.Tables.{FlowTable}
 use Rattle.us_flows.specs.Clusters.{Turn, table_order}
 use Rattle.us_bucket.specs.Levels.{Level, full, refilled, spent, units_in}
-use Rattle.us_requests.specs.declared.asks.Counts.{Counts}
 use Rattle.us_round.specs.declared.rows.FinalState.{FinalState}
 use Rattle.us_round.specs.declared.rows.Row.{Row}
 use Rattle.us_round.specs.declared.rows.TraceCounts.{TraceCounts}
 use Rattle.us_lawful.specs.Runs.{Run, Judged, Place, finals_in, counts_in, counts_told}
 use Rattle.us_lawful.specs.Rates.{flow_credits}
-use Rattle.us_lawful.specs.Credits.{credited_to, asked_to}
+use Rattle.us_lawful.specs.Credits.{credited_within, asked_within}
 
 -- a bucket after the credits of some rounds: each takes its bytes, and between two rounds it grows
 unfoldable pub level_left : ℕ → List ℕ → Level → Level
@@ -28,26 +28,41 @@ abbrev pub final_of : Run → List Row → Turn → FinalState
 final_of run lines turn = record {
   flow = turn.cluster.flow.id;
   cluster = turn.cluster.list;
-  outstanding = asked_to run run.rounds turn.number - credited_to lines run.rounds turn.cluster;
+  outstanding = asked_within run run.rounds turn.number - credited_within lines run.rounds turn.cluster;
   units = units_left run lines turn.cluster.flow;
 }
+
+abbrev pub is_same_final : FinalState → FinalState → Bool
+is_same_final f other =
+    (f.flow == other.flow) && (f.cluster == other.cluster) && (f.outstanding == other.outstanding)
+    && option_eq nat_eq f.units other.units
 
 abbrev pub is_final_of : Turn → FinalState → Bool
 is_final_of turn f = (f.flow == turn.cluster.flow.id) && (f.cluster == turn.cluster.list)
 
--- F lines with this id are of clusters, and of each cluster of the flow with this id there is one, which is right
-pub record FlowFinals (run : Run) (lines : List Row) (id : ℕ) : Type 0 where
-  pub known : AllByRecursion
-      (λ f. f.flow ≡ id → list_any (λ turn. is_final_of turn f) (table_order run.tables) ≡ true) (finals_in lines)
-  pub each : AllByRecursion
-      (λ turn. turn.cluster.flow.id ≡ id → filter (is_final_of turn) (finals_in lines) ≡ final_of run lines turn ∷ [])
-      (table_order run.tables)
+-- a cluster has one F line, which is right
+abbrev pub final_holds : Run → List Row → Turn → Bool
+final_holds run lines turn =
+    (count_by (is_final_of turn) (finals_in lines) == 1) && list_any (is_same_final (final_of run lines turn)) (finals_in lines)
 
--- so it is of the id `third`, behind the last round, where the channel is 0
-abbrev pub FinalsHold : Run → Judged → Place → Type 0
-FinalsHold run judged p = p.round ≡ run.rounds → p.channel ≡ 0 → FlowFinals run judged.lines p.third
+-- F lines with the id `third` are of clusters, and each cluster of the flow with this id has its own
+abbrev pub flow_finals_hold : Run → List Row → ℕ → Bool
+flow_finals_hold run lines id =
+    list_all (λ f. if f.flow == id then list_any (λ turn. is_final_of turn f) (table_order run.tables) else true) (finals_in lines)
+    && list_all (λ turn. if turn.cluster.flow.id == id then final_holds run lines turn else true) (table_order run.tables)
 
--- there is one, behind the last round, where the channel and `third` are 0
-abbrev pub CountsHold : Run → Judged → Place → Type 0
-CountsHold run judged p =
-    p.round ≡ run.rounds → p.channel ≡ 0 → p.third ≡ 0 → counts_in judged.lines ≡ counts_told run.counts ∷ []
+-- so it is behind the last round, where the channel is 0
+abbrev pub finals_hold : Run → Judged → Place → Bool
+finals_hold run judged p =
+    if (p.round == run.rounds) && (p.channel == 0) then flow_finals_hold run judged.lines p.third else true
+
+abbrev pub is_same_counts : TraceCounts → TraceCounts → Bool
+is_same_counts c other =
+    (c.unknown == other.unknown) && (c.not_requestable == other.not_requestable) && (c.late == other.late)
+
+-- there is one U line, which tells the run's counts, behind the last round, where the channel and `third` are 0
+abbrev pub counts_hold : Run → Judged → Place → Bool
+counts_hold run judged p =
+    if (p.round == run.rounds) && (p.channel == 0) && (p.third == 0)
+    then (length (counts_in judged.lines) == 1) && list_any (is_same_counts (counts_told run.counts)) (counts_in judged.lines)
+    else true

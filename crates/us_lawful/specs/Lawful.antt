@@ -1,4 +1,4 @@
--- What is lawful: MAPs and lines of which each rule holds at each place, and texts that spell them.
+-- What is lawful: MAPs and lines of which each rule holds at each place.
 use Rattle.std.specs.Prelude.{◌≡◌, ◌^◌, ◌<◌, true}
 use Rattle.std.specs.List.{AllByRecursion}
 use Rattle.us_codec.specs.Bodies.{IsMapBody}
@@ -9,7 +9,7 @@ use Rattle.us_lawful.specs.Spans.{spans_hold}
 use Rattle.us_lawful.specs.Marks.{marks_hold}
 use Rattle.us_lawful.specs.Rates.{rates_hold}
 use Rattle.us_lawful.specs.Credits.{credits_hold}
-use Rattle.us_lawful.specs.Finals.{FinalsHold, CountsHold}
+use Rattle.us_lawful.specs.Finals.{finals_hold, counts_hold}
 
 -- a round of four bytes, and a body in the grammar
 pub record IsRoundMap (m : RoundMap) : Type 0 where
@@ -25,5 +25,5 @@ pub record IsLawful (run : Run) (judged : Judged) : Type 0 where
   pub marks : (p : Place) → marks_hold run judged p ≡ true
   pub rates : (p : Place) → rates_hold run judged p ≡ true
   pub credits : (p : Place) → credits_hold run judged p ≡ true
-  pub finals : (p : Place) → FinalsHold run judged p
-  pub counts : (p : Place) → CountsHold run judged p
+  pub finals : (p : Place) → finals_hold run judged p ≡ true
+  pub counts : (p : Place) → counts_hold run judged p ≡ true

@@ -31,7 +31,10 @@ pub mod Texts
 pub mod Laws
 -- lines at small inputs,
 pub mod LineExamples
--- the rules,
+-- the stored run,
 pub mod Examples
--- and those of calendars
+-- and each rule
+pub mod SpanExamples
 pub mod MarkExamples
+pub mod CreditExamples
+pub mod FinalExamples

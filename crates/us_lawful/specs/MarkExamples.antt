@@ -1,5 +1,5 @@
 -- The rule of marks at small inputs: a flow with one unsolicited grant, ideal at 1,900 microseconds.
-use Rattle.std.specs.Prelude.{◌≡◌, ℕ, true, false, List, [], ◌∷◌, ⊤, refl}
+use Rattle.std.specs.Prelude.{◌≡◌, ℕ, true, false, List, [], ◌∷◌, replicate, ⊤, refl}
 use Rattle.us_slots.specs.Bursts.{coded_length, burst_cost}
 use Rattle.us_flows.specs.declared.flows.SchedulingType.TheVariants.{UnsolicitedGrant}
 use Rattle.us_calendar.specs.Entries.{entries}
@@ -27,7 +27,7 @@ run jitter_us rounds = record {
     grants_per_interval = 1;
   } ∷ []);
   rounds = rounds;
-  cuts = [];
+  cuts = replicate rounds [];
   counts = record { unknown = 0; not_requestable = 0; late = 0 };
 }
 
@@ -120,6 +120,45 @@ open_is_missed :
 unfolding steps
 open_is_missed = (refl, refl, refl)
 
+-- A grant starts before the window, and at its first minislot; in one round it may be told though the window is open, once.
+begin_of_window :
+    let first : Grant = record grant { round = 0; start = 152 } in
+    let once : Judged = with (rows.Granted first ∷ []) in
+    let twice : Judged = with (rows.Granted first ∷ rows.Granted first ∷ []) in
+    let early : Judged = with (rows.Granted (record first { start = 151 }) ∷ []) in
+    (marks_hold (run 800 2) once (at 0 1 1) ≡ true) × (marks_hold (run 800 2) early (at 0 1 1) ≡ false)
+    × (marks_hold (run 800 1) once (at 0 1 1) ≡ true) × (marks_hold (run 800 1) twice (at 0 1 1) ≡ false)
+unfolding steps
+begin_of_window = (refl, refl, refl, refl)
+
+-- and at its last one
+end_of_window :
+    marks_hold (run 800 2) (with (rows.Granted (record grant { start = 56 }) ∷ [])) (at 1 1 1) ≡ true
+unfolding steps
+end_of_window = refl
+
+-- by another word, with another SID, IUC or length, of another id, on another channel
+other_grants :
+    let word : Judged = with (rows.Granted (record grant { entry = words.Station }) ∷ []) in
+    let sid : Judged = with (rows.Granted (record grant { sid = 514 }) ∷ []) in
+    let iuc : Judged = with (rows.Granted (record grant { iuc = 10 }) ∷ []) in
+    let slots : Judged = with (rows.Granted (record grant { slots = 2 }) ∷ []) in
+    (marks_hold (run 800 2) word (at 1 1 1) ≡ false) × (marks_hold (run 800 2) sid (at 1 1 1) ≡ false)
+    × (marks_hold (run 800 2) iuc (at 1 1 1) ≡ false) × (marks_hold (run 800 2) slots (at 1 1 1) ≡ false)
+    × (marks_hold (run 800 2) slots (at 0 1 1) ≡ true)
+unfolding steps
+other_grants = (refl, refl, refl, refl, refl)
+
+elsewhere :
+    let id : Judged = with (rows.Granted (record grant { id = 2 }) ∷ []) in
+    let channel : Judged = with (rows.Granted (record grant { channel = 2 }) ∷ []) in
+    let missed_there : Judged = with (rows.Missed (record (missed_in 0) { channel = 2 }) ∷ []) in
+    (marks_hold (run 800 2) id (at 1 1 2) ≡ false) × (marks_hold (run 800 2) id (at 0 1 2) ≡ true)
+    × (marks_hold (run 800 2) channel (at 1 2 1) ≡ false) × (marks_hold (run 800 2) channel (at 1 1 1) ≡ true)
+    × (marks_hold (run 80 2) missed_there (at 0 2 1) ≡ false) × (marks_hold (run 80 2) missed_there (at 0 1 1) ≡ true)
+unfolding steps
+elsewhere = (refl, refl, refl, refl, refl, refl)
+
 -- A call each 2,000 microseconds from the start on, with one grant in an interval: that of interval 1 isn't told as a second one
 -- of interval 0.
 each_round : Run
@@ -134,7 +173,7 @@ each_round = record {
     grants_per_interval = 1;
   } ∷ []);
   rounds = 2;
-  cuts = [];
+  cuts = [] ∷ [] ∷ [];
   counts = record { unknown = 0; not_requestable = 0; late = 0 };
 }
 

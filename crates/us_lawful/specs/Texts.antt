@@ -1,13 +1,11 @@
 -- Two texts that are lawful for a run: a maps file and a report.
-use Rattle.std.specs.Prelude.{◌≡◌, ℕ, ◌^◌, ◌<◌, ⊤, List, [], ◌∷◌, map, IfSome}
+use Rattle.std.specs.Prelude.{◌≡◌, ℕ, ◌^◌, ◌<◌, not, Bool, true, List, [], ◌∷◌, map, IfSome}
 use Rattle.std.specs.List.{AllByRecursion}
 use Rattle.us_codec.specs.Bodies.{spelling}
 use Rattle.us_codec.specs.MapsFiles.{Piece, maps_file}
-use Rattle.us_round.specs.declared.rows.EntryWord.{EntryWord}
-use Rattle.us_round.specs.declared.rows.EntryWord.TheVariants as words
 use Rattle.us_round.specs.declared.rows.Row.{Row}
 use Rattle.us_round.specs.declared.rows.Row.TheVariants as rows
-use Rattle.us_lawful.specs.Runs.{Run, RoundMap, Judged}
+use Rattle.us_lawful.specs.Runs.{Run, RoundMap, Judged, is_requested}
 use Rattle.us_lawful.specs.Files.{lines}
 use Rattle.us_lawful.specs.Lawful.{IsLawful}
 
@@ -27,22 +25,18 @@ HasFields (rows.Final f) = Fit (f.flow ∷ f.cluster ∷ f.outstanding ∷ []) �
 HasFields (rows.Counts c) = Fit (c.unknown ∷ c.not_requestable ∷ c.late ∷ [])
 
 -- and what is missed is of a calendar
-abbrev pub IsOfCalendar : EntryWord → Type 0
-IsOfCalendar words.Requested = ⊥
-IsOfCalendar _ = ⊤
-
-abbrev pub CanBeTold : Row → Type 0
-CanBeTold (rows.Missed m) = IsOfCalendar m.entry
-CanBeTold _ = ⊤
+abbrev pub can_be_told : Row → Bool
+can_be_told (rows.Missed m) = not (is_requested m.entry)
+can_be_told _ = true
 
 -- what a line of a report may tell
 abbrev pub IsRow : Row → Type 0
-IsRow row = HasFields row × CanBeTold row
+IsRow row = HasFields row × (can_be_told row ≡ true)
 
 -- they spell MAPs and lines that are lawful
 pub record AreLawful (run : Run) (maps report : List ℕ) : Type 0 where
   pub judged : Judged
-  pub records : maps ≡ maps_file (map record_of judged.maps)
+  pub maps_spelled : maps ≡ maps_file (map record_of judged.maps)
   pub rows : AllByRecursion IsRow judged.lines
-  pub lines_are : report ≡ lines judged.lines
+  pub report_spelled : report ≡ lines judged.lines
   pub lawful : IsLawful run judged

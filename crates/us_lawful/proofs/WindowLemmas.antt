@@ -1,0 +1,128 @@
+-- When windows close: what becomes of an occurrence in the rounds of a run, told by the run's quarters.
+use Rattle.std.proofs.Common.{◌≡◌, ℕ, suc, ◌+◌, ◌-◌, ◌*◌, ◌/◌, ◌<◌, ◌≤◌, nat_lt, ◌||◌, Bool, true, false, cond, List, [], ◌∷◌, length, sum_by, count_by, refl, sym, ap, subst, ◌∙◌, arith, lt-ltb, ltb-true, ltb-false}
+use Rattle.std.specs.List.{AllByRecursion}
+use Rattle.std.proofs.lemmas.List.FromFn.{length-map-range_with_len}
+use Rattle.std.proofs.lemmas.Nat.{div-mul-add, mul-le}
+use Rattle.us_slots.specs.Times.{minislot_ticks}
+use Rattle.us_flows.specs.declared.channels.Channel.{Channel}
+use Rattle.us_flows.specs.Tables.{Tables, map_len}
+use Rattle.us_flows.specs.Lawful.{IsChannel}
+use Rattle.us_holes.specs.Boards.{Board}
+use Rattle.us_calendar.specs.declared.settled.Settled.{Settled}
+use Rattle.us_calendar.specs.declared.settled.Settled.TheVariants as settled
+use Rattle.us_calendar.specs.Entries.{Entry, rank_of}
+use Rattle.us_calendar.specs.Calendars.{Calendar, pace_of, opening, after}
+use Rattle.us_calendar.specs.Runs.{Round, rounds_on, end_after, window_end, is_name, grants, misses, times, IsSettledOnce}
+use Rattle.us_channel.specs.Reserves.{reserves}
+use Rattle.us_round.specs.ScheduleLaws.{boards_of}
+use Rattle.us_lawful.specs.Marks.{round_quarters}
+use Rattle.us_lawful.proofs.SumLemmas.{sum_same, sum_both}
+
+-- Ends of rounds.
+
+scaled : (r len ticks whole : ℕ) → len * ticks ≡ whole → 25 * (r * len * ticks) ≡ r * (25 * whole)
+scaled r len ticks whole same = rw (← same) (grind arith)
+
+-- a round ends where the quarters of the rounds up to it do
+pub rounds_end : (t : Tables) (c : Channel) (r : ℕ) → IsChannel t c → end_after (pace_of t c) r ≡ r * round_quarters t
+rounds_end t c r is = scaled r (map_len t c) (minislot_ticks c.bursts.time) t.round_ticks is.whole
+
+-- a moment of a round of the run is before its end, and that round is the quotient
+held : (moment quarters r count : ℕ) → r < count → r * quarters ≤ moment → moment < (r + 1) * quarters →
+    (moment < count * quarters) × (moment / quarters ≡ r)
+held moment quarters r count before low high =
+    let next : (r + 1) * quarters ≡ r * quarters + quarters = grind arith in
+    let inside : (r + 1) * quarters ≤ count * quarters =
+    mul-le (r + 1) quarters count quarters (omega (arith, before)) (omega arith) in
+    let rest : ℕ = moment - r * quarters in
+    let parts : moment ≡ r * quarters + rest = omega (arith, low) in
+    let small : rest < quarters = omega (arith, low, high, next) in
+    (omega (arith, high, inside), ap (λ m. m / quarters) parts ∙ div-mul-add r quarters rest small)
+
+-- a window that ends in a round of the run closes in the run, in that round
+pub closing_in_round : (t : Tables) (c : Channel) (e : Entry) (n r count : ℕ) → IsChannel t c → r < count →
+    end_after (pace_of t c) r ≤ window_end e n → window_end e n < end_after (pace_of t c) (r + 1) →
+    (nat_lt (window_end e n) (count * round_quarters t) ≡ true) × (window_end e n / round_quarters t ≡ r)
+closing_in_round t c e n r count is before low high =
+    let both = held (window_end e n) (round_quarters t) r count before
+    (subst (λ end. end ≤ window_end e n) (rounds_end t c r is) low)
+    (subst (λ end. window_end e n < end) (rounds_end t c (r + 1) is) high) in
+    (lt-ltb (window_end e n) (count * round_quarters t) both.0, both.1)
+
+-- What a channel's calendar settles.
+
+-- the rounds that it goes over in a run
+abbrev pub rounds_for : Tables → Channel → ℕ → List Round
+rounds_for t c count = rounds_on (opening t c) (boards_of t c count)
+
+rounds_on_long : (calendar : Calendar) (boards : List Board) → length (rounds_on calendar boards) ≡ length boards
+rounds_on_long calendar [] = refl
+rounds_on_long calendar (board ∷ boards) = ap suc (rounds_on_long (after calendar board) boards)
+
+pub rounds_for_long : (t : Tables) (c : Channel) (count : ℕ) → length (rounds_for t c count) ≡ count
+rounds_for_long t c count =
+    rounds_on_long (opening t c) (boards_of t c count)
+    ∙ length-map-range_with_len (reserves c (map_len t c)) 0 count
+
+-- no item both grants and misses
+one_of : (e : Entry) (n : ℕ) (s : Settled) →
+    cond {A = ℕ} (grants e n s || misses e n s) 1 0 ≡ cond {A = ℕ} (grants e n s) 1 0 + cond {A = ℕ} (misses e n s) 1 0
+one_of e n (settled.Granted kind id i k start slots owner) = by (is_name e n (rank_of kind) id i k)
+  where
+    by : (b : Bool) → cond {A = ℕ} (b || false) 1 0 ≡ cond {A = ℕ} b 1 0 + cond {A = ℕ} false 1 0
+    by true = refl
+    by false = refl
+one_of e n (settled.Missed kind id i k) = by (is_name e n (rank_of kind) id i k)
+  where
+    by : (b : Bool) → cond {A = ℕ} (false || b) 1 0 ≡ cond {A = ℕ} false 1 0 + cond {A = ℕ} b 1 0
+    by true = refl
+    by false = refl
+
+count_parted : (e : Entry) (n : ℕ) (all : List Settled) →
+    count_by (λ s. grants e n s || misses e n s) all ≡ count_by (grants e n) all + count_by (misses e n) all
+count_parted e n all =
+    sum_same (λ s. cond (grants e n s || misses e n s) 1 0) (λ s. cond (grants e n s) 1 0 + cond (misses e n s) 1 0) all
+    (each all) ∙ sum_both (λ s. cond (grants e n s) 1 0) (λ s. cond (misses e n s) 1 0) all
+  where
+    each : (all : List Settled) → AllByRecursion (λ s. cond {A = ℕ} (grants e n s || misses e n s) 1 0
+        ≡ cond {A = ℕ} (grants e n s) 1 0 + cond {A = ℕ} (misses e n s) 1 0) all
+    each [] = tt
+    each (s ∷ all) = (one_of e n s, each all)
+
+-- what is granted or missed, over rounds
+pub times_parted : (e : Entry) (n : ℕ) (rounds : List Round) →
+    sum_by (λ round. count_by (λ s. grants e n s || misses e n s) round.settled) rounds
+    ≡ times (grants e n) rounds + times (misses e n) rounds
+times_parted e n rounds =
+    sum_same (λ (round : Round). count_by (λ s. grants e n s || misses e n s) round.settled)
+    (λ round. count_by (grants e n) round.settled + count_by (misses e n) round.settled) rounds (each rounds)
+    ∙ sum_both (λ (round : Round). count_by (grants e n) round.settled)
+    (λ round. count_by (misses e n) round.settled) rounds
+  where
+    each : (rounds : List Round) → AllByRecursion (λ round. count_by (λ s. grants e n s || misses e n s) round.settled
+        ≡ count_by (grants e n) round.settled + count_by (misses e n) round.settled) rounds
+    each [] = tt
+    each (round ∷ rounds) = (count_parted e n round.settled, each rounds)
+
+-- an occurrence is settled once where its window closes in the run,
+pub closed_once : (t : Tables) (c : Channel) (e : Entry) (n count : ℕ) → IsChannel t c →
+    IsSettledOnce (pace_of t c) (rounds_for t c count) e n →
+    nat_lt (window_end e n) (count * round_quarters t) ≡ true →
+    times (grants e n) (rounds_for t c count) + times (misses e n) (rounds_for t c count) ≡ 1
+closed_once t c e n count is once closes =
+    let end : end_after (pace_of t c) (length (rounds_for t c count)) ≡ count * round_quarters t =
+    ap (end_after (pace_of t c)) (rounds_for_long t c count) ∙ rounds_end t c count is in
+    once.closed (subst (λ moment. window_end e n < moment) (sym end)
+    (ltb-true (window_end e n) (count * round_quarters t) closes))
+
+-- and at most once where it doesn't
+pub open_once : (t : Tables) (c : Channel) (e : Entry) (n count : ℕ) → IsChannel t c →
+    IsSettledOnce (pace_of t c) (rounds_for t c count) e n →
+    nat_lt (window_end e n) (count * round_quarters t) ≡ false →
+    times (grants e n) (rounds_for t c count) + times (misses e n) (rounds_for t c count) ≤ 1
+open_once t c e n count is once opens =
+    let end : end_after (pace_of t c) (length (rounds_for t c count)) ≡ count * round_quarters t =
+    ap (end_after (pace_of t c)) (rounds_for_long t c count) ∙ rounds_end t c count is in
+    let waits = once.waits (subst (λ moment. moment ≤ window_end e n) (sym end)
+    (ltb-false (window_end e n) (count * round_quarters t) opens)) in
+    omega (arith, waits.0, waits.1)

@@ -1,0 +1,76 @@
+-- The rules of F and U lines at small inputs: the stored run, and the same with other lines at the end.
+use Rattle.std.specs.Prelude.{◌≡◌, ℕ, true, false, List, [], ◌∷◌, map, Some, None, ⊤, refl}
+use Rattle.us_flows.specs.Clusters.{table_order}
+use Rattle.us_round.specs.declared.rows.FinalState.{FinalState}
+use Rattle.us_round.specs.declared.rows.Grant.{Grant}
+use Rattle.us_round.specs.declared.rows.Row.{Row}
+use Rattle.us_round.specs.declared.rows.Row.TheVariants as rows
+use Rattle.us_round.specs.declared.rows.TraceCounts.{TraceCounts}
+use Rattle.us_round.specs.RoundExamples.{base}
+use Rattle.us_lawful.specs.Runs.{Judged}
+use Rattle.us_lawful.specs.Finals.{final_of, finals_hold, counts_hold}
+use Rattle.us_lawful.specs.Examples.{at, ends, steps, stored, stored_grant, told, with_lines}
+use Rattle.us_lawful.specs.CreditExamples.{limited}
+
+-- F lines.
+
+-- that of the one cluster, by other lines: with its grant, and without,
+final_lines :
+    (map (final_of stored told.lines) (table_order base)
+    ≡ record { flow = 1; cluster = 0; outstanding = 0; units = None } ∷ [])
+    × (map (final_of stored (ends 1000)) (table_order base)
+    ≡ record { flow = 1; cluster = 0; outstanding = 1000; units = None } ∷ [])
+unfolding steps
+final_lines = (refl, refl)
+
+-- and with the rate: the burst less 999 bytes, for the bucket is full again in round 1
+final_units :
+    let grant : Grant = record stored_grant { credit = 999 } in
+    map (final_of limited (rows.Granted grant ∷ [])) (table_order limited.tables)
+    ≡ record { flow = 1; cluster = 0; outstanding = 1; units = Some 0 } ∷ []
+unfolding steps limited
+final_units = refl
+
+abbrev stored_final : FinalState
+stored_final = record { flow = 1; cluster = 0; outstanding = 0; units = None }
+
+abbrev stored_counts : TraceCounts
+stored_counts = record { unknown = 0; not_requestable = 0; late = 0 }
+
+-- with these F lines
+abbrev with_finals : List Row → Judged
+with_finals finals = with_lines (rows.Granted stored_grant ∷ rows.Counts stored_counts ∷ finals)
+
+lawful_ends : (finals_hold stored told (at 2 0 1) ≡ true) × (counts_hold stored told (at 2 0 0) ≡ true)
+unfolding steps
+lawful_ends = (refl, refl)
+
+-- none, two, and one that tells a byte more
+wrong_finals :
+    let twice : Judged = with_finals (rows.Final stored_final ∷ rows.Final stored_final ∷ []) in
+    let more : Judged = with_finals (rows.Final (record stored_final { outstanding = 1 }) ∷ []) in
+    (finals_hold stored (with_finals []) (at 2 0 1) ≡ false) × (finals_hold stored (with_finals []) (at 2 0 2) ≡ true)
+    × (finals_hold stored twice (at 2 0 1) ≡ false) × (finals_hold stored twice (at 2 0 2) ≡ true)
+    × (finals_hold stored more (at 2 0 1) ≡ false) × (finals_hold stored more (at 1 0 1) ≡ true)
+unfolding steps
+wrong_finals = (refl, refl, refl, refl, refl, refl)
+
+-- an empty bucket for none; one more of a cluster that isn't there, and of a flow that isn't
+other_finals :
+    let empty : Judged = with_finals (rows.Final (record stored_final { units = Some 0 }) ∷ []) in
+    let second : Judged = with_finals (rows.Final stored_final ∷ rows.Final (record stored_final { cluster = 1 }) ∷ []) in
+    let unknown : Judged = with_finals (rows.Final stored_final ∷ rows.Final (record stored_final { flow = 2 }) ∷ []) in
+    (finals_hold stored empty (at 2 0 1) ≡ false) × (finals_hold stored second (at 2 0 1) ≡ false)
+    × (finals_hold stored unknown (at 2 0 2) ≡ false) × (finals_hold stored unknown (at 2 0 1) ≡ true)
+unfolding steps
+other_finals = (refl, refl, refl, refl)
+
+-- U lines: none, two, and one that tells a row more.
+wrong_counts :
+    let none : Judged = with_lines (rows.Granted stored_grant ∷ rows.Final stored_final ∷ []) in
+    let twice : Judged = with_lines (rows.Counts stored_counts ∷ ends 0) in
+    let more : Judged = with_lines (rows.Final stored_final ∷ rows.Counts (record stored_counts { late = 1 }) ∷ []) in
+    (counts_hold stored none (at 2 0 0) ≡ false) × (counts_hold stored twice (at 2 0 0) ≡ false)
+    × (counts_hold stored more (at 2 0 0) ≡ false) × (counts_hold stored more (at 2 0 1) ≡ true)
+unfolding steps
+wrong_counts = (refl, refl, refl, refl)
