@@ -24,3 +24,4 @@ pub mod SumLaws
 pub mod RateLaws
 pub mod LastLineLemmas
 pub mod FinalLaws
+pub mod LawfulLaws
