@@ -16,3 +16,12 @@ pub mod MarkLemmas
 pub mod TimesLemmas
 pub mod MarkLaws
 pub mod TextLaws
+pub mod ItemLemmas
+pub mod WithinLemmas
+pub mod CreditSumLemmas
+pub mod BucketLemmas
+pub mod SumLaws
+pub mod RateLaws
+pub mod LastLineLemmas
+pub mod FinalLaws
+pub mod LawfulLaws

@@ -1,10 +1,34 @@
--- Laws of the rules.
-use Rattle.std.specs.Prelude.{◌≡◌, ℕ, true, List, map}
+-- Laws: every schedule is lawful, and so are its texts; and of the rules, that assignments in order keep them.
+use Rattle.std.specs.Prelude.{◌≡◌, ℕ, true, List, length, map}
+use Rattle.std.specs.List.{AllByRecursion}
 use Rattle.us_flows.specs.declared.channels.Channel.{Channel}
+use Rattle.us_flows.specs.Tables.{Tables, rounds_fit}
+use Rattle.us_flows.specs.Lawful.{AreTables}
+use Rattle.us_requests.specs.declared.asks.Counts.{Counts}
 use Rattle.us_holes.specs.Boards.{Assignment}
 use Rattle.us_holes.specs.Runs.{Run, InOrder, runs_between}
 use Rattle.us_round.specs.Outputs.{run_element}
+use Rattle.us_round.specs.ScheduleLaws.{AreCuts}
+use Rattle.us_lawful.specs.Output.{judged_of, maps_text, output_of, report_text, run_of}
 use Rattle.us_lawful.specs.Spans.{Span, minislot_holds}
+use Rattle.us_lawful.specs.Lawful.{IsLawful}
+use Rattle.us_lawful.specs.Texts.{HasFields, AreLawful}
+
+-- Schedules.
+
+-- All that a schedule gives is lawful: of all accepted tables, of rounds that fit into a run, and of cuts with a number for
+-- each cluster.
+abbrev pub SchedulesAreLawful : Type 0
+SchedulesAreLawful = (t : Tables) (cuts : List (List ℕ)) (counts : Counts) → AreTables t → AreCuts t cuts →
+    rounds_fit t (length cuts) ≡ true → IsLawful (run_of t cuts counts) (judged_of (output_of t cuts counts))
+
+-- So are its texts, where all numbers of its lines have 64 bits.
+abbrev pub TextsOfSchedulesAreLawful : Type 0
+TextsOfSchedulesAreLawful = (t : Tables) (cuts : List (List ℕ)) (counts : Counts) → AreTables t → AreCuts t cuts →
+    rounds_fit t (length cuts) ≡ true → AllByRecursion HasFields (judged_of (output_of t cuts counts)).lines →
+    AreLawful (run_of t cuts counts) (maps_text (output_of t cuts counts)) (report_text (output_of t cuts counts))
+
+-- Rules.
 
 -- an assignment, and the element of a run, as minislots with an owner
 abbrev pub span_for : Assignment → Span

@@ -1,6 +1,17 @@
-//! Laws of the rules, each as the contract of a function that does nothing.
+//! Laws, each as the contract of a function that does nothing.
 
-ghost use Rattle.us_lawful.specs.Laws.{OrderedAssignmentsHold};
+ghost use Rattle.us_lawful.specs.Laws.{OrderedAssignmentsHold, SchedulesAreLawful, TextsOfSchedulesAreLawful};
+
+/// All that a schedule gives is lawful: of all accepted tables, of rounds that fit into a run, and of cuts with a number for
+/// each cluster.
+pub fn schedules_are_lawful()
+    ensures { SchedulesAreLawful }
+{}
+
+/// So are the maps file and the report of a schedule, where all numbers of its lines have 64 bits.
+pub fn texts_of_schedules_are_lawful()
+    ensures { TextsOfSchedulesAreLawful }
+{}
 
 /// Assignments in order, with the gaps between them, are lawful at every minislot.
 pub fn ordered_assignments_hold()

@@ -7,4 +7,6 @@
 // Laws of the rules.
 mod laws;
 
-pub use laws::ordered_assignments_hold;
+pub use laws::{
+    ordered_assignments_hold, schedules_are_lawful, texts_of_schedules_are_lawful,
+};
