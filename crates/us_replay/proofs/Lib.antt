@@ -8,3 +8,4 @@ pub mod RoundLemmas
 pub mod ReplayStopLemmas
 pub mod LoopLemmas
 pub mod ReplayLemmas
+pub mod LawfulLemmas

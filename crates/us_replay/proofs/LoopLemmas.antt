@@ -253,7 +253,7 @@ unfolding schedule
 length-schedule state [] = refl
 length-schedule state (cut ∷ cuts) = omega (arith, length-schedule (round_of state cut).state cuts)
 
-length-cuts : (t : Tables) (v : TraceAsks) → length (cuts_in t v) ≡ v.rounds
+pub length-cuts : (t : Tables) (v : TraceAsks) → length (cuts_in t v) ≡ v.rounds
 unfolding cuts_in
 length-cuts t v = length-map-range_with_len (λ round. cut_of (length (clusters_of t)) (asks_in v round)) 0 v.rounds
 

@@ -16,7 +16,7 @@ use Rattle.us_replay.specs.Replays.{Growth, Ran, RanText, KeptLimits, Stands, Re
 use Rattle.us_replay.specs.Progress.{RanTrace, cuts_in}
 
 -- the asks of each round add up to the cut of the rows
-cuts-same : (t : Tables) (rounds : ℕ) (requests : List Request) (v : TraceAsks) → IsTraceOf t rounds requests v →
+pub cuts-same : (t : Tables) (rounds : ℕ) (requests : List Request) (v : TraceAsks) → IsTraceOf t rounds requests v →
     cuts_in t v ≡ cuts_of t rounds requests
 unfolding cuts_in cuts_of
 cuts-same t rounds requests v is =

@@ -22,8 +22,8 @@ use Rattle.us_replay.specs.declared.faults.RunFault.{RunFault}
 use Rattle.us_replay.specs.Collecting.{AreAsks, chunk_quota}
 use Rattle.us_lawful.specs.Files.{records, round_lines, lines, counts_row}
 use Rattle.us_replay.specs.Endings.{ended, rounds_done, Ending, Refused, StoppedBy, Maps, Report, Memory}
-use Rattle.us_lawful.specs.Output.{Output, all_rows, output_of}
-use Rattle.us_lawful.specs.Texts.{HasFields}
+use Rattle.us_lawful.specs.Output.{Output, all_rows, maps_text, output_of, report_text, run_of}
+use Rattle.us_lawful.specs.Texts.{HasFields, AreLawful}
 use Rattle.us_replay.specs.Replays.{Growth, Took, Ran, KeptLimits, is_granted, is_missed}
 
 -- Traces.
@@ -35,6 +35,10 @@ cuts_in t v = map (λ round. cut_of (length (clusters_of t)) (asks_in v round)) 
 -- and what they come to
 abbrev pub output_in : Tables → TraceAsks → Output
 output_in t v = output_of t (cuts_in t v) v.counts
+
+-- its texts are lawful for it
+abbrev pub IsLawfulOutput : Tables → TraceAsks → Type 0
+IsLawfulOutput t v = AreLawful (run_of t (cuts_in t v) v.counts) (maps_text (output_in t v)) (report_text (output_in t v))
 
 -- the run of a trace that was read
 abbrev pub RanTrace : Tables → TraceAsks → Growth → Growth → Result Summary RunFault → Type 0

@@ -13,7 +13,9 @@ use Rattle.us_round.specs.Outputs.{RoundOut, AreWithinLimits}
 use Rattle.us_round.specs.declared.rows.Row.{Row}
 use Rattle.us_round.specs.declared.rows.Row.TheVariants as rows
 use Rattle.us_lawful.specs.Files.{records, round_lines}
-use Rattle.us_lawful.specs.Output.{Output, output_of, maps_text, report_text, all_rows}
+use Rattle.us_lawful.specs.Runs.{Run}
+use Rattle.us_lawful.specs.Output.{Output, output_of, maps_text, report_text, all_rows, run_of}
+use Rattle.us_lawful.specs.Texts.{AreLawful}
 use Rattle.us_replay.specs.declared.summaries.Summary.{Summary}
 use Rattle.us_replay.specs.declared.faults.RunFault.{RunFault}
 use Rattle.us_replay.specs.Endings.{Refusal, Rounds, Workers, Trace, Memory, Ending, Refused, StoppedBy, ended, rounds_done}
@@ -129,3 +131,20 @@ Stands t rounds told to_maps to_report end =
 -- a replay: what stands by its answer
 abbrev pub Replayed : Tables → ℕ → Option (List ℕ) → Growth → Growth → Result Summary RunFault → Type 0
 Replayed t rounds told to_maps to_report result = Stands t rounds told to_maps to_report (ended result)
+
+-- Lawful output.
+
+-- what a replay of these requests is judged by
+abbrev pub run_for : Tables → ℕ → List Request → Run
+run_for t rounds requests = run_of t (cuts_of t rounds requests) (counts_of t rounds requests)
+
+-- the writers took a maps file and a report that are lawful for the requests that the source tells
+pub record WroteLawful (t : Tables) (rounds : ℕ) (told : Option (List ℕ)) (to_maps to_report : Growth) : Type 0 where
+  pub text : List ℕ
+  pub is_text : IsTextOf told text
+  pub sound : trace_fault text ≡ None
+  pub maps : List ℕ
+  pub report : List ℕ
+  pub took_maps : Took to_maps maps
+  pub took_report : Took to_report report
+  pub lawful : AreLawful (run_for t rounds (requests_of text)) maps report

@@ -12,7 +12,8 @@
 //! What these bytes are stands in `specs/`, in the order of its `Lib.antt`.
 #![tactic(auto)]
 
-// The lines of the report.
+// The lines of the report, and that their numbers have 64 bits.
+mod fields;
 mod lines;
 
 // The bytes of a round: its records and its lines.

@@ -1,9 +1,9 @@
 ghost use Rattle.std.specs.Prelude.{◌≡◌, ◌+◌, ◌*◌, ◌<◌, ◌≤◌, [], ◌∷◌, ◌++◌, length, drop, OnOk};
 ghost use Rattle.std.specs.Fmt.{decimal};
-ghost use Rattle.us_round.specs.declared.rows.Row.TheVariants as rows;
 ghost use Rattle.us_lawful.specs.Lines as spec;
 ghost use Rattle.us_lawful.specs.Texts.{HasFields};
 
+use crate::fields::read_fields;
 use std::alloc::AllocError;
 use us_round::{EntryWord, FinalState, Grant, MissedOccurrence, Row, TraceCounts};
 
@@ -27,6 +27,7 @@ pub(crate) fn push_line(
     ensures line { OnOk result (text.new.items ≡ text.old.items ++ spec.text_of row.now) }
     ensures fields { HasFields row.now }
 {
+    read_fields(row);
     let start = put_line(line, row);
     text.extend_from_slice(&line[start..])
 }
@@ -35,7 +36,6 @@ pub(crate) fn push_line(
 fn put_line(line: &mut [u8; LINE_BYTES], row: &Row) -> usize
     ensures start { result ≤ LINE_BYTES }
     ensures line { drop result line.new ≡ spec.text_of row.now }
-    ensures fields { HasFields row.now }
 {
     put_feed(line);
     match row {
@@ -51,7 +51,6 @@ fn put_grant(line: &mut [u8; LINE_BYTES], grant: &Grant) -> usize
     requires { drop FEED line.old ≡ 10 ∷ [] }
     ensures start { result ≤ LINE_BYTES }
     ensures line { drop result line.new ≡ spec.grant_text grant.now }
-    ensures fields { HasFields (rows.Granted grant.now) }
 {
     let Grant {
         round,
@@ -75,7 +74,6 @@ fn put_missed(line: &mut [u8; LINE_BYTES], missed: &MissedOccurrence) -> usize
     requires { drop FEED line.old ≡ 10 ∷ [] }
     ensures start { result ≤ LINE_BYTES }
     ensures line { drop result line.new ≡ spec.missed_text missed.now }
-    ensures fields { HasFields (rows.Missed missed.now) }
 {
     let MissedOccurrence {
         round,
@@ -93,7 +91,6 @@ fn put_final(line: &mut [u8; LINE_BYTES], state: &FinalState) -> usize
     requires { drop FEED line.old ≡ 10 ∷ [] }
     ensures start { result ≤ LINE_BYTES }
     ensures line { drop result line.new ≡ spec.final_text state.now }
-    ensures fields { HasFields (rows.Final state.now) }
 {
     let FinalState {
         flow,
@@ -110,7 +107,6 @@ fn put_counts(line: &mut [u8; LINE_BYTES], counts: &TraceCounts) -> usize
     requires { drop FEED line.old ≡ 10 ∷ [] }
     ensures start { result ≤ LINE_BYTES }
     ensures line { drop result line.new ≡ spec.counts_text counts.now }
-    ensures fields { HasFields (rows.Counts counts.now) }
 {
     let TraceCounts {
         unknown,

@@ -9,8 +9,8 @@ ghost use Rattle.us_round.specs.Rounds.{opening};
 ghost use Rattle.us_lawful.specs.Output.{judged_of};
 ghost use Rattle.us_lawful.specs.Texts.{HasFields};
 ghost use Rattle.us_replay.specs.Endings.{comes_before, blames_maps, blames_report};
-ghost use Rattle.us_replay.specs.Replays.{Growth, Replayed};
-ghost use Rattle.us_replay.specs.Progress.{Along, CanMake, IsMade, RanTrace, output_in};
+ghost use Rattle.us_replay.specs.Replays.{Growth, Replayed, WroteLawful};
+ghost use Rattle.us_replay.specs.Progress.{Along, CanMake, IsLawfulOutput, IsMade, RanTrace, output_in};
 
 use crate::faults::RunFault;
 use crate::summaries::Summary;
@@ -53,6 +53,9 @@ pub fn replay<H: Threads + Sync, R: Source, W1: Sink, W2: Sink, G: Gate + Sync>(
     ensures replayed { let to_maps : Growth = record { before = W1.contents maps.old; after = W1.contents maps.new } in
         let to_report : Growth = record { before = W2.contents report.old; after = W2.contents report.new } in
         Replayed config.now rounds (R.remaining trace.old) to_maps to_report result }
+    ensures lawful { let to_maps : Growth = record { before = W1.contents maps.old; after = W1.contents maps.new } in
+        let to_report : Growth = record { before = W2.contents report.old; after = W2.contents report.new } in
+        OnOk result (WroteLawful config.now rounds (R.remaining trace.old) to_maps to_report) }
     ensures rounds { (result ≡ Err RunFault.Rounds) ↔ (Tables.rounds_fit config.now rounds ≡ false) }
     ensures workers { (result ≡ Err RunFault.Workers) ↔
         (Tables.rounds_fit config.now rounds ≡ true) × ((workers ≡ 0) ⊎ (64 < workers)) }
@@ -107,7 +110,7 @@ fn run<H: Threads + Sync, W1: Sink, W2: Sink, G: Gate + Sync>(
     ensures ran { let to_maps : Growth = record { before = W1.contents maps.old; after = W1.contents maps.new } in
         let to_report : Growth = record { before = W2.contents report.old; after = W2.contents report.new } in
         RanTrace config.now trace.now to_maps to_report result }
-    ensures fields { OnOk result (AllByRecursion HasFields (judged_of (output_in config.now trace.now)).lines) }
+    ensures lawful { OnOk result (IsLawfulOutput config.now trace.now) }
     ensures maps_failed { W1.failed maps.new ≡ blames_maps result }
     ensures report_failed { W2.failed report.new ≡ blames_report result }
 {

@@ -1,11 +1,14 @@
-use Rattle.std.proofs.Common.{◌<◌, length, ap, sym, subst, ◌∙◌}
+use Rattle.std.proofs.Common.{◌<◌, length, OnOk, ap, sym, subst, ◌∙◌}
 use Rattle.std.specs.List.{AllByRecursion}
 use Rattle.us_flows.specs.Tables.{Tables}
 use Rattle.us_flows.specs.Clusters.{clusters_of}
 use Rattle.us_requests.specs.Traces.{TraceAsks, asks_in}
+use Rattle.us_lawful.specs.Output.{judged_of}
+use Rattle.us_lawful.specs.Texts.{HasFields}
 use Rattle.us_replay.specs.Progress.{Along, cuts_in, opening_progress, output_in}
 use Rattle.us_replay.proofs.ReplayStopLemmas.{stops-between, none-kept, nothing-yet}
 use Rattle.us_replay.proofs.LoopLemmas.{along-opening, some-next}
+use Rattle.us_replay.proofs.LawfulLemmas.{lawful-output}
 use Rattle.us_replay.proofs.replays.run.Goals as goal
 
 pub returns-in_default-clause-ran : goal.returns-in_default-clause-ran
@@ -39,3 +42,9 @@ run_on-requires-clause-along g c = λ κs live.
     (sym (ap (λ s. s.tables) c.in-Ok-opened.ensures))
     (along-opening c.args.config.now c.args.trace.now c.in-Ok-opened.state c.in-Ok.progress c.clusters.ensures.lawful
     c.in-Ok-opened.ensures (c.in-Ok.ensures ∙ ap opening_progress c.clusters.ensures.value))
+
+pub returns-clause-lawful : goal.returns-clause-lawful
+returns-clause-lawful g c =
+    lawful-output c.args.config.now c.args.trace.now c.run_on.result c.clusters.ensures.lawful c.requires.fits
+    (subst (λ t. OnOk c.run_on.result (AllByRecursion HasFields (judged_of (output_in t c.args.trace.now)).lines))
+    (ap (λ s. s.tables) c.in-Ok-opened.ensures) c.run_on.ensures.fields)
