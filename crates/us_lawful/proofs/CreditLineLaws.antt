@@ -33,7 +33,7 @@ use Rattle.us_lawful.specs.Runs.{Run, Place, as_grant, is_requested, grants_in, 
 use Rattle.us_lawful.specs.Files.{counts_row}
 use Rattle.us_lawful.specs.Output.{output_of, judged_of, run_of}
 use Rattle.us_lawful.specs.Places.{is_told_at}
-use Rattle.us_lawful.specs.Credits.{is_of, has_cost, is_like, is_right_for, is_right, is_credit_at, credit_lines_hold}
+use Rattle.us_lawful.specs.Credits.{is_of, has_cost, is_like, is_right_for, is_right_credit, is_credit_at, credit_lines_hold}
 use Rattle.us_lawful.proofs.SameLemmas.{worth, sum_append, sum_filter, sum_filter_map, sum_flat_map, sum_map}
 use Rattle.us_lawful.proofs.SumLemmas.{sum_none, sum_same}
 use Rattle.us_lawful.proofs.RoundLemmas.{IsRoundOf, found_inside, last_rows, round_at, round_rows, rounds_are, rounds_of, rows_in, sum_at, sum_lines, range_at}
@@ -294,7 +294,7 @@ channel_at t end s place b is found =
 line_right : (t : Tables) (cuts : List (List ℕ)) (counts : Counts) (r place : ℕ) (s : State) (b : Built) (there : ℕ)
     (g : PlacedClaim) → AreTables t → AreCuts t cuts → slice_get (rounds_of t cuts) r ≡ Some s →
     slice_get (builds_of s) place ≡ Some b → slice_get b.grants there ≡ Some g →
-    is_right (run_of t cuts counts) (judged_of (output_of t cuts counts)).lines (line_of r b.channel g) ≡ true
+    is_right_credit (run_of t cuts counts) (judged_of (output_of t cuts counts)).lines (line_of r b.channel g) ≡ true
 line_right t cuts counts r place s b there g lawful long at found own =
     let run : Run = run_of t cuts counts in
     let lines : List Row = (judged_of (output_of t cuts counts)).lines in
@@ -326,7 +326,7 @@ pub credit_lines_are_lawful : (t : Tables) (cuts : List (List ℕ)) (counts : Co
     rounds_fit t (length cuts) ≡ true →
     (p : Place) → credit_lines_hold (run_of t cuts counts) (judged_of (output_of t cuts counts)) p ≡ true
 credit_lines_are_lawful t cuts counts lawful long fits p =
-    let right : Grant → Bool = is_right (run_of t cuts counts) (judged_of (output_of t cuts counts)).lines in
+    let right : Grant → Bool = is_right_credit (run_of t cuts counts) (judged_of (output_of t cuts counts)).lines in
     requested_pass (λ g. not (is_credit_at p g) || right g) t cuts counts lawful long
     (λ r s at place b found.
     all_placed (λ g. (not (is_credit_at p (line_of r b.channel g)) || right (line_of r b.channel g)) ≡ true) b.grants

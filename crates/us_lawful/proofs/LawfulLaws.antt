@@ -6,8 +6,8 @@ use Rattle.us_lawful.specs.Credits.{credit_lines_hold, sums_hold}
 use Rattle.us_lawful.specs.Laws.{SchedulesAreLawful, TextsOfSchedulesAreLawful}
 use Rattle.us_lawful.proofs.HeadingLaws.{headings_are_lawful, maps_are_in_grammar}
 use Rattle.us_lawful.proofs.PlaceLaws.{places_are_lawful}
-use Rattle.us_lawful.proofs.SpanLaws.{spans_are_lawful}
-use Rattle.us_lawful.proofs.MarkLaws.{marks_are_lawful}
+use Rattle.us_lawful.proofs.RegionLaws.{regions_are_lawful}
+use Rattle.us_lawful.proofs.CalendarLineLaws.{calendar_lines_are_lawful}
 use Rattle.us_lawful.proofs.RateLaws.{rates_are_lawful}
 use Rattle.us_lawful.proofs.CreditLineLaws.{credit_lines_are_lawful}
 use Rattle.us_lawful.proofs.SumLaws.{sums_are_lawful}
@@ -19,8 +19,8 @@ schedules_are_lawful t cuts counts lawful long fits = record {
   maps = maps_are_in_grammar t cuts counts lawful long fits;
   headings = headings_are_lawful t cuts counts lawful long fits;
   places = places_are_lawful t cuts counts lawful long fits;
-  spans = spans_are_lawful t cuts counts lawful long fits;
-  marks = marks_are_lawful t cuts counts lawful long fits;
+  regions = regions_are_lawful t cuts counts lawful long fits;
+  calendar_lines = calendar_lines_are_lawful t cuts counts lawful long fits;
   rates = rates_are_lawful t cuts counts lawful long fits;
   credits = λ p. and_from
       (credit_lines_hold (run_of t cuts counts) (judged_of (output_of t cuts counts)) p)

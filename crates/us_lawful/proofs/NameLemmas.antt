@@ -12,7 +12,7 @@ use Rattle.us_calendar.specs.Runs.{is_name, grants, misses}
 use Rattle.us_channel.specs.Placements.{PlacedClaim}
 use Rattle.us_round.specs.declared.rows.EntryWord.TheVariants as words
 use Rattle.us_round.specs.Outputs.{entry_word, settled_row, grant_row}
-use Rattle.us_lawful.specs.Marks.{is_word, is_named, names, number_of}
+use Rattle.us_lawful.specs.CalendarLines.{is_word, is_named, names, number_of}
 
 -- Kinds.
 

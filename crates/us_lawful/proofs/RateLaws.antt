@@ -56,7 +56,7 @@ flow_credits_are t cuts counts lawful long place flow at =
     (all_placed (λ s. flow_credit lines flow.id s.round ≡ flow_bytes place s) (rounds_of t cuts)
     (flow_credit_is t cuts counts lawful long place flow at))
 
--- Spans.
+-- Regions.
 
 -- all that end in a round of the run
 flow_rates : (t : Tables) (cuts : List (List ℕ)) (counts : Counts) → AreTables t → AreCuts t cuts →

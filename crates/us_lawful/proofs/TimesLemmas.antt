@@ -24,12 +24,12 @@ use Rattle.us_round.proofs.ChannelRunLaws.{calendars_run, channels_stay}
 use Rattle.us_round.proofs.ScheduleLaws.{schedule_is_of_begun_rounds}
 use Rattle.us_lawful.specs.Files.{counts_row}
 use Rattle.us_lawful.specs.Output.{output_of, judged_of}
-use Rattle.us_lawful.specs.Marks.{names, times}
+use Rattle.us_lawful.specs.CalendarLines.{names, times}
 use Rattle.us_lawful.proofs.SameLemmas.{Same, sum_append, sum_flat_map}
 use Rattle.us_lawful.proofs.SumLemmas.{sum_none}
 use Rattle.us_lawful.proofs.RoundLemmas.{rounds_of, IsRoundOf, rounds_are, rounds_long, found_made, built_at, round_rows, last_rows, sum_lines}
 use Rattle.us_lawful.proofs.WindowLemmas.{rounds_for, rounds_for_long, times_parted}
-use Rattle.us_lawful.proofs.MarkLemmas.{IsListed, IsBuiltAt, AreBuilt, round_counted, sum_beside}
+use Rattle.us_lawful.proofs.CalendarLineLemmas.{IsListed, IsBuiltAt, AreBuilt, round_counted, sum_beside}
 
 -- Rounds.
 

@@ -15,7 +15,7 @@ use Rattle.us_calendar.specs.Calendars.{Calendar, pace_of, opening, after}
 use Rattle.us_calendar.specs.Runs.{Round, rounds_on, end_after, window_end, is_name, grants, misses, times, IsSettledOnce}
 use Rattle.us_channel.specs.Reserves.{reserves}
 use Rattle.us_round.specs.ScheduleLaws.{boards_of}
-use Rattle.us_lawful.specs.Marks.{round_quarters}
+use Rattle.us_lawful.specs.CalendarLines.{round_quarters}
 use Rattle.us_lawful.proofs.SumLemmas.{sum_same, sum_both}
 
 -- Ends of rounds.

@@ -35,8 +35,8 @@ is_right_for run lines g cluster =
     && (has_cost cluster g (channel_with run.tables.channels g.channel) && (count_by (is_like g) (requested_in lines) == 1)))))
 
 -- the clusters that make requests, each with its number
-abbrev pub is_right : Run → List Row → Grant → Bool
-is_right run lines g = list_any (λ turn. is_right_for run lines g turn.cluster) (table_order run.tables)
+abbrev pub is_right_credit : Run → List Row → Grant → Bool
+is_right_credit run lines g = list_any (λ turn. is_right_for run lines g turn.cluster) (table_order run.tables)
 
 -- a line with this round, channel and id
 abbrev pub is_credit_at : Place → Grant → Bool
@@ -44,7 +44,7 @@ is_credit_at p g = (g.round == p.round) && ((g.channel == p.channel) && (g.id ==
 
 abbrev pub credit_lines_hold : Run → Judged → Place → Bool
 credit_lines_hold run judged p =
-    list_all (λ g. not (is_credit_at p g) || is_right run judged.lines g) (requested_in judged.lines)
+    list_all (λ g. not (is_credit_at p g) || is_right_credit run judged.lines g) (requested_in judged.lines)
 
 -- Sums.
 

@@ -15,7 +15,7 @@ use Rattle.us_round.specs.RoundExamples.{base, base_channel, base_flow}
 use Rattle.us_lawful.specs.Runs.{Run, RoundMap, Judged, Place}
 use Rattle.us_lawful.specs.Headings.{heading_of, heading_told, headings_of}
 use Rattle.us_lawful.specs.Places.{places_hold}
-use Rattle.us_lawful.specs.Spans.{pieces_of, spans_hold}
+use Rattle.us_lawful.specs.Regions.{element_regions, regions_hold}
 use Rattle.us_lawful.specs.Credits.{credits_hold}
 use Rattle.us_lawful.specs.Finals.{level_left, finals_hold}
 
@@ -85,7 +85,7 @@ told = with_grants (rows.Granted stored_grant ∷ [])
 
 -- what these computations unfold
 unfoldable pub steps : ⊤
-unfolding coded_length burst_cost refilled spent units_in head_of pieces_of level_left
+unfolding coded_length burst_cost refilled spent units_in head_of element_regions level_left
 steps = tt
 
 -- Headings.
@@ -117,7 +117,7 @@ round_past_the_end :
       lines = rows.Granted (record stored_grant { round = 2 }) ∷ ends 1000;
     } in
     (places_hold stored judged (at 2 1 0) ≡ false) × (places_hold stored judged (at 1 1 0) ≡ true)
-    × (spans_hold stored judged (at 1 1 0) ≡ true) × (credits_hold stored judged (at 2 1 1) ≡ true)
+    × (regions_hold stored judged (at 1 1 0) ≡ true) × (credits_hold stored judged (at 2 1 1) ≡ true)
     × (credits_hold stored judged (at 1 0 1) ≡ true) × (finals_hold stored judged (at 2 0 1) ≡ true)
 unfolding steps
 round_past_the_end = (refl, refl, refl, refl, refl, refl)
@@ -129,7 +129,7 @@ unknown_channel :
       lines = rows.Granted (record stored_grant { channel = 2 }) ∷ ends 0;
     } in
     (places_hold stored judged (at 1 2 0) ≡ false) × (places_hold stored judged (at 1 1 0) ≡ true)
-    × (spans_hold stored judged (at 1 1 0) ≡ true) × (credits_hold stored judged (at 1 2 1) ≡ false)
+    × (regions_hold stored judged (at 1 1 0) ≡ true) × (credits_hold stored judged (at 1 2 1) ≡ false)
     × (credits_hold stored judged (at 1 0 1) ≡ true) × (finals_hold stored judged (at 2 0 1) ≡ true)
 unfolding steps
 unknown_channel = (refl, refl, refl, refl, refl, refl)

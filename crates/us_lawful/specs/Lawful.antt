@@ -5,8 +5,8 @@ use Rattle.us_codec.specs.Bodies.{IsMapBody}
 use Rattle.us_lawful.specs.Runs.{Run, RoundMap, Judged, Place}
 use Rattle.us_lawful.specs.Headings.{HeadingsHold}
 use Rattle.us_lawful.specs.Places.{places_hold}
-use Rattle.us_lawful.specs.Spans.{spans_hold}
-use Rattle.us_lawful.specs.Marks.{marks_hold}
+use Rattle.us_lawful.specs.Regions.{regions_hold}
+use Rattle.us_lawful.specs.CalendarLines.{calendar_lines_hold}
 use Rattle.us_lawful.specs.Rates.{rates_hold}
 use Rattle.us_lawful.specs.Credits.{credits_hold}
 use Rattle.us_lawful.specs.Finals.{finals_hold, counts_hold}
@@ -21,8 +21,8 @@ pub record IsLawful (run : Run) (judged : Judged) : Type 0 where
   pub maps : AllByRecursion IsRoundMap judged.maps
   pub headings : (p : Place) → HeadingsHold run judged p
   pub places : (p : Place) → places_hold run judged p ≡ true
-  pub spans : (p : Place) → spans_hold run judged p ≡ true
-  pub marks : (p : Place) → marks_hold run judged p ≡ true
+  pub regions : (p : Place) → regions_hold run judged p ≡ true
+  pub calendar_lines : (p : Place) → calendar_lines_hold run judged p ≡ true
   pub rates : (p : Place) → rates_hold run judged p ≡ true
   pub credits : (p : Place) → credits_hold run judged p ≡ true
   pub finals : (p : Place) → finals_hold run judged p ≡ true

@@ -10,7 +10,7 @@ use Rattle.us_holes.specs.Runs.{Run, InOrder, runs_between}
 use Rattle.us_round.specs.Outputs.{run_element}
 use Rattle.us_round.specs.ScheduleLaws.{AreCuts}
 use Rattle.us_lawful.specs.Output.{judged_of, maps_text, output_of, report_text, run_of}
-use Rattle.us_lawful.specs.Spans.{Span, minislot_holds}
+use Rattle.us_lawful.specs.Regions.{Region, minislot_holds}
 use Rattle.us_lawful.specs.Lawful.{IsLawful}
 use Rattle.us_lawful.specs.Texts.{HasFields, AreLawful}
 
@@ -31,14 +31,14 @@ TextsOfSchedulesAreLawful = (t : Tables) (cuts : List (List ℕ)) (counts : Coun
 -- Rules.
 
 -- an assignment, and the element of a run, as minislots with an owner
-abbrev pub span_for : Assignment → Span
-span_for a = record { start = a.start; slots = a.slots; sid = a.owner.sid; iuc = a.owner.iuc }
+abbrev pub region_for : Assignment → Region
+region_for a = record { start = a.start; slots = a.slots; sid = a.owner.sid; iuc = a.owner.iuc }
 
-abbrev pub piece_for : Channel → Run → Span
-piece_for c run =
+abbrev pub element_region_for : Channel → Run → Region
+element_region_for c run =
     record { start = run.start; slots = run.len; sid = (run_element c run).sid; iuc = (run_element c run).iuc }
 
 -- Assignments that stand in order are lawful at every minislot of a MAP whose elements are those of their runs.
 abbrev pub OrderedAssignmentsHold : Type 0
 OrderedAssignmentsHold = (c : Channel) (len : ℕ) (ordered : List Assignment) (at : ℕ) → InOrder 0 ordered len →
-    minislot_holds c len (map span_for ordered) (map (piece_for c) (runs_between 0 ordered len)) at ≡ true
+    minislot_holds c len (map region_for ordered) (map (element_region_for c) (runs_between 0 ordered len)) at ≡ true

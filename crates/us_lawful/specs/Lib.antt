@@ -14,9 +14,9 @@ pub mod Headings
 -- the rounds and channels of lines
 pub mod Places
 -- the minislots of MAPs
-pub mod Spans
+pub mod Regions
 -- the occurrences of calendars
-pub mod Marks
+pub mod CalendarLines
 -- the rates of flows
 pub mod Rates
 -- what requests are credited
@@ -34,7 +34,7 @@ pub mod LineExamples
 -- the stored run,
 pub mod Examples
 -- and each rule
-pub mod SpanExamples
-pub mod MarkExamples
+pub mod RegionExamples
+pub mod CalendarLineExamples
 pub mod CreditExamples
 pub mod FinalExamples

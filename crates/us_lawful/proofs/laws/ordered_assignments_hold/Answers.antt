@@ -1,4 +1,4 @@
-use Rattle.us_lawful.proofs.SpanLemmas.{ordered_assignments_hold}
+use Rattle.us_lawful.proofs.RegionLemmas.{ordered_assignments_hold}
 use Rattle.us_lawful.proofs.laws.ordered_assignments_hold.Goals as goal
 
 pub returns : goal.returns

@@ -35,10 +35,10 @@ use Rattle.us_round.proofs.ScheduleLaws.{schedule_is_of_begun_rounds}
 use Rattle.us_lawful.specs.Runs as runs
 use Rattle.us_lawful.specs.Runs.{RoundMap, Judged, Place}
 use Rattle.us_lawful.specs.Output.{output_of, round_maps, judged_of, run_of}
-use Rattle.us_lawful.specs.Spans.{Span, reserve_spans, grant_spans, spans_of, pieces_of, pieces_in, pieces_at, minislot_holds, channel_holds, spans_hold}
+use Rattle.us_lawful.specs.Regions.{Region, reserve_regions, grant_regions, regions_of, element_regions, map_regions, told_regions, minislot_holds, channel_holds, regions_hold}
 use Rattle.us_lawful.proofs.RoundLemmas.{CountsAt, IsRoundOf, built_at, found_inside, round_at, rounds_are, rounds_long, rounds_of, rows_in, sum_at}
 use Rattle.us_lawful.proofs.GrantLemmas.{HasClaims, builds_claimed}
-use Rattle.us_lawful.proofs.ChannelSpanLemmas.{AreLinesOf, IsPlacedRound, minislots_hold, placed_have}
+use Rattle.us_lawful.proofs.ChannelRegionLemmas.{AreLinesOf, IsPlacedRound, minislots_hold, placed_have}
 
 -- Lists.
 
@@ -234,8 +234,8 @@ placed_round t cuts lawful long fits r place c s b known at there =
 channel_spans : (t : Tables) (cuts : List (List ℕ)) (counts : Counts) → AreTables t → AreCuts t cuts →
     rounds_fit t (length cuts) ≡ true → (r place : ℕ) (c : Channel) (at : ℕ) → r < length cuts →
     slice_get t.channels place ≡ Some c →
-    minislot_holds c (map_len t c) (spans_of (run_of t cuts counts) (judged_of (output_of t cuts counts)) r c)
-    (pieces_at (run_of t cuts counts) (judged_of (output_of t cuts counts)) r (Some place)) at ≡ true
+    minislot_holds c (map_len t c) (regions_of (run_of t cuts counts) (judged_of (output_of t cuts counts)) r c)
+    (told_regions (run_of t cuts counts) (judged_of (output_of t cuts counts)) r (Some place)) at ≡ true
 channel_spans t cuts counts lawful long fits r place c at inside known =
     let judged : Judged = judged_of (output_of t cuts counts) in
     let begun = found_inside (rounds_of t cuts) r (subst (λ n. r < n) (sym (rounds_long t cuts)) inside) in
@@ -249,16 +249,16 @@ channel_spans t cuts counts lawful long fits r place c at inside known =
     let lines : AreLinesOf s.round b judged.lines =
     (λ f only. sum_at f t cuts counts lawful long r place s b begun.1 found.1
     (subst (λ n. CountsAt n b.channel.id f) number only) ∙ ap (λ n. sum_by f (rows_in n b)) (sym number)) in
-    let Holds : Channel → ℕ → List Span → Type 0 = λ c n pieces.
-    minislot_holds c (map_len t c) (reserve_spans t n c ++ grant_spans n c.id judged.lines) pieces at ≡ true in
-    let holds : Holds b.channel s.round (pieces_of (built_map t s.round pending b).elements) =
+    let Holds : Channel → ℕ → List Region → Type 0 = λ c n pieces.
+    minislot_holds c (map_len t c) (reserve_regions t n c ++ grant_regions n c.id judged.lines) pieces at ≡ true in
+    let holds : Holds b.channel s.round (element_regions (built_map t s.round pending b).elements) =
     minislots_hold t s.round pending b judged.lines at
     (placed_round t cuts lawful long fits r place c s b known begun.1 found.1) lines in
-    let pieces : pieces_at (run_of t cuts counts) judged r (Some place)
-    ≡ pieces_of (built_map t s.round pending b).elements =
-    ap pieces_in (map_at t cuts counts lawful long r place s b begun.1 found.1) in
-    subst (λ c. Holds c r (pieces_at (run_of t cuts counts) judged r (Some place))) found.2
-    (subst (λ n. Holds b.channel n (pieces_at (run_of t cuts counts) judged r (Some place))) number
+    let pieces : told_regions (run_of t cuts counts) judged r (Some place)
+    ≡ element_regions (built_map t s.round pending b).elements =
+    ap map_regions (map_at t cuts counts lawful long r place s b begun.1 found.1) in
+    subst (λ c. Holds c r (told_regions (run_of t cuts counts) judged r (Some place))) found.2
+    (subst (λ n. Holds b.channel n (told_regions (run_of t cuts counts) judged r (Some place))) number
     (subst (Holds b.channel s.round) (sym pieces) holds))
 
 found_spans : (t : Tables) (cuts : List (List ℕ)) (counts : Counts) → AreTables t → AreCuts t cuts →
@@ -270,15 +270,15 @@ found_spans t cuts counts lawful long fits p inside (Some c) known =
     let run : runs.Run = run_of t cuts counts in
     let judged : Judged = judged_of (output_of t cuts counts) in
     let at = found_place (λ (other : Channel). other.id == p.channel) t.channels c known in
-    ap (λ place. minislot_holds c (map_len t c) (spans_of run judged p.round c) (pieces_at run judged p.round place) p.third)
+    ap (λ place. minislot_holds c (map_len t c) (regions_of run judged p.round c) (told_regions run judged p.round place) p.third)
     at.2
     ∙ channel_spans t cuts counts lawful long fits p.round at.0 c p.third inside at.1
 
 -- At each place the MAPs of a schedule hold what its lines and its reserves say.
-pub spans_are_lawful : (t : Tables) (cuts : List (List ℕ)) (counts : Counts) → AreTables t → AreCuts t cuts →
+pub regions_are_lawful : (t : Tables) (cuts : List (List ℕ)) (counts : Counts) → AreTables t → AreCuts t cuts →
     rounds_fit t (length cuts) ≡ true → (p : Place) →
-    spans_hold (run_of t cuts counts) (judged_of (output_of t cuts counts)) p ≡ true
-spans_are_lawful t cuts counts lawful long fits p =
+    regions_hold (run_of t cuts counts) (judged_of (output_of t cuts counts)) p ≡ true
+regions_are_lawful t cuts counts lawful long fits p =
     let holds : Option Channel → Bool = channel_holds (run_of t cuts counts) (judged_of (output_of t cuts counts)) p in
     let known : Option Channel = channel_with t.channels p.channel in
     elim (cases_lt p.round (length cuts)) [

@@ -23,7 +23,7 @@ use Rattle.us_channel.specs.Placements.{PlacedClaim}
 use Rattle.us_round.specs.Outputs.{settled_row, grant_row}
 use Rattle.us_round.specs.ScheduleLaws.{boards_of}
 use Rattle.us_round.proofs.PartLemmas.{all_found}
-use Rattle.us_lawful.specs.Marks.{names}
+use Rattle.us_lawful.specs.CalendarLines.{names}
 use Rattle.us_lawful.proofs.SameLemmas.{sum_append, sum_flat_map, sum_map}
 use Rattle.us_lawful.proofs.SumLemmas.{sum_none, sum_same}
 use Rattle.us_lawful.proofs.RoundLemmas.{rows_in}

@@ -24,18 +24,18 @@ use Rattle.us_round.specs.ScheduleLaws.{AreCuts}
 use Rattle.us_round.proofs.PartLemmas.{all_append, all_contained, all_flat, all_found, all_mapped}
 use Rattle.us_lawful.specs.Runs.{Run, Judged, Place}
 use Rattle.us_lawful.specs.Output.{output_of, judged_of, run_of}
-use Rattle.us_lawful.specs.Marks.{Listed, listed, round_quarters, closes, closing_in, names, times, is_right, marks_one_of, is_mark_at, line_marks_hold, is_listed_at, closings_hold, marks_hold}
+use Rattle.us_lawful.specs.CalendarLines.{ChannelEntry, channel_entries, round_quarters, closes, closing_in, names, times, is_right_line, tells_one_of, is_calendar_line_at, told_lines_hold, is_entry_at, closings_hold, calendar_lines_hold}
 use Rattle.us_lawful.proofs.TestLemmas.{all_pass, any_before, any_behind, any_first, any_later}
 use Rattle.us_lawful.proofs.SameLemmas.{same_all}
 use Rattle.us_lawful.proofs.RoundLemmas.{rounds_of, IsRoundOf, rounds_are, round_at, rows_in, round_rows, last_rows}
 use Rattle.us_lawful.proofs.NameLemmas.{row_names, number_told}
 use Rattle.us_lawful.proofs.WindowLemmas.{rounds_for, closing_in_round, closed_once, open_once}
-use Rattle.us_lawful.proofs.MarkLemmas.{IsListed, IsBuiltAt, AreBuilt, all_by_places, channel_lawful, some_grants, listed_once, occurrences_built}
+use Rattle.us_lawful.proofs.CalendarLineLemmas.{IsListed, IsBuiltAt, AreBuilt, all_by_places, channel_lawful, some_grants, listed_once, occurrences_built}
 use Rattle.us_lawful.proofs.TimesLemmas.{rounds_built, all_lines, last_all, lines_counted}
 
 -- All that is listed.
 
-abbrev listed_on : Channel → Entry → Listed
+abbrev listed_on : Channel → Entry → ChannelEntry
 listed_on c e = record { channel = c; entry = e }
 
 -- a test of lists passes where it passes at a place,
@@ -57,8 +57,8 @@ any_flat p f (y ∷ xs) zero x at passes =
 any_flat p f (y ∷ xs) (suc place) x at passes = any_behind p (f y) (flat_map f xs) (any_flat p f xs place x at passes)
 
 -- so at an entry of all entries
-listed_any : (t : Tables) (p : Listed → Bool) (place : ℕ) (c : Channel) (e : Entry) → IsListed t place c e →
-    p (listed_on c e) ≡ true → list_any p (listed t) ≡ true
+listed_any : (t : Tables) (p : ChannelEntry → Bool) (place : ℕ) (c : Channel) (e : Entry) → IsListed t place c e →
+    p (listed_on c e) ≡ true → list_any p (channel_entries t) ≡ true
 listed_any t p place c e is passes =
     let at : slice_get (entries t c) is.among.0 ≡ Some e =
     slice_get-get_or (entries t c) is.among.0 e is.among.1 ∙ ap Some is.among.2 in
@@ -67,9 +67,9 @@ listed_any t p place c e is passes =
     (slice_get-map (listed_on c) (entries t c) is.among.0 ∙ ap (option_map (listed_on c)) at) passes)
 
 -- what holds of each entry of each channel holds of all
-listed_all : (t : Tables) (P : Listed → Type 0) →
+listed_all : (t : Tables) (P : ChannelEntry → Type 0) →
     ((place : ℕ) (c : Channel) (e : Entry) → IsListed t place c e → P (listed_on c e)) →
-    AllByRecursion P (listed t)
+    AllByRecursion P (channel_entries t)
 listed_all t P each =
     all_flat P (λ c. map (listed_on c) (entries t c)) t.channels
     (all_by_places (λ c. AllByRecursion P (map (listed_on c) (entries t c))) t.channels
@@ -104,7 +104,7 @@ AreCounted run lines = (place : ℕ) (c : Channel) (e : Entry) (n : ℕ) → IsL
 
 -- a line is none that a place is about, or marks an occurrence
 abbrev pub LineHolds : Run → List Row → Place → Row → Type 0
-LineHolds run lines p row = (not (is_mark_at p row) || list_any (marks_one_of run lines row) (listed run.tables)) ≡ true
+LineHolds run lines p row = (not (is_calendar_line_at p row) || list_any (tells_one_of run lines row) (channel_entries run.tables)) ≡ true
 
 module _ (run : Run) (lines : List Row) (lawful : AreTables run.tables) (counted : AreCounted run lines) where
   -- what closes is named once,
@@ -130,11 +130,11 @@ module _ (run : Run) (lines : List Row) (lawful : AreTables run.tables) (counted
   -- So closings hold everywhere.
   pub all_closings_hold : (judged : Judged) (p : Place) → judged.lines ≡ lines → closings_hold run judged p ≡ true
   all_closings_hold judged p same =
-      let each : (lines : List Row) → Listed → Bool = λ lines l. not (is_listed_at p l)
+      let each : (lines : List Row) → ChannelEntry → Bool = λ lines l. not (is_entry_at p l)
       || list_all (λ n. times l.entry n lines == 1) (closing_in run p.round l.entry) in
-      subst (λ lines. list_all (each lines) (listed run.tables) ≡ true) (sym same)
-      (all_pass (each lines) (listed run.tables) (listed_all run.tables (λ l. each lines l ≡ true)
-      (λ place c e is. or_right (not (is_listed_at p (listed_on c e)))
+      subst (λ lines. list_all (each lines) (channel_entries run.tables) ≡ true) (sym same)
+      (all_pass (each lines) (channel_entries run.tables) (listed_all run.tables (λ l. each lines l ≡ true)
+      (λ place c e is. or_right (not (is_entry_at p (listed_on c e)))
       (list_all (λ n. times e n lines == 1) (closing_in run p.round e))
       (all_pass (λ n. times e n lines == 1) (closing_in run p.round e)
       (closing_all run p.round e (λ n. (times e n lines == 1) ≡ true)
@@ -143,7 +143,7 @@ module _ (run : Run) (lines : List Row) (lawful : AreTables run.tables) (counted
   -- A line is right for the occurrence that it tells as settled.
   told_right : (c : Channel) (e : Entry) (n r : ℕ) (board : Board) (s : Settled) → IsChannel run.tables c → r < run.rounds →
       (grants e n s || misses e n s) ≡ true → IsRight (pace_of run.tables c) r e n board s →
-      is_right run (listed_on c e) n (settled_row r c s) ≡ true
+      is_right_line run (listed_on c e) n (settled_row r c s) ≡ true
   told_right c e n r board (settled.Granted kind id i k start slots owner) is before named right =
       let name : is_name e n (rank_of kind) id i k ≡ true =
       elim (or_cases (is_name e n (rank_of kind) id i k) false named) [ inl own ↦ own | inr never ↦ absurd (cc never) ] in
@@ -168,16 +168,16 @@ module _ (run : Run) (lines : List Row) (lawful : AreTables run.tables) (counted
   told_marks : (place : ℕ) (c : Channel) (e : Entry) (n r : ℕ) (board : Board) (s : Settled) →
       IsListed run.tables place c e → r < run.rounds → (grants e n s || misses e n s) ≡ true →
       IsRight (pace_of run.tables c) r e n board s →
-      list_any (marks_one_of run lines (settled_row r c s)) (listed run.tables) ≡ true
+      list_any (tells_one_of run lines (settled_row r c s)) (channel_entries run.tables) ≡ true
   told_marks place c e n r board s is before named right =
-      let l : Listed = listed_on c e in
+      let l : ChannelEntry = listed_on c e in
       let row : Row = settled_row r c s in
-      listed_any run.tables (marks_one_of run lines row) place c e is
-      (subst (λ m. (names e m row && (is_right run l m row && (closes run e m || nat_le (times e m lines) 1))) ≡ true)
+      listed_any run.tables (tells_one_of run lines row) place c e is
+      (subst (λ m. (names e m row && (is_right_line run l m row && (closes run e m || nat_le (times e m lines) 1))) ≡ true)
       (sym (number_told e n r c s named))
-      (and_from (names e n row) (is_right run l n row && (closes run e n || nat_le (times e n lines) 1))
+      (and_from (names e n row) (is_right_line run l n row && (closes run e n || nat_le (times e n lines) 1))
       (row_names e n r c s (some_grants run.tables place c e lawful is) ∙ named)
-      (and_from (is_right run l n row) (closes run e n || nat_le (times e n lines) 1)
+      (and_from (is_right_line run l n row) (closes run e n || nat_le (times e n lines) 1)
       (told_right c e n r board s (channel_lawful run.tables place c lawful is.at) before named right)
       (named_once place c e n is))))
 
@@ -194,8 +194,8 @@ module _ (run : Run) (lines : List Row) (lawful : AreTables run.tables) (counted
       let e : Entry = of.0.entry in
       let n : ℕ = of.0.number in
       (
-        or_right (not (is_mark_at p (settled_row r c s)))
-            (list_any (marks_one_of run lines (settled_row r c s)) (listed run.tables))
+        or_right (not (is_calendar_line_at p (settled_row r c s)))
+            (list_any (tells_one_of run lines (settled_row r c s)) (channel_entries run.tables))
             (told_marks place c e n r (board_at_turn e n round) s (record { at = at; among = of.0.among }) before of.0.named
             (right e n of.0.among).0),
         settled_hold p r place c round all at before of.1 (λ e n among. (right e n among).1),
@@ -245,13 +245,13 @@ rounds_hold t cuts counts p r s lawful long at =
     (all place b there))))
 
 -- Every line of a calendar marks an occurrence of an entry, and every occurrence that closes is marked by one line.
-pub marks_are_lawful : (t : Tables) (cuts : List (List ℕ)) (counts : Counts) → AreTables t → AreCuts t cuts →
+pub calendar_lines_are_lawful : (t : Tables) (cuts : List (List ℕ)) (counts : Counts) → AreTables t → AreCuts t cuts →
     rounds_fit t (length cuts) ≡ true → (p : Place) →
-    marks_hold (run_of t cuts counts) (judged_of (output_of t cuts counts)) p ≡ true
-marks_are_lawful t cuts counts lawful long fit p =
+    calendar_lines_hold (run_of t cuts counts) (judged_of (output_of t cuts counts)) p ≡ true
+calendar_lines_are_lawful t cuts counts lawful long fit p =
     let run : Run = run_of t cuts counts in
     let judged : Judged = judged_of (output_of t cuts counts) in
-    let holds : Row → Bool = λ row. not (is_mark_at p row) || list_any (marks_one_of run judged.lines row) (listed t) in
+    let holds : Row → Bool = λ row. not (is_calendar_line_at p row) || list_any (tells_one_of run judged.lines row) (channel_entries t) in
     let parts : List Row = flat_map round_rows (rounds_of t cuts) ++ last_rows t cuts counts in
     let each : AllByRecursion (LineHolds run judged.lines p) parts =
     all_append (LineHolds run judged.lines p) (flat_map round_rows (rounds_of t cuts)) (last_rows t cuts counts)
@@ -259,8 +259,8 @@ marks_are_lawful t cuts counts lawful long fit p =
     (all_by_places (λ s. AllByRecursion (LineHolds run judged.lines p) (round_rows s)) (rounds_of t cuts)
     (λ r s at. rounds_hold t cuts counts p r s lawful long at)))
     (last_all (LineHolds run judged.lines p) t cuts counts (λ state. refl) refl) in
-    let lines : line_marks_hold run judged p ≡ true =
+    let lines : told_lines_hold run judged p ≡ true =
     same_all holds judged.lines parts (all_lines t cuts counts lawful long) ∙ all_pass holds parts each in
-    and_from (line_marks_hold run judged p) (closings_hold run judged p) lines
+    and_from (told_lines_hold run judged p) (closings_hold run judged p) lines
     (all_closings_hold run judged.lines lawful
     (λ place c e n listed. lines_counted t cuts counts place c e n lawful long listed) judged p refl)

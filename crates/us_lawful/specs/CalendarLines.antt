@@ -18,13 +18,13 @@ use Rattle.us_lawful.specs.Runs.{Run, Judged, Place, is_requested}
 -- What there is.
 
 -- an entry of a calendar, and the channel that it is on
-pub record Listed : Type 0 where
+pub record ChannelEntry : Type 0 where
   pub channel : Channel
   pub entry : Entry
 
 -- all of them
-abbrev pub listed : Tables → List Listed
-listed t = flat_map (λ c. map (λ e. record { channel = c; entry = e }) (entries t c)) t.channels
+abbrev pub channel_entries : Tables → List ChannelEntry
+channel_entries t = flat_map (λ c. map (λ e. record { channel = c; entry = e }) (entries t c)) t.channels
 
 -- the quarter microseconds of a round
 abbrev pub round_quarters : Tables → ℕ
@@ -80,43 +80,43 @@ times e n lines = count_by (names e n) lines
 
 -- a line is right for an occurrence: it tells the entry's channel; a grant starts in its window, has the SID, the IUC and the
 -- minislots of the entry, and credits nothing; a missed one closes in the run, in the round that is told
-abbrev pub is_right : Run → Listed → ℕ → Row → Bool
-is_right run l n (rows.Granted g) =
+abbrev pub is_right_line : Run → ChannelEntry → ℕ → Row → Bool
+is_right_line run l n (rows.Granted g) =
     (g.channel == l.channel.id)
     && (starts_within l.channel.bursts.time l.entry n (g.round * map_len run.tables l.channel + g.start)
     && ((g.sid == l.entry.owner.sid) && ((g.iuc == l.entry.owner.iuc) && ((g.slots == l.entry.slots) && (g.credit == 0)))))
-is_right run l n (rows.Missed m) =
+is_right_line run l n (rows.Missed m) =
     (m.channel == l.channel.id) && (closes run l.entry n && (m.round == closing_round run.tables l.entry n))
-is_right run l n _ = false
+is_right_line run l n _ = false
 
 -- it names an occurrence of this entry and is right for it, and no other line names that while it is open
-abbrev pub marks_one_of : Run → List Row → Row → Listed → Bool
-marks_one_of run lines row l =
+abbrev pub tells_one_of : Run → List Row → Row → ChannelEntry → Bool
+tells_one_of run lines row l =
     let n : ℕ = number_of l.entry row in
-    names l.entry n row && (is_right run l n row && (closes run l.entry n || nat_le (times l.entry n lines) 1))
+    names l.entry n row && (is_right_line run l n row && (closes run l.entry n || nat_le (times l.entry n lines) 1))
 
 -- a calendar's line with this round, channel and id
-abbrev pub is_mark_at : Place → Row → Bool
-is_mark_at p (rows.Granted g) =
+abbrev pub is_calendar_line_at : Place → Row → Bool
+is_calendar_line_at p (rows.Granted g) =
     not (is_requested g.entry) && ((g.round == p.round) && ((g.channel == p.channel) && (g.id == p.third)))
-is_mark_at p (rows.Missed m) = (m.round == p.round) && ((m.channel == p.channel) && (m.id == p.third))
-is_mark_at p _ = false
+is_calendar_line_at p (rows.Missed m) = (m.round == p.round) && ((m.channel == p.channel) && (m.id == p.third))
+is_calendar_line_at p _ = false
 
 -- every line there marks an occurrence
-abbrev pub line_marks_hold : Run → Judged → Place → Bool
-line_marks_hold run judged p =
-    list_all (λ row. not (is_mark_at p row) || list_any (marks_one_of run judged.lines row) (listed run.tables)) judged.lines
+abbrev pub told_lines_hold : Run → Judged → Place → Bool
+told_lines_hold run judged p =
+    list_all (λ row. not (is_calendar_line_at p row) || list_any (tells_one_of run judged.lines row) (channel_entries run.tables)) judged.lines
 
 -- an entry of this channel with this id
-abbrev pub is_listed_at : Place → Listed → Bool
-is_listed_at p l = (l.channel.id == p.channel) && (l.entry.id == p.third)
+abbrev pub is_entry_at : Place → ChannelEntry → Bool
+is_entry_at p l = (l.channel.id == p.channel) && (l.entry.id == p.third)
 
 -- every occurrence that closes there is named by exactly one line
 abbrev pub closings_hold : Run → Judged → Place → Bool
 closings_hold run judged p =
-    list_all (λ l. not (is_listed_at p l)
-    || list_all (λ n. times l.entry n judged.lines == 1) (closing_in run p.round l.entry)) (listed run.tables)
+    list_all (λ l. not (is_entry_at p l)
+    || list_all (λ n. times l.entry n judged.lines == 1) (closing_in run p.round l.entry)) (channel_entries run.tables)
 
 -- so it is at the entries of this id, on this channel in this round
-abbrev pub marks_hold : Run → Judged → Place → Bool
-marks_hold run judged p = line_marks_hold run judged p && closings_hold run judged p
+abbrev pub calendar_lines_hold : Run → Judged → Place → Bool
+calendar_lines_hold run judged p = told_lines_hold run judged p && closings_hold run judged p

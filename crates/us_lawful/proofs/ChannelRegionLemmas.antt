@@ -32,16 +32,16 @@ use Rattle.us_round.specs.Leftovers.{IsBuiltFor}
 use Rattle.us_round.proofs.PartLemmas.{all_append, all_weaker}
 use Rattle.us_round.proofs.OwnerLemmas.{HaveOwners, IsOwnedPart}
 use Rattle.us_lawful.specs.Runs.{as_grant, grants_in}
-use Rattle.us_lawful.specs.Spans.{Span, reserve_span, reserve_spans, span_of, grant_spans, pieces_of, minislot_holds}
-use Rattle.us_lawful.specs.Laws.{span_for, piece_for}
+use Rattle.us_lawful.specs.Regions.{Region, reserve_region, reserve_regions, region_of, grant_regions, element_regions, minislot_holds}
+use Rattle.us_lawful.specs.Laws.{region_for, element_region_for}
 use Rattle.us_lawful.proofs.SameLemmas.{Same, same_map, same_moved, sum_append, sum_filter, sum_filter_map, sum_map, worth}
-use Rattle.us_lawful.proofs.SpanLemmas.{moved_holds, ordered_assignments_hold}
-use Rattle.us_lawful.proofs.PieceLemmas.{pieces_of_runs}
+use Rattle.us_lawful.proofs.RegionLemmas.{moved_holds, ordered_assignments_hold}
+use Rattle.us_lawful.proofs.ElementRegionLemmas.{element_regions_of_runs}
 use Rattle.us_lawful.proofs.RoundLemmas.{CountsAt, rows_in}
 
 -- Reserves.
 
-reserve_same : (start slots iuc : ℕ) → reserve_span start slots iuc ≡ map span_for (reserve start slots iuc)
+reserve_same : (start slots iuc : ℕ) → reserve_region start slots iuc ≡ map region_for (reserve start slots iuc)
 reserve_same start slots iuc = elim (cases_Bool (slots == 0)) [
   | inl none ↦ rw none refl
   | inr some ↦ rw some refl
@@ -53,56 +53,56 @@ maintained round c =
     if round % c.maintenance_every == 0 then reserve 0 c.maintenance_minislots codes.initial_maintenance else []
 
 maintained_same : (round : ℕ) (c : Channel) →
-    (if round % c.maintenance_every == 0 then reserve_span 0 c.maintenance_minislots codes.initial_maintenance else [])
-    ≡ map span_for (maintained round c)
+    (if round % c.maintenance_every == 0 then reserve_region 0 c.maintenance_minislots codes.initial_maintenance else [])
+    ≡ map region_for (maintained round c)
 maintained_same round c = elim (cases_Bool (round % c.maintenance_every == 0)) [
   | inl meets ↦ rw meets (reserve_same 0 c.maintenance_minislots codes.initial_maintenance)
   | inr other ↦ rw other refl
 ]
 
 reserves_same : (t : Tables) (round : ℕ) (c : Channel) →
-    reserve_spans t round c ≡ map span_for (reserve_assignments c (map_len t c) round)
+    reserve_regions t round c ≡ map region_for (reserve_assignments c (map_len t c) round)
 reserves_same t round c =
     let start : ℕ = map_len t c - c.contention_minislots in
     ap₂ (λ xs ys. xs ++ ys) (maintained_same round c) (reserve_same start c.contention_minislots codes.request)
-    ∙ sym (map-append span_for (maintained round c) (reserve start c.contention_minislots codes.request))
+    ∙ sym (map-append region_for (maintained round c) (reserve start c.contention_minislots codes.request))
 
 -- Lines.
 
 -- what the minislots of a grant of this round and channel are worth; other lines are worth nothing
-abbrev span_worth : (Span → ℕ) → ℕ → ℕ → Row → ℕ
+abbrev span_worth : (Region → ℕ) → ℕ → ℕ → Row → ℕ
 span_worth f round id row =
-    worth (λ (g : Grant). cond ((g.round == round) && (g.channel == id)) (f (span_of g)) 0) (as_grant row)
+    worth (λ (g : Grant). cond ((g.round == round) && (g.channel == id)) (f (region_of g)) 0) (as_grant row)
 
-worth_counts : (f : Span → ℕ) (round id : ℕ) → CountsAt round id (span_worth f round id)
+worth_counts : (f : Region → ℕ) (round id : ℕ) → CountsAt round id (span_worth f round id)
 worth_counts f round id (rows.Granted g) none = rw none refl
 worth_counts f round id (rows.Missed m) none = refl
 worth_counts f round id (rows.Final state) none = refl
 worth_counts f round id (rows.Counts counts) none = refl
 
-sum_of_spans : (f : Span → ℕ) (round id : ℕ) (lines : List Row) →
-    sum_by f (grant_spans round id lines) ≡ sum_by (span_worth f round id) lines
+sum_of_spans : (f : Region → ℕ) (round id : ℕ) (lines : List Row) →
+    sum_by f (grant_regions round id lines) ≡ sum_by (span_worth f round id) lines
 sum_of_spans f round id lines =
     let here : Grant → Bool = λ g. (g.round == round) && (g.channel == id) in
-    sum_map f span_of (filter here (grants_in lines))
-    ∙ sum_filter (λ g. f (span_of g)) here (grants_in lines)
-    ∙ sum_filter_map (λ g. cond (here g) (f (span_of g)) 0) as_grant lines
+    sum_map f region_of (filter here (grants_in lines))
+    ∙ sum_filter (λ g. f (region_of g)) here (grants_in lines)
+    ∙ sum_filter_map (λ g. cond (here g) (f (region_of g)) 0) as_grant lines
 
 -- the lines of what a calendar settled,
-settled_lines : (f : Span → ℕ) (round : ℕ) (c : Channel) (all : List Settled) →
+settled_lines : (f : Region → ℕ) (round : ℕ) (c : Channel) (all : List Settled) →
     sum_by (span_worth f round c.id) (map (settled_row round c) all)
-    ≡ sum_by (λ a. f (span_for a)) (flat_map assignments_of all)
+    ≡ sum_by (λ a. f (region_for a)) (flat_map assignments_of all)
 settled_lines f round c [] = refl
 settled_lines f round c (settled.Granted kind e i k start slots owner ∷ all) =
     let one : Settled = settled.Granted kind e i k start slots owner in
     let a : Assignment = record { start = start; slots = slots; owner = owner } in
-    let here : span_worth f round c.id (settled_row round c one) ≡ f (span_for a) =
+    let here : span_worth f round c.id (settled_row round c one) ≡ f (region_for a) =
     rw (eq-eqb round round refl, eq-eqb c.id c.id refl) refl in
     omega (
       arith,
       here,
       sum_by-cons (span_worth f round c.id) (settled_row round c one) (map (settled_row round c) all),
-      sum_by-cons (λ a. f (span_for a)) a (flat_map assignments_of all),
+      sum_by-cons (λ a. f (region_for a)) a (flat_map assignments_of all),
       settled_lines f round c all,
     )
 settled_lines f round c (settled.Missed kind e i k ∷ all) =
@@ -114,17 +114,17 @@ settled_lines f round c (settled.Missed kind e i k ∷ all) =
     )
 
 -- and of grants
-grant_lines : (f : Span → ℕ) (round : ℕ) (c : Channel) (all : List PlacedClaim) →
-    sum_by (span_worth f round c.id) (map (grant_row round c) all) ≡ sum_by (λ a. f (span_for a)) (assignments all)
+grant_lines : (f : Region → ℕ) (round : ℕ) (c : Channel) (all : List PlacedClaim) →
+    sum_by (span_worth f round c.id) (map (grant_row round c) all) ≡ sum_by (λ a. f (region_for a)) (assignments all)
 grant_lines f round c [] = refl
 grant_lines f round c (g ∷ all) =
-    let here : span_worth f round c.id (grant_row round c g) ≡ f (span_for g.assignment) =
+    let here : span_worth f round c.id (grant_row round c g) ≡ f (region_for g.assignment) =
     rw (eq-eqb round round refl, eq-eqb c.id c.id refl) refl in
     omega (
       arith,
       here,
       sum_by-cons (span_worth f round c.id) (grant_row round c g) (map (grant_row round c) all),
-      sum_by-cons (λ a. f (span_for a)) g.assignment (assignments all),
+      sum_by-cons (λ a. f (region_for a)) g.assignment (assignments all),
       grant_lines f round c all,
     )
 
@@ -135,16 +135,16 @@ AreLinesOf round b lines =
 
 -- the reserves and the grants of the lines are what is placed
 spans_same : (t : Tables) (round : ℕ) (b : Built) (lines : List Row) → AreLinesOf round b lines →
-    Same (reserve_spans t round b.channel ++ grant_spans round b.channel.id lines) (map span_for (placed_on t round b))
+    Same (reserve_regions t round b.channel ++ grant_regions round b.channel.id lines) (map region_for (placed_on t round b))
 spans_same t round b lines told f =
     let c : Channel = b.channel in
     let reserved : List Assignment = reserve_assignments c (map_len t c) round in
     let granted : List Assignment = flat_map assignments_of b.settled in
-    let h : Assignment → ℕ = λ a. f (span_for a) in
+    let h : Assignment → ℕ = λ a. f (region_for a) in
     let line : Row → ℕ = span_worth f round c.id in
-    let left : sum_by f (reserve_spans t round c) ≡ sum_by h reserved =
-    ap (sum_by f) (reserves_same t round c) ∙ sum_map f span_for reserved in
-    let right : sum_by f (grant_spans round c.id lines) ≡ sum_by h granted + sum_by h (assignments b.grants) =
+    let left : sum_by f (reserve_regions t round c) ≡ sum_by h reserved =
+    ap (sum_by f) (reserves_same t round c) ∙ sum_map f region_for reserved in
+    let right : sum_by f (grant_regions round c.id lines) ≡ sum_by h granted + sum_by h (assignments b.grants) =
     omega (
       arith,
       sum_of_spans f round c.id lines,
@@ -155,10 +155,10 @@ spans_same t round b lines told f =
     ) in
     omega (
       arith,
-      sum_append f (reserve_spans t round c) (grant_spans round c.id lines),
+      sum_append f (reserve_regions t round c) (grant_regions round c.id lines),
       left,
       right,
-      sum_map f span_for (placed_on t round b),
+      sum_map f region_for (placed_on t round b),
       sum_append h (reserved ++ granted) (assignments b.grants),
       sum_append h reserved granted,
     )
@@ -205,7 +205,7 @@ runs_other c (run ∷ runs) none =
 -- the elements of a channel's MAP are the pieces of the runs of its board
 map_pieces : (t : Tables) (round : ℕ) (pending : List (ℕ × ℕ)) (b : Built) → IsBuiltFor t b →
     IsMapBody (built_map t round pending b) →
-    pieces_of (built_map t round pending b).elements ≡ map (piece_for b.channel) (runs_of b.board.cells)
+    element_regions (built_map t round pending b).elements ≡ map (element_region_for b.channel) (runs_of b.board.cells)
 unfolding map_of elements_of
 map_pieces t round pending b built lawful =
     let c : Channel = b.channel in
@@ -222,7 +222,7 @@ map_pieces t round pending b built lawful =
       sum_append null_one elements (null_at len ∷ after),
       sum_by-cons null_one (null_at len) after,
     ) in
-    pieces_of_runs c 0 len runs after (runs_follow 0 len b.board.cells (omega (arith, built.len)))
+    element_regions_of_runs c 0 len runs after (runs_follow 0 len b.board.cells (omega (arith, built.len)))
     (runs_other c runs none)
 
 -- What is placed has minislots.
@@ -278,21 +278,21 @@ pub record IsPlacedRound (t : Tables) (round : ℕ) (pending : List (ℕ × ℕ)
 pub minislots_hold : (t : Tables) (round : ℕ) (pending : List (ℕ × ℕ)) (b : Built) (lines : List Row) (at : ℕ) →
     IsPlacedRound t round pending b → AreLinesOf round b lines →
     minislot_holds b.channel (map_len t b.channel)
-    (reserve_spans t round b.channel ++ grant_spans round b.channel.id lines)
-    (pieces_of (built_map t round pending b).elements) at ≡ true
+    (reserve_regions t round b.channel ++ grant_regions round b.channel.id lines)
+    (element_regions (built_map t round pending b).elements) at ≡ true
 minislots_hold t round pending b lines at is told =
     let c : Channel = b.channel in
     let len : ℕ = map_len t c in
     let placed : List Assignment = placed_on t round b in
-    let spans : List Span = reserve_spans t round c ++ grant_spans round c.id lines in
+    let regions : List Region = reserve_regions t round c ++ grant_regions round c.id lines in
     let stand = assignments_stand_in_order len placed is.made.fit
     (all_weaker (λ i. 1 ≤ i.slots) (λ i. 0 < i.slots) (λ i some. omega (arith, some)) placed is.some) in
     let ordered : List Assignment = stand.0 in
-    let pieces : pieces_of (built_map t round pending b).elements ≡ map (piece_for c) (runs_between 0 ordered len) =
+    let pieces : element_regions (built_map t round pending b).elements ≡ map (element_region_for c) (runs_between 0 ordered len) =
     map_pieces t round pending b is.built is.body
-    ∙ ap (λ (board : Board). map (piece_for c) (runs_of board.cells)) is.made.all ∙ ap (map (piece_for c)) stand.1.runs in
-    let same : Same spans (map span_for ordered) =
-    (λ f. spans_same t round b lines told f ∙ same_map span_for placed ordered (same_moved placed ordered stand.1.same) f) in
-    ap (λ pieces. minislot_holds c len spans pieces at) pieces
-    ∙ moved_holds c len spans (map span_for ordered) (map (piece_for c) (runs_between 0 ordered len)) at same
+    ∙ ap (λ (board : Board). map (element_region_for c) (runs_of board.cells)) is.made.all ∙ ap (map (element_region_for c)) stand.1.runs in
+    let same : Same regions (map region_for ordered) =
+    (λ f. spans_same t round b lines told f ∙ same_map region_for placed ordered (same_moved placed ordered stand.1.same) f) in
+    ap (λ pieces. minislot_holds c len regions pieces at) pieces
+    ∙ moved_holds c len regions (map region_for ordered) (map (element_region_for c) (runs_between 0 ordered len)) at same
     ∙ ordered_assignments_hold c len ordered at stand.1.order
