@@ -63,59 +63,68 @@ steps = tt
 
 in_window :
     let judged : Judged = with (rows.Granted grant ∷ []) in
-    (calendar_lines_hold (run 800 2) judged (at 0 1 1) ≡ true) × (calendar_lines_hold (run 800 2) judged (at 1 1 1) ≡ true)
+    (calendar_lines_hold (run 800 2) judged (at 0 1 1) ≡ true)
+    × (calendar_lines_hold (run 800 2) judged (at 1 1 1) ≡ true)
 unfolding steps
 in_window = (refl, refl)
 
 -- minislot 57 starts after it,
 late_grant :
     let judged : Judged = with (rows.Granted (record grant { start = 57 }) ∷ []) in
-    (calendar_lines_hold (run 800 2) judged (at 1 1 1) ≡ false) × (calendar_lines_hold (run 800 2) judged (at 0 1 1) ≡ true)
+    (calendar_lines_hold (run 800 2) judged (at 1 1 1) ≡ false)
+    × (calendar_lines_hold (run 800 2) judged (at 0 1 1) ≡ true)
 unfolding steps
 late_grant = (refl, refl)
 
 -- and round 0 has nothing of it
 early_grant :
     let judged : Judged = with (rows.Granted (record grant { round = 0 }) ∷ []) in
-    (calendar_lines_hold (run 800 2) judged (at 0 1 1) ≡ false) × (calendar_lines_hold (run 800 2) judged (at 0 1 2) ≡ true)
+    (calendar_lines_hold (run 800 2) judged (at 0 1 1) ≡ false)
+    × (calendar_lines_hold (run 800 2) judged (at 0 1 2) ≡ true)
 unfolding steps
 early_grant = (refl, refl)
 
 -- without its line, with the line twice, and with a credit
 missing_line :
-    (calendar_lines_hold (run 800 2) (with []) (at 1 1 1) ≡ false) × (calendar_lines_hold (run 800 2) (with []) (at 0 1 1) ≡ true)
+    (calendar_lines_hold (run 800 2) (with []) (at 1 1 1) ≡ false)
+    × (calendar_lines_hold (run 800 2) (with []) (at 0 1 1) ≡ true)
 unfolding steps
 missing_line = (refl, refl)
 
 line_told_twice :
     let judged : Judged = with (rows.Granted grant ∷ rows.Granted grant ∷ []) in
-    (calendar_lines_hold (run 800 2) judged (at 1 1 1) ≡ false) × (calendar_lines_hold (run 800 2) judged (at 1 1 2) ≡ true)
+    (calendar_lines_hold (run 800 2) judged (at 1 1 1) ≡ false)
+    × (calendar_lines_hold (run 800 2) judged (at 1 1 2) ≡ true)
 unfolding steps
 line_told_twice = (refl, refl)
 
 grant_with_credit :
     let judged : Judged = with (rows.Granted (record grant { credit = 16 }) ∷ []) in
-    (calendar_lines_hold (run 800 2) judged (at 1 1 1) ≡ false) × (calendar_lines_hold (run 800 2) judged (at 1 2 1) ≡ true)
+    (calendar_lines_hold (run 800 2) judged (at 1 1 1) ≡ false)
+    × (calendar_lines_hold (run 800 2) judged (at 1 2 1) ≡ true)
 unfolding steps
 grant_with_credit = (refl, refl)
 
 -- With a jitter of 80 microseconds the window closes in round 0, and that is where it is missed.
 missed :
     let judged : Judged = with (rows.Missed (missed_in 0) ∷ []) in
-    (calendar_lines_hold (run 80 2) judged (at 0 1 1) ≡ true) × (calendar_lines_hold (run 80 2) judged (at 1 1 1) ≡ true)
+    (calendar_lines_hold (run 80 2) judged (at 0 1 1) ≡ true)
+    × (calendar_lines_hold (run 80 2) judged (at 1 1 1) ≡ true)
 unfolding steps
 missed = (refl, refl)
 
 missed_a_round_late :
     let judged : Judged = with (rows.Missed (missed_in 1) ∷ []) in
-    (calendar_lines_hold (run 80 2) judged (at 1 1 1) ≡ false) × (calendar_lines_hold (run 80 2) judged (at 0 1 1) ≡ true)
+    (calendar_lines_hold (run 80 2) judged (at 1 1 1) ≡ false)
+    × (calendar_lines_hold (run 80 2) judged (at 0 1 1) ≡ true)
 unfolding steps
 missed_a_round_late = (refl, refl)
 
 -- In one round a window that closes in the next one is still open: it isn't missed, not even in a round past the end.
 open_is_missed :
     let judged : Judged = with (rows.Missed (missed_in 1) ∷ []) in
-    (calendar_lines_hold (run 800 1) judged (at 1 1 1) ≡ false) × (calendar_lines_hold (run 800 1) judged (at 0 1 1) ≡ true)
+    (calendar_lines_hold (run 800 1) judged (at 1 1 1) ≡ false)
+    × (calendar_lines_hold (run 800 1) judged (at 0 1 1) ≡ true)
     × (places_hold (run 800 1) judged (at 1 1 0) ≡ false)
 unfolding steps
 open_is_missed = (refl, refl, refl)
@@ -126,8 +135,10 @@ begin_of_window :
     let once : Judged = with (rows.Granted first ∷ []) in
     let twice : Judged = with (rows.Granted first ∷ rows.Granted first ∷ []) in
     let early : Judged = with (rows.Granted (record first { start = 151 }) ∷ []) in
-    (calendar_lines_hold (run 800 2) once (at 0 1 1) ≡ true) × (calendar_lines_hold (run 800 2) early (at 0 1 1) ≡ false)
-    × (calendar_lines_hold (run 800 1) once (at 0 1 1) ≡ true) × (calendar_lines_hold (run 800 1) twice (at 0 1 1) ≡ false)
+    (calendar_lines_hold (run 800 2) once (at 0 1 1) ≡ true)
+    × (calendar_lines_hold (run 800 2) early (at 0 1 1) ≡ false)
+    × (calendar_lines_hold (run 800 1) once (at 0 1 1) ≡ true)
+    × (calendar_lines_hold (run 800 1) twice (at 0 1 1) ≡ false)
 unfolding steps
 begin_of_window = (refl, refl, refl, refl)
 
@@ -144,7 +155,8 @@ other_grants :
     let iuc : Judged = with (rows.Granted (record grant { iuc = 10 }) ∷ []) in
     let slots : Judged = with (rows.Granted (record grant { slots = 2 }) ∷ []) in
     (calendar_lines_hold (run 800 2) word (at 1 1 1) ≡ false) × (calendar_lines_hold (run 800 2) sid (at 1 1 1) ≡ false)
-    × (calendar_lines_hold (run 800 2) iuc (at 1 1 1) ≡ false) × (calendar_lines_hold (run 800 2) slots (at 1 1 1) ≡ false)
+    × (calendar_lines_hold (run 800 2) iuc (at 1 1 1) ≡ false)
+    × (calendar_lines_hold (run 800 2) slots (at 1 1 1) ≡ false)
     × (calendar_lines_hold (run 800 2) slots (at 0 1 1) ≡ true)
 unfolding steps
 other_grants = (refl, refl, refl, refl, refl)
@@ -154,13 +166,15 @@ elsewhere :
     let channel : Judged = with (rows.Granted (record grant { channel = 2 }) ∷ []) in
     let missed_there : Judged = with (rows.Missed (record (missed_in 0) { channel = 2 }) ∷ []) in
     (calendar_lines_hold (run 800 2) id (at 1 1 2) ≡ false) × (calendar_lines_hold (run 800 2) id (at 0 1 2) ≡ true)
-    × (calendar_lines_hold (run 800 2) channel (at 1 2 1) ≡ false) × (calendar_lines_hold (run 800 2) channel (at 1 1 1) ≡ true)
-    × (calendar_lines_hold (run 80 2) missed_there (at 0 2 1) ≡ false) × (calendar_lines_hold (run 80 2) missed_there (at 0 1 1) ≡ true)
+    × (calendar_lines_hold (run 800 2) channel (at 1 2 1) ≡ false)
+    × (calendar_lines_hold (run 800 2) channel (at 1 1 1) ≡ true)
+    × (calendar_lines_hold (run 80 2) missed_there (at 0 2 1) ≡ false)
+    × (calendar_lines_hold (run 80 2) missed_there (at 0 1 1) ≡ true)
 unfolding steps
 elsewhere = (refl, refl, refl, refl, refl, refl)
 
--- A call each 2,000 microseconds from the start on, with one grant in an interval: that of interval 1 isn't told as a second one
--- of interval 0.
+-- A call each 2,000 microseconds from the start on, with one grant in an interval: that of interval 1 isn't told as a
+-- second one of interval 0.
 each_round : Run
 each_round = record {
   tables = tables (base_channel ∷ []) (record base_flow {
@@ -180,6 +194,7 @@ each_round = record {
 told_as_second :
     let first : Grant = record grant { round = 0 } in
     let judged : Judged = with (rows.Granted first ∷ rows.Granted (record grant { k = 1 }) ∷ []) in
-    (calendar_lines_hold each_round judged (at 1 1 1) ≡ false) × (calendar_lines_hold each_round judged (at 0 1 1) ≡ true)
+    (calendar_lines_hold each_round judged (at 1 1 1) ≡ false)
+    × (calendar_lines_hold each_round judged (at 0 1 1) ≡ true)
 unfolding steps each_round
 told_as_second = (refl, refl)

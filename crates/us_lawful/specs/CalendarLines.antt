@@ -105,7 +105,8 @@ is_calendar_line_at p _ = false
 -- every line there marks an occurrence
 abbrev pub told_lines_hold : Run → Judged → Place → Bool
 told_lines_hold run judged p =
-    list_all (λ row. not (is_calendar_line_at p row) || list_any (tells_one_of run judged.lines row) (channel_entries run.tables)) judged.lines
+    list_all (λ row. not (is_calendar_line_at p row)
+    || list_any (tells_one_of run judged.lines row) (channel_entries run.tables)) judged.lines
 
 -- an entry of this channel with this id
 abbrev pub is_entry_at : Place → ChannelEntry → Bool

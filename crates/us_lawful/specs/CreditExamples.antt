@@ -98,7 +98,8 @@ with_credits first second = with_grants (rows.Granted (record stored_grant { cre
     ∷ rows.Granted (record stored_grant { round = 2; credit = second }) ∷ [])
 
 over_two_rounds :
-    (rates_hold slow (with_credits 1522 320) (at 2 0 1) ≡ true) × (rates_hold slow (with_credits 1522 321) (at 2 0 1) ≡ false)
+    (rates_hold slow (with_credits 1522 320) (at 2 0 1) ≡ true)
+    × (rates_hold slow (with_credits 1522 321) (at 2 0 1) ≡ false)
     × (rates_hold slow (with_credits 1522 321) (at 1 0 1) ≡ true)
 unfolding steps slow
 over_two_rounds = (refl, refl, refl)

@@ -32,7 +32,8 @@ abbrev pub is_right_for : Run → List Row → Grant → Cluster → Bool
 is_right_for run lines g cluster =
     is_of cluster g
     && ((g.k == 0) && (has_sid g.channel g.sid cluster && (nat_lt 0 g.credit
-    && (has_cost cluster g (channel_with run.tables.channels g.channel) && (count_by (is_like g) (requested_in lines) == 1)))))
+    && (has_cost cluster g (channel_with run.tables.channels g.channel)
+    && (count_by (is_like g) (requested_in lines) == 1)))))
 
 -- the clusters that make requests, each with its number
 abbrev pub is_right_credit : Run → List Row → Grant → Bool

@@ -1,7 +1,8 @@
--- The stored run, in which one modem asks for 1,000 bytes: what it is judged by, and what is judged of it. Beside it headings,
--- and lines of rounds and channels that it lacks.
+-- The stored run, in which one modem asks for 1,000 bytes: what it is judged by, and what is judged of it. Beside it
+-- headings, and lines of rounds and channels that it lacks.
 use Rattle.std.specs.Prelude.{◌≡◌, ℕ, true, false, List, [], ◌∷◌, ◌++◌, map, Some, None, ⊤, refl}
 use Rattle.us_slots.specs.Bursts.{coded_length, burst_cost}
+use Rattle.us_codec.specs.declared.heads.Head.{Head}
 use Rattle.us_codec.specs.Elements.{MapElement, null_at}
 use Rattle.us_codec.specs.Bodies.{MapBody}
 use Rattle.us_flows.specs.Clusters.{table_order}
@@ -39,7 +40,8 @@ element sid iuc offset = record { sid = sid; iuc = iuc; offset = offset }
 -- the MAP of a round of the base channel, with these elements before the Null
 abbrev pub base_map : ℕ → List MapElement → RoundMap
 base_map round elements =
-    record { round = round; body = record { head = head_of base round base_channel; elements = elements ++ null_at 160 ∷ [] } }
+    let body : MapBody = record { head = head_of base round base_channel; elements = elements ++ null_at 160 ∷ [] } in
+    record { round = round; body = body }
 
 abbrev pub quiet_map : RoundMap
 quiet_map = base_map 0 (element 16383 1 0 ∷ element 16383 1 150 ∷ [])
@@ -103,7 +105,8 @@ early_null = refl
 
 -- with a MAP missing, and with an Ack Time of 81, they differ from those that must be there
 other_headings :
-    let late : RoundMap = record { round = 1; body = record granted_map.body { head = record granted_map.body.head { ack = 81 } } } in
+    let late_head : Head = record granted_map.body.head { ack = 81 } in
+    let late : RoundMap = record { round = 1; body = record granted_map.body { head = late_head } } in
     (map heading_told (quiet_map ∷ []) ≡ heading_of base 0 base_channel ∷ [])
     × (map (λ h. h.head.ack) (map heading_told (quiet_map ∷ late ∷ [])) ≡ 0 ∷ 81 ∷ [])
     × (map (λ h. h.head.ack) (headings_of stored) ≡ 0 ∷ 80 ∷ [])

@@ -43,12 +43,14 @@ is_final_of turn f = (f.flow == turn.cluster.flow.id) && (f.cluster == turn.clus
 -- a cluster has one F line, which is right
 abbrev pub final_holds : Run → List Row → Turn → Bool
 final_holds run lines turn =
-    (count_by (is_final_of turn) (finals_in lines) == 1) && list_any (is_same_final (final_of run lines turn)) (finals_in lines)
+    (count_by (is_final_of turn) (finals_in lines) == 1)
+    && list_any (is_same_final (final_of run lines turn)) (finals_in lines)
 
 -- F lines with the id `third` are of clusters, and each cluster of the flow with this id has its own
 abbrev pub flow_finals_hold : Run → List Row → ℕ → Bool
 flow_finals_hold run lines id =
-    list_all (λ f. if f.flow == id then list_any (λ turn. is_final_of turn f) (table_order run.tables) else true) (finals_in lines)
+    list_all (λ f. if f.flow == id then list_any (λ turn. is_final_of turn f) (table_order run.tables) else true)
+    (finals_in lines)
     && list_all (λ turn. if turn.cluster.flow.id == id then final_holds run lines turn else true) (table_order run.tables)
 
 -- so it is behind the last round, where the channel is 0
@@ -64,5 +66,6 @@ is_same_counts c other =
 abbrev pub counts_hold : Run → Judged → Place → Bool
 counts_hold run judged p =
     if (p.round == run.rounds) && (p.channel == 0) && (p.third == 0)
-    then (length (counts_in judged.lines) == 1) && list_any (is_same_counts (counts_told run.counts)) (counts_in judged.lines)
+    then (length (counts_in judged.lines) == 1)
+        && list_any (is_same_counts (counts_told run.counts)) (counts_in judged.lines)
     else true

@@ -1,14 +1,13 @@
--- Read in this order: what a run is judged by, and what is judged; lines, files and the output of a schedule; the rules, each
--- at a place; what is lawful.
--- In a definition `≡` is equals, `×` is and, `→` implies, `++` one list behind another, `∷` one item before a list, and ℕ has the
--- whole numbers from 0; `/` rounds down, and `-` stops at 0.
+-- Read in this order: what a run is judged by, and what is judged; lines and files; the rules, each at a place; what is
+-- lawful; the output of a schedule, and that it is lawful.
+-- In a definition `≡` is equals, `×` is and, `→` implies, `++` one list behind another, `∷` one item before a list, and ℕ
+-- has the whole numbers from 0; `/` rounds down, and `-` stops at 0.
 
 -- runs, and what is judged of them
 pub mod Runs
--- the text of a line; files; what a schedule gives
+-- the text of a line, and files
 pub mod Lines
 pub mod Files
-pub mod Output
 -- what each MAP says of itself
 pub mod Headings
 -- the rounds and channels of lines
@@ -27,7 +26,9 @@ pub mod Finals
 pub mod Lawful
 -- texts that are lawful
 pub mod Texts
--- laws of the rules
+-- the output of a schedule
+pub mod Output
+-- laws: it is lawful
 pub mod Laws
 -- lines at small inputs,
 pub mod LineExamples

@@ -1,7 +1,8 @@
--- The rule of minislots at small inputs: the stored run, and the same with one thing changed. It fails at one place there, and
--- holds beside it.
+-- The rule of minislots at small inputs: the stored run, and the same with one thing changed. It fails at one place there,
+-- and holds beside it.
 use Rattle.std.specs.Prelude.{◌≡◌, ℕ, true, false, List, [], ◌∷◌, ◌++◌, ⊤, refl}
 use Rattle.us_codec.specs.Elements.{null_at}
+use Rattle.us_flows.specs.declared.channels.Channel.{Channel}
 use Rattle.us_round.specs.declared.rows.Grant.{Grant}
 use Rattle.us_round.specs.declared.rows.Row.TheVariants as rows
 use Rattle.us_round.specs.Outputs.{head_of}
@@ -104,7 +105,8 @@ two_gaps = (refl, refl, refl)
 
 -- a line counts on its own channel alone
 two_channels :
-    let run : Run = record stored { tables = record base { channels = base_channel ∷ record base_channel { id = 2 } ∷ [] } } in
+    let second : Channel = record base_channel { id = 2 } in
+    let run : Run = record stored { tables = record base { channels = base_channel ∷ second ∷ [] } } in
     let quiet : RoundMap = base_map 1 (element 16383 1 0 ∷ element 16383 1 150 ∷ []) in
     let judged : Judged = record {
       maps = quiet_map ∷ quiet_map ∷ granted_map ∷ quiet ∷ [];

@@ -109,7 +109,8 @@ none_empty_at regions at = list_all (λ s. not (s.start == at) || nat_lt 0 s.slo
 abbrev pub inside_holds : Channel → ℕ → List Region → List Region → ℕ → Bool
 inside_holds c len regions pieces at =
     not (nat_lt at len)
-    || (nat_le (holder_count at regions) 1 && list_any (λ piece. covers at piece && is_right_element c len regions piece) pieces)
+    || (nat_le (holder_count at regions) 1
+    && list_any (λ piece. covers at piece && is_right_element c len regions piece) pieces)
 
 -- and at its length: none of these starts there or behind
 abbrev pub end_holds : ℕ → List Region → ℕ → Bool
