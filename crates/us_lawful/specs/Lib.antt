@@ -29,6 +29,10 @@ pub mod Lawful
 pub mod Texts
 -- laws of the rules
 pub mod Laws
+-- which bytes are reports
+pub mod Reports
+-- how their lines are read, for the calls of this crate
+pub mod ReportReaders
 -- lines at small inputs,
 pub mod LineExamples
 -- the stored run,
