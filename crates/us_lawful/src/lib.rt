@@ -22,3 +22,6 @@ pub use laws::{
 };
 pub use report_faults::ReportFault;
 pub use report_reading::report_rows;
+
+#[cfg(test)]
+mod tests;
