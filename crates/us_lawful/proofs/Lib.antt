@@ -25,3 +25,6 @@ pub mod RateLaws
 pub mod LastLineLemmas
 pub mod FinalLaws
 pub mod LawfulLaws
+pub mod ReportReaderLemmas
+pub mod ReportLineLemmas
+pub mod ReportLemmas

@@ -30,6 +30,10 @@ pub mod Texts
 pub mod Output
 -- laws: it is lawful
 pub mod Laws
+-- which bytes are reports
+pub mod Reports
+-- how their lines are read, for the calls of this crate
+pub mod ReportReaders
 -- lines at small inputs,
 pub mod LineExamples
 -- the stored run,

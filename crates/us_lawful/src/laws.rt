@@ -1,6 +1,7 @@
 //! Laws, each as the contract of a function that does nothing.
 
 ghost use Rattle.us_lawful.specs.Laws.{OrderedAssignmentsHold, SchedulesAreLawful, TextsOfSchedulesAreLawful};
+ghost use Rattle.us_lawful.specs.Reports.{OneReading};
 
 /// All that a schedule gives is lawful: of all accepted tables, of rounds that fit into a run, and of cuts with a number for
 /// each cluster.
@@ -16,4 +17,9 @@ pub fn texts_of_schedules_are_lawful()
 /// Assignments in order, with the gaps between them, are lawful at every minislot.
 pub fn ordered_assignments_hold()
     ensures { OrderedAssignmentsHold }
+{}
+
+/// No bytes are two reports, or have two first lines that are bad.
+pub fn one_reading()
+    ensures { OneReading }
 {}

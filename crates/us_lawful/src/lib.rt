@@ -4,9 +4,24 @@
 //! stands in `specs/`, in the order of its `Lib.antt`; no call judges by them yet.
 #![tactic(auto)]
 
-// Laws of the rules.
+// Why a report is refused.
+mod report_faults;
+
+// Pieces of its lines, its lines,
+mod report_fields;
+mod report_lines;
+
+// and all of it.
+mod report_reading;
+
+// Laws of the rules, and of reports.
 mod laws;
 
 pub use laws::{
-    ordered_assignments_hold, schedules_are_lawful, texts_of_schedules_are_lawful,
+    one_reading, ordered_assignments_hold, schedules_are_lawful, texts_of_schedules_are_lawful,
 };
+pub use report_faults::ReportFault;
+pub use report_reading::report_rows;
+
+#[cfg(test)]
+mod tests;

@@ -1,0 +1,9 @@
+use Rattle.std.proofs.lemmas.Bool.Decides.{Decides-eqb}
+use Rattle.std.proofs.lemmas.Slice.Eq.{strip_prefix_is}
+use Rattle.us_lawful.proofs.ReportReaderLemmas.{stripped}
+use Rattle.us_lawful.proofs.report_fields.after.Goals as goal
+
+pub returns : goal.returns
+returns c =
+    stripped c.args.word.now c.args.bytes.now c.strip_prefix.result
+    (strip_prefix_is Decides-eqb c.args.bytes.now c.args.word.now c.strip_prefix.result c.strip_prefix.ensures.cases)

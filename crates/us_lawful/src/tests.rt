@@ -1,0 +1,7 @@
+//! What no clause says: reports as bytes, numbers at their limits, and memory that is refused.
+
+mod base;
+mod memory;
+mod numbers;
+mod reports;
+mod words;
