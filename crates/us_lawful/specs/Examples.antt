@@ -103,6 +103,16 @@ early_null :
 unfolding steps
 early_null = refl
 
+-- the round that is told, and the Alloc Start Time
+other_round :
+    let body : MapBody = record granted_map.body { head = record granted_map.body.head { alloc_start = 161 } } in
+    (map (λ h. h.round) (map heading_told (quiet_map ∷ record granted_map { round = 7 } ∷ [])) ≡ 0 ∷ 7 ∷ [])
+    × (map (λ h. h.round) (headings_of stored) ≡ 0 ∷ 1 ∷ [])
+    × ((heading_told (record granted_map { body = body })).head.alloc_start ≡ 161)
+    × (map (λ h. h.head.alloc_start) (headings_of stored) ≡ 0 ∷ 160 ∷ [])
+unfolding steps
+other_round = (refl, refl, refl, refl)
+
 -- with a MAP missing, and with an Ack Time of 81, they differ from those that must be there
 other_headings :
     let late_head : Head = record granted_map.body.head { ack = 81 } in
