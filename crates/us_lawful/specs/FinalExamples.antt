@@ -1,5 +1,5 @@
 -- The rules of F and U lines at small inputs: the stored run, and the same with other lines at the end.
-use Rattle.std.specs.Prelude.{◌≡◌, ℕ, true, false, List, [], ◌∷◌, map, Some, None, ⊤, refl}
+use Rattle.std.specs.Prelude.{◌≡◌, ℕ, ◌*◌, true, false, List, [], ◌∷◌, map, Some, None, ⊤, refl}
 use Rattle.us_flows.specs.Clusters.{table_order}
 use Rattle.us_flows.specs.Tables.{FlowTable}
 use Rattle.us_round.specs.declared.rows.FinalState.{FinalState}
@@ -11,7 +11,7 @@ use Rattle.us_round.specs.RoundExamples.{base, base_flow}
 use Rattle.us_lawful.specs.Runs.{Run, Judged, counts_told}
 use Rattle.us_lawful.specs.Finals.{final_of, finals_hold, counts_hold}
 use Rattle.us_lawful.specs.Examples.{at, ends, steps, stored, stored_grant, told, with_lines}
-use Rattle.us_lawful.specs.CreditExamples.{limited}
+use Rattle.us_lawful.specs.CreditExamples.{limited, slow, with_credits}
 
 -- F lines.
 
@@ -31,6 +31,13 @@ final_units :
     ≡ record { flow = 1; cluster = 0; outstanding = 1; units = Some 0 } ∷ []
 unfolding steps limited
 final_units = refl
+
+-- between two rounds it grows once, by 320 bytes here: 220 of them are left
+slow_units :
+    map (final_of slow (with_credits 1522 100).lines) (table_order slow.tables)
+    ≡ record { flow = 1; cluster = 0; outstanding = 378; units = Some (220 * 1280000) } ∷ []
+unfolding steps slow
+slow_units = refl
 
 abbrev stored_final : FinalState
 stored_final = record { flow = 1; cluster = 0; outstanding = 0; units = None }

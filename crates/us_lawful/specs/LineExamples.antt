@@ -1,5 +1,6 @@
 -- Lines of the report, computed by the definitions alone.
-use Rattle.std.specs.Prelude.{◌≡◌, codes, true, false, [], ◌∷◌, Some, None, refl}
+use Rattle.std.specs.Prelude.{◌≡◌, ◌^◌, ◌-◌, codes, true, false, [], ◌∷◌, Some, None, refl}
+use Rattle.std.proofs.Common.{arith}
 use Rattle.std.specs.Fmt.{digits}
 use Rattle.us_round.specs.declared.rows.EntryWord.TheVariants as words
 use Rattle.us_round.specs.declared.rows.FinalState.{FinalState}
@@ -8,7 +9,7 @@ use Rattle.us_round.specs.declared.rows.MissedOccurrence.{MissedOccurrence}
 use Rattle.us_round.specs.declared.rows.Row.TheVariants as rows
 use Rattle.us_round.specs.declared.rows.TraceCounts.{TraceCounts}
 use Rattle.us_lawful.specs.Files.{lines}
-use Rattle.us_lawful.specs.Texts.{can_be_told}
+use Rattle.us_lawful.specs.Texts.{HasFields, can_be_told}
 use Rattle.us_lawful.specs.Lines.{grant_text, missed_text, final_text, counts_text}
 
 abbrev requested : Grant
@@ -89,3 +90,10 @@ calls_are_missed :
     (can_be_told (rows.Missed late_call) ≡ true)
     × (can_be_told (rows.Missed (record late_call { entry = words.Requested })) ≡ false)
 calls_are_missed = (refl, refl)
+
+-- The numbers of a line have 64 bits.
+widest : HasFields (rows.Counts (record none_left_out { late = 2 ^ 64 - 1 }))
+widest = (omega arith, (omega arith, (omega arith, tt)))
+
+too_wide : HasFields (rows.Counts (record none_left_out { late = 2 ^ 64 })) → ⊥
+too_wide fit = omega (arith, fit.1.1.0)
