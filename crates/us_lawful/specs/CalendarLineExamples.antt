@@ -154,7 +154,8 @@ other_grants :
     let sid : Judged = with (rows.Granted (record grant { sid = 514 }) ∷ []) in
     let iuc : Judged = with (rows.Granted (record grant { iuc = 10 }) ∷ []) in
     let slots : Judged = with (rows.Granted (record grant { slots = 2 }) ∷ []) in
-    (calendar_lines_hold (run 800 2) word (at 1 1 1) ≡ false) × (calendar_lines_hold (run 800 2) sid (at 1 1 1) ≡ false)
+    (calendar_lines_hold (run 800 2) word (at 1 1 1) ≡ false)
+    × (calendar_lines_hold (run 800 2) sid (at 1 1 1) ≡ false)
     × (calendar_lines_hold (run 800 2) iuc (at 1 1 1) ≡ false)
     × (calendar_lines_hold (run 800 2) slots (at 1 1 1) ≡ false)
     × (calendar_lines_hold (run 800 2) slots (at 0 1 1) ≡ true)

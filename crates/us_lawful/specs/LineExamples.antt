@@ -1,5 +1,5 @@
 -- Lines of the report, computed by the definitions alone.
-use Rattle.std.specs.Prelude.{◌≡◌, ◌^◌, ◌-◌, codes, true, false, [], ◌∷◌, Some, None, refl}
+use Rattle.std.specs.Prelude.{◌≡◌, ◌^◌, ◌-◌, ◌<◌, codes, true, false, [], ◌∷◌, Some, None, refl}
 use Rattle.std.proofs.Common.{arith}
 use Rattle.std.specs.Fmt.{digits}
 use Rattle.us_round.specs.declared.rows.EntryWord.TheVariants as words
@@ -9,7 +9,7 @@ use Rattle.us_round.specs.declared.rows.MissedOccurrence.{MissedOccurrence}
 use Rattle.us_round.specs.declared.rows.Row.TheVariants as rows
 use Rattle.us_round.specs.declared.rows.TraceCounts.{TraceCounts}
 use Rattle.us_lawful.specs.Files.{lines}
-use Rattle.us_lawful.specs.Texts.{HasFields, can_be_told}
+use Rattle.us_lawful.specs.Texts.{Fit, HasFields, can_be_told}
 use Rattle.us_lawful.specs.Lines.{grant_text, missed_text, final_text, counts_text}
 
 abbrev requested : Grant
@@ -97,3 +97,11 @@ widest = (omega arith, (omega arith, (omega arith, tt)))
 
 too_wide : HasFields (rows.Counts (record none_left_out { late = 2 ^ 64 })) → ⊥
 too_wide fit = omega (arith, fit.1.1.0)
+
+-- and it is all of them
+fields_of_lines :
+    (HasFields (rows.Granted requested) ≡ Fit (1 ∷ 1 ∷ 1 ∷ 0 ∷ 0 ∷ 291 ∷ 10 ∷ 0 ∷ 32 ∷ 1000 ∷ []))
+    × (HasFields (rows.Missed late_call) ≡ Fit (5 ∷ 1 ∷ 1 ∷ 1 ∷ 0 ∷ []))
+    × (HasFields (rows.Final (record first_cluster { outstanding = 7; units = Some 9 })) ≡
+    (Fit (1 ∷ 0 ∷ 7 ∷ []) × (9 < 2 ^ 64)))
+fields_of_lines = (refl, refl, refl)
