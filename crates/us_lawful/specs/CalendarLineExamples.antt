@@ -1,4 +1,4 @@
--- The rule of marks at small inputs: a flow with one unsolicited grant, ideal at 1,900 microseconds.
+-- The rule of calendar lines at small inputs: a flow with one unsolicited grant, ideal at 1,900 microseconds.
 use Rattle.std.specs.Prelude.{◌≡◌, ℕ, true, false, List, [], ◌∷◌, replicate, ⊤, refl}
 use Rattle.us_slots.specs.Bursts.{coded_length, burst_cost}
 use Rattle.us_flows.specs.declared.flows.SchedulingType.TheVariants.{UnsolicitedGrant}
@@ -154,7 +154,8 @@ other_grants :
     let sid : Judged = with (rows.Granted (record grant { sid = 514 }) ∷ []) in
     let iuc : Judged = with (rows.Granted (record grant { iuc = 10 }) ∷ []) in
     let slots : Judged = with (rows.Granted (record grant { slots = 2 }) ∷ []) in
-    (calendar_lines_hold (run 800 2) word (at 1 1 1) ≡ false) × (calendar_lines_hold (run 800 2) sid (at 1 1 1) ≡ false)
+    (calendar_lines_hold (run 800 2) word (at 1 1 1) ≡ false)
+    × (calendar_lines_hold (run 800 2) sid (at 1 1 1) ≡ false)
     × (calendar_lines_hold (run 800 2) iuc (at 1 1 1) ≡ false)
     × (calendar_lines_hold (run 800 2) slots (at 1 1 1) ≡ false)
     × (calendar_lines_hold (run 800 2) slots (at 0 1 1) ≡ true)
@@ -198,3 +199,48 @@ told_as_second :
     × (calendar_lines_hold each_round judged (at 0 1 1) ≡ true)
 unfolding steps each_round
 told_as_second = (refl, refl)
+
+-- Two grants in an interval: the second interval has the occurrences 2 and 3.
+paired : Run
+paired = record each_round {
+  tables = tables (base_channel ∷ []) (record base_flow {
+    kind = UnsolicitedGrant;
+    clusters = (513 ∷ []) ∷ [];
+    start_us = 0;
+    interval_us = 2000;
+    jitter_us = 800;
+    grant_bytes = 16;
+    grants_per_interval = 2;
+  } ∷ []);
+}
+
+two_in_an_interval :
+    let first : List Row = rows.Granted (record grant { round = 0 })
+        ∷ rows.Granted (record grant { round = 0; k = 1; start = 1 }) ∷ rows.Granted (record grant { i = 1 }) ∷ [] in
+    let told : Judged = with (rows.Granted (record grant { i = 1; k = 1; start = 1 }) ∷ first) in
+    let third : Judged = with (rows.Granted (record grant { i = 1; k = 2; start = 1 }) ∷ first) in
+    (calendar_lines_hold paired told (at 0 1 1) ≡ true) × (calendar_lines_hold paired told (at 1 1 1) ≡ true)
+    × (calendar_lines_hold paired third (at 0 1 1) ≡ true) × (calendar_lines_hold paired third (at 1 1 1) ≡ false)
+unfolding steps each_round paired
+two_in_an_interval = (refl, refl, refl, refl)
+
+-- A window that ends as the run does is still open.
+open_to_the_end : Run
+open_to_the_end = record each_round {
+  tables = tables (base_channel ∷ []) (record base_flow {
+    kind = UnsolicitedGrant;
+    clusters = (513 ∷ []) ∷ [];
+    start_us = 3200;
+    interval_us = 10000;
+    jitter_us = 800;
+    grant_bytes = 16;
+    grants_per_interval = 1;
+  } ∷ []);
+}
+
+open_at_the_end :
+    (calendar_lines_hold open_to_the_end (with []) (at 1 1 1) ≡ true)
+    × (calendar_lines_hold open_to_the_end (with []) (at 2 1 1) ≡ true)
+    × (calendar_lines_hold open_to_the_end (with (rows.Missed (missed_in 1) ∷ [])) (at 1 1 1) ≡ false)
+unfolding steps each_round open_to_the_end
+open_at_the_end = (refl, refl, refl)

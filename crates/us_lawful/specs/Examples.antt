@@ -1,6 +1,7 @@
 -- The stored run, in which one modem asks for 1,000 bytes: what it is judged by, and what is judged of it. Beside it
 -- headings, and lines of rounds and channels that it lacks.
-use Rattle.std.specs.Prelude.{◌≡◌, ℕ, true, false, List, [], ◌∷◌, ◌++◌, map, Some, None, ⊤, refl}
+use Rattle.std.specs.Prelude.{◌≡◌, ℕ, true, false, List, [], ◌∷◌, ◌++◌, map, codes, Some, None, ⊤, refl}
+use Rattle.std.specs.Fmt.{digits}
 use Rattle.us_slots.specs.Bursts.{coded_length, burst_cost}
 use Rattle.us_codec.specs.declared.heads.Head.{Head}
 use Rattle.us_codec.specs.Elements.{MapElement, null_at}
@@ -12,13 +13,15 @@ use Rattle.us_round.specs.declared.rows.EntryWord.TheVariants as words
 use Rattle.us_round.specs.declared.rows.Grant.{Grant}
 use Rattle.us_round.specs.declared.rows.Row.{Row}
 use Rattle.us_round.specs.declared.rows.Row.TheVariants as rows
-use Rattle.us_round.specs.RoundExamples.{base, base_channel, base_flow}
+use Rattle.us_round.specs.RoundExamples.{base, base_channel, base_flow, round_steps}
 use Rattle.us_lawful.specs.Runs.{Run, RoundMap, Judged, Place}
 use Rattle.us_lawful.specs.Headings.{heading_of, heading_told, headings_of}
 use Rattle.us_lawful.specs.Places.{places_hold}
 use Rattle.us_lawful.specs.Regions.{element_regions, regions_hold}
 use Rattle.us_lawful.specs.Credits.{credits_hold}
 use Rattle.us_lawful.specs.Finals.{level_left, finals_hold}
+use Rattle.us_lawful.specs.Files.{lines}
+use Rattle.us_lawful.specs.Output.{judged_of, output_of, report_text}
 
 -- The stored run.
 
@@ -90,6 +93,16 @@ unfoldable pub steps : ⊤
 unfolding coded_length burst_cost refilled spent units_in head_of element_regions level_left
 steps = tt
 
+-- It is what the schedule gives.
+stored_output : judged_of (output_of base stored.cuts stored.counts) ≡ told
+unfolding steps round_steps output_of
+stored_output = refl
+
+stored_report :
+    report_text (output_of base stored.cuts stored.counts) ≡ codes "G,1,1,req,1,0,0,291,10,0,32,1000\nF,1,0,0,-\nU,0,0,0\n"
+unfolding steps round_steps output_of lines digits
+stored_report = refl
+
 -- Headings.
 
 lawful_headings : map heading_told told.maps ≡ headings_of stored
@@ -102,6 +115,16 @@ early_null :
     (heading_told (record { round = 0; body = body })).len ≡ Some 159
 unfolding steps
 early_null = refl
+
+-- the round that is told, and the Alloc Start Time
+other_round :
+    let body : MapBody = record granted_map.body { head = record granted_map.body.head { alloc_start = 161 } } in
+    (map (λ h. h.round) (map heading_told (quiet_map ∷ record granted_map { round = 7 } ∷ [])) ≡ 0 ∷ 7 ∷ [])
+    × (map (λ h. h.round) (headings_of stored) ≡ 0 ∷ 1 ∷ [])
+    × ((heading_told (record granted_map { body = body })).head.alloc_start ≡ 161)
+    × (map (λ h. h.head.alloc_start) (headings_of stored) ≡ 0 ∷ 160 ∷ [])
+unfolding steps
+other_round = (refl, refl, refl, refl)
 
 -- with a MAP missing, and with an Ack Time of 81, they differ from those that must be there
 other_headings :

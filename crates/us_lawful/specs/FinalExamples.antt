@@ -1,16 +1,17 @@
 -- The rules of F and U lines at small inputs: the stored run, and the same with other lines at the end.
-use Rattle.std.specs.Prelude.{◌≡◌, ℕ, true, false, List, [], ◌∷◌, map, Some, None, ⊤, refl}
+use Rattle.std.specs.Prelude.{◌≡◌, ℕ, ◌*◌, true, false, List, [], ◌∷◌, map, Some, None, ⊤, refl}
 use Rattle.us_flows.specs.Clusters.{table_order}
+use Rattle.us_flows.specs.Tables.{FlowTable}
 use Rattle.us_round.specs.declared.rows.FinalState.{FinalState}
 use Rattle.us_round.specs.declared.rows.Grant.{Grant}
 use Rattle.us_round.specs.declared.rows.Row.{Row}
 use Rattle.us_round.specs.declared.rows.Row.TheVariants as rows
 use Rattle.us_round.specs.declared.rows.TraceCounts.{TraceCounts}
-use Rattle.us_round.specs.RoundExamples.{base}
-use Rattle.us_lawful.specs.Runs.{Judged}
+use Rattle.us_round.specs.RoundExamples.{base, base_flow}
+use Rattle.us_lawful.specs.Runs.{Run, Judged, counts_told}
 use Rattle.us_lawful.specs.Finals.{final_of, finals_hold, counts_hold}
 use Rattle.us_lawful.specs.Examples.{at, ends, steps, stored, stored_grant, told, with_lines}
-use Rattle.us_lawful.specs.CreditExamples.{limited}
+use Rattle.us_lawful.specs.CreditExamples.{limited, slow, with_credits}
 
 -- F lines.
 
@@ -30,6 +31,13 @@ final_units :
     ≡ record { flow = 1; cluster = 0; outstanding = 1; units = Some 0 } ∷ []
 unfolding steps limited
 final_units = refl
+
+-- between two rounds it grows once, by 320 bytes here: 220 of them are left
+slow_units :
+    map (final_of slow (with_credits 1522 100).lines) (table_order slow.tables)
+    ≡ record { flow = 1; cluster = 0; outstanding = 378; units = Some (220 * 1280000) } ∷ []
+unfolding steps slow
+slow_units = refl
 
 abbrev stored_final : FinalState
 stored_final = record { flow = 1; cluster = 0; outstanding = 0; units = None }
@@ -58,12 +66,36 @@ wrong_finals = (refl, refl, refl, refl, refl, refl)
 -- an empty bucket for none; one more of a cluster that isn't there, and of a flow that isn't
 other_finals :
     let empty : Judged = with_finals (rows.Final (record stored_final { units = Some 0 }) ∷ []) in
-    let second : Judged = with_finals (rows.Final stored_final ∷ rows.Final (record stored_final { cluster = 1 }) ∷ []) in
+    let second : Judged =
+        with_finals (rows.Final stored_final ∷ rows.Final (record stored_final { cluster = 1 }) ∷ []) in
     let unknown : Judged = with_finals (rows.Final stored_final ∷ rows.Final (record stored_final { flow = 2 }) ∷ []) in
     (finals_hold stored empty (at 2 0 1) ≡ false) × (finals_hold stored second (at 2 0 1) ≡ false)
     × (finals_hold stored unknown (at 2 0 2) ≡ false) × (finals_hold stored unknown (at 2 0 1) ≡ true)
 unfolding steps
 other_finals = (refl, refl, refl, refl)
+
+-- Two flows, and one flow with two clusters: what one F line tells doesn't stand for the other.
+abbrev with_flows : List FlowTable → Run
+with_flows flows = record stored { tables = record base { flows = flows }; cuts = (0 ∷ 0 ∷ []) ∷ (1000 ∷ 7 ∷ []) ∷ [] }
+
+two_flows :
+    let second : FinalState = record stored_final { flow = 2 } in
+    let run : Run = with_flows (base_flow ∷ record base_flow { id = 2; clusters = (292 ∷ []) ∷ [] } ∷ []) in
+    let told : Judged = with_finals (rows.Final stored_final ∷ rows.Final (record second { outstanding = 7 }) ∷ []) in
+    let turned : Judged = with_finals (rows.Final (record stored_final { outstanding = 7 }) ∷ rows.Final second ∷ []) in
+    (finals_hold run told (at 2 0 1) ≡ true) × (finals_hold run told (at 2 0 2) ≡ true)
+    × (finals_hold run turned (at 2 0 1) ≡ false) × (finals_hold run turned (at 2 0 2) ≡ false)
+unfolding steps
+two_flows = (refl, refl, refl, refl)
+
+two_clusters :
+    let second : FinalState = record stored_final { cluster = 1 } in
+    let run : Run = with_flows (record base_flow { clusters = (291 ∷ []) ∷ (292 ∷ []) ∷ [] } ∷ []) in
+    let told : Judged = with_finals (rows.Final stored_final ∷ rows.Final (record second { outstanding = 7 }) ∷ []) in
+    let turned : Judged = with_finals (rows.Final (record stored_final { outstanding = 7 }) ∷ rows.Final second ∷ []) in
+    (finals_hold run told (at 2 0 1) ≡ true) × (finals_hold run turned (at 2 0 1) ≡ false)
+unfolding steps
+two_clusters = (refl, refl)
 
 -- U lines: none, two, and one that tells a row more.
 wrong_counts :
@@ -74,3 +106,17 @@ wrong_counts :
     × (counts_hold stored more (at 2 0 0) ≡ false) × (counts_hold stored more (at 2 0 1) ≡ true)
 unfolding steps
 wrong_counts = (refl, refl, refl, refl)
+
+-- each number of a U line is read, at its own place
+counted : Run
+counted = record stored { counts = record { unknown = 1; not_requestable = 2; late = 3 } }
+
+other_counts :
+    let told : TraceCounts = record { unknown = 1; not_requestable = 2; late = 3 } in
+    (counts_told counted.counts ≡ told)
+    × (counts_hold counted (with_lines (rows.Counts told ∷ [])) (at 2 0 0) ≡ true)
+    × (counts_hold counted (with_lines (rows.Counts (record told { unknown = 3 }) ∷ [])) (at 2 0 0) ≡ false)
+    × (counts_hold counted (with_lines (rows.Counts (record told { not_requestable = 1 }) ∷ [])) (at 2 0 0) ≡ false)
+    × (counts_hold counted (with_lines (rows.Counts (record told { late = 1 }) ∷ [])) (at 2 0 0) ≡ false)
+unfolding steps counted
+other_counts = (refl, refl, refl, refl, refl)

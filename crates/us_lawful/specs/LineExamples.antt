@@ -1,8 +1,15 @@
 -- Lines of the report, computed by the definitions alone.
-use Rattle.std.specs.Prelude.{◌≡◌, codes, Some, None, refl}
+use Rattle.std.specs.Prelude.{◌≡◌, ◌^◌, ◌-◌, ◌<◌, codes, true, false, [], ◌∷◌, Some, None, refl}
+use Rattle.std.proofs.Common.{arith}
 use Rattle.std.specs.Fmt.{digits}
 use Rattle.us_round.specs.declared.rows.EntryWord.TheVariants as words
+use Rattle.us_round.specs.declared.rows.FinalState.{FinalState}
 use Rattle.us_round.specs.declared.rows.Grant.{Grant}
+use Rattle.us_round.specs.declared.rows.MissedOccurrence.{MissedOccurrence}
+use Rattle.us_round.specs.declared.rows.Row.TheVariants as rows
+use Rattle.us_round.specs.declared.rows.TraceCounts.{TraceCounts}
+use Rattle.us_lawful.specs.Files.{lines}
+use Rattle.us_lawful.specs.Texts.{Fit, HasFields, can_be_told}
 use Rattle.us_lawful.specs.Lines.{grant_text, missed_text, final_text, counts_text}
 
 abbrev requested : Grant
@@ -45,14 +52,17 @@ polled_seldom :
 unfolding digits
 polled_seldom = refl
 
-missed :
-    missed_text (record { round = 5; channel = 1; entry = words.Unsolicited; id = 1; i = 1; k = 0 }) ≡
-    codes "M,5,1,ugs,1,1,0\n"
+abbrev late_call : MissedOccurrence
+late_call = record { round = 5; channel = 1; entry = words.Unsolicited; id = 1; i = 1; k = 0 }
+
+missed : missed_text late_call ≡ codes "M,5,1,ugs,1,1,0\n"
 unfolding digits
 missed = refl
 
-without_bucket :
-    final_text (record { flow = 1; cluster = 0; outstanding = 0; units = None }) ≡ codes "F,1,0,0,-\n"
+abbrev first_cluster : FinalState
+first_cluster = record { flow = 1; cluster = 0; outstanding = 0; units = None }
+
+without_bucket : final_text first_cluster ≡ codes "F,1,0,0,-\n"
 unfolding digits
 without_bucket = refl
 
@@ -61,6 +71,37 @@ with_bucket :
 unfolding digits
 with_bucket = refl
 
-counts : counts_text (record { unknown = 0; not_requestable = 0; late = 0 }) ≡ codes "U,0,0,0\n"
+abbrev none_left_out : TraceCounts
+none_left_out = record { unknown = 0; not_requestable = 0; late = 0 }
+
+counts : counts_text none_left_out ≡ codes "U,0,0,0\n"
 unfolding digits
 counts = refl
+
+-- a report: each row gives its line
+told :
+    lines (rows.Granted requested ∷ rows.Missed late_call ∷ rows.Final first_cluster ∷ rows.Counts none_left_out ∷ []) ≡
+    codes "G,1,1,req,1,0,0,291,10,0,32,1000\nM,5,1,ugs,1,1,0\nF,1,0,0,-\nU,0,0,0\n"
+unfolding digits lines
+told = refl
+
+-- what is missed is of a calendar
+calls_are_missed :
+    (can_be_told (rows.Missed late_call) ≡ true)
+    × (can_be_told (rows.Missed (record late_call { entry = words.Requested })) ≡ false)
+calls_are_missed = (refl, refl)
+
+-- The numbers of a line have 64 bits.
+widest : HasFields (rows.Counts (record none_left_out { late = 2 ^ 64 - 1 }))
+widest = (omega arith, (omega arith, (omega arith, tt)))
+
+too_wide : HasFields (rows.Counts (record none_left_out { late = 2 ^ 64 })) → ⊥
+too_wide fit = omega (arith, fit.1.1.0)
+
+-- and it is all of them
+fields_of_lines :
+    (HasFields (rows.Granted requested) ≡ Fit (1 ∷ 1 ∷ 1 ∷ 0 ∷ 0 ∷ 291 ∷ 10 ∷ 0 ∷ 32 ∷ 1000 ∷ []))
+    × (HasFields (rows.Missed late_call) ≡ Fit (5 ∷ 1 ∷ 1 ∷ 1 ∷ 0 ∷ []))
+    × (HasFields (rows.Final (record first_cluster { outstanding = 7; units = Some 9 })) ≡
+    (Fit (1 ∷ 0 ∷ 7 ∷ []) × (9 < 2 ^ 64)))
+fields_of_lines = (refl, refl, refl)
