@@ -27,6 +27,9 @@ mod placing;
 // and all claims of a channel.
 mod building;
 
+// From a board to a MAP.
+mod mapping;
+
 // Laws of the definitions.
 mod laws;
 
@@ -35,8 +38,8 @@ pub use lanes::Lane;
 pub use laws::{
     boards_are_built, grants_are_of_claims, grants_fit, placed_have_minislots, reserves_fit,
 };
+pub use mapping::map_of;
 pub use placing::PlacedClaim;
-pub use reserving::BROADCAST;
 
 #[cfg(test)]
 mod tests;
