@@ -142,13 +142,13 @@ pub(crate) fn sids_on(alloc: Global, pendings: &[PendingSid], id: u8) -> Result<
     ensures few { IfOk result (λ sids. length sids.items ≤ max_pendings) }
     ensures bits { IfOk result (λ sids. AllByRecursion (λ sid. sid < 2 ^ 14) sids.items) }
 {
-    let mut sids = Vec::new(alloc);
+    let mut sids = Vec::with_capacity(alloc, pendings.len().min(MAX_PENDINGS))?;
     for pending in pendings {
         if sids.len() == MAX_PENDINGS {
             break;
         }
         if pending.is_on(id) {
-            sids.push(pending.sid())?;
+            sids.push_reserved(pending.sid());
         }
     }
     Ok(sids)
