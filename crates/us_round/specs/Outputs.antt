@@ -1,5 +1,5 @@
 -- What a round gives (ours): the MAP of each channel, and its lines.
-use Rattle.std.specs.Prelude.{ℕ, Bool, true, false, not, ◌==◌, ◌≤◌, List, ◌++◌, length, map, filter, flat_map, slice_get, slice_index, Option, Some, None, option_and_then}
+use Rattle.std.specs.Prelude.{ℕ, Bool, true, false, not, ◌==◌, ◌≤◌, List, ◌++◌, length, map, filter, flat_map, slice_get, slice_index, option_and_then}
 use Rattle.std.specs.List.{AllByRecursion, range_with_len}
 use Rattle.us_codec.specs.Bodies.{MapBody, max_body_bytes, max_elements, spelling}
 use Rattle.us_flows.specs.declared.channels.Channel.{Channel}
