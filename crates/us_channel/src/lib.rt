@@ -1,4 +1,5 @@
-//! One channel in a round: its reserves, what its calendar settles, and the claims of the plan that are placed on it.
+//! One channel in a round: its reserves, what its calendar settles, the claims of the plan that are placed on it, and the
+//! MAP that its board comes to.
 //!
 //! ```
 //! let lane = Lane::new(alloc, &config, 0)?; // the first channel, before round 0
@@ -6,6 +7,8 @@
 //! let idle = filled.idle(); // what the plan has to give there
 //! let built = build_on(alloc, plan.claims(0), filled)?; // and its claims are placed
 //! let grants = built.grants(); // in the order of turns
+//! let mut runs = Vec::new(alloc); // for the runs of its board
+//! let map = map_of(alloc, &config, 0, built.channel(), built.board(), &[291], &mut runs)?; // a SID is pending there
 //! ```
 //!
 //! What these are stands in `specs/`, in the order of its `Lib.antt`. No function here reads another channel, so that each

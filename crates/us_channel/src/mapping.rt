@@ -20,8 +20,8 @@ use us_slots::{Iuc, NoMemory};
 /// The SID that addresses nobody (the standard's).
 const NOBODY: u16 = 0;
 
-/// The MAP of a channel's round: its head, an element for each assignment and each idle run of the board, the Null, and a data
-/// grant pending for each of these SIDs. Where a MAP starts, its length and its Ack Time count minislots. The list of runs is
+/// The MAP of a channel's round: its head, an element for each assignment and each idle run of the board, the Null, and a
+/// data grant pending for each of these SIDs. Its start, its length and its Ack Time count minislots. The list of runs is
 /// for what the board has, and nothing that stands there is kept. The one fault is want of memory.
 #[tactic(auto, unfolding(crate::specs::Maps::map_of))]
 pub fn map_of(
