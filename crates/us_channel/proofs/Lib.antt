@@ -7,3 +7,4 @@ pub mod SumLemmas
 pub mod SpotLaws
 pub mod GrantLaws
 pub mod BoardLaws
+pub mod MapLemmas

@@ -1,4 +1,5 @@
-//! One channel in a round: its reserves, what its calendar settles, and the claims of the plan that are placed on it.
+//! One channel in a round: its reserves, what its calendar settles, the claims of the plan that are placed on it, and the
+//! MAP that its board comes to.
 //!
 //! ```
 //! let lane = Lane::new(alloc, &config, 0)?; // the first channel, before round 0
@@ -6,6 +7,8 @@
 //! let idle = filled.idle(); // what the plan has to give there
 //! let built = build_on(alloc, plan.claims(0), filled)?; // and its claims are placed
 //! let grants = built.grants(); // in the order of turns
+//! let mut runs = Vec::new(alloc); // for the runs of its board
+//! let map = map_of(alloc, &config, 0, built.channel(), built.board(), &[291], &mut runs)?; // a SID is pending there
 //! ```
 //!
 //! What these are stands in `specs/`, in the order of its `Lib.antt`. No function here reads another channel, so that each
@@ -27,6 +30,9 @@ mod placing;
 // and all claims of a channel.
 mod building;
 
+// From a board to a MAP.
+mod mapping;
+
 // Laws of the definitions.
 mod laws;
 
@@ -35,8 +41,8 @@ pub use lanes::Lane;
 pub use laws::{
     boards_are_built, grants_are_of_claims, grants_fit, placed_have_minislots, reserves_fit,
 };
+pub use mapping::map_of;
 pub use placing::PlacedClaim;
-pub use reserving::BROADCAST;
 
 #[cfg(test)]
 mod tests;

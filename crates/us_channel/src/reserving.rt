@@ -8,7 +8,7 @@ use us_holes::{Board, Owner};
 use us_slots::Iuc;
 
 /// The SID that addresses all modems (the standard's).
-pub const BROADCAST: u16 = 0x3fff;
+pub(crate) const BROADCAST: u16 = 0x3fff;
 
 /// Clears a board for the MAP of a round, whose length it has, and puts the reserves on it: Initial Maintenance at the
 /// start in each `maintenance_every`-th round, and contention at the end. It needs no memory.

@@ -23,11 +23,12 @@ use Rattle.us_split.specs.Claims.{Claim}
 use Rattle.us_channel.specs.Placements.{PlacedClaim, assignments}
 use Rattle.us_channel.specs.Channels.{Built}
 use Rattle.us_channel.specs.Laws.{AreGrantsFor, HaveMinislots, IsMadeOf, placed_on, reserve, reserve_assignments}
+use Rattle.us_channel.specs.Maps.{run_element, elements_of, pending_element, map_of}
 use Rattle.us_round.specs.declared.rows.Grant.{Grant}
 use Rattle.us_round.specs.declared.rows.Row.{Row}
 use Rattle.us_round.specs.declared.rows.Row.TheVariants as rows
 use Rattle.us_round.specs.Rounds.{pendings_on}
-use Rattle.us_round.specs.Outputs.{run_element, elements_of, pending_element, map_of, built_map, settled_row, grant_row}
+use Rattle.us_round.specs.Outputs.{built_map, settled_row, grant_row}
 use Rattle.us_round.specs.Leftovers.{IsBuiltFor}
 use Rattle.us_round.proofs.PartLemmas.{all_append, all_weaker}
 use Rattle.us_round.proofs.OwnerLemmas.{HaveOwners, IsOwnedPart}

@@ -6,7 +6,7 @@ use Rattle.us_codec.specs.Elements.{MapElement, null_at}
 use Rattle.us_flows.specs.declared.channels.Channel.{Channel}
 use Rattle.us_holes.specs.Boards.{Owner}
 use Rattle.us_holes.specs.Runs.{Run, FollowOn}
-use Rattle.us_round.specs.Outputs.{element_by, run_element}
+use Rattle.us_channel.specs.Maps.{element_by, run_element}
 use Rattle.us_lawful.specs.Regions.{element_regions}
 use Rattle.us_lawful.specs.Laws.{element_region_for}
 

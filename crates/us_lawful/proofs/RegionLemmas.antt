@@ -9,7 +9,7 @@ use Rattle.us_flows.specs.declared.channels.Channel.{Channel}
 use Rattle.us_holes.specs.Boards.{Assignment}
 use Rattle.us_holes.specs.Runs as lists
 use Rattle.us_holes.specs.Runs.{Run, InOrder, runs_between, run_of, idle_run}
-use Rattle.us_round.specs.Outputs.{gap}
+use Rattle.us_channel.specs.Maps.{gap}
 use Rattle.us_lawful.specs.Regions.{Region, end_of, covers, is_same, holder_count, is_free, is_between, is_gap_element, is_gap, is_right_element, none_empty_at, inside_holds, end_holds, minislot_holds}
 use Rattle.us_lawful.specs.Laws.{region_for, element_region_for, OrderedAssignmentsHold}
 use Rattle.us_lawful.proofs.TestLemmas.{any_first, any_later, any_behind, any_before, all_pass, all_before, any_same}

@@ -8,7 +8,7 @@ use Rattle.us_codec.specs.Elements.{MapElement, null_at}
 use Rattle.us_codec.specs.Bodies.{MapBody}
 use Rattle.us_flows.specs.Clusters.{table_order}
 use Rattle.us_bucket.specs.Levels.{refilled, spent, units_in}
-use Rattle.us_round.specs.Outputs.{head_of}
+use Rattle.us_channel.specs.Maps.{head_of}
 use Rattle.us_round.specs.declared.rows.EntryWord.TheVariants as words
 use Rattle.us_round.specs.declared.rows.Grant.{Grant}
 use Rattle.us_round.specs.declared.rows.Row.{Row}

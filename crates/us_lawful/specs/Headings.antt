@@ -6,7 +6,7 @@ use Rattle.us_codec.specs.declared.heads.Head.{Head}
 use Rattle.us_codec.specs.Elements.{MapElement}
 use Rattle.us_flows.specs.declared.channels.Channel.{Channel}
 use Rattle.us_flows.specs.Tables.{Tables, map_len}
-use Rattle.us_round.specs.Outputs.{head_of}
+use Rattle.us_channel.specs.Maps.{head_of}
 use Rattle.us_lawful.specs.Runs.{Run, RoundMap, Judged, Place}
 
 -- the round of a MAP, what stands before its elements, and its length

@@ -7,7 +7,7 @@ use Rattle.us_flows.specs.Lawful.{AreTables}
 use Rattle.us_requests.specs.declared.asks.Counts.{Counts}
 use Rattle.us_holes.specs.Boards.{Assignment}
 use Rattle.us_holes.specs.Runs.{Run, InOrder, runs_between}
-use Rattle.us_round.specs.Outputs.{run_element}
+use Rattle.us_channel.specs.Maps.{run_element}
 use Rattle.us_round.specs.ScheduleLaws.{AreCuts}
 use Rattle.us_lawful.specs.Output.{judged_of, maps_text, output_of, report_text, run_of}
 use Rattle.us_lawful.specs.Regions.{Region, minislot_holds}

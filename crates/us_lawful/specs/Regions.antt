@@ -7,9 +7,9 @@ use Rattle.us_codec.specs.Elements.{MapElement}
 use Rattle.us_flows.specs.declared.channels.Channel.{Channel}
 use Rattle.us_flows.specs.Tables.{Tables, map_len, channel_with}
 use Rattle.us_channel.specs.Reserves.{broadcast}
+use Rattle.us_channel.specs.Maps.{gap}
 use Rattle.us_round.specs.declared.rows.Grant.{Grant}
 use Rattle.us_round.specs.declared.rows.Row.{Row}
-use Rattle.us_round.specs.Outputs.{gap}
 use Rattle.us_lawful.specs.Runs.{Run, RoundMap, Judged, Place, grants_in}
 
 -- Minislots side by side with one owner: from the start of a MAP, so many, a SID and an IUC.

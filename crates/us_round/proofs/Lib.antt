@@ -1,7 +1,6 @@
 pub mod CreditLaws
 pub mod FillLemmas
 pub mod PartLemmas
-pub mod MapLemmas
 pub mod PendingLemmas
 pub mod OrderLemmas
 pub mod FinalLemmas

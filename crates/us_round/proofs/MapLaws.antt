@@ -28,14 +28,15 @@ use Rattle.us_split.proofs.ClaimLemmas.{plan_for-claims}
 use Rattle.us_channel.specs.Reserves.{reserves}
 use Rattle.us_channel.specs.Placements.{PlacedClaim, assignments, credits, grants_of}
 use Rattle.us_channel.specs.Channels.{Filled, Built, fill}
+use Rattle.us_channel.specs.Maps.{head_of, elements_of, map_of}
 use Rattle.us_channel.proofs.GrantLaws as grant_laws
 use Rattle.us_round.specs.Rounds.{State, opening, begun, fills_of, idle, round_plan, build_planned, builds_of, all_grants, is_of_cluster, uncredited, ended, first_sid, pending_sid, pending_sids, pendings_on, round_from, round_of}
-use Rattle.us_round.specs.Outputs.{head_of, elements_of, map_of, built_map}
+use Rattle.us_round.specs.Outputs.{built_map}
 use Rattle.us_round.specs.Leftovers.{IsBuiltFor}
 use Rattle.us_round.specs.States.{IsState}
 use Rattle.us_round.specs.ScheduleLaws.{begun_rounds, HasLawfulMaps, MapsAreLawful}
 use Rattle.us_round.proofs.PartLemmas.{all_append, all_both, all_contained, all_filtered, all_found, all_mapped, all_taken, all_weaker}
-use Rattle.us_round.proofs.MapLemmas.{board_map, follow_starts}
+use Rattle.us_channel.proofs.MapLemmas.{board_map, follow_starts}
 use Rattle.us_round.proofs.PendingLemmas.{known_sids}
 use Rattle.us_round.proofs.CreditLaws.{claims_some}
 use Rattle.us_round.proofs.OwnerLemmas.{AreOwned, HasOwner, HaveOwners, IsOwnedPart, all_assigned, elements_lawful, grants_owned, reserves_board, reserves_owned, run_owned}

@@ -23,9 +23,9 @@ use Rattle.us_calendar.specs.Runs.{assignments_of}
 use Rattle.us_split.specs.Claims.{Claim}
 use Rattle.us_channel.specs.Reserves.{reserved, maintenance, reserves}
 use Rattle.us_channel.specs.Placements.{PlacedClaim, assignments}
+use Rattle.us_channel.specs.Maps.{gap, element_by, run_element}
 use Rattle.us_channel.proofs.ReserveLemmas.{empty_fits, maintained_fits}
 use Rattle.us_channel.proofs.GrantLaws.{Granted}
-use Rattle.us_round.specs.Outputs.{gap, element_by, run_element}
 use Rattle.us_round.proofs.PartLemmas.{all_append, all_taken, all_dropped, all_replicated}
 
 -- a minislot is idle, or has a lawful owner

@@ -11,8 +11,9 @@ use Rattle.us_holes.specs.Runs.{runs_from}
 use Rattle.us_calendar.specs.declared.kinds.Kind.TheVariants as kinds
 use Rattle.us_calendar.specs.declared.settled.Settled.TheVariants as settled
 use Rattle.us_channel.specs.Placements.{PlacedClaim}
+use Rattle.us_channel.specs.Maps.{elements_of, head_of}
 use Rattle.us_round.specs.Rounds.{uncredited, pending_sid, pendings_on}
-use Rattle.us_round.specs.Outputs.{elements_of, head_of, by_start, rows_on, final_row}
+use Rattle.us_round.specs.Outputs.{by_start, rows_on, final_row}
 use Rattle.us_round.specs.declared.rows.Row.{Row}
 use Rattle.us_round.specs.declared.rows.Row.TheVariants as rows
 use Rattle.us_round.specs.declared.rows.EntryWord.TheVariants as words

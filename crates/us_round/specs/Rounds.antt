@@ -10,6 +10,7 @@ use Rattle.us_split.specs.Plans.{Planned, plan_for}
 use Rattle.us_split.specs.Claims.{claims_on}
 use Rattle.us_channel.specs.Placements.{PlacedClaim, credits}
 use Rattle.us_channel.specs.Channels.{Filled, fill, Built, build_on}
+use Rattle.us_channel.specs.Maps.{max_pendings}
 
 -- what a round starts from: the tables, its number, the outstanding bytes of each cluster, the bucket of each flow, and
 -- the calendar of each channel
@@ -80,10 +81,6 @@ spent_of grants place (bucket ∷ more) =
     spent (credits (is_of_flow place) grants) bucket ∷ spent_of grants (place + 1) more
 
 -- Pendings.
-
--- the most pendings of a MAP
-abbrev pub max_pendings : ℕ
-max_pendings = 38
 
 -- the first channel of a turn's flow, by its id, with the turn's SID there
 abbrev pub first_sid : Turn → Option (ℕ × ℕ)

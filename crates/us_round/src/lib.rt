@@ -27,7 +27,7 @@ mod phases;
 // Who is pending.
 mod pendings;
 
-// From a board to a MAP.
+// The MAPs of a round.
 mod mapping;
 
 // From grants to lines.

@@ -2,6 +2,7 @@ ghost use Rattle.std.specs.Prelude.{◌≡◌, ◌==◌, ℕ, ◌^◌, ◌<◌, 
 ghost use Rattle.std.specs.List.{AllByRecursion};
 ghost use Rattle.us_flows.specs.Turns.{in_flow};
 ghost use Rattle.us_flows.specs.Clusters.{turns_of};
+ghost use Rattle.us_channel.specs.Maps.{max_pendings};
 ghost use Rattle.us_round.specs.Rounds as spec;
 ghost use Rattle.us_round.specs.Leftovers.{still_asking, still_asking_at};
 
@@ -138,16 +139,16 @@ fn sid_of(channels: &[u8], sids: &[u16]) -> Option<PendingSid>
 #[tactic(auto, unfolding(crate::specs::Rounds::pendings_on))]
 pub(crate) fn sids_on(alloc: Global, pendings: &[PendingSid], id: u8) -> Result<Vec<u16>, NoMemory>
     ensures value { IfOk result (λ sids. sids.items ≡ spec.pendings_on id pendings.now) }
-    ensures few { IfOk result (λ sids. length sids.items ≤ spec.max_pendings) }
+    ensures few { IfOk result (λ sids. length sids.items ≤ max_pendings) }
     ensures bits { IfOk result (λ sids. AllByRecursion (λ sid. sid < 2 ^ 14) sids.items) }
 {
-    let mut sids = Vec::new(alloc);
+    let mut sids = Vec::with_capacity(alloc, pendings.len().min(MAX_PENDINGS))?;
     for pending in pendings {
         if sids.len() == MAX_PENDINGS {
             break;
         }
         if pending.is_on(id) {
-            sids.push(pending.sid())?;
+            sids.push_reserved(pending.sid());
         }
     }
     Ok(sids)

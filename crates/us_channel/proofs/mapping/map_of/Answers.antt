@@ -1,6 +1,6 @@
 use Rattle.std.proofs.Common.{sym}
-use Rattle.us_round.proofs.MapLemmas.{board_map}
-use Rattle.us_round.proofs.mapping.map_of.Goals as goal
+use Rattle.us_channel.proofs.MapLemmas.{board_map}
+use Rattle.us_channel.proofs.mapping.map_of.Goals as goal
 
 pub from_parts-requires : goal.from_parts-requires
 from_parts-requires c =

@@ -2,8 +2,8 @@ use Rattle.std.proofs.Common.{◌≡◌, ◌≢◌, ◌<◌, ◌^◌, ◌++◌, 
 use Rattle.std.specs.List.{AllByRecursion}
 use Rattle.us_slots.specs.UsageCodes as codes
 use Rattle.us_codec.specs.Elements.{IsMapElement}
-use Rattle.us_round.specs.Outputs.{run_element}
-use Rattle.us_round.proofs.mapping.elements_in.Given as goal
+use Rattle.us_channel.specs.Maps.{run_element}
+use Rattle.us_channel.proofs.mapping.elements_in.Given as goal
 
 abbrev pub invariant-loop-run : goal.invariant-loop-run
 invariant-loop-run l =

@@ -8,11 +8,11 @@ use Rattle.us_codec.specs.Elements.{MapElement, IsMapElement, null_at}
 use Rattle.us_codec.specs.Bodies.{IsHead, IsRising, StartsAtZero, MapBody, IsMapBody, body_of, spelling}
 use Rattle.us_codec.proofs.PutLemmas.{length-spelling}
 use Rattle.us_flows.specs.declared.channels.Channel.{Channel}
+use Rattle.us_flows.proofs.TurnLemmas.{all-append}
 use Rattle.us_holes.specs.Boards.{Owner, Holder, Board}
 use Rattle.us_holes.specs.Kept.{IsBoard}
 use Rattle.us_holes.specs.Runs.{Run, FollowOn, runs_of}
-use Rattle.us_round.specs.Outputs.{element_by, run_element, elements_of, pending_element}
-use Rattle.us_round.proofs.PartLemmas.{all_append}
+use Rattle.us_channel.specs.Maps.{element_by, run_element, elements_of, pending_element}
 
 -- runs that follow on go forward
 follow_forward : (from to : ℕ) (runs : List Run) → FollowOn from to runs → from ≤ to
@@ -86,7 +86,7 @@ lawful_map h c runs len sids head some most follow few_runs few_sids bits others
     record {
       head = head;
       few = rw (length-append before (null_at len ∷ after), length-map runs (run_element c), length-map sids (pending_element len)) (omega (arith, few_runs, few_sids));
-      fields = all_append IsMapElement before (null_at len ∷ after) fields
+      fields = all-append IsMapElement before (null_at len ∷ after) fields
           (record { sid = omega arith; iuc = omega arith; offset = small }, pending.0);
       list = record {
         before = before;
