@@ -26,6 +26,7 @@ use Rattle.us_lawful.specs.Lines.{text_of}
 use Rattle.us_lawful.specs.Output.{Output, output_of, maps_text, report_text, all_rows, round_maps, judged_of}
 use Rattle.us_lawful.specs.Lawful.{IsLawful}
 use Rattle.us_lawful.specs.Texts.{HasFields, IsRow, AreLawful, can_be_told, record_of}
+use Rattle.us_lawful.specs.Laws.{ReportsReadBack}
 use Rattle.us_lawful.proofs.TestLemmas.{all_pass, each_passes}
 use Rattle.us_lawful.proofs.SameLemmas.{same_all}
 use Rattle.us_lawful.proofs.RoundLemmas.{last_rows, round_rows, rounds_of, rows_in}
@@ -68,6 +69,10 @@ told_lines [] = refl
 told_lines (out ∷ given) =
     ap (λ more. lines out.rows ++ more) (told_lines given) ∙ sym (lines_append out.rows (all_rows given))
 
+report_spelled : (out : Output) → report_text out ≡ lines (judged_of out).lines
+report_spelled out =
+    ap (λ text. text ++ lines out.last) (told_lines out.given) ∙ sym (lines_append (all_rows out.given) out.last)
+
 -- An output whose lines may be told, and that is lawful, has lawful texts.
 pub texts_are_lawful : (run : Run) (out : Output) → AllByRecursion IsRow (judged_of out).lines →
     IsLawful run (judged_of out) → AreLawful run (maps_text out) (report_text out)
@@ -75,8 +80,7 @@ texts_are_lawful run out told lawful = record {
   judged = judged_of out;
   maps_spelled = spelled out.given;
   rows = told;
-  report_spelled = ap (λ text. text ++ lines out.last) (told_lines out.given)
-      ∙ sym (lines_append (all_rows out.given) out.last);
+  report_spelled = report_spelled out;
   lawful = lawful;
 }
 
@@ -131,3 +135,7 @@ pub rows_are : (t : Tables) (cuts : List (List ℕ)) (counts : Counts) → AreTa
 rows_are t cuts counts lawful long fields =
     all_both HasFields (λ row. can_be_told row ≡ true) (judged_of (output_of t cuts counts)).lines fields
     (lines_told t cuts counts lawful long)
+
+pub reports_read_back : ReportsReadBack
+reports_read_back t cuts counts lawful long fields =
+    record { each = rows_are t cuts counts lawful long fields; spelled = report_spelled (output_of t cuts counts) }

@@ -13,6 +13,7 @@ use Rattle.us_lawful.specs.Output.{judged_of, maps_text, output_of, report_text,
 use Rattle.us_lawful.specs.Regions.{Region, minislot_holds}
 use Rattle.us_lawful.specs.Lawful.{IsLawful}
 use Rattle.us_lawful.specs.Texts.{HasFields, AreLawful}
+use Rattle.us_lawful.specs.Reports.{IsReport}
 
 -- Schedules.
 
@@ -27,6 +28,12 @@ abbrev pub TextsOfSchedulesAreLawful : Type 0
 TextsOfSchedulesAreLawful = (t : Tables) (cuts : List (List ℕ)) (counts : Counts) → AreTables t → AreCuts t cuts →
     rounds_fit t (length cuts) ≡ true → AllByRecursion HasFields (judged_of (output_of t cuts counts)).lines →
     AreLawful (run_of t cuts counts) (maps_text (output_of t cuts counts)) (report_text (output_of t cuts counts))
+
+-- And the report of a schedule reads back as the lines of its rounds, and those at the end.
+abbrev pub ReportsReadBack : Type 0
+ReportsReadBack = (t : Tables) (cuts : List (List ℕ)) (counts : Counts) → AreTables t → AreCuts t cuts →
+    AllByRecursion HasFields (judged_of (output_of t cuts counts)).lines →
+    IsReport (report_text (output_of t cuts counts)) (judged_of (output_of t cuts counts)).lines
 
 -- Rules.
 

@@ -26,12 +26,12 @@ pub mod Finals
 pub mod Lawful
 -- texts that are lawful
 pub mod Texts
+-- which bytes are reports
+pub mod Reports
 -- the output of a schedule
 pub mod Output
 -- laws: it is lawful
 pub mod Laws
--- which bytes are reports
-pub mod Reports
 -- how their lines are read, for the calls of this crate
 pub mod ReportReaders
 -- lines at small inputs,

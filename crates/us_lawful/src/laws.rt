@@ -1,6 +1,6 @@
 //! Laws, each as the contract of a function that does nothing.
 
-ghost use Rattle.us_lawful.specs.Laws.{OrderedAssignmentsHold, SchedulesAreLawful, TextsOfSchedulesAreLawful};
+ghost use Rattle.us_lawful.specs.Laws.{OrderedAssignmentsHold, ReportsReadBack, SchedulesAreLawful, TextsOfSchedulesAreLawful};
 ghost use Rattle.us_lawful.specs.Reports.{OneReading};
 
 /// All that a schedule gives is lawful: of all accepted tables, of rounds that fit into a run, and of cuts with a number for
@@ -12,6 +12,11 @@ pub fn schedules_are_lawful()
 /// So are the maps file and the report of a schedule, where all numbers of its lines have 64 bits.
 pub fn texts_of_schedules_are_lawful()
     ensures { TextsOfSchedulesAreLawful }
+{}
+
+/// The report of a schedule reads back as its lines.
+pub fn reports_read_back()
+    ensures { ReportsReadBack }
 {}
 
 /// Assignments in order, with the gaps between them, are lawful at every minislot.

@@ -1,7 +1,7 @@
 //! Lawful output: the rules by which the MAPs and the lines of a run are judged, whoever made them.
 //!
 //! A rule says at a place what has to hold there. No rule knows of plans, or of how places are chosen. What the rules are
-//! stands in `specs/`, in the order of its `Lib.antt`; no call judges by them yet.
+//! stands in `specs/`, in the order of its `Lib.antt`; no call judges by them yet. `report_rows` reads a report back.
 #![tactic(auto)]
 
 // Why a report is refused.
@@ -18,7 +18,8 @@ mod report_reading;
 mod laws;
 
 pub use laws::{
-    one_reading, ordered_assignments_hold, schedules_are_lawful, texts_of_schedules_are_lawful,
+    one_reading, ordered_assignments_hold, reports_read_back, schedules_are_lawful,
+    texts_of_schedules_are_lawful,
 };
 pub use report_faults::ReportFault;
 pub use report_reading::report_rows;

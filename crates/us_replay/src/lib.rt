@@ -34,6 +34,7 @@ mod replays;
 pub use faults::RunFault;
 pub use replays::{check_run, replay};
 pub use summaries::Summary;
+pub use us_lawful::{ReportFault, report_rows};
 pub use us_round::{EntryWord, FinalState, Grant, MissedOccurrence, Row, TraceCounts};
 
 #[cfg(test)]
