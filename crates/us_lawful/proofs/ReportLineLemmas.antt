@@ -136,7 +136,8 @@ grant_found bytes x found =
       ap (λ text. 71 ∷ text)
           (a.1 ∙ ap (occurrence_text of.0)
           (follow (44 ∷ decimal sid.0) b.1 (follow (44 ∷ decimal iuc.0) c.1 (follow (44 ∷ decimal start.0) d.1
-          (follow (44 ∷ decimal slots.0) e.1 (follow (44 ∷ decimal credit.0) f.1 (after_found (codes "\n") credit.1 rest g)))))))
+          (follow (44 ∷ decimal slots.0) e.1
+          (follow (44 ∷ decimal credit.0) f.1 (after_found (codes "\n") credit.1 rest g)))))))
           ∙ sym (grant_spelled _ rest),
     ))))))))
 

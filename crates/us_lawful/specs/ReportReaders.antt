@@ -36,7 +36,7 @@ more_digits high (b ∷ bytes) =
     if is_ascii_digit b then (if nat_lt (with_digit high b) (2 ^ 64) then more_digits (with_digit high b) bytes else None)
     else Some (high, b ∷ bytes)
 
--- a number: 0, or one that begins with another digit
+-- a number: 0 alone, or one that begins with another digit
 unfoldable pub number_at : List ℕ → Option (ℕ × List ℕ)
 number_at [] = None
 number_at (b ∷ bytes) =

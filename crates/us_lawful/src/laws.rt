@@ -24,7 +24,7 @@ pub fn ordered_assignments_hold()
     ensures { OrderedAssignmentsHold }
 {}
 
-/// No bytes are two reports, or have two first lines that are bad.
+/// Bytes have one reading: the rows whose lines they are, or the number of the first line that is of no row.
 pub fn one_reading()
     ensures { OneReading }
 {}

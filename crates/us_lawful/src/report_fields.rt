@@ -6,7 +6,6 @@ ghost use Rattle.us_lawful.specs.ReportReaders as spec;
 use us_round::EntryWord;
 
 /// What stands behind a word.
-#[tactic(auto)]
 pub(crate) fn after<'a>(word: &[u8], bytes: &'a [u8]) -> Option<&'a [u8]>
     ensures { option_map (λ rest. rest.now) result ≡ spec.after word.now bytes.now }
 {
@@ -21,7 +20,8 @@ pub(crate) fn field(bytes: &[u8]) -> Option<(u64, &[u8])>
     number(after(b",", bytes)?)
 }
 
-/// A number: no leading zero, and at most `2^64 - 1`.
+/// A number: no leading zero, and at most `2^64 - 1`. What begins with 0 is that number alone: no line goes on with a digit
+/// behind it.
 #[tactic(auto, unfolding(crate::specs::ReportReaders::number_at))]
 fn number(bytes: &[u8]) -> Option<(u64, &[u8])>
     ensures { option_map (λ found. (found.0, found.1.now)) result ≡ spec.number_at bytes.now }
