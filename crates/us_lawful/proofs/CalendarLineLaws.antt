@@ -192,8 +192,7 @@ module _ (run : Run) (lines : List Row) (lawful : AreTables run.tables) (counted
   settled_hold p r place c round [] at before of right = tt
   settled_hold p r place c round (s ∷ all) at before of right =
       let e : Entry = of.0.entry in
-      let n : ℕ = of.0.number in
-      (
+      let n : ℕ = of.0.number in (
         or_right (not (is_calendar_line_at p (settled_row r c s)))
             (list_any (tells_one_of run lines (settled_row r c s)) (channel_entries run.tables))
             (told_marks place c e n r (board_at_turn e n round) s (record { at = at; among = of.0.among }) before of.0.named

@@ -216,7 +216,7 @@ paired = record each_round {
 
 two_in_an_interval :
     let first : List Row = rows.Granted (record grant { round = 0 })
-        ∷ rows.Granted (record grant { round = 0; k = 1; start = 1 }) ∷ rows.Granted (record grant { i = 1 }) ∷ [] in
+    ∷ rows.Granted (record grant { round = 0; k = 1; start = 1 }) ∷ rows.Granted (record grant { i = 1 }) ∷ [] in
     let told : Judged = with (rows.Granted (record grant { i = 1; k = 1; start = 1 }) ∷ first) in
     let third : Judged = with (rows.Granted (record grant { i = 1; k = 2; start = 1 }) ∷ first) in
     (calendar_lines_hold paired told (at 0 1 1) ≡ true) × (calendar_lines_hold paired told (at 1 1 1) ≡ true)

@@ -89,10 +89,12 @@ two_grants = (refl, refl)
 
 -- a grant on each of two channels, by the SIDs there
 bonded : Run
-bonded = record stored { tables = record base {
-  channels = base_channel ∷ record base_channel { id = 2 } ∷ [];
-  flows = record base_flow { channels = 1 ∷ 2 ∷ []; clusters = (291 ∷ 292 ∷ []) ∷ [] } ∷ [];
-} }
+bonded = record stored {
+  tables = record base {
+    channels = base_channel ∷ record base_channel { id = 2 } ∷ [];
+    flows = record base_flow { channels = 1 ∷ 2 ∷ []; clusters = (291 ∷ 292 ∷ []) ∷ [] } ∷ [];
+  };
+}
 
 on_two_channels :
     let half : Grant = record stored_grant { credit = 500; slots = 17 } in
@@ -109,7 +111,7 @@ in_two_rounds :
     let once : Run = record stored { rounds = 3; cuts = (0 ∷ []) ∷ (1000 ∷ []) ∷ (0 ∷ []) ∷ [] } in
     let twice : Run = record stored { rounds = 3; cuts = (0 ∷ []) ∷ (1000 ∷ []) ∷ (1000 ∷ []) ∷ [] } in
     let judged : Judged =
-        with_grants (rows.Granted stored_grant ∷ rows.Granted (record stored_grant { round = 2 }) ∷ []) in
+    with_grants (rows.Granted stored_grant ∷ rows.Granted (record stored_grant { round = 2 }) ∷ []) in
     (credits_hold twice judged (at 2 0 1) ≡ true) × (credits_hold twice judged (at 2 1 1) ≡ true)
     × (credits_hold once judged (at 2 0 1) ≡ false) × (credits_hold once judged (at 1 0 1) ≡ true)
 unfolding steps

@@ -67,7 +67,7 @@ wrong_finals = (refl, refl, refl, refl, refl, refl)
 other_finals :
     let empty : Judged = with_finals (rows.Final (record stored_final { units = Some 0 }) ∷ []) in
     let second : Judged =
-        with_finals (rows.Final stored_final ∷ rows.Final (record stored_final { cluster = 1 }) ∷ []) in
+    with_finals (rows.Final stored_final ∷ rows.Final (record stored_final { cluster = 1 }) ∷ []) in
     let unknown : Judged = with_finals (rows.Final stored_final ∷ rows.Final (record stored_final { flow = 2 }) ∷ []) in
     (finals_hold stored empty (at 2 0 1) ≡ false) × (finals_hold stored second (at 2 0 1) ≡ false)
     × (finals_hold stored unknown (at 2 0 2) ≡ false) × (finals_hold stored unknown (at 2 0 1) ≡ true)

@@ -67,5 +67,5 @@ abbrev pub counts_hold : Run → Judged → Place → Bool
 counts_hold run judged p =
     if (p.round == run.rounds) && (p.channel == 0) && (p.third == 0)
     then (length (counts_in judged.lines) == 1)
-        && list_any (is_same_counts (counts_told run.counts)) (counts_in judged.lines)
+    && list_any (is_same_counts (counts_told run.counts)) (counts_in judged.lines)
     else true

@@ -119,10 +119,14 @@ two_channels = (refl, refl, refl)
 
 -- Initial Maintenance of 3 minislots in every other round
 maintained :
-    let run : Run = record stored { tables = record base { channels = record base_channel {
-      maintenance_minislots = 3;
-      maintenance_every = 2;
-    } ∷ [] } } in
+    let run : Run = record stored {
+      tables = record base {
+        channels = record base_channel {
+          maintenance_minislots = 3;
+          maintenance_every = 2;
+        } ∷ [];
+      };
+    } in
     let kept : RoundMap = base_map 0 (element 16383 3 0 ∷ element 16383 1 3 ∷ element 16383 1 150 ∷ []) in
     (regions_hold run (with_maps kept granted_map) (at 0 1 0) ≡ true)
     × (regions_hold run (with_maps kept granted_map) (at 0 1 3) ≡ true)
