@@ -1,14 +1,14 @@
 -- Whose the grants of a round are: each is of a turn of the tables, and no cluster has two on a channel.
-use Rattle.std.proofs.Common.{◌≡◌, ◌≢◌, ℕ, ◌+◌, ◌≤◌, ◌==◌, eq-eqb, ne_eqb, eqb-true, Bool, true, false, List, [], ◌∷◌, map, cond, Option, Some, refl, sym, ap, ap₂, subst, ◌∙◌, arith, inl, inr}
-use Rattle.std.specs.Prelude.{◌&&◌, count_by, sum_by, slice_get, filter, flat_map, length, take}
+use Rattle.std.proofs.Common.{◌≡◌, ℕ, ◌+◌, ◌≤◌, ◌==◌, eq-eqb, ne_eqb, eqb-true, true, List, [], ◌∷◌, map, cond, Some, refl, sym, ap, ap₂, subst, ◌∙◌, arith, inl, inr}
+use Rattle.std.specs.Prelude.{◌&&◌, count_by, slice_get, flat_map, length, take}
 use Rattle.std.specs.List.{AllByRecursion}
 use Rattle.std.proofs.lemmas.Bool.{cases_Bool, cases_eq, and_parts}
 use Rattle.std.proofs.lemmas.List.Sums.{sum_by-cons}
-use Rattle.us_slots.specs.Bursts.{IsChannelBursts, grant_cost}
+use Rattle.us_slots.specs.Bursts.{grant_cost}
 use Rattle.us_flows.specs.declared.channels.Channel.{Channel}
 use Rattle.us_flows.specs.Tables.{Tables, FlowTable, header_bytes}
-use Rattle.us_flows.specs.Clusters.{Turn, Cluster, IsTurnIn, has_sid, requesting}
-use Rattle.us_flows.specs.Lawful.{AreApart, AreTables}
+use Rattle.us_flows.specs.Clusters.{Turn, IsTurnIn, has_sid, requesting}
+use Rattle.us_flows.specs.Lawful.{AreTables}
 use Rattle.us_flows.proofs.KeyLaws.{place_of_key}
 use Rattle.us_flows.proofs.TurnLaws.{one_turn}
 use Rattle.us_bucket.specs.Levels.{bytes_in}

@@ -1,5 +1,4 @@
 -- Every schedule is lawful: each rule holds at each place.
-use Rattle.std.proofs.Common.{true}
 use Rattle.std.proofs.lemmas.Bool.{and_from}
 use Rattle.us_lawful.specs.Output.{judged_of, output_of, run_of}
 use Rattle.us_lawful.specs.Credits.{credit_lines_hold, sums_hold}

@@ -1,5 +1,5 @@
 -- The rounds of a run, and their lines: a sum over all lines of a report goes round by round and channel by channel.
-use Rattle.std.proofs.Common.{◌≡◌, ◌≢◌, ℕ, zero, suc, ◌+◌, ◌<◌, ◌≤◌, ◌==◌, ◌⊎◌, ne_eqb, Bool, true, false, List, [], ◌∷◌, ◌++◌, length, map, cond, Option, Some, None, refl, sym, ap, subst, ◌∙◌, arith, inl, inr}
+use Rattle.std.proofs.Common.{◌≡◌, ◌≢◌, ℕ, zero, suc, ◌+◌, ◌<◌, ◌==◌, ◌⊎◌, ne_eqb, Bool, true, false, List, [], ◌∷◌, ◌++◌, length, map, Some, refl, sym, ap, subst, ◌∙◌, arith, inl, inr}
 use Rattle.std.specs.Prelude.{◌&&◌, not, filter, flat_map, slice_get, sum_by, option_map}
 use Rattle.std.specs.List.{AllByRecursion, range_with_len}
 use Rattle.std.proofs.lemmas.Bool.{cases_Bool}
@@ -17,22 +17,21 @@ use Rattle.us_calendar.specs.declared.settled.Settled.TheVariants as settled
 use Rattle.us_channel.specs.Placements.{PlacedClaim}
 use Rattle.us_channel.specs.Channels.{Built}
 use Rattle.us_round.specs.declared.rows.Row.{Row}
-use Rattle.us_round.specs.declared.rows.Row.TheVariants as rows
 use Rattle.us_round.specs.Rounds.{State, Scheduled, opening, builds_of, ended, schedule, final}
 use Rattle.us_round.specs.Outputs.{RoundOut, is_granted, settled_row, grant_row, by_start, granted_rows, missed_rows, rows_on, final_row, final_rows, out_of}
 use Rattle.us_round.specs.Leftovers.{AreInside}
 use Rattle.us_round.specs.States.{IsState, AreSound}
 use Rattle.us_round.specs.ScheduleLaws.{begun_rounds, AreCuts}
-use Rattle.us_round.proofs.PartLemmas.{all_append, all_flat, all_found, all_mapped, all_weaker}
+use Rattle.us_round.proofs.PartLemmas.{all_append, all_found, all_weaker}
 use Rattle.us_round.proofs.LineLemmas.{granted_inside}
 use Rattle.us_round.proofs.OutputLaws.{by_start_moves}
 use Rattle.us_round.proofs.ChannelRunLaws.{channels_stay}
 use Rattle.us_round.proofs.ScheduleLaws.{IsBegunIn, opening_begun, rounds_are_numbered, schedule_is_of_begun_rounds, state_sound}
 use Rattle.us_lawful.specs.Files.{counts_row}
-use Rattle.us_lawful.specs.Output.{Output, output_of, all_rows, judged_of}
+use Rattle.us_lawful.specs.Output.{output_of, all_rows, judged_of}
 use Rattle.us_lawful.specs.Places.{is_told_at}
-use Rattle.us_lawful.proofs.SameLemmas.{same_moved, sum_append, sum_filter, sum_flat_map, sum_map}
-use Rattle.us_lawful.proofs.SumLemmas.{sum_none, sum_same, sum_both, sum_single}
+use Rattle.us_lawful.proofs.SameLemmas.{same_moved, sum_append, sum_flat_map, sum_map}
+use Rattle.us_lawful.proofs.SumLemmas.{sum_none, sum_same, sum_single}
 
 -- Rounds.
 

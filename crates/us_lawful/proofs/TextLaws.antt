@@ -1,9 +1,9 @@
 -- The texts of an output spell its MAPs and lines, and a schedule's lines can be told.
-use Rattle.std.proofs.Common.{◌≡◌, ℕ, List, [], ◌∷◌, ◌++◌, map, Bool, true, false, refl, sym, ap, ap₂, ◌∙◌}
+use Rattle.std.proofs.Common.{◌≡◌, ℕ, List, [], ◌∷◌, ◌++◌, map, true, false, refl, sym, ap, ap₂, ◌∙◌}
 use Rattle.std.specs.Prelude.{flat_map}
-use Rattle.std.specs.List.{AllByRecursion, list_all}
+use Rattle.std.specs.List.{AllByRecursion}
 use Rattle.std.proofs.lemmas.Grind.{flat_map-append}
-use Rattle.us_codec.specs.Bodies.{MapBody, spelling}
+use Rattle.us_codec.specs.Bodies.{MapBody}
 use Rattle.us_codec.specs.MapsFiles.{Piece, record_bytes, maps_file}
 use Rattle.us_flows.specs.declared.channels.Channel.{Channel}
 use Rattle.us_flows.specs.Tables.{Tables}
@@ -19,8 +19,8 @@ use Rattle.us_round.specs.declared.rows.Row.{Row}
 use Rattle.us_round.specs.Rounds.{State, builds_of}
 use Rattle.us_round.specs.Outputs.{RoundOut, entry_word, settled_row, grant_row}
 use Rattle.us_round.specs.ScheduleLaws.{AreCuts}
-use Rattle.us_round.proofs.PartLemmas.{all_append, all_both, all_flat}
-use Rattle.us_lawful.specs.Runs.{Run, RoundMap, is_requested}
+use Rattle.us_round.proofs.PartLemmas.{all_append, all_both}
+use Rattle.us_lawful.specs.Runs.{Run, is_requested}
 use Rattle.us_lawful.specs.Files.{records, round_lines, lines}
 use Rattle.us_lawful.specs.Lines.{text_of}
 use Rattle.us_lawful.specs.Output.{Output, output_of, maps_text, report_text, all_rows, round_maps, judged_of}

@@ -6,14 +6,13 @@ use Rattle.us_slots.specs.Bursts.{coded_length, burst_cost}
 use Rattle.us_codec.specs.declared.heads.Head.{Head}
 use Rattle.us_codec.specs.Elements.{MapElement, null_at}
 use Rattle.us_codec.specs.Bodies.{MapBody}
-use Rattle.us_flows.specs.Clusters.{table_order}
 use Rattle.us_bucket.specs.Levels.{refilled, spent, units_in}
 use Rattle.us_channel.specs.Maps.{head_of}
 use Rattle.us_round.specs.declared.rows.EntryWord.TheVariants as words
 use Rattle.us_round.specs.declared.rows.Grant.{Grant}
 use Rattle.us_round.specs.declared.rows.Row.{Row}
 use Rattle.us_round.specs.declared.rows.Row.TheVariants as rows
-use Rattle.us_round.specs.RoundExamples.{base, base_channel, base_flow, round_steps}
+use Rattle.us_round.specs.RoundExamples.{base, base_channel, round_steps}
 use Rattle.us_lawful.specs.Runs.{Run, RoundMap, Judged, Place}
 use Rattle.us_lawful.specs.Headings.{heading_of, heading_told, headings_of}
 use Rattle.us_lawful.specs.Places.{places_hold}

@@ -1,5 +1,5 @@
 -- The rules of F and U lines at small inputs: the stored run, and the same with other lines at the end.
-use Rattle.std.specs.Prelude.{◌≡◌, ℕ, ◌*◌, true, false, List, [], ◌∷◌, map, Some, None, ⊤, refl}
+use Rattle.std.specs.Prelude.{◌≡◌, ◌*◌, true, false, List, [], ◌∷◌, map, Some, None, refl}
 use Rattle.us_flows.specs.Clusters.{table_order}
 use Rattle.us_flows.specs.Tables.{FlowTable}
 use Rattle.us_round.specs.declared.rows.FinalState.{FinalState}

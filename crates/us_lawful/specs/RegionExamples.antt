@@ -1,11 +1,9 @@
 -- The rule of minislots at small inputs: the stored run, and the same with one thing changed. It fails at one place there,
 -- and holds beside it.
-use Rattle.std.specs.Prelude.{◌≡◌, ℕ, true, false, List, [], ◌∷◌, ◌++◌, ⊤, refl}
-use Rattle.us_codec.specs.Elements.{null_at}
+use Rattle.std.specs.Prelude.{◌≡◌, true, false, [], ◌∷◌, refl}
 use Rattle.us_flows.specs.declared.channels.Channel.{Channel}
 use Rattle.us_round.specs.declared.rows.Grant.{Grant}
 use Rattle.us_round.specs.declared.rows.Row.TheVariants as rows
-use Rattle.us_channel.specs.Maps.{head_of}
 use Rattle.us_round.specs.RoundExamples.{base, base_channel}
 use Rattle.us_lawful.specs.Runs.{Run, RoundMap, Judged}
 use Rattle.us_lawful.specs.Regions.{regions_hold}
