@@ -1,6 +1,7 @@
 -- The stored run, in which one modem asks for 1,000 bytes: what it is judged by, and what is judged of it. Beside it
 -- headings, and lines of rounds and channels that it lacks.
-use Rattle.std.specs.Prelude.{◌≡◌, ℕ, true, false, List, [], ◌∷◌, ◌++◌, map, codes, Some, None, ⊤, refl}
+use Rattle.std.specs.Prelude.{◌≡◌, ℕ, true, false, List, [], ◌∷◌, ◌++◌, map, codes, Some, None, IfSome, ⊤, refl}
+use Rattle.std.proofs.Common.{subst, arith}
 use Rattle.std.specs.Fmt.{digits}
 use Rattle.us_slots.specs.Bursts.{coded_length, burst_cost}
 use Rattle.us_codec.specs.declared.heads.Head.{Head}
@@ -14,7 +15,7 @@ use Rattle.us_round.specs.declared.rows.Row.{Row}
 use Rattle.us_round.specs.declared.rows.Row.TheVariants as rows
 use Rattle.us_round.specs.RoundExamples.{base, base_channel, round_steps}
 use Rattle.us_lawful.specs.Runs.{Run, RoundMap, Judged, Place}
-use Rattle.us_lawful.specs.Headings.{heading_of, heading_told, headings_of}
+use Rattle.us_lawful.specs.Headings.{heading_of, heading_told, headings_of, HeadingsHold}
 use Rattle.us_lawful.specs.Places.{places_hold}
 use Rattle.us_lawful.specs.Regions.{element_regions, regions_hold}
 use Rattle.us_lawful.specs.Credits.{credits_hold}
@@ -134,6 +135,22 @@ other_headings :
     × (map (λ h. h.head.ack) (headings_of stored) ≡ 0 ∷ 80 ∷ [])
 unfolding steps
 other_headings = (refl, refl, refl)
+
+-- so the rule fails at the second MAP, and holds at the first; with the second MAP missing it fails there too
+second_heading :
+    let late_head : Head = record granted_map.body.head { ack = 81 } in
+    let late : RoundMap = record { round = 1; body = record granted_map.body { head = late_head } } in
+    HeadingsHold stored (with_maps quiet_map late) (at 0 0 0)
+    × (HeadingsHold stored (with_maps quiet_map late) (at 0 0 1) → ⊥)
+unfolding steps
+second_heading =
+    (λ _ _. refl, λ holds. omega (arith, subst (λ told. IfSome told (λ h. h.head.ack ≡ 81)) (holds refl refl) refl))
+
+missing_heading :
+    let judged : Judged = record { maps = quiet_map ∷ []; lines = ends 1000 } in
+    HeadingsHold stored judged (at 0 0 0) × (HeadingsHold stored judged (at 0 0 1) → ⊥)
+unfolding steps
+missing_heading = (λ _ _. refl, λ holds. subst (λ told. IfSome told (λ h. ⊥)) (holds refl refl) tt)
 
 -- A line of a round that the run lacks: all else holds, and the F line is as if nothing was credited.
 round_past_the_end :
