@@ -1,5 +1,5 @@
 -- How a round tells who is pending, by the outstanding bytes before and after its grants; and what its boards keep.
-use Rattle.std.specs.Prelude.{◌≡◌, ℕ, ◌+◌, ◌<◌, ◌≤◌, nat_lt, ◌==◌, ◌&&◌, if◌then◌else◌, List, ◌++◌, length, take, drop, slice_get, slice_index, Option, None, IfSome, option_and_then}
+use Rattle.std.specs.Prelude.{◌≡◌, ℕ, ◌+◌, ◌<◌, ◌≤◌, Bool, nat_le, nat_lt, ◌==◌, ◌&&◌, if◌then◌else◌, List, ◌++◌, length, take, drop, slice_index, Option, None, option_and_then}
 use Rattle.std.specs.List.{AllByRecursion}
 use Rattle.us_flows.specs.Tables.{Tables, map_len}
 use Rattle.us_flows.specs.Turns.{turn_at}
@@ -37,10 +37,9 @@ pub record AreInside (built : Built) : Type 0 where
   pub settled : AllByRecursion (calendars.StartsInside (length built.board.cells)) built.settled
   pub grants : AllByRecursion (StartsInside (length built.board.cells)) built.grants
 
--- the line before place `place` starts at `start` or earlier
-abbrev pub IsUpTo : ℕ → ℕ → List Row → Type 0
-IsUpTo start place lines =
-    (before : ℕ) → place ≡ before + 1 → IfSome (slice_get lines before) (λ line. start_of line ≤ start)
+-- a line starts at `start` or earlier
+abbrev pub starts_by : ℕ → Row → Bool
+starts_by start line = nat_le (start_of line) start
 
 -- Among the lines from a place on, which stand by where they start, more were put in; those before the place stay.
 pub record ArePutIn (from : ℕ) (more old new : List Row) : Type 0 where
