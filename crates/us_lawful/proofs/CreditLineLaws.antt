@@ -29,7 +29,8 @@ use Rattle.us_round.specs.Outputs.{entry_word, settled_row, grant_row, final_row
 use Rattle.us_round.specs.ScheduleLaws.{AreCuts}
 use Rattle.us_round.proofs.PartLemmas.{all_found, all_weaker}
 use Rattle.us_round.proofs.ChannelRunLaws.{channels_stay}
-use Rattle.us_lawful.specs.Runs.{Run, Place, as_grant, is_requested, grants_in, requested_in}
+use Rattle.us_lawful.specs.declared.place.Place.{Place}
+use Rattle.us_lawful.specs.Runs.{Run, as_grant, is_requested, grants_in, requested_in}
 use Rattle.us_lawful.specs.Files.{counts_row}
 use Rattle.us_lawful.specs.Output.{output_of, judged_of, run_of}
 use Rattle.us_lawful.specs.Places.{is_told_at}

@@ -19,7 +19,8 @@ use Rattle.us_round.specs.declared.rows.TraceCounts.{TraceCounts}
 use Rattle.us_round.specs.Rounds.{State, opening, final}
 use Rattle.us_round.specs.ScheduleLaws.{AreCuts}
 use Rattle.us_round.proofs.PartLemmas.{all_found, all_weaker}
-use Rattle.us_lawful.specs.Runs.{Run, Place, counts_in, counts_told, finals_in}
+use Rattle.us_lawful.specs.declared.place.Place.{Place}
+use Rattle.us_lawful.specs.Runs.{Run, counts_in, counts_told, finals_in}
 use Rattle.us_lawful.specs.Credits.{asked_within, credited_within}
 use Rattle.us_lawful.specs.Finals.{counts_hold, final_holds, final_of, finals_hold, flow_finals_hold, is_final_of, is_same_counts, is_same_final, level_left, units_left}
 use Rattle.us_lawful.specs.Output.{output_of, judged_of, run_of}

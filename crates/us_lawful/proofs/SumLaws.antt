@@ -16,7 +16,8 @@ use Rattle.us_round.specs.Rounds.{opening, builds_of, all_grants, is_of_cluster,
 use Rattle.us_round.specs.ScheduleLaws.{AreCuts, credited_of}
 use Rattle.us_round.proofs.ByteLaws.{bytes_are_kept}
 use Rattle.us_round.proofs.PartLemmas.{all_taken, all_weaker}
-use Rattle.us_lawful.specs.Runs.{Run, Place, requested_in}
+use Rattle.us_lawful.specs.declared.place.Place.{Place}
+use Rattle.us_lawful.specs.Runs.{Run, requested_in}
 use Rattle.us_lawful.specs.Credits.{asked_within, credited_in, credited_within, is_of, sum_holds, sums_hold}
 use Rattle.us_lawful.specs.Output.{output_of, judged_of, run_of}
 use Rattle.us_lawful.proofs.SameLemmas.{sum_filter}

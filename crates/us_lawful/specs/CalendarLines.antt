@@ -13,7 +13,8 @@ use Rattle.us_round.specs.declared.rows.EntryWord.{EntryWord}
 use Rattle.us_round.specs.declared.rows.EntryWord.TheVariants as words
 use Rattle.us_round.specs.declared.rows.Row.{Row}
 use Rattle.us_round.specs.declared.rows.Row.TheVariants as rows
-use Rattle.us_lawful.specs.Runs.{Run, Judged, Place, is_requested}
+use Rattle.us_lawful.specs.declared.place.Place.{Place}
+use Rattle.us_lawful.specs.Runs.{Run, Judged, is_requested}
 
 -- What there is.
 

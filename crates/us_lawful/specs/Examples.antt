@@ -14,7 +14,9 @@ use Rattle.us_round.specs.declared.rows.Grant.{Grant}
 use Rattle.us_round.specs.declared.rows.Row.{Row}
 use Rattle.us_round.specs.declared.rows.Row.TheVariants as rows
 use Rattle.us_round.specs.RoundExamples.{base, base_channel, round_steps}
-use Rattle.us_lawful.specs.Runs.{Run, RoundMap, Judged, Place}
+use Rattle.us_lawful.specs.declared.place.Place.{Place}
+use Rattle.us_lawful.specs.declared.judged.RoundMap.{RoundMap}
+use Rattle.us_lawful.specs.Runs.{Run, Judged}
 use Rattle.us_lawful.specs.Headings.{heading_of, heading_told, headings_of, HeadingsHold}
 use Rattle.us_lawful.specs.Places.{places_hold}
 use Rattle.us_lawful.specs.Regions.{element_regions, regions_hold}

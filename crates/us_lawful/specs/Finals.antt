@@ -8,7 +8,8 @@ use Rattle.us_bucket.specs.Levels.{Level, full, refilled, spent, units_in}
 use Rattle.us_round.specs.declared.rows.FinalState.{FinalState}
 use Rattle.us_round.specs.declared.rows.Row.{Row}
 use Rattle.us_round.specs.declared.rows.TraceCounts.{TraceCounts}
-use Rattle.us_lawful.specs.Runs.{Run, Judged, Place, finals_in, counts_in, counts_told}
+use Rattle.us_lawful.specs.declared.place.Place.{Place}
+use Rattle.us_lawful.specs.Runs.{Run, Judged, finals_in, counts_in, counts_told}
 use Rattle.us_lawful.specs.Rates.{flow_credits}
 use Rattle.us_lawful.specs.Credits.{credited_within, asked_within}
 

@@ -7,7 +7,9 @@ use Rattle.us_codec.specs.Elements.{MapElement}
 use Rattle.us_flows.specs.declared.channels.Channel.{Channel}
 use Rattle.us_flows.specs.Tables.{Tables, map_len}
 use Rattle.us_channel.specs.Maps.{head_of}
-use Rattle.us_lawful.specs.Runs.{Run, RoundMap, Judged, Place}
+use Rattle.us_lawful.specs.declared.place.Place.{Place}
+use Rattle.us_lawful.specs.declared.judged.RoundMap.{RoundMap}
+use Rattle.us_lawful.specs.Runs.{Run, Judged}
 
 -- the round of a MAP, what stands before its elements, and its length
 pub record Heading : Type 0 where

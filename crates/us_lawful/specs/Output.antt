@@ -6,7 +6,8 @@ use Rattle.us_requests.specs.declared.asks.Counts.{Counts}
 use Rattle.us_round.specs.Rounds.{opening, schedule, final}
 use Rattle.us_round.specs.Outputs.{RoundOut, final_rows, out_of}
 use Rattle.us_round.specs.declared.rows.Row.{Row}
-use Rattle.us_lawful.specs.Runs.{Run, RoundMap, Judged}
+use Rattle.us_lawful.specs.declared.judged.RoundMap.{RoundMap}
+use Rattle.us_lawful.specs.Runs.{Run, Judged}
 use Rattle.us_lawful.specs.Files.{records, round_lines, lines, counts_row}
 
 -- what each round gives, and the lines at the end of the report

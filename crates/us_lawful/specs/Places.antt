@@ -4,7 +4,8 @@ use Rattle.std.specs.List.{list_any}
 use Rattle.us_flows.specs.Tables.{has_channel}
 use Rattle.us_round.specs.declared.rows.Row.{Row}
 use Rattle.us_round.specs.declared.rows.Row.TheVariants as rows
-use Rattle.us_lawful.specs.Runs.{Run, Judged, Place}
+use Rattle.us_lawful.specs.declared.place.Place.{Place}
+use Rattle.us_lawful.specs.Runs.{Run, Judged}
 
 -- a G or M line that is of this round and channel
 abbrev pub is_told_at : ℕ → ℕ → Row → Bool

@@ -6,7 +6,8 @@ use Rattle.us_flows.specs.Tables.{Tables, FlowTable}
 use Rattle.us_bucket.specs.Levels.{units_per_byte}
 use Rattle.us_bucket.specs.Allowances.{credited}
 use Rattle.us_round.specs.declared.rows.Row.{Row}
-use Rattle.us_lawful.specs.Runs.{Run, Judged, Place, requested_in}
+use Rattle.us_lawful.specs.declared.place.Place.{Place}
+use Rattle.us_lawful.specs.Runs.{Run, Judged, requested_in}
 
 -- the bytes that lines of requests credit to a flow in a round
 abbrev pub flow_credit : List Row → ℕ → ℕ → ℕ

@@ -1,8 +1,11 @@
 -- What a run is judged by, and what is judged (ours).
-use Rattle.std.specs.Prelude.{ℕ, List, filter, filter_map, Option, Some, None, Bool, true, false}
-use Rattle.us_codec.specs.Bodies.{MapBody}
+use Rattle.std.specs.Prelude.{ℕ, ◌<◌, List, length, map, filter, filter_map, Option, Some, None, Bool, true, false}
+use Rattle.std.specs.List.{AllByRecursion, range_with_len}
 use Rattle.us_flows.specs.Tables.{Tables}
+use Rattle.us_flows.specs.Clusters.{clusters_of}
 use Rattle.us_requests.specs.declared.asks.Counts.{Counts}
+use Rattle.us_requests.specs.Cuts.{cut_of}
+use Rattle.us_requests.specs.Traces.{TraceAsks, asks_in}
 use Rattle.us_round.specs.declared.rows.EntryWord.{EntryWord}
 use Rattle.us_round.specs.declared.rows.EntryWord.TheVariants as words
 use Rattle.us_round.specs.declared.rows.FinalState.{FinalState}
@@ -10,6 +13,7 @@ use Rattle.us_round.specs.declared.rows.Grant.{Grant}
 use Rattle.us_round.specs.declared.rows.Row.{Row}
 use Rattle.us_round.specs.declared.rows.Row.TheVariants as rows
 use Rattle.us_round.specs.declared.rows.TraceCounts.{TraceCounts}
+use Rattle.us_lawful.specs.declared.judged.RoundMap.{RoundMap}
 
 -- a run: its tables, the number of its rounds, the bytes that each cluster newly asks for in each round, and how many rows
 -- of the trace are no requests
@@ -19,21 +23,22 @@ pub record Run : Type 0 where
   pub cuts : List (List ℕ)
   pub counts : Counts
 
--- a MAP, and the round that it is for
-pub record RoundMap : Type 0 where
-  pub round : ℕ
-  pub body : MapBody
+-- the cuts of all rounds of a trace that was read: what its asks add up to
+unfoldable pub cuts_in : Tables → TraceAsks → List (List ℕ)
+cuts_in t v = map (λ round. cut_of (length (clusters_of t)) (asks_in v round)) (range_with_len 0 v.rounds)
+
+-- the run of such a trace
+abbrev pub run_in : Tables → TraceAsks → Run
+run_in t v = record { tables = t; rounds = v.rounds; cuts = cuts_in t v; counts = v.counts }
+
+-- each of its asks names a cluster that is there
+abbrev pub AsksAreKnown : Tables → TraceAsks → Type 0
+AsksAreKnown t v = (round : ℕ) → AllByRecursion (λ ask. ask.cluster < length (clusters_of t)) (asks_in v round)
 
 -- what is judged: MAPs and lines
 pub record Judged : Type 0 where
   pub maps : List RoundMap
   pub lines : List Row
-
--- where a rule is looked at: a round, a channel by its id, and a third number, of which each rule says what it is
-pub record Place : Type 0 where
-  pub round : ℕ
-  pub channel : ℕ
-  pub third : ℕ
 
 -- Lines by their kinds.
 

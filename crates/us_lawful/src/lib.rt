@@ -8,6 +8,10 @@
 //! ```
 #![tactic(auto)]
 
+// What is judged, and where.
+mod judged;
+mod place;
+
 // Why a report is refused.
 mod report_faults;
 
@@ -21,10 +25,12 @@ mod report_reading;
 // Laws of the rules, and of reports.
 mod laws;
 
+pub use judged::{Judged, RoundMap};
 pub use laws::{
     one_reading, ordered_assignments_hold, reports_read_back, schedules_are_lawful,
     texts_of_schedules_are_lawful,
 };
+pub use place::Place;
 pub use report_faults::ReportFault;
 pub use report_reading::report_rows;
 

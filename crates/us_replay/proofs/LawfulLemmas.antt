@@ -16,7 +16,8 @@ use Rattle.us_lawful.proofs.LawfulLaws.{texts_of_schedules_are_lawful}
 use Rattle.us_replay.specs.declared.summaries.Summary.{Summary}
 use Rattle.us_replay.specs.declared.faults.RunFault.{RunFault}
 use Rattle.us_replay.specs.Replays.{Growth, WroteLawful, cuts_of}
-use Rattle.us_replay.specs.Progress.{IsLawfulOutput, RanTrace, cuts_in, output_in}
+use Rattle.us_lawful.specs.Runs.{cuts_in}
+use Rattle.us_replay.specs.Progress.{IsLawfulOutput, RanTrace, output_in}
 use Rattle.us_replay.proofs.LoopLemmas.{length-cuts}
 use Rattle.us_replay.proofs.ReplayLemmas.{cuts-same}
 use Rattle.us_replay.proofs.SumLemmas.{length-cut}

@@ -22,7 +22,8 @@ use Rattle.us_round.proofs.PartLemmas.{all_append}
 use Rattle.us_lawful.specs.Output.{all_rows, judged_of, output_of}
 use Rattle.us_lawful.specs.Texts.{HasFields}
 use Rattle.us_replay.specs.Replays.{KeptLimits, is_granted, is_missed, summary_of}
-use Rattle.us_replay.specs.Progress.{Progress, Along, CanMake, IsMade, cuts_in, last_rows, opening_progress, out_after, output_in, step_of, summary_after, with_last, with_round}
+use Rattle.us_lawful.specs.Runs.{cuts_in}
+use Rattle.us_replay.specs.Progress.{Progress, Along, CanMake, IsMade, last_rows, opening_progress, out_after, output_in, step_of, summary_after, with_last, with_round}
 use Rattle.us_replay.proofs.RoundLemmas.{After, after, HasCalendars, opening-calendars, next-calendars, some-records}
 use Rattle.us_replay.proofs.CollectingLemmas.{all-within, are-asks}
 use Rattle.us_replay.proofs.SumLemmas.{added-below, length-cut, sum-cut}

@@ -13,7 +13,8 @@ use Rattle.us_replay.specs.declared.faults.RunFault.{RunFault}
 use Rattle.us_replay.specs.Endings.{Ending, Refused, StoppedBy, ended, rounds_done}
 use Rattle.us_lawful.specs.Output.{output_of}
 use Rattle.us_replay.specs.Replays.{Growth, Ran, RanText, KeptLimits, Stands, Replayed, cuts_of, output_for}
-use Rattle.us_replay.specs.Progress.{RanTrace, cuts_in}
+use Rattle.us_lawful.specs.Runs.{cuts_in}
+use Rattle.us_replay.specs.Progress.{RanTrace}
 
 -- the asks of each round add up to the cut of the rows
 pub cuts-same : (t : Tables) (rounds : ℕ) (requests : List Request) (v : TraceAsks) → IsTraceOf t rounds requests v →

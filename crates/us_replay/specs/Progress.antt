@@ -23,16 +23,13 @@ use Rattle.us_replay.specs.Collecting.{AreAsks, chunk_quota}
 use Rattle.us_lawful.specs.Files.{records, round_lines, lines, counts_row}
 use Rattle.us_replay.specs.Endings.{ended, rounds_done, Ending, Refused, StoppedBy, Maps, Report, Memory}
 use Rattle.us_lawful.specs.Output.{Output, all_rows, maps_text, output_of, report_text, run_of}
+use Rattle.us_lawful.specs.Runs.{cuts_in}
 use Rattle.us_lawful.specs.Texts.{HasFields, AreLawful}
 use Rattle.us_replay.specs.Replays.{Growth, Took, Ran, KeptLimits, is_granted, is_missed}
 
 -- Traces.
 
--- the cuts of all rounds of a trace that was read: what its asks add up to
-unfoldable pub cuts_in : Tables → TraceAsks → List (List ℕ)
-cuts_in t v = map (λ round. cut_of (length (clusters_of t)) (asks_in v round)) (range_with_len 0 v.rounds)
-
--- and what they come to
+-- what the cuts of a trace come to
 abbrev pub output_in : Tables → TraceAsks → Output
 output_in t v = output_of t (cuts_in t v) v.counts
 

@@ -5,7 +5,8 @@ use Rattle.us_flows.specs.Clusters.{clusters_of}
 use Rattle.us_requests.specs.Traces.{TraceAsks, asks_in}
 use Rattle.us_lawful.specs.Output.{judged_of}
 use Rattle.us_lawful.specs.Texts.{HasFields}
-use Rattle.us_replay.specs.Progress.{Along, cuts_in, opening_progress, output_in}
+use Rattle.us_lawful.specs.Runs.{cuts_in}
+use Rattle.us_replay.specs.Progress.{Along, opening_progress, output_in}
 use Rattle.us_replay.proofs.ReplayStopLemmas.{stops-between, none-kept, nothing-yet}
 use Rattle.us_replay.proofs.LoopLemmas.{along-opening, some-next}
 use Rattle.us_replay.proofs.LawfulLemmas.{lawful-output}
