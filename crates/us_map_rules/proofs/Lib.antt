@@ -1,0 +1,12 @@
+pub mod RecordLemmas
+pub mod MapsLemmas
+pub mod PlaceLemmas
+pub mod HeadingLemmas
+pub mod PartLemmas
+pub mod FollowLemmas
+pub mod PieceLemmas
+pub mod LineLemmas
+pub mod MapRegionLemmas
+pub mod TableLemmas
+pub mod RegionRuleLemmas
+pub mod PlacedLemmas

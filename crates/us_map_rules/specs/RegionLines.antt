@@ -1,0 +1,29 @@
+-- The minislots of G lines by the MAP that they are for.
+use Rattle.std.specs.Prelude.{ℕ, ◌+◌, ◌*◌, ◌<◌, ◌≤◌, ◌==◌, nat_lt, if◌then◌else◌, List, length, slice_index_or, position, Option, None, option_map}
+use Rattle.us_flows.specs.Tables.{Tables}
+use Rattle.us_round.specs.declared.rows.Grant.{Grant}
+use Rattle.us_round.specs.declared.rows.Row.{Row}
+use Rattle.us_round.specs.declared.rows.Row.TheVariants as rows
+use Rattle.us_lawful.specs.Regions.{region_of}
+use Rattle.us_map_rules.specs.declared.region_lines.PlacedRegion.{PlacedRegion}
+
+-- the number of a MAP: by round, and then by channel
+abbrev pub map_number : Tables → ℕ → ℕ → ℕ
+map_number t round place = round * length t.channels + place
+
+-- a grant on a channel of the table,
+abbrev pub placed_grant : Tables → Grant → Option PlacedRegion
+placed_grant t g =
+    option_map (λ place. record { map = map_number t g.round place; region = region_of g })
+    (position (λ c. c.id == g.channel) t.channels)
+
+-- of a round of the run
+abbrev pub placed_line : Tables → ℕ → Row → Option PlacedRegion
+placed_line t rounds (rows.Granted g) = if nat_lt g.round rounds then placed_grant t g else None
+placed_line t rounds _ = None
+
+-- lines by the number of their MAP are cut at a place: before it stand those of MAPs before this one, and behind it others
+pub record IsCut (placed : List PlacedRegion) (number at : ℕ) : Type 0 where
+  pub within : at ≤ length placed
+  pub before : (k : ℕ) (d : PlacedRegion) → k < at → (slice_index_or placed k d).map < number
+  pub behind : (k : ℕ) (d : PlacedRegion) → at ≤ k → k < length placed → number ≤ (slice_index_or placed k d).map
