@@ -402,7 +402,7 @@ def shape(chance, kind):
     return {}
 
 
-def inputs(seed):
+def inputs(seed, most_rounds=MAX_RUN_TICKS):
     """Configuration, trace and rounds of a seed."""
     chance = random.Random(seed)
     kind = seed % 20
@@ -413,7 +413,7 @@ def inputs(seed):
         text, asks, pace = with_calendar(chance, text, round_ticks, asks, ids, chance.random() < .15)
     rounds = chance.choice([1, 2, 3, 8, 20, 60, 200, 1500 if kind < 12 else 30])
     rounds = min(rounds, int(MOST_OCCURRENCES / max(pace, 1)) + 1)
-    rounds = min(rounds, MAX_RUN_TICKS // round_ticks)
+    rounds = min(rounds, MAX_RUN_TICKS // round_ticks, most_rounds)
     if kind == 19:
         rounds = min(rounds, 30)
     requests = trace(chance, round_ticks, lead, asks, ids, rounds, count=1500 if kind in (17, 19) else None)

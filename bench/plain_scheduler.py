@@ -157,26 +157,17 @@ def divide(x, weights):
     assert sum(shares) == x
     return shares
 
-def simulate(config_text, trace_text, rounds, notes=None, seen=None):
-    seen = defaultdict(int) if seen is None else seen
-    table = tomllib.loads(config_text)
+def requests(table, trace_text, rounds):
+    """What a trace asks for: bytes by round and turn, a flow's place and a cluster, and how many of its rows are
+    unknown, not requestable and late."""
     P, L = table["round_ticks"], table["lead_ticks"]
-    channels = [Channel(c, P) for c in table["channel"]]
-    by_id = {c.id: c for c in channels}
-    flows, stations = table.get("flow", []), table.get("station", [])
-    calendars = {c.id: calendar_of(c, flows, stations) for c in channels}
-    turns = []
+    flows = table.get("flow", [])
     sids = {}  # a turn, or None for unsolicited grants
     for fi, f in enumerate(flows):
         for ci, cluster in enumerate(f["clusters"]):
-            if f["type"] != 6:
-                turns.append((fi, ci))
             for c, s in zip(f["channels"], cluster, strict=True):
                 assert (c, s) not in sids
                 sids[c, s] = (fi, ci) if f["type"] != 6 else None
-    outstanding = {t: 0 for t in turns}
-    units = [f["burst"] * BYTE if f["type"] != 6 else 0 for f in flows]
-    turns.sort(key=lambda t: (-flows[t[0]]["priority"], flows[t[0]]["id"], t[1]))
     cuts = defaultdict(lambda: defaultdict(int))
     unknown = not_requestable = late = 0
     for line in trace_text.splitlines()[1:]:
@@ -193,6 +184,21 @@ def simulate(config_text, trace_text, rounds, notes=None, seen=None):
             continue
         t = sids[channel, sid]
         cuts[r][t] += n * flows[t[0]]["unit"]
+    return cuts, (unknown, not_requestable, late)
+
+def simulate(config_text, trace_text, rounds, notes=None, seen=None):
+    seen = defaultdict(int) if seen is None else seen
+    table = tomllib.loads(config_text)
+    P, L = table["round_ticks"], table["lead_ticks"]
+    channels = [Channel(c, P) for c in table["channel"]]
+    by_id = {c.id: c for c in channels}
+    flows, stations = table.get("flow", []), table.get("station", [])
+    calendars = {c.id: calendar_of(c, flows, stations) for c in channels}
+    turns = [(fi, ci) for fi, f in enumerate(flows) if f["type"] != 6 for ci in range(len(f["clusters"]))]
+    outstanding = {t: 0 for t in turns}
+    units = [f["burst"] * BYTE if f["type"] != 6 else 0 for f in flows]
+    turns.sort(key=lambda t: (-flows[t[0]]["priority"], flows[t[0]]["id"], t[1]))
+    cuts, (unknown, not_requestable, late) = requests(table, trace_text, rounds)
     maps, report, granted, missed = bytearray(), [], 0, 0
     for r in range(rounds):
         for t, n in cuts[r].items() if r in cuts else ():
