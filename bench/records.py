@@ -28,8 +28,9 @@ class Record:
         return struct.pack(">IH", self.round & 0xFFFFFFFF, len(body)) + body
 
     def null(self):
-        """The place of its Null among the elements."""
-        return next(at for at, (_sid, iuc, _offset) in enumerate(self.elements) if iuc == NULL)
+        """The place of its Null among the elements, or their number where there is none."""
+        nulls = (at for at, (_sid, iuc, _offset) in enumerate(self.elements) if iuc == NULL)
+        return next(nulls, len(self.elements))
 
 
 def records_of(text):
