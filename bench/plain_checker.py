@@ -410,13 +410,16 @@ def fails_marks(run, files):
         named[line.entry, line.id, line.i, line.k].append(line)
         if not is_right_for(run, entry, line):
             yield Place(line.round, line.channel, line.id)
+    for (word, id, i, _k), lines in named.items():
+        if run.closing_round(run.entries[word, id], i) is None and len(lines) > 1:
+            yield from (Place(line.round, line.channel, line.id) for line in lines)
     for entry in run.entries.values():
         for i, k in run.occurrences(entry):
-            lines, closing = named.get((entry.word, entry.id, i, k), []), run.closing_round(entry, i)
-            if closing is None and len(lines) > 1:
-                yield from (Place(line.round, line.channel, line.id) for line in lines)
-            elif closing is not None and len(lines) != 1:
+            closing = run.closing_round(entry, i)
+            if closing is not None and len(named.get((entry.word, entry.id, i, k), [])) != 1:
                 yield Place(closing, entry.channel, entry.id)
+                # the later ones of this entry close no sooner, and there may be far more of them than lines
+                break
 
 
 def fails_rate(run, files):

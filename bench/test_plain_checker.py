@@ -10,6 +10,7 @@ import sys
 import tomllib
 
 import compare_schedulers
+import make_hostile
 import plain_checker
 import plain_scheduler
 import records
@@ -357,9 +358,16 @@ def made_ones(tests, seeds):
         tests.made(f"seed {seed}", *compare_schedulers.inputs(seed, 6))
 
 
+def hostile_ones(tests):
+    """The files of bench/make_hostile.py have the answers that it tells."""
+    for name, kind in make_hostile.BY_NAME.items():
+        for case in kind(4_000):
+            tests.judges(name, case.answer, case.config, case.trace(), case.rounds, case.maps, case.report())
+
+
 def main():
     tests = Tests()
-    for test in (stored_run, prefixes, report_lines, bodies, headings, spans, marks, claims):
+    for test in (stored_run, prefixes, report_lines, bodies, headings, spans, marks, claims, hostile_ones):
         test(tests)
     made_ones(tests, int(sys.argv[1]) if len(sys.argv) > 1 else 100)
     print(f"{tests.passed} passed, {tests.failed} failed")
