@@ -7,10 +7,11 @@
   --rounds N       the most rounds of a schedule (6)
   --program FILE   the program (crates/mapsim/out/mapsim)
 
-The schedules are those that `mapsim replay` makes of the seeds of bench/compare_schedulers.py; one with a report of more
-than 100,000 bytes is passed over, as the plain checker is slow. bench/damage_schedules.py damages them. The lawful files
-have to be judged `holds`. Where the answers differ, in the line or the status, a line names the seed and the number of the
-damage, and the files are left in a folder `checkers-SEED-NUMBER` of the system's folder for temporary files.
+The schedules are those that `mapsim replay` makes of the seeds of bench/compare_schedulers.py. One with a report of
+more than 100,000 bytes is passed over, as the plain checker is slow. bench/damage_schedules.py damages them. The lawful
+files have to be judged `holds`. Where the answers differ, in the line or the status, a line names the seed and the
+number of the damage, and the files are left in a folder `checkers-SEED-NUMBER` of the system's folder for temporary
+files.
 
 The last line counts the answers of the plain checker, and how many answers were the same. Status 0: all were; 1: not.
 """
@@ -51,8 +52,8 @@ class Seed:
 
     def run(self, command):
         """What a command of the program answers: its status, and what it printed on both streams."""
-        words = [self.program, command, "--config", "config", "--trace", "trace", "--rounds", str(self.rounds), "--maps",
-                 "maps", "--report", "report"]
+        words = [self.program, command, "--config", "config", "--trace", "trace", "--rounds", str(self.rounds),
+                 "--maps", "maps", "--report", "report"]
         done = subprocess.run(words, cwd=self.folder, capture_output=True, timeout=SECONDS)
         return done.returncode, done.stdout.decode(errors="replace"), done.stderr.decode(errors="replace")
 

@@ -3,11 +3,11 @@
 
   bench/damage_schedules.py --config F --rounds N --maps F --report F --seed N --to FOLDER
 
-writes FOLDER/maps and FOLDER/report, and prints the names of the changes. bench/compare_checkers.py has the checkers judge
-such files.
+writes FOLDER/maps and FOLDER/report, and prints the names of the changes. bench/compare_checkers.py has the checkers
+judge such files.
 
-Some changes are of bytes, elements, records or lines alone. Others change a line and its MAP together, or a claim and the
-final line of its cluster, so that a later rule is the first to fail, or none.
+Some changes are of bytes, elements, records or lines alone. Others change a line and its MAP together, or a claim and
+the final line of its cluster, so that a later rule is the first to fail, or none.
 """
 import argparse
 import pathlib
@@ -101,8 +101,9 @@ def place_of(line):
 def other_number(chance, number, beside):
     """A number near this one, another of the same kind, or some limit."""
     near = max(number + chance.choice([-1, 1, -1, 1, chance.randint(-20, 20)]), 0)
+    other = chance.choice(beside)
     wrapped = number + chance.choice([2**8, 2**14, 2**16, 2**32, 2**63])
-    return chance.choice([near, near, near, chance.choice(beside), chance.choice(beside), chance.choice(LIMITS), wrapped])
+    return chance.choice([near, near, near, other, other, chance.choice(LIMITS), wrapped])
 
 
 # The changes. Each answers whether it could be made.
@@ -253,12 +254,13 @@ def put(chance, schedule, line, round_number, channel):
     """Moves a grant to an idle run of a MAP, if there is one that it fits."""
     if channel not in schedule.channels:
         return False
-    runs = [(start, length) for start, length in schedule.idle_runs(round_number, channel) if length >= int(line[SLOTS])]
+    slots = int(line[SLOTS])
+    runs = [(start, length) for start, length in schedule.idle_runs(round_number, channel) if length >= slots]
     if not runs:
         return False
     before = place_of(line)
     start, length = chance.choice(runs)
-    at = start + chance.choice([0, length - int(line[SLOTS]), chance.randint(0, length - int(line[SLOTS]))])
+    at = start + chance.choice([0, length - slots, chance.randint(0, length - slots)])
     line[ROUND], line[CHANNEL], line[START] = str(round_number), str(channel), str(at)
     schedule.tell(before, place_of(line))
     return True

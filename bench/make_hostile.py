@@ -1,12 +1,12 @@
 #!/usr/bin/env python3
-"""Files for timing a checker: for each way to walk them that could take the square of their size, files that ask for it,
-and lawful ones of about that size beside.
+"""Files for timing a checker: for each way to walk them that could take the square of their size, files that ask for
+it, and lawful ones of about that size beside.
 
   bench/make_hostile.py FOLDER [--bytes N] [KIND..]
 
 Writes FOLDER/KIND.toml, .csv, .maps and .report, and the same of KIND_lawful, whose maps file and report have about N
 bytes in all (1,000,000); hostile ones with long numbers have up to twice as many. Prints for each a line `KIND rounds N
-maps BYTES report BYTES ANSWER`; the answer is what `mapsim check` has to print. Where no kind is named, all are written.
+maps BYTES report BYTES ANSWER`; the answer is what `mapsim check` has to print. All are written where none is named.
 
   lines_over_each_other     half of the lines lie on the same minislots of the first MAP
   empty_intervals           half of the lines have no minislot, on the first MAP, from the greatest start down
@@ -176,8 +176,8 @@ def misses(rounds):
 
 
 def finals(config, spent, ids):
-    """The final lines of flows, all without anything outstanding. The buckets of these flows lack so many bytes, and those
-    of others are full."""
+    """The final lines of flows, all without anything outstanding. The buckets of these flows lack so many bytes, and
+    those of others are full."""
     lines = []
     for flow in tomllib.loads(config)["flow"]:
         left = flow["burst"] - (spent if flow["id"] in ids else 0)
@@ -275,8 +275,8 @@ def calls_of_the_last_flow(size):
 
 
 def spent_at_once(rounds, last):
-    """A flow that has its whole burst of 8 bytes at first, then as much as each round brings, 4 bytes, and `last` in the
-    last round."""
+    """A flow that has its whole burst of 8 bytes at first, then as much as each round brings, 4 bytes, and `last` in
+    the last round."""
     config = config_of([asking(1, 16_000, 8)])
     credits = [8, *((rounds - 3) * [4]), last]
     rows = [row_of(number, 1, credit) for number, credit in enumerate(credits, 1)]
@@ -416,7 +416,8 @@ def turned_channels(size):
 
 
 def no_records(_size):
-    config = idle(1).config.replace("round_ticks = 320", "round_ticks = 1").replace("minislot_log2 = 1", "minislot_log2 = 0")
+    config = idle(1).config.replace("round_ticks = 320", "round_ticks = 1")
+    config = config.replace("minislot_log2 = 1", "minislot_log2 = 0")
     config = config.replace("contention_minislots = 10", "contention_minislots = 0")
     return Case(config, MOST_RUN_TICKS, b"", [], answer="broken P2 0 0 0"), idle(1)
 
@@ -424,8 +425,8 @@ def no_records(_size):
 KINDS = [lines_over_each_other, empty_intervals, every_map_broken, no_line, lines_of_no_entry, one_line_many_times,
          open_told_often, calls_of_the_last_flow, span_of_all_rounds, huge_credits, huge_rated_credits,
          claims_of_one_cluster, claims_of_the_last_flow, many_final_lines, rounds_that_lack, channels_that_lack,
-         lines_turned_round, one_long_number, line_feeds, no_last_line_feed, null_records, empty_records, turned_channels,
-         no_records]
+         lines_turned_round, one_long_number, line_feeds, no_last_line_feed, null_records, empty_records,
+         turned_channels, no_records]
 BY_NAME = {kind.__name__: kind for kind in KINDS}
 
 

@@ -3,11 +3,11 @@
 
   bench/plain_checker.py --config F --trace F --rounds N --maps F --report F
 
-It is written from the rules alone (docs/FORMATS.md) and shares nothing with the crates; so where the two answers differ,
-one of them is wrong. What a burst costs and what a trace asks for is as bench/plain_scheduler.py has it, which knows no
-activity detection and no minimum rates. It looks at every minislot, every occurrence and every span of rounds, so the
-runs should be short. The trace and the number of rounds have to be accepted ones, and the trace without quotes; a
-refused configuration is told as bench/plain_reader.py finds it.
+It is written from the rules alone and shares nothing with the crates; so where the two answers differ, one of them is
+wrong. What a burst costs and what a trace asks for is as bench/plain_scheduler.py has it, which knows no activity
+detection and no minimum rates. It looks at every minislot, every occurrence and every span of rounds, so the runs
+should be short. The trace and the number of rounds have to be accepted ones, and the trace without quotes; a refused
+configuration is told as bench/plain_reader.py finds it.
 
 Status 0: `holds`; 1: `broken` and where; 3: a fault, on standard error.
 """
@@ -140,7 +140,7 @@ def lines_of(report):
 
 
 class Span(NamedTuple):
-    """Some minislots of a MAP, up to `end`, with their SID and IUC: an interval that the rules ask for, or an element."""
+    """Some minislots of a MAP, up to `end`, with their SID and IUC: an interval, a gap or an element."""
 
     start: int
     end: int
@@ -189,9 +189,9 @@ def maps_of(text):
     maps, at = [], 0
     while at < len(text):
         end = at + 6 + int.from_bytes(text[at + 4 : at + 6], "big")
-        is_cut = len(text) < at + 6 or len(text) < end
+        is_cut = len(text) < end
         maps.append(None if is_cut else map_of(int.from_bytes(text[at : at + 4], "big"), text[at + 6 : end]))
-        at = len(text) if is_cut else end
+        at = end
     return maps
 
 
@@ -273,7 +273,8 @@ class Run:
         channel = self.channels[place]
         ack = max(round_number * self.round_ticks - self.lead_ticks, 0) // channel.ticks
         backoffs = channel.t["ranging_backoff"] + channel.t["data_backoff"]
-        return (round_number, channel.id, channel.t["ucd_count"], round_number * channel.len, ack, backoffs, channel.len)
+        alloc_start = round_number * channel.len
+        return (round_number, channel.id, channel.t["ucd_count"], alloc_start, ack, backoffs, channel.len)
 
     def reserves(self, round_number, channel):
         maintenance, contention = channel.t["maintenance_minislots"], channel.t["contention_minislots"]

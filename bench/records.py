@@ -68,8 +68,8 @@ class Plant:
         return reserves
 
     def elements(self, round_number, channel, grants):
-        """The elements of a MAP with grants (start, slots, SID, IUC), up to the Null. What is empty, overlaps an earlier
-        one or starts outside has none."""
+        """The elements of a MAP with grants (start, slots, SID, IUC), up to the Null. What is empty, overlaps an
+        earlier one or starts outside has none."""
         elements, at = [], 0
 
         def add_gap(end):

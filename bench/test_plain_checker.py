@@ -3,8 +3,8 @@
 
   bench/test_plain_checker.py [SEEDS]
 
-It judges the schedules of so many seeds of bench/compare_schedulers.py, 100 where none is named, which have to hold. Each
-failure is a line. Status: 0 all passed, 1 some failed."""
+It judges the schedules of so many seeds of bench/compare_schedulers.py, 100 where none is named, which have to hold.
+Each failure is a line. Status: 0 all passed, 1 some failed."""
 import pathlib
 import sys
 import tomllib
@@ -107,9 +107,10 @@ def prefixes(tests):
 
 def report_lines(tests):
     """What is a line, and what is none."""
-    for line in ("U,0,0", "U,0,0,0,0", "U,00,0,0", "U,0,0,", "U,0,0,+1", "U,0,0,-", "u,0,0,0", "U,0,0, 0", "U,0,0,0\r", "",
-                 "F,1,0,0", "F,1,0,-,-", "F,1,0,0,--", "F,1,0,0,01", "G,1", "M,0,1,req,1,0,0", "M,0,1,ugs,1,0",
-                 "M,0,1,UGS,1,0,0", "M,0,1,ugs,1,0,0,0", "G,0,1,ugs,1,0,0,513,11,0,1", "G,0,1,ad,1,0,0,513,11,0,1,0",
+    for line in ("", "U,0,0", "U,0,0,0,0", "U,00,0,0", "U,0,0,", "U,0,0,+1", "U,0,0,-", "u,0,0,0", "U,0,0, 0",
+                 "U,0,0,0\r", "F,1,0,0", "F,1,0,-,-", "F,1,0,0,--", "F,1,0,0,01", "G,1", "M,0,1,req,1,0,0",
+                 "M,0,1,ugs,1,0", "M,0,1,UGS,1,0,0", "M,0,1,ugs,1,0,0,0", "G,0,1,ugs,1,0,0,513,11,0,1",
+                 "G,0,1,ad,1,0,0,513,11,0,1,0",
                  "G,0,1,ugs,1,0,0,513,11,0,1,-", f"U,0,0,{MOST + 1}", "U,0,0," + "9" * 5_000, "A,1,1", "\u0661,0,0,0"):
         text = STORED_REPORT + line.encode() + b"\n" + STORED_REPORT
         tests.stored(f"a line {line[:40]}", "fault CK1 4", report=text)
@@ -140,6 +141,8 @@ def bodies(tests):
     tests.stored("240 elements", "holds", crowd + (many - 3) * bytes.fromhex("048e80a0") + STORED_MAPS[34:])
     crowd = replaced(replaced(crowd, 8, b"\xf1"), 4, b"\3\xd4")
     tests.stored("241 elements", "broken P1 0 0 0", crowd + (many - 2) * bytes.fromhex("048e80a0") + STORED_MAPS[34:])
+    longer = replaced(STORED_MAPS, 38, b"\0\x24")
+    tests.stored("a whole body in a longer record, which is cut", "broken P1 0 0 1", longer)
     broken_twice = replaced(replaced(STORED_MAPS, 9, b"\1"), 43, b"\1")
     tests.stored("two bodies", "broken P1 0 0 0", broken_twice)
     tests.stored("a bad body before a cut record", "broken P1 0 0 0", replaced(STORED_MAPS, 9, b"\1")[:-1])
@@ -153,7 +156,12 @@ def headings(tests):
         tests.stored(name, "broken P2 0 0 1", replaced(STORED_MAPS, at, new))
     tests.stored("turned records", "broken P2 0 0 0", STORED_MAPS[34:] + STORED_MAPS[:34])
     tests.stored("a record too many", "broken P2 0 0 2", STORED_MAPS + STORED_MAPS[34:])
-    tests.stored("a record too many, and a wrong one", "broken P2 0 0 1", replaced(STORED_MAPS, 41, b"\1") + STORED_MAPS)
+    third = bytes.fromhex("00000002 001c 01000300 00000140 000000f0 02060308 fffc4000 fffc4096 0001c0a0")
+    tests.stored("a record of a round too many", "broken P2 0 0 2", STORED_MAPS + third)
+    tests.judges("the same in a longer run", "broken P6 3 0 1", BASE, ONE_REQUEST, 3, STORED_MAPS + third,
+                 STORED_REPORT.replace(b"F,1,0,0,-\n", b""))
+    wrong = replaced(STORED_MAPS, 41, b"\1")
+    tests.stored("a record too many, and a wrong one", "broken P2 0 0 1", wrong + STORED_MAPS)
 
 
 TWO_CHANNELS = NO_FLOWS.replace("id = 1\n", "id = 2\n") + CHANNEL
@@ -248,6 +256,8 @@ def marks(tests):
         ("open and granted before its window", OPEN, ["G,0,1,ugs,1,0,0,513,11,79,1,0"], "broken P4 0 1 1"),
         ("open and granted twice", OPEN,
          ["G,1,1,ugs,1,0,0,513,11,3,1,0", "G,0,1,ugs,1,0,0,513,11,80,1,0"], "broken P4 0 1 1"),
+        ("open and granted twice, the first one first", OPEN,
+         ["G,0,1,ugs,1,0,0,513,11,80,1,0", "G,1,1,ugs,1,0,0,513,11,3,1,0"], "broken P4 0 1 1"),
         ("open, granted and missed", OPEN,
          ["M,1,1,ugs,1,0,0", "G,0,1,ugs,1,0,0,513,11,80,1,0"], "broken P4 0 1 1"),
         ("a window that ends with the run", IDLE + call(1_000, 3_000), [], "holds"),
@@ -298,6 +308,8 @@ def claims(tests):
         # the bucket knows flows, and nothing else of a line
         ("a cluster that isn't there", b"G,2,1,req,1,0,", b"G,2,1,req,1,9,", "broken P6 2 1 1"),
         ("a flow that isn't there", b"G,2,1,req,1,0,", b"G,2,1,req,2,0,", "broken P6 2 1 2"),
+        ("a byte more, of a cluster that isn't there", b"G,2,1,req,1,0,0,291,10,0,11,320",
+         b"G,2,1,req,1,9,0,291,10,0,11,321", "broken P5 2 0 1"),
     ):
         assert report.count(old) == 1
         tests.judges(name, wanted, RATED, RATED_REQUEST, 4, maps, report.replace(old, new))
@@ -323,6 +335,18 @@ def claims(tests):
     ):
         assert STORED_REPORT.count(old) == 1
         tests.stored(name, f"broken P6 {wanted}", report=STORED_REPORT.replace(old, new))
+    end = "F,1,0,0,0\nU,0,0,0\n"
+    tests.told("a claim in the first round, over the burst", "broken P5 0 0 1", RATED,
+               "G,0,1,req,1,0,0,291,10,0,49,1523\n" + end, trace=RATED_REQUEST)
+    tests.told("a span from the first round on", "broken P5 1 0 1", RATED,
+               "G,0,1,req,1,0,0,291,10,0,49,1522\nG,1,1,req,1,0,0,291,10,0,49,321\n" + end, trace=RATED_REQUEST)
+    tests.told("no byte in a right cost", "broken P6 1 1 1", BASE, "G,1,1,req,1,0,0,291,9,0,1,0\nF,1,0,0,-\nU,0,0,0\n")
+    tests.told("a right cost with another IUC", "broken P6 1 1 1", BASE,
+               "G,1,1,req,1,0,0,291,9,0,32,1000\nF,1,0,0,-\nU,0,0,0\n", trace=ONE_REQUEST)
+    tests.told("a right cost with one minislot more", "broken P6 1 1 1", BASE,
+               "G,1,1,req,1,0,0,291,10,0,33,1000\nF,1,0,0,-\nU,0,0,0\n", trace=ONE_REQUEST)
+    tests.told("a channel that the flow hasn't", "broken P6 1 2 1", TWO_CHANNELS + FLOW,
+               "G,1,2,req,1,0,0,291,10,0,32,1000\nF,1,0,0,-\nU,0,0,0\n", trace=ONE_REQUEST)
     rows = HEADER + "0,1,291,250\n0,1,292,250\n"
     front, end = "G,1,1,req,1,0,0,291,10,0,32,1000\n", "F,1,0,0,-\nF,1,1,0,-\nU,0,0,0\n"
     second = "G,1,1,req,1,1,0,292,10,32,32,1000\n"
