@@ -15,6 +15,7 @@ use Rattle.us_map_rules.specs.LackedPlaces.{place_told, IsOfLackedPlace}
 
 -- A line.
 
+-- what a line tells
 abbrev place : ℕ → ℕ → Place
 place round channel = record { round = round; channel = channel; third = 0 }
 
@@ -31,6 +32,7 @@ here round channel p same = (
       refl,
 )
 
+-- and back
 there : (round channel : ℕ) (p : Place) → p.third ≡ 0 → ((round == p.round) && (channel == p.channel)) ≡ true →
     place round channel ≡ p
 there round channel p third told =
@@ -58,6 +60,7 @@ told_there (rows.Counts u) p third told = absurd (false≢true told)
 
 -- All lines.
 
+-- what a line that is of a lacked place says of all,
 any_told : (run : Run) (lines : List Row) (p : Place) → Any (IsOfLackedPlace run) lines p →
     (p.third ≡ 0) × (has_place run p.round p.channel ≡ false) × (list_any (is_told_at p.round p.channel) lines ≡ true)
 any_told run [] p fails = absurd fails
@@ -70,6 +73,7 @@ any_told run (line ∷ lines) p fails = elim fails [
       (more.0, more.1, or_right (is_told_at p.round p.channel line) (list_any (is_told_at p.round p.channel) lines) more.2)
 ]
 
+-- and back
 told_any : (run : Run) (lines : List Row) (p : Place) → p.third ≡ 0 → has_place run p.round p.channel ≡ false →
     list_any (is_told_at p.round p.channel) lines ≡ true → Any (IsOfLackedPlace run) lines p
 told_any run [] p third lacks told = absurd (false≢true told)
@@ -102,6 +106,7 @@ fails_back run judged p fails =
       | inr other ↦ absurd (false≢true (sym fails ∙ rw other refl))
     ]
 
+-- so what is answered of lines is answered of the rule
 pub lines_first : (channels : List Channel) (run : Run) (judged : Judged) (answer : Option Place) →
     IsFirstFailure channels (Any (IsOfLackedPlace run) judged.lines) answer →
     IsFirstBreach channels (λ p. places_hold run judged p ≡ true) answer
