@@ -1,0 +1,34 @@
+//! The rule of calendars' lines: each occurrence that closes in a run has exactly one line, and what other lines of a calendar
+//! there are is right too. A breach is the first place at which it doesn't hold.
+//!
+//! ```
+//! let first = calendar_lines_breach(alloc, &config, &trace, &judged)?; // None: it holds everywhere
+//! ```
+//!
+//! What these words mean stands in `specs/`, in the order of its `Lib.antt`.
+#![tactic(auto)]
+
+// The entries of all channels.
+mod listed;
+
+// What a line names.
+mod naming;
+
+// When an occurrence may start, and when its window closes.
+#[cfg(test)]
+mod tests;
+mod windows;
+
+// How often it is named.
+mod marks;
+
+// Lines that aren't right.
+mod told;
+
+// Windows that close without a line, or with two.
+mod closings;
+
+// The rule.
+mod calendar_lines;
+
+pub use calendar_lines::calendar_lines_breach;

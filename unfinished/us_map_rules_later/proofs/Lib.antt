@@ -1,0 +1,4 @@
+pub mod RecordLemmas
+pub mod MapsLemmas
+pub mod PlaceLemmas
+pub mod HeadingLemmas

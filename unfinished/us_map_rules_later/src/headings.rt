@@ -1,0 +1,104 @@
+ghost use Rattle.std.specs.Prelude.{◌≡◌, ◌+◌, ◌*◌, ◌≤◌, ◌↔◌, IsTrue, slice_get, Some, true};
+ghost use Rattle.us_flows.specs.Tables.{rounds_fit, max_run_ticks};
+ghost use Rattle.us_flows.specs.Lawful.{IsChannel};
+ghost use Rattle.us_channel.specs.Maps;
+ghost use Rattle.us_lawful.specs.Runs.{run_in};
+ghost use Rattle.us_lawful.specs.Headings as rule;
+ghost use Rattle.us_breaches.specs.Breaches.{IsFirstBreach};
+
+use us_codec::{Element, Head};
+use us_flows::{Channel, Config};
+use us_lawful::{Judged, Place, RoundMap};
+use us_requests::Trace;
+use us_slots::Iuc;
+
+/// The first MAP that doesn't say of itself what the MAP of its number in the run must say, that is missing, or that is one
+/// too many. Its number, from 0, is the third number of the place.
+pub fn headings_breach(config: &Config, trace: &Trace, judged: &Judged) -> Option<Place>
+    requires { rounds_fit config.now trace.now.rounds ≡ true }
+    ensures { IsFirstBreach config.now.channels (rule.HeadingsHold (run_in config.now trace.now) judged.now) result }
+{
+    let maps = judged.maps();
+    for (number, map) in maps.iter().enumerate() {
+        if !is_map_of_run(config, trace, number, map) {
+            return Some(place_of(number));
+        }
+    }
+    if maps.len() < trace.rounds() as usize * config.channels().len() {
+        Some(place_of(maps.len()))
+    } else {
+        None
+    }
+}
+
+/// The place of the MAP of this number.
+fn place_of(number: usize) -> Place
+    ensures { result ≡ record { round = 0; channel = 0; third = number } }
+{
+    Place {
+        round: 0,
+        channel: 0,
+        third: number as u64,
+    }
+}
+
+/// Whether the run has a MAP of this number, by round and then by channel, and this one says of itself what that must say.
+fn is_map_of_run(config: &Config, trace: &Trace, number: usize, map: &RoundMap) -> bool
+    requires { rounds_fit config.now trace.now.rounds ≡ true }
+    ensures { IsTrue result ↔
+        (slice_get (rule.headings_of (run_in config.now trace.now)) number ≡ Some (rule.heading_told map.now)) }
+{
+    let channels = config.channels();
+    let round = number / channels.len();
+    let channel = &channels[number % channels.len()];
+    round < trace.rounds() as usize && is_map_of(config, round as u32, channel, map)
+}
+
+/// Whether a MAP says of itself what that of a channel's round must say.
+fn is_map_of(config: &Config, round: u32, channel: &Channel, map: &RoundMap) -> bool
+    requires lawful { IsChannel config.now channel.now }
+    requires time { (round + 1) * config.now.round_ticks ≤ max_run_ticks }
+    ensures { IsTrue result ↔ (rule.heading_told map.now ≡ rule.heading_of config.now round channel.now) }
+{
+    map.round == round
+        && is_head_of(config, round, channel, map.body.head())
+        && null_offset(map.body.elements()) == Some(config.map_len(channel))
+}
+
+/// Whether a head is that of the MAP of a channel's round.
+fn is_head_of(config: &Config, round: u32, channel: &Channel, head: &Head) -> bool
+    requires lawful { IsChannel config.now channel.now }
+    requires time { (round + 1) * config.now.round_ticks ≤ max_run_ticks }
+    ensures { IsTrue result ↔ (head.now ≡ Maps.head_of config.now round channel.now) }
+{
+    *head == head_of(config, round, channel)
+}
+
+/// What stands before the elements of that MAP.
+#[tactic(auto, unfolding(us_channel::specs::Maps::head_of))]
+fn head_of(config: &Config, round: u32, channel: &Channel) -> Head
+    requires lawful { IsChannel config.now channel.now }
+    requires time { (round + 1) * config.now.round_ticks ≤ max_run_ticks }
+    ensures { result ≡ Maps.head_of config.now round channel.now }
+{
+    let start = round * config.round_ticks();
+    let [ranging_start, ranging_end] = channel.ranging_backoff;
+    let [data_start, data_end] = channel.data_backoff;
+    Head {
+        channel: channel.id,
+        ucd_count: channel.ucd_count,
+        alloc_start: round * config.map_len(channel),
+        ack: start.saturating_sub(config.lead_ticks()) / channel.bursts.time().minislot_ticks(),
+        backoffs: [ranging_start, ranging_end, data_start, data_end],
+    }
+}
+
+/// Where the Null stands among the elements of a MAP, in minislots.
+fn null_offset(elements: &[Element]) -> Option<u32>
+    ensures { result ≡ rule.null_offset elements.now }
+{
+    let null = elements
+        .iter()
+        .find(|element| element.iuc() == Iuc::null())?;
+    Some(u32::from(null.offset()))
+}

@@ -1,0 +1,37 @@
+//! The rules of MAPs: which bytes are the MAPs of a maps file, what each MAP says of itself, and which rounds and channels
+//! lines are of.
+//!
+//! ```
+//! let maps = read_maps(alloc, &file)?; // or the number of the first record that is none
+//! let judged = Judged::new(maps, lines);
+//! let first = headings_breach(&config, &trace, &judged); // the first MAP that isn't that of the run, or is missing
+//! ```
+//!
+//! What they answer stands in `specs/`, in the order of its `Lib.antt`.
+// An attribute of a function's own says what its proof needs beside: `unfolding` opens the definitions that it computes,
+// which are closed elsewhere, and `using` names lemmas.
+#![tactic(auto)]
+
+// Why a maps file is refused.
+mod maps_faults;
+
+// The MAPs of a maps file.
+mod maps_reading;
+
+// What each MAP says of itself.
+mod headings;
+
+// The rounds and channels of lines.
+mod places;
+
+// Laws of maps files.
+mod laws;
+
+pub use headings::headings_breach;
+pub use laws::one_reading_of_maps;
+pub use maps_faults::MapsFault;
+pub use maps_reading::read_maps;
+pub use places::places_breach;
+
+#[cfg(test)]
+mod tests;
