@@ -1,2 +1,0 @@
-pub mod VerdictLaws
-pub mod OwnLaws

@@ -1,4 +1,0 @@
-pub mod RecordLemmas
-pub mod MapsLemmas
-pub mod PlaceLemmas
-pub mod HeadingLemmas

@@ -1,7 +1,0 @@
-//! What no clause says: maps files as bytes, what is answered of runs at their edges, and memory that is refused.
-
-mod base;
-mod files;
-mod headings;
-mod memory;
-mod places;
