@@ -1,17 +1,18 @@
 -- What is due in a round has its turn, in the order of entries, and nothing else needs one.
-use Rattle.std.proofs.Common.{◌≡◌, ◌≢◌, ℕ, zero, suc, ◌+◌, ◌-◌, ◌<◌, ◌≤◌, List, [], ◌∷◌, ◌++◌, length, map, drop, Some, None, slice_get, get_or, refl, ap, ap₂, subst, sym, ◌∙◌, inl, inr, append_assoc, arith}
+use Rattle.std.proofs.Common.{◌≡◌, ◌≢◌, ℕ, zero, suc, ◌+◌, ◌-◌, ◌/◌, ◌%◌, ◌<◌, ◌≤◌, List, [], ◌∷◌, ◌++◌, length, map, max, drop, Some, None, slice_get, get_or, refl, ap, ap₂, subst, sym, ◌∙◌, inl, inr, append_assoc, arith}
 use Rattle.std.specs.List.{AllByRecursion}
 use Rattle.std.proofs.Math.ListN.{set, length-set}
 use Rattle.std.proofs.lemmas.List.{append-nil, length-drop, get_or-drop}
 use Rattle.std.proofs.lemmas.Bool.{cases_eq, cases_lt}
-use Rattle.std.proofs.lemmas.Grind.{get_or_default_zero}
 use Rattle.us_holes.specs.Boards.{Board}
 use Rattle.us_calendar.specs.Occurrences.{Pace}
 use Rattle.us_calendar.specs.Settling.{EntryState, SettledEntry, settle_entry, after_settling, told_as}
 use Rattle.us_calendar.specs.Calendars.{Ran, run_entries}
 use Rattle.us_calendar.specs.declared.settled.Settled.{Settled}
-use Rattle.us_calendar.specs.Kept.{IsEntryState, IsQuiet, IsAgenda, IsNoted, IsNotedIn, IsParted, key_of}
-use Rattle.us_calendar.proofs.KeyLemmas.{Put, is_put}
+use Rattle.us_calendar.specs.Kept.{IsEntryState, IsQuiet}
+use Rattle.us_calendar.specs.Agendas.{IsAgenda, IsToday, IsLater, IsNoted, IsNotedFor, IsPut, IsBrought, IsRising, due_at, key_of, list_of}
+use Rattle.us_calendar.proofs.EntryStateLemmas.{quiet_before}
+use Rattle.us_calendar.proofs.NearLemmas.{Noted, Changed, is_noted, is_changed}
 use Rattle.us_calendar.proofs.RunLemmas.{run_from, run_past, skip_to, run_step, the_some}
 
 set_same : (states : List EntryState) (p : ℕ) (state : EntryState) → p < length states → slice_get (set states p state) p ≡ Some state
@@ -37,69 +38,70 @@ within [] p state is = let never : None ≡ Some state = is in cc
 within (first ∷ states) zero state is = omega arith
 within (first ∷ states) (suc p) state is = omega (arith, within states p state is)
 
--- two keys are one only where round and place are
-pub same_place : (at place now other : ℕ) → place < 2048 → other < 2048 → key_of at place ≡ key_of now other → place ≡ other
-same_place at place now other inside other_inside same = omega (arith, inside, other_inside, same)
-
-same_round : (at place now other : ℕ) → place < 2048 → other < 2048 → key_of at place ≡ key_of now other → at ≡ now
-same_round at place now other inside other_inside same = omega (arith, inside, other_inside, same)
-
--- what is read of the list
-pub first_is : (keys : List ℕ) (at key : ℕ) → at < length keys → key ≡ get_or keys at key → get_or keys at 0 ≡ key
-first_is keys at key inside is = sym (is ∙ get_or_default_zero keys at key inside)
-
 -- how far a round has come, from what it began with
 pub record Going (pace : Pace) (round : ℕ) (old_states : List EntryState) (old_board : Board) (old_told : List Settled)
-    (states : List EntryState) (board : Board) (told : List Settled) (keys : List ℕ) (passed count : ℕ) : Type 0 where
+    (states : List EntryState) (board : Board) (told : List Settled) (near : List (List ℕ)) (far : List ℕ)
+    (passed count : ℕ) : Type 0 where
   pub from : ℕ
   pub same_states : (run_from pace round from states board).states ≡ (run_entries pace round old_states old_board).states
   pub same_board : (run_from pace round from states board).board ≡ (run_entries pace round old_states old_board).board
   pub same_told :
       told ++ (run_from pace round from states board).settled ≡ old_told ++ (run_entries pace round old_states old_board).settled
-  pub agenda : IsAgenda pace round from states keys passed
-  pub parted : IsParted keys count (key_of (round + 1) 0)
+  pub agenda : IsAgenda pace round from states near far passed
+  pub many : count ≡ length (list_of near round)
   pub within : passed ≤ count
   pub len : length board.cells ≡ length old_board.cells
-  pub known : AllByRecursion IsEntryState old_states → AllByRecursion IsEntryState states
+  pub known : AllByRecursion IsEntryState states
 
-pub going-starts : (pace : Pace) (round : ℕ) (states : List EntryState) (board : Board) (told : List Settled) (keys : List ℕ)
-    (count : ℕ) → IsAgenda pace round 0 states keys 0 → IsParted keys count (key_of (round + 1) 0) →
-    Going pace round states board told states board told keys 0 count
-going-starts pace round states board told keys count agenda parted = record {
+pub going-starts : (pace : Pace) (round : ℕ) (states : List EntryState) (board : Board) (told : List Settled)
+    (near : List (List ℕ)) (far : List ℕ) (count : ℕ) → IsAgenda pace round 0 states near far 0 →
+    count ≡ length (list_of near round) → AllByRecursion IsEntryState states →
+    Going pace round states board told states board told near far 0 count
+going-starts pace round states board told near far count agenda many known = record {
   from = 0;
   same_states = refl;
   same_board = refl;
   same_told = refl;
   agenda = agenda;
-  parted = parted;
+  many = many;
   within = omega arith;
   len = refl;
-  known = λ all. all;
+  known = known;
 }
 
-module _ (pace : Pace) (round : ℕ) (old_states : List EntryState) (old_board : Board) (old_told : List Settled)
-    (states : List EntryState) (board : Board) (told : List Settled) (keys : List ℕ) (passed count : ℕ)
-    (g : Going pace round old_states old_board old_told states board told keys passed count) where
-  -- Where nothing more is noted for the round, it is over:
-  module _ (all : passed ≡ count) where
-    none : (at place : ℕ) → place < 2048 → IsNoted keys passed (key_of at place) → round < at
-    none at place inside is =
-        let late = g.parted.above is.0 (omega (arith, all, is.1)) is.2 in
-        omega (arith, late, is.3, inside)
+known_at : (states : List EntryState) (p : ℕ) (state : EntryState) → AllByRecursion IsEntryState states →
+    slice_get states p ≡ Some state → IsEntryState state
+known_at [] p state all is = let never : None ≡ Some state = is in absurd cc
+known_at (first ∷ states) zero state all is = subst IsEntryState (the_some first state is) all.0
+known_at (first ∷ states) (suc p) state all is = known_at states p state all.1 is
 
-    rest_quiet : (i : ℕ) (state : EntryState) → g.from ≤ i → slice_get states i ≡ Some state → IsQuiet pace round state
-    rest_quiet i state low is =
-        let noted = g.agenda.quiet i state is in
-        let inside = within states i state is in
-        noted.2 round (omega arith) (λ before. absurd (omega (arith, low, before)))
-        (none noted.0 i (omega (arith, inside, g.agenda.few)) noted.1)
+module _ (pace : Pace) (round : ℕ) (old_states : List EntryState) (old_board : Board) (old_told : List Settled)
+    (states : List EntryState) (board : Board) (told : List Settled) (near : List (List ℕ)) (far : List ℕ) (passed count : ℕ)
+    (g : Going pace round old_states old_board old_told states board told near far passed count) where
+  -- an entry of which nothing is due in the round
+  idle_quiet : (i : ℕ) (state : EntryState) → slice_get states i ≡ Some state → round < due_at pace state →
+      IsQuiet pace round state
+  idle_quiet i state is later = quiet_before pace state round (known_at states i state g.known is) later
+
+  -- Where nothing more is noted for the round, it is over:
+  module _ (over : passed ≡ count) where
+    none : (place : ℕ) → IsToday pace round g.from states place → ⊥
+    none place is =
+        let noted = g.agenda.all_today place is in
+        absurd (omega (arith, over, g.many, noted.1, noted.2))
+
+    pub rest_idle : (i : ℕ) (state : EntryState) → g.from ≤ i → slice_get states i ≡ Some state → round < due_at pace state
+    rest_idle i state low is = elim (cases_lt round (due_at pace state)) [
+      | inl later ↦ later
+      | inr due ↦ absurd (none i (record { state = state; there = is; waits = low; due = due }))
+    ]
 
     nothing_left : run_from pace round g.from states board ≡ record { states = states; board = board; settled = [] }
     nothing_left = elim (cases_lt g.from (length states)) [
       | inr past ↦ run_past pace round g.from states board past
       | inl more ↦
           skip_to pace round (length states - g.from) g.from states board (omega arith)
-          (λ i state low high is. rest_quiet i state low is) ∙
+          (λ i state low high is. idle_quiet i state is (rest_idle i state low is)) ∙
           run_past pace round (g.from + (length states - g.from)) states board (omega arith)
     ]
 
@@ -112,203 +114,323 @@ module _ (pace : Pace) (round : ℕ) (old_states : List EntryState) (old_board :
     pub ends_told : told ≡ old_told ++ (run_entries pace round old_states old_board).settled
     ends_told = sym (append-nil told) ∙ sym (ap (λ ran. told ++ ran.settled) nothing_left) ∙ g.same_told
 
-    left_long : length (drop count keys) + count ≡ length keys
-    left_long = let inside = g.parted.inside in omega (arith, length-drop count keys, inside)
+    -- an entry that was idle in the round is due in the next one or later, as it was noted
+    due_then : (q : ℕ) → IsLater pace round g.from states (round + 1) q → IsToday pace (round + 1) 0 states q
+    due_then q is = record { state = is.state; there = is.there; waits = omega arith; due = omega (arith, is.next) }
 
-    left_at : (i : ℕ) → get_or (drop count keys) i 0 ≡ get_or keys (count + i) 0
-    left_at i = get_or-drop count keys i 0
-
-    was_noted : (key : ℕ) → IsNoted (drop count keys) 0 key → IsNoted keys passed key
-    was_noted key is =
-        (count + is.0, omega (arith, all), omega (arith, is.2, left_long), sym (left_at is.0) ∙ is.3)
-
-    still_noted : (key : ℕ) → IsNoted keys passed key → IsNoted (drop count keys) 0 key
-    still_noted key is =
-        let behind : count + (is.0 - count) ≡ is.0 = omega (arith, is.1, all) in (
-          is.0 - count,
-          omega arith,
-          omega (arith, is.2, left_long, is.1, all),
-          left_at (is.0 - count) ∙ ap (λ i. get_or keys i 0) behind ∙ is.3,
-        )
-
-    pub ends_agenda : IsAgenda pace (round + 1) 0 states (drop count keys) 0
-    ends_agenda = record {
-      few = g.agenda.few;
-      rising = λ i j low inside.
-          let is = g.agenda.rising (count + i) (count + j) (omega (arith, low)) (omega (arith, inside, left_long)) in
-          omega (arith, is, left_at i, left_at j);
-      noted = λ at place inside is.
-          let was = was_noted (key_of at place) is in
-          let old = g.agenda.noted at place inside was in
-          let later = none at place inside was in
-          (old.0, omega (arith, later), λ _. omega arith);
-      quiet = λ place state is.
-          let old = g.agenda.quiet place state is in (
-            old.0,
-            still_noted (key_of old.0 place) old.1,
-            λ earlier low _ high. old.2 earlier (omega (arith, low)) (λ _. omega (arith, low)) high,
-          );
+    then_due : (q : ℕ) → IsToday pace (round + 1) 0 states q → IsLater pace round g.from states (round + 1) q
+    then_due q is = record {
+      state = is.state;
+      there = is.there;
+      next = omega (arith, is.due);
+      idle = λ low. rest_idle q is.state low is.there;
     }
 
-  pub place_within : (key place : ℕ) → passed < count → get_or keys passed 0 ≡ key → place < 2048 →
-      (at : ℕ) × (key_of at place ≡ key) → place < length states
-  place_within key place more is inside at =
-      (g.agenda.noted at.0 place inside
-      (passed, omega arith, omega (arith, more, g.parted.inside), is ∙ sym at.1)).0
+    next_turn : (r q : ℕ) → round + 1 < r → IsLater pace round g.from states r q → IsLater pace (round + 1) 0 states r q
+    next_turn r q low is = record {
+      state = is.state;
+      there = is.there;
+      next = omega (arith, is.next, low);
+      idle = λ _. omega (arith, is.next, low);
+    }
 
-  -- else the first that is noted has its turn
-  module _ (key place : ℕ) (state state_now : EntryState) (now : Board) (told_now : List Settled) (again : ℕ)
-      (new : List ℕ) (more : passed < count) (key_is : get_or keys passed 0 ≡ key) (place_in : place < 2048)
-      (has_place : (at : ℕ) × (key_of at place ≡ key))
-      (put : IsNotedIn keys (key_of again place) new)
-      (state_is : slice_get states place ≡ Some state)
-      (state_now_is : state_now ≡ after_settling state (settle_entry pace round state board).settlements)
-      (now_is : now ≡ (settle_entry pace round state board).board)
-      (told_is : told_now ≡ told ++ map (told_as state.entry) (settle_entry pace round state board).settlements)
-      (later : round + 1 ≤ again) (quiet : (r : ℕ) → r < again → round + 1 ≤ r → IsQuiet pace r state_now) where
-    here : IsNoted keys passed (key_of has_place.0 place)
-    here = (passed, omega arith, omega (arith, more, g.parted.inside), key_is ∙ sym has_place.1)
+    last_turn : (r q : ℕ) → IsLater pace (round + 1) 0 states r q → IsLater pace round g.from states r q
+    last_turn r q is =
+        let idle = is.idle (omega arith) in
+        record {
+          state = is.state;
+          there = is.there;
+          next = omega (arith, is.next, idle);
+          idle = λ _. omega (arith, idle);
+        }
 
-    turn : (place < length states) × (round ≤ has_place.0) × (has_place.0 ≡ round → g.from ≤ place)
-    turn = g.agenda.noted has_place.0 place place_in here
+    module _ (new_near : List (List ℕ)) (new_far : List ℕ) (b : IsBrought near far round new_near new_far) where
+      now : Changed near round b.list new_near
+      now =
+          subst (Changed near round b.list) (sym b.near_is)
+          (is_changed near round b.list g.agenda.lists g.agenda.rising b.filled.rising)
 
-    is_now : has_place.0 ≡ round
-    is_now =
-        let low = turn.1 in
-        let below = g.parted.below passed more in
-        omega (arith, low, below, key_is, has_place.1)
+      stands : (r : ℕ) → round < r → r < round + 16 → list_of new_near r ≡ list_of near r
+      stands r low high = now.there r (λ e. omega (arith, low, high, e))
 
-    -- the key of what is noted from here on is no smaller
-    no_smaller : (q : ℕ) → IsNoted keys passed q → key ≤ q
+      filled : (r : ℕ) → r ≡ round + 16 → list_of new_near r ≡ b.list
+      filled r is = now.here r (omega (arith, is))
+
+      left_long : length (drop b.count far) + b.count ≡ length far
+      left_long = let inside = b.parted.inside in omega (arith, length-drop b.count far, inside)
+
+      left_at : (i : ℕ) → get_or (drop b.count far) i 0 ≡ get_or far (b.count + i) 0
+      left_at i = get_or-drop b.count far i 0
+
+      was_far : (key : ℕ) → IsNoted new_far 0 key → (n : IsNoted far 0 key) × (b.count ≤ n.0)
+      was_far key noted =
+          let is = subst (λ f. IsNoted f 0 key) b.far_is noted in (
+            (b.count + is.0, omega arith, omega (arith, is.2, left_long), sym (left_at is.0) ∙ is.3),
+            omega arith,
+          )
+
+      still_far : (key : ℕ) → (n : IsNoted far 0 key) → b.count ≤ n.0 → IsNoted new_far 0 key
+      still_far key n behind =
+          let there : b.count + (n.0 - b.count) ≡ n.0 = omega (arith, behind) in
+          subst (λ f. IsNoted f 0 key) (sym b.far_is) (
+            n.0 - b.count,
+            omega arith,
+            omega (arith, n.2, left_long, behind),
+            left_at (n.0 - b.count) ∙ ap (λ i. get_or far i 0) there ∙ n.3,
+          )
+
+      -- what was the first of the others is noted for the round 16 behind this one
+      brought : (q : ℕ) → IsNoted b.list 0 q → IsNotedFor near far round (round + 16) q
+      brought q noted =
+          let from = b.filled.was q noted in
+          let key : ℕ = get_or far from.0 0 in
+          let inside : q < 2048 = omega (arith, from.2) in
+          let key_is : key ≡ key_of (key / 2048) q = omega (arith, from.2) in
+          let is : IsNoted far 0 (key_of (key / 2048) q) = (from.0, omega arith, omega (arith, from.1, b.parted.inside), key_is) in
+          let below = b.parted.below from.0 from.1 in
+          let late = g.agenda.far_late (key / 2048) q inside is in
+          let round_is : key / 2048 ≡ round + 16 = omega (arith, below, late) in
+          inr (omega arith, inside, subst (λ n. IsNoted far 0 (key_of n q)) round_is is)
+
+      was_later : (r q : ℕ) → round + 1 < r → IsNotedFor new_near new_far (round + 1) r q → IsNotedFor near far round r q
+      was_later r q low is = elim is [
+        | inr late ↦ inr (omega (arith, late.0), late.1, (was_far (key_of r q) late.2).0)
+        | inl early ↦ elim (cases_lt r (round + 16)) [
+          | inl soon ↦ inl (soon, subst (λ l. IsNoted l 0 q) (stands r (omega (arith, low)) soon) early.1)
+          | inr last ↦
+              let here : r ≡ round + 16 = omega (arith, last, early.0) in
+              subst (λ n. IsNotedFor near far round n q) (sym here)
+              (brought q (subst (λ l. IsNoted l 0 q) (filled r here) early.1))
+        ]
+      ]
+
+      still_later : (r q : ℕ) → round + 1 < r → IsNotedFor near far round r q → IsNotedFor new_near new_far (round + 1) r q
+      still_later r q low is = elim is [
+        | inl early ↦ inl (
+          omega (arith, early.0),
+          subst (λ l. IsNoted l 0 q) (sym (stands r (omega (arith, low)) early.0)) early.1,
+        )
+        | inr late ↦ by late.0 late.1 late.2
+      ]
+        where
+          by : round + 16 ≤ r → q < 2048 → IsNoted far 0 (key_of r q) → IsNotedFor new_near new_far (round + 1) r q
+          by far_off inside n = elim (cases_lt n.0 b.count) [
+            | inr behind ↦
+                let above = b.parted.above n.0 behind n.2 in
+                inr (omega (arith, above, n.3, inside), inside, still_far (key_of r q) n behind)
+            | inl first ↦
+                let below = b.parted.below n.0 first in
+                let here : r ≡ round + 16 = omega (arith, far_off, below, n.3) in
+                let place_is : get_or far n.0 0 % 2048 ≡ q = omega (arith, n.3, inside) in
+                inl (
+                  omega (arith, here),
+                  subst (λ l. IsNoted l 0 q) (sym (filled r here)) (subst (IsNoted b.list 0) place_is (b.filled.still n.0 first)),
+                )
+          ]
+
+      pub ends_agenda : IsAgenda pace (round + 1) 0 states new_near new_far 0
+      ends_agenda = record {
+        few = g.agenda.few;
+        lists = now.lists;
+        rising = now.rising;
+        far_rising = subst IsRising (sym b.far_is) (λ i j low inside.
+            let is = g.agenda.far_rising (b.count + i) (b.count + j) (omega (arith, low)) (omega (arith, inside, left_long)) in
+            omega (arith, is, left_at i, left_at j));
+        far_late = λ r q inside noted.
+            let was = was_far (key_of r q) noted in
+            let above = b.parted.above was.0.0 was.1 was.0.2 in
+            omega (arith, above, was.0.3, inside);
+        today = λ q noted.
+            due_then q (g.agenda.later (round + 1) q (omega arith)
+            (inl (omega arith, subst (λ l. IsNoted l 0 q) (stands (round + 1) (omega arith) (omega arith)) noted)));
+        all_today = λ q is. elim (g.agenda.all_later (round + 1) q (then_due q is)) [
+          | inl early ↦ subst (λ l. IsNoted l 0 q) (sym (stands (round + 1) (omega arith) (omega arith))) early.1
+          | inr late ↦ absurd (omega (arith, late.0))
+        ];
+        later = λ r q low noted.
+            next_turn r q low (g.agenda.later r q (omega (arith, low)) (was_later r q low noted));
+        all_later = λ r q is.
+            let low : round + 1 < r = omega (arith, is.next) in
+            still_later r q low (g.agenda.all_later r q (last_turn r q is));
+      }
+
+  -- else the next that is noted has its turn:
+  module _ (place : ℕ) (more : passed < count) (place_is : place ≡ get_or (list_of near round) passed 0) where
+    turn : IsToday pace round g.from states place
+    turn = g.agenda.today place (passed, omega arith, omega (arith, more, g.many), sym place_is)
+
+    pub place_within : place < length states
+    place_within = within states place turn.state turn.there
+
+    pub place_few : place < 2048
+    place_few = omega (arith, place_within, g.agenda.few)
+
+    -- nothing is due of the entries before it
+    no_smaller : (q : ℕ) → IsNoted (list_of near round) passed q → place ≤ q
     no_smaller q is = elim (cases_eq passed is.0) [
       | inl same ↦
-          let level : get_or keys passed 0 ≡ get_or keys is.0 0 = ap (λ i. get_or keys i 0) same in
-          omega (arith, level, key_is, is.3)
+          let level : get_or (list_of near round) passed 0 ≡ get_or (list_of near round) is.0 0 =
+          ap (λ i. get_or (list_of near round) i 0) same in
+          omega (arith, level, place_is, is.3)
       | inr other ↦
-          let above = g.agenda.rising passed is.0 (omega (arith, is.1, other)) is.2 in
-          omega (arith, above, key_is, is.3)
+          let above = g.agenda.rising round passed is.0 (omega (arith, is.1, other)) is.2 in
+          omega (arith, above, place_is, is.3)
     ]
 
-    passed_quiet : (i : ℕ) (other : EntryState) → g.from ≤ i → i < place → slice_get states i ≡ Some other →
-        IsQuiet pace round other
-    passed_quiet i other low before is =
-        let noted = g.agenda.quiet i other is in
-        let after : round ≤ noted.0 = (g.agenda.noted noted.0 i (omega (arith, before, place_in)) noted.1).1 in
-        let above = no_smaller (key_of noted.0 i) noted.1 in
-        let not_now : round < noted.0 = omega (arith, after, above, has_place.1, is_now, before) in
-        noted.2 round (omega arith) (λ early. absurd (omega (arith, low, early))) not_now
-
-    step : run_from pace round g.from states board ≡
-        (let one : SettledEntry = settle_entry pace round state board in
-        let rest : Ran = run_from pace round (suc place) (set states place (after_settling state one.settlements)) one.board in
-        record {
-          states = rest.states;
-          board = rest.board;
-          settled = map (told_as state.entry) one.settlements ++ rest.settled;
-        })
-    step =
-        let low : g.from ≤ place = turn.2 is_now in
-        let there : g.from + (place - g.from) ≡ place = omega arith in
-        skip_to pace round (place - g.from) g.from states board (omega (arith, turn.0))
-        (λ i other least_i below is. passed_quiet i other least_i (omega (arith, below)) is) ∙
-        ap (λ p. run_from pace round p states board) there ∙ run_step pace round place states state board state_is
-
-    same : run_from pace round (suc place) (set states place state_now) now ≡
-        run_from pace round (suc place) (set states place (after_settling state (settle_entry pace round state board).settlements))
-        (settle_entry pace round state board).board
-    same = ap₂ (λ r b. run_from pace round (suc place) (set states place r) b) state_now_is now_is
-
-    noted_now : Put keys (passed + 1) (key_of again place) new
-    noted_now =
-        let inside = g.parted.inside in
-        is_put keys new (passed + 1) (key_of again place) g.agenda.rising (omega (arith, more, inside))
-        (λ i low.
-        let below = g.parted.below i (omega (arith, low, more)) in
-        omega (arith, below, later))
-        put
-
-    from_here : (q : ℕ) → IsNoted keys (passed + 1) q → IsNoted keys passed q
-    from_here q is = (is.0, omega (arith, is.1), is.2, is.3)
-
-    is_above : (q : ℕ) → IsNoted keys (passed + 1) q → key < q
-    is_above q is =
-        let above = g.agenda.rising passed is.0 (omega (arith, is.1)) is.2 in
-        omega (arith, above, key_is, is.3)
-
-    noted_new : (at q : ℕ) → q < 2048 → IsNoted new (passed + 1) (key_of at q) →
-        (q < length (set states place state_now)) × (round ≤ at) × (at ≡ round → suc place ≤ q)
-    noted_new at q inside is = elim (noted_now.was (key_of at q) is) [
-      | inl t ↦
-          let at_is = same_round at q again place inside place_in t in
-          let q_is = same_place at q again place inside place_in t in (
-            omega (arith, length-set states place state_now, turn.0, q_is),
-            omega (arith, at_is, later),
-            λ e. absurd (omega (arith, at_is, later, e)),
-          )
-      | inr was ↦
-          let old = g.agenda.noted at q inside (from_here (key_of at q) was) in
-          let above = is_above (key_of at q) was in (
-            omega (arith, length-set states place state_now, old.0),
-            old.1,
-            λ e. omega (arith, above, has_place.1, is_now, e),
-          )
+    skipped : (i : ℕ) (other : EntryState) → g.from ≤ i → i < place → slice_get states i ≡ Some other →
+        round < due_at pace other
+    skipped i other low before is = elim (cases_lt round (due_at pace other)) [
+      | inl later ↦ later
+      | inr due ↦
+          let noted = g.agenda.all_today i (record { state = other; there = is; waits = low; due = due }) in
+          absurd (omega (arith, no_smaller i noted, before))
     ]
 
-    quiet_new : (q : ℕ) (other : EntryState) → slice_get (set states place state_now) q ≡ Some other →
-        (noted : ℕ) × IsNoted new (passed + 1) (key_of noted q) × ((earlier : ℕ) → round ≤ earlier →
-        (q < suc place → round < earlier) → earlier < noted → IsQuiet pace earlier other)
-    quiet_new q other is = elim (cases_eq place q) [
-      | inl place_is ↦
-          let found : state_now ≡ other =
-          the_some state_now other (sym (set_same states place state_now turn.0) ∙
-          ap (slice_get (set states place state_now)) place_is ∙ is) in (
-            again,
-            subst (λ p. IsNoted new (passed + 1) (key_of again p)) place_is noted_now.now,
-            λ earlier low before high.
-                let after = before (omega (arith, place_is)) in
-                subst (IsQuiet pace earlier) found (quiet earlier high (omega (arith, after))),
-          )
-      | inr elsewhere ↦
-          let was = sym (set_other states place q state_now elsewhere) ∙ is in
-          let old = g.agenda.quiet q other was in
-          let inside = within states q other was in
-          let index = old.1 in
-          let further : passed + 1 ≤ index.0 = elim (cases_eq passed index.0) [
-            | inr not ↦ omega (arith, index.1, not)
+    module _ (state state_now : EntryState) (now : Board) (told_now : List Settled) (at : ℕ) (new_near : List (List ℕ))
+        (new_far : List ℕ) (state_is : slice_get states place ≡ Some state)
+        (state_now_is : state_now ≡ after_settling state (settle_entry pace round state board).settlements)
+        (now_is : now ≡ (settle_entry pace round state board).board)
+        (told_is : told_now ≡ told ++ map (told_as state.entry) (settle_entry pace round state board).settlements)
+        (at_is : at ≡ max (round + 1) (due_at pace state_now))
+        (put : IsPut near far round at place new_near new_far) where
+      step : run_from pace round g.from states board ≡
+          (let one : SettledEntry = settle_entry pace round state board in
+          let rest : Ran = run_from pace round (suc place) (set states place (after_settling state one.settlements)) one.board in
+          record {
+            states = rest.states;
+            board = rest.board;
+            settled = map (told_as state.entry) one.settlements ++ rest.settled;
+          })
+      step =
+          let low : g.from ≤ place = turn.waits in
+          let there : g.from + (place - g.from) ≡ place = omega arith in
+          skip_to pace round (place - g.from) g.from states board (omega (arith, place_within))
+          (λ i other least_i below is. idle_quiet i other is (skipped i other least_i (omega (arith, below)) is)) ∙
+          ap (λ p. run_from pace round p states board) there ∙ run_step pace round place states state board state_is
+
+      same : run_from pace round (suc place) (set states place state_now) now ≡
+          run_from pace round (suc place) (set states place (after_settling state (settle_entry pace round state board).settlements))
+          (settle_entry pace round state board).board
+      same = ap₂ (λ r b. run_from pace round (suc place) (set states place r) b) state_now_is now_is
+
+      -- and what is noted then
+      noted_now : Noted near far round at place new_near new_far
+      noted_now =
+          is_noted near far round at place g.agenda.lists g.agenda.rising g.agenda.far_rising place_few
+          (omega (arith, at_is)) new_near new_far put
+
+      same_today : list_of new_near round ≡ list_of near round
+      same_today = noted_now.today (omega (arith, at_is))
+
+      today_new : (q : ℕ) → IsNoted (list_of new_near round) (passed + 1) q →
+          IsToday pace round (suc place) (set states place state_now) q
+      today_new q noted =
+          let is = subst (λ l. IsNoted l (passed + 1) q) same_today noted in
+          let old = g.agenda.today q (is.0, omega (arith, is.1), is.2, is.3) in
+          let above = g.agenda.rising round passed is.0 (omega (arith, is.1)) is.2 in
+          let further : suc place ≤ q = omega (arith, above, place_is, is.3) in
+          record {
+            state = old.state;
+            there = set_other states place q state_now (λ e. omega (arith, further, e)) ∙ old.there;
+            waits = further;
+            due = old.due;
+          }
+
+      all_today_new : (q : ℕ) → IsToday pace round (suc place) (set states place state_now) q →
+          IsNoted (list_of new_near round) (passed + 1) q
+      all_today_new q is =
+          let other : place ≢ q = λ e. omega (arith, is.waits, e) in
+          let noted = g.agenda.all_today q (record {
+            state = is.state;
+            there = sym (set_other states place q state_now other) ∙ is.there;
+            waits = omega (arith, is.waits, turn.waits);
+            due = is.due;
+          }) in
+          let further : passed + 1 ≤ noted.0 = elim (cases_eq passed noted.0) [
+            | inr not ↦ omega (arith, noted.1, not)
             | inl first ↦
-                let level : get_or keys passed 0 ≡ get_or keys index.0 0 = ap (λ i. get_or keys i 0) first in
-                let keys_same : key_of has_place.0 place ≡ key_of old.0 q = omega (arith, level, key_is, index.3, has_place.1) in
-                absurd (elsewhere (same_place has_place.0 place old.0 q place_in (omega (arith, inside, g.agenda.few)) keys_same))
-          ] in (
-            old.0,
-            noted_now.still (key_of old.0 q) (index.0, further, index.2, index.3),
-            λ earlier low before high.
-                old.2 earlier low (λ first. before (omega (arith, first, turn.2 is_now))) high,
-          )
-    ]
+                let level : get_or (list_of near round) passed 0 ≡ get_or (list_of near round) noted.0 0 =
+                ap (λ i. get_or (list_of near round) i 0) first in
+                absurd (other (omega (arith, level, place_is, noted.3)))
+          ] in
+          subst (λ l. IsNoted l (passed + 1) q) (sym same_today) (noted.0, further, noted.2, noted.3)
 
-    pub going-step : length now.cells ≡ length board.cells → IsEntryState state_now →
-        Going pace round old_states old_board old_told (set states place state_now) now told_now new (passed + 1) count
-    going-step len is_state =
-        let settlements = map (told_as state.entry) (settle_entry pace round state board).settlements in
-        let rest : Ran =
-        run_from pace round (suc place) (set states place (after_settling state (settle_entry pace round state board).settlements))
-        (settle_entry pace round state board).board in
-        record {
-          from = suc place;
-          same_states = ap (λ ran. ran.states) same ∙ sym (ap (λ ran. ran.states) step) ∙ g.same_states;
-          same_board = ap (λ ran. ran.board) same ∙ sym (ap (λ ran. ran.board) step) ∙ g.same_board;
-          same_told =
-              ap (λ ran. told_now ++ ran.settled) same ∙ ap (λ ts. ts ++ rest.settled) told_is ∙
-              append_assoc told settlements rest.settled ∙ sym (ap (λ ran. told ++ ran.settled) step) ∙ g.same_told;
-          agenda = record {
-            few = omega (arith, length-set states place state_now, g.agenda.few);
-            rising = noted_now.rising;
-            noted = noted_new;
-            quiet = quiet_new;
-          };
-          parted = noted_now.parts count (key_of (round + 1) 0) g.parted (omega (arith, later));
-          within = omega (arith, more);
-          len = len ∙ g.len;
-          known = λ all. set_known states place state_now (g.known all) is_state;
+      -- an entry that was noted for a later round isn't this one
+      elsewhere : (r q : ℕ) → IsLater pace round g.from states r q → place ≢ q
+      elsewhere r q was e =
+          let same_state = the_some turn.state was.state (sym turn.there ∙ ap (slice_get states) e ∙ was.there) in
+          let later = was.idle (omega (arith, e, turn.waits)) in
+          let due = subst (λ s. due_at pace s ≤ round) same_state turn.due in
+          omega (arith, later, due)
+
+      later_new : (r q : ℕ) → round < r → IsNotedFor new_near new_far round r q →
+          IsLater pace round (suc place) (set states place state_now) r q
+      later_new r q low is = elim (noted_now.was r q (omega (arith, low)) is) [
+        | inl new ↦ record {
+          state = state_now;
+          there = ap (slice_get (set states place state_now)) new.1 ∙ set_same states place state_now place_within;
+          next = new.0 ∙ at_is;
+          idle = λ behind. let here = new.1 in absurd (omega (arith, behind, here));
         }
+        | inr old ↦
+            let was = g.agenda.later r q low old in
+            record {
+              state = was.state;
+              there = set_other states place q state_now (elsewhere r q was) ∙ was.there;
+              next = was.next;
+              idle = λ behind. was.idle (omega (arith, behind, turn.waits));
+            }
+      ]
+
+      all_later_new : (r q : ℕ) → IsLater pace round (suc place) (set states place state_now) r q →
+          IsNotedFor new_near new_far round r q
+      all_later_new r q is = elim (cases_eq place q) [
+        | inl here ↦
+            let same_state = the_some state_now is.state
+            (sym (set_same states place state_now place_within) ∙ ap (slice_get (set states place state_now)) here ∙ is.there) in
+            let when : at ≡ r = at_is ∙ ap (λ s. max (round + 1) (due_at pace s)) same_state ∙ sym is.next in
+            subst (λ n. IsNotedFor new_near new_far round n q) when
+            (subst (λ p. IsNotedFor new_near new_far round at p) here noted_now.now)
+        | inr other ↦
+            let was = sym (set_other states place q state_now other) ∙ is.there in
+            noted_now.still r q (omega (arith, is.next)) (g.agenda.all_later r q (record {
+              state = is.state;
+              there = was;
+              next = is.next;
+              idle = λ low. elim (cases_lt q place) [
+                | inl before ↦ skipped q is.state low before was
+                | inr after ↦ is.idle (omega (arith, after, other))
+              ];
+            }))
+      ]
+
+      pub going-step : length now.cells ≡ length board.cells → IsEntryState state_now →
+          Going pace round old_states old_board old_told (set states place state_now) now told_now new_near new_far (passed + 1) count
+      going-step len is_state =
+          let settlements = map (told_as state.entry) (settle_entry pace round state board).settlements in
+          let rest : Ran =
+          run_from pace round (suc place) (set states place (after_settling state (settle_entry pace round state board).settlements))
+          (settle_entry pace round state board).board in
+          record {
+            from = suc place;
+            same_states = ap (λ ran. ran.states) same ∙ sym (ap (λ ran. ran.states) step) ∙ g.same_states;
+            same_board = ap (λ ran. ran.board) same ∙ sym (ap (λ ran. ran.board) step) ∙ g.same_board;
+            same_told =
+                ap (λ ran. told_now ++ ran.settled) same ∙ ap (λ ts. ts ++ rest.settled) told_is ∙
+                append_assoc told settlements rest.settled ∙ sym (ap (λ ran. told ++ ran.settled) step) ∙ g.same_told;
+            agenda = record {
+              few = omega (arith, length-set states place state_now, g.agenda.few);
+              lists = noted_now.lists;
+              rising = noted_now.rising;
+              far_rising = noted_now.far_rising;
+              far_late = noted_now.far_late g.agenda.far_late;
+              today = today_new;
+              all_today = all_today_new;
+              later = later_new;
+              all_later = all_later_new;
+            };
+            many = g.many ∙ ap length (sym same_today);
+            within = omega (arith, more);
+            len = len ∙ g.len;
+            known = set_known states place state_now g.known is_state;
+          }

@@ -1,10 +1,10 @@
 -- What is due of an entry where its first occurrences are settled: the next one and so on, or nothing.
-use Rattle.std.proofs.Common.{◌≡◌, ℕ, zero, suc, ◌+◌, ◌*◌, ◌/◌, ◌<◌, ◌≤◌, nat_lt, nat_eq, ◌&&◌, not, Bool, true, false, cond, List, [], ◌∷◌, filter, refl, ap, ap₂, sym, ◌∙◌, inl, inr, ne_eqb, eq-eqb, lt-ltb, le-ltb, arith}
+use Rattle.std.proofs.Common.{◌≡◌, ℕ, zero, suc, ◌+◌, ◌*◌, ◌<◌, ◌≤◌, nat_lt, nat_eq, ◌&&◌, not, Bool, true, false, cond, List, [], ◌∷◌, filter, refl, ap, ap₂, sym, ◌∙◌, inl, inr, ne_eqb, eq-eqb, lt-ltb, le-ltb, arith}
 use Rattle.std.specs.List.{list_any, range_with_len, AllByRecursion}
 use Rattle.std.proofs.lemmas.Bool.{cases_lt, cases_eq, cases_Bool, and_right, and_parts, ltb-true}
-use Rattle.us_calendar.specs.Entries.{Entry, IsEntry}
+use Rattle.us_calendar.specs.Entries.{Entry}
 use Rattle.us_calendar.specs.Occurrences.{ideal, due}
-use Rattle.us_calendar.proofs.IdealLemmas.{HasWindows, windows, ideal-rises, number-below, ideal-most, number-most, interval-below}
+use Rattle.us_calendar.proofs.IdealLemmas.{HasWindows, ideal-rises, number-below}
 
 -- a number is among those of a range, or it is not
 
@@ -106,9 +106,3 @@ due-all e end n =
       | inl before ↦ let never : false ≡ true = sym (settled_before e end n m before) ∙ is in absurd cc
       | inr here ↦ here
     ]
-
--- the same of an entry that is kept
-pub interval_below : (e : Entry) (n end : ℕ) → IsEntry e → ideal e n < end → n / e.grants < end
-interval_below e n end is h = interval-below e n end (windows e is) h
-
-pub ruleset due_facts = (ideal-most, number-most, interval_below)

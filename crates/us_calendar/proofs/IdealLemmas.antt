@@ -1,11 +1,10 @@
 -- When occurrences are ideal: never earlier than those before them, and an interval later in another interval.
-use Rattle.std.proofs.Common.{◌≡◌, ℕ, ◌+◌, ◌*◌, ◌/◌, ◌%◌, ◌<◌, ◌≤◌, ◌^◌, ◌⊎◌, inl, inr, ap, arith}
+use Rattle.std.proofs.Common.{◌≡◌, ℕ, ◌+◌, ◌*◌, ◌/◌, ◌%◌, ◌<◌, ◌≤◌, ◌⊎◌, inl, inr, ap, arith}
 use Rattle.std.proofs.lemmas.Nat.{mul-le, le-div}
-use Rattle.std.proofs.Math.Nat.{div-mul-le_self, div-le_self}
+use Rattle.std.proofs.Math.Nat.{div-mul-le_self}
 use Rattle.std.proofs.lemmas.Bool.{cases_lt}
-use Rattle.us_slots.specs.Times.{minislot_ticks}
 use Rattle.us_calendar.specs.Entries.{Entry, IsEntry}
-use Rattle.us_calendar.specs.Occurrences.{Pace, ideal, end_of}
+use Rattle.us_calendar.specs.Occurrences.{ideal}
 
 -- an interval that begins no earlier has no lower number
 div-rises : (n m k : ℕ) → 0 < k → n ≤ m → n / k ≤ m / k
@@ -55,40 +54,3 @@ number-below e n end is h =
     let whole : e.grants * (n / e.grants) + n % e.grants ≡ n = omega (arith, is.grants) in
     let rest : n % e.grants < e.grants = omega (arith, is.grants) in
     grind arith
-
--- and has a number of 38 bits where `end` is in a run
-pub number-most : (e : Entry) (n end : ℕ) → IsEntry e → end ≤ 25 * 67108864 → ideal e n < end → n < 2 ^ 38
-number-most e n end is run h =
-    let below : n < end * e.grants = number-below e n end (windows e is) h in
-    let product : end * e.grants ≤ 1677721600 * 127 = mul-le end e.grants 1677721600 127 (omega arith) is.few_grants in
-    omega arith
-
-pub ideal-most : (e : Entry) (n : ℕ) → IsEntry e → n ≤ 2 ^ 38 →
-    (n / e.grants * e.interval < 2 ^ 64) × (e.start + n / e.grants * e.interval < 2 ^ 64)
-ideal-most e n is h =
-    let low : n / e.grants ≤ n = div-le_self n e.grants in
-    let product : n / e.grants * e.interval ≤ 274877906944 * 40000000 =
-    mul-le (n / e.grants) e.interval 274877906944 40000000 (omega arith) is.interval in
-    (omega arith, omega (arith, is.start))
-
--- a round's end, with the ticks of a round first
-pub end-is : (time_len len ticks round : ℕ) → time_len ≡ 25 * (len * ticks) →
-    (round + 1) * time_len ≡ 25 * ((round + 1) * len * ticks)
-end-is time_len len ticks round e = rw e (grind arith)
-
-pub end-most : (time_len len ticks round : ℕ) → time_len ≡ 25 * (len * ticks) → (round + 1) * (len * ticks) ≤ 67108864 →
-    (round + 1) * time_len ≤ 1677721600
-end-most time_len len ticks round e h =
-    let same : (round + 1) * time_len ≡ 25 * ((round + 1) * (len * ticks)) = rw e (grind arith) in
-    omega arith
-
-pub ruleset end_facts = (end-is, end-most)
-
--- the same of the time of a round
-pub end_most : (pace : Pace) (round : ℕ) → (round + 1) * (pace.len * minislot_ticks pace.time) ≤ 67108864 →
-    end_of pace round ≤ 25 * 67108864
-end_most pace round h =
-    let same : (round + 1) * pace.len * minislot_ticks pace.time ≡ (round + 1) * (pace.len * minislot_ticks pace.time) = grind arith in
-    omega arith
-
-pub ruleset ideal_facts = (ideal-most, number-most)

@@ -1,12 +1,12 @@
 -- What is noted: numbers that rise.
-use Rattle.std.proofs.Common.{◌≡◌, ℕ, ◌+◌, ◌-◌, ◌<◌, ◌≤◌, ◌⊎◌, List, [], length, get_or, Ok, Err, refl, ap, sym, ◌∙◌, inl, inr, subst, arith}
+use Rattle.std.proofs.Common.{◌≡◌, ℕ, ◌+◌, ◌-◌, ◌<◌, ◌≤◌, ◌⊎◌, List, [], ◌∷◌, ◌++◌, length, get_or, Ok, Err, refl, ap, sym, ◌∙◌, inl, inr, subst, arith}
 use Rattle.std.specs.List.{insert}
 use Rattle.std.specs.List.Sorted.{IsBinarySearchResult}
 use Rattle.std.specs.Ordering.{nat_cmp}
 use Rattle.std.proofs.lemmas.Bool.{cases_lt, cases_eq, cases_order}
 use Rattle.std.proofs.lemmas.List.Sorted.{searched}
 use Rattle.std.proofs.lemmas.List.Edits.{length-insert, get_or-insert_at, get_or-insert_below, get_or-insert_above}
-use Rattle.us_calendar.specs.Kept.{IsRising, IsNoted, IsNotedIn, IsParted}
+use Rattle.us_calendar.specs.Agendas.{IsRising, IsNoted, IsNotedIn, IsParted}
 
 pub none_rise : IsRising []
 none_rise = λ i j low inside. absurd (omega (arith, inside))
@@ -49,6 +49,10 @@ not_found keys key at rising answer =
         | inr high ↦ let above = is.2 noted.0 high noted.2 in absurd (omega (arith, above, noted.3))
       ],
     )
+
+insert_last : (old : List ℕ) (key : ℕ) → insert old (length old) key ≡ old ++ key ∷ []
+insert_last [] key = refl
+insert_last (x ∷ xs) key = ap (λ more. x ∷ more) (insert_last xs key)
 
 -- a number that comes between those below it and those above it
 module _ (old : List ℕ) (at key : ℕ) (rising : IsRising old) (parted : IsParted old at key)
@@ -124,108 +128,60 @@ module _ (old : List ℕ) (at key : ℕ) (rising : IsRising old) (parted : IsPar
     ]
   ]
 
-  insert_was : (first q : ℕ) → IsNoted (insert old at key) first q → first ≤ at →
-      (q ≡ key) ⊎ IsNoted old first q
-  insert_was first q is low = elim (cases_order is.0 at) [
+  insert_was : (q : ℕ) → IsNoted (insert old at key) 0 q → (q ≡ key) ⊎ IsNoted old 0 q
+  insert_was q is = elim (cases_order is.0 at) [
     | inl i_here ↦ inl (sym is.3 ∙ ap (λ k. get_or (insert old at key) k 0) i_here ∙ here)
     | inr other ↦ elim other [
-      | inl i_low ↦ inr (is.0, is.1, omega (arith, i_low, parted.inside), sym (before is.0 i_low) ∙ is.3)
-      | inr i_high ↦ inr (
-        is.0 - 1,
-        omega (arith, low, i_high),
-        omega (arith, is.2, long, i_high),
-        sym (behind is.0 i_high) ∙ is.3,
-      )
+      | inl i_low ↦ inr (is.0, omega arith, omega (arith, i_low, parted.inside), sym (before is.0 i_low) ∙ is.3)
+      | inr i_high ↦ inr (is.0 - 1, omega arith, omega (arith, is.2, long, i_high), sym (behind is.0 i_high) ∙ is.3)
     ]
   ]
 
-  insert_still : (first q : ℕ) → IsNoted old first q → IsNoted (insert old at key) first q
-  insert_still first q is = elim (cases_lt is.0 at) [
-    | inl low ↦ (is.0, is.1, omega (arith, is.2, long), before is.0 low ∙ is.3)
+  insert_still : (q : ℕ) → IsNoted old 0 q → IsNoted (insert old at key) 0 q
+  insert_still q is = elim (cases_lt is.0 at) [
+    | inl low ↦ (is.0, omega arith, omega (arith, is.2, long), before is.0 low ∙ is.3)
     | inr high ↦ (
       is.0 + 1,
-      omega (arith, is.1),
+      omega arith,
       omega (arith, is.2, long),
       get_or-insert_above old at key 0 is.0 high parted.inside ∙ is.3,
     )
   ]
 
-  insert_parts : (count end : ℕ) → IsParted old count end → end ≤ key → IsParted (insert old at key) count end
-  insert_parts count end parts late =
-      let low : count ≤ at = elim (cases_lt at count) [
-        | inr fine ↦ fine
-        | inl more ↦
-            let below = parts.below at more in
-            let high = above at (omega arith) (omega (arith, more, parts.inside)) in
-            absurd (omega (arith, below, high, late))
-      ] in
-      record {
-        inside = omega (arith, parts.inside, long);
-        below = λ i less.
-            let same = before i (omega (arith, less, low)) in
-            let is = parts.below i less in
-            omega (arith, same, is);
-        above = λ i more inside. elim (cases_order i at) [
-          | inl i_here ↦
-              let same : get_or (insert old at key) i 0 ≡ key = ap (λ k. get_or (insert old at key) k 0) i_here ∙ here in
-              omega (arith, same, late)
-          | inr other ↦ elim other [
-            | inl i_low ↦
-                let same = before i i_low in
-                let is = parts.above i more (omega (arith, i_low, parted.inside)) in
-                omega (arith, same, is)
-            | inr i_high ↦
-                let is = above_key i i_high inside in
-                omega (arith, is, late)
-          ]
-        ];
-      }
+-- a number above all others comes last
+pub last_noted : (old : List ℕ) (key : ℕ) → IsParted old (length old) key → IsNotedIn old key (old ++ key ∷ [])
+last_noted old key parted =
+    inr (
+      length old,
+      parted,
+      sym (insert_last old key),
+      λ noted. let below = parted.below noted.0 noted.2 in absurd (omega (arith, below, noted.3)),
+    )
 
--- what a list has once a number is noted in it that is above those before `first`
-pub record Put (old : List ℕ) (first key : ℕ) (new : List ℕ) : Type 0 where
+-- what a list has once a number is noted in it
+pub record Put (old : List ℕ) (key : ℕ) (new : List ℕ) : Type 0 where
   pub rising : IsRising new
-  pub was : (q : ℕ) → IsNoted new first q → (q ≡ key) ⊎ IsNoted old first q
-  pub still : (q : ℕ) → IsNoted old first q → IsNoted new first q
-  pub now : IsNoted new first key
-  pub inside : first ≤ length new
-  pub same : (i : ℕ) → i < first → get_or new i 0 ≡ get_or old i 0
-  pub parts : (count end : ℕ) → IsParted old count end → end ≤ key → IsParted new count end
+  pub was : (q : ℕ) → IsNoted new 0 q → (q ≡ key) ⊎ IsNoted old 0 q
+  pub still : (q : ℕ) → IsNoted old 0 q → IsNoted new 0 q
+  pub now : IsNoted new 0 key
 
-pub is_put : (old new : List ℕ) (first key : ℕ) → IsRising old → first ≤ length old →
-    ((i : ℕ) → i < first → get_or old i 0 < key) → IsNotedIn old key new → Put old first key new
-is_put old new first key rising inside low put = elim put [
+pub is_put : (old : List ℕ) (key : ℕ) (new : List ℕ) → IsRising old → IsNotedIn old key new → Put old key new
+is_put old key new rising put = elim put [
   | inl there ↦
-      let is = there.0 in
-      let late : first ≤ is.0 = elim (cases_lt is.0 first) [
-        | inr fine ↦ fine
-        | inl early ↦ let less = low is.0 early in absurd (omega (arith, less, is.3))
-      ] in
-      subst (Put old first key) (sym there.1) (record {
-        rising = rising;
-        was = λ q noted. inr noted;
-        still = λ q noted. noted;
-        now = (is.0, late, is.2, is.3);
-        inside = inside;
-        same = λ i less. refl;
-        parts = λ count end parts late. parts;
-      })
+      subst (Put old key) (sym there.1)
+      (record { rising = rising; was = λ q noted. inr noted; still = λ q noted. noted; now = there.0 })
   | inr fresh ↦
       let at = fresh.0 in
       let parted = fresh.1 in
-      let late : first ≤ at = elim (cases_lt at first) [
-        | inr fine ↦ fine
-        | inl early ↦
-            let less = low at early in
-            let high = above old at key rising parted fresh.3 at (omega arith) (omega (arith, early, inside)) in
-            absurd (omega (arith, less, high))
-      ] in
-      subst (Put old first key) (sym fresh.2) (record {
+      subst (Put old key) (sym fresh.2) (record {
         rising = insert_rises old at key rising parted fresh.3;
-        was = λ q noted. insert_was old at key rising parted fresh.3 first q noted late;
-        still = λ q noted. insert_still old at key rising parted fresh.3 first q noted;
-        now = (at, late, omega (arith, parted.inside, long old at key rising parted fresh.3), here old at key rising parted fresh.3);
-        inside = omega (arith, inside, long old at key rising parted fresh.3);
-        same = λ i less. before old at key rising parted fresh.3 i (omega (arith, less, late));
-        parts = λ count end parts bound. insert_parts old at key rising parted fresh.3 count end parts bound;
+        was = insert_was old at key rising parted fresh.3;
+        still = insert_still old at key rising parted fresh.3;
+        now = (
+          at,
+          omega arith,
+          omega (arith, parted.inside, long old at key rising parted fresh.3),
+          here old at key rising parted fresh.3,
+        );
       })
 ]

@@ -1,9 +1,11 @@
 pub mod IdealLemmas
 pub mod DueLemmas
+pub mod TimedLemmas
 pub mod SettleLemmas
 pub mod SpotLemmas
 pub mod EntryStateLemmas
 pub mod KeyLemmas
+pub mod NearLemmas
 pub mod RunLemmas
 pub mod RunTimes
 pub mod AgendaLemmas

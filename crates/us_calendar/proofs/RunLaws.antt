@@ -13,7 +13,8 @@ use Rattle.us_calendar.specs.Occurrences.{Pace, is_over, starts_within, due, end
 use Rattle.us_calendar.specs.Settling.{SettledEntry, EntryState, spot, with_spot, settle_each, settle_entry, after_settling, told_as}
 use Rattle.us_calendar.specs.Calendars.{Calendar, Ran, run_entries, StartsInside, granted_in, one_if_granted}
 use Rattle.us_calendar.specs.declared.settled.Settled.{Settled}
-use Rattle.us_calendar.specs.Kept.{IsEntryState, IsKept, IsAgenda}
+use Rattle.us_calendar.specs.Kept.{IsEntryState, IsKept}
+use Rattle.us_calendar.specs.Agendas.{IsAgenda}
 use Rattle.us_calendar.proofs.SettleLemmas.{then_settle}
 
 -- of what one entry is granted and misses
@@ -101,43 +102,53 @@ settled_most (state ∷ states) all =
     let one = sum_by-cons (λ r. length r.settled) state states in
     omega (arith, few, rest, one)
 
-pub written : (old new : List EntryState) → length new ≡ length old → take (length old) (new ++ drop (length new) old) ≡ new
+-- a list that was lent is the new one of its length
+pub written : {A : Type 0} → (old new : List A) → length new ≡ length old → take (length old) (new ++ drop (length new) old) ≡ new
 written [] [] e = refl
 written [] (x ∷ xs) e = absurd (omega (arith, e))
 written (o ∷ os) [] e = absurd (omega (arith, e))
 written (o ∷ os) (x ∷ xs) e = ap (λ more. x ∷ more) (written os xs (omega (arith, e)))
 
+pub lent : {A : Type 0} → (old new : List A) (len : ℕ) → len ≡ length old → length new ≡ length old →
+    take len (new ++ drop (length new) old) ≡ new
+lent old new len is many = ap (λ n. take n (new ++ drop (length new) old)) is ∙ written old new many
+
 -- and so the calendar keeps what it owes
-pub run_kept : (calendar : Calendar) (now : List EntryState) (next len : ℕ) (board : Board) (keys had : List ℕ) →
-    IsKept calendar had → now ≡ (run_entries calendar.pace calendar.next_round calendar.states board).states →
-    (AllByRecursion IsEntryState calendar.states → AllByRecursion IsEntryState now) → len ≡ length calendar.states →
-    next ≡ calendar.next_round + 1 → IsAgenda calendar.pace next 0 now keys 0 →
+pub run_kept : (calendar : Calendar) (now : List EntryState) (next len lists : ℕ) (board : Board)
+    (near new_near : List (List ℕ)) (far new_far : List ℕ) → IsKept calendar near far → now ≡ (run_entries calendar.pace calendar.next_round calendar.states board).states →
+    AllByRecursion IsEntryState now → len ≡ length calendar.states → lists ≡ length near →
+    next ≡ calendar.next_round + 1 → IsAgenda calendar.pace next 0 now new_near new_far 0 →
     IsKept (record {
       pace = calendar.pace;
       next_round = next;
       states = take len (now ++ drop (length now) calendar.states);
-    }) keys
-run_kept calendar now next len board keys had kept now_is states_kept len_is next_is agenda =
+    }) (take lists (new_near ++ drop (length new_near) near)) new_far
+run_kept calendar now next len lists board near new_near far new_far kept now_is states len_is lists_is next_is agenda =
     let ended = run_ended calendar.pace calendar.next_round calendar.states board in
     let many : length now ≡ length calendar.states = ap length now_is ∙ ended.many in
-    let states = states_kept kept.states in
     let most = settled_most now states in
     let few : length now ≤ 1280 = omega (arith, kept.few) in
-    let back : take len (now ++ drop (length now) calendar.states) ≡ now =
-    ap (λ n. take n (now ++ drop (length now) calendar.states)) len_is ∙ written calendar.states now many in
-    subst (λ rs. IsKept (record { pace = calendar.pace; next_round = next; states = rs }) keys) (sym back) (record {
+    let back = lent calendar.states now len len_is many in
+    let same : length new_near ≡ length near = omega (arith, agenda.lists, kept.agenda.lists) in
+    let lists_back = lent near new_near lists lists_is same in
+    subst (λ ls. IsKept (record {
+      pace = calendar.pace;
+      next_round = next;
+      states = take len (now ++ drop (length now) calendar.states);
+    }) ls new_far) (sym lists_back)
+    (subst (λ rs. IsKept (record { pace = calendar.pace; next_round = next; states = rs }) new_near new_far) (sym back) (record {
       known = record { len = kept.known.len; ticks = kept.known.ticks; settled = omega (arith, most, few) };
       few = few;
       states = states;
       agenda = agenda;
-    })
+    }))
 
 -- before round 0 too
-pub opening_kept : (pace : Pace) (states : List EntryState) (es : List Entry) (keys : List ℕ) → 1 ≤ pace.len →
+pub opening_kept : (pace : Pace) (states : List EntryState) (es : List Entry) (near : List (List ℕ)) (far : List ℕ) → 1 ≤ pace.len →
     pace.len * minislot_ticks pace.time ≤ 4096 → states ≡ map (λ e. record { entry = e; settled = [] }) es →
-    length es ≤ 1280 → AllByRecursion IsEntryState states → IsAgenda pace 0 0 states keys 0 →
-    IsKept (record { pace = pace; next_round = 0; states = states }) keys
-opening_kept pace states es keys some ticks states_are few all agenda =
+    length es ≤ 1280 → AllByRecursion IsEntryState states → IsAgenda pace 0 0 states near far 0 →
+    IsKept (record { pace = pace; next_round = 0; states = states }) near far
+opening_kept pace states es near far some ticks states_are few all agenda =
     let fresh : Entry → EntryState = λ e. record { entry = e; settled = [] } in
     let many : length states ≡ length es = ap length states_are ∙ length-map es fresh in
     let most = settled_most states all in

@@ -233,5 +233,3 @@ first_ones pace round e (suc left) n board is all = elim (cases_lt (ideal e n) (
           (more.0, numbers_on pace round e n board None is due found (rw over refl) ∙ more.1)
       | inr open_yet ↦ (n, stop_here pace round e n board (settle-waits pace round e n board is found open_yet))
     ]
-
-pub ruleset settle_facts = (settle-next, settle-none)

@@ -1,10 +1,11 @@
 -- Where an occurrence is granted: its window as minislots of the MAP, and the board's answer there.
-use Rattle.std.proofs.Common.{◌≡◌, ℕ, ◌+◌, ◌*◌, ◌-◌, ◌<◌, ◌≤◌, max, min, nat_le, ◌&&◌, Bool, true, false, Some, None, ap, sym, ◌∙◌, inl, inr, arith}
+use Rattle.std.proofs.Common.{◌≡◌, ℕ, ◌+◌, ◌*◌, ◌-◌, ◌/◌, ◌<◌, ◌≤◌, min, nat_le, ◌&&◌, Bool, true, false, Some, None, ap, ap₂, sym, ◌∙◌, inl, inr, arith}
 use Rattle.std.proofs.lemmas.Bool.{cases_Bool, and_from, and_right, and_parts, leb-true, le-leb, false_from_ne_true, le-ltb}
-use Rattle.std.proofs.lemmas.Bool.Decides.{nat_tests}
+use Rattle.std.specs.Int.{div_ceil}
 use Rattle.std.proofs.lemmas.Nat.{mul-le, pow_pos}
 use Rattle.us_slots.specs.Times.{Timing, minislot_ticks, start_of}
-use Rattle.us_slots.specs.Windows.{StartsWithin, AreEnds}
+use Rattle.us_slots.specs.Windows.{StartsWithin}
+use Rattle.us_slots.proofs.RoundingLemmas.{ceil-fits, ceil-least, floor-fits, floor-most}
 use Rattle.us_holes.specs.Boards.{Board, is_full, is_idle_at, fits}
 use Rattle.us_holes.specs.Placements.{IsPlacedAt, HasNoRoom}
 use Rattle.us_holes.proofs.IdleLemmas.{first_of-least, first_of-none}
@@ -12,6 +13,9 @@ use Rattle.us_holes.proofs.FitLemmas.{fits-held}
 use Rattle.us_calendar.specs.Entries.{Entry}
 use Rattle.us_calendar.specs.Occurrences.{Pace, ideal, starts_within}
 use Rattle.us_calendar.specs.Settling.{spot}
+use Rattle.us_calendar.specs.declared.occurrences.Occurrence.{Occurrence}
+use Rattle.us_calendar.specs.Kept.{IsTimed, number_of}
+use Rattle.us_calendar.proofs.TimedLemmas.{ideal_is}
 
 -- the window
 
@@ -34,61 +38,57 @@ pub none-within : (time : Timing) (e : Entry) (n i : ℕ) → ¬ StartsWithin ti
     starts_within time e n i ≡ false
 none-within time e n i h = false_if (starts_within time e n i) (λ t. h (within time e n i t))
 
-window-is : (time : Timing) (e : Entry) (n first last i : ℕ) →
-    AreEnds (StartsWithin time (ideal e n) e.jitter) (first, last) →
-    starts_within time e n i ≡ (nat_le first i && nat_le i last)
-window-is time e n first last i ends = elim (cases_Bool (starts_within time e n i)) [
-  | inl t ↦
-      let in_window = within time e n i t in
-      let low : first ≤ i = ends.least i in_window in
-      let high : i ≤ last = ends.greatest i in_window in
-      t ∙ sym (and_from (nat_le first i) (nat_le i last) (le-leb first i low) (le-leb i last high))
-  | inr f ↦ f ∙ sym (false_if (nat_le first i && nat_le i last) (λ t.
-      let parts = and_parts (nat_le first i) (nat_le i last) t in
-      let low = later_start time first i (leb-true first i parts.0) in
-      let high = later_start time i last (leb-true i last parts.1) in
-      let is : starts_within time e n i ≡ true = and_from (nat_le (ideal e n) (start_of time i)) (nat_le (start_of time i) (ideal e n + e.jitter))
-      (le-leb (ideal e n) (start_of time i) (omega (arith, low, ends.first.0)))
-      (le-leb (start_of time i) (ideal e n + e.jitter) (omega (arith, high, ends.last.1))) in
-      let never : true ≡ false = sym is ∙ f in absurd cc))
+-- Its minislots in a round's MAP: the ideal time in minislots behind the round's begin, rounded up, and the latest time,
+-- rounded down.
+
+start_at : (time : Timing) (round len at begin minislot : ℕ) → begin ≡ start_of time (round * len) →
+    minislot ≡ 25 * minislot_ticks time → start_of time (round * len + at) ≡ begin + at * minislot
+start_at time round len at begin minislot begins long = rw (begins, long) (grind arith)
+
+same_le : (a b m n : ℕ) → (a ≤ b → m ≤ n) → (m ≤ n → a ≤ b) → nat_le a b ≡ nat_le m n
+same_le a b m n to from = elim (cases_Bool (nat_le m n)) [
+  | inl t ↦ le-leb a b (from (leb-true m n t)) ∙ sym t
+  | inr f ↦ false_if (nat_le a b) (λ t.
+      let never : true ≡ false = sym (le-leb m n (to (leb-true a b t))) ∙ f in absurd cc) ∙ sym f
 ]
 
-clip : (first last base len at : ℕ) → first < base + len → base ≤ last → at < len →
-    (nat_le first (base + at) && nat_le (base + at) last) ≡
-    (nat_le (max first base - base) at && nat_le at (min last (base + len - 1) - base))
-clip first last base len at low high inside = grind (arith, nat_tests)
+not_before : (ideal begin minislot at : ℕ) → 0 < minislot →
+    nat_le ideal (begin + at * minislot) ≡ nat_le (div_ceil (ideal - begin) minislot) at
+not_before ideal begin minislot at some =
+    same_le ideal (begin + at * minislot) (div_ceil (ideal - begin) minislot) at
+    (λ h. ceil-least (ideal - begin) minislot at some (omega (arith, h)))
+    (λ h. let fits = ceil-fits (ideal - begin) minislot at some h in omega (arith, fits))
 
-pub window-clip : (time : Timing) (e : Entry) (n first last base len : ℕ) →
-    AreEnds (StartsWithin time (ideal e n) e.jitter) (first, last) → first < base + len → base ≤ last →
-    (at : ℕ) → at < len → starts_within time e n (base + at) ≡
-    (nat_le (max first base - base) at && nat_le at (min last (base + len - 1) - base))
-window-clip time e n first last base len ends low high at inside =
-    window-is time e n first last (base + at) ends ∙ clip first last base len at low high inside
+not_behind : (last begin minislot len at : ℕ) → 0 < minislot → begin ≤ last → at < len →
+    nat_le (begin + at * minislot) last ≡ nat_le at (min ((last - begin) / minislot) (len - 1))
+not_behind last begin minislot len at some after inside =
+    same_le (begin + at * minislot) last at (min ((last - begin) / minislot) (len - 1))
+    (λ h. let most = floor-most (last - begin) minislot at some (omega (arith, h)) in omega (arith, most, inside))
+    (λ h. let fits = floor-fits (last - begin) minislot at (omega (arith, h)) in omega (arith, fits, after))
 
-pub window-past : (time : Timing) (e : Entry) (n first last base len : ℕ) →
-    AreEnds (StartsWithin time (ideal e n) e.jitter) (first, last) → base + len ≤ first →
-    (at : ℕ) → at < len → starts_within time e n (base + at) ≡ false
-window-past time e n first last base len ends past at inside =
-    none-within time e n (base + at) (λ is. omega (arith, ends.least (base + at) is, past, inside))
+module _ (pace : Pace) (round begin minislot : ℕ) (e : Entry) (o : Occurrence) (is : IsTimed e o)
+    (begins : begin ≡ start_of pace.time (round * pace.len)) (long : minislot ≡ 25 * minislot_ticks pace.time)
+    (len jitter behind from to : ℕ) (len_is : len ≡ pace.len) (jitter_is : jitter ≡ e.jitter) (after : begin ≤ o.ideal + jitter)
+    (behind_is : behind ≡ o.ideal - begin) (from_is : from ≡ div_ceil behind minislot)
+    (to_is : to ≡ min ((o.ideal + jitter - begin) / minislot) (len - 1)) where
+  pub window_in : (at : ℕ) → at < pace.len →
+      starts_within pace.time e (number_of e o) (round * pace.len + at) ≡ (nat_le from at && nat_le at to)
+  window_in at inside =
+      let some : 0 < minislot = omega (arith, long, pow_pos pace.time.minislot_log2) in
+      ap₂ (λ ideal start. nat_le ideal start && nat_le start (ideal + e.jitter)) (ideal_is e o is)
+      (start_at pace.time round pace.len at begin minislot begins long) ∙
+      ap (λ j. nat_le o.ideal (begin + at * minislot) && nat_le (begin + at * minislot) (o.ideal + j)) (sym jitter_is) ∙
+      ap₂ (λ a b. a && b) (not_before o.ideal begin minislot at some)
+      (not_behind (o.ideal + jitter) begin minislot pace.len at some after inside) ∙
+      ap₂ (λ b l. nat_le (div_ceil b minislot) at && nat_le at (min ((o.ideal + jitter - begin) / minislot) (l - 1)))
+      (sym behind_is) (sym len_is) ∙ ap₂ (λ a b. nat_le a at && nat_le at b) (sym from_is) (sym to_is)
 
-pub window-before : (time : Timing) (e : Entry) (n first last base len : ℕ) →
-    AreEnds (StartsWithin time (ideal e n) e.jitter) (first, last) → last < base →
-    (at : ℕ) → at < len → starts_within time e n (base + at) ≡ false
-window-before time e n first last base len ends before at inside =
-    none-within time e n (base + at) (λ is. omega (arith, ends.greatest (base + at) is, before, inside))
-
--- a round's minislots have numbers of 32 bits
-pub base-most : (round len ticks : ℕ) → (round + 1) * (len * ticks) ≤ 67108864 → 1 ≤ ticks →
-    round * len + len ≤ 67108864
-base-most round len ticks h some =
-    let product : (round + 1) * (len * 1) ≤ (round + 1) * (len * ticks) =
-    mul-le (round + 1) (len * 1) (round + 1) (len * ticks) (omega arith) (mul-le len 1 len ticks (omega arith) some) in
-    let same : (round + 1) * (len * 1) ≡ round * len + len = grind arith in
-    omega arith
-
-pub base_most : (round len : ℕ) (time : Timing) → (round + 1) * (len * minislot_ticks time) ≤ 67108864 →
-    round * len + len ≤ 67108864
-base_most round len time h = base-most round len (minislot_ticks time) h (pow_pos time.minislot_log2)
+  pub window_none : to < from → (at : ℕ) → at < pace.len →
+      starts_within pace.time e (number_of e o) (round * pace.len + at) ≡ false
+  window_none empty at inside =
+      window_in at inside ∙ false_if (nat_le from at && nat_le at to) (λ t.
+      let parts = and_parts (nat_le from at) (nat_le at to) t in
+      absurd (omega (arith, empty, leb-true from at parts.0, leb-true at to parts.1)))
 
 -- the answer
 
@@ -141,7 +141,5 @@ spot-at pace round e n from to start board window inside placed =
     (omega arith) (omega (arith, least.below, inside))
     (λ at _ earlier. missed_at pace round e n from to at board window (omega (arith, earlier, least.below, inside))
     (λ low high. least.first at low earlier)))
-
-pub ruleset start_facts = (window-clip, window-past, window-before, none-within, base_most)
 
 pub ruleset spot_facts = (spot-at, spot-none, spot-full, spot-outside)

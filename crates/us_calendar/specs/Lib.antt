@@ -13,6 +13,8 @@ pub mod Settling
 pub mod Calendars
 -- what becomes of an occurrence over a run
 pub mod Runs
+-- what is noted of entries that are due later
+pub mod Agendas
 -- how a calendar is kept
 pub mod Kept
 -- laws of settling

@@ -9,8 +9,11 @@ ghost use Rattle.us_calendar.specs.Kept.{IsKept};
 use crate::agendas::{noted, settle_due};
 use crate::entry_states::EntryState;
 use crate::listing::entries_of;
+use crate::near_rounds::clear_all;
 use crate::paces::Pace;
+use crate::rising::Rising;
 use crate::settled::Settled;
+use crate::spans::Span;
 use std::alloc::Global;
 use std::marker::Model;
 use us_flows::{Channel, Config};
@@ -23,8 +26,11 @@ pub struct Calendar {
     next_round: u32,
     states: Vec<EntryState>,
 
-    // the rounds and entries that are noted: an ordered set, as its members in order
-    due: Vec<u64>,
+    // the places of the entries that are due in one of the next 16 rounds, a list for each round
+    near: Vec<Rising>,
+
+    // rounds and places of all others
+    far: Rising,
 }
 
 impl Model for Calendar {
@@ -32,7 +38,7 @@ impl Model for Calendar {
 
     ghost view = { λ c. record { pace = c.pace; next_round = c.next_round; states = c.states.items } };
 
-    ghost invariant = { λ c. IsKept (record { pace = c.pace; next_round = c.next_round; states = c.states.items }) c.due.items };
+    ghost invariant = { λ c. IsKept (record { pace = c.pace; next_round = c.next_round; states = c.states.items }) c.near.items c.far };
 }
 
 /// Gives the entries up. It is written out so that it is one step wherever a calendar ends.
@@ -42,7 +48,8 @@ impl Drop for Calendar {
             pace: _,
             next_round: _,
             states: _,
-            due: _,
+            near: _,
+            far: _,
         } = self;
     }
 }
@@ -67,12 +74,13 @@ impl Calendar {
             len: config.map_len(channel),
         };
         let entries = entries_of(alloc, config, channel)?;
-        let (states, due) = noted(alloc, pace, &entries)?;
+        let (states, near, far) = noted(alloc, &Span::new(pace, 0), &entries)?;
         Ok(Calendar {
             pace,
             next_round: 0,
             states,
-            due,
+            near,
+            far,
         })
     }
 
@@ -104,12 +112,13 @@ impl Calendar {
         ensures counts { IfOk result (λ settled.
             length settled.items + spec.settled_in self.old ≡ spec.settled_in self.new) }
     {
+        let span = Span::new(self.pace, round);
         let mut settled = Vec::new(alloc);
         match settle_due(
-            self.pace,
-            round,
+            &span,
             &mut self.states,
-            &mut self.due,
+            &mut self.near,
+            &mut self.far,
             board,
             &mut settled,
         ) {
@@ -119,7 +128,8 @@ impl Calendar {
             }
             Err(refused) => {
                 self.states.clear();
-                self.due.clear();
+                clear_all(&mut self.near);
+                self.far.clear();
                 Err(refused)
             }
         }

@@ -1,7 +1,4 @@
-ghost use Rattle.std.specs.Prelude.{◌≡◌, ℕ, ◌≤◌, ◌<◌};
 ghost use Rattle.us_calendar.specs.Entries as spec;
-ghost use Rattle.us_calendar.specs.Occurrences.{ideal};
-ghost use Rattle.us_calendar.specs.Kept.{max_number};
 
 use crate::kinds::Kind;
 use std::marker::Model;
@@ -9,15 +6,23 @@ use us_holes::Owner;
 
 /// An entry of the calendar: so many grants of `slots` minislots in each interval. Times are in quarter microseconds.
 #[derive(Clone, Copy)]
-pub(crate) struct Entry {
-    pub(crate) kind: Kind,
-    pub(crate) id: u16,
-    pub(crate) owner: Owner,
-    pub(crate) slots: u32,
-    pub(crate) start: u32,
-    pub(crate) interval: u32,
-    pub(crate) jitter: u32,
-    pub(crate) grants: u8,
+pub struct Entry {
+    /// What it is.
+    pub kind: Kind,
+    /// The id of its flow, or of its station.
+    pub id: u16,
+    /// The SID, and the IUC of its kind.
+    pub owner: Owner,
+    /// The minislots of each grant, at least one.
+    pub slots: u32,
+    /// When its first interval begins.
+    pub start: u32,
+    /// How long an interval is.
+    pub interval: u32,
+    /// How late in an interval a grant may start, which is less than the interval.
+    pub jitter: u32,
+    /// How many grants there are in an interval, 1 to 127.
+    pub grants: u8,
 }
 
 impl Model for Entry {
@@ -55,16 +60,4 @@ impl Model for Entry {
       jitter = e.jitter;
       grants = e.grants;
     } };
-}
-
-impl Entry {
-    /// When an occurrence is ideal.
-    #[tactic(auto, using(crate::proofs::SettleLemmas::settle_facts))]
-    pub(crate) fn ideal(self, number: u64) -> u64
-        requires { number ≤ max_number }
-        ensures value { result ≡ ideal self number }
-        ensures known { spec.IsEntry self }
-    {
-        u64::from(self.start) + number / u64::from(self.grants) * u64::from(self.interval)
-    }
 }

@@ -1,31 +1,30 @@
-ghost use Rattle.std.specs.Prelude.{◌≡◌, ℕ, ◌+◌, ◌*◌, ◌/◌, ◌≤◌, ◌<◌, [], ◌++◌, length, map, max, OnOk, IfOk};
+ghost use Rattle.std.specs.Prelude.{◌≡◌, ◌+◌, [], ◌++◌, length, map, max, OnOk, IfOk};
 ghost use Rattle.std.specs.List.{range_with_len};
-ghost use Rattle.us_slots.specs.Times.{minislot_ticks};
-ghost use Rattle.us_flows.specs.Tables.{max_run_ticks};
-ghost use Rattle.us_calendar.specs.Occurrences.{ideal, end_of};
+ghost use Rattle.us_calendar.specs.Agendas.{due_at};
 ghost use Rattle.us_calendar.specs.Settling as spec;
-ghost use Rattle.us_calendar.specs.Kept.{IsEntryState, IsQuiet};
+ghost use Rattle.us_calendar.specs.Kept.{IsEntryState, IsTimed, number_of};
 
 use crate::entries::Entry;
-use crate::paces::Pace;
+use crate::occurrences::Occurrence;
 use crate::settled::Settled;
 use crate::settling::settle;
+use crate::spans::Span;
 use std::marker::Model;
 use us_holes::Board;
 use us_slots::NoMemory;
 
-/// An entry, and the number of its first occurrence that isn't settled.
+/// An entry, and its first occurrence that isn't settled.
 pub(crate) struct EntryState {
     entry: Entry,
-    next: u64,
+    next: Occurrence,
 }
 
 impl Model for EntryState {
     ghost Value = { spec.EntryState };
 
-    ghost view = { λ r. record { entry = r.entry; settled = range_with_len 0 r.next } };
+    ghost view = { λ r. record { entry = r.entry; settled = range_with_len 0 (number_of r.entry r.next) } };
 
-    ghost invariant = { λ r. IsEntryState (record { entry = r.entry; settled = range_with_len 0 r.next }) };
+    ghost invariant = { λ r. IsTimed r.entry r.next };
 }
 
 /// Gives the state up. It is written out so that it is one step wherever a state ends.
@@ -42,67 +41,60 @@ impl EntryState {
         ensures value { result ≡ (record { entry = entry; settled = [] }) }
         ensures known { IsEntryState result }
     {
-        entry.ideal(0);
-        EntryState { entry, next: 0 }
+        let next = Occurrence::first(&entry);
+        EntryState { entry, next }
     }
 
     /// Settles what is due of the entry, and puts it behind what is settled so far.
     #[tactic(auto, using(crate::proofs::EntryStateLemmas::state_facts))]
     fn settle(
         &mut self,
-        pace: Pace,
-        round: u32,
+        span: &Span,
         board: &mut Board,
         settled: &mut Vec<Settled>,
     ) -> Result<(), NoMemory>
-        requires time { (round + 1) * (pace.len * minislot_ticks pace.time) ≤ max_run_ticks }
-        requires len { length board.old.cells ≡ pace.len }
-        ensures state { OnOk result
-            (self.new ≡ spec.after_settling self.old (spec.settle_entry pace round self.old board.old).settlements) }
-        ensures board { OnOk result (board.new ≡ (spec.settle_entry pace round self.old board.old).board) }
+        requires len { length board.old.cells ≡ span.now.pace.len }
+        ensures state { OnOk result (self.new ≡
+            spec.after_settling self.old (spec.settle_entry span.now.pace span.now.round self.old board.old).settlements) }
+        ensures board { OnOk result
+            (board.new ≡ (spec.settle_entry span.now.pace span.now.round self.old board.old).board) }
         ensures len { length board.new.cells ≡ length board.old.cells }
-        ensures told { OnOk result (settled.new.items ≡ settled.old.items
-            ++ map (spec.told_as self.old.entry) (spec.settle_entry pace round self.old board.old).settlements) }
+        ensures told { OnOk result (settled.new.items ≡ settled.old.items ++ map (spec.told_as self.old.entry)
+            (spec.settle_entry span.now.pace span.now.round self.old board.old).settlements) }
         ensures known { IsEntryState self.new }
     {
-        self.next = settle(self.entry, pace, round, self.next, board, settled)?;
+        self.next = settle(&self.entry, span, self.next, board, settled)?;
         Ok(())
     }
 
     /// Settles what is due of the entry in a round, and tells the first round after it in which something is due.
     pub(crate) fn run(
         &mut self,
-        pace: Pace,
-        round: u32,
+        span: &Span,
         board: &mut Board,
         settled: &mut Vec<Settled>,
-    ) -> Result<u64, NoMemory>
-        requires time { (round + 1) * (pace.len * minislot_ticks pace.time) ≤ max_run_ticks }
-        requires len { length board.old.cells ≡ pace.len }
-        ensures state { OnOk result
-            (self.new ≡ spec.after_settling self.old (spec.settle_entry pace round self.old board.old).settlements) }
-        ensures board { OnOk result (board.new ≡ (spec.settle_entry pace round self.old board.old).board) }
+    ) -> Result<u32, NoMemory>
+        requires len { length board.old.cells ≡ span.now.pace.len }
+        ensures state { OnOk result (self.new ≡
+            spec.after_settling self.old (spec.settle_entry span.now.pace span.now.round self.old board.old).settlements) }
+        ensures board { OnOk result
+            (board.new ≡ (spec.settle_entry span.now.pace span.now.round self.old board.old).board) }
         ensures len { length board.new.cells ≡ length board.old.cells }
-        ensures told { OnOk result (settled.new.items ≡ settled.old.items
-            ++ map (spec.told_as self.old.entry) (spec.settle_entry pace round self.old board.old).settlements) }
+        ensures told { OnOk result (settled.new.items ≡ settled.old.items ++ map (spec.told_as self.old.entry)
+            (spec.settle_entry span.now.pace span.now.round self.old board.old).settlements) }
         ensures known { IsEntryState self.new }
-        ensures next { IfOk result (λ next. next ≡
-            max (round + 1) (ideal self.new.entry (length self.new.settled) / end_of pace 0)) }
-        ensures later { IfOk result (λ next. round + 1 ≤ next) }
-        ensures quiet { IfOk result (λ next. (at : ℕ) → at < next → round + 1 ≤ at → IsQuiet pace at self.new) }
+        ensures next { IfOk result (λ next. next ≡ max (span.now.round + 1) (due_at span.now.pace self.new)) }
     {
-        self.settle(pace, round, board, settled)?;
-        pace.end(round);
-        Ok(self.due_round(pace, round + 1))
+        self.settle(span, board, settled)?;
+        Ok(self.due_round(span, span.round + 1))
     }
 
-    /// The first round from `from` on in which an occurrence of the entry is due.
+    /// The first round from `from` on in which an occurrence of the entry is due. Any round of the channel tells how long
+    /// rounds are.
     #[tactic(auto, using(crate::proofs::EntryStateLemmas::state_facts))]
-    pub(crate) fn due_round(&self, pace: Pace, from: u32) -> u64
-        ensures value { result ≡ max from (ideal self.now.entry (length self.now.settled) / end_of pace 0) }
-        ensures least { from ≤ result }
-        ensures quiet { (round : ℕ) → round < result → from ≤ round → IsQuiet pace round self.now }
+    pub(crate) fn due_round(&self, span: &Span, from: u32) -> u32
+        ensures { result ≡ max from (due_at span.now.pace self.now) }
     {
-        u64::from(from).max(self.entry.ideal(self.next) / pace.round_quarters())
+        from.max(self.next.ideal / (span.end - span.begin))
     }
 }

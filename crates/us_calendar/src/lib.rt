@@ -17,8 +17,14 @@ mod settled;
 // The time of a channel.
 mod paces;
 
+// A round of it.
+mod spans;
+
 // An entry.
 mod entries;
+
+// An occurrence of it.
+mod occurrences;
 
 // Where an occurrence is granted.
 mod placing;
@@ -35,6 +41,12 @@ mod listing;
 // What is noted of an entry.
 mod keys;
 
+// Numbers in order.
+mod rising;
+
+// What is noted for the next rounds.
+mod near_rounds;
+
 // The entries that are due.
 mod agendas;
 
@@ -45,11 +57,13 @@ mod calendars;
 mod laws;
 
 pub use calendars::Calendar;
+pub use entries::Entry;
 pub use kinds::Kind;
 pub use laws::{
     all_are_occurrences, entries_are_apart, entries_are_lawful, first_ones, grants_fit,
     settled_once,
 };
+pub use listing::entries_of;
 pub use settled::Settled;
 
 #[cfg(test)]

@@ -14,12 +14,8 @@ use us_slots::{Iuc, NoMemory, cost};
 /// Quarter microseconds of a microsecond.
 const QUARTERS_PER_US: u32 = 4;
 
-/// The entries of a channel, in order.
-pub(crate) fn entries_of(
-    alloc: Global,
-    config: &Config,
-    channel: &Channel,
-) -> Result<Vec<Entry>, NoMemory>
+/// The entries of a channel, in order: at most 1,280.
+pub fn entries_of(alloc: Global, config: &Config, channel: &Channel) -> Result<Vec<Entry>, NoMemory>
     requires { IsChannel config.now channel.now }
     ensures value { IfOk result (λ entries. entries.items ≡ spec.entries config.now channel.now) }
     ensures few { IfOk result (λ entries. length entries.items ≤ 1280) }

@@ -86,8 +86,38 @@ jitter_us = 500
     answer: "0: RealTimePoll 2 0.0 0+2, Station 1 0.0 2+4, 5: RealTimePoll 2 1.0 0+2, Station 1 1.0 2+4, ",
 };
 
+/// Intervals of 15 and of 16 rounds: the next occurrence of the first is noted by its round, that of the second isn't yet.
+const FAR: Case<'static> = Case {
+    name: "intervals of many rounds",
+    tables: "[[flow]]
+id = 1
+type = 6
+channels = [1]
+clusters = [[513]]
+start_us = 0
+interval_us = 30000
+jitter_us = 500
+grant_bytes = 16
+grants_per_interval = 1
+
+[[flow]]
+id = 2
+type = 6
+channels = [1]
+clusters = [[514]]
+start_us = 0
+interval_us = 32000
+jitter_us = 500
+grant_bytes = 16
+grants_per_interval = 1
+",
+    rounds: 33,
+    answer: "0: Unsolicited 1 0.0 0+1, Unsolicited 2 0.0 1+1, 15: Unsolicited 1 1.0 0+1, 16: Unsolicited 2 1.0 0+1, \
+        30: Unsolicited 1 2.0 0+1, 32: Unsolicited 2 2.0 0+1, ",
+};
+
 #[test]
 fn worked_rounds(rt: HostRuntime) -> Result<(), Fail> {
-    compare(&rt, rt.alloc(), &[NO_START, WAITS, HUNDRED, KINDS]);
+    compare(&rt, rt.alloc(), &[NO_START, WAITS, HUNDRED, KINDS, FAR]);
     Ok(())
 }

@@ -1,61 +1,71 @@
-use Rattle.std.proofs.Common.{◌≡◌, ℕ, ◌+◌, ◌/◌, ◌^◌, ◌<◌, min, length, get_or, sym, subst, arith}
+use Rattle.std.proofs.Common.{get_or, arith}
 use Rattle.std.proofs.lemmas.Option.{slice_get-get_or}
-use Rattle.us_calendar.specs.Kept.{IsAgenda, key_of}
-use Rattle.us_calendar.proofs.AgendaLemmas.{first_is, place_within, going-step, ends_states, ends_board, ends_told, ends_agenda}
+use Rattle.us_calendar.proofs.AgendaLemmas.{place_within, place_few, going-step, ends_states, ends_board, ends_told, ends_agenda}
 use Rattle.us_calendar.proofs.agendas.settle_due.Goals as goal
 
 pub bounds-states-place : goal.bounds-states-place
 bounds-states-place c =
-    let went = c.loop-at.invariant in
-    let inside : c.loop-at.at < length c.loop-at.due.items = omega (arith, c.loop-at-test.true, went.parted.inside) in
-    place_within c.args.pace c.args.round c.args.states.now c.args.board.now c.args.settled.now.items c.loop-at.states
-    c.loop-at.board c.loop-at.settled.items c.loop-at.due.items c.loop-at.at c.due_count-count.result went
-    c.index.result.now c.place_of-place.result c.loop-at-test.true
-    (first_is c.loop-at.due.items c.loop-at.at c.index.result.now inside c.index.ensures)
-    c.place_of-place.ensures.place (c.index.result.now / 2048, c.place_of-place.ensures.key)
+    let l = c.loop-passed in
+    place_within c.args.span.now.pace c.args.span.now.round c.args.states.now c.args.board.now c.args.settled.now.items
+    l.states l.board l.settled.items l.near l.far l.passed c.count_of-count.result l.invariant c.place_at-place.result
+    c.loop-passed-test.true c.place_at-place.ensures
 
-pub loop-at-preserved : goal.loop-at-preserved
-loop-at-preserved c =
-    let l = c.loop-at in
-    let went = l.invariant in
-    let place = c.place_of-place.result in
-    let key_in : l.at < length l.due.items = omega (arith, c.loop-at-test.true, went.parted.inside) in
-    let key_is = first_is l.due.items l.at c.index.result.now key_in c.index.ensures in
-    let at : (a : ℕ) × (key_of a place ≡ c.index.result.now) = (c.index.result.now / 2048, c.place_of-place.ensures.key) in
-    let inside = place_within c.args.pace c.args.round c.args.states.now c.args.board.now c.args.settled.now.items l.states
-    l.board l.settled.items l.due.items l.at c.due_count-count.result went c.index.result.now place
-    c.loop-at-test.true key_is c.place_of-place.ensures.place at in
-    let again : ℕ = min c.in_ok-next.next (2 ^ 32) in
-    going-step c.args.pace c.args.round c.args.states.now c.args.board.now c.args.settled.now.items l.states l.board
-    l.settled.items l.due.items l.at c.due_count-count.result went c.index.result.now place
-    (get_or l.states place c.index-states-place.result) c.run.new.self c.run.new.board c.run.new.settled.items again
-    c.note.new.due.items c.loop-at-test.true key_is c.place_of-place.ensures.place at c.in_ok-note.ensures
-    (slice_get-get_or l.states place c.index-states-place.result inside) c.in_ok-next.ensures.state
-    c.in_ok-next.ensures.board c.in_ok-next.ensures.told
-    (omega (arith, c.in_ok-next.ensures.later, c.ranges.round.fits))
-    (λ r low from. c.in_ok-next.ensures.quiet r (omega (arith, low)) from) c.run.ensures.len c.run.ensures.known
+pub note-requires-clause-place : goal.note-requires-clause-place
+note-requires-clause-place c =
+    let l = c.loop-passed in
+    place_few c.args.span.now.pace c.args.span.now.round c.args.states.now c.args.board.now c.args.settled.now.items
+    l.states l.board l.settled.items l.near l.far l.passed c.count_of-count.result l.invariant c.place_at-place.result
+    c.loop-passed-test.true c.place_at-place.ensures
+
+pub loop-passed-preserved : goal.loop-passed-preserved
+loop-passed-preserved c =
+    let l = c.loop-passed in
+    let place = c.place_at-place.result in
+    let inside = place_within c.args.span.now.pace c.args.span.now.round c.args.states.now c.args.board.now
+    c.args.settled.now.items l.states l.board l.settled.items l.near l.far l.passed c.count_of-count.result l.invariant
+    place c.loop-passed-test.true c.place_at-place.ensures in
+    going-step c.args.span.now.pace c.args.span.now.round c.args.states.now c.args.board.now c.args.settled.now.items
+    l.states l.board l.settled.items l.near l.far l.passed c.count_of-count.result l.invariant place
+    c.loop-passed-test.true c.place_at-place.ensures (get_or l.states place c.index-states-place.result)
+    c.run.new.self c.run.new.board c.run.new.settled.items c.in_ok-at.at c.note.new.near c.note.new.far
+    (slice_get-get_or l.states place c.index-states-place.result inside) c.in_ok-at.ensures.state
+    c.in_ok-at.ensures.board c.in_ok-at.ensures.told c.in_ok-at.ensures.next c.in_ok-note.ensures c.run.ensures.len
+    c.run.ensures.known
+
+pub offset_bounds-states-place : goal.offset_bounds-states-place
+offset_bounds-states-place c =
+    let l = c.loop-passed in
+    omega (
+      arith,
+      place_few c.args.span.now.pace c.args.span.now.round c.args.states.now c.args.board.now
+          c.args.settled.now.items l.states l.board l.settled.items l.near l.far l.passed c.count_of-count.result l.invariant
+          c.place_at-place.result c.loop-passed-test.true c.place_at-place.ensures,
+    )
 
 pub returns-clause-states : goal.returns-clause-states
 returns-clause-states c =
-    ends_states c.args.pace c.args.round c.args.states.now c.args.board.now c.args.settled.now.items c.loop-at.states
-    c.loop-at.board c.loop-at.settled.items c.loop-at.due.items c.loop-at.at c.due_count-count.result
-    c.loop-at.invariant (omega (arith, c.loop-at-test.false, c.loop-at.invariant.within))
+    let l = c.loop-passed in
+    ends_states c.args.span.now.pace c.args.span.now.round c.args.states.now c.args.board.now c.args.settled.now.items
+    l.states l.board l.settled.items l.near l.far l.passed c.count_of-count.result l.invariant
+    (omega (arith, c.loop-passed-test.false, l.invariant.within))
 
 pub returns-clause-board : goal.returns-clause-board
 returns-clause-board c =
-    ends_board c.args.pace c.args.round c.args.states.now c.args.board.now c.args.settled.now.items c.loop-at.states
-    c.loop-at.board c.loop-at.settled.items c.loop-at.due.items c.loop-at.at c.due_count-count.result
-    c.loop-at.invariant (omega (arith, c.loop-at-test.false, c.loop-at.invariant.within))
+    let l = c.loop-passed in
+    ends_board c.args.span.now.pace c.args.span.now.round c.args.states.now c.args.board.now c.args.settled.now.items
+    l.states l.board l.settled.items l.near l.far l.passed c.count_of-count.result l.invariant
+    (omega (arith, c.loop-passed-test.false, l.invariant.within))
 
 pub returns-clause-settled : goal.returns-clause-settled
 returns-clause-settled c =
-    ends_told c.args.pace c.args.round c.args.states.now c.args.board.now c.args.settled.now.items c.loop-at.states
-    c.loop-at.board c.loop-at.settled.items c.loop-at.due.items c.loop-at.at c.due_count-count.result
-    c.loop-at.invariant (omega (arith, c.loop-at-test.false, c.loop-at.invariant.within))
+    let l = c.loop-passed in
+    ends_told c.args.span.now.pace c.args.span.now.round c.args.states.now c.args.board.now c.args.settled.now.items
+    l.states l.board l.settled.items l.near l.far l.passed c.count_of-count.result l.invariant
+    (omega (arith, c.loop-passed-test.false, l.invariant.within))
 
 pub returns-clause-agenda : goal.returns-clause-agenda
 returns-clause-agenda c =
-    subst (λ keys. IsAgenda c.args.pace (c.args.round + 1) 0 c.loop-at.states keys 0) (sym c.drop_first.ensures)
-    (ends_agenda c.args.pace c.args.round c.args.states.now c.args.board.now c.args.settled.now.items c.loop-at.states
-    c.loop-at.board c.loop-at.settled.items c.loop-at.due.items c.loop-at.at c.due_count-count.result
-    c.loop-at.invariant (omega (arith, c.loop-at-test.false, c.loop-at.invariant.within)))
+    let l = c.loop-passed in
+    ends_agenda c.args.span.now.pace c.args.span.now.round c.args.states.now c.args.board.now c.args.settled.now.items
+    l.states l.board l.settled.items l.near l.far l.passed c.count_of-count.result l.invariant
+    (omega (arith, c.loop-passed-test.false, l.invariant.within)) c.bring.new.near c.bring.new.far c.in_ok-bring.ensures

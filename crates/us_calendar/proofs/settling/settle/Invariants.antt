@@ -1,11 +1,16 @@
 use Rattle.std.proofs.Common.{◌-◌, ◌^◌}
+use Rattle.us_calendar.specs.Kept.{IsTimed, number_of}
 use Rattle.us_calendar.proofs.SettleLemmas.{Reached}
 use Rattle.us_calendar.proofs.settling.settle.Given as goal
 
 -- what is settled, and what is left to settle, lead to the same
-abbrev pub invariant-loop-entry : goal.invariant-loop-entry
-invariant-loop-entry l =
-    Reached l.pace l.round l.entry l.first l.fn.board l.fn.settled.items l.number l.board l.settled.items
+abbrev pub invariant-loop-next : goal.invariant-loop-next
+invariant-loop-next l = record {
+  timed : IsTimed l.entry l.next;
+  reached :
+      Reached l.span.pace l.span.round l.entry (number_of l.entry l.fn.first) l.fn.board l.fn.settled.items
+      (number_of l.entry l.next) l.board l.settled.items;
+}
 
-abbrev pub decreases-loop-entry : goal.decreases-loop-entry
-decreases-loop-entry l = 2 ^ 38 - l.number
+abbrev pub decreases-loop-next : goal.decreases-loop-next
+decreases-loop-next l = 2 ^ 38 - number_of l.entry l.next

@@ -10,6 +10,6 @@ invariant_of-result c =
     let ticks : c.map_len.result * minislot_ticks c.time.result.now ≤ 4096 =
     omega (arith, c.map_len.ensures.ticks, ap (λ t. c.map_len.result * minislot_ticks t) time) in
     opening_kept (record { time = c.time.result.now; len = c.map_len.result }) c.in_ok-states.states.items
-    c.in_ok-entries.entries.items c.in_ok-states.due.items c.map_len.ensures.some ticks
+    c.in_ok-entries.entries.items c.in_ok-states.near.items c.in_ok-states.far c.map_len.ensures.some ticks
     (c.in_ok-states.ensures.states ∙ ap (map (λ e. state_from e 0)) c.deref.ensures.value) c.in_ok-entries.ensures.few
-    c.in_ok-states.ensures.known c.in_ok-states.ensures.agenda
+    c.in_ok-states.ensures.known (rw c.new.ensures.pace at c.in_ok-states.ensures.agenda)
