@@ -1,3 +1,5 @@
 pub mod PartLemmas
 pub mod PlaceLemmas
 pub mod FunctionLemmas
+pub mod SendLemmas
+pub mod TaskLemmas

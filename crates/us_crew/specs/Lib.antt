@@ -14,3 +14,9 @@ pub mod Codes
 pub mod Examples
 -- inside the crate, and of no use to a reader of the promise: the same of some of the items
 pub mod Parts
+-- inside the crate too: what goes through the ring of one job
+pub mod Orders
+-- jobs of several kinds
+pub mod Kinds
+-- items as a job
+pub mod Tasks

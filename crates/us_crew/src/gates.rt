@@ -32,3 +32,11 @@ impl Gate for OpenGate {
 
     fn enter(&self, _phase: Phase, _index: usize) {}
 }
+
+impl<G: Gate> Gate for &G {
+    ghost entered = { λ gate phase index. G.entered gate.now phase index };
+
+    fn enter(&self, phase: Phase, index: usize) {
+        (*self).enter(phase, index)
+    }
+}

@@ -28,7 +28,7 @@ fn appended<R: Drop>(mut front: Vec<R>, mut back: Vec<R>) -> Result<Vec<R>, NoMe
 }
 
 /// The answers of two parts, or the first fault.
-fn together<R: Drop, E: Drop>(
+pub(crate) fn together<R: Drop, E: Drop>(
     front: Result<Vec<R>, CrewFault<E>>,
     back: Result<Vec<R>, CrewFault<E>>,
 ) -> Result<Vec<R>, CrewFault<E>>

@@ -1,8 +1,12 @@
 //! What no clause says: that the work is done where there is memory, that workers are at work at the same time, that
-//! one worker is one thread, and texts of faults.
+//! one worker is one thread, that kept workers do the same from round to round, and texts of faults.
 
 mod answers;
 mod base;
 mod gates;
+mod kept_answers;
+mod kept_base;
+mod kept_gates;
+mod kept_memory;
 mod memory;
 mod plain;
