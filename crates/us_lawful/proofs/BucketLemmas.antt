@@ -17,7 +17,7 @@ use Rattle.us_channel.specs.Placements.{PlacedClaim, credits}
 use Rattle.us_round.specs.Rounds.{State, opening, grown, begun, builds_of, all_grants, is_of_flow, spent_of, round_from, round_of, final}
 use Rattle.us_round.specs.States.{AreSound}
 use Rattle.us_round.specs.ScheduleLaws.{begun_rounds, AreCuts}
-use Rattle.us_round.proofs.PartLemmas.{all_weaker}
+use Rattle.us_output.proofs.PartLemmas.{all_weaker}
 use Rattle.us_lawful.specs.Finals.{level_left}
 use Rattle.us_lawful.proofs.RoundLemmas.{IsRoundOf, rounds_are, rounds_of}
 

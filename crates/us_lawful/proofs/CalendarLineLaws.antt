@@ -17,11 +17,11 @@ use Rattle.us_calendar.specs.Runs as runs
 use Rattle.us_calendar.specs.Runs.{is_name, grants, misses, board_at_turn, IsOccurrence, IsRight}
 use Rattle.us_channel.specs.Channels.{Built}
 use Rattle.us_channel.specs.Placements.{PlacedClaim}
-use Rattle.us_round.specs.declared.rows.Row.{Row}
+use Rattle.us_output.specs.declared.rows.Row.{Row}
 use Rattle.us_round.specs.Rounds.{State, builds_of}
-use Rattle.us_round.specs.Outputs.{settled_row, grant_row}
+use Rattle.us_output.specs.Outputs.{settled_row, grant_row}
 use Rattle.us_round.specs.ScheduleLaws.{AreCuts}
-use Rattle.us_round.proofs.PartLemmas.{all_append, all_contained, all_flat, all_found, all_mapped}
+use Rattle.us_output.proofs.PartLemmas.{all_append, all_contained, all_flat, all_found, all_mapped}
 use Rattle.us_lawful.specs.declared.place.Place.{Place}
 use Rattle.us_lawful.specs.Runs.{Run, Judged}
 use Rattle.us_lawful.specs.Output.{output_of, judged_of, run_of}

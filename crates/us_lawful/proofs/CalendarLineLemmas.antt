@@ -20,9 +20,9 @@ use Rattle.us_calendar.proofs.OnceLaws.{settled_once}
 use Rattle.us_calendar.proofs.SortedLemmas.{entries_ordered, entries_windows}
 use Rattle.us_channel.specs.Channels.{Built}
 use Rattle.us_channel.specs.Placements.{PlacedClaim}
-use Rattle.us_round.specs.Outputs.{settled_row, grant_row}
+use Rattle.us_output.specs.Outputs.{settled_row, grant_row}
 use Rattle.us_round.specs.ScheduleLaws.{boards_of}
-use Rattle.us_round.proofs.PartLemmas.{all_found}
+use Rattle.us_output.proofs.PartLemmas.{all_found}
 use Rattle.us_lawful.specs.CalendarLines.{names}
 use Rattle.us_lawful.proofs.SameLemmas.{sum_append, sum_flat_map, sum_map}
 use Rattle.us_lawful.proofs.SumLemmas.{sum_none, sum_same}

@@ -24,14 +24,13 @@ use Rattle.us_channel.specs.Placements.{PlacedClaim, assignments}
 use Rattle.us_channel.specs.Channels.{Built}
 use Rattle.us_channel.specs.Laws.{AreGrantsFor, HaveMinislots, IsMadeOf, placed_on, reserve, reserve_assignments}
 use Rattle.us_channel.specs.Maps.{run_element, elements_of, pending_element, map_of}
-use Rattle.us_round.specs.declared.rows.Grant.{Grant}
-use Rattle.us_round.specs.declared.rows.Row.{Row}
-use Rattle.us_round.specs.declared.rows.Row.TheVariants as rows
-use Rattle.us_round.specs.Rounds.{pendings_on}
-use Rattle.us_round.specs.Outputs.{built_map, settled_row, grant_row}
-use Rattle.us_round.specs.Leftovers.{IsBuiltFor}
-use Rattle.us_round.proofs.PartLemmas.{all_append, all_weaker}
-use Rattle.us_round.proofs.OwnerLemmas.{HaveOwners, IsOwnedPart}
+use Rattle.us_output.specs.declared.rows.Grant.{Grant}
+use Rattle.us_output.specs.declared.rows.Row.{Row}
+use Rattle.us_output.specs.declared.rows.Row.TheVariants as rows
+use Rattle.us_output.specs.Outputs.{pendings_on, built_map, settled_row, grant_row}
+use Rattle.us_output.specs.Leftovers.{IsBuiltFor}
+use Rattle.us_output.proofs.PartLemmas.{all_append, all_weaker}
+use Rattle.us_output.proofs.OwnerLemmas.{HaveOwners, IsOwnedPart}
 use Rattle.us_lawful.specs.Runs.{as_grant, grants_in}
 use Rattle.us_lawful.specs.Regions.{Region, reserve_region, reserve_regions, region_of, grant_regions, element_regions, minislot_holds}
 use Rattle.us_lawful.specs.Laws.{region_for, element_region_for}

@@ -20,14 +20,15 @@ use Rattle.us_calendar.specs.declared.settled.Settled.TheVariants as settled
 use Rattle.us_split.specs.Claims.{Claimant, claimant_of}
 use Rattle.us_channel.specs.Placements.{PlacedClaim}
 use Rattle.us_channel.specs.Channels.{Built}
-use Rattle.us_round.specs.declared.rows.EntryWord.TheVariants as words
-use Rattle.us_round.specs.declared.rows.Grant.{Grant}
-use Rattle.us_round.specs.declared.rows.Row.{Row}
-use Rattle.us_round.specs.declared.rows.Row.TheVariants as rows
+use Rattle.us_output.specs.declared.rows.EntryWord.TheVariants as words
+use Rattle.us_output.specs.declared.rows.Grant.{Grant}
+use Rattle.us_output.specs.declared.rows.Row.{Row}
+use Rattle.us_output.specs.declared.rows.Row.TheVariants as rows
 use Rattle.us_round.specs.Rounds.{State, opening, builds_of, final}
-use Rattle.us_round.specs.Outputs.{entry_word, settled_row, grant_row, final_row, final_rows}
+use Rattle.us_output.specs.Outputs.{entry_word, settled_row, grant_row, final_row}
+use Rattle.us_round.specs.States.{final_rows}
 use Rattle.us_round.specs.ScheduleLaws.{AreCuts}
-use Rattle.us_round.proofs.PartLemmas.{all_found, all_weaker}
+use Rattle.us_output.proofs.PartLemmas.{all_found, all_weaker}
 use Rattle.us_round.proofs.ChannelRunLaws.{channels_stay}
 use Rattle.us_lawful.specs.declared.place.Place.{Place}
 use Rattle.us_lawful.specs.Runs.{Run, as_grant, is_requested, grants_in, requested_in}

@@ -11,11 +11,11 @@ use Rattle.us_requests.specs.declared.asks.Counts.{Counts}
 use Rattle.us_split.specs.Claims.{Claimant, claimant_of}
 use Rattle.us_channel.specs.Placements.{PlacedClaim, credits}
 use Rattle.us_channel.specs.Channels.{Built}
-use Rattle.us_round.specs.declared.rows.Grant.{Grant}
-use Rattle.us_round.specs.declared.rows.Row.{Row}
+use Rattle.us_output.specs.declared.rows.Grant.{Grant}
+use Rattle.us_output.specs.declared.rows.Row.{Row}
 use Rattle.us_round.specs.Rounds.{State, builds_of, all_grants, is_of_cluster, is_of_flow}
 use Rattle.us_round.specs.ScheduleLaws.{AreCuts}
-use Rattle.us_round.proofs.PartLemmas.{all_weaker}
+use Rattle.us_output.proofs.PartLemmas.{all_weaker}
 use Rattle.us_lawful.specs.Runs.{requested_in}
 use Rattle.us_lawful.specs.Output.{output_of, judged_of}
 use Rattle.us_lawful.proofs.SameLemmas.{sum_filter, sum_flat_map}

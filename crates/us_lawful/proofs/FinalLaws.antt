@@ -13,12 +13,12 @@ use Rattle.us_flows.specs.Lawful.{AreTables}
 use Rattle.us_flows.proofs.TurnLaws.{table_order-once, table_order-turns}
 use Rattle.us_bucket.specs.Levels.{Level, full, units_in}
 use Rattle.us_requests.specs.declared.asks.Counts.{Counts}
-use Rattle.us_round.specs.declared.rows.FinalState.{FinalState}
-use Rattle.us_round.specs.declared.rows.Row.{Row}
-use Rattle.us_round.specs.declared.rows.TraceCounts.{TraceCounts}
+use Rattle.us_output.specs.declared.rows.FinalState.{FinalState}
+use Rattle.us_output.specs.declared.rows.Row.{Row}
+use Rattle.us_output.specs.declared.rows.TraceCounts.{TraceCounts}
 use Rattle.us_round.specs.Rounds.{State, opening, final}
 use Rattle.us_round.specs.ScheduleLaws.{AreCuts}
-use Rattle.us_round.proofs.PartLemmas.{all_found, all_weaker}
+use Rattle.us_output.proofs.PartLemmas.{all_found, all_weaker}
 use Rattle.us_lawful.specs.declared.place.Place.{Place}
 use Rattle.us_lawful.specs.Runs.{Run, counts_in, counts_told, finals_in}
 use Rattle.us_lawful.specs.Credits.{asked_within, credited_within}

@@ -21,7 +21,7 @@ use Rattle.us_channel.specs.Channels.{Filled, Built}
 use Rattle.us_channel.specs.Laws.{IsGrantFor, AreGrantsFor}
 use Rattle.us_channel.proofs.BoardLaws.{grants_are_of_claims}
 use Rattle.us_round.specs.Rounds.{State, fills_of, idle, round_plan, build_planned, builds_of}
-use Rattle.us_round.specs.Leftovers.{IsBuiltFor}
+use Rattle.us_output.specs.Leftovers.{IsBuiltFor}
 use Rattle.us_round.proofs.CreditLaws.{claims_some}
 use Rattle.us_lawful.proofs.RoundLemmas.{IsRoundOf}
 

@@ -12,10 +12,10 @@ use Rattle.us_flows.specs.Lawful.{AreTables}
 use Rattle.us_requests.specs.declared.asks.Counts.{Counts}
 use Rattle.us_channel.specs.Channels.{Built}
 use Rattle.us_channel.specs.Maps.{head_of, elements_of, pending_element, map_of}
-use Rattle.us_round.specs.Rounds.{State, Scheduled, opening, builds_of, ended, pendings_on, schedule}
-use Rattle.us_round.specs.Outputs.{RoundOut, built_map, out_of}
+use Rattle.us_round.specs.Rounds.{State, opening, builds_of, ended, schedule}
+use Rattle.us_output.specs.Outputs.{Scheduled, pendings_on, RoundOut, built_map, out_of}
 use Rattle.us_round.specs.ScheduleLaws.{AreCuts, HasLawfulMaps}
-use Rattle.us_round.proofs.PartLemmas.{all_append, all_both, all_flat, all_mapped, all_weaker}
+use Rattle.us_output.proofs.PartLemmas.{all_append, all_both, all_flat, all_mapped, all_weaker}
 use Rattle.us_round.proofs.ScheduleLaws.{rounds_are_numbered, schedule_is_of_begun_rounds}
 use Rattle.us_round.proofs.ChannelRunLaws.{channels_stay}
 use Rattle.us_round.proofs.MapLaws.{maps_are_lawful}

@@ -13,11 +13,12 @@ use Rattle.us_calendar.specs.declared.settled.Settled.{Settled}
 use Rattle.us_calendar.specs.declared.settled.Settled.TheVariants as settled
 use Rattle.us_channel.specs.Placements.{PlacedClaim}
 use Rattle.us_channel.specs.Channels.{Built}
-use Rattle.us_round.specs.declared.rows.FinalState.{FinalState}
-use Rattle.us_round.specs.declared.rows.Row.{Row}
-use Rattle.us_round.specs.declared.rows.TraceCounts.{TraceCounts}
+use Rattle.us_output.specs.declared.rows.FinalState.{FinalState}
+use Rattle.us_output.specs.declared.rows.Row.{Row}
+use Rattle.us_output.specs.declared.rows.TraceCounts.{TraceCounts}
 use Rattle.us_round.specs.Rounds.{State, opening, schedule, final, builds_of, round_from, round_of}
-use Rattle.us_round.specs.Outputs.{settled_row, grant_row, final_row, final_rows, out_of}
+use Rattle.us_output.specs.Outputs.{settled_row, grant_row, final_row, out_of}
+use Rattle.us_round.specs.States.{final_rows}
 use Rattle.us_round.specs.ScheduleLaws.{AreCuts}
 use Rattle.us_lawful.specs.Files.{counts_row}
 use Rattle.us_lawful.specs.Output.{output_of, all_rows, judged_of}

@@ -10,8 +10,8 @@ use Rattle.us_calendar.specs.declared.settled.Settled.TheVariants as settled
 use Rattle.us_calendar.specs.Entries.{Entry, rank_of}
 use Rattle.us_calendar.specs.Runs.{is_name, grants, misses}
 use Rattle.us_channel.specs.Placements.{PlacedClaim}
-use Rattle.us_round.specs.declared.rows.EntryWord.TheVariants as words
-use Rattle.us_round.specs.Outputs.{entry_word, settled_row, grant_row}
+use Rattle.us_output.specs.declared.rows.EntryWord.TheVariants as words
+use Rattle.us_output.specs.Outputs.{entry_word, settled_row, grant_row}
 use Rattle.us_lawful.specs.CalendarLines.{is_word, is_named, names, number_of}
 
 -- Kinds.

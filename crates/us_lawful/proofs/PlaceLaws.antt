@@ -10,8 +10,8 @@ use Rattle.us_requests.specs.declared.asks.Counts.{Counts}
 use Rattle.us_channel.specs.Channels.{Built}
 use Rattle.us_round.specs.Rounds.{State, builds_of}
 use Rattle.us_round.specs.ScheduleLaws.{AreCuts}
-use Rattle.us_round.specs.declared.rows.Row.{Row}
-use Rattle.us_round.proofs.PartLemmas.{all_weaker}
+use Rattle.us_output.specs.declared.rows.Row.{Row}
+use Rattle.us_output.proofs.PartLemmas.{all_weaker}
 use Rattle.us_round.proofs.ChannelRunLaws.{channels_stay}
 use Rattle.us_lawful.specs.declared.place.Place.{Place}
 use Rattle.us_lawful.specs.Output.{output_of, judged_of, run_of}

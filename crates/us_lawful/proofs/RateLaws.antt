@@ -11,7 +11,7 @@ use Rattle.us_flows.specs.Lawful.{AreTables}
 use Rattle.us_bucket.specs.Levels.{units_per_byte}
 use Rattle.us_bucket.specs.Allowances.{Limit, KeepsBound, credited}
 use Rattle.us_requests.specs.declared.asks.Counts.{Counts}
-use Rattle.us_round.specs.declared.rows.Row.{Row}
+use Rattle.us_output.specs.declared.rows.Row.{Row}
 use Rattle.us_round.specs.Rounds.{State, opening, is_of_flow}
 use Rattle.us_round.specs.ScheduleLaws.{AreCuts}
 use Rattle.us_round.proofs.ScheduleLaws.{rounds_are_numbered}

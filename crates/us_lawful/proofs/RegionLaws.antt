@@ -23,12 +23,12 @@ use Rattle.us_channel.specs.Channels.{Built, fill}
 use Rattle.us_channel.specs.Laws.{IsMadeOf, placed_on}
 use Rattle.us_channel.proofs.BoardLaws.{boards_are_built}
 use Rattle.us_requests.specs.declared.asks.Counts.{Counts}
-use Rattle.us_round.specs.Rounds.{State, Scheduled, opening, round_plan, build_planned, builds_of, ended, schedule}
-use Rattle.us_round.specs.Outputs.{built_map, out_of}
-use Rattle.us_round.specs.Leftovers.{IsBuiltFor}
+use Rattle.us_round.specs.Rounds.{State, opening, round_plan, build_planned, builds_of, ended, schedule}
+use Rattle.us_output.specs.Outputs.{Scheduled, built_map, out_of}
+use Rattle.us_output.specs.Leftovers.{IsBuiltFor}
 use Rattle.us_round.specs.ScheduleLaws.{AreCuts, HasLawfulMaps, boards_of, settled_at}
-use Rattle.us_round.proofs.PartLemmas.{all_found, all_mapped, all_weaker}
-use Rattle.us_round.proofs.OwnerLemmas.{HasOwner, HaveOwners, run_owned}
+use Rattle.us_output.proofs.PartLemmas.{all_found, all_mapped, all_weaker}
+use Rattle.us_output.proofs.OwnerLemmas.{HasOwner, HaveOwners, run_owned}
 use Rattle.us_round.proofs.ChannelRunLaws.{calendars_run, channels_stay}
 use Rattle.us_round.proofs.MapLaws.{maps_are_lawful}
 use Rattle.us_round.proofs.ScheduleLaws.{schedule_is_of_begun_rounds}

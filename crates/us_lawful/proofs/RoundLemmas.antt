@@ -16,15 +16,15 @@ use Rattle.us_calendar.specs.declared.settled.Settled.{Settled}
 use Rattle.us_calendar.specs.declared.settled.Settled.TheVariants as settled
 use Rattle.us_channel.specs.Placements.{PlacedClaim}
 use Rattle.us_channel.specs.Channels.{Built}
-use Rattle.us_round.specs.declared.rows.Row.{Row}
-use Rattle.us_round.specs.Rounds.{State, Scheduled, opening, builds_of, ended, schedule, final}
-use Rattle.us_round.specs.Outputs.{RoundOut, is_granted, settled_row, grant_row, by_start, granted_rows, missed_rows, rows_on, final_row, final_rows, out_of}
-use Rattle.us_round.specs.Leftovers.{AreInside}
-use Rattle.us_round.specs.States.{IsState, AreSound}
+use Rattle.us_output.specs.declared.rows.Row.{Row}
+use Rattle.us_round.specs.Rounds.{State, opening, builds_of, ended, schedule, final}
+use Rattle.us_output.specs.Outputs.{Scheduled, RoundOut, is_granted, settled_row, grant_row, by_start, granted_rows, missed_rows, rows_on, final_row, out_of}
+use Rattle.us_round.specs.States.{final_rows, IsState, AreSound}
+use Rattle.us_output.specs.Leftovers.{AreInside}
 use Rattle.us_round.specs.ScheduleLaws.{begun_rounds, AreCuts}
-use Rattle.us_round.proofs.PartLemmas.{all_append, all_found, all_weaker}
-use Rattle.us_round.proofs.LineLemmas.{granted_inside}
-use Rattle.us_round.proofs.OutputLaws.{by_start_moves}
+use Rattle.us_output.proofs.PartLemmas.{all_append, all_found, all_weaker}
+use Rattle.us_output.proofs.LineLemmas.{granted_inside}
+use Rattle.us_output.proofs.OutputLaws.{by_start_moves}
 use Rattle.us_round.proofs.ChannelRunLaws.{channels_stay}
 use Rattle.us_round.proofs.ScheduleLaws.{IsBegunIn, opening_begun, rounds_are_numbered, schedule_is_of_begun_rounds, state_sound}
 use Rattle.us_lawful.specs.Files.{counts_row}

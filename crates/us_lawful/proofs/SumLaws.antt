@@ -10,12 +10,12 @@ use Rattle.us_flows.specs.Lawful.{AreTables}
 use Rattle.us_flows.proofs.TurnLaws.{table_order-turns}
 use Rattle.us_requests.specs.declared.asks.Counts.{Counts}
 use Rattle.us_channel.specs.Placements.{credits}
-use Rattle.us_round.specs.declared.rows.Grant.{Grant}
-use Rattle.us_round.specs.declared.rows.Row.{Row}
+use Rattle.us_output.specs.declared.rows.Grant.{Grant}
+use Rattle.us_output.specs.declared.rows.Row.{Row}
 use Rattle.us_round.specs.Rounds.{opening, builds_of, all_grants, is_of_cluster, schedule, final}
 use Rattle.us_round.specs.ScheduleLaws.{AreCuts, credited_of}
 use Rattle.us_round.proofs.ByteLaws.{bytes_are_kept}
-use Rattle.us_round.proofs.PartLemmas.{all_taken, all_weaker}
+use Rattle.us_output.proofs.PartLemmas.{all_taken, all_weaker}
 use Rattle.us_lawful.specs.declared.place.Place.{Place}
 use Rattle.us_lawful.specs.Runs.{Run, requested_in}
 use Rattle.us_lawful.specs.Credits.{asked_within, credited_in, credited_within, is_of, sum_holds, sums_hold}

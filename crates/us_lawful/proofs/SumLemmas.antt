@@ -5,7 +5,7 @@ use Rattle.std.specs.List.{AllByRecursion}
 use Rattle.std.proofs.lemmas.List.Sums.{sum_by-cons}
 use Rattle.std.proofs.lemmas.Option.{slice_get-map}
 use Rattle.us_flows.specs.Lawful.{AreApart}
-use Rattle.us_round.proofs.PartLemmas.{all_found}
+use Rattle.us_output.proofs.PartLemmas.{all_found}
 
 pub sum_none : {X : Type 0} (f : X → ℕ) (xs : List X) → AllByRecursion (λ x. f x ≡ 0) xs → sum_by f xs ≡ 0
 sum_none f [] h = refl

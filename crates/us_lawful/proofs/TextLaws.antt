@@ -15,11 +15,11 @@ use Rattle.us_calendar.specs.declared.settled.Settled.{Settled}
 use Rattle.us_calendar.specs.declared.settled.Settled.TheVariants as settled
 use Rattle.us_channel.specs.Placements.{PlacedClaim}
 use Rattle.us_channel.specs.Channels.{Built}
-use Rattle.us_round.specs.declared.rows.Row.{Row}
+use Rattle.us_output.specs.declared.rows.Row.{Row}
 use Rattle.us_round.specs.Rounds.{State, builds_of}
-use Rattle.us_round.specs.Outputs.{RoundOut, entry_word, settled_row, grant_row}
+use Rattle.us_output.specs.Outputs.{RoundOut, entry_word, settled_row, grant_row}
 use Rattle.us_round.specs.ScheduleLaws.{AreCuts}
-use Rattle.us_round.proofs.PartLemmas.{all_append, all_both}
+use Rattle.us_output.proofs.PartLemmas.{all_append, all_both}
 use Rattle.us_lawful.specs.Runs.{Run, is_requested}
 use Rattle.us_lawful.specs.Files.{records, round_lines, lines}
 use Rattle.us_lawful.specs.Lines.{text_of}

@@ -13,13 +13,14 @@ use Rattle.us_calendar.specs.Entries.{Entry}
 use Rattle.us_calendar.specs.Runs as runs
 use Rattle.us_calendar.specs.Runs.{Round, grants, misses}
 use Rattle.us_channel.specs.Channels.{Built}
-use Rattle.us_round.specs.declared.rows.FinalState.{FinalState}
-use Rattle.us_round.specs.declared.rows.Row.{Row}
-use Rattle.us_round.specs.declared.rows.Row.TheVariants as rows
-use Rattle.us_round.specs.Rounds.{State, Scheduled, opening, builds_of, ended, final}
-use Rattle.us_round.specs.Outputs.{final_row, final_rows}
+use Rattle.us_output.specs.declared.rows.FinalState.{FinalState}
+use Rattle.us_output.specs.declared.rows.Row.{Row}
+use Rattle.us_output.specs.declared.rows.Row.TheVariants as rows
+use Rattle.us_round.specs.Rounds.{State, opening, builds_of, ended, final}
+use Rattle.us_output.specs.Outputs.{Scheduled, final_row}
+use Rattle.us_round.specs.States.{final_rows}
 use Rattle.us_round.specs.ScheduleLaws.{AreCuts, settled_at}
-use Rattle.us_round.proofs.PartLemmas.{all_append, all_found}
+use Rattle.us_output.proofs.PartLemmas.{all_append, all_found}
 use Rattle.us_round.proofs.ChannelRunLaws.{calendars_run, channels_stay}
 use Rattle.us_round.proofs.ScheduleLaws.{schedule_is_of_begun_rounds}
 use Rattle.us_lawful.specs.Files.{counts_row}

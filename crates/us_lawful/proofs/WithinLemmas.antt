@@ -4,7 +4,8 @@ use Rattle.std.specs.Prelude.{nat_lt, sum_by}
 use Rattle.std.proofs.lemmas.Bool.{le-ltb, lt-ltb}
 use Rattle.std.proofs.lemmas.List.Sums.{sum_by-cons}
 use Rattle.us_channel.specs.Placements.{credits}
-use Rattle.us_round.specs.Rounds.{State, Scheduled, begun, builds_of, ended, all_grants, is_of_cluster, round_from, round_of, schedule}
+use Rattle.us_round.specs.Rounds.{State, begun, builds_of, ended, all_grants, is_of_cluster, round_from, round_of, schedule}
+use Rattle.us_output.specs.Outputs.{Scheduled}
 use Rattle.us_round.specs.ScheduleLaws.{begun_rounds, credited_of}
 use Rattle.us_round.proofs.ScheduleLaws.{schedule_is_of_begun_rounds}
 use Rattle.us_lawful.proofs.SameLemmas.{sum_map}

@@ -3,11 +3,11 @@ use Rattle.std.specs.Prelude.{◌≡◌, ℕ, true, false, List, [], ◌∷◌, 
 use Rattle.us_slots.specs.Bursts.{coded_length, burst_cost}
 use Rattle.us_flows.specs.declared.flows.SchedulingType.TheVariants.{UnsolicitedGrant}
 use Rattle.us_calendar.specs.Entries.{entries}
-use Rattle.us_round.specs.declared.rows.EntryWord.TheVariants as words
-use Rattle.us_round.specs.declared.rows.Grant.{Grant}
-use Rattle.us_round.specs.declared.rows.MissedOccurrence.{MissedOccurrence}
-use Rattle.us_round.specs.declared.rows.Row.{Row}
-use Rattle.us_round.specs.declared.rows.Row.TheVariants as rows
+use Rattle.us_output.specs.declared.rows.EntryWord.TheVariants as words
+use Rattle.us_output.specs.declared.rows.Grant.{Grant}
+use Rattle.us_output.specs.declared.rows.MissedOccurrence.{MissedOccurrence}
+use Rattle.us_output.specs.declared.rows.Row.{Row}
+use Rattle.us_output.specs.declared.rows.Row.TheVariants as rows
 use Rattle.us_round.specs.RoundExamples.{base_channel, base_flow, tables}
 use Rattle.us_lawful.specs.Runs.{Run, Judged}
 use Rattle.us_lawful.specs.Examples.{at}

@@ -9,10 +9,10 @@ use Rattle.us_calendar.specs.declared.kinds.Kind.TheVariants as kinds
 use Rattle.us_calendar.specs.Entries.{Entry, entries}
 use Rattle.us_calendar.specs.Occurrences.{starts_within}
 use Rattle.us_calendar.specs.Runs.{window_end}
-use Rattle.us_round.specs.declared.rows.EntryWord.{EntryWord}
-use Rattle.us_round.specs.declared.rows.EntryWord.TheVariants as words
-use Rattle.us_round.specs.declared.rows.Row.{Row}
-use Rattle.us_round.specs.declared.rows.Row.TheVariants as rows
+use Rattle.us_output.specs.declared.rows.EntryWord.{EntryWord}
+use Rattle.us_output.specs.declared.rows.EntryWord.TheVariants as words
+use Rattle.us_output.specs.declared.rows.Row.{Row}
+use Rattle.us_output.specs.declared.rows.Row.TheVariants as rows
 use Rattle.us_lawful.specs.declared.place.Place.{Place}
 use Rattle.us_lawful.specs.Runs.{Run, Judged, is_requested}
 

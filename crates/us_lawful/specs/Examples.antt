@@ -9,10 +9,10 @@ use Rattle.us_codec.specs.Elements.{MapElement, null_at}
 use Rattle.us_codec.specs.Bodies.{MapBody}
 use Rattle.us_bucket.specs.Levels.{refilled, spent, units_in}
 use Rattle.us_channel.specs.Maps.{head_of}
-use Rattle.us_round.specs.declared.rows.EntryWord.TheVariants as words
-use Rattle.us_round.specs.declared.rows.Grant.{Grant}
-use Rattle.us_round.specs.declared.rows.Row.{Row}
-use Rattle.us_round.specs.declared.rows.Row.TheVariants as rows
+use Rattle.us_output.specs.declared.rows.EntryWord.TheVariants as words
+use Rattle.us_output.specs.declared.rows.Grant.{Grant}
+use Rattle.us_output.specs.declared.rows.Row.{Row}
+use Rattle.us_output.specs.declared.rows.Row.TheVariants as rows
 use Rattle.us_round.specs.RoundExamples.{base, base_channel, round_steps}
 use Rattle.us_lawful.specs.declared.place.Place.{Place}
 use Rattle.us_lawful.specs.declared.judged.RoundMap.{RoundMap}

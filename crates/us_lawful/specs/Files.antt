@@ -4,9 +4,9 @@ use Rattle.std.specs.List.{flat_map}
 use Rattle.us_codec.specs.Bodies.{spelling}
 use Rattle.us_codec.specs.MapsFiles.{maps_file}
 use Rattle.us_requests.specs.declared.asks.Counts.{Counts}
-use Rattle.us_round.specs.Outputs.{RoundOut}
-use Rattle.us_round.specs.declared.rows.Row.{Row}
-use Rattle.us_round.specs.declared.rows.Row.TheVariants as rows
+use Rattle.us_output.specs.Outputs.{RoundOut}
+use Rattle.us_output.specs.declared.rows.Row.{Row}
+use Rattle.us_output.specs.declared.rows.Row.TheVariants as rows
 use Rattle.us_lawful.specs.Runs.{counts_told}
 use Rattle.us_lawful.specs.Lines.{text_of}
 

@@ -2,11 +2,11 @@
 use Rattle.std.specs.Prelude.{◌≡◌, ◌*◌, true, false, List, [], ◌∷◌, map, Some, None, refl}
 use Rattle.us_flows.specs.Clusters.{table_order}
 use Rattle.us_flows.specs.Tables.{FlowTable}
-use Rattle.us_round.specs.declared.rows.FinalState.{FinalState}
-use Rattle.us_round.specs.declared.rows.Grant.{Grant}
-use Rattle.us_round.specs.declared.rows.Row.{Row}
-use Rattle.us_round.specs.declared.rows.Row.TheVariants as rows
-use Rattle.us_round.specs.declared.rows.TraceCounts.{TraceCounts}
+use Rattle.us_output.specs.declared.rows.FinalState.{FinalState}
+use Rattle.us_output.specs.declared.rows.Grant.{Grant}
+use Rattle.us_output.specs.declared.rows.Row.{Row}
+use Rattle.us_output.specs.declared.rows.Row.TheVariants as rows
+use Rattle.us_output.specs.declared.rows.TraceCounts.{TraceCounts}
 use Rattle.us_round.specs.RoundExamples.{base, base_flow}
 use Rattle.us_lawful.specs.Runs.{Run, Judged, counts_told}
 use Rattle.us_lawful.specs.Finals.{final_of, finals_hold, counts_hold}

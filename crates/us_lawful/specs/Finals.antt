@@ -5,9 +5,9 @@ use Rattle.std.specs.Option.{option_eq}
 use Rattle.us_flows.specs.Tables.{FlowTable}
 use Rattle.us_flows.specs.Clusters.{Turn, table_order}
 use Rattle.us_bucket.specs.Levels.{Level, full, refilled, spent, units_in}
-use Rattle.us_round.specs.declared.rows.FinalState.{FinalState}
-use Rattle.us_round.specs.declared.rows.Row.{Row}
-use Rattle.us_round.specs.declared.rows.TraceCounts.{TraceCounts}
+use Rattle.us_output.specs.declared.rows.FinalState.{FinalState}
+use Rattle.us_output.specs.declared.rows.Row.{Row}
+use Rattle.us_output.specs.declared.rows.TraceCounts.{TraceCounts}
 use Rattle.us_lawful.specs.declared.place.Place.{Place}
 use Rattle.us_lawful.specs.Runs.{Run, Judged, finals_in, counts_in, counts_told}
 use Rattle.us_lawful.specs.Rates.{flow_credits}

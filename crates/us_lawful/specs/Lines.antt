@@ -2,14 +2,14 @@
 use Rattle.std.specs.Prelude.{ℕ, List, [], ◌∷◌, ◌++◌, codes, Option, Some, None}
 use Rattle.std.specs.List.{flat_map}
 use Rattle.std.specs.Fmt.{decimal}
-use Rattle.us_round.specs.declared.rows.EntryWord.{EntryWord}
-use Rattle.us_round.specs.declared.rows.EntryWord.TheVariants as words
-use Rattle.us_round.specs.declared.rows.FinalState.{FinalState}
-use Rattle.us_round.specs.declared.rows.Grant.{Grant}
-use Rattle.us_round.specs.declared.rows.MissedOccurrence.{MissedOccurrence}
-use Rattle.us_round.specs.declared.rows.Row.{Row}
-use Rattle.us_round.specs.declared.rows.Row.TheVariants as rows
-use Rattle.us_round.specs.declared.rows.TraceCounts.{TraceCounts}
+use Rattle.us_output.specs.declared.rows.EntryWord.{EntryWord}
+use Rattle.us_output.specs.declared.rows.EntryWord.TheVariants as words
+use Rattle.us_output.specs.declared.rows.FinalState.{FinalState}
+use Rattle.us_output.specs.declared.rows.Grant.{Grant}
+use Rattle.us_output.specs.declared.rows.MissedOccurrence.{MissedOccurrence}
+use Rattle.us_output.specs.declared.rows.Row.{Row}
+use Rattle.us_output.specs.declared.rows.Row.TheVariants as rows
+use Rattle.us_output.specs.declared.rows.TraceCounts.{TraceCounts}
 
 -- the word of an entry
 abbrev pub word_text : EntryWord → List ℕ

@@ -4,8 +4,9 @@ use Rattle.std.specs.Prelude.{ℕ, List, [], ◌∷◌, ◌++◌, length, map, f
 use Rattle.us_flows.specs.Tables.{Tables}
 use Rattle.us_requests.specs.declared.asks.Counts.{Counts}
 use Rattle.us_round.specs.Rounds.{opening, schedule, final}
-use Rattle.us_round.specs.Outputs.{RoundOut, final_rows, out_of}
-use Rattle.us_round.specs.declared.rows.Row.{Row}
+use Rattle.us_output.specs.Outputs.{RoundOut, out_of}
+use Rattle.us_round.specs.States.{final_rows}
+use Rattle.us_output.specs.declared.rows.Row.{Row}
 use Rattle.us_lawful.specs.declared.judged.RoundMap.{RoundMap}
 use Rattle.us_lawful.specs.Runs.{Run, Judged}
 use Rattle.us_lawful.specs.Files.{records, round_lines, lines, counts_row}

@@ -2,8 +2,8 @@
 -- and holds beside it.
 use Rattle.std.specs.Prelude.{◌≡◌, true, false, [], ◌∷◌, refl}
 use Rattle.us_flows.specs.declared.channels.Channel.{Channel}
-use Rattle.us_round.specs.declared.rows.Grant.{Grant}
-use Rattle.us_round.specs.declared.rows.Row.TheVariants as rows
+use Rattle.us_output.specs.declared.rows.Grant.{Grant}
+use Rattle.us_output.specs.declared.rows.Row.TheVariants as rows
 use Rattle.us_round.specs.RoundExamples.{base, base_channel}
 use Rattle.us_lawful.specs.declared.judged.RoundMap.{RoundMap}
 use Rattle.us_lawful.specs.Runs.{Run, Judged}

@@ -3,7 +3,7 @@ use Rattle.std.specs.Prelude.{◌≡◌, ◌≢◌, ℕ, ◌+◌, ◌<◌, List,
 use Rattle.std.specs.Fmt.{decimal}
 use Rattle.std.specs.Global.{Vec}
 use Rattle.std.specs.List.{AllByRecursion}
-use Rattle.us_round.specs.declared.rows.Row.{Row}
+use Rattle.us_output.specs.declared.rows.Row.{Row}
 use Rattle.us_lawful.specs.declared.report_faults.ReportFault.{ReportFault}
 use Rattle.us_lawful.specs.declared.report_faults.ReportFault.TheVariants as fault
 use Rattle.us_lawful.specs.Lines.{text_of}

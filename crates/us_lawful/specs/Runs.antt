@@ -6,13 +6,13 @@ use Rattle.us_flows.specs.Clusters.{clusters_of}
 use Rattle.us_requests.specs.declared.asks.Counts.{Counts}
 use Rattle.us_requests.specs.Cuts.{cut_of}
 use Rattle.us_requests.specs.Traces.{TraceAsks, asks_in}
-use Rattle.us_round.specs.declared.rows.EntryWord.{EntryWord}
-use Rattle.us_round.specs.declared.rows.EntryWord.TheVariants as words
-use Rattle.us_round.specs.declared.rows.FinalState.{FinalState}
-use Rattle.us_round.specs.declared.rows.Grant.{Grant}
-use Rattle.us_round.specs.declared.rows.Row.{Row}
-use Rattle.us_round.specs.declared.rows.Row.TheVariants as rows
-use Rattle.us_round.specs.declared.rows.TraceCounts.{TraceCounts}
+use Rattle.us_output.specs.declared.rows.EntryWord.{EntryWord}
+use Rattle.us_output.specs.declared.rows.EntryWord.TheVariants as words
+use Rattle.us_output.specs.declared.rows.FinalState.{FinalState}
+use Rattle.us_output.specs.declared.rows.Grant.{Grant}
+use Rattle.us_output.specs.declared.rows.Row.{Row}
+use Rattle.us_output.specs.declared.rows.Row.TheVariants as rows
+use Rattle.us_output.specs.declared.rows.TraceCounts.{TraceCounts}
 use Rattle.us_lawful.specs.declared.judged.RoundMap.{RoundMap}
 
 -- a run: its tables, the number of its rounds, the bytes that each cluster newly asks for in each round, and how many rows

@@ -3,8 +3,8 @@ use Rattle.std.specs.Prelude.{◌≡◌, ℕ, ◌^◌, ◌<◌, not, Bool, true,
 use Rattle.std.specs.List.{AllByRecursion}
 use Rattle.us_codec.specs.Bodies.{spelling}
 use Rattle.us_codec.specs.MapsFiles.{Piece, maps_file}
-use Rattle.us_round.specs.declared.rows.Row.{Row}
-use Rattle.us_round.specs.declared.rows.Row.TheVariants as rows
+use Rattle.us_output.specs.declared.rows.Row.{Row}
+use Rattle.us_output.specs.declared.rows.Row.TheVariants as rows
 use Rattle.us_lawful.specs.declared.judged.RoundMap.{RoundMap}
 use Rattle.us_lawful.specs.Runs.{Run, Judged, is_requested}
 use Rattle.us_lawful.specs.Files.{lines}

@@ -5,7 +5,7 @@ use Rattle.us_flows.specs.Tables.{Tables, max_run_ticks, rounds_fit}
 use Rattle.us_flows.specs.Clusters.{clusters_of}
 use Rattle.us_intake.specs.Seats.{Seat}
 use Rattle.us_round.specs.Rounds.{State, opening, final, round_of}
-use Rattle.us_round.specs.Outputs.{RoundOut, out_of}
+use Rattle.us_output.specs.Outputs.{RoundOut, out_of}
 use Rattle.us_live.specs.Lives.{Live, logged, rounds_of, with_entry, IsCut, IsNext}
 use Rattle.us_live.specs.Insides.{live_at, IsRunning, IsInside, IsMade}
 use Rattle.us_live.proofs.ScheduleLemmas.{after, final-more, outstanding-logged, round-logged, rounds-more, time-next}

@@ -11,7 +11,7 @@ use Rattle.us_intake.specs.Tallies.{added}
 use Rattle.us_intake.proofs.TallyLemmas.{index-added, index-empty, index_le_sum}
 use Rattle.us_channel.specs.Placements.{PlacedClaim}
 use Rattle.us_round.specs.Rounds.{State, all_grants, with_cut, begun, builds_of, final, uncredited, opening, round_from, round_of, schedule}
-use Rattle.us_round.specs.Outputs.{out_of}
+use Rattle.us_output.specs.Outputs.{out_of}
 use Rattle.us_live.specs.Lives.{logged, rounds_of}
 
 -- One more cut.

@@ -3,7 +3,7 @@ use Rattle.std.specs.Prelude.{◌≡◌, ℕ, ◌≤◌, ◌++◌, ◌∷◌, []
 use Rattle.us_flows.specs.Tables.{rounds_fit}
 use Rattle.us_flows.specs.Clusters.{clusters_of}
 use Rattle.us_round.specs.Rounds.{State, opening, final, round_of}
-use Rattle.us_round.specs.Outputs.{RoundOut, out_of}
+use Rattle.us_output.specs.Outputs.{RoundOut, out_of}
 use Rattle.us_live.specs.Lives.{Live}
 
 abbrev pub live_at : ℕ → ℕ → List (List ℕ) → Option State → Live

@@ -4,7 +4,7 @@ use Rattle.us_flows.specs.Tables.{Tables}
 use Rattle.us_flows.specs.Clusters.{clusters_of}
 use Rattle.us_intake.specs.Seats.{Intake, Seat, IsWhole, seat_after_cut}
 use Rattle.us_round.specs.Rounds.{opening, schedule}
-use Rattle.us_round.specs.Outputs.{RoundOut, out_of}
+use Rattle.us_output.specs.Outputs.{RoundOut, out_of}
 
 pub record Live : Type 0 where
   -- how many SID clusters make requests, and how many rounds there are in all

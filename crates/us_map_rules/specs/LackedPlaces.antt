@@ -1,7 +1,7 @@
 -- P3, of rounds and channels: what a line has to do with it.
 use Rattle.std.specs.Prelude.{◌≡◌, false, Option, Some, None}
-use Rattle.us_round.specs.declared.rows.Row.{Row}
-use Rattle.us_round.specs.declared.rows.Row.TheVariants as rows
+use Rattle.us_output.specs.declared.rows.Row.{Row}
+use Rattle.us_output.specs.declared.rows.Row.TheVariants as rows
 use Rattle.us_lawful.specs.declared.place.Place.{Place}
 use Rattle.us_lawful.specs.Runs.{Run}
 use Rattle.us_lawful.specs.Places.{has_place}

@@ -1,9 +1,9 @@
 -- The minislots of G lines by the MAP that they are for.
 use Rattle.std.specs.Prelude.{ℕ, ◌+◌, ◌*◌, ◌<◌, ◌≤◌, ◌==◌, nat_lt, if◌then◌else◌, List, length, slice_index_or, position, Option, None, option_map}
 use Rattle.us_flows.specs.Tables.{Tables}
-use Rattle.us_round.specs.declared.rows.Grant.{Grant}
-use Rattle.us_round.specs.declared.rows.Row.{Row}
-use Rattle.us_round.specs.declared.rows.Row.TheVariants as rows
+use Rattle.us_output.specs.declared.rows.Grant.{Grant}
+use Rattle.us_output.specs.declared.rows.Row.{Row}
+use Rattle.us_output.specs.declared.rows.Row.TheVariants as rows
 use Rattle.us_lawful.specs.Regions.{region_of}
 use Rattle.us_map_rules.specs.declared.region_lines.PlacedRegion.{PlacedRegion}
 

@@ -13,12 +13,13 @@ use Rattle.us_requests.specs.declared.asks.Ask.{Ask}
 use Rattle.us_requests.specs.declared.asks.Counts.{Counts}
 use Rattle.us_requests.specs.Cuts.{cut_of}
 use Rattle.us_requests.specs.Traces.{TraceAsks, asks_in, asked_before, asks_before, max_asked, IsTrace}
-use Rattle.us_round.specs.declared.rows.Row.{Row}
-use Rattle.us_round.specs.Rounds.{State, Scheduled, round_of, opening, schedule, final}
-use Rattle.us_round.specs.Outputs.{RoundOut, AreWithinLimits, out_of, final_rows}
+use Rattle.us_output.specs.declared.rows.Row.{Row}
+use Rattle.us_round.specs.Rounds.{State, round_of, opening, schedule, final}
+use Rattle.us_output.specs.Outputs.{Scheduled, RoundOut, AreWithinLimits, out_of}
+use Rattle.us_round.specs.States.{final_rows}
 use Rattle.us_replay.specs.Collecting.{AreAsks}
 use Rattle.us_lawful.specs.Files.{records, lines, counts_row}
-use Rattle.us_round.proofs.PartLemmas.{all_append}
+use Rattle.us_output.proofs.PartLemmas.{all_append}
 use Rattle.us_lawful.specs.Output.{all_rows, judged_of, output_of}
 use Rattle.us_lawful.specs.Texts.{HasFields}
 use Rattle.us_replay.specs.Replays.{KeptLimits, is_granted, is_missed, summary_of}

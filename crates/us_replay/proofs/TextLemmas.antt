@@ -4,7 +4,7 @@ use Rattle.std.specs.Int.{to_be_bytes, w16, w32}
 use Rattle.std.proofs.lemmas.List.{append_assoc, append-nil, drop_all}
 use Rattle.us_codec.specs.Bodies.{MapBody, spelling}
 use Rattle.us_codec.specs.MapsFiles.{Piece, record_bytes, maps_file}
-use Rattle.us_round.specs.Outputs.{RoundOut}
+use Rattle.us_output.specs.Outputs.{RoundOut}
 use Rattle.us_lawful.specs.Files.{records}
 
 -- the record of a MAP

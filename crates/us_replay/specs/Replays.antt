@@ -9,9 +9,9 @@ use Rattle.us_requests.specs.Cuts.{cut_at}
 use Rattle.us_requests.specs.Texts.{trace_fault, requests_of}
 use Rattle.us_requests.specs.Readings.{IsTextOf, Reads}
 use Rattle.us_round.specs.Rounds.{opening, schedule}
-use Rattle.us_round.specs.Outputs.{RoundOut, AreWithinLimits}
-use Rattle.us_round.specs.declared.rows.Row.{Row}
-use Rattle.us_round.specs.declared.rows.Row.TheVariants as rows
+use Rattle.us_output.specs.Outputs.{RoundOut, AreWithinLimits}
+use Rattle.us_output.specs.declared.rows.Row.{Row}
+use Rattle.us_output.specs.declared.rows.Row.TheVariants as rows
 use Rattle.us_lawful.specs.Files.{records, round_lines}
 use Rattle.us_lawful.specs.Runs.{Run}
 use Rattle.us_lawful.specs.Output.{Output, output_of, maps_text, report_text, all_rows, run_of}

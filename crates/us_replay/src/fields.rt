@@ -1,7 +1,7 @@
 //! That each number of a row has 64 bits, as reading it shows. These calls are made for their clauses alone, and do nothing.
 
 ghost use Rattle.std.specs.Prelude.{[], ◌∷◌};
-ghost use Rattle.us_round.specs.declared.rows.Row.TheVariants as rows;
+ghost use Rattle.us_output.specs.declared.rows.Row.TheVariants as rows;
 ghost use Rattle.us_lawful.specs.Texts.{Fit, HasFields};
 
 use us_round::{FinalState, Grant, MissedOccurrence, Row, TraceCounts};

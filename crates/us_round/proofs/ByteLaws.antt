@@ -4,7 +4,8 @@ use Rattle.std.proofs.lemmas.List.Sums.{sum_by-cons}
 use Rattle.us_flows.specs.Lawful.{AreTables}
 use Rattle.us_flows.specs.Clusters.{clusters_of}
 use Rattle.us_channel.specs.Placements.{PlacedClaim, credits}
-use Rattle.us_round.specs.Rounds.{State, Scheduled, opening, with_cut, begun, builds_of, all_grants, is_of_cluster, uncredited, round_from, round_of, schedule, final}
+use Rattle.us_round.specs.Rounds.{State, opening, with_cut, begun, builds_of, all_grants, is_of_cluster, uncredited, round_from, round_of, schedule, final}
+use Rattle.us_output.specs.Outputs.{Scheduled}
 use Rattle.us_round.specs.States.{IsState}
 use Rattle.us_round.specs.ScheduleLaws.{AreCuts, BytesAreKept, asked_of, credited_of}
 use Rattle.us_round.proofs.PendingLemmas.{left-index}

@@ -1,11 +1,6 @@
 pub mod CreditLaws
 pub mod FillLemmas
-pub mod PartLemmas
 pub mod PendingLemmas
-pub mod OrderLemmas
-pub mod FinalLemmas
-pub mod LineLemmas
-pub mod OutputLaws
 pub mod StateLemmas
 pub mod CalendarLemmas
 pub mod RoundLemmas
@@ -15,6 +10,5 @@ pub mod StageLemmas
 pub mod ScheduleLaws
 pub mod ChannelRunLaws
 pub mod ByteLaws
-pub mod OwnerLemmas
 pub mod MapLaws
 pub mod TurnLemmas

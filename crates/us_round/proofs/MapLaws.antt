@@ -1,11 +1,9 @@
 -- The MAP of every channel in every round is lawful.
-use Rattle.std.proofs.Common.{◌≡◌, ℕ, zero, suc, ◌+◌, ◌-◌, ◌*◌, ◌/◌, ◌^◌, ◌<◌, ◌≤◌, ◌==◌, ◌&&◌, nat_lt, nat_le, Bool, true, false, if◌then◌else◌, List, [], ◌∷◌, length, map, zip, take, filter, Option, Some, None, IfSome, slice_get, slice_index, filter_map, Contains, refl, ap, sym, subst, ◌∙◌, mul_assoc, div-le_self, pow_pos, arith}
+use Rattle.std.proofs.Common.{◌≡◌, ℕ, ◌+◌, ◌*◌, ◌^◌, ◌<◌, ◌≤◌, ◌==◌, ◌&&◌, nat_lt, nat_le, Bool, true, false, if◌then◌else◌, List, [], ◌∷◌, length, map, zip, Option, Some, None, IfSome, slice_get, slice_index, filter_map, Contains, sym, subst, arith}
 use Rattle.std.specs.List.{AllByRecursion, cons_option}
 use Rattle.std.proofs.lemmas.Bool.{and_parts, leb-true}
 use Rattle.std.proofs.lemmas.Nat.{mul-le}
-use Rattle.std.proofs.lemmas.List.{length-append}
-use Rattle.us_slots.specs.Times.{minislot_ticks}
-use Rattle.us_codec.specs.Bodies.{IsHead, IsMapBody}
+use Rattle.us_codec.specs.Bodies.{IsMapBody}
 use Rattle.us_flows.specs.declared.channels.Channel.{Channel}
 use Rattle.us_flows.specs.Tables.{Tables, map_len, max_run_ticks}
 use Rattle.us_flows.specs.Clusters.{Turn, IsTurnIn, turns_of}
@@ -13,9 +11,7 @@ use Rattle.us_flows.specs.Lawful.{AreTables, IsChannel}
 use Rattle.us_flows.proofs.TurnLaws.{turns_of-turns}
 use Rattle.us_bucket.specs.Levels.{bytes_in}
 use Rattle.us_holes.specs.Boards.{Board, IsOwner}
-use Rattle.us_holes.specs.Kept.{IsBoard}
 use Rattle.us_holes.proofs.LawLemmas.{assign_all-is_board}
-use Rattle.us_holes.proofs.RunLemmas.{runs_follow, board_few}
 use Rattle.us_calendar.specs.Entries.{Entry, entries}
 use Rattle.us_calendar.specs.Calendars as calendars
 use Rattle.us_calendar.specs.Calendars.{Calendar}
@@ -27,58 +23,21 @@ use Rattle.us_split.specs.Claims.{Claim, IsClaimOn, AreClaims, claims_on}
 use Rattle.us_split.proofs.ClaimLemmas.{plan_for-claims}
 use Rattle.us_channel.specs.Reserves.{reserves}
 use Rattle.us_channel.specs.Placements.{PlacedClaim, assignments, credits, grants_of}
-use Rattle.us_channel.specs.Channels.{Filled, Built, fill}
-use Rattle.us_channel.specs.Maps.{head_of, elements_of, map_of}
+use Rattle.us_channel.specs.Channels.{Filled, fill}
 use Rattle.us_channel.proofs.GrantLaws as grant_laws
-use Rattle.us_round.specs.Rounds.{State, opening, begun, fills_of, idle, round_plan, build_planned, builds_of, all_grants, is_of_cluster, uncredited, ended, first_sid, pending_sid, pending_sids, pendings_on, round_from, round_of}
-use Rattle.us_round.specs.Outputs.{built_map}
-use Rattle.us_round.specs.Leftovers.{IsBuiltFor}
+use Rattle.us_round.specs.Rounds.{State, opening, begun, fills_of, idle, round_plan, build_planned, builds_of, all_grants, is_of_cluster, uncredited, ended, pending_sid, pending_sids, round_from, round_of}
+use Rattle.us_output.specs.Outputs.{first_sid, built_map}
+use Rattle.us_output.specs.Leftovers.{IsBuiltFor}
 use Rattle.us_round.specs.States.{IsState}
 use Rattle.us_round.specs.ScheduleLaws.{begun_rounds, HasLawfulMaps, MapsAreLawful}
-use Rattle.us_round.proofs.PartLemmas.{all_append, all_both, all_contained, all_filtered, all_found, all_mapped, all_taken, all_weaker}
-use Rattle.us_channel.proofs.MapLemmas.{board_map, follow_starts}
-use Rattle.us_round.proofs.PendingLemmas.{known_sids}
+use Rattle.us_output.proofs.PartLemmas.{all_both, all_contained, all_found, all_mapped, all_weaker}
+use Rattle.us_output.proofs.PendingLemmas.{known_sids}
 use Rattle.us_round.proofs.CreditLaws.{claims_some}
-use Rattle.us_round.proofs.OwnerLemmas.{AreOwned, HasOwner, HaveOwners, IsOwnedPart, all_assigned, elements_lawful, grants_owned, reserves_board, reserves_owned, run_owned}
+use Rattle.us_output.proofs.MapLemmas.{IsMade, IsSmall, map_lawful}
+use Rattle.us_output.proofs.OwnerLemmas.{HasOwner, HaveOwners, IsOwnedPart, all_assigned, grants_owned, reserves_board, reserves_owned, run_owned}
 use Rattle.us_round.proofs.ScheduleLaws.{IsBegunIn, opening_begun, schedule_is_of_begun_rounds, state_idle, state_sound}
 
--- Heads.
-
-start_small : (round len ticks round_ticks : ℕ) → len * ticks ≡ round_ticks → 1 ≤ ticks → round * round_ticks ≤ 67108864 →
-    round * len < 2 ^ 32
-start_small round len ticks round_ticks whole some time =
-    let same : round * len * ticks ≡ round * round_ticks = mul_assoc round len ticks ∙ ap (λ n. round * n) whole in
-    let least : round * len * 1 ≤ round * len * ticks =
-    mul-le (round * len) 1 (round * len) ticks (omega arith) some in
-    omega (arith, same, least, time)
-
-ack_small : (start lead ticks : ℕ) → start ≤ 67108864 → (start - lead) / ticks < 2 ^ 32
-ack_small start lead ticks time = omega (arith, div-le_self (start - lead) ticks, time)
-
-head_lawful : (t : Tables) (round : ℕ) (c : Channel) → IsChannel t c → round * t.round_ticks ≤ max_run_ticks →
-    IsHead (head_of t round c)
-unfolding head_of
-head_lawful t round c is time =
-    let ticks : ℕ = minislot_ticks c.bursts.time in
-    record {
-      channel = omega (arith, is.id.1);
-      ucd_count = omega (arith, is.ucd_count);
-      alloc_start = start_small round (map_len t c) ticks t.round_ticks is.whole (pow_pos c.bursts.time.minislot_log2) time;
-      ack = ack_small (round * t.round_ticks) t.lead_ticks ticks time;
-      four = omega (
-        arith,
-        length-append c.ranging_backoff c.data_backoff,
-        is.ranging_backoff.two,
-        is.data_backoff.two,
-      );
-      backoffs = all_append (λ backoff. backoff ≤ 15) c.ranging_backoff c.data_backoff is.ranging_backoff.each
-          is.data_backoff.each;
-    }
-
 -- Pendings.
-
-abbrev IsSmall : ℕ × ℕ → Type 0
-IsSmall pending = pending.1 < 2 ^ 14
 
 first_small : (ids sids : List ℕ) → AllByRecursion (λ sid. sid < 2 ^ 14) sids → IfSome (slice_get (zip ids sids) 0) IsSmall
 first_small [] sids all = tt
@@ -110,28 +69,7 @@ pendings_small t grants left (turn ∷ turns) lawful all =
     all_found_small (pending_sid grants left turn) (filter_map (pending_sid grants left) turns)
     (pending_small t grants left turn lawful all.0) (pendings_small t grants left turns lawful all.1)
 
-take_few : {A : Type 0} (n : ℕ) (xs : List A) → length (take n xs) ≤ n
-take_few zero xs = omega arith
-take_few (suc n) [] = omega arith
-take_few (suc n) (x ∷ xs) = omega (arith, take_few n xs)
-
-sids_few : (id : ℕ) (pendings : List (ℕ × ℕ)) → length (pendings_on id pendings) ≤ 38
-unfolding pendings_on
-sids_few id pendings = take_few 38 (map (λ pending. pending.1) (filter (λ pending. pending.0 == id) pendings))
-
-sids_small : (id : ℕ) (pendings : List (ℕ × ℕ)) → AllByRecursion IsSmall pendings →
-    AllByRecursion (λ sid. sid < 2 ^ 14) (pendings_on id pendings)
-unfolding pendings_on
-sids_small id pendings all =
-    all_taken (λ sid. sid < 2 ^ 14) 38 (map (λ pending. pending.1) (filter (λ pending. pending.0 == id) pendings))
-    (all_mapped (λ sid. sid < 2 ^ 14) (λ (pending : ℕ × ℕ). pending.1) (filter (λ pending. pending.0 == id) pendings)
-    (all_filtered IsSmall (λ pending. pending.0 == id) pendings all))
-
 -- One channel.
-
--- a board of assignments, whose owners are lawful
-abbrev IsMade : Board → Type 0
-IsMade board = IsBoard board × AreOwned board.cells
 
 abbrev AreKnown : Calendar → Type 0
 AreKnown calendar = AllByRecursion HasOwner calendar.states
@@ -162,19 +100,6 @@ built_made t plan f lawful made claims =
           (all_weaker IsOwnedPart (λ a. 0 < a.slots) (λ a has. has.1) (assignments gs) owned),
       all_assigned f.board (assignments gs) made.1 owned,
     )
-
--- its MAP
-map_lawful : (t : Tables) (round : ℕ) (pending : List (ℕ × ℕ)) (b : Built) → IsBuiltFor t b → IsMade b.board →
-    round * t.round_ticks ≤ max_run_ticks → AllByRecursion IsSmall pending → IsMapBody (built_map t round pending b)
-unfolding map_of elements_of
-map_lawful t round pending b built made time small =
-    let c : Channel = b.channel in
-    let most : length b.board.cells ≤ 4096 = made.0.most in
-    let follow = runs_follow 0 (length b.board.cells) b.board.cells (omega arith) in
-    let elements = elements_lawful c b.board.cells made.1 (follow_starts b.board.cells follow most) in
-    board_map (head_of t round c) c b.board (map_len t c) (pendings_on c.id pending) (elements_of c b.board) _
-    (head_lawful t round c built.channel time) made.0 built.len follow (board_few b.board made.0)
-    (sids_few c.id pending) (sids_small c.id pending small) refl refl elements.0 elements.1
 
 -- All channels.
 

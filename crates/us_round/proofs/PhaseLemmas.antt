@@ -20,7 +20,7 @@ use Rattle.us_channel.specs.Channels.{Filled, fill}
 use Rattle.us_round.specs.Rounds.{filled}
 use Rattle.us_round.specs.Cores.{AreCalendars, IsFilledFor, IsReady, settled_now, settled_then}
 use Rattle.us_round.proofs.FillLemmas.{calendars_long}
-use Rattle.us_round.proofs.PartLemmas.{all_found}
+use Rattle.us_output.proofs.PartLemmas.{all_found}
 use Rattle.us_channel.proofs.ReserveLemmas.{reserves_length}
 
 -- Items and answers.

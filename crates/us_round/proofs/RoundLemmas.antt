@@ -1,26 +1,18 @@
 -- That the parts of a round are the round.
-use Rattle.std.proofs.Common.{◌≡◌, ℕ, ◌+◌, ◌*◌, ◌<◌, ◌≤◌, ◌++◌, Bool, List, [], ◌∷◌, length, map, refl, ap, subst, ◌∙◌, inl, inr, arith}
-use Rattle.std.specs.Prelude.{filter, filter_map, flat_map, not, sum_by}
-use Rattle.std.specs.List.{AllByRecursion}
-use Rattle.std.proofs.lemmas.Bool.{cases_Bool}
+use Rattle.std.proofs.Common.{◌≡◌, ℕ, ◌+◌, ◌*◌, ◌<◌, ◌≤◌, List, length, map, refl, ap, subst, ◌∙◌, arith}
+use Rattle.std.specs.Prelude.{filter_map, flat_map, sum_by}
 use Rattle.std.proofs.lemmas.Nat.{mul-le}
-use Rattle.std.proofs.lemmas.List.Sums.{sum_by-cons}
-use Rattle.us_flows.specs.Tables.{Tables, max_run_ticks}
+use Rattle.us_flows.specs.Tables.{max_run_ticks}
 use Rattle.us_flows.specs.Clusters.{turns_of}
 use Rattle.us_flows.specs.Lawful.{AreTables}
-use Rattle.us_round.specs.declared.rows.Row.{Row}
-use Rattle.us_calendar.specs.Calendars.{Calendar, settled_in, granted_in}
-use Rattle.us_calendar.specs.declared.settled.Settled.{Settled}
+use Rattle.us_calendar.specs.Calendars.{Calendar, settled_in}
 use Rattle.us_channel.specs.Channels.{Built}
 use Rattle.us_round.specs.Rounds.{State, uncredited, all_grants, pending_sids, credited, builds_of, round_from}
-use Rattle.us_round.specs.Outputs.{RoundOut, is_granted, settled_row, grant_row, granted_rows, missed_rows, rows_on, by_start, out_of, IsWithinLimits, AreWithinLimits}
-use Rattle.us_round.specs.Leftovers.{still_asking, AreInside}
+use Rattle.us_output.specs.Outputs.{RoundOut, rows_on, out_of, AreWithinLimits}
+use Rattle.us_output.specs.Leftovers.{still_asking}
 use Rattle.us_round.specs.Cores.{Core, AreCalendars, AreCounted, with_calendars, credited_core, scheduled_of}
 use Rattle.us_round.proofs.CalendarLemmas.{builds_long, calendars_sum}
-use Rattle.us_round.proofs.LineLemmas.{granted_inside}
-use Rattle.us_round.proofs.OutputLaws.{by_start_moves}
-use Rattle.std.proofs.lemmas.List.{length-append, length-map}
-use Rattle.std.proofs.lemmas.List.Sorted.{length_permutation}
+use Rattle.us_output.proofs.LineLemmas.{lines_few}
 use Rattle.us_round.specs.States.{AreSound}
 use Rattle.us_round.proofs.PendingLemmas.{same_pendings}
 
@@ -72,55 +64,6 @@ few_rounds s lawful time =
     omega (arith, least, time)
 
 -- Lines.
-
--- what was granted and what was missed is all that was settled
-both_parts : (passes : Settled → Bool) (all : List Settled) →
-    length (filter passes all) + length (filter (λ s. not (passes s)) all) ≡ length all
-both_parts passes [] = refl
-both_parts passes (one ∷ all) = elim (cases_Bool (passes one)) [
-  | inl is ↦ rw is (omega (arith, both_parts passes all))
-  | inr out ↦ rw out (omega (arith, both_parts passes all))
-]
-
--- a channel has a line for all that its calendar settled, and for each grant
-lines_of : (round : ℕ) (b : Built) → AreInside b → length (rows_on round b) ≡ length b.settled + length b.grants
-unfolding rows_on
-lines_of round b inside =
-    let len : ℕ = length b.board.cells in
-    let granted : List Row = granted_rows round b in
-    let moved : length (by_start len granted) ≡ length granted =
-    length_permutation granted (by_start len granted) (by_start_moves len granted (granted_inside round b inside)) in
-    let all : length (rows_on round b) ≡ length (by_start len granted) + length (missed_rows round b) =
-    length-append (by_start len granted) (missed_rows round b) in
-    let parts : length granted
-    ≡ length (map (settled_row round b.channel) (filter is_granted b.settled)) + length (map (grant_row round b.channel) b.grants) =
-    length-append (map (settled_row round b.channel) (filter is_granted b.settled)) (map (grant_row round b.channel) b.grants) in
-    let one : length (map (settled_row round b.channel) (filter is_granted b.settled)) ≡ length (filter is_granted b.settled) =
-    length-map (filter is_granted b.settled) (settled_row round b.channel) in
-    let two : length (map (grant_row round b.channel) b.grants) ≡ length b.grants =
-    length-map b.grants (grant_row round b.channel) in
-    let three : length (missed_rows round b) ≡ length (filter (λ s. not (is_granted s)) b.settled) =
-    length-map (filter (λ s. not (is_granted s)) b.settled) (settled_row round b.channel) in
-    omega (arith, moved, all, parts, one, two, three, both_parts is_granted b.settled)
-
--- and no more grants than assignments
-lines_few : (t : Tables) (round : ℕ) (pending : List (ℕ × ℕ)) (bs : List Built) →
-    AllByRecursion (IsWithinLimits t round pending) bs → AllByRecursion AreInside bs →
-    AllByRecursion (λ b. granted_in b.settled + length b.grants ≤ b.board.standing) bs →
-    length (flat_map (rows_on round) bs) ≤ 100 * length bs + sum_by (λ b. length b.settled) bs
-lines_few t round pending [] limits inside few = omega arith
-lines_few t round pending (b ∷ bs) limits inside few =
-    let both : length (rows_on round b ++ flat_map (rows_on round) bs) ≡ length (rows_on round b) + length (flat_map (rows_on round) bs) =
-    length-append (rows_on round b) (flat_map (rows_on round) bs) in
-    omega (
-      arith,
-      both,
-      lines_of round b inside.0,
-      limits.0.assignments,
-      few.0,
-      sum_by-cons (λ b. length b.settled) b bs,
-      lines_few t round pending bs limits.1 inside.1 few.1,
-    )
 
 -- so a round has few lines but those of its calendars
 pub run_few : (core : Core) (cs left : List Calendar) (built : List Built) (out : RoundOut) →

@@ -14,7 +14,7 @@ use Rattle.us_round.specs.Rounds.{State, opening, grown, begun, fills_of, idle, 
 use Rattle.us_round.specs.Cores.{Core, AreCalendars, IsFilledFor}
 use Rattle.us_round.specs.States.{IsState, AreSound}
 use Rattle.us_round.specs.ScheduleLaws.{begun_rounds, AreCuts, ScheduleIsOfBegunRounds, RoundsAreNumbered, TablesStay, RoundsAreSound}
-use Rattle.us_round.proofs.PartLemmas.{all_weaker}
+use Rattle.us_output.proofs.PartLemmas.{all_weaker}
 use Rattle.us_round.proofs.FillLemmas.{filled_idle}
 use Rattle.us_round.proofs.PhaseLemmas.{filled_sound, zip_long}
 use Rattle.us_round.proofs.CalendarLemmas.{state_next, opening_state}

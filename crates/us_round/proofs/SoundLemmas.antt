@@ -24,10 +24,10 @@ use Rattle.us_channel.specs.Placements.{PlacedClaim, Spot, spot, grant_at, grant
 use Rattle.us_channel.specs.Channels.{Filled, build_on}
 use Rattle.us_round.specs.Rounds.{State, idle, fills_of, build_planned, builds_of, round_plan, all_grants, is_of_flow}
 use Rattle.us_round.specs.Stages.{AreClaimsOn, built_by}
-use Rattle.us_round.specs.Leftovers.{StartsInside, IsBuiltFor, AreInside}
+use Rattle.us_output.specs.Leftovers.{StartsInside, IsBuiltFor, AreInside}
 use Rattle.us_round.specs.States.{IsKnown, AreSound}
 use Rattle.us_round.specs.Cores.{AreCalendars, IsFilledFor}
-use Rattle.us_round.proofs.PartLemmas.{all_append, all_found, all_weaker}
+use Rattle.us_output.proofs.PartLemmas.{all_append, all_found, all_weaker}
 use Rattle.us_channel.proofs.FitLemmas.{fit_inside}
 use Rattle.us_round.proofs.FillLemmas.{filled_apart, filled_all, filled_channels}
 use Rattle.us_channel.proofs.GrantLaws.{Granted, grants_are, grants_fit}

@@ -12,7 +12,7 @@ use Rattle.us_split.specs.PlanLaws.{IsLawfulPlan}
 use Rattle.us_split.specs.Claims.{Claim, AreClaims, all_claims}
 use Rattle.us_channel.specs.Channels.{Filled, Built, HasFewTicks}
 use Rattle.us_round.specs.Rounds.{State, begun, filled, fills_of, idle, round_plan, builds_of}
-use Rattle.us_round.specs.Outputs.{RoundOut, out_of, AreWithinLimits}
+use Rattle.us_output.specs.Outputs.{RoundOut, out_of, AreWithinLimits}
 use Rattle.us_round.specs.States.{AreSound, settled_by}
 use Rattle.us_round.specs.Cores.{Core, IsCore, AreCalendars, AreCounted, IsFilledFor, IsReady, begun_core, credited_core, plan_over, scheduled_of, settled_now, settled_then, with_calendars}
 use Rattle.us_round.specs.Stages.{IsBegun, AreFilled, IsPlanned, AreClaimsOn, built_by, AreBuilt, IsOver, IsOverFor}

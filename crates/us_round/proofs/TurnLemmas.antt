@@ -16,7 +16,7 @@ use Rattle.us_channel.specs.Placements.{PlacedClaim, grant_of, grants_of, assign
 use Rattle.us_channel.specs.Channels.{Filled, Built}
 use Rattle.us_round.specs.Rounds.{build_planned, builds_of, fills_of, round_plan}
 use Rattle.us_round.specs.TurnByTurn.{ByTurnsIsByChannels, RoundsAreByTurns, place_channels, place_share, place_turns, unbuilt, with_claim_on, with_grant_on}
-use Rattle.us_round.proofs.PartLemmas.{all_found}
+use Rattle.us_output.proofs.PartLemmas.{all_found}
 use Rattle.us_round.proofs.SoundLemmas.{by_turns, turns_planned}
 
 -- One channel.

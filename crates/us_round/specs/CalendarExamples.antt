@@ -7,11 +7,11 @@ use Rattle.us_calendar.specs.Occurrences.{due}
 use Rattle.us_calendar.specs.Settling.{settle_each, settle_entry}
 use Rattle.us_split.specs.Plans.{Planned}
 use Rattle.us_round.specs.Rounds.{begun, final, idle, fills_of, opening, round_plan, schedule}
-use Rattle.us_round.specs.Outputs.{RoundOut, out_of}
+use Rattle.us_output.specs.Outputs.{RoundOut, out_of}
 use Rattle.us_round.specs.RoundExamples.{round_steps, channel_with, flow_with, base_flow, tables}
-use Rattle.us_round.specs.declared.rows.Row.{Row}
-use Rattle.us_round.specs.declared.rows.Row.TheVariants as rows
-use Rattle.us_round.specs.declared.rows.EntryWord.TheVariants as words
+use Rattle.us_output.specs.declared.rows.Row.{Row}
+use Rattle.us_output.specs.declared.rows.Row.TheVariants as rows
+use Rattle.us_output.specs.declared.rows.EntryWord.TheVariants as words
 
 -- MAPs of 16 minislots, the last 2 of which are for contention; the base flow; and two grants of a minislot that are
 -- ideal at minislot 6 of round 1, in a window that ends with it

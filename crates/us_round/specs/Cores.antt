@@ -1,18 +1,19 @@
 -- Inside the crate, and of no use to a reader of the promise: a state without its calendars, which go from channel to
 -- channel by themselves; and what the channels of a round keep on the way.
-use Rattle.std.specs.Prelude.{◌≡◌, ℕ, ◌+◌, ◌*◌, ◌≤◌, List, [], length, map, filter_map, replicate, sum_by}
+use Rattle.std.specs.Prelude.{◌≡◌, ℕ, ◌+◌, ◌*◌, ◌≤◌, List, [], length, map, replicate, sum_by}
 use Rattle.std.specs.List.{AllByRecursion}
 use Rattle.us_flows.specs.declared.channels.Channel.{Channel}
 use Rattle.us_flows.specs.Tables.{Tables, map_len, max_run_ticks}
 use Rattle.us_flows.specs.Lawful.{IsChannel}
-use Rattle.us_flows.specs.Clusters.{clusters_of, turns_of}
+use Rattle.us_flows.specs.Clusters.{clusters_of}
 use Rattle.us_bucket.specs.Levels.{Level, full, bytes_in}
 use Rattle.us_calendar.specs.Calendars as calendars
 use Rattle.us_calendar.specs.Calendars.{Calendar, pace_of, settled_in, granted_in}
 use Rattle.us_split.specs.Plans.{Planned, plan_for}
 use Rattle.us_channel.specs.Channels.{Filled, Built}
-use Rattle.us_round.specs.Rounds.{State, Scheduled, with_cut, grown, idle, all_grants, uncredited, spent_of}
-use Rattle.us_round.specs.Leftovers.{still_asking}
+use Rattle.us_round.specs.Rounds.{State, with_cut, grown, idle, all_grants, uncredited, spent_of}
+use Rattle.us_output.specs.Outputs.{Scheduled}
+use Rattle.us_output.specs.Leftovers.{scheduled_by}
 
 -- all of a state but its calendars
 pub record Core : Type 0 where
@@ -100,8 +101,4 @@ plan_over core fs = plan_for core.tables core.outstanding (map bytes_in core.buc
 
 -- what these channels were scheduled, where so much was outstanding before, and the core tells what is left
 abbrev pub scheduled_of : Core → ℕ → List ℕ → List Built → Scheduled
-scheduled_of core round outstanding builds = record {
-  round = round;
-  channels = builds;
-  pending = filter_map (still_asking outstanding core.outstanding) (turns_of core.tables);
-}
+scheduled_of core round outstanding builds = scheduled_by core.tables round outstanding core.outstanding builds

@@ -1,5 +1,5 @@
 -- A round of a bonding group (ours), and the schedule, round after round.
-use Rattle.std.specs.Prelude.{ℕ, ◌+◌, ◌-◌, ◌==◌, nat_lt, Bool, ◌&&◌, if◌then◌else◌, List, [], ◌∷◌, length, replicate, map, flat_map, filter, filter_map, zip, take, slice_index, slice_get, Option, None}
+use Rattle.std.specs.Prelude.{ℕ, ◌+◌, ◌-◌, ◌==◌, nat_lt, Bool, ◌&&◌, if◌then◌else◌, List, [], ◌∷◌, length, replicate, map, flat_map, filter_map, zip, slice_index, Option, None}
 use Rattle.us_flows.specs.Tables.{Tables}
 use Rattle.us_flows.specs.Clusters.{Turn, clusters_of, turns_of}
 use Rattle.us_bucket.specs.Levels.{Level, full, refilled, spent, bytes_in}
@@ -10,7 +10,7 @@ use Rattle.us_split.specs.Plans.{Planned, plan_for}
 use Rattle.us_split.specs.Claims.{claims_on}
 use Rattle.us_channel.specs.Placements.{PlacedClaim, credits}
 use Rattle.us_channel.specs.Channels.{Filled, fill, Built, build_on}
-use Rattle.us_channel.specs.Maps.{max_pendings}
+use Rattle.us_output.specs.Outputs.{Scheduled, first_sid}
 
 -- what a round starts from: the tables, its number, the outstanding bytes of each cluster, the bucket of each flow, and
 -- the calendar of each channel
@@ -82,10 +82,6 @@ spent_of grants place (bucket ∷ more) =
 
 -- Pendings.
 
--- the first channel of a turn's flow, by its id, with the turn's SID there
-abbrev pub first_sid : Turn → Option (ℕ × ℕ)
-first_sid turn = slice_get (zip turn.cluster.flow.channels turn.cluster.sids) 0
-
 -- a turn that still has outstanding bytes and was credited nothing is pending there
 abbrev pub pending_sid : List PlacedClaim → List ℕ → Turn → Option (ℕ × ℕ)
 pending_sid grants left turn =
@@ -96,17 +92,7 @@ pending_sid grants left turn =
 unfoldable pub pending_sids : List PlacedClaim → List ℕ → List Turn → List (ℕ × ℕ)
 pending_sids grants left turns = filter_map (pending_sid grants left) turns
 
--- the SIDs that a MAP lists: the first that are pending on its channel
-unfoldable pub pendings_on : ℕ → List (ℕ × ℕ) → List ℕ
-pendings_on id pendings = take max_pendings (map (λ pending. pending.1) (filter (λ pending. pending.0 == id) pendings))
-
 -- Rounds.
-
--- a round: its number, its channels in table order, and what is pending
-pub record Scheduled : Type 0 where
-  pub round : ℕ
-  pub channels : List Built
-  pub pending : List (ℕ × ℕ)
 
 -- a round, and what the next one starts from
 pub record RoundResult : Type 0 where

@@ -12,8 +12,8 @@ use Rattle.us_calendar.specs.Runs.{rounds_on}
 use Rattle.us_calendar.specs.declared.settled.Settled.{Settled}
 use Rattle.us_channel.specs.Reserves.{reserves}
 use Rattle.us_channel.specs.Placements.{credits}
-use Rattle.us_round.specs.Rounds.{State, Scheduled, opening, begun, builds_of, ended, round_of, schedule, final, all_grants, is_of_cluster}
-use Rattle.us_round.specs.Outputs.{built_map}
+use Rattle.us_round.specs.Rounds.{State, opening, begun, builds_of, ended, round_of, schedule, final, all_grants, is_of_cluster}
+use Rattle.us_output.specs.Outputs.{Scheduled, built_map}
 use Rattle.us_round.specs.States.{IsState, AreSound}
 
 -- what each round starts from, once its cut is in

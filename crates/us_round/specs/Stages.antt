@@ -11,7 +11,7 @@ use Rattle.us_split.specs.PlanLaws.{IsLawfulPlan}
 use Rattle.us_split.specs.Claims.{Claim, AreClaims, IsClaimOn, all_claims}
 use Rattle.us_channel.specs.Channels.{Filled, Built, build_on}
 use Rattle.us_round.specs.Rounds.{State, idle, fills_of, builds_of, round_from}
-use Rattle.us_round.specs.Outputs.{RoundOut, out_of, AreWithinLimits}
+use Rattle.us_output.specs.Outputs.{RoundOut, out_of, AreWithinLimits}
 use Rattle.us_round.specs.States.{AreSound, settled_by}
 use Rattle.us_round.specs.Cores.{Core, IsCore, AreCalendars, AreCounted, IsFilledFor, settled_now, settled_then, plan_over, with_calendars}
 

@@ -1,14 +1,16 @@
--- What a state keeps, and what of it the grants of a round may take.
+-- What a state keeps and tells, and what of it the grants of a round may take.
 use Rattle.std.specs.Prelude.{◌≡◌, ℕ, ◌+◌, ◌*◌, ◌<◌, ◌≤◌, List, length, map, sum_by, slice_index, slice_get, Some}
 use Rattle.std.specs.List.{AllByRecursion}
-use Rattle.us_flows.specs.Clusters.{clusters_of}
+use Rattle.us_flows.specs.Clusters.{clusters_of, table_order}
 use Rattle.us_bucket.specs.Levels.{Level, bytes_in}
 use Rattle.us_split.specs.PlanLaws.{Within}
 use Rattle.us_calendar.specs.Calendars.{pace_of, settled_in, max_settled, granted_in}
 use Rattle.us_channel.specs.Placements.{PlacedClaim, credits}
 use Rattle.us_channel.specs.Channels.{Built}
+use Rattle.us_output.specs.Outputs.{final_row}
+use Rattle.us_output.specs.Leftovers.{IsBuiltFor, AreInside}
+use Rattle.us_output.specs.declared.rows.Row.{Row}
 use Rattle.us_round.specs.Rounds.{State, all_grants, is_of_cluster, is_of_flow}
-use Rattle.us_round.specs.Leftovers.{IsBuiltFor, AreInside}
 
 -- there is a number for each cluster, a bucket for each flow, and a calendar for each channel, at this round
 pub record IsState (s : State) : Type 0 where
@@ -43,3 +45,7 @@ pub record AreSound (s : State) (builds : List Built) : Type 0 where
   pub boards : AllByRecursion (IsBuiltFor s.tables) builds
   pub inside : AllByRecursion AreInside builds
   pub few : AllByRecursion (λ b. granted_in b.settled + length b.grants ≤ b.board.standing) builds
+
+-- the F lines of a state, in table order
+unfoldable pub final_rows : State → List Row
+final_rows state = map (final_row state.outstanding state.buckets) (table_order state.tables)

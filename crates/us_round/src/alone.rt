@@ -6,17 +6,17 @@ ghost use Rattle.us_crew.specs.Items.{AreAccepted};
 ghost use Rattle.us_crew.specs.Values.{values_of};
 ghost use Rattle.us_round.specs.Doers.{CanFill, CanBuild, filled_at, built_at};
 ghost use Rattle.us_round.specs.Rounds as spec;
-ghost use Rattle.us_round.specs.Outputs.{out_of};
+ghost use Rattle.us_output.specs.Outputs.{out_of};
 
 use crate::faults::RoundFault;
 use crate::phases::{Answered, Building, Filling};
-use crate::round_outs::RoundOut;
 use crate::rounds::round_by;
 use crate::states::State;
 use std::alloc::Global;
 use us_channel::{Built, Filled, Lane};
 use us_crew::map_alone;
 use us_flows::Channel;
+use us_output::RoundOut;
 
 /// Schedules the round of a state as `round` does, in which the calling thread does all channels, one after another.
 ///

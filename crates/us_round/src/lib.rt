@@ -9,35 +9,17 @@
 //! let finals = state.finals(alloc)?; // what is outstanding, and the units of the buckets
 //! ```
 //!
-//! What these are stands in `specs/`, in the order of its `Lib.antt`.
+//! What these are stands in `specs/`, in the order of its `Lib.antt`; MAPs and lines stand in `us_output`.
 #![tactic(auto)]
 
 // Every refusal.
 mod faults;
-
-// The lines of a round.
-mod rows;
 
 // The order in which claims are placed.
 mod placing_laws;
 
 // Channels moved to workers and back.
 mod phases;
-
-// Who is pending.
-mod pendings;
-
-// The MAPs of a round.
-mod mapping;
-
-// From grants to lines.
-mod reporting;
-
-// What a round gives.
-mod round_outs;
-
-// Laws of what a round gives.
-mod output_laws;
 
 // What a round starts from: all but the calendars,
 mod cores;
@@ -56,15 +38,16 @@ mod schedule_laws;
 
 pub use alone::round_alone;
 pub use faults::RoundFault;
-pub use output_laws::{lines_are_of_grants, lines_bear_round};
 pub use placing_laws::turns_are_placed_in_order;
-pub use round_outs::RoundOut;
 pub use rounds::round;
-pub use rows::{EntryWord, FinalState, Grant, MissedOccurrence, Row, TraceCounts};
 pub use schedule_laws::{
     bytes_are_kept, calendars_run, maps_are_lawful, rounds_are_sound, rounds_follow_on,
 };
 pub use states::State;
+pub use us_output::{
+    EntryWord, FinalState, Grant, MissedOccurrence, RoundOut, Row, TraceCounts,
+    lines_are_of_grants, lines_bear_round,
+};
 
 #[cfg(test)]
 mod tests;

@@ -1,4 +1,4 @@
-ghost use Rattle.std.specs.Prelude.{◌≡◌, ◌+◌, ◌*◌, ◌^◌, ◌<◌, ◌≤◌, ◌⊎◌, ◌↔◌, ⊤, length, zip, Err, IfOk, OnOk};
+ghost use Rattle.std.specs.Prelude.{◌≡◌, ◌+◌, ◌*◌, ◌^◌, ◌<◌, ◌≤◌, ◌⊎◌, ◌↔◌, ⊤, length, zip, Err, IfOk};
 ghost use Rattle.std.specs.List.{AllByRecursion};
 ghost use Rattle.us_flows.specs.Tables.{max_run_ticks};
 ghost use Rattle.us_flows.specs.Clusters.{clusters_of};
@@ -7,27 +7,23 @@ ghost use Rattle.us_holes.specs.Boards.{max_assignments};
 ghost use Rattle.us_split.specs.Plans.{IsIdle};
 ghost use Rattle.us_crew.specs.Items.{AreAccepted};
 ghost use Rattle.us_crew.specs.Values.{values_of};
-ghost use Rattle.us_round.specs.Cores.{AreCalendars, scheduled_of};
+ghost use Rattle.us_round.specs.Cores.{AreCalendars};
 ghost use Rattle.us_round.specs.Doers.{CanFill, CanBuild, DoesFill, DoesBuild, filled_at, built_at};
-ghost use Rattle.us_round.specs.Leftovers.{AreInside, IsBuiltFor};
 ghost use Rattle.us_round.specs.Rounds as spec;
-ghost use Rattle.us_round.specs.Outputs.{out_of, AreWithinLimits};
+ghost use Rattle.us_output.specs.Outputs.{out_of, AreWithinLimits};
 ghost use Rattle.us_round.specs.Stages.{IsBegun, IsPlanned, AreBuilt, AreAllBuilt, IsOver, IsOverFor};
 ghost use Rattle.us_round.specs.States.{AreSound, settled_by};
 
 use crate::cores::Core;
 use crate::faults::RoundFault;
-use crate::mapping::maps_of;
-use crate::pendings::pending_sids;
 use crate::phases::{Answered, Building, Filling, build_all, fill_all};
-use crate::reporting::rows_of;
-use crate::round_outs::RoundOut;
 use crate::states::State;
 use std::alloc::Global;
 use std::thread::Threads;
 use us_channel::{Built, Filled, Lane, lanes_of};
 use us_crew::{Gate, MAX_WORKERS, Phase, map_owned};
 use us_flows::Channel;
+use us_output::{RoundOut, round_out};
 use us_slots::NoMemory;
 use us_split::{Plan, plan_with};
 
@@ -187,29 +183,14 @@ fn finish(
     let mut core = core;
     let round = core.round();
     core.close(&built);
-    let out = report(alloc, &core, round, &outstanding, &built)?;
+    let out = round_out(
+        alloc,
+        core.config(),
+        round,
+        &outstanding,
+        core.outstanding(),
+        &built,
+    )?;
     let lanes = lanes_of(alloc, built)?;
     Ok((State::of(core, lanes), out))
-}
-
-/// What a round gives of its channels, and of what was outstanding before it and is left after it.
-fn report(
-    alloc: Global,
-    core: &Core,
-    round: u32,
-    outstanding: &[u64],
-    built: &[Built],
-) -> Result<RoundOut, NoMemory>
-    requires built { AllByRecursion (IsBuiltFor core.now.tables) built.now }
-    requires inside { AllByRecursion AreInside built.now }
-    requires time { (round + 1) * core.now.tables.round_ticks ≤ max_run_ticks }
-    ensures out { IfOk result (λ out. out ≡
-        out_of core.now.tables (scheduled_of core.now round outstanding.now built.now)) }
-    ensures limits { OnOk result (AreWithinLimits core.now.tables (scheduled_of core.now round outstanding.now built.now)) }
-{
-    let config = core.config();
-    let pendings = pending_sids(alloc, config, outstanding, core.outstanding())?;
-    let maps = maps_of(alloc, config, round, built, &pendings)?;
-    let rows = rows_of(alloc, round, built)?;
-    Ok(RoundOut::new(round, maps, rows))
 }

@@ -2,17 +2,15 @@ ghost use Rattle.std.specs.Prelude.{◌≡◌, ◌≤◌, length, map, IfErr, If
 ghost use Rattle.us_calendar.specs.Calendars as calendars;
 ghost use Rattle.us_round.specs.Cores.{AreCalendars, with_calendars};
 ghost use Rattle.us_round.specs.Rounds as spec;
-ghost use Rattle.us_round.specs.Outputs.{final_rows};
-ghost use Rattle.us_round.specs.States.{IsState, settled_by, max_settled_by};
+ghost use Rattle.us_round.specs.States.{final_rows, IsState, settled_by, max_settled_by};
 
 use crate::cores::Core;
 use crate::faults::RoundFault;
-use crate::reporting;
-use crate::rows::Row;
 use std::alloc::Global;
 use std::marker::Model;
 use us_channel::Lane;
 use us_flows::Config;
+use us_output::Row;
 use us_slots::NoMemory;
 
 /// What a round starts from: the configuration, the number of the round, what is outstanding of each SID cluster, the
@@ -79,13 +77,13 @@ impl State {
 
     /// The F lines: of each SID cluster in table order what is outstanding, and the units of its flow's bucket. The fault
     /// is want of memory.
-    #[tactic(auto, unfolding(crate::specs::Outputs::final_rows))]
+    #[tactic(auto, unfolding(crate::specs::States::final_rows))]
     pub fn finals(&self, alloc: Global) -> Result<Vec<Row>, RoundFault>
         ensures rows { IfOk result (λ rows. rows.items ≡ final_rows self.now) }
         ensures fault { IfErr result (λ given. given ≡ RoundFault.NoMemory) }
     {
         let core = self.core();
-        let rows = reporting::final_rows(alloc, core.config(), core.outstanding(), core.buckets())?;
+        let rows = us_output::final_rows(alloc, core.config(), core.outstanding(), core.buckets())?;
         Ok(rows)
     }
 

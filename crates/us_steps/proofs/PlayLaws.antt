@@ -5,7 +5,7 @@ use Rattle.std.specs.List.{AllByRecursion}
 use Rattle.us_flows.specs.Tables.{Tables}
 use Rattle.us_requests.specs.Cuts as requests
 use Rattle.us_round.specs.Rounds.{State, opening, begun, fills_of, builds_of, ended, round_of, round_from, schedule, final}
-use Rattle.us_round.specs.Outputs.{out_of}
+use Rattle.us_output.specs.Outputs.{out_of}
 use Rattle.us_steps.specs.Steps.{IsComplete, total, cut_of, left_of}
 use Rattle.us_steps.specs.Machines.{Stand, Machine, Done, opening_machine, run, builds_in}
 use Rattle.us_steps.specs.Tallies as tallies

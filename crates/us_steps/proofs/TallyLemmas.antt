@@ -11,7 +11,7 @@ use Rattle.us_steps.specs.declared.steps.Step.TheVariants as step
 use Rattle.us_steps.specs.Steps.{bytes_for, bytes_in}
 use Rattle.us_steps.specs.Machines.{raised}
 use Rattle.us_steps.specs.Tallies.{Tally, with_row, without_word, with_open, with_built, after, is_done, run, IsReady, IsSized, unadded}
-use Rattle.us_round.proofs.PartLemmas.{all_found}
+use Rattle.us_output.proofs.PartLemmas.{all_found}
 use Rattle.us_round.proofs.StateLemmas.{eqb-self}
 use Rattle.us_steps.proofs.FlagLemmas.{clear-inside}
 

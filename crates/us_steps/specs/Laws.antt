@@ -5,7 +5,7 @@ use Rattle.us_flows.specs.Tables.{Tables}
 use Rattle.us_requests.specs.declared.asks.Ask.{Ask}
 use Rattle.us_requests.specs.Cuts as requests
 use Rattle.us_round.specs.Rounds.{State, opening, begun, fills_of, builds_of, ended, round_of, schedule, final}
-use Rattle.us_round.specs.Outputs.{out_of}
+use Rattle.us_output.specs.Outputs.{out_of}
 use Rattle.us_round.specs.States.{IsState}
 use Rattle.us_steps.specs.declared.steps.Step.{Step}
 use Rattle.us_steps.specs.declared.steps.Step.TheVariants as step

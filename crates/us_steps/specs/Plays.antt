@@ -3,7 +3,7 @@ use Rattle.std.specs.Prelude.{◌≡◌, ℕ, List, [], ◌∷◌, length, Optio
 use Rattle.us_requests.specs.declared.asks.Ask.{Ask}
 use Rattle.us_steps.specs.declared.steps.Step.{Step}
 use Rattle.us_round.specs.Rounds.{State, round_of}
-use Rattle.us_round.specs.Outputs.{RoundOut, out_of}
+use Rattle.us_output.specs.Outputs.{RoundOut, out_of}
 use Rattle.us_steps.specs.Steps.{IsComplete, cut_of, left_of}
 
 -- the state that the next round starts from, what is left in the words, and what the round gives

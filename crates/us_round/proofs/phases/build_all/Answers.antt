@@ -1,7 +1,7 @@
 use Rattle.std.proofs.Common.{◌≡◌}
 use Rattle.us_channel.specs.Channels.{HasFewTicks}
 use Rattle.us_round.specs.Stages.{built_by}
-use Rattle.us_round.proofs.PartLemmas.{all_found}
+use Rattle.us_output.proofs.PartLemmas.{all_found}
 use Rattle.us_round.proofs.PhaseLemmas.{answered_so}
 use Rattle.us_round.proofs.phases.build_all.Goals as goal
 

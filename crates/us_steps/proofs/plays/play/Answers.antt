@@ -1,6 +1,6 @@
 use Rattle.std.proofs.Common.{length, ap, subst, ◌∙◌, arith, refl}
 use Rattle.us_round.specs.Rounds.{round_of}
-use Rattle.us_round.specs.Outputs.{out_of}
+use Rattle.us_output.specs.Outputs.{out_of}
 use Rattle.us_steps.specs.Steps.{IsComplete}
 use Rattle.us_steps.proofs.PlayLemmas.{cut-long, cut-room}
 use Rattle.us_steps.proofs.plays.play.Goals as goal

@@ -1,0 +1,42 @@
+//! What a round of a bonding group gives: the MAP of each channel, with who is pending there, and the lines.
+//!
+//! ```
+//! // of all channels, once their claims are placed: what was outstanding of each SID cluster before, and what is left
+//! let out = round_out(alloc, &config, round, &outstanding, &left, &built)?;
+//! let maps = out.maps(); // a MAP for each channel, in table order
+//! let rows = out.rows(); // the lines of grants, and of what was missed
+//! let finals = final_rows(alloc, &config, &left, &buckets)?; // the F lines, behind the last round
+//! ```
+//!
+//! What these are stands in `specs/`, in the order of its `Lib.antt`. How a round comes to its channels is for `us_round`.
+#![tactic(auto)]
+
+// The lines of a round.
+mod rows;
+
+// Who is pending.
+mod pendings;
+
+// The MAPs of a round.
+mod mapping;
+
+// From grants to lines.
+mod reporting;
+
+// What a round gives,
+mod round_outs;
+
+// and how it is made.
+mod outputs;
+
+// Laws of what a round gives.
+mod output_laws;
+
+pub use output_laws::{lines_are_of_grants, lines_bear_round};
+pub use outputs::round_out;
+pub use reporting::final_rows;
+pub use round_outs::RoundOut;
+pub use rows::{EntryWord, FinalState, Grant, MissedOccurrence, Row, TraceCounts};
+
+#[cfg(test)]
+mod tests;

@@ -1,0 +1,61 @@
+ghost use Rattle.std.specs.Prelude.{◌≡◌, ◌+◌, ◌*◌, ◌≤◌, map, IfOk};
+ghost use Rattle.std.specs.List.{AllByRecursion};
+ghost use Rattle.us_flows.specs.Tables.{max_run_ticks};
+ghost use Rattle.us_output.specs.Leftovers.{IsBuiltFor};
+ghost use Rattle.us_output.specs.Outputs as spec;
+
+use crate::pendings::{PendingSid, sids_on};
+use std::alloc::Global;
+use us_channel::{Built, map_of};
+use us_codec::Map;
+use us_flows::Config;
+use us_holes::Run;
+use us_slots::NoMemory;
+
+/// The MAP of each channel of a round, with the SIDs that are pending there.
+pub(crate) fn maps_of(
+    alloc: Global,
+    config: &Config,
+    round: u32,
+    built: &[Built],
+    pendings: &[PendingSid],
+) -> Result<Vec<Map>, NoMemory>
+    requires built { AllByRecursion (IsBuiltFor config.now) built.now }
+    requires time { (round + 1) * config.now.round_ticks ≤ max_run_ticks }
+    ensures value { IfOk result (λ maps. maps.items ≡ map (spec.built_map config.now round pendings.now) built.now) }
+    ensures limits { IfOk result (λ _. AllByRecursion (spec.IsWithinLimits config.now round pendings.now) built.now) }
+{
+    let mut runs = Vec::new(alloc);
+    let mut maps = Vec::with_capacity(alloc, built.len())?;
+    for part in built {
+        maps.push_reserved(built_map(alloc, config, round, part, pendings, &mut runs)?);
+    }
+    Ok(maps)
+}
+
+/// The MAP of one channel. The list of runs is for what a board has, and nothing that stands there is kept.
+#[tactic(auto, using(us_channel::proofs::MapLemmas::few_bytes))]
+fn built_map(
+    alloc: Global,
+    config: &Config,
+    round: u32,
+    part: &Built,
+    pendings: &[PendingSid],
+    runs: &mut Vec<Run>,
+) -> Result<Map, NoMemory>
+    requires built { IsBuiltFor config.now part.now }
+    requires time { (round + 1) * config.now.round_ticks ≤ max_run_ticks }
+    ensures value { IfOk result (λ map. map ≡ spec.built_map config.now round pendings.now part.now) }
+    ensures limits { IfOk result (λ _. spec.IsWithinLimits config.now round pendings.now part.now) }
+{
+    let sids = sids_on(alloc, pendings, part.channel().id)?;
+    map_of(
+        alloc,
+        config,
+        round,
+        part.channel(),
+        part.board(),
+        &sids,
+        runs,
+    )
+}

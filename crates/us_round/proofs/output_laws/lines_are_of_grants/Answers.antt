@@ -1,5 +1,0 @@
-use Rattle.us_round.proofs.OutputLaws.{by_start_moves}
-use Rattle.us_round.proofs.output_laws.lines_are_of_grants.Goals as goal
-
-pub returns : goal.returns
-returns c = by_start_moves

@@ -1,5 +1,0 @@
-use Rattle.us_round.proofs.OutputLaws.{lines_bear_round}
-use Rattle.us_round.proofs.output_laws.lines_bear_round.Goals as goal
-
-pub returns : goal.returns
-returns c = lines_bear_round
