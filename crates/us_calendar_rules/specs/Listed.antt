@@ -1,0 +1,31 @@
+-- The entries of all channels, by id and kind.
+use Rattle.std.specs.Prelude.{ℕ, ◌+◌, ◌*◌, ◌==◌, ◌&&◌, Bool, List, Option, Some, None}
+use Rattle.std.specs.List.Sorted.{IsNonDecreasingBy, IsPermutation}
+use Rattle.us_flows.specs.Tables.{Tables}
+use Rattle.us_flows.specs.Lawful.{AreTables}
+use Rattle.us_calendar.specs.Entries.{Entry, rank_of}
+use Rattle.us_output.specs.declared.rows.EntryWord.{EntryWord}
+use Rattle.us_output.specs.declared.rows.EntryWord.TheVariants as words
+use Rattle.us_lawful.specs.CalendarLines.{ChannelEntry, channel_entries, is_word}
+
+-- what entries are listed by: their id, and of one id their kind. There are four kinds.
+abbrev pub key_of : Entry → ℕ
+key_of e = e.id * 4 + rank_of e.kind
+
+-- all entries of accepted tables, by their keys
+pub record AreListed (t : Tables) (es : List ChannelEntry) : Type 0 where
+  pub tables : AreTables t
+  pub all : IsPermutation (channel_entries t) es
+  pub rising : IsNonDecreasingBy (λ l. key_of l.entry) es
+
+-- word and id are those of an entry
+abbrev pub is_called : EntryWord → ℕ → ChannelEntry → Bool
+is_called word id l = is_word l.entry.kind word && (id == l.entry.id)
+
+-- the rank of the kind that a word calls; a request has none
+abbrev pub rank_called : EntryWord → Option ℕ
+rank_called words.Unsolicited = Some 0
+rank_called words.RealTimePoll = Some 1
+rank_called words.NonRealTimePoll = Some 2
+rank_called words.Station = Some 3
+rank_called words.Requested = None
