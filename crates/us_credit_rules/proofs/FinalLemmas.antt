@@ -1,0 +1,356 @@
+-- What F lines tell of each cluster, and that they are judged by it.
+use Rattle.std.proofs.Common.{◌≡◌, ℕ, suc, ◌+◌, ◌-◌, ◌<◌, ◌≤◌, ◌==◌, Bool, true, false, List, [], ◌∷◌, ◌++◌, length, get_or, take, set, replicate, cond, Option, Some, None, refl, sym, ap, ap₂, ◌∙◌, inl, inr, arith, eq-eqb, ne_eqb, IsPermutation}
+use Rattle.std.specs.Prelude.{◌&&◌, ◌||◌, if◌then◌else◌, nat_eq, filter, filter_map, sum_by}
+use Rattle.std.specs.List.{AllByRecursion, list_all, list_any}
+use Rattle.std.specs.Option.{option_eq}
+use Rattle.std.proofs.lemmas.Bool.{and_cases, and_left, and_parts, and_right, cases_Bool, cases_eq, eqb-true, false≢true, lt-ltb}
+use Rattle.std.proofs.lemmas.List.{append-nil, get_or-set_same, get_or-set_other, get_or-replicate}
+use Rattle.std.proofs.lemmas.List.Elements.{filter_agree, filter_more}
+use Rattle.std.proofs.lemmas.List.Sums.{length-filter, sum_by-cons}
+use Rattle.us_flows.specs.declared.channels.Channel.{Channel}
+use Rattle.us_flows.specs.Tables.{Tables, FlowTable}
+use Rattle.us_flows.specs.Clusters.{Turn, IsTurnIn, table_order}
+use Rattle.us_flows.specs.Lawful.{AreTables}
+use Rattle.us_bucket.specs.Levels.{full, units_in}
+use Rattle.us_requests.specs.Traces.{TraceAsks}
+use Rattle.us_output.specs.declared.rows.FinalState.{FinalState}
+use Rattle.us_output.specs.declared.rows.Row.{Row}
+use Rattle.us_output.proofs.PartLemmas.{all_filtered, all_weaker}
+use Rattle.us_lawful.specs.declared.place.Place.{Place}
+use Rattle.us_lawful.specs.Runs.{Run, Judged, finals_in, run_in}
+use Rattle.us_lawful.specs.Rates.{flow_credit}
+use Rattle.us_lawful.specs.Finals.{final_holds, final_of, finals_hold, flow_finals_hold, is_final_of, is_same_final, level_left, units_left}
+use Rattle.us_breaches.specs.Order.{earlier}
+use Rattle.us_breaches.specs.Breaches.{Any, At, Either, IsFirstBreach, IsFirstFailure}
+use Rattle.us_breaches.proofs.BreachLemmas.{holds_first, joined, same_places}
+use Rattle.us_breaches.proofs.AnyLemmas.{any_each, any_of_all}
+use Rattle.us_credit_rules.specs.declared.finals.Told.{Told}
+use Rattle.us_credit_rules.specs.declared.finals.Told.TheVariants.{Nothing}
+use Rattle.us_credit_rules.specs.declared.moves.Move.{Move}
+use Rattle.us_credit_rules.specs.Seats.{is_number, names, number_of}
+use Rattle.us_credit_rules.specs.Moves.{AreMoves, asked_of, credited_of, flow_move, moves_told}
+use Rattle.us_credit_rules.specs.LastLines.{IsStrange, IsWrong, cluster_left, end_place, flow_left, is_right, is_told, tells, told_at, told_by, told_more}
+use Rattle.us_credit_rules.proofs.MoveLemmas.{own_rounds_rise}
+use Rattle.us_credit_rules.proofs.CreditLemmas.{flow_credit_is}
+use Rattle.us_credit_rules.proofs.SeatLemmas.{any_number, named_number}
+use Rattle.us_credit_rules.proofs.AccountLemmas.{asked_by, asked_is, credited_by, credited_is, within}
+use Rattle.us_credit_rules.proofs.LevelLemmas.{full-is}
+use Rattle.us_credit_rules.proofs.WalkLemmas.{credit_in, rounds_of, rounds_same}
+use Rattle.us_credit_rules.proofs.LeftLemmas.{left_is}
+
+-- What is told.
+
+told_push : (fs : List FinalState) (f : FinalState) → told_by (fs ++ f ∷ []) ≡ told_more f (told_by fs)
+told_push [] f = refl
+told_push (g ∷ []) f = refl
+told_push (g ∷ h ∷ fs) f = refl
+
+-- one F line more tells of the cluster that it names
+told_next : (turns : List Turn) (finals : List FinalState) (i number : ℕ) (d : FinalState) → i < length finals →
+    told_at turns (take (i + 1) finals) number
+    ≡ cond (tells turns number (get_or finals i d)) (told_more (get_or finals i d) (told_at turns (take i finals) number))
+    (told_at turns (take i finals) number)
+told_next turns finals i number d inside =
+    ap told_by (filter_more (tells turns number) finals i d inside)
+    ∙ one (tells turns number (get_or finals i d)) (filter (tells turns number) (take i finals)) (get_or finals i d)
+  where
+    one : (is : Bool) (fs : List FinalState) (f : FinalState) →
+        told_by (fs ++ cond is (f ∷ []) []) ≡ cond is (told_more f (told_by fs)) (told_by fs)
+    one true fs f = told_push fs f
+    one false fs f = ap told_by (append-nil fs)
+
+-- what is kept for each cluster
+abbrev pub AreTold : List Turn → List FinalState → List Told → Type 0
+AreTold turns finals told =
+    (number : ℕ) → number < length turns → get_or told number Nothing ≡ told_at turns finals number
+
+pub none_told : (turns : List Turn) → AreTold turns [] (replicate (length turns) Nothing)
+none_told turns number inside = get_or-replicate (length turns) number Nothing Nothing inside
+
+pub told_kept : (turns : List Turn) (finals : List FinalState) (i : ℕ) (d : FinalState) (told : List Told) →
+    i < length finals → number_of (get_or finals i d).flow (get_or finals i d).cluster turns ≡ None →
+    AreTold turns (take i finals) told → AreTold turns (take (i + 1) finals) told
+told_kept turns finals i d told inside none are number known =
+    are number known
+    ∙ sym (told_next turns finals i number d inside
+    ∙ ap (λ found. cond (is_number number found) (told_more (get_or finals i d) (told_at turns (take i finals) number))
+    (told_at turns (take i finals) number)) none)
+
+pub told_set : (turns : List Turn) (finals : List FinalState) (i k : ℕ) (d : FinalState) (told : List Told) →
+    i < length finals → number_of (get_or finals i d).flow (get_or finals i d).cluster turns ≡ Some k →
+    k < length told → AreTold turns (take i finals) told →
+    AreTold turns (take (i + 1) finals) (set told k (told_more (get_or finals i d) (get_or told k Nothing)))
+told_set turns finals i k d told inside some room are number known =
+    let f : FinalState = get_or finals i d in
+    let next : told_at turns (take (i + 1) finals) number
+    ≡ cond (k == number) (told_more f (told_at turns (take i finals) number)) (told_at turns (take i finals) number) =
+    told_next turns finals i number d inside
+    ∙ ap (λ found. cond (is_number number found) (told_more f (told_at turns (take i finals) number))
+    (told_at turns (take i finals) number)) some in
+    elim (cases_eq k number) [
+      | inl same ↦
+          ap (λ n. get_or (set told k (told_more f (get_or told k Nothing))) n Nothing) (sym same)
+          ∙ get_or-set_same told k (told_more f (get_or told k Nothing)) Nothing room
+          ∙ ap (λ n. told_more f (get_or told n Nothing)) same ∙ ap (told_more f) (are number known)
+          ∙ sym (next ∙ ap (λ b. cond b (told_more f (told_at turns (take i finals) number))
+          (told_at turns (take i finals) number)) (eq-eqb k number same))
+      | inr other ↦
+          get_or-set_other told k number (told_more f (get_or told k Nothing)) Nothing (λ same. other (sym same))
+          ∙ are number known
+          ∙ sym (next ∙ ap (λ b. cond b (told_more f (told_at turns (take i finals) number))
+          (told_at turns (take i finals) number)) (ne_eqb k number other))
+    ]
+
+-- What is right.
+
+-- a test of those that pass another one
+any_filtered : {X : Type 0} (p q : X → Bool) (xs : List X) → list_any (λ x. p x && q x) xs ≡ list_any q (filter p xs)
+any_filtered p q [] = refl
+any_filtered p q (x ∷ xs) = elim (cases_Bool (p x)) [
+  | inl is ↦ rw is (ap (λ b. q x || b) (any_filtered p q xs))
+  | inr out ↦ rw out (any_filtered p q xs)
+]
+
+any_agree : {X : Type 0} (p q : X → Bool) → ((x : X) → p x ≡ q x) → (xs : List X) → list_any p xs ≡ list_any q xs
+any_agree p q same [] = refl
+any_agree p q same (x ∷ xs) = ap₂ (λ a b. a || b) (same x) (any_agree p q same xs)
+
+turned : (x y : ℕ) → (x == y) ≡ (y == x)
+turned x y = elim (cases_eq x y) [
+  | inl same ↦ eq-eqb x y same ∙ sym (eq-eqb y x (sym same))
+  | inr other ↦ ne_eqb x y other ∙ sym (ne_eqb y x (λ same. other (sym same)))
+]
+
+-- an F line tells what is left, beside the cluster that it names
+abbrev tells_left : ℕ → Option ℕ → FinalState → Bool
+tells_left outstanding units f = (outstanding == f.outstanding) && option_eq nat_eq units f.units
+
+same_parts : (run : Run) (lines : List Row) (turn : Turn) (f : FinalState) →
+    is_same_final (final_of run lines turn) f
+    ≡ (is_final_of turn f
+    && tells_left (final_of run lines turn).outstanding (final_of run lines turn).units f)
+same_parts run lines turn f =
+    ap₂ (λ a b. a && b && ((final_of run lines turn).outstanding == f.outstanding)
+    && option_eq nat_eq (final_of run lines turn).units f.units) (turned turn.cluster.flow.id f.flow)
+    (turned turn.cluster.list f.cluster)
+    ∙ grouped (f.flow == turn.cluster.flow.id) (f.cluster == turn.cluster.list)
+    ((final_of run lines turn).outstanding == f.outstanding) (option_eq nat_eq (final_of run lines turn).units f.units)
+  where
+    grouped : (a b c d : Bool) → (a && b && c && d) ≡ (a && b && (c && d))
+    grouped true true c d = refl
+    grouped true false c d = refl
+    grouped false b c d = refl
+
+-- so a cluster has its own where just one names it, and tells what is left
+one_told : (outstanding : ℕ) (units : Option ℕ) (fs : List FinalState) →
+    ((length fs == 1) && list_any (tells_left outstanding units) fs) ≡ is_told outstanding units (told_by fs)
+one_told outstanding units [] = refl
+one_told outstanding units (f ∷ []) = or_nothing (tells_left outstanding units f)
+  where
+    or_nothing : (b : Bool) → (b || false) ≡ b
+    or_nothing true = refl
+    or_nothing false = refl
+one_told outstanding units (f ∷ g ∷ fs) =
+    ap (λ b. b && list_any (tells_left outstanding units) (f ∷ g ∷ fs))
+    (ne_eqb (suc (suc (length fs))) 1 (λ same. omega (arith, same)))
+
+pub final_right : (t : Tables) (v : TraceAsks) (lines : List Row) (turn : Turn) → AreTables t → IsTurnIn t turn →
+    final_holds (run_in t v) lines turn
+    ≡ is_told (final_of (run_in t v) lines turn).outstanding (final_of (run_in t v) lines turn).units
+    (told_at (table_order t) (finals_in lines) turn.number)
+final_right t v lines turn lawful known =
+    let finals : List FinalState = finals_in lines in
+    let right : FinalState = final_of (run_in t v) lines turn in
+    let own : List FinalState = filter (is_final_of turn) finals in
+    let named : filter (is_final_of turn) finals ≡ filter (tells (table_order t) turn.number) finals =
+    filter_agree (is_final_of turn) (tells (table_order t) turn.number)
+    (λ f. named_number t turn f.flow f.cluster lawful known) finals in
+    ap₂ (λ n b. (n == 1) && b) (sym (length-filter (is_final_of turn) finals))
+    (any_agree (is_same_final right) (λ f. is_final_of turn f && tells_left right.outstanding right.units f)
+    (same_parts (run_in t v) lines turn) finals
+    ∙ any_filtered (is_final_of turn) (tells_left right.outstanding right.units) finals)
+    ∙ one_told right.outstanding right.units own
+    ∙ ap (λ fs. is_told right.outstanding right.units (told_by fs)) named
+
+-- What is left.
+
+-- of moves that are all in the first rounds
+asked_all : (rounds : ℕ) (moves : List Move) → AllByRecursion (λ m. m.round < rounds) moves →
+    asked_of moves ≡ sum_by (within rounds asked_by) moves
+asked_all rounds [] inside = refl
+asked_all rounds (m ∷ moves) inside =
+    let here : within rounds asked_by m ≡ cond m.credited 0 m.bytes =
+    ap (λ b. cond b (cond m.credited 0 m.bytes) 0) (lt-ltb m.round rounds inside.0) in
+    omega (arith, sum_by-cons (within rounds asked_by) m moves, here, asked_all rounds moves inside.1)
+
+credited_all : (rounds : ℕ) (moves : List Move) → AllByRecursion (λ m. m.round < rounds) moves →
+    credited_of moves ≡ sum_by (within rounds credited_by) moves
+credited_all rounds [] inside = refl
+credited_all rounds (m ∷ moves) inside =
+    let here : within rounds credited_by m ≡ cond m.credited m.bytes 0 =
+    ap (λ b. cond b (cond m.credited m.bytes 0) 0) (lt-ltb m.round rounds inside.0) in
+    omega (arith, sum_by-cons (within rounds credited_by) m moves, here, credited_all rounds moves inside.1)
+
+-- of a cluster,
+left_over : (t : Tables) (v : TraceAsks) (lines : List Row) (moves : List Move) (turn : Turn) → AreTables t →
+    IsTurnIn t turn → IsPermutation (moves_told v (table_order t) lines) moves → AreMoves v.rounds moves →
+    (final_of (run_in t v) lines turn).outstanding ≡ cluster_left moves turn.number
+left_over t v lines moves turn lawful known moved are =
+    let own : List Move = filter (λ m. m.owner == turn.number) moves in
+    let inside : AllByRecursion (λ m. m.round < v.rounds) own =
+    all_filtered (λ m. m.round < v.rounds) (λ m. m.owner == turn.number) moves are.inside in
+    sym (ap₂ (λ a b. a - b)
+    (asked_all v.rounds own inside
+    ∙ asked_is t v (table_order t) lines moves v.rounds turn.number known.number (omega arith) moved)
+    (credited_all v.rounds own inside
+    ∙ credited_is t v lines moves v.rounds turn lawful known (omega arith) moved))
+
+-- and of the bucket of a flow
+units_over : (t : Tables) (v : TraceAsks) (lines : List Row) (moves : List Move) (flow : FlowTable) → flow.id < 65536 →
+    0 < v.rounds → IsPermutation (filter_map (flow_move v.rounds) lines) moves → AreMoves v.rounds moves →
+    units_left (run_in t v) lines flow ≡ flow_left v.rounds t.round_ticks moves flow
+units_over t v lines moves flow small some moved are =
+    let own : List Move = filter (λ m. m.owner == flow.id) moves in
+    let count : v.rounds ≡ suc (v.rounds - 1 - 0) = omega (arith, some) in
+    ap (λ credits. units_in (level_left t.round_ticks credits (full flow.rate flow.burst)))
+    (rounds_same (flow_credit lines flow.id) (credit_in own) 0 v.rounds
+    (λ round late inside. flow_credit_is v.rounds flow.id round lines moves small (omega (arith, inside)) moved)
+    ∙ ap (rounds_of (credit_in own) 0) count)
+    ∙ ap units_in (left_is t.round_ticks (v.rounds - 1) 0 (full flow.rate flow.burst) own (full-is flow.rate flow.burst)
+    (omega arith) (own_rounds_rise flow.id moves are.ordered)
+    (all_weaker (λ m. m.round < v.rounds) (λ m. m.round ≤ v.rounds - 1) (λ m inside. omega (arith, inside)) own
+    (all_filtered (λ m. m.round < v.rounds) (λ m. m.owner == flow.id) moves are.inside)))
+
+-- so that a cluster has its own F line where it is told so
+pub judged_right : (t : Tables) (v : TraceAsks) (lines : List Row) (flows clusters : List Move) (told : List Told)
+    (turn : Turn) → AreTables t → IsTurnIn t turn → turn.cluster.flow.id < 65536 → 0 < v.rounds →
+    IsPermutation (filter_map (flow_move v.rounds) lines) flows → AreMoves v.rounds flows →
+    IsPermutation (moves_told v (table_order t) lines) clusters → AreMoves v.rounds clusters →
+    get_or told turn.number Nothing ≡ told_at (table_order t) (finals_in lines) turn.number →
+    final_holds (run_in t v) lines turn ≡ is_right v.rounds t.round_ticks flows clusters told turn
+judged_right t v lines flows clusters told turn lawful known small some moved_flows are_flows moved are is =
+    final_right t v lines turn lawful known
+    ∙ ap₂ (λ left units. is_told left units (told_at (table_order t) (finals_in lines) turn.number))
+    (left_over t v lines clusters turn lawful known moved are)
+    (units_over t v lines flows turn.cluster.flow small some moved_flows are_flows)
+    ∙ ap (is_told (cluster_left clusters turn.number) (flow_left v.rounds t.round_ticks flows turn.cluster.flow)) (sym is)
+
+-- Places.
+
+-- a test of items with an id, which is asked at the place of that id
+module _ {X : Type 0} (id : X → ℕ) (holds : X → Bool) (rounds : ℕ) where
+  asked_there : (x : X) (p : Place) → p.round ≡ rounds → p.channel ≡ 0 →
+      (if id x == p.third then holds x else true) ≡ false → At (end_place rounds (id x)) (holds x) p
+  asked_there x p round channel fails = elim (cases_eq (id x) p.third) [
+    | inl same ↦ (
+      (λ i. record { round = round i; channel = channel i; third = sym same i }),
+      ap (λ b. if b then holds x else true) (sym (eq-eqb (id x) p.third same)) ∙ fails,
+    )
+    | inr other ↦
+        absurd (false≢true (sym fails ∙ ap (λ b. if b then holds x else true) (ne_eqb (id x) p.third other)))
+  ]
+
+  there_asked : (x : X) (p : Place) → At (end_place rounds (id x)) (holds x) p →
+      (if id x == p.third then holds x else true) ≡ false
+  there_asked x p fails =
+      ap (λ b. if b then holds x else true) (eq-eqb (id x) p.third (sym (ap (λ (q : Place). q.third) fails.0))) ∙ fails.1
+
+  pub all_there : (xs : List X) (p : Place) → p.round ≡ rounds → p.channel ≡ 0 →
+      list_all (λ x. if id x == p.third then holds x else true) xs ≡ false →
+      Any (λ x. At (end_place rounds (id x)) (holds x)) xs p
+  all_there xs p round channel fails =
+      any_each (λ x p. (if id x == p.third then holds x else true) ≡ false) (λ x. At (end_place rounds (id x)) (holds x)) xs p
+      (λ x fails. asked_there x p round channel fails)
+      ((any_of_all (λ x p. if id x == p.third then holds x else true) xs p).0 fails)
+
+  pub there_all : (xs : List X) (p : Place) → Any (λ x. At (end_place rounds (id x)) (holds x)) xs p →
+      list_all (λ x. if id x == p.third then holds x else true) xs ≡ false
+  there_all xs p fails =
+      (any_of_all (λ x p. if id x == p.third then holds x else true) xs p).1
+      (any_each (λ x. At (end_place rounds (id x)) (holds x)) (λ x p. (if id x == p.third then holds x else true) ≡ false)
+      xs p (λ x fails. there_asked x p fails) fails)
+
+  pub at_end : (xs : List X) (p : Place) → Any (λ x. At (end_place rounds (id x)) (holds x)) xs p →
+      (p.round ≡ rounds) × (p.channel ≡ 0)
+  at_end [] p fails = absurd fails
+  at_end (x ∷ xs) p (inl here) = (ap (λ (q : Place). q.round) here.0, ap (λ (q : Place). q.channel) here.0)
+  at_end (x ∷ xs) p (inr there) = at_end xs p there
+
+-- what fails at the end is one of both
+finals_fail : (run : Run) (lines : List Row) (p : Place) →
+    (if (p.round == run.rounds) && (p.channel == 0) then flow_finals_hold run lines p.third else true) ≡ false →
+    Either (Any (IsStrange run.rounds (table_order run.tables)) (finals_in lines))
+    (Any (IsWrong run lines) (table_order run.tables)) p
+finals_fail run lines p fails = elim (cases_Bool ((p.round == run.rounds) && (p.channel == 0))) [
+  | inl there ↦
+      let parts = and_parts (p.round == run.rounds) (p.channel == 0) there in
+      let round : p.round ≡ run.rounds = eqb-true p.round run.rounds parts.0 in
+      let channel : p.channel ≡ 0 = eqb-true p.channel 0 parts.1 in
+      let out : flow_finals_hold run lines p.third ≡ false = rw there at fails in
+      elim (and_cases (list_all (strange_test p) (finals_in lines)) (list_all (wrong_test p) (table_order run.tables)) out) [
+        | inl strange ↦
+            inl (any_each (λ (f : FinalState). At (end_place run.rounds f.flow) (known f))
+            (IsStrange run.rounds (table_order run.tables)) (finals_in lines) p
+            (λ f fails. (fails.0, sym (any_number (names f.flow f.cluster) 0 (table_order run.tables)) ∙ fails.1))
+            (all_there (λ (f : FinalState). f.flow) known run.rounds (finals_in lines) p round channel strange))
+        | inr wrong ↦
+            inr (all_there (λ (turn : Turn). turn.cluster.flow.id) (final_holds run lines) run.rounds (table_order run.tables)
+            p round channel wrong)
+      ]
+  | inr elsewhere ↦ absurd (false≢true (sym (rw elsewhere at fails)))
+]
+  where
+    known : FinalState → Bool
+    known f = list_any (λ turn. is_final_of turn f) (table_order run.tables)
+
+    strange_test : Place → FinalState → Bool
+    strange_test p f = if f.flow == p.third then known f else true
+
+    wrong_test : Place → Turn → Bool
+    wrong_test p turn = if turn.cluster.flow.id == p.third then final_holds run lines turn else true
+
+asked_at : (round rounds channel : ℕ) (holds : Bool) → round ≡ rounds → channel ≡ 0 → holds ≡ false →
+    (if (round == rounds) && (channel == 0) then holds else true) ≡ false
+asked_at round rounds channel holds here all fails =
+    rw (eq-eqb round rounds here, eq-eqb channel 0 all) fails
+
+-- and back
+fail_finals : (run : Run) (lines : List Row) (p : Place) →
+    Either (Any (IsStrange run.rounds (table_order run.tables)) (finals_in lines))
+    (Any (IsWrong run lines) (table_order run.tables)) p →
+    (if (p.round == run.rounds) && (p.channel == 0) then flow_finals_hold run lines p.third else true) ≡ false
+fail_finals run lines p (inl strange) =
+    let known : FinalState → Bool = λ f. list_any (λ turn. is_final_of turn f) (table_order run.tables) in
+    let fails : Any (λ (f : FinalState). At (end_place run.rounds f.flow) (known f)) (finals_in lines) p =
+    any_each (IsStrange run.rounds (table_order run.tables))
+    (λ (f : FinalState). At (end_place run.rounds f.flow) (known f)) (finals_in lines) p
+    (λ f fails. (fails.0, any_number (names f.flow f.cluster) 0 (table_order run.tables) ∙ fails.1)) strange in
+    let there = at_end (λ (f : FinalState). f.flow) known run.rounds (finals_in lines) p fails in
+    asked_at p.round run.rounds p.channel (flow_finals_hold run lines p.third) there.0 there.1
+    (and_left (list_all (λ f. if f.flow == p.third then known f else true) (finals_in lines))
+    (list_all (λ turn. if turn.cluster.flow.id == p.third then final_holds run lines turn else true)
+    (table_order run.tables))
+    (there_all (λ (f : FinalState). f.flow) known run.rounds (finals_in lines) p fails))
+fail_finals run lines p (inr wrong) =
+    let known : FinalState → Bool = λ f. list_any (λ turn. is_final_of turn f) (table_order run.tables) in
+    let there = at_end (λ (turn : Turn). turn.cluster.flow.id) (final_holds run lines) run.rounds (table_order run.tables) p
+    wrong in
+    asked_at p.round run.rounds p.channel (flow_finals_hold run lines p.third) there.0 there.1
+    (and_right (list_all (λ f. if f.flow == p.third then known f else true) (finals_in lines))
+    (list_all (λ turn. if turn.cluster.flow.id == p.third then final_holds run lines turn else true)
+    (table_order run.tables))
+    (there_all (λ (turn : Turn). turn.cluster.flow.id) (final_holds run lines) run.rounds (table_order run.tables) p wrong))
+
+-- so the earlier of both is the first
+pub finals_first : (channels : List Channel) (run : Run) (judged : Judged) (strange wrong : Option Place) →
+    IsFirstFailure channels (Any (IsStrange run.rounds (table_order run.tables)) (finals_in judged.lines)) strange →
+    IsFirstFailure channels (Any (IsWrong run judged.lines) (table_order run.tables)) wrong →
+    IsFirstBreach channels (λ p. finals_hold run judged p ≡ true) (earlier channels strange wrong)
+finals_first channels run judged strange wrong first second =
+    let lines : List Row = judged.lines in
+    let A : Place → Type 0 = Any (IsStrange run.rounds (table_order run.tables)) (finals_in lines) in
+    let B : Place → Type 0 = Any (IsWrong run lines) (table_order run.tables) in
+    holds_first channels (finals_hold run judged) (earlier channels strange wrong)
+    (same_places channels (Either A B) (λ p. finals_hold run judged p ≡ false) (earlier channels strange wrong)
+    (λ p fails. fail_finals run lines p fails) (λ p fails. finals_fail run lines p fails)
+    (joined channels A B strange wrong first second))

@@ -1,0 +1,23 @@
+-- moves and their order, and what lines credit
+pub mod MoveLemmas
+pub mod OrderLemmas
+pub mod CreditLemmas
+-- clusters in table order
+pub mod SeatLemmas
+-- accounts of clusters
+pub mod AccountLemmas
+-- places
+pub mod PlaceLemmas
+-- levels of buckets, and buckets through rounds
+pub mod LevelLemmas
+pub mod WalkLemmas
+pub mod LeftLemmas
+-- rates
+pub mod BoundLemmas
+pub mod RateLemmas
+-- F lines
+pub mod FinalLemmas
+-- what was not asked for
+pub mod SumLemmas
+-- lines of requests
+pub mod LineLemmas

@@ -1,0 +1,354 @@
+-- Clusters that make requests: in table order, one more of a flow, and those of one more flow; and found by what lines
+-- tell.
+use Rattle.std.proofs.Common.{◌≡◌, ℕ, zero, suc, ◌+◌, ◌-◌, ◌*◌, ◌<◌, ◌≤◌, ◌==◌, Bool, true, false, List, [], ◌∷◌, ◌++◌, length, map, get_or, take, drop, Option, Some, None, refl, sym, ap, subst, ◌∙◌, append_assoc, ◌⊎◌, inl, inr, arith, eq-eqb, ne_eqb}
+use Rattle.std.specs.Prelude.{if◌then◌else◌, find, flat_map, option_and_then, option_map, slice_get}
+use Rattle.std.specs.List.{AllByRecursion, list_any, range_with_len}
+use Rattle.std.specs.Option.{option_or, is_some}
+use Rattle.std.proofs.lemmas.Bool.{cases_Bool, cases_eq, and_left, and_right, eqb-true, false≢true, true≢false, false_from_ne_true, and_parts}
+use Rattle.std.proofs.lemmas.List.Elements.{All-from_recursion}
+use Rattle.std.proofs.lemmas.List.{drop-map, drop_more, length-append, length-take-le, take_more}
+use Rattle.us_flows.specs.Tables.{Tables, FlowTable}
+use Rattle.us_flows.specs.Lawful.{AreTables, IsFlow}
+use Rattle.us_flows.specs.Clusters.{Cluster, Turn, IsTurnIn, clusters_from, clusters_of, makes_requests, requesting, table_order, turns_for, turns_from}
+use Rattle.us_flows.proofs.TurnLaws.{one_number, one_turn, table_order-length, table_order-numbers, table_order-turns}
+use Rattle.us_lawful.proofs.CreditLineLaws.{turn_listed}
+use Rattle.us_lawful.proofs.RoundLemmas.{range_at}
+use Rattle.std.proofs.lemmas.Option.{slice_get-map, slice_get_read}
+use Rattle.us_output.proofs.PartLemmas.{all_both, all_found, all_weaker}
+use Rattle.us_credit_rules.specs.Seats.{AreSeats, code_of, is_number, names, number_from, number_of}
+
+-- what a function gives from a place on
+pub drop_given : {X : Type 0} (f : X → List ℕ) (xs : List X) (i : ℕ) (x : X) → i < length xs → x ≡ get_or xs i x →
+    drop i (map f xs) ≡ f x ∷ drop (i + 1) (map f xs)
+drop_given f xs i x inside is =
+    drop-map f i xs ∙ ap (map f) (drop_more xs i x inside ∙ ap (λ y. y ∷ drop (i + 1) xs) (sym is))
+    ∙ ap (λ rest. f x ∷ rest) (sym (drop-map f (i + 1) xs))
+
+pub seat_more : (seats : List Turn) (place list : ℕ) (flow : FlowTable) (sids : List ℕ) (turn : Turn) →
+    drop list flow.clusters ≡ sids ∷ drop (list + 1) flow.clusters →
+    turn ≡ record { number = length seats; place = place; cluster = record { flow = flow; list = list; sids = sids } } →
+    (seats ++ turn ∷ []) ++ turns_for place (length (seats ++ turn ∷ []))
+    (clusters_from flow (list + 1) (drop (list + 1) flow.clusters))
+    ≡ seats ++ turns_for place (length seats) (clusters_from flow list (drop list flow.clusters))
+seat_more seats place list flow sids turn here is =
+    let rest : List Cluster = clusters_from flow (list + 1) (drop (list + 1) flow.clusters) in
+    ap (λ n. (seats ++ turn ∷ []) ++ turns_for place n rest) (length-append seats (turn ∷ []))
+    ∙ append_assoc seats (turn ∷ []) (turns_for place (length seats + 1) rest)
+    ∙ ap (λ t. seats ++ t ∷ turns_for place (length seats + 1) rest) is
+    ∙ ap (λ left. seats ++ turns_for place (length seats) (clusters_from flow list left)) (sym here)
+
+length-turns : (place number : ℕ) (clusters : List Cluster) → length (turns_for place number clusters) ≡ length clusters
+length-turns place number [] = refl
+length-turns place number (cluster ∷ rest) = ap (λ n. suc n) (length-turns place (number + 1) rest)
+
+pub flow_more : (seats : List Turn) (place : ℕ) (flows : List FlowTable) (flow : FlowTable) → place < length flows →
+    flow ≡ get_or flows place flow →
+    (seats ++ turns_for place (length seats) (requesting flow))
+    ++ turns_from (place + 1) (length (seats ++ turns_for place (length seats) (requesting flow))) (drop (place + 1) flows)
+    ≡ seats ++ turns_from place (length seats) (drop place flows)
+flow_more seats place flows flow inside is =
+    let own : List Turn = turns_for place (length seats) (requesting flow) in
+    let rest : List FlowTable = drop (place + 1) flows in
+    let long : length (seats ++ own) ≡ length seats + length (requesting flow) =
+    length-append seats own ∙ ap (λ n. length seats + n) (length-turns place (length seats) (requesting flow)) in
+    let here : flow ∷ rest ≡ drop place flows = ap (λ f. f ∷ rest) is ∙ sym (drop_more flows place flow inside) in
+    ap (λ n. (seats ++ own) ++ turns_from (place + 1) n rest) long
+    ∙ append_assoc seats own (turns_from (place + 1) (length seats + length (requesting flow)) rest)
+    ∙ ap (λ left. seats ++ turns_from place (length seats) left) here
+
+-- Numbers of items that pass.
+
+-- tests that agree
+pub number_same : {X : Type 0} (p q : X → Bool) (n : ℕ) (xs : List X) → AllByRecursion (λ x. p x ≡ q x) xs →
+    number_from p n xs ≡ number_from q n xs
+number_same p q n [] same = refl
+number_same p q n (x ∷ xs) same = elim (cases_Bool (q x)) [
+  | inl is ↦ rw (same.0, is) refl
+  | inr out ↦ rw (same.0, out) (number_same p q (n + 1) xs same.1)
+]
+
+-- none where none passes
+pub number_none : {X : Type 0} (p : X → Bool) (n : ℕ) (xs : List X) → AllByRecursion (λ x. p x ≡ false) xs →
+    number_from p n xs ≡ None
+number_none p n [] out = refl
+number_none p n (x ∷ xs) out = rw out.0 (number_none p (n + 1) xs out.1)
+
+-- of one item more
+pub number_push : {X : Type 0} (p : X → Bool) (n : ℕ) (xs : List X) (x : X) →
+    number_from p n (xs ++ x ∷ []) ≡ option_or (number_from p n xs) (if p x then Some (n + length xs) else None)
+number_push p n [] x =
+    let count : n ≡ n + 0 = omega arith in
+    ap (λ m. if p x then Some m else None) count
+number_push p n (y ∷ xs) x = elim (cases_Bool (p y)) [
+  | inl is ↦ rw is refl
+  | inr out ↦
+      let count : n + 1 + length xs ≡ n + suc (length xs) = omega arith in
+      rw out (number_push p (n + 1) xs x
+      ∙ ap (λ m. option_or (number_from p (n + 1) xs) (if p x then Some m else None)) count)
+]
+
+-- of the first so many and one more
+pub number_more : (p : Turn → Bool) (turns : List Turn) (i : ℕ) (turn : Turn) → i < length turns →
+    turn ≡ get_or turns i turn →
+    number_from p 0 (take (i + 1) turns)
+    ≡ option_or (number_from p 0 (take i turns)) (if p turn then Some i else None)
+number_more p turns i turn inside is =
+    let all : take (i + 1) turns ≡ take i turns ++ turn ∷ [] =
+    take_more turns i turn inside ∙ ap (λ t. take i turns ++ t ∷ []) (sym is) in
+    let count : 0 + length (take i turns) ≡ i = omega (arith, length-take-le i turns (omega (arith, inside))) in
+    ap (number_from p 0) all ∙ number_push p 0 (take i turns) turn
+    ∙ ap (λ n. option_or (number_from p 0 (take i turns)) (if p turn then Some n else None)) count
+
+-- of numbers that are found, one more is put in if it has none
+pub kept_number : (found : Option ℕ) (here : Bool) (i : ℕ) → (here ≡ true → is_some found ≡ true) →
+    found ≡ option_or found (if here then Some i else None)
+kept_number None true i there = absurd (false≢true (there refl))
+kept_number None false i there = refl
+kept_number (Some n) here i there = refl
+
+pub put_number : (found : Option ℕ) (here : Bool) (i : ℕ) → (here ≡ true → is_some found ≡ false) →
+    (if here then Some i else found) ≡ option_or found (if here then Some i else None)
+put_number None true i none = refl
+put_number None false i none = refl
+put_number (Some n) true i none = absurd (true≢false (none refl))
+put_number (Some n) false i none = refl
+
+-- room without a number
+pub room_more : (numbers : List (Option ℕ)) (code : ℕ) → get_or (numbers ++ None ∷ []) code None ≡ get_or numbers code None
+room_more [] zero = refl
+room_more [] (suc code) = refl
+room_more (number ∷ numbers) zero = refl
+room_more (number ∷ numbers) (suc code) = room_more numbers code
+
+-- where none is found, none passes,
+pub number_missing : {X : Type 0} (p : X → Bool) (n : ℕ) (xs : List X) → number_from p n xs ≡ None → (i : ℕ) (x : X) →
+    slice_get xs i ≡ Some x → p x ≡ false
+number_missing p n [] none i x at = absurd (cc at)
+number_missing p n (y ∷ xs) none zero x at = elim (cases_Bool (p y)) [
+  | inl is ↦ absurd (cc (rw is at none))
+  | inr out ↦
+      let same : y ≡ x = cc at in
+      ap p (sym same) ∙ out
+]
+number_missing p n (y ∷ xs) none (suc i) x at = elim (cases_Bool (p y)) [
+  | inl is ↦ absurd (cc (rw is at none))
+  | inr out ↦ number_missing p (n + 1) xs (rw out at none) i x at
+]
+
+-- and one that is found passes
+pub number_found : {X : Type 0} (p : X → Bool) (n : ℕ) (xs : List X) (k : ℕ) → number_from p n xs ≡ Some k →
+    (i : ℕ) × (x : X) × (k ≡ n + i) × (slice_get xs i ≡ Some x) × (p x ≡ true)
+number_found p n [] k found = absurd (cc found)
+number_found p n (y ∷ xs) k found = elim (cases_Bool (p y)) [
+  | inl is ↦
+      let here : Some n ≡ Some k = rw is at found in
+      let same : n ≡ k = cc in
+      (0, y, omega (arith, same), refl, is)
+  | inr out ↦
+      let rest = number_found p (n + 1) xs k (rw out at found) in
+      (suc rest.0, rest.1, omega (arith, rest.2), rest.3, rest.4)
+]
+
+-- of one that is there
+pub number_below : (id list k : ℕ) (turns : List Turn) → number_of id list turns ≡ Some k → k < length turns
+number_below id list k turns found =
+    let place = number_found (names id list) 0 turns k found in
+    omega (arith, place.2, inside turns place.0 place.1 place.3)
+  where
+    inside : (xs : List Turn) (i : ℕ) (x : Turn) → slice_get xs i ≡ Some x → i < length xs
+    inside [] i x at = absurd (cc at)
+    inside (y ∷ xs) zero x at = omega arith
+    inside (y ∷ xs) (suc i) x at = omega (arith, inside xs i x at)
+
+-- the first item that passes is the one with that number
+pub find_number : {X : Type 0} (p : X → Bool) (n : ℕ) (xs : List X) →
+    find p xs ≡ option_and_then (λ k. slice_get xs (k - n)) (number_from p n xs)
+find_number p n [] = refl
+find_number {X = X} p n (x ∷ xs) = elim (cases_Bool (p x)) [
+  | inl is ↦
+      let none : n - n ≡ 0 = omega arith in
+      rw (is, none) refl
+  | inr out ↦ rw out (find_number p (n + 1) xs ∙ later (number_from p (n + 1) xs) (λ k found.
+      let place = number_found p (n + 1) xs k found in
+      (place.0, place.2)))
+]
+  where
+    later : (found : Option ℕ) → ((k : ℕ) → found ≡ Some k → (i : ℕ) × (k ≡ n + 1 + i)) →
+        option_and_then (λ k. slice_get xs (k - (n + 1))) found
+        ≡ option_and_then (λ k. slice_get (x ∷ xs) (k - n)) found
+    later None at = refl
+    later (Some k) at =
+        let place = at k refl in
+        let one : k - n ≡ suc (k - (n + 1)) = omega (arith, place.1) in
+        ap (λ i. slice_get (x ∷ xs) i) (sym one)
+
+-- so it is found by its number, and none is found where there is none
+pub found_there : (id list k : ℕ) (turns : List Turn) (turn : Turn) → number_of id list turns ≡ Some k →
+    turn ≡ get_or turns k turn → find (names id list) turns ≡ Some turn
+found_there id list k turns turn is at =
+    let same : k - 0 ≡ k = omega arith in
+    find_number (names id list) 0 turns ∙ ap (option_and_then (λ k. slice_get turns (k - 0))) is
+    ∙ ap (slice_get turns) same
+    ∙ slice_get_read turns (length turns) k turn refl (number_below id list k turns is) at
+
+pub found_nowhere : (id list : ℕ) (turns : List Turn) → number_of id list turns ≡ None →
+    find (names id list) turns ≡ None
+found_nowhere id list turns none =
+    find_number (names id list) 0 turns ∙ ap (option_and_then (λ k. slice_get turns (k - 0))) none
+
+-- one is found where one passes
+pub any_number : {X : Type 0} (p : X → Bool) (n : ℕ) (xs : List X) → list_any p xs ≡ is_some (number_from p n xs)
+any_number p n [] = refl
+any_number p n (x ∷ xs) = elim (cases_Bool (p x)) [
+  | inl is ↦ rw is refl
+  | inr out ↦ rw out (any_number p (n + 1) xs)
+]
+
+-- Codes.
+
+code_names : (id list : ℕ) (turn : Turn) → list < 2 → turn.cluster.list < 2 →
+    names id list turn ≡ (code_of turn == id * 2 + list)
+code_names id list turn small short = elim (cases_eq id turn.cluster.flow.id) [
+  | inl same ↦ elim (cases_eq list turn.cluster.list) [
+    | inl equal ↦ rw (eq-eqb id turn.cluster.flow.id same, eq-eqb list turn.cluster.list equal)
+        (sym (eq-eqb (code_of turn) (id * 2 + list) (omega (arith, same, equal))))
+    | inr apart ↦ rw (eq-eqb id turn.cluster.flow.id same, ne_eqb list turn.cluster.list apart)
+        (sym (ne_eqb (code_of turn) (id * 2 + list) (λ equal. apart (omega (arith, same, equal)))))
+  ]
+  | inr other ↦ rw (ne_eqb id turn.cluster.flow.id other)
+      (sym (ne_eqb (code_of turn) (id * 2 + list) (λ equal. other (omega (arith, equal, small, short)))))
+]
+
+-- the number by the code is that by id and place
+pub number_by_code : (id list : ℕ) (turns : List Turn) → list < 2 → AreSeats turns →
+    number_from (λ turn. code_of turn == id * 2 + list) 0 turns ≡ number_of id list turns
+number_by_code id list turns small are =
+    sym (number_same (names id list) (λ turn. code_of turn == id * 2 + list) 0 turns
+    (all_weaker (λ turn. turn.cluster.list < 2) (λ turn. names id list turn ≡ (code_of turn == id * 2 + list))
+    (λ turn short. code_names id list turn small short) turns are.lists))
+
+-- and others have no number
+pub no_number : (id list : ℕ) (turns : List Turn) → (65536 ≤ id) ⊎ (2 ≤ list) → AreSeats turns →
+    number_of id list turns ≡ None
+no_number id list turns past are =
+    number_none (names id list) 0 turns
+    (all_weaker (λ turn. (turn.cluster.flow.id < 65536) × (turn.cluster.list < 2)) (λ turn. names id list turn ≡ false)
+    unnamed turns
+    (all_both (λ turn. turn.cluster.flow.id < 65536) (λ turn. turn.cluster.list < 2) turns are.ids are.lists))
+  where
+    unnamed : (turn : Turn) → (turn.cluster.flow.id < 65536) × (turn.cluster.list < 2) → names id list turn ≡ false
+    unnamed turn within = elim past [
+      | inl large ↦ and_left (id == turn.cluster.flow.id) (list == turn.cluster.list)
+          (ne_eqb id turn.cluster.flow.id (λ same. omega (arith, large, same, within.0)))
+      | inr large ↦ and_right (id == turn.cluster.flow.id) (list == turn.cluster.list)
+          (ne_eqb list turn.cluster.list (λ same. omega (arith, large, same, within.1)))
+    ]
+
+-- The clusters of tables.
+
+pub are_seats : (t : Tables) → AreTables t → AreSeats (table_order t)
+are_seats t lawful = record {
+  ids = all_weaker (IsTurnIn t) (λ turn. turn.cluster.flow.id < 65536) small (table_order t) (table_order-turns t);
+  lists = all_weaker (IsTurnIn t) (λ turn. turn.cluster.list < 2) short (table_order t) (table_order-turns t);
+  few = omega (
+    arith,
+    table_order-length t,
+    clusters_few t.flows (all_weaker (IsFlow t)
+        (λ flow. length flow.clusters ≤ 2) (λ flow is. is.some_clusters.1) t.flows lawful.flows),
+    lawful.few_flows,
+  );
+}
+  where
+    small : (turn : Turn) → IsTurnIn t turn → turn.cluster.flow.id < 65536
+    small turn is =
+        omega (arith, (all_found (IsFlow t) t.flows turn.place turn.cluster.flow lawful.flows is.flow).id.1)
+
+    inside : {X : Type 0} (xs : List X) (i : ℕ) (x : X) → slice_get xs i ≡ Some x → i < length xs
+    inside [] i x at = absurd (cc at)
+    inside (y ∷ xs) zero x at = omega arith
+    inside (y ∷ xs) (suc i) x at = omega (arith, inside xs i x at)
+
+    short : (turn : Turn) → IsTurnIn t turn → turn.cluster.list < 2
+    short turn is =
+        omega (
+          arith,
+          (all_found (IsFlow t) t.flows turn.place turn.cluster.flow lawful.flows is.flow).some_clusters.1,
+          inside turn.cluster.flow.clusters turn.cluster.list turn.cluster.sids is.sids,
+        )
+
+    length-from : (flow : FlowTable) (list : ℕ) (lists : List (List ℕ)) →
+        length (clusters_from flow list lists) ≡ length lists
+    length-from flow list [] = refl
+    length-from flow list (sids ∷ rest) = ap (λ n. suc n) (length-from flow (list + 1) rest)
+
+    own_few : (flow : FlowTable) → length flow.clusters ≤ 2 → length (requesting flow) ≤ 2
+    own_few flow most = elim (cases_Bool (makes_requests flow.kind)) [
+      | inl is ↦ rw is (omega (arith, length-from flow 0 flow.clusters, most))
+      | inr none ↦ rw none (omega arith)
+    ]
+
+    clusters_few : (flows : List FlowTable) → AllByRecursion (λ flow. length flow.clusters ≤ 2) flows →
+        length (flat_map requesting flows) ≤ 2 * length flows
+    clusters_few [] most = omega arith
+    clusters_few (flow ∷ flows) most =
+        omega (
+          arith,
+          length-append (requesting flow) (flat_map requesting flows),
+          own_few flow most.0,
+          clusters_few flows most.1,
+        )
+
+-- a line names a turn of the tables just where it has the turn's number
+pub named_number : (t : Tables) (turn : Turn) (id list : ℕ) → AreTables t → IsTurnIn t turn →
+    names id list turn ≡ is_number turn.number (number_of id list (table_order t))
+named_number t turn id list lawful known = of (number_of id list (table_order t)) refl
+  where
+    listed : slice_get (table_order t) turn.number ≡ Some turn
+    listed = turn_listed t turn known
+
+    numbered : (place : ℕ) (other : Turn) → slice_get (table_order t) place ≡ Some other → other.number ≡ place
+    numbered place other at =
+        let told : slice_get (range_with_len 0 (length (clusters_of t))) place ≡ Some other.number =
+        ap (λ numbers. slice_get numbers place) (sym (table_order-numbers t))
+        ∙ slice_get-map (λ (u : Turn). u.number) (table_order t) place
+        ∙ ap (option_map (λ (u : Turn). u.number)) at in
+        omega (arith, range_at 0 (length (clusters_of t)) place other.number told)
+
+    of : (found : Option ℕ) → number_of id list (table_order t) ≡ found → names id list turn ≡ is_number turn.number found
+    of None is = number_missing (names id list) 0 (table_order t) is turn.number turn listed
+    of (Some k) is =
+        let place = number_found (names id list) 0 (table_order t) k is in
+        let other : Turn = place.1 in
+        let of_tables : IsTurnIn t other =
+        all_found (IsTurnIn t) (table_order t) place.0 other (table_order-turns t) place.3 in
+        let number : other.number ≡ k =
+        numbered place.0 other place.3 ∙ sym (place.2 ∙ omega arith) in
+        elim (cases_eq k turn.number) [
+          | inl same ↦
+              let one : other ≡ turn = one_turn t other turn of_tables known (number ∙ same) in
+              ap (names id list) (sym one) ∙ place.4 ∙ sym (eq-eqb k turn.number same)
+          | inr apart ↦
+              false_from_ne_true (names id list turn) (λ named.
+              let both = and_parts (id == turn.cluster.flow.id) (list == turn.cluster.list) named in
+              let its = and_parts (id == other.cluster.flow.id) (list == other.cluster.list) place.4 in
+              apart (sym number ∙ one_number t other turn lawful.flows_apart of_tables known
+              (sym (eqb-true id other.cluster.flow.id its.0) ∙ eqb-true id turn.cluster.flow.id both.0)
+              (sym (eqb-true list other.cluster.list its.1) ∙ eqb-true list turn.cluster.list both.1)))
+              ∙ sym (ne_eqb k turn.number apart)
+        ]
+
+-- an item of all turns is one of the tables,
+pub seat_known : (t : Tables) (turns : List Turn) (i : ℕ) (turn : Turn) → turns ≡ table_order t → i < length turns →
+    turn ≡ get_or turns i turn → IsTurnIn t turn
+seat_known t turns i turn all inside is =
+    subst (IsTurnIn t) (sym is)
+    (All-from_recursion (IsTurnIn t) turns (subst (AllByRecursion (IsTurnIn t)) (sym all) (table_order-turns t)) i turn
+    inside)
+
+-- with a number and an id of 16 bits
+pub seat_small : (t : Tables) (turn : Turn) → AreTables t → IsTurnIn t turn →
+    (turn.number < 65536) × (turn.cluster.flow.id < 65536)
+seat_small t turn lawful known = (
+  omega (arith, known.number, table_order-length t, (are_seats t lawful).few),
+  omega (arith, (all_found (IsFlow t) t.flows turn.place turn.cluster.flow lawful.flows known.flow).id.1),
+)

@@ -1,0 +1,10 @@
+use Rattle.std.proofs.Common.{take}
+use Rattle.us_lawful.specs.Runs.{run_in}
+use Rattle.us_breaches.specs.Breaches.{IsFirstFailure, Any}
+use Rattle.us_credit_rules.specs.LastLines.{IsWrong}
+use Rattle.us_credit_rules.proofs.finals.first_wrong.Given as goal
+
+abbrev pub invariant-loop-seat : goal.invariant-loop-seat
+invariant-loop-seat l =
+    IsFirstFailure l.config.channels
+    (Any (IsWrong (run_in l.config l.trace) l.lines) (take l.seat-index l.seat-items)) l.first

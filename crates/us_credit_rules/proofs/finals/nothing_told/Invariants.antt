@@ -1,0 +1,6 @@
+use Rattle.std.proofs.Common.{◌≡◌, replicate}
+use Rattle.us_credit_rules.specs.declared.finals.Told.TheVariants.{Nothing}
+use Rattle.us_credit_rules.proofs.finals.nothing_told.Given as goal
+
+abbrev pub invariant-loop-number : goal.invariant-loop-number
+invariant-loop-number l = l.told.items ≡ replicate l._number Nothing

@@ -1,0 +1,47 @@
+use Rattle.std.proofs.Common.{◌≡◌, false, ◌∙◌}
+use Rattle.us_flows.specs.Clusters.{IsTurnIn}
+use Rattle.us_lawful.specs.Runs.{run_in}
+use Rattle.us_breaches.specs.Breaches.{IsFirstFailure}
+use Rattle.us_breaches.proofs.BreachLemmas.{all_done, one_more}
+use Rattle.us_credit_rules.proofs.SeatLemmas.{seat_known, seat_small}
+use Rattle.us_credit_rules.proofs.SumLemmas.{sum_first, sum_test, sums_first}
+use Rattle.us_credit_rules.proofs.sums.first_sum.Goals as goal
+
+pub cluster_sum-requires-clause-number : goal.cluster_sum-requires-clause-number
+cluster_sum-requires-clause-number c =
+    let t = c.args.config.now in
+    (seat_small t c.seat-item.result c.channels.ensures.lawful
+    (seat_known t c.all-seat-items.result.now c.loop-seat.seat-index c.seat-item.result
+    (c.all-seat-items.ensures ∙ c.seats.ensures ∙ c.requires.seats) c.loop-seat-test.true c.seat-item.is)).0
+
+pub cluster_sum-requires-clause-moves : goal.cluster_sum-requires-clause-moves
+cluster_sum-requires-clause-moves c = rw (c.of_clusters-clusters.ensures, c.rounds-rounds.ensures.value) c.requires.clusters_ordered
+
+pub loop-seat-preserved : goal.loop-seat-preserved
+loop-seat-preserved c =
+    let t = c.args.config.now in
+    let v = c.args.trace.now in
+    let judged = c.args.judged.now in
+    let turns = c.all-seat-items.result.now in
+    let i = c.loop-seat.seat-index in
+    let turn = c.seat-item.result in
+    let moves = c.args.moves.now.clusters in
+    let known : IsTurnIn t turn =
+    seat_known t turns i turn (c.all-seat-items.ensures ∙ c.seats.ensures ∙ c.requires.seats) c.loop-seat-test.true c.seat-item.is in
+    let one : IsFirstFailure t.channels (λ p. sum_test (run_in t v) judged turn p ≡ false) c.cluster_sum.result =
+    rw (c.cluster_sum.ensures, c.of_clusters-clusters.ensures)
+    (sum_first t.channels t v judged moves turn c.channels.ensures.lawful known c.requires.clusters
+    c.requires.clusters_ordered) in
+    rw (c.earlier-first.ensures, c.channels.ensures.value)
+    (one_more t.channels (λ turn p. sum_test (run_in t v) judged turn p ≡ false) turns i turn turn c.loop-seat.first
+    c.cluster_sum.result c.loop-seat-test.true c.seat-item.is c.loop-seat.invariant one)
+
+pub returns : goal.returns
+returns c =
+    let t = c.args.config.now in
+    let v = c.args.trace.now in
+    let judged = c.args.judged.now in
+    sums_first t.channels (run_in t v) judged c.loop-seat.first
+    (rw (c.all-seat-items.ensures ∙ c.seats.ensures ∙ c.requires.seats) at
+    (all_done t.channels (λ turn p. sum_test (run_in t v) judged turn p ≡ false) c.all-seat-items.result.now
+    c.loop-seat.seat-index c.loop-seat.first c.loop-seat-test.false c.loop-seat.invariant))

@@ -1,0 +1,74 @@
+-- F lines, as they are judged: each names a cluster, and each cluster has one.
+use Rattle.std.specs.Prelude.{ℕ, ◌-◌, ◌==◌, ◌&&◌, nat_eq, if◌then◌else◌, Bool, false, List, [], ◌∷◌, filter, slice_index_or, Option, Some, None}
+use Rattle.std.specs.Option.{is_some, option_eq}
+use Rattle.us_flows.specs.Tables.{FlowTable}
+use Rattle.us_flows.specs.Clusters.{Turn}
+use Rattle.us_bucket.specs.Levels.{full, units_in}
+use Rattle.us_output.specs.declared.rows.FinalState.{FinalState}
+use Rattle.us_output.specs.declared.rows.Row.{Row}
+use Rattle.us_lawful.specs.declared.place.Place.{Place}
+use Rattle.us_lawful.specs.Runs.{Run}
+use Rattle.us_lawful.specs.Finals.{final_holds}
+use Rattle.us_breaches.specs.Breaches.{At}
+use Rattle.us_credit_rules.specs.declared.finals.Told.{Told}
+use Rattle.us_credit_rules.specs.declared.finals.Told.TheVariants.{Nothing, Once, Several}
+use Rattle.us_credit_rules.specs.declared.moves.Move.{Move}
+use Rattle.us_credit_rules.specs.Moves.{asked_of, credited_of}
+use Rattle.us_credit_rules.specs.Seats.{is_number, number_of}
+use Rattle.us_credit_rules.specs.Shorts.{level_behind}
+
+-- the place of a flow behind the last round
+abbrev pub end_place : ℕ → ℕ → Place
+end_place rounds id = record { round = rounds; channel = 0; third = id }
+
+-- a place at which a test has to pass
+abbrev pub unless : Bool → Place → Option Place
+unless holds at = if holds then None else Some at
+
+-- an F line fails that names no cluster
+abbrev pub IsStrange : ℕ → List Turn → FinalState → Place → Type 0
+IsStrange rounds turns f = At (end_place rounds f.flow) (is_some (number_of f.flow f.cluster turns))
+
+-- and a cluster fails that has not its own
+abbrev pub IsWrong : Run → List Row → Turn → Place → Type 0
+IsWrong run lines turn = At (end_place run.rounds turn.cluster.flow.id) (final_holds run lines turn)
+
+-- an F line names the cluster of a number
+abbrev pub tells : List Turn → ℕ → FinalState → Bool
+tells turns number f = is_number number (number_of f.flow f.cluster turns)
+
+-- what F lines tell of one cluster
+abbrev pub told_by : List FinalState → Told
+told_by [] = Nothing
+told_by (f ∷ []) = Once f
+told_by (f ∷ g ∷ more) = Several
+
+-- with one more
+abbrev pub told_more : FinalState → Told → Told
+told_more f Nothing = Once f
+told_more f _ = Several
+
+abbrev pub told_at : List Turn → List FinalState → ℕ → Told
+told_at turns finals number = told_by (filter (tells turns number) finals)
+
+-- just one tells this
+abbrev pub is_told : ℕ → Option ℕ → Told → Bool
+is_told outstanding units (Once f) = (outstanding == f.outstanding) && option_eq nat_eq units f.units
+is_told outstanding units _ = false
+
+-- what moves leave of a cluster,
+abbrev pub cluster_left : List Move → ℕ → ℕ
+cluster_left clusters number =
+    let own : List Move = filter (λ m. m.owner == number) clusters in
+    asked_of own - credited_of own
+
+-- and of the bucket of a flow
+abbrev pub flow_left : ℕ → ℕ → List Move → FlowTable → Option ℕ
+flow_left rounds ticks flows flow =
+    units_in (level_behind ticks (rounds - 1) 0 (full flow.rate flow.burst) (filter (λ m. m.owner == flow.id) flows))
+
+-- just one tells of a cluster, and tells that
+abbrev pub is_right : ℕ → ℕ → List Move → List Move → List Told → Turn → Bool
+is_right rounds ticks flows clusters told turn =
+    is_told (cluster_left clusters turn.number) (flow_left rounds ticks flows turn.cluster.flow)
+    (slice_index_or told turn.number Nothing)

@@ -1,0 +1,17 @@
+-- Read in this order: the clusters that lines name; the bytes that are asked for and credited; which credit a bucket
+-- lacks, and which was not asked for; which line of a request isn't right; and which F lines aren't.
+-- In a definition `≡` is equals, `×` and, `→` implies, `∷` one item before a list, `++` one list behind another, and ℕ
+-- has the whole numbers from 0; `-` stops at 0.
+
+-- clusters that lines name
+pub mod Seats
+-- bytes that are asked for or credited, by round
+pub mod Moves
+-- the credit that a bucket lacks,
+pub mod Shorts
+-- and that which was not asked for
+pub mod Sums
+-- lines of requests that aren't right
+pub mod CreditLines
+-- F lines that aren't right
+pub mod LastLines

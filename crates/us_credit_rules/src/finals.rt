@@ -1,0 +1,213 @@
+ghost use Rattle.std.specs.Prelude.{◌≡◌, ◌≤◌, ◌*◌, ◌<◌, true, length, map, replicate, slice_set, slice_index_or, IfOk};
+ghost use Rattle.std.specs.List.{range_with_len};
+ghost use Rattle.us_flows.specs.Tables.{rounds_fit};
+ghost use Rattle.us_flows.specs.Clusters.{table_order};
+ghost use Rattle.us_lawful.specs.Runs.{run_in, finals_in};
+ghost use Rattle.us_lawful.specs.Finals.{finals_hold};
+ghost use Rattle.us_breaches.specs.Breaches.{IsFirstBreach, IsFirstFailure, Any};
+ghost use Rattle.us_credit_rules.specs.Moves.{AreMoves, AreMovesOf};
+ghost use Rattle.us_credit_rules.specs.LastLines as spec;
+
+use crate::all_moves::Moves;
+use crate::buckets::{RunTime, units_left};
+use crate::moves::{Move, outstanding, own};
+use crate::seats::{Seat, Seats};
+use std::alloc::{AllocError, Global};
+use us_breaches::earlier;
+use us_flows::{Channel, Config, Flow};
+use us_lawful::{Judged, Place};
+use us_requests::Trace;
+use us_round::{FinalState, Row};
+use us_slots::NoMemory;
+
+/// What F lines tell of a cluster.
+#[derive(Clone, Copy)]
+pub(crate) enum Told {
+    /// None is there.
+    Nothing,
+    /// There is one.
+    Once(FinalState),
+    /// There are more.
+    Several,
+}
+
+impl Told {
+    /// With one more.
+    fn and(self, state: FinalState) -> Told
+        ensures { result ≡ spec.told_more state self }
+    {
+        match self {
+            Told::Nothing => Told::Once(state),
+            Told::Once(_) | Told::Several => Told::Several,
+        }
+    }
+}
+
+/// Where the F lines first fail: one of no cluster, or a cluster without one, with several, or with one that tells
+/// another state than its lines leave. The round of a place is that behind the last one, its channel 0, and its third
+/// number the id of a flow.
+pub fn finals_breach(
+    alloc: Global,
+    config: &Config,
+    trace: &Trace,
+    judged: &Judged,
+    moves: &Moves,
+) -> Result<Option<Place>, NoMemory>
+    requires fits { rounds_fit config.now trace.now.rounds ≡ true }
+    requires moves { AreMovesOf config.now trace.now judged.now.lines moves.now }
+    ensures { IfOk result (IsFirstBreach config.now.channels
+        (λ p. finals_hold (run_in config.now trace.now) judged.now p ≡ true)) }
+{
+    let finals = finals_of(alloc, judged.lines())?;
+    let strange = first_strange(config.channels(), moves.seats(), trace.rounds(), &finals);
+    let wrong = first_wrong(alloc, config, trace, judged.lines(), moves, &finals)?;
+    Ok(earlier(config.channels(), strange, wrong))
+}
+
+/// What the F lines tell.
+fn finals_of(alloc: Global, lines: &[Row]) -> Result<Vec<FinalState>, AllocError>
+    ensures { IfOk result (λ finals. finals.items ≡ finals_in lines.now) }
+{
+    let mut finals = Vec::new(alloc);
+    for line in lines {
+        if let Row::Final(state) = line {
+            finals.push(*state)?;
+        }
+    }
+    Ok(finals)
+}
+
+/// Where an F line first names no cluster.
+fn first_strange(
+    channels: &[Channel],
+    seats: &Seats,
+    rounds: u32,
+    finals: &[FinalState],
+) -> Option<Place>
+    ensures { IsFirstFailure channels.now (Any (spec.IsStrange rounds seats.now) finals.now) result }
+{
+    let mut first = None;
+    for state in finals {
+        let known = seats.number(state.flow, state.cluster).is_some();
+        first = earlier(channels, first, unless(known, rounds, state.flow));
+    }
+    first
+}
+
+/// The place of a flow behind the last round, where a test has to pass.
+fn unless(holds: bool, rounds: u32, id: u64) -> Option<Place>
+    ensures { result ≡ spec.unless holds (spec.end_place rounds id) }
+{
+    if holds {
+        return None;
+    }
+    Some(Place {
+        round: u64::from(rounds),
+        channel: 0,
+        third: id,
+    })
+}
+
+/// What F lines tell of each cluster, by its number.
+fn told_of(alloc: Global, seats: &Seats, finals: &[FinalState]) -> Result<Vec<Told>, AllocError>
+    ensures { IfOk result (λ told.
+        told.items ≡ map (spec.told_at seats.now finals.now) (range_with_len 0 (length seats.now))) }
+{
+    let mut told = nothing_told(alloc, seats.all().len())?;
+    for state in finals {
+        if let Some(number) = seats.number(state.flow, state.cluster) {
+            tell(&mut told, usize::from(number), *state);
+        }
+    }
+    Ok(told)
+}
+
+/// Of so many clusters nothing is told.
+fn nothing_told(alloc: Global, count: usize) -> Result<Vec<Told>, AllocError>
+    ensures { IfOk result (λ told. told.items ≡ replicate count Told.Nothing) }
+{
+    let mut told = Vec::new(alloc);
+    for _number in 0..count {
+        told.push(Told::Nothing)?;
+    }
+    Ok(told)
+}
+
+/// One more F line tells of the cluster with this number.
+fn tell(told: &mut [Told], number: usize, state: FinalState)
+    requires { number < length told.old }
+    ensures { told.new ≡
+        slice_set told.old number (spec.told_more state (slice_index_or told.old number Told.Nothing)) }
+{
+    told[number] = told[number].and(state);
+}
+
+/// Where a cluster first has not its own F line.
+fn first_wrong(
+    alloc: Global,
+    config: &Config,
+    trace: &Trace,
+    lines: &[Row],
+    moves: &Moves,
+    finals: &[FinalState],
+) -> Result<Option<Place>, NoMemory>
+    requires rounds { rounds_fit config.now trace.now.rounds ≡ true }
+    requires moves { AreMovesOf config.now trace.now lines.now moves.now }
+    requires finals { finals.now ≡ finals_in lines.now }
+    ensures { IfOk result (IsFirstFailure config.now.channels
+        (Any (spec.IsWrong (run_in config.now trace.now) lines.now) (table_order config.now))) }
+{
+    let time = RunTime {
+        rounds: trace.rounds(),
+        round_ticks: config.round_ticks(),
+    };
+    let told = told_of(alloc, moves.seats(), finals)?;
+    let mut first = None;
+    for seat in moves.seats().all() {
+        let right = is_right(seat, time, moves.of_flows(), moves.of_clusters(), &told);
+        let place = unless(right, time.rounds, u64::from(seat.flow().id()));
+        first = earlier(config.channels(), first, place);
+    }
+    Ok(first)
+}
+
+/// Whether just one F line tells of a cluster, and tells what the moves leave of it and of the bucket of its flow.
+fn is_right(seat: &Seat, time: RunTime, flows: &[Move], clusters: &[Move], told: &[Told]) -> bool
+    requires flows { AreMoves time.rounds flows.now }
+    requires clusters { AreMoves time.rounds clusters.now }
+    requires number { seat.now.number < 65536 }
+    requires told { seat.now.number < length told.now }
+    ensures { result ≡
+        spec.is_right time.rounds time.round_ticks flows.now clusters.now told.now seat.now }
+{
+    let number = seat.number();
+    let left = cluster_left(time, clusters, number as u16);
+    let units = flow_left(time, flows, seat.flow());
+    is_told(told[number], left, units)
+}
+
+/// The bytes that are outstanding of a cluster behind all rounds.
+fn cluster_left(time: RunTime, clusters: &[Move], number: u16) -> u128
+    requires { AreMoves time.rounds clusters.now }
+    ensures { result ≡ spec.cluster_left clusters.now number }
+{
+    outstanding(own(clusters, number))
+}
+
+/// The units in the bucket of a flow in the last round.
+fn flow_left(time: RunTime, flows: &[Move], flow: &Flow) -> Option<u64>
+    requires { AreMoves time.rounds flows.now }
+    ensures { result ≡ spec.flow_left time.rounds time.round_ticks flows.now flow.now }
+{
+    units_left(flow.rate(), flow.burst(), time, own(flows, flow.id()))
+}
+
+/// Whether what is told is this, once.
+fn is_told(told: Told, left: u128, units: Option<u64>) -> bool
+    ensures { result ≡ spec.is_told left units told }
+{
+    match told {
+        Told::Once(state) => left == u128::from(state.outstanding) && units == state.units,
+        Told::Nothing | Told::Several => false,
+    }
+}

@@ -1,0 +1,57 @@
+//! The rules of credits: how fast flows may be credited, what lines of requests credit, and what a report ends with.
+//!
+//! ```
+//! let judged = Judged::new(maps, lines);
+//! let moves = Moves::new(alloc, &config, &trace, &judged)?; // what is asked for and credited
+//! let first = credits_breach(alloc, &config, &trace, &judged, &moves)?; // the first line or sum that isn't right
+//! ```
+//!
+//! What they answer stands in `us_lawful`, and what they compute in `specs/`, in the order of its `Lib.antt`.
+// An attribute of a function's own says what its proof needs beside: `unfolding` opens the definitions that it
+// computes, which are closed elsewhere, and `using` names lemmas.
+#![tactic(auto)]
+
+// The clusters that lines name.
+mod seats;
+
+// What is asked for and credited, by round,
+mod moves;
+
+// put in order,
+mod orders;
+
+// and made once for all rules.
+mod all_moves;
+
+// The bucket of a flow through the rounds,
+mod buckets;
+
+// and where its flow is credited more than it has.
+mod rates;
+
+// What bursts cost, of whatever bytes,
+mod costs;
+
+// lines of requests, each by itself,
+mod credit_lines;
+
+// how much they credit,
+mod sums;
+
+// and the rule of both.
+mod credits;
+
+// F lines.
+mod finals;
+
+// The U line.
+mod counts;
+
+pub use all_moves::Moves;
+pub use counts::counts_breach;
+pub use credits::credits_breach;
+pub use finals::finals_breach;
+pub use rates::rates_breach;
+
+#[cfg(test)]
+mod tests;

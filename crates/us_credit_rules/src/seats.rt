@@ -1,0 +1,229 @@
+ghost use Rattle.std.specs.Prelude.{◌≡◌, ◌≤◌, ◌++◌, ◌==◌, ◌<◌, ℕ, List, Some, None, find, length, if◌then◌else◌, slice_index_or, IfOk, OnOk};
+ghost use Rattle.std.specs.Option.{option_copied};
+ghost use Rattle.us_flows.specs.Lawful.{AreTables};
+ghost use Rattle.us_flows.specs.Clusters.{Turn, requesting, table_order, turns_for};
+ghost use Rattle.us_credit_rules.specs.Seats as spec;
+ghost use Rattle.us_credit_rules.specs.Seats.{AreSeats, IsIndex};
+
+use std::alloc::{AllocError, Global};
+use std::marker::Model;
+use us_flows::{Config, Flow};
+
+/// The ids of flows are below this.
+const IDS: u64 = 65_536;
+
+/// A flow has at most so many clusters.
+const LISTS: u64 = 2;
+
+/// The clusters that make requests, in table order, found by what lines tell of them.
+pub(crate) struct Seats<'a> {
+    seats: Vec<Seat<'a>>,
+    // by the id of the flow and the place among its clusters
+    numbers: Vec<Option<u16>>,
+}
+
+impl<'a> Model for Seats<'a> {
+    ghost Value = { List Turn };
+
+    ghost view = { λ s. s.seats.items };
+
+    ghost invariant = { λ s. IsIndex s.seats.items s.numbers.items };
+}
+
+/// Gives them up. It is written out so that it is one step wherever they end.
+impl<'a> Drop for Seats<'a> {
+    fn drop(self) {
+        let Seats {
+            seats: _,
+            numbers: _,
+        } = self;
+    }
+}
+
+impl<'a> Seats<'a> {
+    /// Those of a configuration.
+    pub(crate) fn new(alloc: Global, config: &'a Config) -> Result<Seats<'a>, AllocError>
+        ensures { IfOk result (λ seats. seats ≡ table_order config.now) }
+    {
+        let seats = seats_of(alloc, config)?;
+        let numbers = numbers_of(alloc, &seats)?;
+        Ok(Seats { seats, numbers })
+    }
+
+    /// All of them, in table order.
+    pub(crate) fn all(&self) -> &[Seat<'a>]
+        ensures { result.now ≡ self.now }
+    {
+        &self.seats
+    }
+
+    /// The number of the cluster at a place of the flow with an id.
+    pub(crate) fn number(&self, id: u64, list: u64) -> Option<u16>
+        ensures { result ≡ spec.number_of id list self.now }
+    {
+        let numbers = &self.numbers;
+        if id >= IDS || list >= LISTS {
+            return None;
+        }
+        number_at(numbers, id as u32 * LISTS as u32 + list as u32)
+    }
+
+    /// The cluster at a place of the flow with an id.
+    pub(crate) fn find(&self, id: u64, list: u64) -> Option<&Seat<'a>>
+        ensures { option_copied result ≡ find (spec.names id list) self.now }
+    {
+        let number = self.number(id, list)?;
+        Some(&self.all()[usize::from(number)])
+    }
+}
+
+/// A SID cluster that makes requests, where it stands in the tables.
+pub(crate) struct Seat<'a> {
+    number: usize,
+    place: usize,
+    list: usize,
+    flow: &'a Flow,
+    sids: &'a [u16],
+}
+
+impl<'a> Model for Seat<'a> {
+    ghost Value = { Turn };
+
+    ghost view = { λ s. record {
+      number = s.number;
+      place = s.place;
+      cluster = record { flow = s.flow.now; list = s.list; sids = s.sids.now };
+    } };
+}
+
+impl<'a> Drop for Seat<'a> {
+    fn drop(self) {
+        let Seat {
+            number: _,
+            place: _,
+            list: _,
+            flow: _,
+            sids: _,
+        } = self;
+    }
+}
+
+impl<'a> Seat<'a> {
+    /// Its number.
+    pub(crate) fn number(&self) -> usize
+        ensures { result ≡ self.now.number }
+    {
+        self.number
+    }
+
+    /// Its place among the clusters of its flow.
+    pub(crate) fn list(&self) -> usize
+        ensures { result ≡ self.now.cluster.list }
+    {
+        self.list
+    }
+
+    /// Its flow.
+    pub(crate) fn flow(&self) -> &'a Flow
+        ensures { result.now ≡ self.now.cluster.flow }
+    {
+        self.flow
+    }
+
+    /// Its SIDs, one for each channel of the flow.
+    pub(crate) fn sids(&self) -> &'a [u16]
+        ensures { result.now ≡ self.now.cluster.sids }
+    {
+        self.sids
+    }
+
+    /// Its flow's id and its place as one number.
+    fn code(&self) -> u32
+        requires { self.now.cluster.list < 2 }
+        ensures { result ≡ spec.code_of self.now }
+    {
+        u32::from(self.flow.id()) * LISTS as u32 + self.list as u32
+    }
+}
+
+/// All clusters that make requests, in table order.
+pub(crate) fn seats_of<'a>(alloc: Global, config: &'a Config) -> Result<Vec<Seat<'a>>, AllocError>
+    ensures value { IfOk result (λ seats. seats.items ≡ table_order config.now) }
+    ensures lawful { AreTables config.now }
+{
+    let mut seats = Vec::new(alloc);
+    for (place, flow) in config.flows().iter().enumerate() {
+        push_seats(&mut seats, place, flow)?;
+    }
+    Ok(seats)
+}
+
+/// Puts the clusters of the flow at this place behind those before it.
+fn push_seats<'a>(seats: &mut Vec<Seat<'a>>, place: usize, flow: &'a Flow) -> Result<(), AllocError>
+    ensures { OnOk result (seats.new.items ≡
+        seats.old.items ++ turns_for place (length seats.old.items) (requesting flow.now)) }
+{
+    if !flow.kind().makes_requests() {
+        return Ok(());
+    }
+    for (list, sids) in flow.clusters().iter().enumerate() {
+        let number = seats.len();
+        seats.push(Seat {
+            number,
+            place,
+            list,
+            flow,
+            sids,
+        })?;
+    }
+    Ok(())
+}
+
+/// The numbers of clusters, by the ids of their flows and their places.
+fn numbers_of(alloc: Global, seats: &[Seat]) -> Result<Vec<Option<u16>>, AllocError>
+    requires { AreSeats seats.now }
+    ensures { IfOk result (λ numbers. spec.AreNumbers seats.now numbers.items) }
+{
+    let mut numbers = Vec::new(alloc);
+    for (number, seat) in seats.iter().enumerate() {
+        let code = seat.code();
+        if number_at(&numbers, code).is_none() {
+            put(&mut numbers, code, number as u16)?;
+        }
+    }
+    Ok(numbers)
+}
+
+/// The number of this code, if it has one.
+fn number_at(numbers: &[Option<u16>], code: u32) -> Option<u16>
+    ensures { result ≡ slice_index_or numbers.now code None }
+{
+    let place = code as usize;
+    if place < numbers.len() {
+        return numbers[place];
+    }
+    None
+}
+
+/// Gives a code a number.
+fn put(numbers: &mut Vec<Option<u16>>, code: u32, number: u16) -> Result<(), AllocError>
+    ensures { OnOk result ((other : ℕ) → slice_index_or numbers.new.items other None ≡
+        (if code == other then Some number else slice_index_or numbers.old.items other None)) }
+{
+    let place = code as usize;
+    grow(numbers, place + 1)?;
+    numbers[place] = Some(number);
+    Ok(())
+}
+
+/// Makes room for so many codes, which have no numbers.
+fn grow(numbers: &mut Vec<Option<u16>>, count: usize) -> Result<(), AllocError>
+    ensures same { OnOk result ((code : ℕ) →
+        slice_index_or numbers.new.items code None ≡ slice_index_or numbers.old.items code None) }
+    ensures long { OnOk result (count ≤ length numbers.new.items) }
+{
+    for _code in numbers.len()..count {
+        numbers.push(None)?;
+    }
+    Ok(())
+}
