@@ -1,0 +1,234 @@
+-- Two texts have one answer, and it is `holds` where they are lawful.
+use Rattle.std.proofs.Common.{◌≡◌, ◌≢◌, ◌⊎◌, ℕ, Bool, true, false, List, [], ◌∷◌, Some, Result, Ok, Err, refl, ap, ap₂, sym, subst, ◌∙◌, inl, inr}
+use Rattle.std.proofs.lemmas.Bool.{cases_Bool}
+use Rattle.us_output.specs.declared.rows.Row.{Row}
+use Rattle.us_lawful.specs.declared.judged.RoundMap.{RoundMap}
+use Rattle.us_lawful.specs.declared.place.Place.{Place}
+use Rattle.us_lawful.specs.Runs.{Run, Judged}
+use Rattle.us_lawful.specs.Lawful.{IsLawful}
+use Rattle.us_lawful.specs.Texts.{AreLawful}
+use Rattle.us_lawful.specs.Reports.{IsReport, IsFirstBad}
+use Rattle.us_lawful.proofs.ReportLemmas.{one_reading}
+use Rattle.us_breaches.specs.Breaches.{IsFirstBreach}
+use Rattle.us_breaches.specs.Order.{goes_before}
+use Rattle.us_breaches.proofs.OrderLemmas.{before-equal}
+use Rattle.us_map_rules.specs.MapsReading.{IsMapsOf, IsFirstBadRecord, OneReadingOfMaps}
+use Rattle.us_check.specs.declared.rules.Breach.{Breach}
+use Rattle.us_check.specs.declared.rules.Rule.{Rule}
+use Rattle.us_check.specs.declared.rules.Rule.TheVariants as rules
+use Rattle.us_check.specs.declared.verdicts.Verdict.{Verdict}
+use Rattle.us_check.specs.declared.verdicts.Verdict.TheVariants as verdicts
+use Rattle.us_check.specs.declared.faults.CheckFault.{CheckFault}
+use Rattle.us_check.specs.declared.faults.CheckFault.TheVariants as fault
+use Rattle.us_check.specs.Verdicts.{Part, Headings, Places, Regions, CalendarLines, Rates, Credits, Finals, Counts, Holds, IsAnswer, AreRead, IsBroken, Answers, parts}
+use Rattle.us_check.specs.Laws.{HoldsUnlessNoMemory}
+
+-- Readings.
+
+-- what a result gives, or something else
+abbrev given : {A : Type 0} → A → Result A ℕ → A
+given other (Ok x) = x
+given other (Err n) = other
+
+-- the number that it gives in place of that
+abbrev number : {A : Type 0} → Result A ℕ → ℕ
+number (Ok x) = 0
+number (Err n) = n
+
+-- it gives something
+abbrev Gives : {A : Type 0} → Result A ℕ → Type 0
+Gives (Ok x) = Unit {0}
+Gives (Err n) = ⊥
+
+-- a report has the same lines, whoever reads it,
+same_lines : (bytes : List ℕ) (a b : List Row) → IsReport bytes a → IsReport bytes b → a ≡ b
+same_lines bytes a b is other = ap (given []) (one_reading bytes (Ok a) (Ok b) is other)
+
+-- or the same first bad line,
+same_bad_line : (bytes : List ℕ) (m n : ℕ) → IsFirstBad bytes m → IsFirstBad bytes n → m ≡ n
+same_bad_line bytes m n is other = ap number (one_reading bytes (Err m) (Err n) is other)
+
+-- and not both
+no_bad_line : (bytes : List ℕ) (lines : List Row) (n : ℕ) → IsReport bytes lines → IsFirstBad bytes n → ⊥
+no_bad_line bytes lines n is bad = subst Gives (one_reading bytes (Ok lines) (Err n) is bad) tt
+
+-- So it is of the records of a maps file.
+same_maps : OneReadingOfMaps → (bytes : List ℕ) (a b : List RoundMap) → IsMapsOf bytes a → IsMapsOf bytes b → a ≡ b
+same_maps one bytes a b is other = ap (given []) (one bytes (Ok a) (Ok b) is other)
+
+same_bad_record : OneReadingOfMaps → (bytes : List ℕ) (m n : ℕ) → IsFirstBadRecord bytes m → IsFirstBadRecord bytes n →
+    m ≡ n
+same_bad_record one bytes m n is other = ap number (one bytes (Err m) (Err n) is other)
+
+no_bad_record : OneReadingOfMaps → (bytes : List ℕ) (maps : List RoundMap) (n : ℕ) → IsMapsOf bytes maps →
+    IsFirstBadRecord bytes n → ⊥
+no_bad_record one bytes maps n is bad = subst Gives (one bytes (Ok maps) (Err n) is bad) tt
+
+-- so what two texts are read as is one thing
+same_read : OneReadingOfMaps → (maps report : List ℕ) (a b : Judged) → AreRead maps report a → AreRead maps report b →
+    a ≡ b
+same_read one maps report a b is other =
+    ap₂ (λ ms ls. record { maps = ms; lines = ls }) (same_maps one maps a.maps b.maps is.records other.records)
+    (same_lines report a.lines b.lines is.lines other.lines)
+
+-- Lawful texts.
+
+-- all parts hold of what is lawful,
+holds_all : (run : Run) (judged : Judged) → IsLawful run judged → (part : Part) (p : Place) → Holds run judged part p
+holds_all run judged lawful Headings p = lawful.headings p
+holds_all run judged lawful Places p = lawful.places p
+holds_all run judged lawful Regions p = lawful.regions p
+holds_all run judged lawful CalendarLines p = lawful.calendar_lines p
+holds_all run judged lawful Rates p = lawful.rates p
+holds_all run judged lawful Credits p = lawful.credits p
+holds_all run judged lawful Finals p = lawful.finals p
+holds_all run judged lawful Counts p = lawful.counts p
+
+-- so none is broken
+never_broken : (run : Run) (judged : Judged) (some : List Part) (breach : Breach) → IsLawful run judged →
+    IsAnswer run judged some (Some breach) → ⊥
+never_broken run judged [] breach lawful never = never
+never_broken run judged (part ∷ more) breach lawful (inl first) =
+    first.1.0 (holds_all run judged lawful part breach.place)
+never_broken run judged (part ∷ more) breach lawful (inr behind) = never_broken run judged more breach lawful behind.1
+
+-- lawful texts are read as something lawful
+are_read : (run : Run) (maps report : List ℕ) (lawful : AreLawful run maps report) → AreRead maps report lawful.judged
+are_read run maps report lawful = record {
+  records = record { each = lawful.lawful.maps; spelled = lawful.maps_spelled };
+  lines = record { each = lawful.rows; spelled = lawful.report_spelled };
+}
+
+-- Breaches.
+
+-- a rule is broken by a record that is none, or by what was read
+abbrev pub ByRecord : List ℕ → List ℕ → Breach → Type 0
+ByRecord maps report breach =
+    (breach.place.round ≡ 0) × (breach.place.channel ≡ 0) × IsFirstBadRecord maps breach.place.third
+    × (lines : List Row) × IsReport report lines
+
+abbrev pub ByParts : Run → List ℕ → List ℕ → Breach → Type 0
+ByParts run maps report breach =
+    (judged : Judged) × AreRead maps report judged × IsAnswer run judged parts (Some breach)
+
+pub by_either : (run : Run) (maps report : List ℕ) (breach : Breach) (rule : Rule) →
+    IsBroken run maps report breach rule →
+    ((rule ≡ rules.Records) × ByRecord maps report breach) ⊎ ByParts run maps report breach
+by_either run maps report breach rules.Records is = inl (refl, is)
+by_either run maps report breach rules.Headings is = inr is
+by_either run maps report breach rules.Minislots is = inr is
+by_either run maps report breach rules.Occurrences is = inr is
+by_either run maps report breach rules.Rates is = inr is
+by_either run maps report breach rules.Credits is = inr is
+
+-- lawful texts break none
+not_broken : OneReadingOfMaps → (run : Run) (maps report : List ℕ) (breach : Breach) → AreLawful run maps report →
+    IsBroken run maps report breach breach.rule → ⊥
+not_broken one run maps report breach lawful is = elim (by_either run maps report breach breach.rule is) [
+  | inl bad ↦ no_bad_record one maps lawful.judged.maps breach.place.third
+      (are_read run maps report lawful).records bad.1.2
+  | inr told ↦ never_broken run lawful.judged parts breach lawful.lawful
+      (subst (λ judged. IsAnswer run judged parts (Some breach))
+      (same_read one maps report told.0 lawful.judged told.1 (are_read run maps report lawful)) told.2)
+]
+
+-- the line of a report is read in all of them
+is_read : (run : Run) (maps report : List ℕ) (breach : Breach) → IsBroken run maps report breach breach.rule →
+    (lines : List Row) × IsReport report lines
+is_read run maps report breach is = elim (by_either run maps report breach breach.rule is) [
+  | inl bad ↦ (bad.1.3, bad.1.4)
+  | inr told ↦ (told.0.lines, told.1.lines)
+]
+
+-- what never is true is false
+is_false : (x : Bool) → (x ≡ true → ⊥) → x ≡ false
+is_false x never = elim (cases_Bool x) [ inl is ↦ absurd (never is) | inr not ↦ not ]
+
+-- a rule is broken first at one place
+one_place : (run : Run) (Rule : Place → Type 0) (a b : Place) →
+    IsFirstBreach run.tables.channels Rule (Some a) → IsFirstBreach run.tables.channels Rule (Some b) → a ≡ b
+one_place run Rule a b first other =
+    before-equal run.tables.channels a b
+    (is_false (goes_before run.tables.channels a b) (λ before. first.0 (other.1 a before)))
+    (is_false (goes_before run.tables.channels b a) (λ before. other.0 (first.1 b before)))
+
+-- so parts have one answer
+one_breach : (run : Run) (judged : Judged) (some : List Part) (a b : Breach) → IsAnswer run judged some (Some a) →
+    IsAnswer run judged some (Some b) → a ≡ b
+one_breach run judged [] a b never other = absurd never
+one_breach run judged (part ∷ more) a b (inl first) (inl other) =
+    ap₂ (λ rule place. record { rule = rule; place = place }) (first.0 ∙ sym other.0)
+    (one_place run (Holds run judged part) a.place b.place first.1 other.1)
+one_breach run judged (part ∷ more) a b (inl first) (inr other) = absurd (first.1.0 (other.0 a.place))
+one_breach run judged (part ∷ more) a b (inr first) (inl other) = absurd (other.1.0 (first.0 b.place))
+one_breach run judged (part ∷ more) a b (inr first) (inr other) = one_breach run judged more a b first.1 other.1
+
+-- and two texts one breach
+same_breach : OneReadingOfMaps → (run : Run) (maps report : List ℕ) (a b : Breach) →
+    IsBroken run maps report a a.rule → IsBroken run maps report b b.rule → a ≡ b
+same_breach one run maps report a b is other =
+    elim (by_either run maps report a a.rule is) [
+      | inl bad ↦ elim (by_either run maps report b b.rule other) [
+        | inl worse ↦ ap₂ (λ rule place. record { rule = rule; place = place }) (bad.0 ∙ sym worse.0)
+            (ap₂ (λ round channel. record { round = round; channel = channel; third = a.place.third })
+            (bad.1.0 ∙ sym worse.1.0) (bad.1.1 ∙ sym worse.1.1)
+            ∙ ap (λ third. record { round = b.place.round; channel = b.place.channel; third = third })
+            (same_bad_record one maps a.place.third b.place.third bad.1.2 worse.1.2))
+        | inr told ↦ absurd (no_bad_record one maps told.0.maps a.place.third told.1.records bad.1.2)
+      ]
+      | inr told ↦ elim (by_either run maps report b b.rule other) [
+        | inl worse ↦ absurd (no_bad_record one maps told.0.maps b.place.third told.1.records worse.1.2)
+        | inr again ↦ one_breach run again.0 parts a b
+            (subst (λ judged. IsAnswer run judged parts (Some a))
+            (same_read one maps report told.0 again.0 told.1 again.1) told.2) again.2
+      ]
+    ]
+
+-- Answers.
+
+abbrev pub breach_of : Rule → ℕ → ℕ → ℕ → Breach
+breach_of rule round channel place =
+    record { rule = rule; place = record { round = round; channel = channel; third = place } }
+
+abbrev broken : Breach → Result Verdict CheckFault
+broken breach =
+    Ok (verdicts.Broken breach.rule breach.place.round breach.place.channel breach.place.third)
+
+pub lawful_texts_hold : OneReadingOfMaps → (run : Run) (maps report : List ℕ) (result : Result Verdict CheckFault) →
+    AreLawful run maps report → Answers run maps report result → HoldsUnlessNoMemory result
+lawful_texts_hold one run maps report (Ok verdicts.Holds) lawful is = inl refl
+lawful_texts_hold one run maps report (Ok (verdicts.Broken rule round channel place)) lawful is =
+    absurd (not_broken one run maps report (breach_of rule round channel place) lawful is)
+lawful_texts_hold one run maps report (Err (fault.Report line)) lawful is =
+    absurd (no_bad_line report lawful.judged.lines line (are_read run maps report lawful).lines is)
+lawful_texts_hold one run maps report (Err fault.NoMemory) lawful is = inr refl
+
+pub one_answer : OneReadingOfMaps → (run : Run) (maps report : List ℕ) (a b : Result Verdict CheckFault) →
+    Answers run maps report a → Answers run maps report b → a ≢ Err fault.NoMemory → b ≢ Err fault.NoMemory → a ≡ b
+one_answer one run maps report (Err fault.NoMemory) b is other some more = absurd (some refl)
+one_answer one run maps report a (Err fault.NoMemory) is other some more = absurd (more refl)
+one_answer one run maps report (Ok verdicts.Holds) (Ok verdicts.Holds) is other some more = refl
+one_answer one run maps report (Ok verdicts.Holds) (Ok (verdicts.Broken rule round channel place)) is other some more =
+    absurd (not_broken one run maps report (breach_of rule round channel place) is other)
+one_answer one run maps report (Ok (verdicts.Broken rule round channel place)) (Ok verdicts.Holds) is other some more =
+    absurd (not_broken one run maps report (breach_of rule round channel place) other is)
+one_answer one run maps report (Ok (verdicts.Broken rule round channel place))
+    (Ok (verdicts.Broken rule2 round2 channel2 place2)) is other some more =
+    ap broken (same_breach one run maps report (breach_of rule round channel place)
+    (breach_of rule2 round2 channel2 place2) is other)
+one_answer one run maps report (Err (fault.Report line)) (Err (fault.Report line2)) is other some more =
+    ap (λ n. Err (fault.Report n)) (same_bad_line report line line2 is other)
+one_answer one run maps report (Err (fault.Report line)) (Ok verdicts.Holds) is other some more =
+    absurd (no_bad_line report other.judged.lines line (are_read run maps report other).lines is)
+one_answer one run maps report (Ok verdicts.Holds) (Err (fault.Report line)) is other some more =
+    absurd (no_bad_line report is.judged.lines line (are_read run maps report is).lines other)
+one_answer one run maps report (Err (fault.Report line)) (Ok (verdicts.Broken rule round channel place)) is other some
+    more =
+    let read : (lines : List Row) × IsReport report lines =
+    is_read run maps report (breach_of rule round channel place) other in
+    absurd (no_bad_line report read.0 line read.1 is)
+one_answer one run maps report (Ok (verdicts.Broken rule round channel place)) (Err (fault.Report line)) is other some
+    more =
+    let read : (lines : List Row) × IsReport report lines =
+    is_read run maps report (breach_of rule round channel place) is in
+    absurd (no_bad_line report read.0 line read.1 other)

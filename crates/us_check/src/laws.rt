@@ -1,0 +1,35 @@
+//! Laws of verdicts, each as the contract of a function that does nothing.
+
+ghost use Rattle.us_check.specs.Laws.{LawfulTextsHold, OneAnswer, OwnTextsHold};
+ghost use Rattle.us_check.specs.Named.{VerdictsNameTheFirst};
+ghost use Rattle.us_check.specs.Bursts.{LongCreditsFail, LongGrantsPassMaps};
+
+/// The rule that a verdict names fails at its place, and holds at each place before; each rule of a lower number holds.
+pub fn verdicts_name_the_first()
+    ensures { VerdictsNameTheFirst }
+{}
+
+/// Two texts have one answer, where memory isn't wanting.
+pub fn one_answer()
+    ensures { OneAnswer }
+{}
+
+/// Texts that are lawful hold, whoever made them, unless memory is wanting.
+pub fn lawful_texts_hold()
+    ensures { LawfulTextsHold }
+{}
+
+/// What a replay wrote that answered Ok holds, with the same tables, trace and rounds, unless memory is wanting.
+pub fn own_texts_hold()
+    ensures { OwnTextsHold }
+{}
+
+/// A grant of more bytes than any burst carries has more minislots than any MAP of its channel.
+pub fn long_grants_pass_maps()
+    ensures { LongGrantsPassMaps }
+{}
+
+/// So a line that credits so many breaks the rule of credits, where the rules of MAPs hold.
+pub fn long_credits_fail()
+    ensures { LongCreditsFail }
+{}

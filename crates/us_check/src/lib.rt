@@ -1,0 +1,42 @@
+//! The checker: judges a maps file and a report, whoever made them, against the tables and the requests of a run.
+//!
+//! ```
+//! match check(alloc, &config, &trace, maps, report)? {
+//!     Verdict::Holds => (),
+//!     broken => println!(rt; "{broken}"), // broken P3 1 1 150
+//! }
+//! ```
+//!
+//! What a verdict says stands in `specs/`, in the order of its `Lib.antt`. Each rule is a function of one of the crates
+//! `us_map_rules`, `us_calendar_rules` and `us_credit_rules`.
+#![tactic(auto)]
+
+// The rules, and where one is broken.
+mod rules;
+
+// What is answered of two texts.
+mod verdicts;
+
+// Why nothing is answered.
+mod faults;
+
+// The first rule that is broken, of what was read.
+mod judging;
+
+// The checker.
+mod checking;
+
+// Laws of verdicts.
+mod laws;
+
+pub use checking::check;
+pub use faults::CheckFault;
+pub use laws::{
+    lawful_texts_hold, long_credits_fail, long_grants_pass_maps, one_answer, own_texts_hold,
+    verdicts_name_the_first,
+};
+pub use rules::Rule;
+pub use verdicts::Verdict;
+
+#[cfg(test)]
+mod tests;

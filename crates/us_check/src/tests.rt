@@ -1,0 +1,6 @@
+//! What no clause says: that memory is enough for the stored run, which holds; a file changed for each rule; and memory
+//! that is refused.
+
+mod base;
+mod memory;
+mod stored;
