@@ -5,8 +5,9 @@ it, and lawful ones of about that size beside.
   bench/make_hostile.py FOLDER [--bytes N] [KIND..]
 
 Writes FOLDER/KIND.toml, .csv, .maps and .report, and the same of KIND_lawful, whose maps file and report have about N
-bytes in all (1,000,000); hostile ones with long numbers have up to twice as many. Prints for each a line `KIND rounds N
-maps BYTES report BYTES ANSWER`; the answer is what `mapsim check` has to print. All are written where none is named.
+bytes in all (1,000,000), or as many as the rounds of a run have; hostile ones with long numbers have up to twice as
+many. Prints for each a line `KIND rounds N maps BYTES report BYTES ANSWER`; the answer is what `mapsim check` has to
+print. All are written where none is named.
 
   lines_over_each_other     half of the lines lie on the same minislots of the first MAP
   empty_intervals           half of the lines have no minislot, on the first MAP, from the greatest start down
@@ -51,6 +52,8 @@ MOST_FLOWS = 1_024
 LATEST = 10_000_000
 ROUNDS_BEFORE_LATEST = 4_999
 MOST_RUN_TICKS = 67_108_864
+# So many rounds of 320 ticks fit into a run, and one more.
+MOST_ROUNDS = MOST_RUN_TICKS // make_loads.ROUND_TICKS - 1
 UNSOLICITED, SHORT = 11, 9
 BURST = 3_044
 UNITS_PER_BYTE = 1_280_000
@@ -139,11 +142,11 @@ def maps_of(*of):
     return b"".join(record.text() for record in records_of(*of))
 
 
-def of_size(size, make, most_rounds=None):
-    """What is made of such a number of rounds that it has about so many bytes."""
+def of_size(size, make, most_rounds=MOST_ROUNDS):
+    """What is made of such a number of rounds that it has about so many bytes, or of the most rounds."""
     a_round = (make(12).size() - make(2).size()) // 10
     rounds = max(size // a_round, 2)
-    return make(rounds if most_rounds is None else min(rounds, most_rounds))
+    return make(min(rounds, most_rounds))
 
 
 # Lawful runs of so many rounds
@@ -431,12 +434,21 @@ BY_NAME = {kind.__name__: kind for kind in KINDS}
 
 
 def write(folder, name, case):
-    """Writes the files of a case, and prints what they are."""
-    (folder / f"{name}.toml").write_text(case.config, encoding="ascii")
-    (folder / f"{name}.csv").write_text(case.trace(), encoding="ascii")
-    (folder / f"{name}.maps").write_bytes(case.maps)
-    (folder / f"{name}.report").write_bytes(case.report())
-    print(name, "rounds", case.rounds, "maps", len(case.maps), "report", len(case.report()), case.answer, flush=True)
+    """Writes the files of a case: configuration, trace, maps file and report. Answers their paths."""
+    config, trace, maps, report = (folder / f"{name}.{ending}" for ending in ("toml", "csv", "maps", "report"))
+    config.write_text(case.config, encoding="ascii")
+    trace.write_text(case.trace(), encoding="ascii")
+    maps.write_bytes(case.maps)
+    report.write_bytes(case.report())
+    return config, trace, maps, report
+
+
+def chosen(words, names, size):
+    """Name, hostile case and lawful one of each kind that the words ask for, here and in measure_checks.py."""
+    unknown = [name for name in names if name not in BY_NAME]
+    if unknown:
+        words.error(f"no kind: {' '.join(unknown)}")
+    return ((name, *BY_NAME[name](size)) for name in names or BY_NAME)
 
 
 def main():
@@ -445,14 +457,13 @@ def main():
     words.add_argument("--bytes", type=int, default=1_000_000, metavar="N", help="of each maps file with its report")
     words.add_argument("kinds", nargs="*", metavar="KIND", help="by default all: " + ", ".join(BY_NAME))
     given = words.parse_intermixed_args()
-    unknown = [name for name in given.kinds if name not in BY_NAME]
-    if unknown:
-        words.error(f"no kind: {' '.join(unknown)}")
+    cases = chosen(words, given.kinds, given.bytes)
     given.folder.mkdir(parents=True, exist_ok=True)
-    for name in given.kinds or BY_NAME:
-        hostile, lawful = BY_NAME[name](given.bytes)
-        write(given.folder, name, hostile)
-        write(given.folder, f"{name}_lawful", lawful)
+    for name, hostile, lawful in cases:
+        for name, case in ((name, hostile), (f"{name}_lawful", lawful)):
+            write(given.folder, name, case)
+            sizes = f"maps {len(case.maps)} report {len(case.report())}"
+            print(name, "rounds", case.rounds, sizes, case.answer, flush=True)
 
 
 if __name__ == "__main__":

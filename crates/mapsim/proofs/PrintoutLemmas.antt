@@ -66,6 +66,7 @@ refuses rounds workers text config trace t fault.Pipe split accepted refused = a
 refuses rounds workers text config trace t (fault.Config f) split accepted refused = absurd refused
 refuses rounds workers text config trace t (fault.Run f) split accepted refused = (config, trace, split, t, accepted, refused)
 refuses rounds workers text config trace t (fault.Map f index) split accepted refused = absurd refused
+refuses rounds workers text config trace t (fault.Check f) split accepted refused = absurd refused
 refuses rounds workers text config trace t (fault.Device stream) split accepted refused = absurd refused
 refuses rounds workers text config trace t fault.NoMemory split accepted refused = tt
 

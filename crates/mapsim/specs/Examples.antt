@@ -8,12 +8,17 @@ use Rattle.us_flows.specs.declared.faults.Place.{Place}
 use Rattle.us_flows.specs.declared.faults.TableName.TheVariants as name
 use Rattle.us_flows.specs.declared.faults.ConfigFault.TheVariants as config
 use Rattle.us_requests.specs.declared.faults.TraceFault.TheVariants as trace
+use Rattle.us_check.specs.declared.faults.CheckFault.TheVariants as check
+use Rattle.us_check.specs.declared.rules.Rule.TheVariants as rule
+use Rattle.us_check.specs.declared.verdicts.Verdict.{Verdict}
+use Rattle.us_check.specs.declared.verdicts.Verdict.TheVariants as verdict
+use Rattle.us_check.specs.Verdicts.{verdict_text}
 use Rattle.us_replay.specs.declared.faults.RunFault.TheVariants as run
 use Rattle.mapsim.specs.declared.faults.Stream.TheVariants as stream
 use Rattle.mapsim.specs.declared.faults.Fault.{Fault}
 use Rattle.mapsim.specs.declared.faults.Fault.TheVariants as fault
 use Rattle.mapsim.specs.Lines.{fault_line}
-use Rattle.mapsim.specs.Statuses.{code_of, status_of}
+use Rattle.mapsim.specs.Statuses.{code_of, status_of, verdict_status}
 use Rattle.mapsim.specs.Marks.{IsMark, IsSplit}
 use Rattle.mapsim.specs.MapLines.{lines_of}
 use Rattle.mapsim.specs.SummaryLines.{summary_line}
@@ -58,18 +63,32 @@ refused :
     (ends (fault.Run run.Workers) ≡ (codes "fault RU2", 3)) ×
     (ends (fault.Run (run.Trace trace.Header)) ≡ (codes "fault TR1", 3)) ×
     (ends (fault.Run (run.Trace (trace.Number 1000001))) ≡ (codes "fault TR3 1000001", 3)) ×
-    (ends (fault.Map map_fault.Order 4) ≡ (codes "fault M6 4", 3))
+    (ends (fault.Map map_fault.Order 4) ≡ (codes "fault M6 4", 3)) ×
+    (ends (fault.Map map_fault.RecordCut 0) ≡ (codes "fault M11", 3)) ×
+    (ends (fault.Check (check.Report 4)) ≡ (codes "fault CK1 4", 3))
 unfolding digits
-refused = (refl, refl, refl, refl, refl, refl, refl, refl)
+refused = (refl, refl, refl, refl, refl, refl, refl, refl, refl, refl)
 
 failed :
     (ends (fault.Device stream.Config) ≡ (codes "fault io config", 4)) ×
     (ends (fault.Run (run.Trace trace.Read)) ≡ (codes "fault io trace", 4)) ×
     (ends (fault.Run (run.WriteReport 12)) ≡ (codes "fault RU5 12", 4)) ×
     (ends fault.NoMemory ≡ (codes "fault memory", 5)) ×
-    (ends (fault.Run (run.NoMemory 3)) ≡ (codes "fault memory", 5))
+    (ends (fault.Run (run.NoMemory 3)) ≡ (codes "fault memory", 5)) ×
+    (ends (fault.Map map_fault.NoMemory 0) ≡ (codes "fault memory", 5)) ×
+    (ends (fault.Check check.NoMemory) ≡ (codes "fault memory", 5))
 unfolding digits
-failed = (refl, refl, refl, refl, refl)
+failed = (refl, refl, refl, refl, refl, refl, refl)
+
+-- a verdict's line, without its line feed, and its status
+abbrev judges : Verdict → List ℕ × ℕ
+judges v = (verdict_text v, code_of (verdict_status v))
+
+judged :
+    (judges verdict.Holds ≡ (codes "holds", 0)) ×
+    (judges (verdict.Broken rule.Minislots 1 1 150) ≡ (codes "broken P3 1 1 150", 1))
+unfolding digits
+judged = (refl, refl)
 
 -- the first of two marks; what looks like one within a line is none
 abbrev text : List ℕ

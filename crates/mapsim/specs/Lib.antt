@@ -18,6 +18,10 @@ pub mod Dumps
 pub mod Printouts
 -- the line of a replay
 pub mod SummaryLines
+-- the line of a check
+pub mod VerdictLines
+-- what an order does
+pub mod Orders
 -- which faults the steps of the program may have
 pub mod Inputs
 -- the definitions at small inputs

@@ -4,6 +4,9 @@ use Rattle.std.specs.Prelude.{ℕ, List, ◌++◌, codes, decimal, string_bytes,
 use Rattle.us_codec.specs.Codes as map_codes
 use Rattle.us_codec.specs.declared.faults.MapFault.{MapFault}
 use Rattle.us_codec.specs.declared.faults.MapFault.TheVariants as map
+use Rattle.us_check.specs.Faults as check_faults
+use Rattle.us_check.specs.declared.faults.CheckFault.{CheckFault}
+use Rattle.us_check.specs.declared.faults.CheckFault.TheVariants as check
 use Rattle.us_flows.specs.Codes as config_codes
 use Rattle.us_flows.specs.Places.{place_text, place_of}
 use Rattle.us_flows.specs.declared.faults.ConfigFault.{ConfigFault}
@@ -67,6 +70,11 @@ map_line map.NoMemory index = memory_line
 map_line map.RecordCut index = line (map_codes.code_of map.RecordCut) None
 map_line f index = line (map_codes.code_of f) (Some (decimal index))
 
+-- of a check with the line of the report
+abbrev pub check_line : CheckFault → List ℕ
+check_line check.NoMemory = memory_line
+check_line (check.Report number) = line (check_faults.code_of (check.Report number)) (Some (decimal number))
+
 -- of a usage fault it is the text that the fault has
 abbrev pub fault_line : Fault → List ℕ
 fault_line (fault.Usage text) = string_bytes text
@@ -74,6 +82,7 @@ fault_line fault.Pipe = line (codes "pipe") None
 fault_line (fault.Config f) = config_line f
 fault_line (fault.Run f) = run_line f
 fault_line (fault.Map f index) = map_line f index
+fault_line (fault.Check f) = check_line f
 fault_line (fault.Device stream) = io_line stream
 fault_line fault.NoMemory = memory_line
 

@@ -43,76 +43,111 @@ enum Value {
 const REPLAY: Subcommand = Subcommand {
     name: "replay",
     about: "Replays a trace from files into files",
-    options: REPLAY_OPTIONS,
+    options: &[
+        CONFIG,
+        TRACE,
+        ROUNDS,
+        CommandOption {
+            name: "maps",
+            value: Value::Path,
+            default: None,
+            help: "The maps file, which is made: the MAPs of each round",
+        },
+        CommandOption {
+            name: "report",
+            value: Value::Path,
+            default: None,
+            help: "The report, which is made: what was granted and missed",
+        },
+        WORKERS,
+    ],
+};
+
+const CHECK: Subcommand = Subcommand {
+    name: "check",
+    about: "Judges a maps file and a report, whoever made them",
+    options: &[
+        CONFIG,
+        TRACE,
+        CommandOption {
+            help: "How many rounds the files are of, each of `round_ticks` ticks",
+            ..ROUNDS
+        },
+        MAPS,
+        CommandOption {
+            name: "report",
+            value: Value::Path,
+            default: None,
+            help: "The report: what was granted and missed",
+        },
+    ],
+};
+
+const DUMP: Subcommand = Subcommand {
+    name: "dump",
+    about: "Prints a maps file, a line for each element of each MAP",
+    options: &[MAPS],
 };
 
 const PIPE: Subcommand = Subcommand {
     name: "pipe",
     about: "Replays standard input: the configuration, a line `%%`, the trace",
-    options: PIPE_OPTIONS,
+    options: &[
+        CommandOption {
+            default: Some(DEFAULT_ROUNDS_WORD),
+            ..ROUNDS
+        },
+        WORKERS,
+    ],
 };
 
-const REPLAY_OPTIONS: &[CommandOption] = &[
-    CommandOption {
-        name: "config",
-        value: Value::Path,
-        default: None,
-        help: "The configuration, TOML: channels, service flows, stations",
-    },
-    CommandOption {
-        name: "trace",
-        value: Value::Path,
-        default: None,
-        help: "The trace, CSV: a row `tick,channel,sid,units` for each request",
-    },
-    CommandOption {
-        name: "rounds",
-        value: Value::Number,
-        default: None,
-        help: "How many rounds to replay, each of `round_ticks` ticks",
-    },
-    CommandOption {
-        name: "maps",
-        value: Value::Path,
-        default: None,
-        help: "The maps file, which is made: the MAPs of each round",
-    },
-    CommandOption {
-        name: "report",
-        value: Value::Path,
-        default: None,
-        help: "The report, which is made: what was granted and missed",
-    },
-    CommandOption {
-        name: "workers",
-        value: Value::Number,
-        default: Some(DEFAULT_WORKERS_WORD),
-        help: "How many workers share the channels of a round, 1 to 64",
-    },
-];
+const CONFIG: CommandOption = CommandOption {
+    name: "config",
+    value: Value::Path,
+    default: None,
+    help: "The configuration, TOML: channels, service flows, stations",
+};
 
-const PIPE_OPTIONS: &[CommandOption] = &[
-    CommandOption {
-        name: "rounds",
-        value: Value::Number,
-        default: Some(DEFAULT_ROUNDS_WORD),
-        help: "How many rounds to replay, each of `round_ticks` ticks",
-    },
-    CommandOption {
-        name: "workers",
-        value: Value::Number,
-        default: Some(DEFAULT_WORKERS_WORD),
-        help: "How many workers share the channels of a round, 1 to 64",
-    },
-];
+const TRACE: CommandOption = CommandOption {
+    name: "trace",
+    value: Value::Path,
+    default: None,
+    help: "The trace, CSV: a row `tick,channel,sid,units` for each request",
+};
+
+const ROUNDS: CommandOption = CommandOption {
+    name: "rounds",
+    value: Value::Number,
+    default: None,
+    help: "How many rounds to replay, each of `round_ticks` ticks",
+};
+
+/// A maps file that is read.
+const MAPS: CommandOption = CommandOption {
+    name: "maps",
+    value: Value::Path,
+    default: None,
+    help: "The maps file: the MAPs of each round",
+};
+
+const WORKERS: CommandOption = CommandOption {
+    name: "workers",
+    value: Value::Number,
+    default: Some(DEFAULT_WORKERS_WORD),
+    help: "How many workers share the channels of a round, 1 to 64",
+};
 
 /// The program as clap is told of it.
 pub fn command<'a>(alloc: Global, helps: &'a Helps) -> Result<Command<'a>, AllocError> {
     Command::new(alloc, "mapsim")
-        .about("Replays the requests of a trace and writes the MAPs of each round")
+        .about(
+            "Replays the requests of a trace, writes the MAPs of each round, and judges such files",
+        )
         .after_help(PROGRAM)
         .subcommand_required(true)
         .subcommand(subcommand_of(alloc, &REPLAY, helps.replay.as_str())?)?
+        .subcommand(subcommand_of(alloc, &CHECK, helps.check.as_str())?)?
+        .subcommand(subcommand_of(alloc, &DUMP, helps.dump.as_str())?)?
         .subcommand(subcommand_of(alloc, &PIPE, helps.pipe.as_str())?)
 }
 

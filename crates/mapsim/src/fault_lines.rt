@@ -4,6 +4,7 @@ ghost use Rattle.mapsim.specs.Lines.{line_text};
 
 use crate::faults::Stream;
 use std::fmt;
+use us_check::CheckFault;
 use us_codec::MapFault;
 use us_flows::{ConfigFault, Place};
 use us_replay::RunFault;
@@ -22,7 +23,7 @@ enum Named {
     Nothing,
     /// A table of the configuration.
     Place(Place),
-    /// A record, or how many rounds were done.
+    /// A record, a line, or how many rounds were done.
     Number(usize),
     Stream(Stream),
 }
@@ -111,6 +112,19 @@ pub fn map_line(fault: MapFault, index: usize) -> Line
         _ => Line {
             word: fault.code(),
             named: Named::Number(index),
+        },
+    }
+}
+
+/// The line of a fault of a check.
+pub fn check_line(fault: CheckFault) -> Line
+    ensures { line_text result ≡ Lines.check_line fault }
+{
+    match fault {
+        CheckFault::NoMemory => MEMORY,
+        CheckFault::Report(line) => Line {
+            word: fault.code(),
+            named: Named::Number(line as usize),
         },
     }
 }

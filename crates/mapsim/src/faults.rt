@@ -1,10 +1,11 @@
 ghost use Rattle.std.specs.Prelude.{◌≡◌};
 ghost use Rattle.mapsim.specs.Statuses as statuses;
 
-use crate::fault_lines::{config_line, io_line, map_line, run_line};
+use crate::fault_lines::{check_line, config_line, io_line, map_line, run_line};
 use crate::statuses::Status;
 use std::alloc::{AllocError, AllocFailed};
 use std::fmt;
+use us_check::CheckFault;
 use us_codec::MapFault;
 use us_flows::ConfigFault;
 use us_replay::RunFault;
@@ -40,6 +41,8 @@ pub enum Fault {
     Run(RunFault),
     /// The MAP in the record with this index, counted from 0, has a fault.
     Map(MapFault, usize),
+    /// A check has no verdict.
+    Check(CheckFault),
     /// A file or stream failed.
     Device(Stream),
     /// Want of memory.
@@ -77,6 +80,7 @@ impl Fault {
             Fault::Config(fault) => config_status(*fault),
             Fault::Run(fault) => run_status(*fault),
             Fault::Map(fault, _) => map_status(*fault),
+            Fault::Check(fault) => check_status(*fault),
             Fault::Device(_) => Status::DeviceFailed,
             Fault::NoMemory => Status::NoMemory,
         }
@@ -114,6 +118,15 @@ fn map_status(fault: MapFault) -> Status
     }
 }
 
+fn check_status(fault: CheckFault) -> Status
+    ensures { result ≡ statuses.check_status fault }
+{
+    match fault {
+        CheckFault::NoMemory => Status::NoMemory,
+        CheckFault::Report(_) => Status::Refused,
+    }
+}
+
 /// A line without its line feed, but for a usage fault.
 impl fmt::Display for Fault {
     ghost use Rattle.std.specs.Prelude.{Some};
@@ -128,6 +141,7 @@ impl fmt::Display for Fault {
             Fault::Config(fault) => write!(f, "{}", config_line(*fault)),
             Fault::Run(fault) => write!(f, "{}", run_line(*fault)),
             Fault::Map(fault, record) => write!(f, "{}", map_line(*fault, *record)),
+            Fault::Check(fault) => write!(f, "{}", check_line(*fault)),
             Fault::Device(stream) => write!(f, "{}", io_line(*stream)),
             Fault::NoMemory => f.write_str("fault memory"),
         }
@@ -171,5 +185,26 @@ impl From<RunFault> for Fault {
 
     fn from(fault: RunFault) -> Fault {
         Fault::Run(fault)
+    }
+}
+
+impl From<TraceFault> for Fault {
+    ghost use Rattle.us_replay.specs.declared.faults.RunFault.TheVariants.{Trace};
+    ghost use Rattle.mapsim.specs.declared.faults.Fault.TheVariants.{Run};
+
+    ghost from_gives = { λ trace fault. fault ≡ Run (Trace trace) };
+
+    fn from(fault: TraceFault) -> Fault {
+        Fault::Run(RunFault::Trace(fault))
+    }
+}
+
+impl From<CheckFault> for Fault {
+    ghost use Rattle.mapsim.specs.declared.faults.Fault.TheVariants.{Check};
+
+    ghost from_gives = { λ check fault. fault ≡ Check check };
+
+    fn from(fault: CheckFault) -> Fault {
+        Fault::Check(fault)
     }
 }

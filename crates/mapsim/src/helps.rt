@@ -2,6 +2,8 @@
 
 use std::alloc::{AllocError, Global};
 use std::fmt::Write;
+use us_check::CheckFault;
+use us_codec::MapFault;
 use us_flows::{ConfigFault, Place, TableName};
 use us_replay::RunFault;
 use us_requests::TraceFault;
@@ -14,15 +16,21 @@ of each number, and what each fault says.
 Example, at the top of the repository:
   mapsim replay --config examples/plant.toml --trace examples/plant.csv --rounds 4 \\
       --maps /tmp/maps --report /tmp/report
+  mapsim check --config examples/plant.toml --trace examples/plant.csv --rounds 4 \\
+      --maps /tmp/maps --report /tmp/report
 
-Status: 0 done, 2 the words are refused, 3 what was read is refused, 4 a file or stream failed,
-5 out of memory.";
+Status: 0 done, 1 `check` found a rule that is broken, 2 the words are refused, 3 what was read is
+refused, 4 a file or stream failed, 5 out of memory.";
 
 /// What the help of each subcommand says behind the options.
 #[derive(Drop)]
 pub struct Helps {
     /// Of `replay`.
     pub replay: String,
+    /// Of `check`.
+    pub check: String,
+    /// Of `dump`.
+    pub dump: String,
     /// Of `pipe`.
     pub pipe: String,
 }
@@ -31,26 +39,34 @@ impl Helps {
     /// All helps, which are texts of a few thousand bytes.
     pub fn new(alloc: Global) -> Result<Helps, AllocError> {
         Ok(Helps {
-            replay: help_of(alloc, &REPLAY)?,
-            pipe: help_of(alloc, &PIPE)?,
+            replay: help_of(alloc, REPLAY)?,
+            check: help_of(alloc, CHECK)?,
+            dump: help_of(alloc, DUMP)?,
+            pipe: help_of(alloc, PIPE)?,
         })
     }
 }
 
-/// What the help of a subcommand says that is its own.
-struct SubcommandHelp {
-    /// What it does.
-    does: &'static str,
-    /// Lines of faults that it refuses, before those of the configuration.
-    refused: &'static str,
-    /// The faults of its files, and what each says.
-    files: &'static [(RunFault, &'static str)],
-    /// The line of its other files and streams.
-    streams: &'static str,
+/// A part of a help.
+enum Part {
+    /// A text.
+    Text(&'static str),
+    /// The faults of a configuration, but for want of memory.
+    ConfigFaults,
+    /// Faults of a run, and what each says.
+    RunFaults(&'static [(RunFault, &'static str)]),
+    /// The faults of a trace's text.
+    TraceFaults,
+    /// The faults of a report.
+    ReportFaults,
+    /// The faults of a maps file.
+    MapFaults,
 }
 
-const REPLAY: SubcommandHelp = SubcommandHelp {
-    does: "Example, at the top of the repository:
+const REPLAY: &[Part] = &[
+    Part::Text(
+        "\
+Example, at the top of the repository:
   mapsim replay --config examples/plant.toml --trace examples/plant.csv --rounds 4 \\
       --maps /tmp/maps --report /tmp/report
 
@@ -58,32 +74,123 @@ It prints one line: the rounds, the report's G lines and M lines, and the number
   rounds 4 granted 11 missed 0 unknown 0 not_requestable 1 late 0
 
 The maps file has for each round, and there for each channel: the round (4 bytes, big-endian), the
-length of the MAP body in bytes (2 bytes, big-endian), and the body.",
-    refused: "",
-    files: &[
+length of the MAP body in bytes (2 bytes, big-endian), and the body.
+",
+    ),
+    Part::Text(REPORT),
+    Part::Text(UNITS),
+    Part::Text(FAULTS),
+    Part::ConfigFaults,
+    Part::RunFaults(&[ROUNDS, WORKERS]),
+    Part::TraceFaults,
+    Part::Text(FAILED),
+    Part::RunFaults(&[
         (
             RunFault::WriteMaps(0),
             "the maps file failed after N rounds",
         ),
         (RunFault::WriteReport(0), "the report failed after N rounds"),
-    ],
-    streams: "  fault io NAME     the file or stream failed: config, trace, maps, report or output\n",
-};
+    ]),
+    Part::Text(FILES),
+    Part::Text(MEMORY),
+];
 
-const PIPE: SubcommandHelp = SubcommandHelp {
-    does: "Example, at the top of the repository:
+const CHECK: &[Part] = &[
+    Part::Text(
+        "\
+Example, at the top of the repository, behind the one of `replay`:
+  mapsim check --config examples/plant.toml --trace examples/plant.csv --rounds 4 \\
+      --maps /tmp/maps --report /tmp/report
+
+It prints `holds` with status 0, where both files keep all rules. Else it prints one line with
+status 1: the first rule that is broken, and as three numbers the first place at which it is.
+  broken P3 1 1 150
+
+The rules, in the order in which they are looked at, each with its three numbers:
+  P1  The maps file is made of records, and each body is in the grammar of MAPs.
+      0, 0, index of the first record that is not
+  P2  There is one record for each round and channel, in order, and each says of itself what it must
+      say: round, channel id, UCD Count, Alloc Start Time, Ack Time, backoffs and length.
+      0, 0, index of the first record that fails, is missing or is one too many
+  P3  In each MAP the reserves and the grants of the report lie inside, no minislot has two of them,
+      and the elements are these and the gaps between them.
+      round, channel, first minislot where this fails; a line of a round or channel that the run has
+      not comes first: its round, its channel, 0
+  P4  Each unsolicited grant, poll and station maintenance is granted once in its window, or missed
+      once in the round in which the window ends, and the report has no other line of these.
+      round, channel, id of the flow or station
+  P5  No flow is credited more than its rate and its burst allow, in any span of rounds.
+      last round of the span, 0, id of the flow
+  P6  Each credit was asked for by that SID cluster and is what its grant carries, and the F and U
+      lines tell what is left.
+      round, channel or 0 for all of them together, id of the flow; for F and U lines the number of
+      rounds, 0, and the id of the flow or 0
+
+Indices, minislots and rounds are counted from 0. The rules know nothing of how a schedule is made:
+the files may come from any scheduler.
+",
+    ),
+    Part::Text(REPORT),
+    Part::Text(UNITS),
+    Part::Text(FAULTS),
+    Part::ConfigFaults,
+    Part::RunFaults(&[ROUNDS]),
+    Part::TraceFaults,
+    Part::ReportFaults,
+    Part::Text(FAILED),
+    Part::Text(FILES),
+    Part::Text(MEMORY),
+];
+
+const DUMP: &[Part] = &[
+    Part::Text(
+        "\
+Example, at the top of the repository, behind the one of `replay`:
+  mapsim dump --maps /tmp/maps
+
+It prints a line for each element of each MAP, in the order of the file:
+  round channel offset length sid iuc
+
+Units:
+  rounds            round, counted from 0
+  minislots         offset, counted from the start of the MAP, and length, which goes up to the next
+                    element; that of the Null (IUC 7) and of what stands behind it is 0
+
+A fault prints one line on standard error. N is the index of a record, counted from 0; the lines of
+the records before it are printed. M11 is looked for in the whole file before the first line.
+Status 3, what was read is refused; mend what the line names:
+",
+    ),
+    Part::MapFaults,
+    Part::Text(FAILED),
+    Part::Text("  fault io NAME     the file or stream failed: maps or output\n"),
+    Part::Text(MEMORY),
+];
+
+const PIPE: &[Part] = &[
+    Part::Text(
+        "\
+Example, at the top of the repository:
   (cat examples/plant.toml; echo %%; cat examples/plant.csv) | mapsim pipe --rounds 4
 
 It prints a line for each element of each MAP, with offset and length in minislots, then the report:
-  round channel offset length sid iuc",
-    refused: "  fault pipe        no line `%%`, or over 37,748,740 bytes\n",
-    files: &[],
-    streams: "  fault io NAME     the stream failed: input or output\n",
-};
+  round channel offset length sid iuc
+",
+    ),
+    Part::Text(REPORT),
+    Part::Text(UNITS),
+    Part::Text(FAULTS),
+    Part::Text("  fault pipe        no line `%%`, or over 37,748,740 bytes\n"),
+    Part::ConfigFaults,
+    Part::RunFaults(&[ROUNDS, WORKERS]),
+    Part::TraceFaults,
+    Part::Text(FAILED),
+    Part::Text("  fault io NAME     the stream failed: input or output\n"),
+    Part::Text(MEMORY),
+];
 
-/// The report and the units, which all subcommands have, up to their faults.
-const REPORT_AND_UNITS: &str = "
-
+/// The report.
+const REPORT: &str = "
 The report:
   G,round,channel,entry,id,i,k,sid,iuc,start,slots,credit
                     a grant or a poll
@@ -93,7 +200,10 @@ The report:
                     what a SID cluster still asks for, and what its flow's bucket holds
   U,unknown,not_requestable,late
                     how many rows of the trace are no requests, by reason
+";
 
+/// The units of configuration, trace and report.
+const UNITS: &str = "
 Units; docs/FORMATS.md has each key and field:
   ticks             tick, round_ticks, lead_ticks; a tick is 6.25 microseconds
   microseconds      start_us, interval_us, jitter_us
@@ -106,11 +216,34 @@ Units; docs/FORMATS.md has each key and field:
   bits a second     rate
   160 ksym/s        2^rate_log2
   symbols           preamble, guard
+";
 
+/// What stands before the faults of what was read.
+const FAULTS: &str = "
 A fault prints one line on standard error. PLACE is a table and its index, as `channel 0`; records
 are counted from 1, with the header.
-Status 3, what was read is refused:
+Status 3, what was read is refused; mend what the line names:
 ";
+
+/// What stands before the faults of files and streams.
+const FAILED: &str =
+    "Status 4, a file or stream failed; look at its path, its rights and its room:\n";
+
+/// The line of files, and of standard output beside them.
+const FILES: &str =
+    "  fault io NAME     the file or stream failed: config, trace, maps, report or output\n";
+
+/// The end of each help.
+const MEMORY: &str =
+    "Status 5, memory was wanting; run it where there is more:\n  fault memory      out of memory";
+
+/// The faults of the numbers of a run, and what each says.
+const ROUNDS: (RunFault, &str) = (
+    RunFault::Rounds,
+    "no rounds, or more than a run has ticks for (67,108,864)",
+);
+
+const WORKERS: (RunFault, &str) = (RunFault::Workers, "the workers are not 1 to 64");
 
 /// Any table of a configuration.
 const PLACE: Place = Place {
@@ -118,7 +251,6 @@ const PLACE: Place = Place {
     index: 0,
 };
 
-/// The faults of a configuration, but for want of memory.
 const CONFIG_FAULTS: [ConfigFault; 12] = [
     ConfigFault::Text,
     ConfigFault::Missing(PLACE),
@@ -134,16 +266,6 @@ const CONFIG_FAULTS: [ConfigFault; 12] = [
     ConfigFault::Headers(PLACE),
 ];
 
-/// The faults of the numbers of a run, and what each says.
-const RUN_FAULTS: [(RunFault, &str); 2] = [
-    (
-        RunFault::Rounds,
-        "no rounds, or more than a run has ticks for (67,108,864)",
-    ),
-    (RunFault::Workers, "the workers are not 1 to 64"),
-];
-
-/// The faults of a trace's text.
 const TRACE_FAULTS: [TraceFault; 4] = [
     TraceFault::Header,
     TraceFault::Fields(0),
@@ -151,18 +273,31 @@ const TRACE_FAULTS: [TraceFault; 4] = [
     TraceFault::TooLarge,
 ];
 
-/// The help of a subcommand.
-fn help_of(alloc: Global, own: &SubcommandHelp) -> Result<String, AllocError> {
-    let mut text = String::from_str(alloc, own.does)?;
-    text.push_str(REPORT_AND_UNITS)?;
-    text.push_str(own.refused)?;
-    push_config_faults(&mut text)?;
-    push_run_faults(&mut text, "", &RUN_FAULTS)?;
-    push_trace_faults(&mut text)?;
-    text.push_str("Status 4, a file or stream failed:\n")?;
-    push_run_faults(&mut text, "N", own.files)?;
-    text.push_str(own.streams)?;
-    text.push_str("Status 5:\n  fault memory      out of memory")?;
+const BODY_FAULTS: [MapFault; 9] = [
+    MapFault::Short,
+    MapFault::LengthMismatch,
+    MapFault::Reserved,
+    MapFault::TooManyElements,
+    MapFault::NoNull,
+    MapFault::Order,
+    MapFault::AfterNull,
+    MapFault::Backoff,
+    MapFault::FirstOffset,
+];
+
+/// A help of these parts.
+fn help_of(alloc: Global, parts: &[Part]) -> Result<String, AllocError> {
+    let mut text = String::new(alloc);
+    for part in parts {
+        match part {
+            Part::Text(said) => text.push_str(said)?,
+            Part::ConfigFaults => push_config_faults(&mut text)?,
+            Part::RunFaults(faults) => push_run_faults(&mut text, faults)?,
+            Part::TraceFaults => push_trace_faults(&mut text)?,
+            Part::ReportFaults => push_report_faults(&mut text)?,
+            Part::MapFaults => push_map_faults(alloc, &mut text)?,
+        }
+    }
     Ok(text)
 }
 
@@ -177,10 +312,13 @@ fn push_config_faults(text: &mut String) -> Result<(), AllocError> {
 
 fn push_run_faults(
     text: &mut String,
-    named: &str,
     faults: &[(RunFault, &'static str)],
 ) -> Result<(), AllocError> {
     for (fault, sentence) in faults {
+        let named = match fault {
+            RunFault::WriteMaps(_) | RunFault::WriteReport(_) => "N",
+            _ => "",
+        };
         push_printed(text, fault.code(), named)?;
         writeln!(text, "{sentence}")?;
     }
@@ -197,6 +335,38 @@ fn push_trace_faults(text: &mut String) -> Result<(), AllocError> {
         writeln!(text, "{record}{}", fault.sentence())?;
     }
     Ok(())
+}
+
+fn push_report_faults(text: &mut String) -> Result<(), AllocError> {
+    push_printed(text, CheckFault::Report(0).code(), "N")?;
+    text.push_str("line N of the report, counted from 1, has none of the forms above\n")
+}
+
+fn push_map_faults(alloc: Global, text: &mut String) -> Result<(), AllocError> {
+    for fault in &BODY_FAULTS {
+        push_map_fault(alloc, text, *fault, "N")?;
+    }
+    push_map_fault(alloc, text, MapFault::RecordCut, "")
+}
+
+/// Appends a fault of a maps file as it is printed, and what its text says behind the code.
+fn push_map_fault(
+    alloc: Global,
+    text: &mut String,
+    fault: MapFault,
+    named: &str,
+) -> Result<(), AllocError> {
+    let own = format!(in alloc; "{fault}")?;
+    push_printed(text, fault.code(), named)?;
+    writeln!(text, "{}", behind_code(own.as_str()))
+}
+
+/// What the text of a fault says behind the code that it begins with.
+fn behind_code(text: &str) -> &str {
+    match text.split_once(": ") {
+        Some((_, sentence)) => sentence,
+        None => text,
+    }
 }
 
 /// The columns of a code and of what the fault names, without the space between.

@@ -1,4 +1,5 @@
-//! `mapsim`: replays the requests of a trace with a configuration, from files into files or from standard input.
+//! `mapsim`: replays the requests of a trace with a configuration, from files into files or from standard input; judges a
+//! maps file and a report, whoever made them; and prints the MAPs of a maps file.
 //!
 //! `docs/FORMATS.md` has the words, the order, the fault lines and the statuses.
 #![tactic(auto)]
@@ -30,11 +31,26 @@ mod printing;
 // The line between configuration and trace.
 mod marks;
 
-// MAPs as text.
+// MAPs as text,
 mod map_lines;
+
+// and all MAPs of a maps file.
+mod dumps;
+
+// A maps file and a report in memory.
+mod texts;
+
+// Files that are read whole.
+mod files;
 
 // From files into files.
 mod replaying;
+
+// From files to a verdict.
+mod checking;
+
+// From a maps file to standard output.
+mod dumping;
 
 // From standard input to standard output.
 mod piping;

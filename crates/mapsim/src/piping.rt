@@ -1,22 +1,17 @@
-ghost use Rattle.std.specs.Prelude.{◌≡◌, ◌↔◌, ◌<◌, ◌≤◌, ℕ, List, length, slice_range, true, false};
-ghost use Rattle.std.specs.Prelude.{Err, IfOk, IfErr, IfSome, OnOk, IsErrAnd};
-ghost use Rattle.std.specs.Io.KnownBytes.{Appends};
-ghost use Rattle.us_codec.specs.Bodies.{MapBody, SpellsMap};
-ghost use Rattle.mapsim.specs.MapLines.{lines_of};
+ghost use Rattle.std.specs.Prelude.{◌≡◌, ◌↔◌, ◌<◌, ◌≤◌, ℕ, length, true, false, Err, IfOk, IfErr, IfSome, OnOk, IsErrAnd};
 ghost use Rattle.mapsim.specs.Marks.{IsMark};
-ghost use Rattle.mapsim.specs.Inputs.{IsInputFault, IsPrintFault, fault_in_memory};
-ghost use Rattle.mapsim.specs.Dumps.{IsDump};
+ghost use Rattle.mapsim.specs.Inputs.{IsInputFault, fault_in_memory};
 ghost use Rattle.mapsim.specs.Printouts.{Gives, IsEarly, Prints, Refuses, RefusesTrace, Replays, Stops, max_input_bytes};
 ghost use Rattle.mapsim.specs.declared.faults.Fault.TheVariants as fault;
 ghost use Rattle.mapsim.specs.declared.faults.Stream.TheVariants as stream;
 
+use crate::dumps::print_maps;
 use crate::faults::{Fault, Stream};
-use crate::map_lines::map_lines;
 use crate::marks::split_at_mark;
 use crate::printing::print;
+use crate::texts::Texts;
 use std::alloc::Global;
 use std::thread::Threads;
-use us_codec::{Record, decode, records};
 use us_crew::OpenGate;
 use us_flows::Config;
 use us_replay::{RunFault, replay};
@@ -24,14 +19,6 @@ use us_slots::{FromRead, FromWrite, ReadFault, Sink, Source, read_all};
 
 /// The most bytes of the input (ours).
 const MAX_INPUT_BYTES: usize = 37_748_740;
-
-/// What a replay in memory wrote.
-#[derive(Drop)]
-struct Texts {
-    /// The maps file.
-    maps: Vec<u8>,
-    report: Vec<u8>,
-}
 
 /// Replays the input in memory, for so many rounds and by so many workers, and prints each MAP's elements and the report.
 pub fn pipe<H: Threads + Sync, I: Source, O: Sink>(
@@ -145,48 +132,5 @@ fn in_memory(fault: RunFault) -> Fault
     match fault {
         RunFault::WriteMaps(_) | RunFault::WriteReport(_) => Fault::NoMemory,
         other => Fault::Run(other),
-    }
-}
-
-/// Prints the lines of each MAP of a maps file.
-fn print_maps<O: Sink>(alloc: Global, file: &[u8], output: &mut O) -> Result<(), Fault>
-    requires { O.failed output.old ≡ false }
-    ensures printed { OnOk result ((dump : List ℕ) × IsDump file.now dump ×
-        Appends (O.contents output.old) (O.contents output.new) dump) }
-    ensures failed { (O.failed output.new ≡ true) ↔ (result ≡ Err (fault.Device stream.Output)) }
-    ensures fault { IfErr result IsPrintFault }
-{
-    let records = match records(alloc, file) {
-        Ok(records) => records,
-        Err(fault) => return Err(Fault::Map(fault, 0)),
-    };
-    for (index, record) in records.iter().enumerate() {
-        print_record(alloc, file, index, *record, output)?;
-    }
-    Ok(())
-}
-
-/// Prints the lines of the MAP in a record of a maps file: the record with this index, by its place.
-fn print_record<O: Sink>(
-    alloc: Global,
-    file: &[u8],
-    index: usize,
-    place: Record,
-    output: &mut O,
-) -> Result<(), Fault>
-    requires ready { O.failed output.old ≡ false }
-    requires within { (place.from ≤ place.to) × (place.to ≤ length file.now) }
-    ensures printed { OnOk result ((map : MapBody) × SpellsMap (slice_range file.now place.from place.to) map ×
-        Appends (O.contents output.old) (O.contents output.new)
-        (lines_of place.round map.head.channel map.elements)) }
-    ensures failed { (O.failed output.new ≡ true) ↔ (result ≡ Err (fault.Device stream.Output)) }
-    ensures fault { IfErr result IsPrintFault }
-{
-    match decode(alloc, &file[place.from..place.to]) {
-        Ok(map) => {
-            let lines = map_lines(alloc, place.round, &map)?;
-            print(output, lines.as_str().as_bytes())
-        }
-        Err(fault) => Err(Fault::Map(fault, index)),
     }
 }

@@ -1,9 +1,12 @@
-ghost use Rattle.std.specs.Prelude.{◌≡◌, ◌↔◌, ◌<◌, length, true, false, Err, OnOk, IfErr};
+ghost use Rattle.std.specs.Prelude.{◌≡◌, ◌↔◌, ◌<◌, length, true, false, Ok, Err, IfOk, OnOk, IfErr};
 ghost use Rattle.mapsim.specs.Statuses.{status_of};
 ghost use Rattle.mapsim.specs.Printouts.{Prints, Stops};
+ghost use Rattle.mapsim.specs.Orders.{Does, MayEnd, PrintsBroken};
 ghost use Rattle.mapsim.specs.declared.faults.Fault.TheVariants as fault;
 ghost use Rattle.mapsim.specs.declared.faults.Stream.TheVariants as stream;
 
+use crate::checking::check_files;
+use crate::dumping::dump_file;
 use crate::faults::{Fault, Stream};
 use crate::helps::Helps;
 use crate::orders::Order;
@@ -32,11 +35,13 @@ where
     // Without words it prints what the input gives in two rounds.
     ensures printed { result ≡ Status.Done → length words.now < 2 →
         Prints 2 (I.remaining input.old) (O.contents output.old) (O.contents output.new) }
+    // It ends as broken where it printed such a verdict.
+    ensures broken { result ≡ Status.Broken → PrintsBroken (O.contents output.old) (O.contents output.new) }
     ensures input_failed { I.failed input.new ≡ true → result ≡ Status.DeviceFailed }
     ensures output_failed { O.failed output.new ≡ true → result ≡ Status.DeviceFailed }
 {
     match obey(rt, words, input, output) {
-        Ok(()) => Status::Done,
+        Ok(status) => status,
         Err(fault) => end_by(&fault, errors),
     }
 }
@@ -53,8 +58,8 @@ pub fn end_by<E: Write + Drop>(fault: &Fault, mut errors: E) -> Status
     fault.status()
 }
 
-/// Does what the words ask for.
-fn obey<R, S, I, O>(rt: &R, words: &[S], input: &mut I, output: &mut O) -> Result<(), Fault>
+/// Does what the words ask for, and answers how it ends.
+fn obey<R, S, I, O>(rt: &R, words: &[S], input: &mut I, output: &mut O) -> Result<Status, Fault>
 where
     R: Files + AllocGlobal + Threads + Sync,
     S: AsStr,
@@ -65,19 +70,46 @@ where
     ensures printed { length words.now < 2 → OnOk result
         (Prints 2 (I.remaining input.old) (O.contents output.old) (O.contents output.new)) }
     ensures stopped { length words.now < 2 → IfErr result (Stops 2 1 (I.remaining input.old)) }
+    ensures broken { result ≡ Ok Status.Broken →
+        PrintsBroken (O.contents output.old) (O.contents output.new) }
     ensures input_failed { I.failed input.new ≡ true → result ≡ Err (fault.Device stream.Input) }
     ensures output_failed { (O.failed output.new ≡ true) ↔ (result ≡ Err (fault.Device stream.Output)) }
 {
     let helps = Helps::new(rt.alloc())?;
-    match order_of(rt.alloc(), words, &helps)? {
-        Order::Help(text) => print(output, text.as_str().as_bytes())?,
-        Order::Pipe { rounds, workers } => {
-            pipe(rt, rt.alloc(), rounds, workers, input, output)?;
-        }
-        Order::Replay(order) => replay_files(rt, rt.alloc(), &order, output)?,
-    }
+    let order = order_of(rt.alloc(), words, &helps)?;
+    let status = carry_out(rt, &order, input, output)?;
     match output.flush() {
-        Ok(()) => Ok(()),
+        Ok(()) => Ok(status),
         Err(_) => Err(Fault::Device(Stream::Output)),
     }
+}
+
+/// Does what is asked for, and answers how the program ends then.
+fn carry_out<R, I, O>(
+    rt: &R,
+    order: &Order<'_>,
+    input: &mut I,
+    output: &mut O,
+) -> Result<Status, Fault>
+where
+    R: Files + AllocGlobal + Threads + Sync,
+    I: Source,
+    O: Sink,
+    requires input_ready { I.failed input.old ≡ false }
+    requires output_ready { O.failed output.old ≡ false }
+    ensures done { IfOk result
+        (Does order.now (I.remaining input.old) (O.contents output.old) (O.contents output.new)) }
+    ensures stopped { IfErr result (MayEnd order.now (I.remaining input.old)) }
+    ensures input_failed { I.failed input.new ≡ true → result ≡ Err (fault.Device stream.Input) }
+    ensures output_failed { (O.failed output.new ≡ true) ↔ (result ≡ Err (fault.Device stream.Output)) }
+{
+    let alloc = rt.alloc();
+    match order {
+        Order::Replay(files) => replay_files(rt, alloc, files, output)?,
+        Order::Check(files) => return check_files(rt, alloc, files, output),
+        Order::Dump(path) => dump_file(rt, alloc, path, output)?,
+        Order::Pipe { rounds, workers } => pipe(rt, alloc, *rounds, *workers, input, output)?,
+        Order::Help(text) => print(output, text.as_str().as_bytes())?,
+    }
+    Ok(Status::Done)
 }

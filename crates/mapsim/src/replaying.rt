@@ -1,22 +1,22 @@
-ghost use Rattle.std.specs.Prelude.{◌≡◌, ◌≢◌, ◌⊎◌, ◌↔◌, ◌≤◌, ℕ, List, [], ◌∷◌, ◌++◌, true, false, Err, IfOk, IfErr, OnOk};
+ghost use Rattle.std.specs.Prelude.{◌≡◌, ◌≢◌, ◌↔◌, ◌≤◌, ℕ, List, [], ◌∷◌, ◌++◌, true, false, Err, IfOk, IfErr, OnOk};
 ghost use Rattle.std.specs.Io.KnownBytes.{Appends};
-ghost use Rattle.mapsim.specs.Inputs.{IsConfigFault, IsPrintFault};
+ghost use Rattle.mapsim.specs.Inputs.{IsPrintFault};
 ghost use Rattle.mapsim.specs.SummaryLines.{IsSummaryOf, summary_line};
 ghost use Rattle.mapsim.specs.declared.faults.Fault.TheVariants as fault;
 ghost use Rattle.mapsim.specs.declared.faults.Stream.TheVariants as stream;
 
 use crate::faults::{Fault, Stream};
+use crate::files::{opened, read_config};
 use crate::orders::FileReplay;
 use crate::printing::print;
 use std::alloc::Global;
-use std::io::{self, ErrorKind};
 use std::rt::Files;
 use std::thread::Threads;
 use std::{fmt, fs};
 use us_crew::OpenGate;
-use us_flows::{Config, ConfigFault, MAX_CONFIG_BYTES};
+use us_flows::Config;
 use us_replay::{Summary, check_run, replay};
-use us_slots::{FromRead, FromWrite, ReadFault, Sink, read_all};
+use us_slots::{FromRead, FromWrite, Sink};
 
 /// Replays a trace from files into files, and prints what it did.
 pub fn replay_files<R: Files + Threads + Sync, O: Sink>(
@@ -76,38 +76,6 @@ fn print_summary<O: Sink>(alloc: Global, summary: Summary, output: &mut O) -> Re
 {
     let line = format!(in alloc; "{}\n", SummaryLine(summary))?;
     print(output, line.as_str().as_bytes())
-}
-
-/// The configuration in a file.
-fn read_config<R: Files>(rt: &R, alloc: Global, path: &str) -> Result<Config, Fault>
-    ensures { IfErr result IsConfigFault }
-{
-    let text = config_text(rt, alloc, path)?;
-    Ok(Config::read(alloc, &text)?)
-}
-
-/// The text of a configuration in a file.
-fn config_text<R: Files>(rt: &R, alloc: Global, path: &str) -> Result<Vec<u8>, Fault>
-    ensures { IfErr result IsConfigFault }
-{
-    let mut file = FromRead::new(opened(fs::open(rt, path), Stream::Config)?);
-    match read_all(alloc, &mut file, MAX_CONFIG_BYTES) {
-        Ok(text) => Ok(text),
-        Err(ReadFault::TooLarge) => Err(Fault::Config(ConfigFault::Text)),
-        Err(ReadFault::Failed) => Err(Fault::Device(Stream::Config)),
-        Err(ReadFault::NoMemory) => Err(Fault::NoMemory),
-    }
-}
-
-/// A file that was opened or made, or the fault that says why not.
-fn opened<F>(answer: io::Result<F>, stream: Stream) -> Result<F, Fault>
-    ensures { IfErr result (λ f. (f ≡ fault.Device stream) ⊎ (f ≡ fault.NoMemory)) }
-{
-    match answer {
-        Ok(file) => Ok(file),
-        Err(error) if error.kind() == ErrorKind::OutOfMemory => Err(Fault::NoMemory),
-        Err(_) => Err(Fault::Device(stream)),
-    }
 }
 
 /// What a replay did, as a line without its line feed.

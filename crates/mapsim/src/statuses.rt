@@ -3,8 +3,10 @@ ghost use Rattle.std.specs.Prelude.{◌≡◌};
 /// How the program ends.
 #[derive(Clone, Copy)]
 pub enum Status {
-    /// It did what it was asked.
+    /// It did what it was asked, and of a check the verdict is that both files are lawful.
     Done,
+    /// The verdict of a check is that a rule is broken.
+    Broken,
     /// Its words are refused.
     Usage,
     /// What it read is refused.
@@ -24,6 +26,7 @@ impl Status {
     {
         match self {
             Status::Done => 0,
+            Status::Broken => 1,
             Status::Usage => 2,
             Status::Refused => 3,
             Status::DeviceFailed => 4,

@@ -5,7 +5,7 @@ ghost use Rattle.mapsim.specs.declared.orders.Order.TheVariants as order;
 use crate::commands::{DEFAULT_ROUNDS, DEFAULT_WORKERS, command};
 use crate::faults::Fault;
 use crate::helps::Helps;
-use crate::orders::{FileReplay, Order};
+use crate::orders::{FileCheck, FileReplay, Order};
 use clap::error::ErrorKind;
 use clap::{ArgMatches, Error};
 use std::alloc::Global;
@@ -69,31 +69,34 @@ fn matches_of<'a, S: AsStr>(
 /// What the words that were matched ask for.
 fn order_in<'a>(given: &ArgMatches<'a>) -> Option<Order<'a>> {
     let (name, options) = given.subcommand()?;
-    let rounds = options.get_one::<u32>("rounds")?;
-    let workers = options.get_one::<u32>("workers")? as usize;
-    if name == "replay" {
-        file_replay(options, rounds, workers)
-    } else {
-        Some(Order::Pipe { rounds, workers })
+    match name {
+        "replay" => file_replay(options),
+        "check" => file_check(options),
+        "dump" => Some(Order::Dump(options.get_str("maps")?)),
+        _ => Some(Order::Pipe {
+            rounds: options.get_one::<u32>("rounds")?,
+            workers: options.get_one::<u32>("workers")? as usize,
+        }),
     }
 }
 
-fn file_replay<'a>(options: &ArgMatches<'a>, rounds: u32, workers: usize) -> Option<Order<'a>> {
-    let paths = (
-        options.get_str("config"),
-        options.get_str("trace"),
-        options.get_str("maps"),
-        options.get_str("report"),
-    );
-    match paths {
-        (Some(config), Some(trace), Some(maps), Some(report)) => Some(Order::Replay(FileReplay {
-            config,
-            trace,
-            rounds,
-            workers,
-            maps,
-            report,
-        })),
-        _ => None,
-    }
+fn file_replay<'a>(options: &ArgMatches<'a>) -> Option<Order<'a>> {
+    Some(Order::Replay(FileReplay {
+        config: options.get_str("config")?,
+        trace: options.get_str("trace")?,
+        rounds: options.get_one::<u32>("rounds")?,
+        workers: options.get_one::<u32>("workers")? as usize,
+        maps: options.get_str("maps")?,
+        report: options.get_str("report")?,
+    }))
+}
+
+fn file_check<'a>(options: &ArgMatches<'a>) -> Option<Order<'a>> {
+    Some(Order::Check(FileCheck {
+        config: options.get_str("config")?,
+        trace: options.get_str("trace")?,
+        rounds: options.get_one::<u32>("rounds")?,
+        maps: options.get_str("maps")?,
+        report: options.get_str("report")?,
+    }))
 }

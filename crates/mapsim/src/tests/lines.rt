@@ -1,6 +1,7 @@
 use super::base::same;
 use crate::faults::{Fault, Stream};
 use std::fmt::Write;
+use us_check::CheckFault;
 use us_codec::MapFault;
 use us_flows::{ConfigFault, Place, TableName};
 use us_replay::RunFault;
@@ -30,6 +31,8 @@ fn lines_of_faults(rt: HostRuntime) {
         Fault::Map(MapFault::Order, 0),
         Fault::Map(MapFault::RecordCut, 0),
         Fault::Map(MapFault::NoMemory, 3),
+        Fault::Check(CheckFault::Report(18_446_744_073_709_551_615)),
+        Fault::Check(CheckFault::NoMemory),
         Fault::Device(Stream::Report),
         Fault::NoMemory,
     ] {
@@ -51,6 +54,8 @@ fn lines_of_faults(rt: HostRuntime) {
 5 fault memory
 3 fault M6 0
 3 fault M11
+5 fault memory
+3 fault CK1 18446744073709551615
 5 fault memory
 4 fault io report
 5 fault memory

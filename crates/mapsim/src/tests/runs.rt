@@ -9,7 +9,7 @@ fn each_status(rt: HostRuntime) {
             STORED,
             Setting {
                 name: "usage",
-                words: &["mapsim", "dump"],
+                words: &["mapsim", "draw"],
                 errors: Limits { room: 38, ..WIDE },
                 ..STORED
             },
@@ -31,7 +31,7 @@ fn each_status(rt: HostRuntime) {
         told.as_str(),
         "\
 stored run: 0 170 true []
-usage: 2 0 true [error: unrecognized subcommand 'dump'
+usage: 2 0 true [error: unrecognized subcommand 'draw'
 ]
 refused: 3 0 true [fault pipe
 ]

@@ -1,6 +1,6 @@
 use Rattle.std.proofs.Common.{◌≡◌, false}
 use Rattle.mapsim.proofs.DumpLemmas.{Printed}
-use Rattle.mapsim.proofs.piping.print_maps.Given as goal
+use Rattle.mapsim.proofs.dumps.print_maps.Given as goal
 
 abbrev pub invariant-loop-index : goal.invariant-loop-index
 invariant-loop-index g l =
