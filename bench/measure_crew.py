@@ -106,7 +106,20 @@ fn rounds_kept(crew: &mut Crew<Turn, Answered>, alloc: Global, work: Turning) ->
     Ok(())
 }
 
-/// Prints how long rounds took, in nanoseconds of a sample.
+/// Prints how long a sample took, in nanoseconds, and by which workers.
+fn print_sample<R: Clock + Print>(
+    rt: &R,
+    start: Instant,
+    work: Turning,
+    workers: usize,
+    which: &str,
+) -> anyhow::Result<()> {
+    let took = start.elapsed(rt)?.as_nanos();
+    println!(rt; "{} {workers} {which} {took}", work.turns)?;
+    Ok(())
+}
+
+/// Samples of rounds by workers that are kept,
 fn print_kept<R: Clock + Print>(
     rt: &R,
     crew: &mut Crew<Turn, Answered>,
@@ -117,12 +130,12 @@ fn print_kept<R: Clock + Print>(
     for _ in 0..@SAMPLES@ {
         let start = Instant::now(rt)?;
         rounds_kept(crew, alloc, work)?;
-        let took = start.elapsed(rt)?.as_nanos();
-        println!(rt; "{} {workers} kept {took}", work.turns)?;
+        print_sample(rt, start, work, workers, "kept")?;
     }
     Ok(())
 }
 
+/// and by workers that are started anew.
 fn print_anew<R: Threads + Sync + Clock + Print>(
     rt: &R,
     alloc: Global,
@@ -132,8 +145,7 @@ fn print_anew<R: Threads + Sync + Clock + Print>(
     for _ in 0..@SAMPLES@ {
         let start = Instant::now(rt)?;
         rounds_anew(rt, alloc, work, workers)?;
-        let took = start.elapsed(rt)?.as_nanos();
-        println!(rt; "{} {workers} anew {took}", work.turns)?;
+        print_sample(rt, start, work, workers, "anew")?;
     }
     Ok(())
 }
