@@ -1,7 +1,7 @@
 ghost use Rattle.std.specs.Prelude.{◌≡◌, ◌≢◌, ◌↔◌, ℕ, List, [], ◌∷◌, ◌++◌, true, false, Ok, Err, IfOk, IfErr, OnOk};
 ghost use Rattle.std.specs.Io.KnownBytes.{Appends};
 ghost use Rattle.us_flows.specs.Tables.{rounds_fit};
-ghost use Rattle.us_lawful.specs.Runs.{run_in, AsksAreKnown};
+ghost use Rattle.us_lawful.specs.Runs.{run_in};
 ghost use Rattle.us_check.specs.Verdicts.{Answers, verdict_text};
 ghost use Rattle.us_replay.specs.declared.faults.RunFault.TheVariants as run;
 ghost use Rattle.mapsim.specs.Inputs.{IsPrintFault};
@@ -89,7 +89,6 @@ fn read_texts<R: Files>(rt: &R, alloc: Global, order: &FileCheck<'_>) -> Result<
 /// The verdict on a maps file and a report.
 fn judge(alloc: Global, config: &Config, trace: &Trace, texts: &Texts) -> Result<Verdict, Fault>
     requires fits { rounds_fit config.now trace.now.rounds ≡ true }
-    requires known { AsksAreKnown config.now trace.now }
     ensures verdict { IfOk result (λ verdict.
         Answers (run_in config.now trace.now) texts.now.maps.items texts.now.report.items (Ok verdict)) }
     ensures fault { IfErr result (λ f. (f ≢ fault.Device stream.Input) × (f ≢ fault.Device stream.Output)) }
