@@ -2,7 +2,7 @@ use Rattle.std.proofs.Common.{◌≡◌, ◌+◌, ◌∙◌, ◌++◌, length, t
 use Rattle.std.specs.List.{AllByRecursion}
 use Rattle.us_calendar.specs.Calendars.{run_entries, StartsInside, granted_in, settled_in, Ran}
 use Rattle.us_calendar.proofs.RunLaws.{run_kept, run_ended, settled_by, written}
-use Rattle.us_calendar.proofs.calendars.Calendar.run.Goals as goal
+use Rattle.us_calendar.proofs.calendars.Calendar.run_into.Goals as goal
 
 pub invariant_of-self : goal.invariant_of-self
 invariant_of-self c =
@@ -23,7 +23,7 @@ invariant_of-self c =
 pub returns-in-Ok-clause-inside : goal.returns-in-Ok-clause-inside
 returns-in-Ok-clause-inside c =
     let ran : Ran = run_entries c.self.inside.pace c.args.round c.deref_mut.result.now c.args.board.now in
-    let told = (rw (c.new-span.ensures.pace, c.new-span.ensures.round) at c.in-Ok.ensures.settled) ∙ ap (λ xs. xs ++ ran.settled) c.new-settled.ensures.items in
+    let told = (rw (c.new-span.ensures.pace, c.new-span.ensures.round) at c.in-Ok.ensures.settled) ∙ ap (λ xs. xs ++ ran.settled) c.clear.ensures.items in
     let ended = run_ended c.self.inside.pace c.args.round c.deref_mut.result.now c.args.board.now in
     let len = ap (λ v. v.pace.len) c.self.view_is ∙ sym c.requires.len in
     subst (λ n. AllByRecursion (StartsInside n) c.settle_due.new.settled.items) len
@@ -32,7 +32,7 @@ returns-in-Ok-clause-inside c =
 pub returns-in-Ok-clause-granted : goal.returns-in-Ok-clause-granted
 returns-in-Ok-clause-granted c =
     let ran : Ran = run_entries c.self.inside.pace c.args.round c.deref_mut.result.now c.args.board.now in
-    let told = (rw (c.new-span.ensures.pace, c.new-span.ensures.round) at c.in-Ok.ensures.settled) ∙ ap (λ xs. xs ++ ran.settled) c.new-settled.ensures.items in
+    let told = (rw (c.new-span.ensures.pace, c.new-span.ensures.round) at c.in-Ok.ensures.settled) ∙ ap (λ xs. xs ++ ran.settled) c.clear.ensures.items in
     let ended = run_ended c.self.inside.pace c.args.round c.deref_mut.result.now c.args.board.now in
     ap (λ ts. granted_in ts + c.args.board.now.standing) told ∙ ended.granted ∙ sym
     (ap (λ b. b.standing) (rw (c.new-span.ensures.pace, c.new-span.ensures.round) at c.in-Ok.ensures.board))
@@ -40,7 +40,7 @@ returns-in-Ok-clause-granted c =
 pub returns-in-Ok-clause-counts : goal.returns-in-Ok-clause-counts
 returns-in-Ok-clause-counts c =
     let ran : Ran = run_entries c.self.inside.pace c.args.round c.deref_mut.result.now c.args.board.now in
-    let told = (rw (c.new-span.ensures.pace, c.new-span.ensures.round) at c.in-Ok.ensures.settled) ∙ ap (λ xs. xs ++ ran.settled) c.new-settled.ensures.items in
+    let told = (rw (c.new-span.ensures.pace, c.new-span.ensures.round) at c.in-Ok.ensures.settled) ∙ ap (λ xs. xs ++ ran.settled) c.clear.ensures.items in
     let ended = run_ended c.self.inside.pace c.args.round c.deref_mut.result.now c.args.board.now in
     let states_is = c.deref_mut.ensures.value in
     let states = rw (c.new-span.ensures.pace, c.new-span.ensures.round) at c.in-Ok.ensures.states in
