@@ -138,6 +138,9 @@ impl Calendar {
         ensures inside { OnOk result (AllByRecursion (spec.StartsInside (length board.old.cells)) settled.new.items) }
         ensures granted { OnOk result (spec.granted_in settled.new.items + board.old.standing ≡ board.new.standing) }
         ensures counts { OnOk result (length settled.new.items + spec.settled_in self.old ≡ spec.settled_in self.new) }
+
+        // The calendar keeps its pace, also after want of memory.
+        ensures pace { self.new.pace ≡ self.old.pace }
     {
         let span = Span::new(self.pace, round);
         settled.clear();
@@ -160,31 +163,6 @@ impl Calendar {
                 Err(refused)
             }
         }
-    }
-
-    /// As [`Calendar::run`], into a list that is kept: it is cleared first, and keeps its room.
-    pub fn run_into(
-        &mut self,
-        alloc: Global,
-        round: u32,
-        board: &mut Board,
-        settled: &mut Vec<Settled>,
-    ) -> Result<(), NoMemory>
-        requires next { round ≡ self.old.next_round }
-        requires time { (round + 1) * (self.old.pace.len * minislot_ticks self.old.pace.time) ≤ max_run_ticks }
-        requires len { length board.old.cells ≡ self.old.pace.len }
-        ensures settled { OnOk result (settled.new.items ≡ (spec.ran self.old board.old).settled) }
-        ensures board { OnOk result (board.new ≡ (spec.ran self.old board.old).board) }
-        ensures calendar { OnOk result (self.new ≡ spec.after self.old board.old) }
-        ensures len { length board.new.cells ≡ length board.old.cells }
-        ensures inside { OnOk result (AllByRecursion (spec.StartsInside (length board.old.cells)) settled.new.items) }
-        ensures granted { OnOk result (spec.granted_in settled.new.items + board.old.standing ≡ board.new.standing) }
-        ensures counts { OnOk result (length settled.new.items + spec.settled_in self.old ≡ spec.settled_in self.new) }
-
-        // The calendar keeps its pace, also after want of memory.
-        ensures pace { self.new.pace ≡ self.old.pace }
-    {
-        Err(NoMemory)
     }
 
     /// The round that is to be run next.

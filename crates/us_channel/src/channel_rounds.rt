@@ -89,7 +89,7 @@ impl ChannelRound {
 
     /// Puts the reserves of a round on the board, and settles what is due then; no claim is granted yet. The fault is want
     /// of memory, and nothing is said of board, calendar and lists then.
-    pub fn fill(&mut self, alloc: Global, config: &Config, round: u32) -> Result<(), NoMemory>
+    pub fn fill(&mut self, config: &Config, round: u32) -> Result<(), NoMemory>
         requires channel { IsChannel config.now self.old.channel }
         requires pace { self.old.calendar.pace ≡ pace_of config.now self.old.channel }
         requires next { self.old.calendar.next_round ≡ round }
@@ -107,7 +107,7 @@ impl ChannelRound {
         } = self.track.as_mut();
         grants.clear();
         reserves(board, &self.channel, round);
-        calendar.run_into(alloc, round, board, settled)
+        calendar.run_into(round, board, settled)
     }
 
     /// Places claims. What was granted before is told no more. It needs no memory.

@@ -65,21 +65,16 @@ fn run(
         return Ok(());
     }
     let mut channel = ChannelRound::new(alloc, config, 0)?;
-    fill(alloc, config, &mut channel, 0)?;
+    fill(config, &mut channel, 0)?;
     place(&mut channel, first);
-    fill(alloc, config, &mut channel, 1)?;
+    fill(config, &mut channel, 1)?;
     write!(answer, "{} idle", channel.idle())?;
     place(&mut channel, second);
     tell(answer, &channel)
 }
 
 /// Reserves and calendar of a round.
-fn fill(
-    alloc: Global,
-    config: &Config,
-    channel: &mut ChannelRound,
-    round: u32,
-) -> Result<(), NoMemory>
+fn fill(config: &Config, channel: &mut ChannelRound, round: u32) -> Result<(), NoMemory>
     requires channel { IsChannel config.now channel.old.channel }
     requires pace { channel.old.calendar.pace ≡ pace_of config.now channel.old.channel }
     requires next { channel.old.calendar.next_round ≡ round }
@@ -88,7 +83,7 @@ fn fill(
     ensures pace { OnOk result (channel.new.calendar.pace ≡ channel.old.calendar.pace) }
     ensures next { OnOk result (channel.new.calendar.next_round ≡ round + 1) }
 {
-    channel.fill(alloc, config, round)
+    channel.fill(config, round)
 }
 
 /// Places two claims of these bytes, if both may be.
