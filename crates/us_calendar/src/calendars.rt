@@ -138,6 +138,9 @@ impl Calendar {
         ensures inside { OnOk result (AllByRecursion (spec.StartsInside (length board.old.cells)) settled.new.items) }
         ensures granted { OnOk result (spec.granted_in settled.new.items + board.old.standing ≡ board.new.standing) }
         ensures counts { OnOk result (length settled.new.items + spec.settled_in self.old ≡ spec.settled_in self.new) }
+
+        // The calendar keeps its pace, also after want of memory.
+        ensures pace { self.new.pace ≡ self.old.pace }
     {
         let span = Span::new(self.pace, round);
         settled.clear();
