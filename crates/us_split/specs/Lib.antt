@@ -13,6 +13,8 @@ pub mod Claims
 pub mod PlanLaws
 -- whose the claims of a plan are
 pub mod Laws
+-- who asks in a round, and that its plan is theirs
+pub mod Asking
 -- the definitions at small inputs
 pub mod Examples
 -- inside the crate, and of no use to a reader of the promise: a plan in the making
