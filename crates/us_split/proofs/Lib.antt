@@ -8,3 +8,6 @@ pub mod ClaimLemmas
 pub mod ChannelShareLemmas
 pub mod TurnClaimLaws
 pub mod AskingLaws
+pub mod TurnNumberLemmas
+pub mod AskerLemmas
+pub mod AskerStepLemmas

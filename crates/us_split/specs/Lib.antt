@@ -17,5 +17,7 @@ pub mod Laws
 pub mod Asking
 -- the definitions at small inputs
 pub mod Examples
--- inside the crate, and of no use to a reader of the promise: a plan in the making
+-- inside the crate, and of no use to a reader of the promise: a plan in the making,
 pub mod PartialPlans
+-- and how it is kept who asks
+pub mod Askers
