@@ -6,7 +6,7 @@ use Rattle.std.specs.List.Sorted.{IsNonDecreasing}
 use Rattle.std.proofs.lemmas.Bool.{cases_Bool, cases_eq, cases_lt}
 use Rattle.std.proofs.lemmas.List.{get_or_past, length-set}
 use Rattle.std.proofs.lemmas.Option.{get_or_from_slice_get, slice_get_within}
-use Rattle.us_split.specs.Asking.{asking, asks, more_of, places_from, waiting, waits, with_cut}
+use Rattle.us_split.specs.Asking.{asking, asks, more_of, places_from, pending_places, is_pending, with_cut}
 use Rattle.us_split.specs.Askers.{AreAskers, AreBytes, AreOnce, ArePlaces, IsPartedAt, put_in}
 
 -- Places rise, and are below their number.

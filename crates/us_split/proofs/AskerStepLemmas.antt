@@ -9,7 +9,7 @@ use Rattle.std.proofs.lemmas.List.Elements.{All-from_recursion}
 use Rattle.us_flows.specs.Tables.{Tables}
 use Rattle.us_flows.specs.Clusters.{clusters_of, turns_of}
 use Rattle.us_flows.specs.Lawful.{AreTables}
-use Rattle.us_split.specs.Asking.{Asking, asked_more, asking, asks, more_of, numbers_of, places_from, waiting, waits, with_cut}
+use Rattle.us_split.specs.Asking.{Asking, asked_more, asking, asks, more_of, numbers_of, places_from, pending_places, is_pending, with_cut}
 use Rattle.us_split.specs.Askers.{AreAskers, AreBytes, ArePlaces, put_in}
 use Rattle.us_split.proofs.AskerLemmas.{filter-places, places-below, places-fewer, places-rise, put-more}
 use Rattle.us_split.proofs.TurnNumberLemmas.{AreTurnNumbers, turn_numbers}
@@ -75,7 +75,7 @@ askers-new t numbers places room pending_room lawful are one_each found enough p
       };
       listed = sym (nobody-asks clusters 0 numbers);
       room_to_ask = enough;
-      room_to_wait = pending_enough;
+      room_for_pending = pending_enough;
     }
 
 -- More bytes.
@@ -188,7 +188,7 @@ askers-more numbers places outstanding left list next room pending_room more_roo
       };
       listed = listed-more outstanding cluster bytes below some numbers places list next are.turns are.listed is;
       room_to_ask = omega (arith, are.room_to_ask, enough);
-      room_to_wait = are.room_to_wait;
+      room_for_pending = are.room_for_pending;
     }
 
 -- no bytes more change nothing
@@ -275,9 +275,9 @@ asks-then : (outstanding left : List ℕ) → ((n : ℕ) → slice_index left n 
 asks-then outstanding left within n some =
     lt-ltb 0 (slice_index outstanding n) (omega (arith, ltb-true 0 (slice_index left n) some, within n))
 
-waits-then : (outstanding left : List ℕ) → ((n : ℕ) → slice_index left n ≤ slice_index outstanding n) → (n : ℕ) →
-    waits outstanding left n ≡ true → asks outstanding n ≡ true
-waits-then outstanding left within n waits = asks-then outstanding left within n (first (asks left n) _ waits)
+pending-then : (outstanding left : List ℕ) → ((n : ℕ) → slice_index left n ≤ slice_index outstanding n) → (n : ℕ) →
+    is_pending outstanding left n ≡ true → asks outstanding n ≡ true
+pending-then outstanding left within n both = asks-then outstanding left within n (first (asks left n) _ both)
   where
     first : (a b : Bool) → (a && b) ≡ true → a ≡ true
     first true b is = refl
@@ -286,11 +286,11 @@ waits-then outstanding left within n waits = asks-then outstanding left within n
 same-rest : (numbers : List ℕ) (i : ℕ) → slice_index numbers (0 + i) ≡ slice_index numbers i
 same-rest numbers i = let same : 0 + i ≡ i = omega arith in ap (slice_index numbers) same
 
-pub waiting-is : (numbers outstanding left list : List ℕ) → AreBytes outstanding left → list ≡ asking outstanding numbers →
-    filter (λ at. waits outstanding left (slice_index numbers at)) list ≡ waiting outstanding left numbers
-waiting-is numbers outstanding left list bytes is =
-    ap (filter (λ at. waits outstanding left (slice_index numbers at))) is ∙
-    filter-places (asks outstanding) (waits outstanding left) (waits-then outstanding left bytes.within) numbers 0 numbers
+pub pending-is : (numbers outstanding left list : List ℕ) → AreBytes outstanding left → list ≡ asking outstanding numbers →
+    filter (λ at. is_pending outstanding left (slice_index numbers at)) list ≡ pending_places outstanding left numbers
+pending-is numbers outstanding left list bytes is =
+    ap (filter (λ at. is_pending outstanding left (slice_index numbers at))) is ∙
+    filter-places (asks outstanding) (is_pending outstanding left) (pending-then outstanding left bytes.within) numbers 0 numbers
     (same-rest numbers)
 
 small-left : (outstanding left : List ℕ) → AllByRecursion IsSmall outstanding → length left ≡ length outstanding →
@@ -318,5 +318,5 @@ askers-settled numbers places outstanding left list next room pending_room more_
           filter-places (asks outstanding) (asks left) (asks-then outstanding left are.bytes.within) numbers 0 numbers
           (same-rest numbers);
       room_to_ask = omega (arith, are.room_to_ask, enough);
-      room_to_wait = omega (arith, are.room_to_wait, pending_enough);
+      room_for_pending = omega (arith, are.room_for_pending, pending_enough);
     }

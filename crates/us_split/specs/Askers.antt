@@ -30,7 +30,7 @@ pub record AreAskers (numbers places outstanding left list : List ℕ) (room pen
   pub bytes : AreBytes outstanding left
   pub listed : list ≡ asking outstanding numbers
   pub room_to_ask : length numbers ≤ room
-  pub room_to_wait : length numbers ≤ pending_room
+  pub room_for_pending : length numbers ≤ pending_room
 
 -- a place among others that rise
 abbrev pub put_in : ℕ → List ℕ → List ℕ

@@ -23,7 +23,7 @@ places_from passes place (number ∷ numbers) =
 abbrev pub turns_at : List Turn → List ℕ → List Turn
 turns_at turns places = filter_map (slice_get turns) places
 
--- Who asks, and who waits.
+-- Who asks, and who is pending.
 
 -- bytes are outstanding of the cluster with this number
 abbrev pub asks : List ℕ → ℕ → Bool
@@ -34,18 +34,18 @@ abbrev pub asking : List ℕ → List ℕ → List ℕ
 asking outstanding numbers = places_from (asks outstanding) 0 numbers
 
 -- bytes are left of a cluster, as many as were outstanding
-abbrev pub waits : List ℕ → List ℕ → ℕ → Bool
-waits outstanding left number =
+abbrev pub is_pending : List ℕ → List ℕ → ℕ → Bool
+is_pending outstanding left number =
     nat_lt 0 (slice_index left number) && (slice_index left number == slice_index outstanding number)
 
--- the places of the turns that wait, in the order of turns
-abbrev pub waiting : List ℕ → List ℕ → List ℕ → List ℕ
-waiting outstanding left numbers = places_from (waits outstanding left) 0 numbers
+-- the places of the turns that are pending, in the order of turns
+abbrev pub pending_places : List ℕ → List ℕ → List ℕ → List ℕ
+pending_places outstanding left numbers = places_from (is_pending outstanding left) 0 numbers
 
 -- A round.
 
 -- the cluster of each turn, in the order of turns; what is outstanding of each cluster before the credits of a round, and
--- what is left after them; and the places of the turns that waited when the round was settled
+-- what is left after them; and the places of the turns that were pending when the round was settled
 pub record Asking : Type 0 where
   pub numbers : List ℕ
   pub outstanding : List ℕ
@@ -100,7 +100,7 @@ settled a = record {
   numbers = a.numbers;
   outstanding = a.left;
   left = a.left;
-  pending = waiting a.outstanding a.left a.numbers;
+  pending = pending_places a.outstanding a.left a.numbers;
 }
 
 -- The plan of those who ask.

@@ -15,7 +15,7 @@ mod cluster_turns;
 mod listing;
 
 use cluster_turns::{numbers_of, places_of};
-use listing::{drop_answered, list_turn, note_waiting};
+use listing::{drop_answered, list_turn, note_pending};
 
 /// Who asks in a round: what is outstanding of each SID cluster, and the turns of which something is. Between rounds,
 /// and while clusters ask for more, `left` is the same as `outstanding`; credits of a round lower it alone, until the
@@ -157,7 +157,7 @@ impl Askers {
     pub fn settle(&mut self)
         ensures { self.new ≡ spec.settled self.old }
     {
-        note_waiting(&mut self.pending, &self.asking, &self.numbers, &self.outstanding, &self.left);
+        note_pending(&mut self.pending, &self.asking, &self.numbers, &self.outstanding, &self.left);
         drop_answered(&mut self.asking, &self.numbers, &self.left);
         let outstanding = self.outstanding.as_mut_slice();
         outstanding.copy_from_slice(&self.left);

@@ -1,7 +1,7 @@
 ghost use Rattle.std.specs.Prelude.{◌≡◌, ℕ, ◌+◌, ◌==◌, ◌<◌, ◌≤◌, List, [], ◌∷◌, ◌++◌, length, filter, slice_index, if◌then◌else◌, vec_len, vec_capacity};
 ghost use Rattle.std.specs.List.{AllByRecursion};
 ghost use Rattle.std.specs.List.Sorted.{IsNonDecreasing};
-ghost use Rattle.us_split.specs.Asking.{asks, waits};
+ghost use Rattle.us_split.specs.Asking.{asks, is_pending};
 ghost use Rattle.us_split.specs.Askers.{IsPartedAt, put_in};
 
 /// Lists the turn at a place among others that rise, if nothing was outstanding of it before. It needs no memory.
@@ -37,8 +37,8 @@ fn bytes_of(bytes: &[u64], numbers: &[u16], place: u16) -> u64
     bytes[usize::from(numbers[usize::from(place)])]
 }
 
-/// Notes those of the turns at these places that wait, in place of what was noted. It needs no memory.
-pub(super) fn note_waiting(
+/// Notes those of the turns at these places that are pending, in place of what was noted. It needs no memory.
+pub(super) fn note_pending(
     pending: &mut Vec<u16>,
     asking: &[u16],
     numbers: &[u16],
@@ -50,25 +50,25 @@ pub(super) fn note_waiting(
     requires left { length left.now ≡ length outstanding.now }
     requires room { length asking.now ≤ vec_capacity pending.old }
     ensures items { pending.new.items ≡
-        filter (λ place. waits outstanding.now left.now (slice_index numbers.now place)) asking.now }
+        filter (λ place. is_pending outstanding.now left.now (slice_index numbers.now place)) asking.now }
     ensures capacity { vec_capacity pending.new ≡ vec_capacity pending.old }
 {
     pending.clear();
     for place in asking {
         let bytes = bytes_of(left, numbers, *place);
-        let waits = bytes > 0 && bytes == bytes_of(outstanding, numbers, *place);
-        note(pending, *place, waits);
+        let is_pending = bytes > 0 && bytes == bytes_of(outstanding, numbers, *place);
+        note(pending, *place, is_pending);
     }
 }
 
-/// Notes a turn if it waits.
-fn note(pending: &mut Vec<u16>, place: u16, waits: bool)
+/// Notes a turn if it is pending.
+fn note(pending: &mut Vec<u16>, place: u16, is_pending: bool)
     requires { vec_len pending.old < vec_capacity pending.old }
-    ensures items { pending.new.items ≡ pending.old.items ++ (if waits then place ∷ [] else []) }
+    ensures items { pending.new.items ≡ pending.old.items ++ (if is_pending then place ∷ [] else []) }
     ensures len { vec_len pending.new ≤ vec_len pending.old + 1 }
     ensures capacity { vec_capacity pending.new ≡ vec_capacity pending.old }
 {
-    if waits {
+    if is_pending {
         pending.push_reserved(place);
     }
 }
