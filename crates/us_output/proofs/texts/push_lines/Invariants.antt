@@ -1,0 +1,16 @@
+use Rattle.std.proofs.Common.{◌≡◌, ◌++◌, drop, flat_map}
+use Rattle.std.specs.List.{AllByRecursion}
+use Rattle.us_output.specs.Files.{lines}
+use Rattle.us_output.specs.Leftovers.{AreInside}
+use Rattle.us_output.specs.Lines.{HasFields}
+use Rattle.us_output.specs.Outputs.{rows_on}
+use Rattle.us_output.proofs.texts.push_lines.Given as goal
+
+-- what was added and what is left; and what all lines have, where those that are left have it
+abbrev pub invariant-loop-part : goal.invariant-loop-part
+invariant-loop-part l =
+    (l.text.items ++ flat_map (λ part. lines (rows_on l.round part)) (drop l.part-index l.channels) ≡
+    l.fn.text.items ++ flat_map (λ part. lines (rows_on l.round part)) l.channels)
+    × (AllByRecursion (λ part. AllByRecursion HasFields (rows_on l.round part)) (drop l.part-index l.channels) →
+    AllByRecursion (λ part. AllByRecursion HasFields (rows_on l.round part)) l.channels)
+    × AllByRecursion AreInside (drop l.part-index l.channels)
