@@ -11,6 +11,7 @@ use Rattle.us_calendar.specs.declared.settled.Settled.TheVariants as settled
 use Rattle.us_channel.specs.Placements.{PlacedClaim}
 use Rattle.us_output.specs.declared.rows.Row.{Row}
 use Rattle.us_output.specs.Outputs.{start_of, by_start, is_granted, settled_row, grant_row, granted_rows, missed_rows, rows_on}
+use Rattle.us_output.specs.Orders.{in_order}
 use Rattle.us_output.specs.OutputLaws.{IsLineOf, ByStartMoves, LinesBearRound}
 use Rattle.us_output.proofs.PartLemmas.{all_append}
 use Rattle.us_output.proofs.OrderLemmas.{in_order-none, starting, upto, behind, in_parts, one_more}

@@ -36,7 +36,8 @@ mod reporting;
 // The same as bytes: records,
 mod records;
 
-// and lines.
+// and lines, which are counted.
+mod tallies;
 mod texts;
 
 // What a round gives,
@@ -56,6 +57,7 @@ pub use reporting::final_rows;
 pub use round_outs::RoundOut;
 pub use rows::{EntryWord, FinalState, Grant, MissedOccurrence, Row, TraceCounts};
 pub use scratch::Scratch;
+pub use tallies::LineTally;
 pub use texts::{push_lines, push_rows};
 
 #[cfg(test)]

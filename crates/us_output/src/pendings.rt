@@ -160,12 +160,13 @@ pub(crate) fn list_sids(
     ensures bits { OnOk result (AllByRecursion (λ sid. sid < 2 ^ 14) sids.new.items) }
 {
     sids.clear();
+    sids.reserve(MAX_PENDINGS)?;
     for pending in pendings {
         if sids.len() == MAX_PENDINGS {
             break;
         }
         if pending.is_on(id) {
-            sids.push(pending.sid())?;
+            sids.push_reserved(pending.sid());
         }
     }
     Ok(())

@@ -66,7 +66,8 @@ fn push_record(
     push_opening(text, round, &head, runs.len() + 1 + sids.len())?;
     push_runs(text, part.channel(), runs)?;
     push_element(text, Element::null_at(len))?;
-    push_pendings(text, sids, len)
+    push_pendings(text, sids, len)?;
+    Ok(())
 }
 
 /// Adds what stands of a record before so many elements: the round, the length of the body, and its front.

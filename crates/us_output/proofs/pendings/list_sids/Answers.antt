@@ -1,9 +1,9 @@
-use Rattle.std.proofs.Common.{◌≡◌, ◌<◌, ◌^◌, [], ◌∷◌, length, vec_len, vec_capacity, ap, sym, ◌∙◌, arith}
+use Rattle.std.proofs.Common.{◌≡◌, ◌<◌, ◌^◌, [], ◌∷◌, length, vec_capacity, ap, sym, ◌∙◌, arith}
 use Rattle.std.proofs.lemmas.List.{length-append}
 use Rattle.us_output.specs.Outputs.{pendings_on}
 use Rattle.us_output.proofs.PartLemmas.{all_append}
 use Rattle.us_output.proofs.PendingLemmas.{one_sid, no_sid, all_sids, enough_sids}
-use Rattle.us_output.proofs.pendings.list_sids.Goals.{then-is_on, else-is_on, else-loop-pending-test, then-loop-pending-test+then-len-eq-MAX_PENDINGS}
+use Rattle.us_output.proofs.pendings.list_sids.Goals.{then-is_on, else-is_on}
 use Rattle.us_output.proofs.pendings.list_sids.Goals as goal
 
 pub loop-pending-preserved : goal.loop-pending-preserved
@@ -21,8 +21,7 @@ loop-pending-preserved c =
             more ∙ inv.0,
             omega (arith, few, length-append sids (w.sid.result ∷ [])),
             all_append (λ sid. sid < 2 ^ 14) sids (w.sid.result ∷ []) inv.2 (w.sid.ensures.in_range, tt),
-            omega (arith, inv.3, ap vec_len w.sids-is, w.push_reserved.ensures.len),
-            omega (arith, inv.4, ap vec_capacity w.sids-is, w.push_reserved.ensures.capacity),
+            omega (arith, inv.3, ap vec_capacity w.sids-is, w.push_reserved.ensures.capacity),
           )
       | else-is_on w ↦
           let now = ap (λ v. v.items) w.sids-is in
@@ -32,21 +31,20 @@ loop-pending-preserved c =
             more ∙ inv.0,
             inv.1,
             inv.2,
-            omega (arith, inv.3, ap vec_len w.sids-is),
-            omega (arith, inv.4, ap vec_capacity w.sids-is),
+            omega (arith, inv.3, ap vec_capacity w.sids-is),
           )
     ]
 
-pub returns-clause-value : goal.returns-clause-value
+pub returns-after-loop-pending-clause-value : goal.returns-after-loop-pending-clause-value
 unfolding pendings_on
-returns-clause-value c =
+returns-after-loop-pending-clause-value c =
+    all_sids c.args.id c.args.pendings.now c.loop-pending.sids.items (pendings_on c.args.id c.args.pendings.now)
+    c.loop-pending.pending-index c.loop-pending-test.false c.loop-pending.invariant.0
+
+pub returns-then-len-eq-MAX_PENDINGS-clause-value : goal.returns-then-len-eq-MAX_PENDINGS-clause-value
+unfolding pendings_on
+returns-then-len-eq-MAX_PENDINGS-clause-value c =
     let sids = c.loop-pending.sids.items in
-    elim c.loop-pending-test.branch [
-      | else-loop-pending-test w ↦
-          all_sids c.args.id c.args.pendings.now sids (pendings_on c.args.id c.args.pendings.now) c.loop-pending.pending-index
-          w.loop-pending-test.false c.loop-pending.invariant.0
-      | then-loop-pending-test+then-len-eq-MAX_PENDINGS w ↦
-          let count : w.len.result ≡ length sids = w.len.ensures ∙ c.loop-pending.sids.ok.0 in
-          let full : length sids ≡ 38 = omega (arith, count, w.if-len-eq-MAX_PENDINGS.true) in
-          enough_sids sids _ (pendings_on c.args.id c.args.pendings.now) full c.loop-pending.invariant.0
-    ]
+    let count : c.len.result ≡ length sids = c.len.ensures ∙ c.loop-pending.sids.ok.0 in
+    let full : length sids ≡ 38 = omega (arith, count, c.if-len-eq-MAX_PENDINGS.true) in
+    enough_sids sids _ (pendings_on c.args.id c.args.pendings.now) full c.loop-pending.invariant.0

@@ -1,5 +1,5 @@
-use Rattle.std.proofs.Common.{◌≡◌, ◌-◌, ◌<◌, ◌≤◌, ◌^◌, ◌==◌, ◌++◌, map, length, take, drop, vec_len, vec_capacity}
-use Rattle.std.specs.Prelude.{filter, min}
+use Rattle.std.proofs.Common.{◌≡◌, ◌-◌, ◌<◌, ◌≤◌, ◌^◌, ◌==◌, ◌++◌, map, length, take, drop, vec_capacity}
+use Rattle.std.specs.Prelude.{filter}
 use Rattle.std.specs.List.{AllByRecursion}
 use Rattle.us_output.proofs.pendings.list_sids.Given as goal
 
@@ -9,4 +9,4 @@ invariant-loop-pending l =
     (drop l.pending-index l.pendings))) ≡ take 38 (map (λ pending. pending.1) (filter (λ pending. pending.0 == l.id) l.pendings)))
     × (length l.sids.items ≤ 38)
     × AllByRecursion (λ sid. sid < 2 ^ 14) l.sids.items
-    × (vec_len l.sids ≤ l.pending-index) × (min (length l.pendings) 38 ≤ vec_capacity l.sids)
+    × (38 ≤ vec_capacity l.sids)
