@@ -11,7 +11,6 @@ use Rattle.us_codec.proofs.PutLemmas.{length-spelling}
 use Rattle.us_flows.specs.declared.channels.Channel.{Channel}
 use Rattle.us_flows.specs.Tables.{Tables, map_len}
 use Rattle.us_holes.specs.Runs.{Run, runs_of}
-use Rattle.us_holes.specs.Boards.{max_assignments}
 use Rattle.us_holes.specs.Kept.{IsBoard}
 use Rattle.us_channel.specs.Maps.{head_of, elements_of, map_of, pending_element, run_element}
 use Rattle.us_channel.specs.Channels.{Built}

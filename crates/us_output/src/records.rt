@@ -71,12 +71,7 @@ fn push_record(
 }
 
 /// Adds what stands of a record before so many elements: the round, the length of the body, and its front.
-fn push_opening(
-    text: &mut Vec<u8>,
-    round: u32,
-    head: &Head,
-    count: usize,
-) -> Result<(), NoMemory>
+fn push_opening(text: &mut Vec<u8>, round: u32, head: &Head, count: usize) -> Result<(), NoMemory>
     requires { count ≤ max_elements }
     ensures { OnOk result (text.new.items ≡
         text.old.items ++ to_be_bytes w32 round ++ to_be_bytes w16 (16 + 4 * count) ++ front head.now count) }

@@ -1,4 +1,4 @@
-use Rattle.std.proofs.Common.{◌≡◌, ◌+◌, length, ◌∙◌, sym, arith}
+use Rattle.std.proofs.Common.{◌≡◌, ◌+◌, ◌∙◌, arith}
 use Rattle.us_holes.specs.Runs.{runs_of}
 use Rattle.us_channel.specs.Maps.{head_of}
 use Rattle.us_channel.proofs.MapLemmas.{follow_starts}
