@@ -132,7 +132,7 @@ fn straight_as_plain(rt: HostRuntime) -> Result<(), Fail> {
 
 /// Run by `tools/refuse-memory` too, where each allocation is refused in turn: texts are whole, or there are none.
 #[test]
-fn straight_without_memory(rt: HostRuntime) {
+fn refused_memory(rt: HostRuntime) {
     if let Ok(Some(texts)) = texts_of(rt.alloc()) {
         assert_eq!(&rt; texts.straight.as_slice(), texts.plain.as_slice());
     }
