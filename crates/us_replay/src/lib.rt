@@ -12,11 +12,7 @@
 //! What these bytes are stands in `specs/`, in the order of its `Lib.antt`.
 #![tactic(auto)]
 
-// The lines of the report, and that their numbers have 64 bits.
-mod fields;
-mod lines;
-
-// The bytes of a round: its records and its lines.
+// The bytes of a round's records.
 mod texts;
 
 // The requests of a round, which workers collect.

@@ -7,7 +7,7 @@ ghost use Rattle.us_requests.specs.Readings.{max_bytes};
 ghost use Rattle.us_requests.specs.Traces.{asks_in};
 ghost use Rattle.us_round.specs.Rounds.{opening};
 ghost use Rattle.us_lawful.specs.Output.{judged_of};
-ghost use Rattle.us_lawful.specs.Texts.{HasFields};
+ghost use Rattle.us_output.specs.Lines.{HasFields};
 ghost use Rattle.us_replay.specs.Endings.{comes_before, blames_maps, blames_report};
 ghost use Rattle.us_replay.specs.Replays.{Growth, Replayed, WroteLawful};
 ghost use Rattle.us_replay.specs.Progress.{Along, CanMake, IsLawfulOutput, IsMade, RanTrace, output_in};

@@ -1,13 +1,10 @@
 ghost use Rattle.std.specs.Prelude.{◌≡◌, ◌^◌, ◌<◌, ◌++◌, length, OnOk};
-ghost use Rattle.std.specs.List.{AllByRecursion};
 ghost use Rattle.us_codec.specs.Bodies.{spelling};
 ghost use Rattle.us_codec.specs.MapsFiles.{Piece, record_bytes};
-ghost use Rattle.us_lawful.specs.Files.{records, lines};
-ghost use Rattle.us_lawful.specs.Texts.{HasFields};
+ghost use Rattle.us_output.specs.Files.{records};
 
-use crate::lines::{LINE_BYTES, push_line};
 use us_codec::{MAX_BODY_BYTES, Map, encode_into};
-use us_round::{RoundOut, Row};
+use us_round::RoundOut;
 use us_slots::NoMemory;
 
 /// Adds the records of a round: one for each MAP, in table order. What stood in `body` doesn't matter.
@@ -50,22 +47,5 @@ fn push_record(text: &mut Vec<u8>, round: u32, body: &[u8]) -> Result<(), NoMemo
     text.extend_from_slice(&round.to_be_bytes())?;
     text.extend_from_slice(&length.to_be_bytes())?;
     text.extend_from_slice(body)?;
-    Ok(())
-}
-
-/// Adds the lines of some rows. What stood in `line` doesn't matter.
-// `lines` is closed elsewhere: only here is it the texts of rows.
-#[tactic(auto, unfolding(us_lawful::specs::Files::lines))]
-pub(crate) fn push_lines(
-    text: &mut Vec<u8>,
-    line: &mut [u8; LINE_BYTES],
-    rows: &[Row],
-) -> Result<(), NoMemory>
-    ensures lines { OnOk result (text.new.items ≡ text.old.items ++ lines rows.now) }
-    ensures fields { OnOk result (AllByRecursion HasFields rows.now) }
-{
-    for row in rows {
-        push_line(text, line, row)?;
-    }
     Ok(())
 }

@@ -1,22 +1,22 @@
 ghost use Rattle.std.specs.Prelude.{◌≡◌, ◌+◌, ◌≤◌, length, IfOk, OnOk};
 ghost use Rattle.std.specs.List.{AllByRecursion};
 ghost use Rattle.us_requests.specs.Traces.{max_asked, max_asks};
-ghost use Rattle.us_lawful.specs.Texts.{HasFields};
+ghost use Rattle.us_output.specs.Lines.{HasFields};
 ghost use Rattle.us_replay.specs.Collecting.{AreAsks, chunk_quota};
 ghost use Rattle.us_replay.specs.Progress as spec;
 ghost use Rattle.us_replay.specs.Progress.{HasRoom, last_rows, summary_after, with_asks, with_last, with_round};
 
 use super::tallies::Tally;
 use crate::collecting::Collector;
-use crate::lines::LINE_BYTES;
 use crate::summaries::Summary;
-use crate::texts::{push_lines, push_records};
+use crate::texts::push_records;
 use std::alloc::Global;
 use std::marker::Model;
 use std::thread::Threads;
 use us_codec::MAX_BODY_BYTES;
 use us_crew::Gate;
 use us_intake::MAX_CLUSTERS;
+use us_output::{Scratch, push_rows};
 use us_requests::{Ask, Counts};
 use us_round::{RoundOut, Row, State, TraceCounts};
 use us_slots::NoMemory;
@@ -29,9 +29,9 @@ pub(crate) struct Progress {
     to_maps: Vec<u8>,
     to_report: Vec<u8>,
     tally: Tally,
-    // Where a MAP is encoded, and where a line is put together.
+    // Where a MAP is encoded, and what texts keep.
     body: [u8; MAX_BODY_BYTES],
-    line: [u8; LINE_BYTES],
+    scratch: Scratch,
 }
 
 impl Model for Progress {
@@ -62,7 +62,7 @@ impl Progress {
                 missed: 0,
             },
             body: [0; MAX_BODY_BYTES],
-            line: [0; LINE_BYTES],
+            scratch: Scratch::new(alloc),
         })
     }
 
@@ -103,7 +103,7 @@ impl Progress {
         self.to_maps.clear();
         push_records(&mut self.to_maps, &mut self.body, out)?;
         self.to_report.clear();
-        push_lines(&mut self.to_report, &mut self.line, out.rows())
+        push_rows(&mut self.to_report, &mut self.scratch, out.rows())
     }
 
     /// Makes the end of the report, of the state after all rounds. After want of memory nothing is said of what stands
@@ -129,7 +129,7 @@ impl Progress {
         }))?;
         self.to_maps.clear();
         self.to_report.clear();
-        push_lines(&mut self.to_report, &mut self.line, &rows)
+        push_rows(&mut self.to_report, &mut self.scratch, &rows)
     }
 
     /// What is to be written to the maps file.

@@ -4,7 +4,7 @@ use Rattle.us_flows.specs.Tables.{Tables}
 use Rattle.us_flows.specs.Clusters.{clusters_of}
 use Rattle.us_requests.specs.Traces.{TraceAsks, asks_in}
 use Rattle.us_lawful.specs.Output.{judged_of}
-use Rattle.us_lawful.specs.Texts.{HasFields}
+use Rattle.us_output.specs.Lines.{HasFields}
 use Rattle.us_lawful.specs.Runs.{cuts_in}
 use Rattle.us_replay.specs.Progress.{Along, opening_progress, output_in}
 use Rattle.us_replay.proofs.ReplayStopLemmas.{stops-between, none-kept, nothing-yet}
