@@ -148,8 +148,8 @@ module _ (passes : ℕ → Bool) where
         λ i there. (let no : 0 ≡ suc i = once 0 (suc i) number at there in omega (arith, no)) in
         ap (λ p. put_in p (places_from passes place (n ∷ numbers))) here ∙
         rw (ap passes same ∙ none, ap more same ∙ some) (
-          put-first place (places_from passes (place + 1) numbers) (places-from (place + 1) numbers) ∙
-          ap (λ at. place ∷ at) (sym (same-elsewhere (place + 1) numbers elsewhere))
+        put-first place (places_from passes (place + 1) numbers) (places-from (place + 1) numbers) ∙
+        ap (λ at. place ∷ at) (sym (same-elsewhere (place + 1) numbers elsewhere))
         )
     put-more place (suc k) (n ∷ numbers) none some at once =
         let next : place + suc k ≡ place + 1 + k = omega arith in

@@ -232,8 +232,8 @@ pub walked-all : (k : ℕ) (counts cut : List ℕ) → length counts ≡ length 
 walked-all k counts cut long past =
     let none : drop k counts ≡ [] = drop_all k counts (omega (arith, long, past)) in
     sym (
-      ap (λ rest. take k counts ++ with_cut rest (drop k cut)) none ∙ append-nil (take k counts) ∙
-      take_all k counts (omega (arith, long, past))
+    ap (λ rest. take k counts ++ with_cut rest (drop k cut)) none ∙ append-nil (take k counts) ∙
+    take_all k counts (omega (arith, long, past))
     )
 
 -- and so is the room for them

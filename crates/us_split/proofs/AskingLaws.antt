@@ -59,7 +59,6 @@ map_passing {Y} passes f turns = ap (filter_map f) (turns_pass passes turns) ∙
 
 -- A turn that doesn't ask.
 
-
 no_shares : (outstanding : List ℕ) (ledger : Ledger) (turn : Turn) → asks outstanding turn.number ≡ false →
     sum (shares_of outstanding ledger turn) ≡ 0
 no_shares outstanding ledger turn none =
@@ -158,21 +157,21 @@ module _ (outstanding : List ℕ) (c : Channel) where
         let rest : Planned → List Claim = λ p. claims_at c (places_from (asks outstanding) (place + 1) (numbers_of turns))
         (plan_of outstanding (after_turn (ledger_with budgets known) p) (passing turns)) in
         rw t (
-          ap (λ p. cons_option (claim_on c place p) (rest p)) same ∙
-          option_before (claim_on c place planned) (rest planned) ∙
-          ap (λ claims. option_to_list (claim_on c place planned) ++ claims) later
+        ap (λ p. cons_option (claim_on c place p) (rest p)) same ∙
+        option_before (claim_on c place planned) (rest planned) ∙
+        ap (λ claims. option_to_list (claim_on c place planned) ++ claims) later
         )
     | inr f ↦
         let planned : Planned = planned_of outstanding (ledger_with budgets allowances) turn in
         let none : sum planned.shares ≡ 0 = no_shares outstanding (ledger_with budgets allowances) turn f in
         let later = claims_same (place + 1) turns budgets known allowances (rw f at agree) in
         rw f (
-          later ∙
-          ap (λ ledger. claims_from c (place + 1) (plan_of outstanding ledger turns))
-          (sym (ledger_stays planned (ledger_with budgets allowances) none)) ∙
-          ap (λ claim. option_to_list claim ++ claims_from c (place + 1)
-          (plan_of outstanding (after_turn (ledger_with budgets allowances) planned) turns))
-          (sym (no_claim place planned c none))
+        later ∙
+        ap (λ ledger. claims_from c (place + 1) (plan_of outstanding ledger turns))
+        (sym (ledger_stays planned (ledger_with budgets allowances) none)) ∙
+        ap (λ claim. option_to_list claim ++ claims_from c (place + 1)
+        (plan_of outstanding (after_turn (ledger_with budgets allowances) planned) turns))
+        (sym (no_claim place planned c none))
         )
   ]
 

@@ -157,7 +157,13 @@ impl Askers {
     pub fn settle(&mut self)
         ensures { self.new ≡ spec.settled self.old }
     {
-        note_pending(&mut self.pending, &self.asking, &self.numbers, &self.outstanding, &self.left);
+        note_pending(
+            &mut self.pending,
+            &self.asking,
+            &self.numbers,
+            &self.outstanding,
+            &self.left,
+        );
         drop_answered(&mut self.asking, &self.numbers, &self.left);
         let outstanding = self.outstanding.as_mut_slice();
         outstanding.copy_from_slice(&self.left);

@@ -83,13 +83,23 @@ fn tell(alloc: Global, askers: &Askers) -> Result<String, AllocError> {
 #[test]
 fn who_asks_and_who_is_pending(rt: HostRuntime) -> Result<(), Fail> {
     let Some(config) = config_of(rt.alloc(), &THREE_CLUSTERS) else {
-        same(&rt, "no configuration", "three clusters", THREE_CLUSTERS.name);
+        same(
+            &rt,
+            "no configuration",
+            "three clusters",
+            THREE_CLUSTERS.name,
+        );
         return Ok(());
     };
     let mut askers = Askers::new(rt.alloc(), &config)?;
     for (step, told) in STEPS {
         take(&mut askers, *step);
-        same(&rt, tell(rt.alloc(), &askers)?.as_str(), told, "after a step");
+        same(
+            &rt,
+            tell(rt.alloc(), &askers)?.as_str(),
+            told,
+            "after a step",
+        );
     }
     Ok(())
 }

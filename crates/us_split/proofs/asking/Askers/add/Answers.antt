@@ -19,8 +19,13 @@ list_turn-requires-clause-room c none =
     let below = subst (λ s. cluster < length s.outstanding) (sym c.self.view_is) c.requires.cluster in
     let zero : slice_index a.outstanding.items cluster ≡ 0 =
     get_or_default a.outstanding.items cluster 0 c.index-before.result.now below ∙ sym c.index-before.ensures ∙ none in
-    omega (arith, a.asking.ok.0, c.self.invariant.room_to_ask, listed-fewer a.numbers.items a.places.items
-    a.outstanding.items a.asking.items cluster c.self.invariant.turns c.self.invariant.listed below zero)
+    omega (
+      arith,
+      a.asking.ok.0,
+      c.self.invariant.room_to_ask,
+      listed-fewer a.numbers.items a.places.items
+          a.outstanding.items a.asking.items cluster c.self.invariant.turns c.self.invariant.listed below zero,
+    )
 
 pub invariant_of-self : goal.invariant_of-self
 invariant_of-self c =

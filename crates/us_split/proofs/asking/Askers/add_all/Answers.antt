@@ -12,8 +12,14 @@ loop-cluster-preserved c =
     let k = c.loop-cluster.cluster in
     let cuts = c.args.cuts.now in
     let inv = c.loop-cluster.invariant in
-    let inside : k < length cuts = omega (arith, c.loop-cluster-test.true, c.len-cluster-end.ensures, c.self.inside.outstanding.ok.0,
-    c.requires.clusters, ap (λ s. length s.outstanding) c.self.view_is) in
+    let inside : k < length cuts = omega (
+      arith,
+      c.loop-cluster-test.true,
+      c.len-cluster-end.ensures,
+      c.self.inside.outstanding.ok.0,
+      c.requires.clusters,
+      ap (λ s. length s.outstanding) c.self.view_is,
+    ) in
     record {
       numbers = ap (λ b. b.numbers) c.add.ensures ∙ inv.numbers;
       pending = ap (λ b. b.pending) c.add.ensures ∙ inv.pending;
@@ -32,8 +38,14 @@ returns c =
     let now = c.args.self.now in
     let cuts = c.args.cuts.now in
     let inv = c.loop-cluster.invariant in
-    let past : length cuts ≤ c.loop-cluster.cluster = omega (arith, c.loop-cluster-test.false, c.len-cluster-end.ensures, c.self.inside.outstanding.ok.0,
-    c.requires.clusters, ap (λ s. length s.outstanding) c.self.view_is) in
+    let past : length cuts ≤ c.loop-cluster.cluster = omega (
+      arith,
+      c.loop-cluster-test.false,
+      c.len-cluster-end.ensures,
+      c.self.inside.outstanding.ok.0,
+      c.requires.clusters,
+      ap (λ s. length s.outstanding) c.self.view_is,
+    ) in
     same_asking a now.numbers (with_cut now.outstanding cuts) (with_cut now.left cuts) now.pending inv.numbers
     (walked-all c.loop-cluster.cluster a.outstanding cuts inv.one_each past ∙ inv.outstanding)
     (walked-all c.loop-cluster.cluster a.left cuts inv.left_each past ∙ inv.left) inv.pending

@@ -25,9 +25,9 @@ pub invariant_of-result : goal.invariant_of-result
 invariant_of-result c =
     let numbers = c.in_ok-numbers.numbers in
     rw (c.in_ok-outstanding.ensures, c.in_ok-left.ensures, c.in_ok-asking.ensures.items, c.clusters-clusters.ensures.value) (
-      askers-new c.args.config.now numbers.items c.in_ok-places.places.items _ _ c.clusters-clusters.ensures.lawful
-      c.in_ok-numbers.ensures (c.in_ok-places.ensures.one_each ∙ c.clusters-clusters.ensures.value)
-      (λ place n at. c.in_ok-places.ensures.found place n (ap (λ ns. slice_get ns place) c.deref.ensures.value ∙ at))
-      (omega (arith, numbers.ok.0, c.len.ensures, c.in_ok-asking.ensures.capacity))
-      (omega (arith, numbers.ok.0, c.len-2.ensures, c.in_ok-pending.ensures.capacity))
+    askers-new c.args.config.now numbers.items c.in_ok-places.places.items _ _ c.clusters-clusters.ensures.lawful
+    c.in_ok-numbers.ensures (c.in_ok-places.ensures.one_each ∙ c.clusters-clusters.ensures.value)
+    (λ place n at. c.in_ok-places.ensures.found place n (ap (λ ns. slice_get ns place) c.deref.ensures.value ∙ at))
+    (omega (arith, numbers.ok.0, c.len.ensures, c.in_ok-asking.ensures.capacity))
+    (omega (arith, numbers.ok.0, c.len-2.ensures, c.in_ok-pending.ensures.capacity))
     )

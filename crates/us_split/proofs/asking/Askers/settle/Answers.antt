@@ -32,8 +32,13 @@ note_pending-requires-clause-numbers c =
 pub note_pending-requires-clause-room : goal.note_pending-requires-clause-room
 note_pending-requires-clause-room c =
     let a = c.self.inside in
-    omega (arith, ap length c.deref.ensures.value, ap length c.self.invariant.listed, c.self.invariant.room_for_pending,
-    places-few (asks a.outstanding.items) 0 a.numbers.items)
+    omega (
+      arith,
+      ap length c.deref.ensures.value,
+      ap length c.self.invariant.listed,
+      c.self.invariant.room_for_pending,
+      places-few (asks a.outstanding.items) 0 a.numbers.items,
+    )
 
 pub drop_answered-requires-clause-places : goal.drop_answered-requires-clause-places
 drop_answered-requires-clause-places c =
@@ -52,9 +57,9 @@ invariant_of-self c =
     c.deref-5.ensures.value c.deref-6.ensures.value in
     subst (λ bytes. AreAskers a.numbers.items a.places.items bytes a.left.items c.drop_answered.new.list.items
     (vec_capacity c.drop_answered.new.list) (vec_capacity c.note_pending.new.pending)) (sym (brought c)) (
-      askers-settled a.numbers.items a.places.items a.outstanding.items a.left.items a.asking.items
-      c.drop_answered.new.list.items _ _ _ _ c.self.invariant kept
-      (omega (arith, c.drop_answered.ensures.capacity)) (omega (arith, c.note_pending.ensures.capacity))
+    askers-settled a.numbers.items a.places.items a.outstanding.items a.left.items a.asking.items
+    c.drop_answered.new.list.items _ _ _ _ c.self.invariant kept
+    (omega (arith, c.drop_answered.ensures.capacity)) (omega (arith, c.note_pending.ensures.capacity))
     )
 
 pub returns : goal.returns
