@@ -13,7 +13,13 @@ pub mod Claims
 pub mod PlanLaws
 -- whose the claims of a plan are
 pub mod Laws
+-- who asks
+pub mod Asking
+-- what plans one round after another
+pub mod Planners
 -- the definitions at small inputs
 pub mod Examples
 -- inside the crate, and of no use to a reader of the promise: a plan in the making
 pub mod PartialPlans
+-- and turns by the places of their channels
+pub mod TurnRows

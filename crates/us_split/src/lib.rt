@@ -30,12 +30,25 @@ mod plans;
 // The plan of a round.
 mod planning;
 
+// Turns by the places of their channels,
+mod turn_rows;
+
+// channels by their places,
+mod by_places;
+
+// the turns of a round by these,
+mod row_plans;
+
+// and the planner that keeps them from round to round.
+mod planner;
+
 // Laws of its claims.
 mod laws;
 
 pub use claims::{Claim, Claimant};
 pub use divisions::{MAX_CHANNELS_OF_FLOW, divide};
 pub use laws::{claims_are_of_turns, clusters_claim_once};
+pub use planner::Planner;
 pub use planning::{plan, plan_with};
 pub use plans::Plan;
 

@@ -6,7 +6,9 @@ ghost use Rattle.us_flows.specs.Tables.{segment_header_bytes};
 ghost use Rattle.us_split.specs.Divisions.{divided};
 ghost use Rattle.us_split.specs.PartialPlans.{budget_in};
 ghost use Rattle.us_split.specs.Plans.{budget_of, weight, max_burst_bytes};
+ghost use Rattle.us_split.specs.TurnRows.{weight_at};
 
+use crate::by_places::weigh_at;
 use crate::channel_plans::{ChannelPlan, weigh};
 use crate::divisions::{MAX_CHANNELS_OF_FLOW, divide, sum_of};
 use std::marker::Model;
@@ -55,6 +57,22 @@ impl Shares {
         Shares {
             bytes,
             count: ids.len(),
+        }
+    }
+
+    /// The bytes that the channels at these places can carry behind a header.
+    pub(crate) fn weights_at(channels: &[ChannelPlan], places: &[u8], header: u32) -> Shares
+        requires places { AllByRecursion (λ place. place < length channels.now) places.now }
+        requires few { length places.now ≤ max_channels_of_flow }
+        requires header { header ≤ segment_header_bytes }
+        ensures value { result ≡ map (weight_at header channels.now) places.now }
+        ensures bursts { (k : ℕ) → slice_index result k + header ≤ max_burst_bytes }
+    {
+        let mut bytes = [0; MAX_CHANNELS_OF_FLOW];
+        weigh_at(channels, places, header, &mut bytes[..places.len()]);
+        Shares {
+            bytes,
+            count: places.len(),
         }
     }
 
