@@ -7,3 +7,4 @@ pub mod PlanLawLemmas
 pub mod ClaimLemmas
 pub mod ChannelShareLemmas
 pub mod TurnClaimLaws
+pub mod ByPlaceLemmas

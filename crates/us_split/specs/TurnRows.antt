@@ -7,6 +7,7 @@ use Rattle.us_flows.specs.declared.channels.Channel.{Channel}
 use Rattle.us_flows.specs.Tables.{Tables}
 use Rattle.us_flows.specs.Clusters.{Turn, turns_of}
 use Rattle.us_flows.specs.Lawful.{AreTables}
+use Rattle.us_split.specs.declared.turn_rows.Seat.{Seat}
 use Rattle.us_split.specs.Divisions.{divided}
 use Rattle.us_split.specs.Plans.{weight, at_most, max_burst_bytes}
 use Rattle.us_split.specs.PartialPlans.{Asker, ChannelPlan, PartialPlan, asker_of, budget_in, with_share}
@@ -16,30 +17,34 @@ pub record IsTable (b : ChannelBursts) (table : List ℕ) : Type 0 where
   pub each : (slots : ℕ) → slots < length table → slice_index table slots ≡ capacity_of b.time b.long slots
   pub bursts : (slots : ℕ) → slice_index table slots ≤ max_burst_bytes
 
--- a turn: who asks, the place of each of its channels in the table of channels, and the SID there
+-- a turn: who asks, and where its cluster has its SIDs, a seat for each channel of its flow
 pub record TurnRow : Type 0 where
   pub asker : Asker
-  pub places : List ℕ
-  pub sids : List ℕ
+  pub seats : List Seat
 
 abbrev pub place_or_first : Option ℕ → ℕ
 place_or_first None = 0
 place_or_first (Some place) = place
 
 -- where the channel with this id stands; each flow has channels of the table alone
-abbrev pub place_of : List Channel → ℕ → ℕ
+unfoldable pub place_of : List Channel → ℕ → ℕ
 place_of channels id = place_or_first (position (λ c. c.id == id) channels)
+
+-- the seats on channels with these ids, from a position on
+abbrev pub seats_from : List Channel → ℕ → List ℕ → List ℕ → List Seat
+seats_from channels position [] sids = []
+seats_from channels position (id ∷ ids) sids =
+    record { place = place_of channels id; sid = slice_index sids position } ∷ seats_from channels (position + 1) ids sids
 
 -- a turn that has this place among the turns of a round
 abbrev pub row_of : List Channel → ℕ → Turn → TurnRow
 row_of channels place turn = record {
   asker = asker_of place turn;
-  places = map (place_of channels) turn.cluster.flow.channels;
-  sids = turn.cluster.sids;
+  seats = seats_from channels 0 turn.cluster.flow.channels turn.cluster.sids;
 }
 
 -- turns, of which the first has this place
-unfoldable pub rows_from : List Channel → ℕ → List Turn → List TurnRow
+abbrev pub rows_from : List Channel → ℕ → List Turn → List TurnRow
 rows_from channels place [] = []
 rows_from channels place (turn ∷ turns) = row_of channels place turn ∷ rows_from channels (place + 1) turns
 
@@ -64,23 +69,23 @@ changed f [] place = []
 changed f (c ∷ channels) zero = f c ∷ channels
 changed f (c ∷ channels) (suc place) = c ∷ changed f channels place
 
--- shares on the channels at these places, from a position on
-unfoldable pub put_from : Asker → ℕ → List ℕ → List ℕ → List ℕ → List ChannelPlan → List ChannelPlan
-put_from asker position [] sids shares channels = channels
-put_from asker position (place ∷ places) sids shares channels =
-    put_from asker (position + 1) places sids shares
-    (changed (with_share asker position (slice_index sids position) (slice_index shares position)) channels place)
+-- shares at these seats, from a position on
+abbrev pub put_from : Asker → ℕ → List Seat → List ℕ → List ChannelPlan → List ChannelPlan
+put_from asker position [] shares channels = channels
+put_from asker position (seat ∷ seats) shares channels =
+    put_from asker (position + 1) seats shares
+    (changed (with_share asker position seat.sid (slice_index shares position)) channels seat.place)
 
 -- the shares of a turn of so many outstanding bytes,
 abbrev pub shares_in : TurnRow → ℕ → PartialPlan → List ℕ
 shares_in row bytes partial =
     divided (at_most (slice_index_or partial.allowances row.asker.claimant.place None) bytes)
-    (map (weight_at row.asker.header partial.channels) row.places)
+    (map (λ seat. weight_at row.asker.header partial.channels seat.place) row.seats)
 
 -- and what is planned then
 abbrev pub with_shares : TurnRow → List ℕ → PartialPlan → PartialPlan
 with_shares row shares partial = record {
-  channels = put_from row.asker 0 row.places row.sids shares partial.channels;
+  channels = put_from row.asker 0 row.seats shares partial.channels;
   allowances = set partial.allowances row.asker.claimant.place
       (option_map (λ most. most - sum shares) (slice_index_or partial.allowances row.asker.claimant.place None));
 }
@@ -95,7 +100,7 @@ with_row_if (Some row) outstanding partial =
     with_row row (slice_index outstanding row.asker.claimant.cluster) partial
 
 -- and of turns, one after another
-unfoldable pub with_rows : List TurnRow → List ℕ → List ℕ → PartialPlan → PartialPlan
+abbrev pub with_rows : List TurnRow → List ℕ → List ℕ → PartialPlan → PartialPlan
 with_rows rows outstanding [] partial = partial
 with_rows rows outstanding (place ∷ places) partial =
     with_rows rows outstanding places (with_row_if (slice_get rows place) outstanding partial)
@@ -107,6 +112,6 @@ partial_of channels allowances = record { channels = channels; allowances = allo
 -- a row leads to a flow and to channels
 pub record IsRowWithin (flows channels : ℕ) (row : TurnRow) : Type 0 where
   pub flow : row.asker.claimant.place < flows
-  pub inside : AllByRecursion (λ place. place < channels) row.places
-  pub few : length row.places ≤ 8
+  pub inside : AllByRecursion (λ seat. seat.place < channels) row.seats
+  pub few : length row.seats ≤ 8
   pub header : row.asker.header ≤ 8

@@ -8,6 +8,7 @@ ghost use Rattle.us_split.specs.PartialPlans.{with_share};
 ghost use Rattle.us_split.specs.TurnRows.{changed, cleared, put_from, weight_at};
 
 use crate::channel_plans::{Asker, ChannelPlan};
+use crate::turn_rows::Seat;
 use us_slots::NoMemory;
 
 /// Gives the claims of all channels up, and has so many minislots of each.
@@ -32,16 +33,16 @@ fn weight_of(channels: &[ChannelPlan], place: usize, header: u32) -> u32
     channels[place].weight(header)
 }
 
-/// Writes the most bytes that the channels at these places can carry behind a header.
-pub(crate) fn weigh_at(channels: &[ChannelPlan], places: &[u8], header: u32, weights: &mut [u32])
-    requires places { AllByRecursion (λ place. place < length channels.now) places.now }
-    requires same_length { length weights.old ≡ length places.now }
+/// Writes the most bytes that the channels at these seats can carry behind a header.
+pub(crate) fn weigh_at(channels: &[ChannelPlan], seats: &[Seat], header: u32, weights: &mut [u32])
+    requires inside { AllByRecursion (λ seat. seat.place < length channels.now) seats.now }
+    requires same_length { length weights.old ≡ length seats.now }
     requires header { header ≤ segment_header_bytes }
-    ensures value { weights.new ≡ map (weight_at header channels.now) places.now }
+    ensures value { weights.new ≡ map (λ seat. weight_at header channels.now seat.place) seats.now }
     ensures bursts { (k : ℕ) → slice_index weights.new k + header ≤ max_burst_bytes }
 {
-    for i in 0..places.len() {
-        weights[i] = weight_of(channels, usize::from(places[i]), header);
+    for i in 0..seats.len() {
+        weights[i] = weight_of(channels, usize::from(seats[i].place), header);
     }
 }
 
@@ -50,40 +51,38 @@ fn put_one(
     channels: &mut [ChannelPlan],
     asker: Asker,
     position: u8,
-    place: usize,
-    sid: u16,
+    seat: Seat,
     share: u32,
 ) -> Result<(), NoMemory>
-    requires place { place < length channels.old }
+    requires inside { seat.place < length channels.old }
     requires burst { share + asker.header ≤ max_burst_bytes }
-    ensures share { OnOk result (channels.new ≡ changed (with_share asker position sid share) channels.old place) }
+    ensures share { OnOk result (channels.new ≡
+        changed (with_share asker position seat.sid share) channels.old seat.place) }
     ensures kept { map (λ c. c.channel) channels.new ≡ map (λ c. c.channel) channels.old }
 {
     if share == 0 {
         return Ok(());
     }
-    channels[place].claim(asker, position, sid, share)
+    channels[usize::from(seat.place)].claim(asker, position, seat.sid, share)?;
+    Ok(())
 }
 
-/// Claims shares on the channels at these places, one after another.
+/// Claims shares at these seats, one after another.
 pub(crate) fn put_all(
     channels: &mut [ChannelPlan],
     asker: Asker,
-    places: &[u8],
-    sids: &[u16],
+    seats: &[Seat],
     shares: &[u32],
 ) -> Result<(), NoMemory>
-    requires places { AllByRecursion (λ place. place < length channels.old) places.now }
-    requires few { length places.now ≤ max_channels_of_flow }
-    requires sids { length sids.now ≡ length places.now }
-    requires shares { length shares.now ≡ length places.now }
+    requires inside { AllByRecursion (λ seat. seat.place < length channels.old) seats.now }
+    requires few { length seats.now ≤ max_channels_of_flow }
+    requires one_each { length shares.now ≡ length seats.now }
     requires bursts { (k : ℕ) → slice_index shares.now k + asker.header ≤ max_burst_bytes }
-    ensures shares { OnOk result (channels.new ≡ put_from asker 0 places.now sids.now shares.now channels.old) }
+    ensures shares { OnOk result (channels.new ≡ put_from asker 0 seats.now shares.now channels.old) }
     ensures kept { map (λ c. c.channel) channels.new ≡ map (λ c. c.channel) channels.old }
 {
-    for i in 0..places.len() {
-        let place = usize::from(places[i]);
-        put_one(channels, asker, i as u8, place, sids[i], shares[i])?;
+    for i in 0..seats.len() {
+        put_one(channels, asker, i as u8, seats[i], shares[i])?;
     }
     Ok(())
 }

@@ -275,7 +275,7 @@ pub(crate) fn claim_all(
 }
 
 /// The SID at this position; 0 where there is none.
-fn sid_at(sids: &[u16], position: usize) -> u16
+pub(crate) fn sid_at(sids: &[u16], position: usize) -> u16
     ensures { result ≡ slice_index sids.now position }
 {
     match sids.get(position) {

@@ -50,9 +50,9 @@ fn plan_row(
     if demand == 0 {
         return Ok(());
     }
-    let weights = Shares::weights_at(channels, row.places(), u32::from(asker.header));
+    let weights = Shares::weights_at(channels, row.seats(), u32::from(asker.header));
     let shares = Shares::divided(demand, &weights);
-    put_all(channels, asker, row.places(), row.sids(), shares.bytes())?;
+    put_all(channels, asker, row.seats(), shares.bytes())?;
     spend(allowances, flow, shares.total());
     Ok(())
 }

@@ -1,11 +1,11 @@
-ghost use Rattle.std.specs.Prelude.{◌≡◌, ℕ, ◌<◌, ◌≤◌, List, length, map, slice_get, Some, IfOk, IfSome};
+ghost use Rattle.std.specs.Prelude.{◌≡◌, ℕ, ◌==◌, ◌<◌, ◌≤◌, length, map, position, IfOk, IfSome};
 ghost use Rattle.us_flows.specs.Clusters;
 ghost use Rattle.us_flows.specs.Clusters.{turns_of};
 ghost use Rattle.us_flows.specs.Ranges.{max_channels, max_channels_of_flow};
 ghost use Rattle.us_split.specs.PartialPlans.{IsSmall, IsTurnOf};
 ghost use Rattle.us_split.specs.TurnRows as spec;
 
-use crate::channel_plans::Asker;
+use crate::channel_plans::{Asker, sid_at};
 use crate::divisions::MAX_CHANNELS_OF_FLOW;
 use crate::partial_plans::{asker_of, sids_of};
 use std::alloc::Global;
@@ -13,14 +13,20 @@ use std::marker::Model;
 use us_flows::{Channel, Config, Flow, Turn};
 use us_slots::NoMemory;
 
-/// A turn with what its plan needs of the tables: who asks, and for each channel of its flow the place of the channel in
-/// the table and the SID there. It has no memory of its own.
+/// Where a cluster has a SID: the place of the channel in the table, and the SID there.
+#[derive(Clone, Copy)]
+pub(crate) struct Seat {
+    pub place: u8,
+    pub sid: u16,
+}
+
+/// A turn with what its plan needs of the tables: who asks, and a seat for each channel of its flow. It has no memory of
+/// its own.
 #[derive(Drop)]
 pub(crate) struct TurnRow {
     asker: Asker,
     count: u8,
-    places: [u8; MAX_CHANNELS_OF_FLOW],
-    sids: [u16; MAX_CHANNELS_OF_FLOW],
+    seats: [Seat; MAX_CHANNELS_OF_FLOW],
 }
 
 impl Model for TurnRow {
@@ -30,11 +36,7 @@ impl Model for TurnRow {
 
     ghost Value = { spec.TurnRow };
 
-    ghost view = { λ r. record {
-      asker = r.asker;
-      places = take r.count r.places;
-      sids = take r.count r.sids;
-    } };
+    ghost view = { λ r. record { asker = r.asker; seats = take r.count r.seats } };
 
     ghost invariant = { λ r. r.count ≤ max_channels_of_flow };
 }
@@ -45,19 +47,16 @@ impl TurnRow {
         requires small { IsSmall turn.now }
         requires few { length flow.now.channels ≤ max_channels_of_flow }
         ensures { (own : Clusters.Turn) → IsTurnOf turn.now flow.now own →
-            length own.cluster.sids ≡ length flow.now.channels →
             result ≡ spec.row_of config.now.channels place own }
     {
-        let count = flow.channels().len();
-        let mut places = [0; MAX_CHANNELS_OF_FLOW];
-        find_places(config.channels(), flow.channels(), &mut places[..count]);
-        let mut sids = [0; MAX_CHANNELS_OF_FLOW];
-        copy_sids(sids_of(flow, turn.list), &mut sids[..count]);
+        let ids = flow.channels();
+        let mut seats = [Seat { place: 0, sid: 0 }; MAX_CHANNELS_OF_FLOW];
+        let sids = sids_of(flow, turn.list);
+        find_seats(config.channels(), ids, sids, &mut seats[..ids.len()]);
         TurnRow {
             asker: asker_of(place, turn, flow),
-            count: count as u8,
-            places,
-            sids,
+            count: ids.len() as u8,
+            seats,
         }
     }
 
@@ -68,53 +67,46 @@ impl TurnRow {
         self.asker
     }
 
-    /// The places of its channels.
-    pub(crate) fn places(&self) -> &[u8]
-        ensures value { result.now ≡ self.now.places }
-        ensures few { length self.now.places ≤ max_channels_of_flow }
+    /// Its seats, in the order of the flow's channels.
+    pub(crate) fn seats(&self) -> &[Seat]
+        ensures value { result.now ≡ self.now.seats }
+        ensures few { length self.now.seats ≤ max_channels_of_flow }
     {
-        &self.places[..usize::from(self.count)]
-    }
-
-    /// Its SIDs there.
-    pub(crate) fn sids(&self) -> &[u16]
-        ensures value { result.now ≡ self.now.sids }
-        ensures one_each { length self.now.sids ≡ length self.now.places }
-    {
-        &self.sids[..usize::from(self.count)]
+        &self.seats[..usize::from(self.count)]
     }
 }
 
-/// Copies SIDs, as far as there are any.
-fn copy_sids(from: &[u16], to: &mut [u16])
-    ensures { length from.now ≡ length to.old → to.new ≡ from.now }
+/// Where the channel with this id stands in the table.
+fn searched(channels: &[Channel], id: u8) -> Option<usize>
+    ensures value { result ≡ position (λ c. c.id == id) channels.now }
+    ensures inside { IfSome result (λ place. place < length channels.now) }
 {
-    if from.len() == to.len() {
-        to.copy_from_slice(from);
-    }
+    channels.iter().position(|channel| channel.id == id)
 }
 
-/// Where the channel with this id stands in the table; 0 where it doesn't.
+/// The same, and 0 where there is no such channel.
+#[tactic(auto, unfolding(crate::specs::TurnRows::place_of))]
 fn place_of(channels: &[Channel], id: u8) -> u8
     requires { length channels.now ≤ max_channels }
     ensures { result ≡ spec.place_of channels.now id }
 {
-    for (place, channel) in channels.iter().enumerate() {
-        if channel.id == id {
-            return place as u8;
-        }
+    match searched(channels, id) {
+        Some(place) => place as u8,
+        None => 0,
     }
-    0
 }
 
-/// Writes the places of the channels with these ids.
-fn find_places(channels: &[Channel], ids: &[u8], places: &mut [u8])
+/// Writes the seats on the channels with these ids.
+fn find_seats(channels: &[Channel], ids: &[u8], sids: &[u16], seats: &mut [Seat])
     requires few { length channels.now ≤ max_channels }
-    requires same_length { length places.old ≡ length ids.now }
-    ensures { places.new ≡ map (spec.place_of channels.now) ids.now }
+    requires same_length { length seats.old ≡ length ids.now }
+    ensures { seats.new ≡ spec.seats_from channels.now 0 ids.now sids.now }
 {
     for i in 0..ids.len() {
-        places[i] = place_of(channels, ids[i]);
+        seats[i] = Seat {
+            place: place_of(channels, ids[i]),
+            sid: sid_at(sids, i),
+        };
     }
 }
 
