@@ -7,4 +7,5 @@ pub mod PlanLawLemmas
 pub mod ClaimLemmas
 pub mod ChannelShareLemmas
 pub mod TurnClaimLaws
+pub mod AskingLaws
 pub mod ByPlaceLemmas

@@ -13,7 +13,7 @@ pub mod Claims
 pub mod PlanLaws
 -- whose the claims of a plan are
 pub mod Laws
--- who asks
+-- who asks in a round, and that its plan is theirs
 pub mod Asking
 -- what plans one round after another
 pub mod Planners

@@ -47,7 +47,7 @@ mod laws;
 
 pub use claims::{Claim, Claimant};
 pub use divisions::{MAX_CHANNELS_OF_FLOW, divide};
-pub use laws::{claims_are_of_turns, clusters_claim_once};
+pub use laws::{askers_claim, claims_are_of_turns, clusters_claim_once, turns_pass};
 pub use planner::Planner;
 pub use planning::{plan, plan_with};
 pub use plans::Plan;
