@@ -9,3 +9,5 @@ pub mod ChannelShareLemmas
 pub mod TurnClaimLaws
 pub mod AskingLaws
 pub mod ByPlaceLemmas
+pub mod TurnRowLemmas
+pub mod RowPlanLemmas

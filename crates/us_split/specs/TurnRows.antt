@@ -76,11 +76,15 @@ put_from asker position (seat ∷ seats) shares channels =
     put_from asker (position + 1) seats shares
     (changed (with_share asker position seat.sid (slice_index shares position)) channels seat.place)
 
+-- bytes, divided over the channels of a turn
+abbrev pub shares_at : TurnRow → ℕ → List ChannelPlan → List ℕ
+shares_at row bytes channels =
+    divided bytes (map (λ seat. weight_at row.asker.header channels seat.place) row.seats)
+
 -- the shares of a turn of so many outstanding bytes,
 abbrev pub shares_in : TurnRow → ℕ → PartialPlan → List ℕ
 shares_in row bytes partial =
-    divided (at_most (slice_index_or partial.allowances row.asker.claimant.place None) bytes)
-    (map (λ seat. weight_at row.asker.header partial.channels seat.place) row.seats)
+    shares_at row (at_most (slice_index_or partial.allowances row.asker.claimant.place None) bytes) partial.channels
 
 -- and what is planned then
 abbrev pub with_shares : TurnRow → List ℕ → PartialPlan → PartialPlan
@@ -113,5 +117,4 @@ partial_of channels allowances = record { channels = channels; allowances = allo
 pub record IsRowWithin (flows channels : ℕ) (row : TurnRow) : Type 0 where
   pub flow : row.asker.claimant.place < flows
   pub inside : AllByRecursion (λ seat. seat.place < channels) row.seats
-  pub few : length row.seats ≤ 8
   pub header : row.asker.header ≤ 8

@@ -1,7 +1,8 @@
-ghost use Rattle.std.specs.Prelude.{◌≡◌, ℕ, List, Option, None, ◌<◌, ◌-◌, length, map, set, option_map, slice_index_or, OnOk};
+ghost use Rattle.std.specs.Prelude.{◌≡◌, ℕ, None, ◌<◌, ◌≤◌, ◌+◌, ◌-◌, length, map, set, option_map, slice_index, slice_index_or, OnOk};
 ghost use Rattle.std.specs.List.{AllByRecursion};
-ghost use Rattle.us_split.specs.Plans.{at_most};
-ghost use Rattle.us_split.specs.TurnRows.{IsRowWithin, partial_of, with_row, with_rows};
+ghost use Rattle.us_flows.specs.Tables.{segment_header_bytes};
+ghost use Rattle.us_split.specs.Plans.{at_most, max_burst_bytes};
+ghost use Rattle.us_split.specs.TurnRows.{IsRowWithin, partial_of, shares_at, with_row, with_rows};
 
 use crate::by_places::put_all;
 use crate::channel_plans::ChannelPlan;
@@ -31,6 +32,18 @@ fn spend(allowances: &mut [Option<u64>], flow: usize, bytes: u64)
     }
 }
 
+/// So many bytes, divided over the channels of a turn.
+fn shares_of(row: &TurnRow, bytes: u64, channels: &[ChannelPlan]) -> Shares
+    requires inside { AllByRecursion (λ seat. seat.place < length channels.now) row.now.seats }
+    requires header { row.now.asker.header ≤ segment_header_bytes }
+    ensures value { result ≡ shares_at row.now bytes channels.now }
+    ensures bursts { (k : ℕ) → slice_index result k + row.now.asker.header ≤ max_burst_bytes }
+    ensures one_each { length result ≡ length row.now.seats }
+{
+    let weights = Shares::weights_at(channels, row.seats(), row.header());
+    Shares::divided(bytes, &weights)
+}
+
 /// Plans a turn of so many outstanding bytes. What its shares take is no longer there for the turns after it.
 fn plan_row(
     row: &TurnRow,
@@ -44,16 +57,13 @@ fn plan_row(
     ensures kept { map (λ c. c.channel) channels.new ≡ map (λ c. c.channel) channels.old }
     ensures flows { length allowances.new ≡ length allowances.old }
 {
-    let asker = row.asker();
-    let flow = usize::from(asker.claimant.place);
-    let demand = demand_of(allowances, flow, outstanding);
+    let demand = demand_of(allowances, row.flow(), outstanding);
     if demand == 0 {
         return Ok(());
     }
-    let weights = Shares::weights_at(channels, row.seats(), u32::from(asker.header));
-    let shares = Shares::divided(demand, &weights);
-    put_all(channels, asker, row.seats(), shares.bytes())?;
-    spend(allowances, flow, shares.total());
+    let shares = shares_of(row, demand, channels);
+    put_all(channels, row.asker(), row.seats(), shares.bytes())?;
+    spend(allowances, row.flow(), shares.total());
     Ok(())
 }
 
@@ -75,9 +85,7 @@ pub(crate) fn plan_rows(
 {
     for place in askers {
         let row = &rows[usize::from(*place)];
-        let asker = row.asker();
-        let bytes = outstanding[usize::from(asker.claimant.cluster)];
-        plan_row(row, bytes, channels, allowances)?;
+        plan_row(row, outstanding[row.cluster()], channels, allowances)?;
     }
     Ok(())
 }

@@ -67,6 +67,29 @@ impl TurnRow {
         self.asker
     }
 
+    /// The number of its cluster.
+    pub(crate) fn cluster(&self) -> usize
+        ensures { result ≡ self.now.asker.claimant.cluster }
+    {
+        let claimant = self.asker.claimant;
+        usize::from(claimant.cluster)
+    }
+
+    /// The place of its flow.
+    pub(crate) fn flow(&self) -> usize
+        ensures { result ≡ self.now.asker.claimant.place }
+    {
+        let claimant = self.asker.claimant;
+        usize::from(claimant.place)
+    }
+
+    /// The bytes of its segment header.
+    pub(crate) fn header(&self) -> u32
+        ensures { result ≡ self.now.asker.header }
+    {
+        u32::from(self.asker.header)
+    }
+
     /// Its seats, in the order of the flow's channels.
     pub(crate) fn seats(&self) -> &[Seat]
         ensures value { result.now ≡ self.now.seats }
