@@ -9,7 +9,7 @@ use Rattle.std.proofs.lemmas.Option.{slice_get_read}
 use Rattle.us_slots.specs.Times.{minislot_ticks}
 use Rattle.us_flows.specs.declared.channels.Channel.{Channel}
 use Rattle.us_flows.specs.Tables.{Tables, map_len}
-use Rattle.us_flows.specs.Clusters.{Turn, IsTurnIn, turns_of}
+use Rattle.us_flows.specs.Clusters.{Turn, IsTurnIn, clusters_of, turns_of}
 use Rattle.us_flows.specs.Lawful.{AreTables, IsChannel}
 use Rattle.us_flows.proofs.TurnLaws.{turns_of-turns}
 use Rattle.us_split.specs.declared.turn_rows.Seat.{Seat}
@@ -18,12 +18,12 @@ use Rattle.us_split.specs.Plans.{IsIdle, Ledger, Planned, at_most, after_turn, l
 use Rattle.us_split.specs.Claims.{Claim, all_claims, claim_on}
 use Rattle.us_split.specs.Asking.{AgreeOn, asking_in, claims_at, numbers_of, places_from, plan_of_askers, turns_at}
 use Rattle.us_split.specs.PartialPlans.{Asker, ChannelPlan, PartialPlan, budget_in, idle_plan, ledger_in, planned_further, planned_in, with_share, with_turn}
-use Rattle.us_split.specs.TurnRows.{TurnRow, changed, cleared, partial_of, put_from, row_of, rows_from, shares_at, shares_in, with_row, with_row_if, with_rows, with_shares}
+use Rattle.us_split.specs.TurnRows.{IsRowWithin, TurnRow, changed, cleared, partial_of, put_from, row_of, rows_from, shares_at, shares_in, with_row, with_row_if, with_rows, with_shares}
 use Rattle.us_split.proofs.AskingLaws.{askers_claim_all, option_before}
 use Rattle.us_split.proofs.ByPlaceLemmas.{nothing_put}
 use Rattle.us_split.proofs.ClaimLemmas.{all_at}
 use Rattle.us_split.proofs.PartialPlanLemmas.{idle_budgets, ledger_after, none_divided, share-le-sum}
-use Rattle.us_split.proofs.TurnRowLemmas.{row_planned, row_there}
+use Rattle.us_split.proofs.TurnRowLemmas.{row_planned, row_there, rows_inside, rows_known, rows_length}
 
 -- A turn.
 
@@ -254,3 +254,41 @@ claims_of_round t outstanding askers idle known left allowed old new lawful is o
     idle_claims_by (λ c. claims_at c places (plan_of_askers t outstanding known idle)) t.channels idle is.one_each ∙
     askers_claim_all t outstanding known allowed idle
     (subst (λ ps. AgreeOn (turns_at (turns_of t) ps) known allowed) asks agree)
+
+-- A planner's channels and rows.
+
+pub rows_ready : (t : Tables) (rows : List TurnRow) (flows channels : ℕ) → AreTables t →
+    rows ≡ rows_from t.channels 0 (turns_of t) → flows ≡ length t.flows → channels ≡ length t.channels →
+    AllByRecursion (IsRowWithin flows channels) rows
+rows_ready t rows flows channels lawful are all_flows all_channels =
+    subst (λ rs. AllByRecursion (IsRowWithin flows channels) rs) (sym are)
+    (subst (λ n. AllByRecursion (IsRowWithin n channels) (rows_from t.channels 0 (turns_of t))) (sym all_flows)
+    (subst (λ n. AllByRecursion (IsRowWithin (length t.flows) n) (rows_from t.channels 0 (turns_of t))) (sym all_channels)
+    (rows_inside t 0 (turns_of t) lawful (turns_of-turns t))))
+
+pub clusters_ready : (t : Tables) (rows : List TurnRow) (clusters : ℕ) → rows ≡ rows_from t.channels 0 (turns_of t) →
+    clusters ≡ length (clusters_of t) → AllByRecursion (λ row. row.asker.claimant.cluster < clusters) rows
+clusters_ready t rows clusters are all =
+    subst (λ rs. AllByRecursion (λ row. row.asker.claimant.cluster < clusters) rs) (sym are)
+    (subst (λ n. AllByRecursion (λ row. row.asker.claimant.cluster < n) (rows_from t.channels 0 (turns_of t))) (sym all)
+    (rows_known t 0 (turns_of t) (turns_of-turns t)))
+
+pub askers_ready : (t : Tables) (rows : List TurnRow) (outstanding askers : List ℕ) →
+    rows ≡ rows_from t.channels 0 (turns_of t) → askers ≡ asking_in t outstanding →
+    AllByRecursion (λ place. place < length rows) askers
+askers_ready t rows outstanding askers are asks =
+    subst (λ places. AllByRecursion (λ place. place < length rows) places) (sym asks)
+    (subst (λ n. AllByRecursion (λ place. place < n) (asking_in t outstanding))
+    (sym (ap length are ∙ rows_length t.channels 0 (turns_of t)))
+    (askers_inside t outstanding))
+
+pub own_length : (t : Tables) (cs : List ChannelPlan) → map (λ c. c.channel) cs ≡ t.channels → length cs ≡ length t.channels
+own_length t cs own = sym (length-map cs (λ (c : ChannelPlan). c.channel)) ∙ ap length own
+
+-- the channels are the same after a round
+pub own_after : (t : Tables) (idle : List ℕ) (old start new : List ChannelPlan) → IsIdle t idle →
+    map (λ c. c.channel) old ≡ t.channels → start ≡ cleared old idle →
+    map (λ c. c.channel) new ≡ map (λ c. c.channel) start → map (λ c. c.channel) new ≡ t.channels
+own_after t idle old start new is own begun kept =
+    kept ∙ ap (λ (cs : List ChannelPlan). map (λ c. c.channel) cs) begun ∙
+    cleared_channels old idle (is.one_each ∙ sym (own_length t old own)) ∙ own

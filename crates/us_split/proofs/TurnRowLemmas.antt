@@ -1,8 +1,8 @@
 -- Turns by their seats: each seat is at the channel of its id, so that a turn plans and claims there what it does by ids.
-use Rattle.std.proofs.Common.{◌≡◌, ℕ, zero, suc, ◌+◌, ◌-◌, ◌<◌, ◌==◌, ◌≤◌, Bool, true, false, if◌then◌else◌, nat_lt, List, [], ◌∷◌, length, map, set, get_or, Option, Some, None, option_map, slice_get, refl, sym, ap, ap₂, ◌∙◌, subst, inl, inr, eq-eqb, ne_eqb, eqb-eq, lt-ltb, arith}
+use Rattle.std.proofs.Common.{◌≡◌, ℕ, zero, suc, ◌+◌, ◌-◌, ◌<◌, ◌==◌, ◌≤◌, Bool, true, false, if◌then◌else◌, nat_lt, List, [], ◌∷◌, length, map, set, get_or, Option, Some, None, option_map, slice_get, refl, sym, ap, ap₂, ◌∙◌, subst, inl, inr, eq-eqb, ne_eqb, lt-ltb, arith}
 use Rattle.std.specs.Prelude.{sum, position, slice_index, slice_index_or}
 use Rattle.std.specs.List.{AllByRecursion, list_any, position_or_len}
-use Rattle.std.proofs.lemmas.Bool.{cases_Bool, cases_eq}
+use Rattle.std.proofs.lemmas.Bool.{cases_Bool, cases_eq, eqb-true}
 use Rattle.std.proofs.lemmas.List.{length-map, get_or-map}
 use Rattle.std.proofs.lemmas.List.Quantifiers.{position-Some}
 use Rattle.std.proofs.lemmas.Option.{slice_get-get_or, slice_get_within}
@@ -46,7 +46,7 @@ stands channels id known =
     let here : place_or_first (position p channels) ≡ first = ap place_or_first at in
     subst (StandsAt channels id) (sym here) (record {
       within = within;
-      own = λ d. eqb-eq (get_or channels first d).id id (position-Some p channels first d at).1.0;
+      own = λ d. eqb-true (get_or channels first d).id id (position-Some p channels first d at).1;
     })
 
 -- and so it is among the plans of channels

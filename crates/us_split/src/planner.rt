@@ -98,7 +98,8 @@ impl Planner {
     {
         let channels = self.channels.as_mut_slice();
         clear_all(channels, idle);
-        plan_rows(&self.rows, channels, askers, outstanding, allowances)
+        plan_rows(&self.rows, channels, askers, outstanding, allowances)?;
+        Ok(())
     }
 
     /// The claims on the channel at this place of the table, in the order of turns; none where there is no such channel.

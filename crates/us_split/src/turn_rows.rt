@@ -1,6 +1,7 @@
 ghost use Rattle.std.specs.Prelude.{◌≡◌, ℕ, ◌==◌, ◌<◌, ◌≤◌, length, map, position, IfOk, IfSome};
 ghost use Rattle.us_flows.specs.Clusters;
 ghost use Rattle.us_flows.specs.Clusters.{turns_of};
+ghost use Rattle.us_flows.specs.Lawful.{AreTables};
 ghost use Rattle.us_flows.specs.Ranges.{max_channels, max_channels_of_flow};
 ghost use Rattle.us_split.specs.PartialPlans.{IsSmall, IsTurnOf};
 ghost use Rattle.us_split.specs.TurnRows as spec;
@@ -31,7 +32,8 @@ pub(crate) struct TurnRow {
 
 impl Model for TurnRow {
     ghost use Rattle.std.specs.Prelude.{◌≤◌, take};
-    ghost use Rattle.us_flows.specs.Ranges.{max_channels_of_flow};
+    ghost use Rattle.us_flows.specs.Lawful.{AreTables};
+ghost use Rattle.us_flows.specs.Ranges.{max_channels_of_flow};
     ghost use Rattle.us_split.specs.TurnRows as spec;
 
     ghost Value = { spec.TurnRow };
@@ -135,7 +137,8 @@ fn find_seats(channels: &[Channel], ids: &[u8], sids: &[u16], seats: &mut [Seat]
 
 /// The rows of all turns of a round, in order.
 pub(crate) fn rows_of(alloc: Global, config: &Config) -> Result<Vec<TurnRow>, NoMemory>
-    ensures { IfOk result (λ rows. rows.items ≡ spec.rows_from config.now.channels 0 (turns_of config.now)) }
+    ensures rows { IfOk result (λ rows. rows.items ≡ spec.rows_from config.now.channels 0 (turns_of config.now)) }
+    ensures lawful { AreTables config.now }
 {
     let turns = config.turns();
     let mut rows = Vec::with_capacity(alloc, turns.len())?;
