@@ -1,5 +1,5 @@
 -- The plan of a round is that of those who ask.
-use Rattle.std.proofs.Common.{◌≡◌, ◌≢◌, ◌⊎◌, ℕ, zero, suc, ◌+◌, ◌-◌, ◌==◌, nat_lt, Bool, true, false, List, [], ◌∷◌, ◌++◌, length, map, set, zip, filter, Option, Some, None, slice_get, option_map, refl, sym, ap, ap₂, ◌∙◌, subst, inl, inr, get_or-set_same, get_or-set_other, arith}
+use Rattle.std.proofs.Common.{◌≡◌, ◌≢◌, ◌⊎◌, ℕ, zero, suc, ◌+◌, ◌-◌, ◌==◌, nat_lt, Bool, true, false, if◌then◌else◌, List, [], ◌∷◌, ◌++◌, length, map, set, zip, filter, Option, Some, None, slice_get, option_map, refl, sym, ap, ap₂, ◌∙◌, subst, inl, inr, get_or-set_same, get_or-set_other, arith}
 use Rattle.std.specs.Prelude.{sum, filter_map, slice_index, slice_index_or, option_to_list}
 use Rattle.std.specs.List.{AllByRecursion, cons_option}
 use Rattle.std.proofs.lemmas.Bool.{cases_Bool, cases_eq, cases_lt, ltb-false}
@@ -42,6 +42,20 @@ module _ (passes : ℕ → Bool) (all : List Turn) where
 
 pub turns_pass : TurnsPass
 turns_pass passes turns = rest_passes passes turns 0 turns (λ i. let same : 0 + i ≡ i = omega arith in ap (slice_get turns) same)
+
+-- what is made of these turns is made of those of all turns that pass
+pub map_passing : {Y : Type 0} (passes : ℕ → Bool) (f : Turn → Option Y) (turns : List Turn) →
+    filter_map f (turns_at turns (places_from passes 0 (numbers_of turns))) ≡
+    filter_map (λ turn. if passes turn.number then f turn else None) turns
+map_passing {Y} passes f turns = ap (filter_map f) (turns_pass passes turns) ∙ each turns
+  where
+    each : (xs : List Turn) → filter_map f (filter (λ turn. passes turn.number) xs) ≡
+        filter_map (λ turn. if passes turn.number then f turn else None) xs
+    each [] = refl
+    each (turn ∷ xs) = elim (cases_Bool (passes turn.number)) [
+      | inl t ↦ rw t (ap (cons_option (f turn)) (each xs))
+      | inr n ↦ rw n (each xs)
+    ]
 
 -- A turn that doesn't ask.
 

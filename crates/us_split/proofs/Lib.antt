@@ -8,6 +8,9 @@ pub mod ClaimLemmas
 pub mod ChannelShareLemmas
 pub mod TurnClaimLaws
 pub mod AskingLaws
+pub mod TurnNumberLemmas
+pub mod AskerLemmas
+pub mod AskerStepLemmas
 pub mod ByPlaceLemmas
 pub mod TurnRowLemmas
 pub mod RowPlanLemmas

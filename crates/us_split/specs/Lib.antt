@@ -19,7 +19,9 @@ pub mod Asking
 pub mod Planners
 -- the definitions at small inputs
 pub mod Examples
--- inside the crate, and of no use to a reader of the promise: a plan in the making
+-- inside the crate, and of no use to a reader of the promise: a plan in the making,
 pub mod PartialPlans
+-- how it is kept who asks,
+pub mod Askers
 -- and turns by the places of their channels
 pub mod TurnRows

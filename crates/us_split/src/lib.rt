@@ -30,6 +30,9 @@ mod plans;
 // The plan of a round.
 mod planning;
 
+// Who asks in a round.
+mod asking;
+
 // Turns by the places of their channels,
 mod turn_rows;
 
@@ -42,9 +45,10 @@ mod row_plans;
 // and the planner that keeps them from round to round.
 mod planner;
 
-// Laws of its claims.
+// Laws of claims and of those who ask.
 mod laws;
 
+pub use asking::Askers;
 pub use claims::{Claim, Claimant};
 pub use divisions::{MAX_CHANNELS_OF_FLOW, divide};
 pub use laws::{askers_claim, claims_are_of_turns, clusters_claim_once, turns_pass};
