@@ -18,7 +18,7 @@ use Rattle.us_split.specs.Plans.{IsIdle, Ledger, Planned, at_most, after_turn, l
 use Rattle.us_split.specs.Claims.{Claim, all_claims, claim_on}
 use Rattle.us_split.specs.Asking.{AgreeOn, asking_in, claims_at, numbers_of, places_from, plan_of_askers, turns_at}
 use Rattle.us_split.specs.PartialPlans.{Asker, ChannelPlan, PartialPlan, budget_in, idle_plan, ledger_in, planned_further, planned_in, with_share, with_turn}
-use Rattle.us_split.specs.TurnRows.{IsRowWithin, TurnRow, changed, cleared, partial_of, put_from, row_of, rows_from, shares_at, shares_in, with_row, with_row_if, with_rows, with_shares}
+use Rattle.us_split.specs.TurnRows.{IsPlanning, IsRowWithin, TurnRow, changed, cleared, partial_of, put_from, row_of, rows_from, shares_at, shares_in, with_row, with_row_if, with_rows, with_shares}
 use Rattle.us_split.proofs.AskingLaws.{askers_claim_all, option_before}
 use Rattle.us_split.proofs.ByPlaceLemmas.{nothing_put}
 use Rattle.us_split.proofs.ClaimLemmas.{all_at}
@@ -285,10 +285,22 @@ askers_ready t rows outstanding askers are asks =
 pub own_length : (t : Tables) (cs : List ChannelPlan) → map (λ c. c.channel) cs ≡ t.channels → length cs ≡ length t.channels
 own_length t cs own = sym (length-map cs (λ (c : ChannelPlan). c.channel)) ∙ ap length own
 
--- the channels are the same after a round
-pub own_after : (t : Tables) (idle : List ℕ) (old start new : List ChannelPlan) → IsIdle t idle →
-    map (λ c. c.channel) old ≡ t.channels → start ≡ cleared old idle →
-    map (λ c. c.channel) new ≡ map (λ c. c.channel) start → map (λ c. c.channel) new ≡ t.channels
-own_after t idle old start new is own begun kept =
-    kept ∙ ap (λ (cs : List ChannelPlan). map (λ c. c.channel) cs) begun ∙
-    cleared_channels old idle (is.one_each ∙ sym (own_length t old own)) ∙ own
+-- what is so by its own tables is so by the tables that it tells
+pub told : (t s : Tables) (rows : List TurnRow) (channels : List ChannelPlan) → t ≡ s → IsPlanning t rows channels →
+    IsPlanning s rows channels
+told t s rows channels same is = subst (λ x. IsPlanning x rows channels) same is
+
+-- a planner stays one of its tables
+pub planning_after : (t s : Tables) (rows : List TurnRow) (idle : List ℕ) (before old start new after : List ChannelPlan) →
+    t ≡ s → IsPlanning t rows before → IsIdle s idle → old ≡ before → start ≡ cleared old idle →
+    map (λ c. c.channel) new ≡ map (λ c. c.channel) start → after ≡ new → IsPlanning t rows after
+planning_after t s rows idle before old start new after same is few opened begun kept closed =
+    let idle_is : IsIdle t idle = subst (λ x. IsIdle x idle) (sym same) few in
+    let own : map (λ c. c.channel) old ≡ t.channels = ap (λ (cs : List ChannelPlan). map (λ c. c.channel) cs) opened ∙ is.own in
+    record {
+      lawful = is.lawful;
+      turns = is.turns;
+      own = ap (λ (cs : List ChannelPlan). map (λ c. c.channel) cs) closed ∙ kept ∙
+          ap (λ (cs : List ChannelPlan). map (λ c. c.channel) cs) begun ∙
+          cleared_channels old idle (idle_is.one_each ∙ sym (own_length t old own)) ∙ own;
+    }
