@@ -1,4 +1,4 @@
-use Rattle.std.proofs.Common.{◌≡◌, ◌-◌, set, option_map, None, ap, ap₂, ◌∙◌, sym}
+use Rattle.std.proofs.Common.{◌-◌, set, option_map, None, ap, ap₂, ◌∙◌, sym}
 use Rattle.std.specs.Prelude.{slice_index_or}
 use Rattle.us_split.specs.Plans.{at_most}
 use Rattle.us_split.specs.TurnRows.{put_from}

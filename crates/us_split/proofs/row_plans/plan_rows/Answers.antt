@@ -1,8 +1,8 @@
-use Rattle.std.proofs.Common.{◌≡◌, ℕ, ◌∷◌, ◌+◌, ◌<◌, drop, get_or, length, map, ap, ap₂, ◌∙◌, sym, arith}
+use Rattle.std.proofs.Common.{◌≡◌, ℕ, ◌∷◌, ◌+◌, ◌<◌, drop, get_or, length, ap, ◌∙◌, sym}
 use Rattle.std.proofs.lemmas.List.{drop_more}
 use Rattle.std.proofs.lemmas.List.Elements.{All-from_recursion}
 use Rattle.us_split.specs.PartialPlans.{PartialPlan}
-use Rattle.us_split.specs.TurnRows.{TurnRow, partial_of, with_rows}
+use Rattle.us_split.specs.TurnRows.{partial_of, with_rows}
 use Rattle.us_split.proofs.RowPlanLemmas.{one_row_more}
 use Rattle.us_split.proofs.row_plans.plan_rows.Goals as goal
 

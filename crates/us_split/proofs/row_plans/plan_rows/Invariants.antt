@@ -1,4 +1,4 @@
-use Rattle.std.proofs.Common.{◌≡◌, length, drop, map}
+use Rattle.std.proofs.Common.{◌≡◌, drop, map}
 use Rattle.us_split.specs.TurnRows.{partial_of, with_rows}
 use Rattle.us_split.proofs.row_plans.plan_rows.Given as goal
 

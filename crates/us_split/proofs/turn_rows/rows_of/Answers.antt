@@ -1,10 +1,10 @@
-use Rattle.std.proofs.Common.{◌≡◌, ◌<◌, ◌++◌, [], ◌∷◌, ℕ, ◌+◌, ◌≤◌, length, drop, get_or, ap, ap₂, ◌∙◌, sym, subst, append_assoc, append-nil, arith}
+use Rattle.std.proofs.Common.{◌≡◌, ◌<◌, ◌++◌, [], ◌∷◌, ℕ, ◌+◌, ◌≤◌, length, drop, get_or, ap, ◌∙◌, sym, subst, append_assoc, append-nil, arith}
 use Rattle.std.proofs.lemmas.List.{drop_all}
 use Rattle.std.proofs.lemmas.List.Elements.{All-from_recursion}
 use Rattle.us_flows.specs.Clusters.{clusters_of, turns_of}
 use Rattle.us_flows.specs.declared.turns.Turn as places
 use Rattle.us_split.specs.PartialPlans.{IsTurnOf}
-use Rattle.us_split.specs.TurnRows.{TurnRow, row_of, rows_from}
+use Rattle.us_split.specs.TurnRows.{row_of, rows_from}
 use Rattle.us_split.proofs.TurnAtLemmas.{turn_of, no_turns, few_channels, place_small, turn_small}
 use Rattle.us_split.proofs.turn_rows.rows_of.Goals as goal
 
