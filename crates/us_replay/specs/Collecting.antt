@@ -65,10 +65,10 @@ with_asks c asks = record {
   collected = c.collected + sum (cut_of (length c.cut) asks);
 }
 
--- the bytes that were collected by an intake and its seat
-abbrev pub collected_by : Option (Intake × Seat) → ℕ
+-- the bytes that were collected with a seat
+abbrev pub collected_by : Option Seat → ℕ
 collected_by None = 0
-collected_by (Some both) = spent both.1
+collected_by (Some seat) = spent seat
 
 -- the seat is whole, and all that was submitted was taken
 pub record IsSettled (clusters : ℕ) (intake : Intake) (seat : Seat) : Type 0 where
@@ -80,6 +80,12 @@ pub record IsSettled (clusters : ℕ) (intake : Intake) (seat : Seat) : Type 0 w
   pub row : length seat.submitted ≡ clusters
   pub even : seat.taken ≡ seat.submitted
 
-abbrev pub AreSettled : ℕ → Option (Intake × Seat) → Type 0
-AreSettled clusters None = ⊤
-AreSettled clusters (Some both) = IsSettled clusters both.0 both.1
+-- where there is a seat, it is of the intake, and so
+abbrev pub AreSettled : ℕ → Option Intake → Option Seat → Type 0
+AreSettled clusters intake None = ⊤
+AreSettled clusters None (Some seat) = ⊥
+AreSettled clusters (Some intake) (Some seat) = IsSettled clusters intake seat
+
+-- an intake that was opened for so many clusters, and its seat
+abbrev pub AreOpen : ℕ → Option Intake → Option Seat → Type 0
+AreOpen clusters intake seat = AreSettled clusters intake seat × (collected_by seat ≡ 0)

@@ -12,6 +12,7 @@ ghost use Rattle.us_replay.specs.Endings.{comes_before, blames_maps, blames_repo
 ghost use Rattle.us_replay.specs.Replays.{Growth, Replayed, WroteLawful};
 ghost use Rattle.us_replay.specs.Progress.{Along, CanMake, IsLawfulOutput, IsMade, RanTrace, output_in};
 
+use crate::collecting::open_intake;
 use crate::faults::RunFault;
 use crate::summaries::Summary;
 use progress::Progress;
@@ -114,7 +115,11 @@ fn run<H: Threads + Sync, W1: Sink, W2: Sink, G: Gate + Sync>(
     ensures maps_failed { W1.failed maps.new ≡ blames_maps result }
     ensures report_failed { W2.failed report.new ≡ blames_report result }
 {
-    let Ok(mut progress) = Progress::opening(alloc, config.clusters()) else {
+    let Ok((intake, seat)) = open_intake(alloc, config.clusters()) else {
+        return Err(RunFault::NoMemory(0));
+    };
+    let opening = Progress::opening(alloc, config.clusters(), intake.as_ref(), seat);
+    let Ok(mut progress) = opening else {
         return Err(RunFault::NoMemory(0));
     };
     let Ok(state) = opened(alloc, config) else {
@@ -151,7 +156,7 @@ fn run_on<H: Threads + Sync, W1: Sink, W2: Sink, G: Gate + Sync>(
     alloc: Global,
     trace: &Trace,
     state: State,
-    progress: &mut Progress,
+    progress: &mut Progress<'_>,
     workers: usize,
     gate: &G,
     maps: &mut W1,
@@ -200,7 +205,7 @@ fn make_round<H: Threads + Sync, G: Gate + Sync>(
     threads: &H,
     alloc: Global,
     state: State,
-    progress: &mut Progress,
+    progress: &mut Progress<'_>,
     asks: &[Ask],
     workers: usize,
     gate: &G,

@@ -1,8 +1,8 @@
-ghost use Rattle.std.specs.Prelude.{◌≡◌, ◌+◌, ◌≤◌, length, IfOk, OnOk};
+ghost use Rattle.std.specs.Prelude.{◌≡◌, ◌+◌, ◌≤◌, length, IfOk, OnOk, option_map};
 ghost use Rattle.std.specs.List.{AllByRecursion};
 ghost use Rattle.us_requests.specs.Traces.{max_asked, max_asks};
 ghost use Rattle.us_lawful.specs.Texts.{HasFields};
-ghost use Rattle.us_replay.specs.Collecting.{AreAsks, chunk_quota};
+ghost use Rattle.us_replay.specs.Collecting.{AreAsks, AreOpen, chunk_quota};
 ghost use Rattle.us_replay.specs.Progress as spec;
 ghost use Rattle.us_replay.specs.Progress.{HasRoom, last_rows, summary_after, with_asks, with_last, with_round};
 
@@ -16,7 +16,7 @@ use std::marker::Model;
 use std::thread::Threads;
 use us_codec::MAX_BODY_BYTES;
 use us_crew::Gate;
-use us_intake::MAX_CLUSTERS;
+use us_intake::{Intake, Seat};
 use us_requests::{Ask, Counts};
 use us_round::{RoundOut, Row, State, TraceCounts};
 use us_slots::NoMemory;
@@ -24,8 +24,8 @@ use us_slots::NoMemory;
 /// What a replay keeps from one round to the next beside the state: what collects requests, the buffers that every round
 /// uses again, and how many lines there were.
 #[derive(Drop)]
-pub(crate) struct Progress {
-    collector: Collector,
+pub(crate) struct Progress<'a> {
+    collector: Collector<'a>,
     to_maps: Vec<u8>,
     to_report: Vec<u8>,
     tally: Tally,
@@ -34,7 +34,7 @@ pub(crate) struct Progress {
     line: [u8; LINE_BYTES],
 }
 
-impl Model for Progress {
+impl<'a> Model for Progress<'a> {
     ghost Value = { spec.Progress };
 
     ghost view = { λ p. record {
@@ -47,14 +47,19 @@ impl Model for Progress {
     } };
 }
 
-impl Progress {
-    /// Before round 0 of so many clusters.
-    pub(crate) fn opening(alloc: Global, clusters: usize) -> Result<Progress, NoMemory>
-        requires { clusters ≤ MAX_CLUSTERS }
+impl<'a> Progress<'a> {
+    /// Before round 0 of so many clusters, with what was opened for them.
+    pub(crate) fn opening(
+        alloc: Global,
+        clusters: usize,
+        intake: Option<&'a Intake>,
+        seat: Option<Seat>,
+    ) -> Result<Progress<'a>, NoMemory>
+        requires { AreOpen clusters (option_map (λ i. i.now) intake) seat }
         ensures { IfOk result (λ p. p ≡ spec.opening_progress clusters) }
     {
         Ok(Progress {
-            collector: Collector::open(alloc, clusters)?,
+            collector: Collector::open(alloc, clusters, intake, seat)?,
             to_maps: Vec::new(alloc),
             to_report: Vec::new(alloc),
             tally: Tally {
