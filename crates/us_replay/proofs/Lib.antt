@@ -9,3 +9,4 @@ pub mod ReplayStopLemmas
 pub mod LoopLemmas
 pub mod ReplayLemmas
 pub mod LawfulLemmas
+mod LadenLemmas

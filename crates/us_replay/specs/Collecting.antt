@@ -5,7 +5,7 @@ use Rattle.us_intake.specs.Tallies.{added}
 use Rattle.us_intake.specs.Seats.{Intake, Seat, new_seat, joined_seat, spent}
 use Rattle.us_requests.specs.declared.asks.Ask.{Ask}
 use Rattle.us_requests.specs.Cuts.{cut_of}
-use Rattle.us_requests.specs.Traces.{max_ask, max_asked}
+use Rattle.us_requests.specs.Traces.{max_ask, max_asked, max_asks}
 
 -- Chunks.
 
@@ -27,6 +27,16 @@ pub record CanSubmit (intake : Intake) (seat : Seat) (asks : List Ask) : Type 0 
 -- a seat that was split off for a chunk, and the chunk
 abbrev pub IsChunk : Intake → Seat → List Ask → Type 0
 IsChunk intake seat asks = (seat ≡ new_seat intake (chunk_quota asks)) × AreAsks intake.clusters asks
+
+-- a seat of an intake with which some asks may be submitted, whole or in chunks
+pub record CanGather (intake : Intake) (seat : Seat) (asks : List Ask) : Type 0 where
+  pub own : seat.intake ≡ intake
+  pub submitted_row : length seat.submitted ≡ intake.clusters
+  pub taken_row : length seat.taken ≡ intake.clusters
+  pub some : 1 ≤ length asks
+  pub few : length asks ≤ max_asks
+  pub room : spent seat + chunk_quota asks < seat.quota
+  pub asks_are : AreAsks intake.clusters asks
 
 -- the seat that submitted these asks
 abbrev pub seat_after_asks : Seat → List Ask → Seat

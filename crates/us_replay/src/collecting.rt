@@ -6,18 +6,18 @@ ghost use Rattle.us_intake.specs.Seats.{IsWhole, first_seat, seat_after_cut};
 ghost use Rattle.us_requests.specs.Traces.{max_asked, max_asks};
 ghost use Rattle.us_replay.specs.Collecting as spec;
 
-use gathering::gather;
+use crate::doers::Doers;
 use std::alloc::Global;
 use std::marker::Model;
-use std::thread::Threads;
-use us_crew::Gate;
 use us_intake::{Intake, MAX_CLUSTERS, Seat};
 use us_requests::Ask;
 use us_slots::NoMemory;
 
-mod gathering;
 mod seats;
 mod submitting;
+
+pub(crate) use seats::{join_all, split_all};
+pub(crate) use submitting::{Chunk, Submitting, submit_all};
 
 /// The bytes that may be submitted in a run: one more than 1,000,000 rows can name.
 const RUN_QUOTA: u64 = 1_048_560_000_001;
@@ -57,17 +57,13 @@ impl<'a> Collector<'a> {
         Ok(Collector { cut, intake, seat })
     }
 
-    /// Collects the asks of the next round, by so many workers, each of which enters the gate before each chunk. After
-    /// want of memory nothing is said of what stands here.
-    pub(crate) fn collect<H: Threads + Sync, G: Gate + Sync>(
+    /// Has the asks of the next round collected. After want of memory nothing is said of what stands here.
+    pub(crate) fn collect<D: Doers<'a>>(
         &mut self,
-        threads: &H,
         alloc: Global,
-        asks: &[Ask],
-        workers: usize,
-        gate: &G,
+        asks: &'a [Ask],
+        doers: &mut D,
     ) -> Result<(), NoMemory>
-        requires workers { 1 ≤ workers }
         requires asks { spec.AreAsks (length self.old.cut) asks.now }
         requires few { length asks.now ≤ max_asks }
         requires room { self.old.collected + spec.chunk_quota asks.now ≤ max_asked }
@@ -81,7 +77,7 @@ impl<'a> Collector<'a> {
         let (Some(intake), Some(seat)) = (self.intake, self.seat.take()) else {
             return Err(NoMemory);
         };
-        let mut seat = gather(threads, alloc, intake, seat, asks, workers, gate)?;
+        let mut seat = doers.gather(alloc, intake, seat, asks)?;
         cut_words(intake, &mut seat, &mut self.cut);
         self.seat = Some(seat);
         Ok(())

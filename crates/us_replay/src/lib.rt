@@ -19,8 +19,11 @@ mod lines;
 // The bytes of a round: its records and its lines.
 mod texts;
 
-// The requests of a round, which workers collect.
+// The requests of a round, as they are collected.
 mod collecting;
+
+// Who collects them.
+mod doers;
 
 // Every refusal, in order.
 mod faults;

@@ -8,14 +8,13 @@ ghost use Rattle.us_replay.specs.Progress.{HasRoom, last_rows, summary_after, wi
 
 use super::tallies::Tally;
 use crate::collecting::Collector;
+use crate::doers::Doers;
 use crate::lines::LINE_BYTES;
 use crate::summaries::Summary;
 use crate::texts::{push_lines, push_records};
 use std::alloc::Global;
 use std::marker::Model;
-use std::thread::Threads;
 use us_codec::MAX_BODY_BYTES;
-use us_crew::Gate;
 use us_intake::{Intake, Seat};
 use us_requests::{Ask, Counts};
 use us_round::{RoundOut, Row, State, TraceCounts};
@@ -71,22 +70,19 @@ impl<'a> Progress<'a> {
         })
     }
 
-    /// Collects the asks of the next round. After want of memory nothing is said of what stands here.
-    pub(crate) fn take_asks<H: Threads + Sync, G: Gate + Sync>(
+    /// Has the asks of the next round collected. After want of memory nothing is said of what stands here.
+    pub(crate) fn take_asks<D: Doers<'a>>(
         &mut self,
-        threads: &H,
         alloc: Global,
-        asks: &[Ask],
-        workers: usize,
-        gate: &G,
+        asks: &'a [Ask],
+        doers: &mut D,
     ) -> Result<(), NoMemory>
-        requires workers { 1 ≤ workers }
         requires asks { AreAsks (length self.old.cut) asks.now }
         requires few { length asks.now ≤ max_asks }
         requires room { self.old.collected + chunk_quota asks.now ≤ max_asked }
         ensures { OnOk result (self.new ≡ with_asks self.old asks.now) }
     {
-        self.collector.collect(threads, alloc, asks, workers, gate)
+        self.collector.collect(alloc, asks, doers)
     }
 
     /// What each cluster newly asks for.

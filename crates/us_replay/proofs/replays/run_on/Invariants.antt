@@ -1,8 +1,7 @@
 use Rattle.std.proofs.Common.{◌≡◌, false}
 use Rattle.us_requests.specs.Traces.{IsTrace}
-use Rattle.us_replay.specs.Progress.{Along, output_in}
+use Rattle.us_replay.specs.Progress.{Along, grown, output_in}
 use Rattle.us_replay.specs.Replays.{TookRounds}
-use Rattle.us_replay.proofs.ReplayStopLemmas.{grown}
 use Rattle.us_replay.proofs.replays.run_on.Given as goal
 
 abbrev pub invariant-loop-done : goal.invariant-loop-done

@@ -1,4 +1,4 @@
-use Rattle.std.proofs.Common.{length, replicate, ap, sym, ◌∙◌}
+use Rattle.std.proofs.Common.{length, replicate, option_map, ap, sym, ◌∙◌}
 use Rattle.std.proofs.lemmas.Bool.{eqb-true}
 use Rattle.us_replay.specs.Collecting.{with_asks}
 use Rattle.us_replay.proofs.SettledLemmas.{empty-round, full-round, next-settled, settled-here}
@@ -12,12 +12,14 @@ returns-then-is_empty g c =
 
 pub returns : goal.returns
 returns g c =
-    let settled = settled-here (length c.self.inside.cut.items) c.self.inside.intake c.in-Some.intake c.in-Some.seat
-    c.self.invariant (sym c.in-Some.ensures.value) in
+    let intake_is = ap (option_map (λ i. i.now)) c.in-Some-Some.is-0 in
+    let seat_is = sym c.in-Some-Some.ensures.value in
+    let settled = settled-here (length c.self.inside.cut.items) _ c.self.inside.seat c.in-Some-Some.intake.now
+    c.in-Some-Some.seat c.self.invariant intake_is seat_is in
     let row = c.cut_words.ensures.row ∙ settled.clusters_are in
-    let next = next-settled (length c.self.inside.cut.items) c.in-Some.intake c.in-Some.seat c.in_ok-seat.seat
+    let next = next-settled (length c.self.inside.cut.items) c.in-Some-Some.intake.now c.in-Some-Some.seat c.in_ok-seat.seat
     c.cut_words.new.seat c.args.asks.now c.cut_words.new.cut.items settled c.in_ok-seat.ensures c.cut_words.ensures.seat
     c.cut_words.ensures.whole row in
-    full-round c.self.inside.cut.items c.cut_words.new.cut.items c.self.inside.intake c.in-Some.intake c.in-Some.seat
-    c.cut_words.new.seat c.args.asks.now (sym c.in-Some.ensures.value) next
+    full-round c.self.inside.cut.items c.cut_words.new.cut.items c.self.inside.seat c.in-Some-Some.intake.now
+    c.in-Some-Some.seat c.cut_words.new.seat c.args.asks.now seat_is next
     ∙ ap (λ collector. with_asks collector c.args.asks.now) c.self.view_is

@@ -1,0 +1,32 @@
+//! Who does what is to be done in a round of a replay: one thread, or workers that are kept for the whole run.
+
+ghost use Rattle.std.specs.Prelude.{◌≡◌, IfOk};
+ghost use Rattle.us_replay.specs.Collecting.{CanGather, seat_after_asks};
+
+use std::alloc::Global;
+use us_intake::{Intake, Seat};
+use us_requests::Ask;
+use us_slots::NoMemory;
+
+mod alone;
+mod kept;
+mod lent;
+mod placing;
+
+pub(crate) use alone::OneThread;
+pub(crate) use kept::{Kept, Posts, open_crew};
+pub(crate) use lent::beside_lent;
+
+/// Who collects the requests of a round.
+pub(crate) trait Doers<'a> {
+    /// Submits asks with a seat of the intake, which comes back. On want of memory it is given up.
+    fn gather(
+        &mut self,
+        alloc: Global,
+        intake: &'a Intake,
+        seat: Seat,
+        asks: &'a [Ask],
+    ) -> Result<Seat, NoMemory>
+        requires { CanGather intake.now seat asks.now }
+        ensures { IfOk result (λ after. after ≡ seat_after_asks seat asks.now) };
+}
