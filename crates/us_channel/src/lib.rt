@@ -41,7 +41,7 @@ pub use lanes::Lane;
 pub use laws::{
     boards_are_built, grants_are_of_claims, grants_fit, placed_have_minislots, reserves_fit,
 };
-pub use mapping::map_of;
+pub use mapping::{element_of, head_of, map_of, pending_of};
 pub use placing::PlacedClaim;
 
 #[cfg(test)]

@@ -150,3 +150,18 @@ length-spelling m four =
     let whole : length (front m.head (length m.elements) ++ element_bytes m.elements) ≡ length (front m.head (length m.elements)) + length (element_bytes m.elements) =
     length-append (front m.head (length m.elements)) (element_bytes m.elements) in
     omega (arith, whole, length-front m.head (length m.elements) four, length-element_bytes m.elements)
+
+-- the four parts of the front, one behind another
+pub front_pushed : (text one two three b c : List ℕ) (h : Head) (count : ℕ) →
+    one ≡ text ++ (h.channel ∷ h.ucd_count ∷ count ∷ 0 ∷ []) → two ≡ one ++ b → three ≡ two ++ c →
+    b ≡ to_be_bytes w32 h.alloc_start → c ≡ to_be_bytes w32 h.ack → three ++ h.backoffs ≡ text ++ front h count
+unfolding front
+front_pushed text one two three b c h count is-one is-two is-three is-b is-c =
+    let first : List ℕ = h.channel ∷ h.ucd_count ∷ count ∷ 0 ∷ [] in
+    rw (is-three, is-two, is-one, is-b, is-c)
+    (four_joined text first (to_be_bytes w32 h.alloc_start) (to_be_bytes w32 h.ack) h.backoffs)
+  where
+    four_joined : (t a b c d : List ℕ) → (((t ++ a) ++ b) ++ c) ++ d ≡ t ++ (((a ++ b) ++ c) ++ d)
+    four_joined t a b c d =
+        ap (λ x. (x ++ c) ++ d) (append_assoc t a b) ∙ ap (λ x. x ++ d) (append_assoc t (a ++ b) c) ∙
+        append_assoc t ((a ++ b) ++ c) d

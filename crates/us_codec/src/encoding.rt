@@ -1,9 +1,12 @@
-ghost use Rattle.std.specs.Prelude.{◌≡◌, ◌+◌, ◌*◌, ◌<◌, ◌≤◌, ◌∷◌, ◌++◌, length, take, drop};
+ghost use Rattle.std.specs.Prelude.{◌≡◌, ◌+◌, ◌*◌, ◌<◌, ◌≤◌, ◌∷◌, ◌++◌, length, take, drop, OnOk};
+ghost use Rattle.std.specs.Int.{to_be_bytes, w32};
+ghost use Rattle.us_codec.specs.Elements.{word_of};
 ghost use Rattle.us_codec.specs.Bodies.{MapBody, IsMapBody, front, spelling, max_body_bytes};
 
-use crate::elements::ELEMENT_BYTES;
+use crate::elements::{ELEMENT_BYTES, Element};
 use crate::heads::{HEAD_BYTES, Head};
 use crate::maps::{MAX_ELEMENTS, Map};
+use us_slots::NoMemory;
 
 /// The most bytes of a MAP body (ours, by its most elements).
 pub const MAX_BODY_BYTES: usize = HEAD_BYTES + ELEMENT_BYTES * MAX_ELEMENTS;
@@ -31,6 +34,27 @@ pub fn encode_into(map: &Map, out: &mut [u8; MAX_BODY_BYTES]) -> usize
         at += ELEMENT_BYTES;
     }
     at
+}
+
+/// Adds the sixteen bytes before `count` elements to a text. Reserved is 0. The fault is want of memory.
+// The four parts are a front only as the lemma joins them.
+#[tactic(auto, using(crate::proofs::PutLemmas::front_pushed))]
+pub fn push_front(text: &mut Vec<u8>, head: &Head, count: u8) -> Result<(), NoMemory>
+    ensures { OnOk result (text.new.items ≡ text.old.items ++ front head.now count) }
+{
+    text.extend_from_slice(&[head.channel, head.ucd_count, count, 0])?;
+    text.extend_from_slice(&head.alloc_start.to_be_bytes())?;
+    text.extend_from_slice(&head.ack.to_be_bytes())?;
+    text.extend_from_slice(&head.backoffs)?;
+    Ok(())
+}
+
+/// Adds the four bytes of an element to a text. The fault is want of memory.
+pub fn push_element(text: &mut Vec<u8>, element: Element) -> Result<(), NoMemory>
+    ensures { OnOk result (text.new.items ≡ text.old.items ++ to_be_bytes w32 (word_of element)) }
+{
+    text.extend_from_slice(&element.word().to_be_bytes())?;
+    Ok(())
 }
 
 /// Puts the sixteen bytes before `count` elements to the front of `out`. Reserved is 0.

@@ -6,3 +6,5 @@ pub mod LineLemmas
 pub mod OutputLaws
 pub mod OwnerLemmas
 pub mod MapLemmas
+pub mod RecordLemmas
+pub mod TextLemmas

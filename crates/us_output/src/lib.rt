@@ -11,17 +11,34 @@
 //! What these are stands in `specs/`, in the order of its `Lib.antt`. How a round comes to its channels is for `us_round`.
 #![tactic(auto)]
 
-// The lines of a round.
+// The lines of a round,
 mod rows;
+
+// their text, and that their numbers have 64 bits.
+mod fields;
+mod lines;
 
 // Who is pending.
 mod pendings;
 
-// The MAPs of a round.
+// From grants to lines, by where they start.
+mod orders;
+
+// What texts keep.
+mod scratch;
+
+// The MAPs of a round, as values,
 mod mapping;
 
-// From grants to lines.
+// and its lines.
 mod reporting;
+
+// The same as bytes: records,
+mod records;
+
+// and lines, which are counted.
+mod tallies;
+mod texts;
 
 // What a round gives,
 mod round_outs;
@@ -33,10 +50,15 @@ mod outputs;
 mod output_laws;
 
 pub use output_laws::{lines_are_of_grants, lines_bear_round};
-pub use outputs::round_out;
+pub use outputs::{out_by, round_out};
+pub use pendings::{PendingSid, first_sid_of};
+pub use records::push_records;
 pub use reporting::final_rows;
 pub use round_outs::RoundOut;
 pub use rows::{EntryWord, FinalState, Grant, MissedOccurrence, Row, TraceCounts};
+pub use scratch::Scratch;
+pub use tallies::LineTally;
+pub use texts::{push_lines, push_rows};
 
 #[cfg(test)]
 mod tests;

@@ -18,11 +18,11 @@ use Rattle.us_round.specs.Rounds.{State, round_of, opening, schedule, final}
 use Rattle.us_output.specs.Outputs.{Scheduled, RoundOut, AreWithinLimits, out_of}
 use Rattle.us_round.specs.States.{final_rows}
 use Rattle.us_replay.specs.Collecting.{AreAsks}
-use Rattle.us_lawful.specs.Files.{records, lines, counts_row}
+use Rattle.us_output.specs.Files.{records, lines, is_granted, is_missed}
+use Rattle.us_lawful.specs.Output.{counts_row, all_rows, judged_of, output_of}
 use Rattle.us_output.proofs.PartLemmas.{all_append}
-use Rattle.us_lawful.specs.Output.{all_rows, judged_of, output_of}
-use Rattle.us_lawful.specs.Texts.{HasFields}
-use Rattle.us_replay.specs.Replays.{KeptLimits, is_granted, is_missed, summary_of}
+use Rattle.us_output.specs.Lines.{HasFields}
+use Rattle.us_replay.specs.Replays.{KeptLimits, summary_of}
 use Rattle.us_lawful.specs.Runs.{cuts_in}
 use Rattle.us_replay.specs.Progress.{Progress, Along, EndsAs, grown, CanMake, IsMade, last_rows, opening_progress, out_after, output_in, step_of, summary_after, with_last, with_round}
 use Rattle.us_replay.proofs.RoundLemmas.{After, after, HasCalendars, opening-calendars, next-calendars, some-records}

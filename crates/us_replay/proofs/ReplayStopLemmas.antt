@@ -10,7 +10,7 @@ use Rattle.us_flows.specs.Tables.{Tables}
 use Rattle.us_requests.specs.declared.asks.Counts.{Counts}
 use Rattle.us_replay.specs.declared.faults.RunFault.{RunFault}
 use Rattle.us_output.specs.Outputs.{RoundOut}
-use Rattle.us_lawful.specs.Files.{records, round_lines, lines}
+use Rattle.us_output.specs.Files.{records, round_lines, lines}
 use Rattle.us_replay.specs.Endings.{Ending, Refused, StoppedBy, Maps, Report, Memory, rounds_done}
 use Rattle.us_lawful.specs.Output.{Output, maps_text, report_text}
 use Rattle.us_replay.specs.Replays.{Growth, Took, TookRounds, Holds, Stopped, Ran, KeptLimits}

@@ -5,7 +5,7 @@ use Rattle.std.proofs.lemmas.List.{append_assoc, append-nil, drop_all}
 use Rattle.us_codec.specs.Bodies.{MapBody, spelling}
 use Rattle.us_codec.specs.MapsFiles.{Piece, record_bytes, maps_file}
 use Rattle.us_output.specs.Outputs.{RoundOut}
-use Rattle.us_lawful.specs.Files.{records}
+use Rattle.us_output.specs.Files.{records}
 
 -- the record of a MAP
 abbrev pub piece : ℕ → MapBody → Piece

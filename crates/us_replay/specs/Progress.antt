@@ -20,12 +20,13 @@ use Rattle.us_output.specs.Outputs.{RoundOut, AreWithinLimits, out_of}
 use Rattle.us_replay.specs.declared.summaries.Summary.{Summary}
 use Rattle.us_replay.specs.declared.faults.RunFault.{RunFault}
 use Rattle.us_replay.specs.Collecting.{AreAsks, chunk_quota}
-use Rattle.us_lawful.specs.Files.{records, round_lines, lines, counts_row}
+use Rattle.us_output.specs.Files.{records, round_lines, lines, is_granted, is_missed}
+use Rattle.us_lawful.specs.Output.{counts_row, judged_of, Output, all_rows, maps_text, output_of, report_text, run_of}
 use Rattle.us_replay.specs.Endings.{ended, rounds_done, Ending, Refused, StoppedBy, Maps, Report, Memory}
-use Rattle.us_lawful.specs.Output.{Output, all_rows, judged_of, maps_text, output_of, report_text, run_of}
 use Rattle.us_lawful.specs.Runs.{cuts_in}
-use Rattle.us_lawful.specs.Texts.{HasFields, AreLawful}
-use Rattle.us_replay.specs.Replays.{Growth, Took, Ran, KeptLimits, is_granted, is_missed}
+use Rattle.us_lawful.specs.Texts.{AreLawful}
+use Rattle.us_output.specs.Lines.{HasFields}
+use Rattle.us_replay.specs.Replays.{Growth, Took, Ran, KeptLimits}
 
 -- Traces.
 

@@ -7,8 +7,6 @@ ghost use Rattle.us_slots.specs.Devices.{TookAtMost};
 ghost use Rattle.us_requests.specs.Readings.{max_bytes};
 ghost use Rattle.us_requests.specs.Traces.{asks_in};
 ghost use Rattle.us_round.specs.Rounds.{opening};
-ghost use Rattle.us_lawful.specs.Output.{judged_of};
-ghost use Rattle.us_lawful.specs.Texts.{HasFields};
 ghost use Rattle.us_replay.specs.Collecting.{AreOpen};
 ghost use Rattle.us_replay.specs.Endings.{comes_before, blames_maps, blames_report};
 ghost use Rattle.us_replay.specs.Replays.{Growth, Replayed, WroteLawful};

@@ -2,8 +2,8 @@ ghost use Rattle.std.specs.Prelude.{◌≡◌, ◌^◌, ◌<◌, ◌++◌, lengt
 ghost use Rattle.std.specs.List.{AllByRecursion};
 ghost use Rattle.us_codec.specs.Bodies.{spelling};
 ghost use Rattle.us_codec.specs.MapsFiles.{Piece, record_bytes};
-ghost use Rattle.us_lawful.specs.Files.{records, lines};
-ghost use Rattle.us_lawful.specs.Texts.{HasFields};
+ghost use Rattle.us_output.specs.Files.{records, lines};
+ghost use Rattle.us_output.specs.Lines.{HasFields};
 
 use crate::lines::{LINE_BYTES, push_line};
 use us_codec::{MAX_BODY_BYTES, Map, encode_into};
@@ -55,7 +55,7 @@ fn push_record(text: &mut Vec<u8>, round: u32, body: &[u8]) -> Result<(), NoMemo
 
 /// Adds the lines of some rows. What stood in `line` doesn't matter.
 // `lines` is closed elsewhere: only here is it the texts of rows.
-#[tactic(auto, unfolding(us_lawful::specs::Files::lines))]
+#[tactic(auto, unfolding(us_output::specs::Files::lines))]
 pub(crate) fn push_lines(
     text: &mut Vec<u8>,
     line: &mut [u8; LINE_BYTES],

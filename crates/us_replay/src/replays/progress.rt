@@ -1,7 +1,7 @@
 ghost use Rattle.std.specs.Prelude.{◌≡◌, ◌+◌, ◌≤◌, length, IfOk, OnOk, option_map};
 ghost use Rattle.std.specs.List.{AllByRecursion};
 ghost use Rattle.us_requests.specs.Traces.{max_asked, max_asks};
-ghost use Rattle.us_lawful.specs.Texts.{HasFields};
+ghost use Rattle.us_output.specs.Lines.{HasFields};
 ghost use Rattle.us_replay.specs.Collecting.{AreAsks, AreOpen, chunk_quota};
 ghost use Rattle.us_replay.specs.Progress as spec;
 ghost use Rattle.us_replay.specs.Progress.{HasRoom, last_rows, summary_after, with_asks, with_last, with_round};

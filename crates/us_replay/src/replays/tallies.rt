@@ -1,5 +1,5 @@
 ghost use Rattle.std.specs.Prelude.{◌≡◌, ◌+◌, ◌^◌, ◌<◌, length, count_by};
-ghost use Rattle.us_replay.specs.Replays.{is_granted, is_missed};
+ghost use Rattle.us_output.specs.Files.{is_granted, is_missed};
 
 use us_round::Row;
 

@@ -1,5 +1,5 @@
 use Rattle.std.proofs.Common.{◌≡◌, ◌+◌, count_by, take}
-use Rattle.us_replay.specs.Replays.{is_granted, is_missed}
+use Rattle.us_output.specs.Files.{is_granted, is_missed}
 use Rattle.us_replay.proofs.replays.tallies.Tally.add.Given as goal
 
 abbrev pub invariant-loop-row : goal.invariant-loop-row
