@@ -1,4 +1,3 @@
-pub mod TextLemmas
 pub mod CutLemmas
 pub mod SumLemmas
 pub mod CollectingLemmas

@@ -2,6 +2,7 @@
 //! intake is cut once all seats are one again.
 
 ghost use Rattle.std.specs.Prelude.{◌≡◌, ◌+◌, ◌≤◌, true, length, vec_len, IfOk, OnOk, option_map};
+ghost use Rattle.us_flows.specs.Tables.{Tables};
 ghost use Rattle.us_intake.specs.Seats.{IsWhole, first_seat, seat_after_cut};
 ghost use Rattle.us_requests.specs.Traces.{max_asked, max_asks};
 ghost use Rattle.us_replay.specs.Collecting as spec;
@@ -67,7 +68,8 @@ impl<'a> Collector<'a> {
         requires asks { spec.AreAsks (length self.old.cut) asks.now }
         requires few { length asks.now ≤ max_asks }
         requires room { self.old.collected + spec.chunk_quota asks.now ≤ max_asked }
-        ensures { OnOk result (self.new ≡ spec.with_asks self.old asks.now) }
+        ensures collected { OnOk result (self.new ≡ spec.with_asks self.old asks.now) }
+        ensures same { (t : Tables) → D.Hands.knows doers.old t → D.Hands.knows doers.new t }
     {
         if asks.is_empty() {
             self.cut.fill(0);

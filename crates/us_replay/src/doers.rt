@@ -6,19 +6,28 @@ ghost use Rattle.us_replay.specs.Collecting.{CanGather, seat_after_asks};
 use std::alloc::Global;
 use us_intake::{Intake, Seat};
 use us_requests::Ask;
+use us_round::Hands;
 use us_slots::NoMemory;
 
+// The thread of the replay itself,
 mod alone;
+
+// and workers beside it,
 mod kept;
-mod lent;
+
+// to whom a channel goes with its claims.
 mod placing;
 
-pub(crate) use alone::OneThread;
+// What runs beside them.
+mod lent;
+
 pub(crate) use kept::{Kept, Posts, open_crew};
 pub(crate) use lent::beside_lent;
 
-/// Who collects the requests of a round.
-pub(crate) trait Doers<'a> {
+/// Who collects the requests of a round, and does its channels.
+pub(crate) trait Doers<'a>: Hands {
+    ghost use Rattle.us_flows.specs.Tables.{Tables};
+
     /// Submits asks with a seat of the intake, which comes back. On want of memory it is given up.
     fn gather(
         &mut self,
@@ -28,5 +37,6 @@ pub(crate) trait Doers<'a> {
         asks: &'a [Ask],
     ) -> Result<Seat, NoMemory>
         requires { CanGather intake.now seat asks.now }
-        ensures { IfOk result (λ after. after ≡ seat_after_asks seat asks.now) };
+        ensures seat { IfOk result (λ after. after ≡ seat_after_asks seat asks.now) }
+        ensures same { (t : Tables) → knows self.old t → knows self.new t };
 }

@@ -1,4 +1,4 @@
-ghost use Rattle.std.specs.Prelude.{◌≡◌, ◌↔◌, ◌⊎◌, ℕ, ◌<◌, ◌≤◌, true, false, length, option_map, Err, IfOk, OnOk, IfErr};
+ghost use Rattle.std.specs.Prelude.{◌≡◌, ◌↔◌, ◌⊎◌, ℕ, ◌<◌, ◌≤◌, true, false, length, option_map, Err, IfOk, OnOk, IfErr, IsSomeAnd};
 ghost use Rattle.std.specs.List.{AllByRecursion};
 ghost use Rattle.us_flows.specs.Tables;
 ghost use Rattle.us_flows.specs.Clusters.{clusters_of};
@@ -13,7 +13,7 @@ ghost use Rattle.us_replay.specs.Replays.{Growth, Replayed, WroteLawful};
 ghost use Rattle.us_replay.specs.Progress.{Along, CanMake, EndsAs, IsLawfulOutput, IsMade, IsTraceFor, RanTrace, grown, opening_progress, output_in};
 
 use crate::collecting::open_intake;
-use crate::doers::{Doers, OneThread, beside_lent, open_crew};
+use crate::doers::{Doers, beside_lent, open_crew};
 use crate::faults::RunFault;
 use crate::summaries::Summary;
 use progress::Progress;
@@ -24,12 +24,11 @@ use us_crew::{Gate, MAX_WORKERS};
 use us_flows::Config;
 use us_intake::{Intake, Seat};
 use us_requests::{Ask, Trace, TraceFault};
-use us_round::{State, round_alone};
+use us_round::{Alone, State, step};
 use us_slots::{NoMemory, Sink, Source};
 
 mod progress;
 mod sending;
-mod tallies;
 
 /// Replays the trace of `trace` with a configuration, for so many rounds: writes the maps file and the report. The
 /// channels of each round are shared among so many workers, each of which enters the gate before each channel. How many
@@ -127,7 +126,7 @@ fn run<H: Threads + Sync, W1: Sink, W2: Sink, G: Gate + Sync>(
 fn run_with<'a, H: Threads + Sync, W1: Sink, W2: Sink, G: Gate + Sync>(
     threads: &H,
     alloc: Global,
-    config: &Config,
+    config: &'a Config,
     trace: &'a Trace,
     intake: Option<&'a Intake>,
     seat: Option<Seat>,
@@ -150,7 +149,7 @@ fn run_with<'a, H: Threads + Sync, W1: Sink, W2: Sink, G: Gate + Sync>(
         return Err(RunFault::NoMemory(0));
     };
     if workers == 1 {
-        let mut doers = OneThread { gate };
+        let mut doers = Alone { gate };
         return run_by(
             alloc,
             config,
@@ -178,7 +177,7 @@ fn run_with<'a, H: Threads + Sync, W1: Sink, W2: Sink, G: Gate + Sync>(
 fn run_kept<'a, H: Threads + Sync, W1: Sink, W2: Sink, G: Gate + Sync>(
     threads: &H,
     alloc: Global,
-    config: &Config,
+    config: &'a Config,
     trace: &'a Trace,
     workers: usize,
     gate: &'a G,
@@ -195,12 +194,13 @@ fn run_kept<'a, H: Threads + Sync, W1: Sink, W2: Sink, G: Gate + Sync>(
     ensures maps_failed { W1.failed maps.new ≡ blames_maps result }
     ensures report_failed { W2.failed report.new ≡ blames_report result }
 {
-    let Ok((kept, posts)) = open_crew(alloc, gate, workers) else {
+    let Ok((kept, posts)) = open_crew(alloc, config, gate, workers) else {
         return Err(RunFault::NoMemory(0));
     };
     let mut kept = Some(kept);
     let mut run = || -> Result<Summary, RunFault>
-        requires { IsTraceFor config.now trace.now
+        requires { IsSomeAnd kept (λ k. k.config.now ≡ config.now)
+            × IsTraceFor config.now trace.now
             × (progress.now ≡ opening_progress (length (clusters_of config.now)))
             × (W1.failed maps.now ≡ false) × (W2.failed report.now ≡ false) }
         ensures ends { EndsAs config.entry.now trace.entry.now
@@ -209,8 +209,9 @@ fn run_kept<'a, H: Threads + Sync, W1: Sink, W2: Sink, G: Gate + Sync>(
         ensures maps_failed { W1.failed maps.exit.now ≡ blames_maps result }
         ensures report_failed { W2.failed report.exit.now ≡ blames_report result }
     {
+        // The crew ends with the run, so that its workers leave.
         let Some(mut doers) = kept.take() else {
-            return Err(RunFault::NoMemory(0));
+            unreachable!();
         };
         run_by(alloc, config, trace, progress, &mut doers, maps, report)
     };
@@ -229,6 +230,7 @@ fn run_by<'a, D: Doers<'a>, W1: Sink, W2: Sink>(
 ) -> Result<Summary, RunFault>
     requires trace { IsTraceFor config.now trace.now }
     requires opening { progress.old ≡ opening_progress (length (clusters_of config.now)) }
+    requires doers { D.Hands.knows doers.old config.now }
     requires maps_ready { W1.failed maps.old ≡ false }
     requires report_ready { W2.failed report.old ≡ false }
     ensures ends { EndsAs config.now trace.now (grown (W1.contents maps.old) (W1.contents maps.new))
@@ -269,6 +271,7 @@ fn run_on<'a, D: Doers<'a>, W1: Sink, W2: Sink>(
 ) -> Result<Summary, RunFault>
     requires trace { IsTraceFor state.tables trace.now }
     requires along { Along state.tables trace.now 0 state progress.old }
+    requires doers { D.Hands.knows doers.old state.tables }
     requires maps_ready { W1.failed maps.old ≡ false }
     requires report_ready { W2.failed report.old ≡ false }
     ensures ends { EndsAs state.tables trace.now (grown (W1.contents maps.old) (W1.contents maps.new))
@@ -309,14 +312,12 @@ fn make_round<'a, D: Doers<'a>>(
     doers: &mut D,
 ) -> Result<State, NoMemory>
     requires ready { CanMake state progress.old asks.now }
-    ensures { IfOk result (λ next. IsMade state progress.old asks.now next progress.new) }
+    requires doers { D.Hands.knows doers.old state.tables }
+    ensures made { IfOk result (λ next. IsMade state progress.old asks.now next progress.new) }
+    ensures same { (t : Tables.Tables) → D.Hands.knows doers.old t → D.Hands.knows doers.new t }
 {
     progress.take_asks(alloc, asks, doers)?;
-    let Ok((next, out)) = round_alone(alloc, state, progress.cut()) else {
-        return Err(NoMemory);
-    };
-    // Its clauses bound how many rounds there were and how much the calendars settled, so that no count of lines wraps.
-    let _ = next.round();
-    progress.take_round(&out)?;
-    Ok(next)
+    let stepped = step(alloc, state, progress.cut(), doers)?;
+    progress.take_round(&stepped)?;
+    Ok(stepped.into_state())
 }

@@ -1,4 +1,5 @@
-ghost use Rattle.std.specs.Prelude.{◌≡◌, IfOk};
+ghost use Rattle.std.specs.Prelude.{◌≡◌, ⊤, IfOk};
+ghost use Rattle.us_flows.specs.Tables.{Tables};
 ghost use Rattle.us_replay.specs.Collecting.{CanGather, CanSubmit, seat_after_asks};
 
 use super::Doers;
@@ -7,15 +8,10 @@ use std::alloc::Global;
 use us_crew::{Gate, Phase};
 use us_intake::{Intake, Seat};
 use us_requests::Ask;
+use us_round::Alone;
 use us_slots::NoMemory;
 
-/// The calling thread, which enters the gate before each item.
-#[derive(Drop)]
-pub(crate) struct OneThread<'a, G> {
-    pub(crate) gate: &'a G,
-}
-
-impl<'a, 'b, G: Gate> Doers<'a> for OneThread<'b, G> {
+impl<'a, 'b, G: Gate> Doers<'a> for Alone<'b, G> {
     fn gather(
         &mut self,
         _alloc: Global,
@@ -24,13 +20,14 @@ impl<'a, 'b, G: Gate> Doers<'a> for OneThread<'b, G> {
         asks: &'a [Ask],
     ) -> Result<Seat, NoMemory>
         requires { CanGather intake.now seat asks.now }
-        ensures { IfOk result (λ after. after ≡ seat_after_asks seat asks.now) }
+        ensures seat { IfOk result (λ after. after ≡ seat_after_asks seat asks.now) }
+        ensures same { (t : Tables) → ⊤ → ⊤ }
     {
         Ok(gather_alone(intake, seat, asks, self.gate))
     }
 }
 
-/// Submits asks with the seat itself: none is split off, and no memory is taken.
+/// Submits asks with the seat itself, in the calling thread: none is split off, and no memory is taken.
 pub(super) fn gather_alone<G: Gate>(intake: &Intake, seat: Seat, asks: &[Ask], gate: &G) -> Seat
     requires { CanSubmit intake.now seat asks.now }
     ensures { result ≡ seat_after_asks seat asks.now }

@@ -1,23 +1,22 @@
 ghost use Rattle.std.specs.Prelude.{◌≡◌, ◌+◌, ◌≤◌, length, IfOk, OnOk, option_map};
 ghost use Rattle.std.specs.List.{AllByRecursion};
+ghost use Rattle.us_flows.specs.Tables.{Tables};
 ghost use Rattle.us_requests.specs.Traces.{max_asked, max_asks};
 ghost use Rattle.us_output.specs.Lines.{HasFields};
+ghost use Rattle.us_output.specs.Outputs.{AreWithinLimits, out_of};
 ghost use Rattle.us_replay.specs.Collecting.{AreAsks, AreOpen, chunk_quota};
 ghost use Rattle.us_replay.specs.Progress as spec;
 ghost use Rattle.us_replay.specs.Progress.{HasRoom, last_rows, summary_after, with_asks, with_last, with_round};
 
-use super::tallies::Tally;
 use crate::collecting::Collector;
 use crate::doers::Doers;
-use crate::lines::LINE_BYTES;
 use crate::summaries::Summary;
-use crate::texts::{push_lines, push_records};
 use std::alloc::Global;
 use std::marker::Model;
-use us_codec::MAX_BODY_BYTES;
 use us_intake::{Intake, Seat};
+use us_output::{LineTally, Scratch, push_rows};
 use us_requests::{Ask, Counts};
-use us_round::{RoundOut, Row, State, TraceCounts};
+use us_round::{Row, State, Stepped, TraceCounts};
 use us_slots::NoMemory;
 
 /// What a replay keeps from one round to the next beside the state: what collects requests, the buffers that every round
@@ -27,10 +26,8 @@ pub(crate) struct Progress<'a> {
     collector: Collector<'a>,
     to_maps: Vec<u8>,
     to_report: Vec<u8>,
-    tally: Tally,
-    // Where a MAP is encoded, and where a line is put together.
-    body: [u8; MAX_BODY_BYTES],
-    line: [u8; LINE_BYTES],
+    tally: LineTally,
+    scratch: Scratch,
 }
 
 impl<'a> Model for Progress<'a> {
@@ -61,12 +58,11 @@ impl<'a> Progress<'a> {
             collector: Collector::open(alloc, clusters, intake, seat)?,
             to_maps: Vec::new(alloc),
             to_report: Vec::new(alloc),
-            tally: Tally {
+            tally: LineTally {
                 granted: 0,
                 missed: 0,
             },
-            body: [0; MAX_BODY_BYTES],
-            line: [0; LINE_BYTES],
+            scratch: Scratch::new(alloc),
         })
     }
 
@@ -80,7 +76,8 @@ impl<'a> Progress<'a> {
         requires asks { AreAsks (length self.old.cut) asks.now }
         requires few { length asks.now ≤ max_asks }
         requires room { self.old.collected + chunk_quota asks.now ≤ max_asked }
-        ensures { OnOk result (self.new ≡ with_asks self.old asks.now) }
+        ensures collected { OnOk result (self.new ≡ with_asks self.old asks.now) }
+        ensures same { (t : Tables) → D.Hands.knows doers.old t → D.Hands.knows doers.new t }
     {
         self.collector.collect(alloc, asks, doers)
     }
@@ -95,16 +92,18 @@ impl<'a> Progress<'a> {
     /// Makes all that is to be written of a round. After want of memory nothing is said of what stands here.
     // `with_round` is closed elsewhere: only here is it what the calls below make.
     #[tactic(auto, unfolding(crate::specs::Progress::with_round))]
-    pub(crate) fn take_round(&mut self, out: &RoundOut) -> Result<(), NoMemory>
-        requires { HasRoom self.old (length out.now.rows) }
-        ensures progress { OnOk result (self.new ≡ with_round self.old out.now) }
-        ensures fields { OnOk result (AllByRecursion HasFields out.now.rows) }
+    pub(crate) fn take_round(&mut self, stepped: &Stepped) -> Result<(), NoMemory>
+        requires { HasRoom self.old (length (out_of stepped.now.state.tables stepped.now.scheduled).rows) }
+        ensures progress { OnOk result (self.new ≡
+            with_round self.old (out_of stepped.now.state.tables stepped.now.scheduled)) }
+        ensures limits { OnOk result (AreWithinLimits stepped.now.state.tables stepped.now.scheduled) }
+        ensures fields { OnOk result (AllByRecursion HasFields
+            (out_of stepped.now.state.tables stepped.now.scheduled).rows) }
     {
-        self.tally.add(out.rows());
         self.to_maps.clear();
-        push_records(&mut self.to_maps, &mut self.body, out)?;
+        stepped.push_records(&mut self.to_maps, &mut self.scratch)?;
         self.to_report.clear();
-        push_lines(&mut self.to_report, &mut self.line, out.rows())
+        stepped.push_lines(&mut self.to_report, &mut self.scratch, &mut self.tally)
     }
 
     /// Makes the end of the report, of the state after all rounds. After want of memory nothing is said of what stands
@@ -130,7 +129,7 @@ impl<'a> Progress<'a> {
         }))?;
         self.to_maps.clear();
         self.to_report.clear();
-        push_lines(&mut self.to_report, &mut self.line, &rows)
+        push_rows(&mut self.to_report, &mut self.scratch, &rows)
     }
 
     /// What is to be written to the maps file.

@@ -32,7 +32,7 @@ returns-in_err-send-clause-ends g c =
     let along : Along t v k c.loop-done.state c.loop-done.progress = c.loop-done.invariant.1 in
     let below : k < v.rounds = omega (arith, c.loop-done-test.true, c.rounds-rounds.ensures.value) in
     let texts = texts-here t v k c.loop-done.state c.in-Ok.next c.loop-done.progress c.make_round.new.progress
-    c.asks-asks.result.now c.to_maps.result.now c.to_report.result.now along below c.asks-asks.ensures.value c.in-Ok.ensures
+    c.asks-asks.result.now c.to_maps.result.now c.to_report.result.now along below c.asks-asks.ensures.value c.in-Ok.ensures.made
     c.to_maps.ensures c.to_report.ensures in
     subst (EndsAs t v _ _) (sym (passed-on c.from_residual.result c.from_residual.ensures.1)) (record {
       ran = (
@@ -54,15 +54,16 @@ loop-done-preserved g c =
     let along : Along t v k c.loop-done.state c.loop-done.progress = c.loop-done.invariant.1 in
     let below : k < v.rounds = omega (arith, c.loop-done-test.true, c.rounds-rounds.ensures.value) in
     let texts = texts-here t v k c.loop-done.state c.in-Ok.next c.loop-done.progress c.make_round.new.progress
-    c.asks-asks.result.now c.to_maps.result.now c.to_report.result.now along below c.asks-asks.ensures.value c.in-Ok.ensures
+    c.asks-asks.result.now c.to_maps.result.now c.to_report.result.now along below c.asks-asks.ensures.value c.in-Ok.ensures.made
     c.to_maps.ensures c.to_report.ensures in (
       c.loop-done.invariant.0,
       along-next t v k c.loop-done.state c.in-Ok.next c.loop-done.progress c.make_round.new.progress c.asks-asks.result.now
-          c.loop-done.invariant.0 along below c.asks-asks.ensures.value c.in-Ok.ensures,
+          c.loop-done.invariant.0 along below c.asks-asks.ensures.value c.in-Ok.ensures.made,
       sent-round (output_in t v) k _ _ _ _ _ _ c.to_maps.result.now c.to_report.result.now c.loop-done.invariant.2 texts
           c.in_ok-send.ensures.sent.0 c.in_ok-send.ensures.sent.1,
       c.in_ok-send.ensures.maps_failed,
       c.in_ok-send.ensures.report_failed,
+      c.make_round.ensures.same _ c.loop-done.invariant.5,
     )
 
 pub returns-in_default-take_last-clause-ends : goal.returns-in_default-take_last-clause-ends

@@ -13,9 +13,9 @@ loop-channel-init c =
 
 pub loop-channel-preserved : goal.loop-channel-preserved
 loop-channel-preserved c =
-    let at : c.in_ok-claims.claims.items ≡ slice_index_or c.args.plan.now (length c.loop-channel.all.items) [] =
+    let at : c.in_ok-claims.claims.items ≡ slice_index_or c.args.work.now.plan.now (length c.loop-channel.all.items) [] =
     c.in_ok-claims.ensures ∙ c.claims.ensures ∙
-    ap (λ n. slice_index_or c.args.plan.now n []) (c.len-in-Some.ensures ∙ c.loop-channel.all.ok.0) in
+    ap (λ n. slice_index_or c.args.work.now.plan.now n []) (c.len-in-Some.ensures ∙ c.loop-channel.all.ok.0) in
     let shorter = ap length c.in-Some.ensures.items in (
       omega (arith, shorter, c.in-Some.ensures.len, c.loop-channel.invariant.0),
       next-made _ _ _ _ c.loop-channel.all.items c.push_reserved.new.self.items (c.in-Some.channel, c.in_ok-claims.claims)

@@ -18,8 +18,8 @@ join_all-requires-clause-others g c =
     subst (λ seats. AllByRecursion (λ seat. seat.intake ≡ c.args.intake.now) seats) (sym are)
     (of-intake (λ item. item.0) (λ item. item.1.now) c.args.intake.now c.in_ok-seat.chunks.items 0 c.in_ok-seat.ensures.chunks)
 
-pub returns : goal.returns
-returns g c =
+pub returns-clause-seat : goal.returns-clause-seat
+returns-clause-seat g c =
     let are = subst (λ r. IfOk r (λ seats. seats.items ≡
     values_of (λ _ item. seat_after_asks item.0 item.1.now) c.in_ok-seat.chunks.items)) c.in_ok-seats.ensures
     c.map_kept.ensures.values in
