@@ -317,7 +317,7 @@ fn make_round<'a, D: Doers<'a>>(
     ensures same { (t : Tables.Tables) → D.Hands.knows doers.old t → D.Hands.knows doers.new t }
 {
     progress.take_asks(alloc, asks, doers)?;
-    let stepped = step(alloc, state, progress.cut(), doers)?;
-    progress.take_round(&stepped)?;
-    Ok(stepped.into_state())
+    let made = step(alloc, state, progress.cut(), doers)?;
+    progress.take_round(&made)?;
+    Ok(made.into_state())
 }

@@ -16,7 +16,7 @@ use std::marker::Model;
 use us_intake::{Intake, Seat};
 use us_output::{LineTally, Scratch, push_rows};
 use us_requests::{Ask, Counts};
-use us_round::{Row, State, Stepped, TraceCounts};
+use us_round::{RoundDone, Row, State, TraceCounts};
 use us_slots::NoMemory;
 
 /// What a replay keeps from one round to the next beside the state: what collects requests, the buffers that every round
@@ -92,18 +92,19 @@ impl<'a> Progress<'a> {
     /// Makes all that is to be written of a round. After want of memory nothing is said of what stands here.
     // `with_round` is closed elsewhere: only here is it what the calls below make.
     #[tactic(auto, unfolding(crate::specs::Progress::with_round))]
-    pub(crate) fn take_round(&mut self, stepped: &Stepped) -> Result<(), NoMemory>
-        requires { HasRoom self.old (length (out_of stepped.now.state.tables stepped.now.scheduled).rows) }
+    pub(crate) fn take_round(&mut self, made: &RoundDone) -> Result<(), NoMemory>
+        requires { AreWithinLimits made.now.state.tables made.now.scheduled →
+            HasRoom self.old (length (out_of made.now.state.tables made.now.scheduled).rows) }
         ensures progress { OnOk result (self.new ≡
-            with_round self.old (out_of stepped.now.state.tables stepped.now.scheduled)) }
-        ensures limits { OnOk result (AreWithinLimits stepped.now.state.tables stepped.now.scheduled) }
+            with_round self.old (out_of made.now.state.tables made.now.scheduled)) }
+        ensures limits { OnOk result (AreWithinLimits made.now.state.tables made.now.scheduled) }
         ensures fields { OnOk result (AllByRecursion HasFields
-            (out_of stepped.now.state.tables stepped.now.scheduled).rows) }
+            (out_of made.now.state.tables made.now.scheduled).rows) }
     {
         self.to_maps.clear();
-        stepped.push_records(&mut self.to_maps, &mut self.scratch)?;
+        made.push_records(&mut self.to_maps, &mut self.scratch)?;
         self.to_report.clear();
-        stepped.push_lines(&mut self.to_report, &mut self.scratch, &mut self.tally)
+        made.push_lines(&mut self.to_report, &mut self.scratch, &mut self.tally)
     }
 
     /// Makes the end of the report, of the state after all rounds. After want of memory nothing is said of what stands
