@@ -1,6 +1,6 @@
 -- Items that are made of channels one after another: those that are made, and the channels that are left.
-use Rattle.std.proofs.Common.{◌≡◌, ℕ, ◌+◌, List, [], ◌∷◌, ◌++◌, length, append_assoc, length-append, append-nil, refl, sym, ap, subst, ◌∙◌, arith, Some}
-use Rattle.std.specs.Prelude.{⊤, slice_get}
+use Rattle.std.proofs.Common.{◌≡◌, ℕ, ◌+◌, List, [], ◌∷◌, ◌++◌, length, append_assoc, length-append, append-nil, refl, sym, ap, subst, ◌∙◌, arith, Some, Result, Ok, Err}
+use Rattle.std.specs.Prelude.{⊤, IfOk, slice_get}
 use Rattle.us_crew.specs.Items.{AreAccepted}
 use Rattle.us_crew.specs.Values.{values_from, values_of}
 use Rattle.us_crew.specs.Parts.{EachFrom}
@@ -49,3 +49,9 @@ module _ {I B Z : Type 0} (value : I → Z) (can : I → Type 0) (value_at : ℕ
   pub made-ready : (made : List I) (rest whole : List B) → AreMadeTo made rest whole →
       AreAccepted (λ _. ⊤) (λ _ i. can i) made
   made-ready made rest whole so_far place i is entered = each-at (λ _ i. can i) 0 made so_far.ready place i is
+
+-- what was answered, passed on with another fault
+pub passed : {A E F : Type 0} (answered : Result A E) (result : Result A F) (P : A → Type 0) →
+    IfOk result (λ all. answered ≡ Ok all) → IfOk answered P → IfOk result P
+passed answered (Err given) P same holds = tt
+passed answered (Ok all) P same holds = subst (λ r. IfOk r P) same holds

@@ -318,6 +318,8 @@ fn make_round<'a, D: Doers<'a>>(
 {
     progress.take_asks(alloc, asks, doers)?;
     let made = step(alloc, state, progress.cut(), doers)?;
+    // Its clauses bound how many rounds there were and how much the calendars settled, so that no count of lines wraps.
+    let _ = made.next_round();
     progress.take_round(&made)?;
     Ok(made.into_state())
 }
