@@ -69,7 +69,7 @@ impl<'a> Collector<'a> {
         requires few { length asks.now ≤ max_asks }
         requires room { self.old.collected + spec.chunk_quota asks.now ≤ max_asked }
         ensures collected { OnOk result (self.new ≡ spec.with_asks self.old asks.now) }
-        ensures same { (t : Tables) → D.Hands.knows doers.old t → D.Hands.knows doers.new t }
+        ensures same { (t : Tables) → D.knows doers.old t → D.knows doers.new t }
     {
         if asks.is_empty() {
             self.cut.fill(0);

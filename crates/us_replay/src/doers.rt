@@ -19,10 +19,10 @@ mod kept;
 mod placing;
 
 // What runs beside them.
-mod lent;
+mod meanwhile;
 
 pub(crate) use kept::{Kept, Posts, open_crew};
-pub(crate) use lent::beside_lent;
+pub(crate) use meanwhile::{Meanwhile, beside_workers, take_back};
 
 /// Who collects the requests of a round, and does its channels.
 pub(crate) trait Doers<'a>: Hands {
@@ -38,5 +38,5 @@ pub(crate) trait Doers<'a>: Hands {
     ) -> Result<Seat, NoMemory>
         requires { CanGather intake.now seat asks.now }
         ensures seat { IfOk result (λ after. after ≡ seat_after_asks seat asks.now) }
-        ensures same { (t : Tables) → knows self.old t → knows self.new t };
+        ensures same { (t : Tables) → Self.knows self.old t → Self.knows self.new t };
 }

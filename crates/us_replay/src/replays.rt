@@ -1,4 +1,4 @@
-ghost use Rattle.std.specs.Prelude.{◌≡◌, ◌↔◌, ◌⊎◌, ℕ, ◌<◌, ◌≤◌, true, false, length, option_map, Err, IfOk, OnOk, IfErr, IsSomeAnd};
+ghost use Rattle.std.specs.Prelude.{◌≡◌, ◌↔◌, ◌⊎◌, ℕ, ◌<◌, ◌≤◌, true, false, length, option_map, Err, IfOk, OnOk, IfErr};
 ghost use Rattle.std.specs.List.{AllByRecursion};
 ghost use Rattle.us_flows.specs.Tables;
 ghost use Rattle.us_flows.specs.Clusters.{clusters_of};
@@ -13,9 +13,10 @@ ghost use Rattle.us_replay.specs.Replays.{Growth, Replayed, WroteLawful};
 ghost use Rattle.us_replay.specs.Progress.{Along, CanMake, EndsAs, IsLawfulOutput, IsMade, IsTraceFor, RanTrace, grown, opening_progress, output_in};
 
 use crate::collecting::open_intake;
-use crate::doers::{Doers, beside_lent, open_crew};
+use crate::doers::{Doers, beside_workers, open_crew, take_back};
 use crate::faults::RunFault;
 use crate::summaries::Summary;
+use crewed::WithCrew;
 use progress::Progress;
 use sending::{flush, send};
 use std::alloc::Global;
@@ -27,6 +28,7 @@ use us_requests::{Ask, Trace, TraceFault};
 use us_round::{Alone, State, step};
 use us_slots::{NoMemory, Sink, Source};
 
+mod crewed;
 mod progress;
 mod sending;
 
@@ -161,15 +163,7 @@ fn run_with<'a, H: Threads + Sync, W1: Sink, W2: Sink, G: Gate + Sync>(
         );
     }
     run_kept(
-        threads,
-        alloc,
-        config,
-        trace,
-        workers,
-        gate,
-        &mut progress,
-        maps,
-        report,
+        threads, alloc, config, trace, workers, gate, progress, maps, report,
     )
 }
 
@@ -181,12 +175,13 @@ fn run_kept<'a, H: Threads + Sync, W1: Sink, W2: Sink, G: Gate + Sync>(
     trace: &'a Trace,
     workers: usize,
     gate: &'a G,
-    progress: &mut Progress<'a>,
+    progress: Progress<'a>,
     maps: &mut W1,
     report: &mut W2,
 ) -> Result<Summary, RunFault>
+    requires lawful { AreTables config.now }
     requires trace { IsTraceFor config.now trace.now }
-    requires opening { progress.old ≡ opening_progress (length (clusters_of config.now)) }
+    requires opening { progress ≡ opening_progress (length (clusters_of config.now)) }
     requires maps_ready { W1.failed maps.old ≡ false }
     requires report_ready { W2.failed report.old ≡ false }
     ensures ends { EndsAs config.now trace.now (grown (W1.contents maps.old) (W1.contents maps.new))
@@ -197,25 +192,19 @@ fn run_kept<'a, H: Threads + Sync, W1: Sink, W2: Sink, G: Gate + Sync>(
     let Ok((kept, posts)) = open_crew(alloc, config, gate, workers) else {
         return Err(RunFault::NoMemory(0));
     };
-    let mut kept = Some(kept);
-    let mut run = || -> Result<Summary, RunFault>
-        requires { IsSomeAnd kept (λ k. k.config.now ≡ config.now)
-            × IsTraceFor config.now trace.now
-            × (progress.now ≡ opening_progress (length (clusters_of config.now)))
-            × (W1.failed maps.now ≡ false) × (W2.failed report.now ≡ false) }
-        ensures ends { EndsAs config.entry.now trace.entry.now
-            (grown (W1.contents maps.entry.now) (W1.contents maps.exit.now))
-            (grown (W2.contents report.entry.now) (W2.contents report.exit.now)) result }
-        ensures maps_failed { W1.failed maps.exit.now ≡ blames_maps result }
-        ensures report_failed { W2.failed report.exit.now ≡ blames_report result }
-    {
-        // The crew ends with the run, so that its workers leave.
-        let Some(mut doers) = kept.take() else {
-            unreachable!();
-        };
-        run_by(alloc, config, trace, progress, &mut doers, maps, report)
+    let task = WithCrew {
+        alloc,
+        config,
+        trace,
+        progress,
+        doers: kept,
+        maps,
+        report,
     };
-    beside_lent(threads, posts, &mut run)
+    let (ended, maps, report) = beside_workers(threads, posts, task);
+    take_back(maps);
+    take_back(report);
+    ended
 }
 
 /// Replays a trace from its start, by these doers.
@@ -230,7 +219,7 @@ fn run_by<'a, D: Doers<'a>, W1: Sink, W2: Sink>(
 ) -> Result<Summary, RunFault>
     requires trace { IsTraceFor config.now trace.now }
     requires opening { progress.old ≡ opening_progress (length (clusters_of config.now)) }
-    requires doers { D.Hands.knows doers.old config.now }
+    requires doers { D.knows doers.old config.now }
     requires maps_ready { W1.failed maps.old ≡ false }
     requires report_ready { W2.failed report.old ≡ false }
     ensures ends { EndsAs config.now trace.now (grown (W1.contents maps.old) (W1.contents maps.new))
@@ -271,7 +260,7 @@ fn run_on<'a, D: Doers<'a>, W1: Sink, W2: Sink>(
 ) -> Result<Summary, RunFault>
     requires trace { IsTraceFor state.tables trace.now }
     requires along { Along state.tables trace.now 0 state progress.old }
-    requires doers { D.Hands.knows doers.old state.tables }
+    requires doers { D.knows doers.old state.tables }
     requires maps_ready { W1.failed maps.old ≡ false }
     requires report_ready { W2.failed report.old ≡ false }
     ensures ends { EndsAs state.tables trace.now (grown (W1.contents maps.old) (W1.contents maps.new))
@@ -312,9 +301,9 @@ fn make_round<'a, D: Doers<'a>>(
     doers: &mut D,
 ) -> Result<State, NoMemory>
     requires ready { CanMake state progress.old asks.now }
-    requires doers { D.Hands.knows doers.old state.tables }
+    requires doers { D.knows doers.old state.tables }
     ensures made { IfOk result (λ next. IsMade state progress.old asks.now next progress.new) }
-    ensures same { (t : Tables.Tables) → D.Hands.knows doers.old t → D.Hands.knows doers.new t }
+    ensures same { (t : Tables.Tables) → D.knows doers.old t → D.knows doers.new t }
 {
     progress.take_asks(alloc, asks, doers)?;
     let made = step(alloc, state, progress.cut(), doers)?;

@@ -77,7 +77,7 @@ impl<'a> Progress<'a> {
         requires few { length asks.now ≤ max_asks }
         requires room { self.old.collected + chunk_quota asks.now ≤ max_asked }
         ensures collected { OnOk result (self.new ≡ with_asks self.old asks.now) }
-        ensures same { (t : Tables) → D.Hands.knows doers.old t → D.Hands.knows doers.new t }
+        ensures same { (t : Tables) → D.knows doers.old t → D.knows doers.new t }
     {
         self.collector.collect(alloc, asks, doers)
     }

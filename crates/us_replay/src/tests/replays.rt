@@ -1,4 +1,6 @@
-use super::base::{BONDED_MAPS, BONDED_REPORT, BONDED_TRACE, MAPS, REPORT, TRACE, base, bonded, same};
+use super::base::{
+    BONDED_MAPS, BONDED_REPORT, BONDED_TRACE, MAPS, REPORT, TRACE, base, bonded, same,
+};
 use super::devices::{FakeReader, FakeWriter, reader, short_writer, stuck_writer, writer};
 use crate::{RunFault, Summary, replay};
 use std::alloc::Global;
@@ -166,7 +168,12 @@ fn trace_that_fails(rt: HostRuntime) {
 }
 
 /// Whether the bonded run by so many workers answers what it may where memory is refused, and blames no device.
-fn is_right(threads: &(impl Threads + Sync), alloc: Global, config: &Config, workers: usize) -> bool {
+fn is_right(
+    threads: &(impl Threads + Sync),
+    alloc: Global,
+    config: &Config,
+    workers: usize,
+) -> bool {
     let (maps, report) = (writer(BONDED_MAPS, 100), writer(BONDED_REPORT, 100));
     let trace = reader(BONDED_TRACE, false);
     let (answer, trace, maps, report) = outcome(
