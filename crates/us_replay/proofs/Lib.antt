@@ -4,8 +4,9 @@ pub mod CollectingLemmas
 pub mod ChunkLemmas
 pub mod SettledLemmas
 pub mod RoundLemmas
+pub mod MadeLemmas
 pub mod ReplayStopLemmas
 pub mod LoopLemmas
 pub mod ReplayLemmas
 pub mod LawfulLemmas
-mod LadenLemmas
+pub mod LadenLemmas

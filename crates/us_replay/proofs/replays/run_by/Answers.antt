@@ -1,4 +1,4 @@
-use Rattle.std.proofs.Common.{sym, ap, subst}
+use Rattle.std.proofs.Common.{sym, ap, subst, rules}
 use Rattle.us_replay.specs.Progress.{Along, EndsAs, IsTraceFor, grown}
 use Rattle.us_replay.proofs.LoopLemmas.{along-opening, ends-at-once}
 use Rattle.us_replay.proofs.replays.run_by.Goals as goal
@@ -9,7 +9,17 @@ returns-in_default-clause-ends g c =
     c.opened.ensures.lawful
 
 pub run_on-requires : goal.run_on-requires
-run_on-requires g c = ?
+run_on-requires g c =
+    let tables = sym (ap (λ s. s.tables) c.in-Ok.ensures.value) in
+    let trace : IsTraceFor c.in-Ok.state.tables c.args.trace.now =
+    subst (λ t. IsTraceFor t c.args.trace.now) tables c.requires.trace in
+    let along : Along c.in-Ok.state.tables c.args.trace.now 0 c.in-Ok.state c.args.progress.now =
+    subst (λ t. Along t c.args.trace.now 0 c.in-Ok.state c.args.progress.now) tables
+    (along-opening c.args.config.now c.args.trace.now c.in-Ok.state c.args.progress.now c.opened.ensures.lawful
+    c.in-Ok.ensures.value c.requires.opening) in
+    let knows : g.D.Hands.knows c.args.doers.now c.in-Ok.state.tables =
+    subst (λ t. g.D.Hands.knows c.args.doers.now t) tables c.requires.doers in
+    search rules
 
 pub returns-clause-ends : goal.returns-clause-ends
 returns-clause-ends g c =

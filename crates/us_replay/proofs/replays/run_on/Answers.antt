@@ -1,16 +1,26 @@
-use Rattle.std.proofs.Common.{◌≡◌, ◌<◌, ℕ, sym, ap, subst, ◌∙◌, arith}
+use Rattle.std.proofs.Common.{◌≡◌, ◌<◌, ℕ, sym, ap, subst, ◌∙◌, arith, rules}
 use Rattle.us_flows.specs.Tables.{Tables}
 use Rattle.us_requests.specs.Traces.{TraceAsks}
 use Rattle.us_replay.specs.Endings.{ending_of}
 use Rattle.us_replay.specs.Replays.{KeptLimits}
 use Rattle.us_lawful.specs.Runs.{cuts_in}
-use Rattle.us_replay.specs.Progress.{Along, EndsAs, Progress, output_in, summary_after}
+use Rattle.us_replay.specs.Progress.{Along, CanMake, EndsAs, Progress, output_in, summary_after}
 use Rattle.us_replay.proofs.ReplayStopLemmas.{passed-on, so-far-at, EndsBetween, stops-between, sent-stops, sent-kept, round-part, last-part, sent-round, sent-last, flush-stops, flushed-all, flushed-kept}
 use Rattle.us_replay.proofs.LoopLemmas.{fields-last, along-next, can-make, last-made, texts-here, some-next, texts-last, length-given, summary-is}
 use Rattle.us_replay.proofs.replays.run_on.Goals as goal
 
 pub make_round-requires : goal.make_round-requires
-make_round-requires g c = ?
+make_round-requires g c =
+    let along : Along c.args.state.tables c.args.trace.now c.loop-done.done c.loop-done.state c.loop-done.progress =
+    c.loop-done.invariant.1 in
+    let ready : CanMake c.loop-done.state c.loop-done.progress c.asks-asks.result.now =
+    can-make c.args.state.tables c.args.trace.now c.loop-done.done c.loop-done.state c.loop-done.progress
+    c.asks-asks.result.now c.loop-done.invariant.0 along c.requires.trace.fits
+    (omega (arith, c.loop-done-test.true, c.rounds-rounds.ensures.value))
+    (c.requires.trace.known c.loop-done.done) c.asks-asks.ensures.value in
+    let knows : g.D.Hands.knows c.loop-done.doers c.loop-done.state.tables =
+    subst (λ t. g.D.Hands.knows c.loop-done.doers t) (sym along.tables) c.loop-done.invariant.5 in
+    search rules
 
 pub returns-in_default-clause-ends : goal.returns-in_default-clause-ends
 returns-in_default-clause-ends g c =
