@@ -1,5 +1,8 @@
-//! What no clause says: a worked round's lines and MAP, and each allocation refused in turn.
+//! What no clause says: a worked round's lines and MAP, its texts beside a plain writer, a line of each kind, and each
+//! allocation refused in turn.
 
 mod base;
 mod lines;
 mod memory;
+mod texts;
+mod words;

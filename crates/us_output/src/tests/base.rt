@@ -77,7 +77,7 @@ pub(super) fn answer_of(alloc: Global) -> Result<String, AllocError> {
     Ok(answer)
 }
 
-fn config_of(alloc: Global) -> Result<Config, ConfigFault> {
+pub(super) fn config_of(alloc: Global) -> Result<Config, ConfigFault> {
     let text = text_of(alloc)?;
     Config::read(alloc, text.as_bytes())
 }
@@ -140,7 +140,7 @@ fn states_of(alloc: Global, bytes: &[u64]) -> Result<Vec<ClusterState>, NoMemory
 }
 
 /// The configuration's first channel in round 0, once the claims are placed, if the round may be made.
-fn built_of(alloc: Global, config: &Config) -> Result<Option<Built>, NoMemory>
+pub(super) fn built_of(alloc: Global, config: &Config) -> Result<Option<Built>, NoMemory>
     ensures { IfOk result (λ found. IfSome found (IsBuiltFor config.now)) }
 {
     if config.channels().is_empty() || !config.rounds_fit(1) {
@@ -208,7 +208,7 @@ fn claim_of(channel: &Channel, list: u8, sid: u16, share: u32) -> Option<Claim>
 }
 
 /// Whether all that a calendar granted on a channel starts inside its MAP.
-fn settled_inside(part: &Built) -> bool
+pub(super) fn settled_inside(part: &Built) -> bool
     ensures { IsTrue result →
         AllByRecursion (calendars.StartsInside (length part.now.board.cells)) part.now.settled }
 {
@@ -224,7 +224,7 @@ fn settled_inside(part: &Built) -> bool
 }
 
 /// Whether all grants of requests on a channel start inside its MAP.
-fn grants_inside(part: &Built) -> bool
+pub(super) fn grants_inside(part: &Built) -> bool
     ensures { IsTrue result → AllByRecursion (StartsInside (length part.now.board.cells)) part.now.grants }
 {
     let len = part.board().len();
