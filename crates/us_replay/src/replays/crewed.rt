@@ -10,24 +10,25 @@ use us_slots::Sink;
 
 /// The replay of a trace by doers who own the crew of the workers beside it.
 #[derive(Drop)]
-pub(super) struct WithCrew<'a, 'w, D, W1, W2> {
+pub(super) struct WithCrew<'a, 'm, 'r, D, W1, W2> {
     pub(super) alloc: Global,
     pub(super) config: &'a Config,
     pub(super) trace: &'a Trace,
     pub(super) progress: Progress<'a>,
     pub(super) doers: D,
-    pub(super) maps: &'w mut W1,
-    pub(super) report: &'w mut W2,
+    pub(super) maps: &'m mut W1,
+    pub(super) report: &'r mut W2,
 }
 
-impl<'a, 'w, D: Doers<'a> + Drop, W1: Sink, W2: Sink> Meanwhile for WithCrew<'a, 'w, D, W1, W2> {
+impl<'a, 'm, 'r, D: Doers<'a> + Drop, W1: Sink, W2: Sink> Meanwhile
+    for WithCrew<'a, 'm, 'r, D, W1, W2> {
     ghost use Rattle.std.specs.Prelude.{◌≡◌, false, length};
     ghost use Rattle.us_flows.specs.Clusters.{clusters_of};
     ghost use Rattle.us_replay.specs.Endings.{blames_maps, blames_report};
     ghost use Rattle.us_replay.specs.Progress.{EndsAs, IsTraceFor, grown, opening_progress};
 
     // How it ended, and the writers.
-    type Output = (Result<Summary, RunFault>, &'w mut W1, &'w mut W2);
+    type Output = (Result<Summary, RunFault>, &'m mut W1, &'r mut W2);
 
     ghost can_run = { λ t. IsTraceFor t.config.now t.trace.now × D.knows t.doers t.config.now
         × (t.progress ≡ opening_progress (length (clusters_of t.config.now)))
@@ -40,7 +41,7 @@ impl<'a, 'w, D: Doers<'a> + Drop, W1: Sink, W2: Sink> Meanwhile for WithCrew<'a,
 
     /// The crew ends with the run, so that its workers leave.
     // The doers are a parameter, so that they can be given up here: what holds a gate that is a parameter can't be.
-    fn run(self) -> (Result<Summary, RunFault>, &'w mut W1, &'w mut W2) {
+    fn run(self) -> (Result<Summary, RunFault>, &'m mut W1, &'r mut W2) {
         let WithCrew {
             alloc,
             config,
