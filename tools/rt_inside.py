@@ -6,7 +6,10 @@ module, and calls its functions. It is the one place that knows them, and was wr
   KIT                                     the folder of the kit, with the file KIT-ID, whose first line names it
   rtlib.PARTS                             the folders of a crate that a check reads
   rtlib.crates_below(top)                 the crates below a folder, lowest first; of each `name`, `folder`, `below()`
-                                          and `build_rlib(flags, anew)`, whose status is 0 where the library is built
+                                          and `build_rlib(flags, anew)`, whose status is 0 where the library is built;
+                                          `is_built()`, `rlib`, the library's folder, and `stamp()`, a sum of all that it
+                                          is made from, which out/rlib/stamp has once it stands
+  rtlib.files_of(folder)                  the files of a crate that a check reads
   rtlib.guarded()                         has all that is started end with this program
   read_edit(edit, folder)                 the texts of the files that an edit changes, and else why it can't be applied
   unread(line, changed)                   whether a line says that a file of these paths could not be read
@@ -30,6 +33,9 @@ FUNCTIONS = {
     "rtlib.crates_below": ("top",),
     "rtlib.Crate.below": ("self",),
     "rtlib.Crate.build_rlib": ("self", "flags", "anew"),
+    "rtlib.Crate.is_built": ("self",),
+    "rtlib.Crate.stamp": ("crate",),
+    "rtlib.files_of": ("folder",),
     "rtlib.guarded": (),
     "read_edit": ("edit", "folder"),
     "unread": ("line", "changed"),
@@ -91,9 +97,9 @@ def kit():
         return file.read().strip()
 
 
-def crates():
-    """The crates below the current folder, lowest first: each has `name`, `folder` and `below()`."""
-    return rt.rtlib.crates_below(os.getcwd())
+def crates(top=None):
+    """The crates below a folder, the current one if none is named, lowest first: each has `name`, `folder` and `below()`."""
+    return rt.rtlib.crates_below(top or os.getcwd())
 
 
 def why_unapplied(edit, folder):
@@ -121,6 +127,20 @@ def said_of(crate, texts, kept):
 def is_built(crate):
     """Builds a crate's library where it doesn't stand, and says whether it stands now."""
     return crate.build_rlib(FLAGS, anew=False) == 0
+
+
+def take_library(crate, other):
+    """Gives a crate the library that the gate built of the same text in another checkout, where the crate has none and those
+    below it have theirs. The gate puts no stamp beside what it builds, since its libraries hold statements alone, which fit
+    only the libraries that they were built over: so all of them have to come from one checkout."""
+    if crate.is_built() or not os.path.isdir(other.rlib) or not all(below.is_built() for below in crate.below()):
+        return
+    built = os.path.getmtime(other.rlib)
+    if crate.stamp() == other.stamp() and all(os.path.getmtime(file) < built for file in rt.rtlib.files_of(other.folder)):
+        shutil.rmtree(f"{crate.folder}/out/rlib", ignore_errors=True)
+        shutil.copytree(f"{other.folder}/out/rlib", f"{crate.folder}/out/rlib")
+        with open(f"{crate.folder}/out/rlib/stamp", "w", encoding="utf-8") as file:
+            file.write(crate.stamp())
 
 
 def proof_of(crate, kept):

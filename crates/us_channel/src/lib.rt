@@ -29,6 +29,10 @@ mod placing;
 
 // and all claims of a channel.
 mod building;
+mod granting;
+
+// A channel from round to round.
+mod channel_rounds;
 
 // From a board to a MAP.
 mod mapping;
@@ -37,6 +41,7 @@ mod mapping;
 mod laws;
 
 pub use building::{Built, Filled, build_on, fill, lanes_of};
+pub use channel_rounds::ChannelRound;
 pub use lanes::Lane;
 pub use laws::{
     boards_are_built, grants_are_of_claims, grants_fit, placed_have_minislots, reserves_fit,

@@ -76,18 +76,17 @@ pub(crate) fn whole(alloc: Global, len: u32) -> Result<Vec<Hole>, NoMemory>
     Ok(holes)
 }
 
-/// Makes it the one hole of an idle board of `len` minislots again. It needs no memory.
-pub(crate) fn refill(holes: &mut Vec<Hole>, len: u32)
-    requires some { 1 ≤ len }
-    requires most { len ≤ spec.max_minislots }
+/// Makes it the one hole from `from` on that ends before `to`, if it has a minislot. It needs no memory.
+pub(crate) fn refill(holes: &mut Vec<Hole>, from: u32, to: u32)
+    requires order { from ≤ to }
+    requires most { to ≤ spec.max_minislots }
     requires room { 1 ≤ vec_capacity holes.old }
-    ensures items { holes.new.items ≡ lists.hole_in 0 len }
+    ensures items { holes.new.items ≡ lists.hole_in from to }
     ensures capacity { vec_capacity holes.old ≤ vec_capacity holes.new }
 {
     holes.clear();
-    match holes.push(Hole::between(0, len)) {
-        Ok(()) => {}
-        Err(_) => unreachable!(),
+    if from < to {
+        holes.push_reserved(Hole::between(from, to));
     }
 }
 

@@ -56,7 +56,7 @@ mod output_laws;
 
 pub use output_laws::{lines_are_of_grants, lines_bear_round};
 pub use outputs::{out_by, round_out};
-pub use pendings::{PendingSid, first_sid_of};
+pub use pendings::{PendingSid, first_sid_of, pending_sids};
 pub use records::push_records;
 pub use reporting::final_rows;
 pub use round_outs::RoundOut;

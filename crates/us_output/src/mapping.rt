@@ -7,7 +7,7 @@ ghost use Rattle.us_output.specs.Outputs as spec;
 use crate::pendings::{PendingSid, list_sids};
 use crate::scratch::Scratch;
 use std::alloc::Global;
-use us_channel::{Built, map_of};
+use us_channel::{ChannelRound, map_of};
 use us_codec::Map;
 use us_flows::Config;
 use us_slots::NoMemory;
@@ -17,7 +17,7 @@ pub(crate) fn maps_of(
     alloc: Global,
     config: &Config,
     round: u32,
-    built: &[Built],
+    built: &[ChannelRound],
     pendings: &[PendingSid],
 ) -> Result<Vec<Map>, NoMemory>
     requires built { AllByRecursion (IsBuiltFor config.now) built.now }
@@ -39,7 +39,7 @@ fn built_map(
     alloc: Global,
     config: &Config,
     round: u32,
-    part: &Built,
+    part: &ChannelRound,
     pendings: &[PendingSid],
     scratch: &mut Scratch,
 ) -> Result<Map, NoMemory>

@@ -9,7 +9,7 @@ use crate::pendings::{PendingSid, pending_sids};
 use crate::reporting::rows_of;
 use crate::round_outs::RoundOut;
 use std::alloc::Global;
-use us_channel::Built;
+use us_channel::ChannelRound;
 use us_flows::Config;
 use us_requests::ClusterState;
 use us_slots::NoMemory;
@@ -20,7 +20,7 @@ pub fn out_by(
     alloc: Global,
     config: &Config,
     round: u32,
-    channels: &[Built],
+    channels: &[ChannelRound],
     pendings: &[PendingSid],
 ) -> Result<RoundOut, NoMemory>
     requires built { AllByRecursion (IsBuiltFor config.now) channels.now }
@@ -43,7 +43,7 @@ pub fn round_out(
     round: u32,
     outstanding: &[u64],
     left: &[ClusterState],
-    built: &[Built],
+    built: &[ChannelRound],
 ) -> Result<RoundOut, NoMemory>
     requires built { AllByRecursion (IsBuiltFor config.now) built.now }
     requires inside { AllByRecursion AreInside built.now }

@@ -59,7 +59,7 @@ impl PendingSid {
 
 /// Who is pending after a round: in the order of turns, those with as many bytes `left` as were `outstanding` before their
 /// channels placed, and with one at least.
-pub(crate) fn pending_sids(
+pub fn pending_sids(
     alloc: Global,
     config: &Config,
     outstanding: &[u64],

@@ -13,7 +13,7 @@ ghost use Rattle.us_output.specs.Outputs.{AreWithinLimits, out_of};
 
 use crate::pendings::{PendingSid, list_sids};
 use crate::scratch::Scratch;
-use us_channel::{Built, element_of, head_of, pending_of};
+use us_channel::{ChannelRound, element_of, head_of, pending_of};
 use us_codec::{ELEMENT_BYTES, Element, HEAD_BYTES, Head, push_element, push_front};
 use us_flows::{Channel, Config};
 use us_holes::Run;
@@ -26,7 +26,7 @@ pub fn push_records(
     scratch: &mut Scratch,
     config: &Config,
     round: u32,
-    channels: &[Built],
+    channels: &[ChannelRound],
     pendings: &[PendingSid],
 ) -> Result<(), NoMemory>
     requires built { AllByRecursion (IsBuiltFor config.now) channels.now }
@@ -47,7 +47,7 @@ fn push_record(
     scratch: &mut Scratch,
     config: &Config,
     round: u32,
-    part: &Built,
+    part: &ChannelRound,
     pendings: &[PendingSid],
 ) -> Result<(), NoMemory>
     requires built { IsBuiltFor config.now part.now }

@@ -12,7 +12,7 @@ use crate::rows::Row;
 use crate::scratch::Scratch;
 use crate::tallies::LineTally;
 use us_calendar::Settled;
-use us_channel::Built;
+use us_channel::ChannelRound;
 use us_flows::Channel;
 use us_slots::NoMemory;
 
@@ -23,7 +23,7 @@ pub fn push_lines(
     scratch: &mut Scratch,
     tally: &mut LineTally,
     round: u32,
-    channels: &[Built],
+    channels: &[ChannelRound],
 ) -> Result<(), NoMemory>
     requires inside { AllByRecursion AreInside channels.now }
     requires granted_room { tally.old.granted + length (flat_map (spec.rows_on round) channels.now) < 2 ^ 64 }
@@ -48,7 +48,7 @@ fn push_part(
     scratch: &mut Scratch,
     tally: &mut LineTally,
     round: u32,
-    part: &Built,
+    part: &ChannelRound,
 ) -> Result<(), NoMemory>
     requires inside { AreInside part.now }
     requires granted_room { tally.old.granted + length (spec.rows_on round part.now) < 2 ^ 64 }
@@ -70,7 +70,7 @@ fn push_part(
 
 /// How many M lines a channel has beside so many G lines: one for each occurrence that its calendar settled and didn't
 /// grant.
-fn missed_lines(part: &Built, granted: usize) -> usize
+fn missed_lines(part: &ChannelRound, granted: usize) -> usize
     requires inside { AreInside part.now }
     requires granted { granted ≡ length (ordered_lines part.now) }
     ensures { result + granted ≡ length part.now.settled + length part.now.grants }

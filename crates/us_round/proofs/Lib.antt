@@ -3,12 +3,12 @@ pub mod FillLemmas
 pub mod PendingLemmas
 pub mod StateLemmas
 pub mod CalendarLemmas
-pub mod RoundLemmas
-pub mod SoundLemmas
 pub mod PhaseLemmas
-pub mod StageLemmas
+pub mod SoundLemmas
 pub mod ScheduleLaws
 pub mod ChannelRunLaws
+pub mod RoundLemmas
+pub mod StageLemmas
 pub mod ByteLaws
 pub mod MapLaws
 pub mod TurnLemmas

@@ -1,19 +1,15 @@
--- Inside the crate, and of no use to a reader of the promise: a state without its calendars, which go from channel to
--- channel by themselves; and what the channels of a round keep on the way.
+-- Inside the crate, and of no use to a reader of the promise: a state without its calendars, which go from round to round
+-- with their channels; and what is known of the channels of a round on the way.
 use Rattle.std.specs.Prelude.{◌≡◌, ℕ, ◌+◌, ◌*◌, ◌≤◌, List, [], length, map, replicate, sum_by}
 use Rattle.std.specs.List.{AllByRecursion}
-use Rattle.us_flows.specs.declared.channels.Channel.{Channel}
 use Rattle.us_flows.specs.Tables.{Tables, map_len, max_run_ticks}
 use Rattle.us_flows.specs.Lawful.{IsChannel}
 use Rattle.us_flows.specs.Clusters.{clusters_of}
-use Rattle.us_bucket.specs.Levels.{Level, full, bytes_in}
+use Rattle.us_bucket.specs.Levels.{Level, full}
 use Rattle.us_calendar.specs.Calendars as calendars
 use Rattle.us_calendar.specs.Calendars.{Calendar, pace_of, settled_in, granted_in}
-use Rattle.us_split.specs.Plans.{Planned, plan_for}
 use Rattle.us_channel.specs.Channels.{Filled, Built}
-use Rattle.us_round.specs.Rounds.{State, with_cut, grown, idle, all_grants, uncredited, spent_of}
-use Rattle.us_output.specs.Outputs.{Scheduled}
-use Rattle.us_output.specs.Leftovers.{scheduled_by}
+use Rattle.us_round.specs.Rounds.{State, with_cut, grown, all_grants, uncredited, spent_of}
 
 -- all of a state but its calendars
 pub record Core : Type 0 where
@@ -69,11 +65,11 @@ pub record AreCalendars (t : Tables) (round : ℕ) (cs : List Calendar) : Type 0
   pub paces : map (λ calendar. calendar.pace) cs ≡ map (pace_of t) t.channels
   pub rounds : AllByRecursion (λ calendar. calendar.next_round ≡ round) cs
 
--- a channel of these tables with its calendar, in a round that may be made
-pub record IsReady (t : Tables) (round : ℕ) (item : Channel × Calendar) : Type 0 where
-  pub channel : IsChannel t item.0
-  pub pace : item.1.pace ≡ pace_of t item.0
-  pub next : item.1.next_round ≡ round
+-- a channel of these tables, with its calendar, in a round that may be made
+pub record IsReady (t : Tables) (round : ℕ) (b : Built) : Type 0 where
+  pub channel : IsChannel t b.channel
+  pub pace : b.calendar.pace ≡ pace_of t b.channel
+  pub next : b.calendar.next_round ≡ round
   pub time : (round + 1) * t.round_ticks ≤ max_run_ticks
 
 -- a channel of these tables after its calendar: its board has the length of its MAPs, and what was granted starts inside
@@ -94,11 +90,3 @@ settled_then fs = sum_by (λ f. settled_in f.calendar) fs
 abbrev pub AreCounted : List Calendar → List Built → Type 0
 AreCounted before builds =
     sum_by (λ b. length b.settled) builds + sum_by settled_in before ≡ sum_by (λ b. settled_in b.calendar) builds
-
--- the plan of a round that has begun, over these channels
-abbrev pub plan_over : Core → List Filled → List Planned
-plan_over core fs = plan_for core.tables core.outstanding (map bytes_in core.buckets) (idle fs)
-
--- what these channels were scheduled, where so much was outstanding before, and the core tells what is left
-abbrev pub scheduled_of : Core → ℕ → List ℕ → List Built → Scheduled
-scheduled_of core round outstanding builds = scheduled_by core.tables round outstanding core.outstanding builds

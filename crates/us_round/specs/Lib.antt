@@ -22,7 +22,7 @@ pub mod ScheduleLaws
 pub mod Faults
 -- a state without its calendars,
 pub mod Cores
--- the stages of a round,
-pub mod Stages
+-- its parts at each stage of a round,
+pub mod Parts
 -- and who does its phases
-pub mod Doers
+pub mod Hands

@@ -3,6 +3,7 @@ ghost use Rattle.std.specs.List.{AllByRecursion};
 ghost use Rattle.us_flows.specs.Clusters.{clusters_of};
 ghost use Rattle.us_flows.specs.Lawful.{AreTables};
 ghost use Rattle.us_bucket.specs.Levels.{bytes_in, full, refilled};
+ghost use Rattle.us_channel.specs.Channels.{IsBuilt};
 ghost use Rattle.us_round.specs.Rounds.{with_cut, all_grants};
 ghost use Rattle.us_round.specs.Cores as spec;
 ghost use Rattle.us_round.specs.States.{Covers};
@@ -10,7 +11,7 @@ ghost use Rattle.us_round.specs.States.{Covers};
 use std::alloc::Global;
 use std::marker::Model;
 use us_bucket::Bucket;
-use us_channel::Built;
+use us_channel::ChannelRound;
 use us_flows::{Config, Flow};
 use us_requests::ClusterState;
 use us_slots::NoMemory;
@@ -145,10 +146,11 @@ impl Core {
     }
 
     /// Ends the round: what was granted leaves the outstanding bytes and the buckets.
-    pub(crate) fn close(&mut self, built: &[Built])
+    pub(crate) fn close(&mut self, built: &[ChannelRound])
         requires covers { Covers self.old.outstanding self.old.buckets (all_grants built.now) }
         requires round { self.old.round + 1 < 2 ^ 32 }
-        ensures { self.new ≡ spec.credited_core self.old built.now }
+        ensures value { self.new ≡ spec.credited_core self.old built.now }
+        ensures known { AllByRecursion IsBuilt built.now }
     {
         let outstanding = self.outstanding.as_mut_slice();
         let buckets = self.buckets.as_mut_slice();

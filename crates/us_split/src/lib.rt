@@ -30,12 +30,16 @@ mod plans;
 // The plan of a round.
 mod planning;
 
-// Laws of its claims.
+// Who asks in a round.
+mod asking;
+
+// Laws of claims and of those who ask.
 mod laws;
 
+pub use asking::Askers;
 pub use claims::{Claim, Claimant};
 pub use divisions::{MAX_CHANNELS_OF_FLOW, divide};
-pub use laws::{claims_are_of_turns, clusters_claim_once};
+pub use laws::{askers_claim, claims_are_of_turns, clusters_claim_once, turns_pass};
 pub use planning::{plan, plan_with};
 pub use plans::Plan;
 

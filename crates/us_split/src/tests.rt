@@ -1,5 +1,6 @@
-//! What no clause says: divisions beside a plain program, and plans of real configurations.
+//! What no clause says: divisions beside a plain program, plans of real configurations, and who asks round after round.
 
+mod asking;
 mod base;
 mod divisions;
 mod memory;

@@ -10,7 +10,7 @@ use crate::{
 };
 use std::alloc::{AllocError, Global};
 use std::test::Fail;
-use us_channel::Built;
+use us_channel::ChannelRound;
 use us_codec::{MAX_BODY_BYTES, encode_into};
 use us_flows::Config;
 use us_slots::NoMemory;
@@ -56,7 +56,7 @@ fn pendings(alloc: Global) -> Result<Vec<PendingSid>, AllocError> {
 fn straight(
     alloc: Global,
     config: &Config,
-    channels: &[Built],
+    channels: &[ChannelRound],
     pendings: &[PendingSid],
     out: &RoundOut,
 ) -> Result<Vec<u8>, NoMemory>
@@ -78,7 +78,7 @@ fn push_texts(
     text: &mut Vec<u8>,
     scratch: &mut Scratch,
     config: &Config,
-    channels: &[Built],
+    channels: &[ChannelRound],
     pendings: &[PendingSid],
     out: &RoundOut,
 ) -> Result<(), NoMemory>

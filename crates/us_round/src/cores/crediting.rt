@@ -1,17 +1,24 @@
-ghost use Rattle.std.specs.Prelude.{◌≡◌, length};
+ghost use Rattle.std.specs.Prelude.{◌≡◌};
+ghost use Rattle.std.specs.List.{AllByRecursion};
+ghost use Rattle.us_channel.specs.Channels.{IsBuilt};
 ghost use Rattle.us_round.specs.Rounds.{all_grants, uncredited, spent_of};
 ghost use Rattle.us_round.specs.States.{Covers};
 
 use us_bucket::Bucket;
-use us_channel::{Built, PlacedClaim};
+use us_channel::{ChannelRound, PlacedClaim};
 use us_requests::ClusterState;
 
 /// Takes the credits of all channels' grants from the outstanding bytes of their clusters, and from the buckets of
 /// their flows.
-pub(super) fn credit_all(outstanding: &mut [ClusterState], buckets: &mut [Bucket], built: &[Built])
+pub(super) fn credit_all(
+    outstanding: &mut [ClusterState],
+    buckets: &mut [Bucket],
+    built: &[ChannelRound],
+)
     requires { Covers outstanding.old buckets.old (all_grants built.now) }
     ensures outstanding { outstanding.new ≡ uncredited (all_grants built.now) 0 outstanding.old }
     ensures buckets { buckets.new ≡ spent_of (all_grants built.now) 0 buckets.old }
+    ensures known { AllByRecursion IsBuilt built.now }
 {
     for channel in built {
         credit_grants(outstanding, buckets, channel.grants());
