@@ -12,11 +12,11 @@
 //! What these bytes are stands in `specs/`, in the order of its `Lib.antt`.
 #![tactic(auto)]
 
-// The bytes of a round's records.
-mod texts;
-
-// The requests of a round, which workers collect.
+// The requests of a round, as they are collected.
 mod collecting;
+
+// Who collects them, and does the channels.
+mod doers;
 
 // Every refusal, in order.
 mod faults;

@@ -1,9 +1,10 @@
-ghost use Rattle.std.specs.Prelude.{◌≡◌, ◌+◌, ◌^◌, ◌<◌, ◌++◌, length, count_by, IfOk, OnOk};
+ghost use Rattle.std.specs.Prelude.{◌≡◌, ◌+◌, ◌^◌, ◌<◌, ◌≤◌, ◌++◌, length, count_by, IfOk, OnOk};
 ghost use Rattle.std.specs.List.{AllByRecursion};
 ghost use Rattle.us_output.specs.Files.{records, round_lines, is_granted, is_missed};
 ghost use Rattle.us_output.specs.Lines.{HasFields};
 ghost use Rattle.us_output.specs.Outputs.{AreWithinLimits, out_of};
 ghost use Rattle.us_round.specs.Parts.{ArePartsDone, done_by};
+ghost use Rattle.us_round.specs.States.{settled_by, max_settled_by};
 
 use crate::parts::Parts;
 use crate::states::State;
@@ -46,6 +47,14 @@ impl RoundDone {
         ensures { result ≡ done_by parts.core parts.channels.items pendings.items }
     {
         RoundDone { parts, pendings }
+    }
+
+    /// The number of the round that comes next.
+    pub fn next_round(&self) -> u32
+        ensures value { result ≡ self.now.state.round }
+        ensures few { settled_by self.now.state ≤ max_settled_by }
+    {
+        self.parts.core.round()
     }
 
     /// The state that the next round starts from.
