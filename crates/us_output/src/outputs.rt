@@ -11,7 +11,6 @@ use crate::round_outs::RoundOut;
 use std::alloc::Global;
 use us_channel::ChannelRound;
 use us_flows::Config;
-use us_requests::ClusterState;
 use us_slots::NoMemory;
 
 /// What a round gives of its channels in table order, once all claims are placed, where this is pending. The one
@@ -42,7 +41,7 @@ pub fn round_out(
     config: &Config,
     round: u32,
     outstanding: &[u64],
-    left: &[ClusterState],
+    left: &[u64],
     built: &[ChannelRound],
 ) -> Result<RoundOut, NoMemory>
     requires built { AllByRecursion (IsBuiltFor config.now) built.now }

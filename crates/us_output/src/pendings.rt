@@ -9,7 +9,6 @@ ghost use Rattle.us_output.specs.Leftovers.{still_asking, still_asking_at};
 use std::alloc::Global;
 use std::marker::Model;
 use us_flows::{Config, Flow, Turn};
-use us_requests::ClusterState;
 use us_slots::NoMemory;
 
 /// The most pendings of a MAP (ours).
@@ -63,7 +62,7 @@ pub fn pending_sids(
     alloc: Global,
     config: &Config,
     outstanding: &[u64],
-    left: &[ClusterState],
+    left: &[u64],
 ) -> Result<Vec<PendingSid>, NoMemory>
     ensures { IfOk result (λ pendings.
         pendings.items ≡ filter_map (still_asking outstanding.now left.now) (turns_of config.now)) }
@@ -83,11 +82,11 @@ fn pending_sid(
     config: &Config,
     turn: &Turn,
     outstanding: &[u64],
-    left: &[ClusterState],
+    left: &[u64],
 ) -> Option<PendingSid>
     ensures { result ≡ still_asking_at config.now outstanding.now left.now turn.now }
 {
-    let bytes = left_at(left, turn.cluster);
+    let bytes = bytes_at(left, turn.cluster);
     if bytes == 0 || bytes != bytes_at(outstanding, turn.cluster) {
         return None;
     }
@@ -104,21 +103,11 @@ pub fn first_sid_of(config: &Config, turn: &Turn) -> Option<PendingSid>
     }
 }
 
-/// The outstanding bytes of the cluster with this number.
-pub(crate) fn left_at(left: &[ClusterState], number: usize) -> u64
-    ensures { result ≡ slice_index left.now number }
+/// The bytes of the cluster with this number.
+pub(crate) fn bytes_at(bytes: &[u64], number: usize) -> u64
+    ensures { result ≡ slice_index bytes.now number }
 {
-    match left.get(number) {
-        Some(state) => state.outstanding(),
-        None => 0,
-    }
-}
-
-/// Those that were outstanding of it before.
-fn bytes_at(outstanding: &[u64], number: usize) -> u64
-    ensures { result ≡ slice_index outstanding.now number }
-{
-    match outstanding.get(number) {
+    match bytes.get(number) {
         Some(bytes) => *bytes,
         None => 0,
     }

@@ -4,6 +4,10 @@ pub mod PendingLemmas
 pub mod StateLemmas
 pub mod CalendarLemmas
 pub mod PhaseLemmas
+pub mod BucketLemmas
+pub mod AskingLemmas
+pub mod CreditingLemmas
+pub mod CoreLemmas
 pub mod SoundLemmas
 pub mod ScheduleLaws
 pub mod ChannelRunLaws

@@ -16,8 +16,9 @@ use Rattle.us_output.specs.Outputs.{RoundOut, Scheduled, out_of, AreWithinLimits
 use Rattle.us_output.specs.Leftovers.{still_asking, told}
 use Rattle.us_round.specs.Rounds.{State, RoundResult, begun, fills_of, idle, round_plan, builds_of, credited, round_from, round_of}
 use Rattle.us_round.specs.States.{IsState, AreSound, settled_by}
-use Rattle.us_round.specs.Cores.{Core, IsReady, begun_core, credited_core}
-use Rattle.us_round.specs.Parts.{ArePartsDone, ArePartsOfRound, ArePartsOfState, AreBuilt, AreClaimsOn, built_by, done_by, done_of, filled_by, idle_of, plan_over, state_of}
+use Rattle.us_round.specs.Cores.{Core, IsReady, begun_core, credited_core, first_sid_at, idle_of, plan_over, planned_core}
+use Rattle.us_round.specs.Parts.{ArePartsDone, ArePartsOfRound, ArePartsOfState, AreBuilt, AreClaimsOn, built_by, done_by, done_of, filled_by, state_of}
+use Rattle.us_round.proofs.AskingLemmas.{pendings_are}
 use Rattle.us_round.proofs.FillLemmas.{filled_channels}
 use Rattle.us_round.proofs.PhaseLemmas.{all_ready}
 use Rattle.us_round.proofs.SoundLemmas.{builds_are, claims_for}
@@ -33,6 +34,7 @@ pub begun_parts : (old : Core) (bs : List Built) (cut : List ℕ) → ArePartsOf
 begun_parts old bs cut are lawful long = record {
   state = begun_state (state_of old bs) cut are.state long;
   channels = are.channels;
+  told = refl;
   lawful = lawful;
 }
 
@@ -78,6 +80,11 @@ plan_as : (core : Core) (bs : List Built) → ArePartsOfRound core bs →
 plan_as core bs are =
     ap (λ free. plan_for core.tables core.outstanding (map bytes_in core.buckets) free) (filled_idle core bs are)
 
+-- the parts are those of the round still
+planned_parts : (core : Core) (old bs : List Built) → ArePartsOfRound core old → ArePartsOfRound (planned_core core bs) old
+planned_parts core old bs are =
+    record { state = are.state; channels = are.channels; told = are.told; lawful = are.lawful }
+
 -- Claims.
 
 channels_kept : (fs : List Filled) → map (λ b. b.channel) (map ungranted fs) ≡ map (λ f. f.channel) fs
@@ -112,6 +119,7 @@ built_as core old bs are time is =
     let sound : AreSound s bs = subst (λ bs. AreSound s bs) (sym is) (state_sound s are.lawful are.state) in
     record {
       lawful = are.lawful;
+      told = are.told;
       time = time;
       covers = sound.covers;
       boards = sound.boards;
@@ -127,6 +135,7 @@ done_parts core bs are known = record {
   parts = record {
     state = are.next;
     few = settled_few core.tables bs are.lawful are.channels known;
+    told = omega (arith, are.told);
     channels = are.channels;
   };
   later = omega arith;
@@ -144,14 +153,12 @@ abbrev done_at : Core → List Built → ℕ → List (ℕ × ℕ) → RoundResu
 done_at core bs n pending = record { state = state_of (credited_core core bs) bs; scheduled = told n bs pending }
 
 -- and tell the round
-pub told_as : (core next : Core) (bs : List Built) (t : Tables) (before left : List ℕ) (pending : List (ℕ × ℕ)) →
-    next ≡ credited_core core bs → t ≡ next.tables → before ≡ core.outstanding → left ≡ next.outstanding →
-    pending ≡ filter_map (still_asking before left) (turns_of t) → done_by next bs pending ≡ done_of core bs
-told_as core next bs t before left pending is same was leaves lists =
+pub told_as : (core next : Core) (bs : List Built) (pending : List (ℕ × ℕ)) → next ≡ credited_core core bs →
+    pending ≡ filter_map (first_sid_at next.tables) next.pending → done_by next bs pending ≡ done_of core bs
+told_as core next bs pending is lists =
     let pendings : pending ≡ filter_map (still_asking core.outstanding (credited_core core bs).outstanding) (turns_of core.tables) =
-    lists ∙ ap (λ u. filter_map (still_asking before left) (turns_of u)) (same ∙ ap (λ (k : Core). k.tables) is)
-    ∙ ap (λ os. filter_map (still_asking os left) (turns_of core.tables)) was
-    ∙ ap (λ os. filter_map (still_asking core.outstanding os) (turns_of core.tables)) (leaves ∙ ap (λ (k : Core). k.outstanding) is) in
+    lists ∙ ap (λ (k : Core). filter_map (first_sid_at k.tables) k.pending) is
+    ∙ pendings_are core.tables core.outstanding (credited_core core bs).outstanding in
     let number : core.round + 1 - 1 ≡ core.round = omega arith in
     ap (λ k. done_by k bs pending) is ∙ ap (λ n. done_at core bs n pending) number
     ∙ ap (λ ps. done_at core bs core.round ps) pendings
@@ -201,33 +208,35 @@ done_few s cut done next out is ends made limits few =
     rw (ends, made, same) (few (subst (λ t. AreWithinLimits t done.scheduled) same limits))
 
 -- Stage after stage, the channels come to those of the state.
-pub built_in_stages : (core second third : Core) (old fs bs : List Built) (plan : List (List Claim)) → ArePartsOfRound core old →
-    second ≡ core → fs ≡ filled_by core old → plan ≡ all_claims second.tables (plan_over second fs) → third ≡ second →
-    bs ≡ built_by plan fs → (third ≡ core) × (bs ≡ builds_of (state_of core old))
-built_in_stages core second third old fs bs plan are still fills plans kept builds =
-    let made : plan ≡ all_claims core.tables (plan_over core (filled_by core old)) =
-    plans ∙ ap (λ k. all_claims k.tables (plan_over k fs)) still
-    ∙ ap (λ fs. all_claims core.tables (plan_over core fs)) fills in
-    (kept ∙ still, builds ∙ ap (λ fs. built_by plan fs) fills ∙ builds_as core old plan are made)
+pub built_in_stages : (core second planned third : Core) (old fs those bs : List Built) → ArePartsOfRound core old →
+    second ≡ core → fs ≡ filled_by core old → planned ≡ planned_core second fs → those ≡ fs → third ≡ planned →
+    bs ≡ built_by planned.claims those →
+    (third ≡ planned_core core (filled_by core old)) × (bs ≡ builds_of (state_of core old))
+built_in_stages core second planned third old fs those bs are still fills plans kept same builds =
+    let all : planned ≡ planned_core core (filled_by core old) =
+    plans ∙ ap₂ (λ k fs. planned_core k fs) still fills in
+    let made : planned.claims ≡ all_claims core.tables (plan_over core (filled_by core old)) = ap (λ (k : Core). k.claims) all in
+    (same ∙ all, builds ∙ ap (λ fs. built_by planned.claims fs) (kept ∙ fills) ∙ builds_as core old planned.claims are made)
 
 -- what they leave is the round
 pub stepped_as : (s : State) (cut : List ℕ) (core third : Core) (old bs : List Built) (done : RoundResult) →
-    state_of core old ≡ begun s cut → (third ≡ core) × (bs ≡ builds_of (state_of core old)) →
+    state_of core old ≡ begun s cut →
+    (third ≡ planned_core core (filled_by core old)) × (bs ≡ builds_of (state_of core old)) →
     done ≡ done_of third bs → done ≡ round_of s cut
 unfolding round_of
 stepped_as s cut core third old bs done begins stages is =
     is ∙ ap (λ k. done_of k bs) stages.0 ∙ round_as (begun s cut) core old bs begins stages.1
 
-pub stage_claims : (core second : Core) (old fs : List Built) (plan : List (List Claim)) → ArePartsOfRound core old →
-    second ≡ core → fs ≡ filled_by core old → plan ≡ all_claims second.tables (plan_over second fs) → AreClaimsOn plan fs
-stage_claims core second old fs plan are still fills plans =
-    let made : plan ≡ all_claims core.tables (plan_over core (filled_by core old)) =
-    plans ∙ ap (λ k. all_claims k.tables (plan_over k fs)) still
-    ∙ ap (λ fs. all_claims core.tables (plan_over core fs)) fills in
-    subst (AreClaimsOn plan) (sym fills) (claims_as core old plan are made)
+pub stage_claims : (core second planned : Core) (old fs those : List Built) → ArePartsOfRound core old → second ≡ core →
+    fs ≡ filled_by core old → planned ≡ planned_core second fs → those ≡ fs → AreClaimsOn planned.claims those
+stage_claims core second planned old fs those are still fills plans kept =
+    let made : planned.claims ≡ all_claims core.tables (plan_over core (filled_by core old)) =
+    ap (λ (k : Core). k.claims) (plans ∙ ap₂ (λ k fs. planned_core k fs) still fills) in
+    subst (AreClaimsOn planned.claims) (sym (kept ∙ fills)) (claims_as core old planned.claims are made)
 
 pub stage_built : (core third : Core) (old bs : List Built) → ArePartsOfRound core old →
     (core.round + 1) * core.tables.round_ticks ≤ max_run_ticks →
-    (third ≡ core) × (bs ≡ builds_of (state_of core old)) → AreBuilt third bs
+    (third ≡ planned_core core (filled_by core old)) × (bs ≡ builds_of (state_of core old)) → AreBuilt third bs
 stage_built core third old bs are time stages =
-    subst (λ k. AreBuilt k bs) (sym stages.0) (built_as core old bs are time stages.1)
+    subst (λ k. AreBuilt k bs) (sym stages.0)
+    (built_as (planned_core core (filled_by core old)) old bs (planned_parts core old (filled_by core old) are) time stages.1)

@@ -22,10 +22,10 @@ filled_at work place b = ungranted (fill work.config.now work.round b.channel b.
 
 -- a channel where the claims of its place may be placed, and with these
 abbrev pub CanBuild : Building → ℕ → Built → Type 0
-CanBuild work place b = AllByRecursion (IsClaimOn b.channel) (slice_index_or work.plan.now place [])
+CanBuild work place b = AllByRecursion (IsClaimOn b.channel) (slice_index_or work.planner.now.claims place [])
 
 abbrev pub built_at : Building → ℕ → Built → Built
-built_at work place b = build_on (slice_index_or work.plan.now place []) (filled_part b)
+built_at work place b = build_on (slice_index_or work.planner.now.claims place []) (filled_part b)
 
 -- a function may be called for channels that the work accepts at their places, and answers their values in the order of the
 -- channels, or a fault

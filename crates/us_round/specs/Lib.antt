@@ -20,6 +20,8 @@ pub mod States
 pub mod ScheduleLaws
 -- the texts of faults
 pub mod Faults
+-- buckets that are refilled when they are asked for,
+pub mod Buckets
 -- a state without its calendars,
 pub mod Cores
 -- its parts at each stage of a round,

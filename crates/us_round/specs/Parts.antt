@@ -5,9 +5,6 @@ use Rattle.std.specs.List.{AllByRecursion}
 use Rattle.us_flows.specs.Tables.{max_run_ticks}
 use Rattle.us_flows.specs.Lawful.{AreTables}
 use Rattle.us_crew.specs.Values.{values_of}
-use Rattle.us_bucket.specs.Levels.{bytes_in}
-use Rattle.us_holes.specs.Boards.{free_count}
-use Rattle.us_split.specs.Plans.{Planned, plan_for}
 use Rattle.us_split.specs.Claims.{Claim, IsClaimOn}
 use Rattle.us_channel.specs.Channels.{Built, fill, build_on, ungranted, filled_part}
 use Rattle.us_output.specs.Outputs.{Scheduled}
@@ -24,26 +21,21 @@ state_of core bs = with_calendars core (map (λ b. b.calendar) bs)
 pub record ArePartsOfState (core : Core) (bs : List Built) : Type 0 where
   pub state : IsState (state_of core bs)
   pub few : settled_by (state_of core bs) ≤ max_settled_by
+  pub told : core.told ≡ core.round - 1
   pub channels : map (λ b. b.channel) bs ≡ core.tables.channels
 
 -- parts of which a round may be made
 pub record ArePartsOfRound (core : Core) (bs : List Built) : Type 0 where
   pub state : IsState (state_of core bs)
   pub channels : map (λ b. b.channel) bs ≡ core.tables.channels
+  pub told : core.told ≡ core.round
   pub lawful : AreTables core.tables
 
 -- the channels once reserves and calendars have their minislots,
 abbrev pub filled_by : Core → List Built → List Built
 filled_by core bs = map (λ b. ungranted (fill core.tables core.round b.channel b.calendar)) bs
 
--- what is idle then, and the plan of that,
-abbrev pub idle_of : List Built → List ℕ
-idle_of bs = map (λ b. free_count b.board.cells) bs
-
-abbrev pub plan_over : Core → List Built → List Planned
-plan_over core bs = plan_for core.tables core.outstanding (map bytes_in core.buckets) (idle_of bs)
-
--- which gives each channel claims that can be placed there,
+-- and planned, which gives each channel claims that can be placed there,
 abbrev pub AreClaimsOn : List (List Claim) → List Built → Type 0
 AreClaimsOn plan bs = (place : ℕ) (b : Built) → slice_get bs place ≡ Some b →
     AllByRecursion (IsClaimOn b.channel) (slice_index_or plan place [])
@@ -55,6 +47,7 @@ built_by plan bs = values_of (λ place b. build_on (slice_index_or plan place []
 -- and their grants are covered, and leave a state
 pub record AreBuilt (core : Core) (bs : List Built) : Type 0 where
   pub lawful : AreTables core.tables
+  pub told : core.told ≡ core.round
   pub time : (core.round + 1) * core.tables.round_ticks ≤ max_run_ticks
   pub covers : Covers core.outstanding core.buckets (all_grants bs)
   pub boards : AllByRecursion (IsBuiltFor core.tables) bs

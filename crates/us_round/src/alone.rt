@@ -69,7 +69,7 @@ pub fn round_alone(
     ensures out { IfOk result (λ done. done.1 ≡ out_of state.tables (spec.round_of state cuts.now).scheduled) }
     ensures fault { IfErr result (λ given. given ≡ RoundFault.NoMemory) }
 {
-    let done = step(alloc, state, cuts, &mut Alone { gate: &OpenGate })?;
+    let done = step(state, cuts, &mut Alone { gate: &OpenGate })?;
     let out = done.out(alloc)?;
     Ok((done.into_state(), out))
 }

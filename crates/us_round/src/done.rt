@@ -9,13 +9,12 @@ use crate::parts::Parts;
 use crate::states::State;
 use std::alloc::Global;
 use std::marker::Model;
-use us_output::{LineTally, PendingSid, RoundOut, Scratch, out_by, push_lines, push_records};
+use us_output::{LineTally, RoundOut, Scratch, out_by, push_lines, push_records};
 use us_slots::NoMemory;
 
 /// A round that was made: what it was scheduled, and the state that the next round starts from.
 pub struct RoundDone {
     parts: Parts,
-    pendings: Vec<PendingSid>,
 }
 
 impl Model for RoundDone {
@@ -24,7 +23,7 @@ impl Model for RoundDone {
 
     ghost Value = { spec.RoundResult };
 
-    ghost view = { λ d. done_by d.parts.core d.parts.channels.items d.pendings.items };
+    ghost view = { λ d. done_by d.parts.core d.parts.channels.items d.parts.pendings.items };
 
     ghost invariant = { λ d. ArePartsDone d.parts.core d.parts.channels.items };
 }
@@ -32,27 +31,24 @@ impl Model for RoundDone {
 /// Gives the round up. It is written out so that it is one step wherever a round ends.
 impl Drop for RoundDone {
     fn drop(self) {
-        let RoundDone {
-            parts: _,
-            pendings: _,
-        } = self;
+        let RoundDone { parts: _ } = self;
     }
 }
 
 impl RoundDone {
-    /// The round that left these parts, where this is pending.
-    pub(crate) fn of(parts: Parts, pendings: Vec<PendingSid>) -> RoundDone
+    /// The round that left these parts.
+    pub(crate) fn of(parts: Parts) -> RoundDone
         requires { ArePartsDone parts.core parts.channels.items }
-        ensures { result ≡ done_by parts.core parts.channels.items pendings.items }
+        ensures { result ≡ done_by parts.core parts.channels.items parts.pendings.items }
     {
-        RoundDone { parts, pendings }
+        RoundDone { parts }
     }
 
     /// The state that the next round starts from.
     pub fn into_state(self) -> State
         ensures { result ≡ self.state }
     {
-        let RoundDone { parts, pendings: _ } = self;
+        let RoundDone { parts } = self;
         State::of(parts)
     }
 
@@ -61,9 +57,13 @@ impl RoundDone {
         ensures out { IfOk result (λ out. out ≡ out_of self.now.state.tables self.now.scheduled) }
         ensures limits { OnOk result (AreWithinLimits self.now.state.tables self.now.scheduled) }
     {
-        let Parts { core, channels } = &self.parts;
+        let Parts {
+            core,
+            channels,
+            pendings,
+        } = &self.parts;
         let round = core.round() - 1;
-        out_by(alloc, core.config(), round, channels, &self.pendings)
+        out_by(alloc, core.config(), round, channels, pendings)
     }
 
     /// Adds the records of the round: one for the MAP of each channel, in table order.
@@ -72,16 +72,13 @@ impl RoundDone {
             (text.new.items ≡ text.old.items ++ records (out_of self.now.state.tables self.now.scheduled)) }
         ensures limits { OnOk result (AreWithinLimits self.now.state.tables self.now.scheduled) }
     {
-        let Parts { core, channels } = &self.parts;
-        let round = core.round() - 1;
-        push_records(
-            text,
-            scratch,
-            core.config(),
-            round,
+        let Parts {
+            core,
             channels,
-            &self.pendings,
-        )
+            pendings,
+        } = &self.parts;
+        let round = core.round() - 1;
+        push_records(text, scratch, core.config(), round, channels, pendings)
     }
 
     /// Adds the lines of the round, and counts them: channels in table order, and on each the grants by their start, then
@@ -103,7 +100,11 @@ impl RoundDone {
         ensures missed { OnOk result (tally.new.missed ≡
             tally.old.missed + count_by is_missed (out_of self.now.state.tables self.now.scheduled).rows) }
     {
-        let Parts { core, channels } = &self.parts;
+        let Parts {
+            core,
+            channels,
+            pendings,
+        } = &self.parts;
         let round = core.round() - 1;
         push_lines(text, scratch, tally, round, channels)
     }

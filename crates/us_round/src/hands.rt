@@ -9,7 +9,7 @@ use us_channel::ChannelRound;
 use us_crew::{CrewFault, Work};
 use us_flows::Config;
 use us_slots::NoMemory;
-use us_split::{Claim, Plan};
+use us_split::{Claim, Planner};
 
 /// What a channel needs to make its reserves and to go over its calendar.
 #[derive(Clone, Copy)]
@@ -23,15 +23,15 @@ pub struct Filling<'a> {
 /// What a channel needs to place its claims.
 #[derive(Clone, Copy)]
 pub struct Building<'a> {
-    pub(crate) plan: &'a Plan,
+    pub(crate) planner: &'a Planner,
 }
 
 impl<'a> Building<'a> {
     /// The claims on the channel at this place of the table.
     pub fn claims(&self, place: usize) -> &[Claim]
-        ensures { result.now ≡ slice_index_or self.now.plan.now place [] }
+        ensures { result.now ≡ slice_index_or self.now.planner.now.claims place [] }
     {
-        self.plan.claims(place)
+        self.planner.claims(place)
     }
 }
 
@@ -122,7 +122,7 @@ impl<'a> Work<ChannelRound, ChannelRound, NoMemory> for Building<'a> {
         item: ChannelRound,
     ) -> Result<ChannelRound, NoMemory> {
         let mut channel = item;
-        channel.place_claims(self.plan.claims(index));
+        channel.place_claims(self.planner.claims(index));
         Ok(channel)
     }
 }

@@ -21,7 +21,10 @@ mod placing_laws;
 // Who does the channels of a round.
 mod hands;
 
-// What a round starts from: all but the channels,
+// What a round starts from: the buckets,
+mod buckets;
+
+// all but the channels,
 mod cores;
 
 // both parts,

@@ -70,7 +70,7 @@ pub fn round<H: Threads + Sync, G: Gate + Sync>(
         requires { AreAccepted (λ _. ⊤) (CanBuild work.now) channels.items }
         ensures { IfOk result (λ all. all.items ≡ values_of (built_at work.now) channels.items) }
     { answers(map_owned(threads, alloc, work, Phase::Build, channels, workers, gate)) };
-    let done = step(alloc, state, cuts, &mut ByEach { fill, build })?;
+    let done = step(state, cuts, &mut ByEach { fill, build })?;
     let out = done.out(alloc)?;
     Ok((done.into_state(), out))
 }
@@ -79,12 +79,7 @@ pub fn round<H: Threads + Sync, G: Gate + Sync>(
 /// values, or as text.
 ///
 /// On want of memory the state is given up.
-pub fn step<H: Hands>(
-    alloc: Global,
-    state: State,
-    cuts: &[u64],
-    hands: &mut H,
-) -> Result<RoundDone, NoMemory>
+pub fn step<H: Hands>(state: State, cuts: &[u64], hands: &mut H) -> Result<RoundDone, NoMemory>
     requires clusters { length cuts.now ≡ length (clusters_of state.tables) }
     requires room { AllByRecursion (λ pair. pair.0 + pair.1 < 2 ^ 62) (zip state.outstanding cuts.now) }
     requires time { (state.round + 1) * state.tables.round_ticks ≤ max_run_ticks }
@@ -104,10 +99,10 @@ pub fn step<H: Hands>(
     ensures same { (t : Tables) → H.knows hands.old t → H.knows hands.new t }
 {
     let begun = begin(state, cuts);
-    let filled = begun.fill(hands)?;
-    let plan = filled.plan(alloc)?;
-    let built = filled.build(&plan, hands)?;
-    built.close(alloc)
+    let mut filled = begun.fill(hands)?;
+    filled.plan()?;
+    let built = filled.build(hands)?;
+    built.close()
 }
 
 /// Begins the round of a state: what the clusters ask for is outstanding too, and the buckets grow.

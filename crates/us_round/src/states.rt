@@ -44,7 +44,11 @@ impl State {
     {
         let channels = channels_of(alloc, &config)?;
         let core = Core::new(alloc, config)?;
-        Ok(State::of(Parts { core, channels }))
+        Ok(State::of(Parts {
+            core,
+            channels,
+            pendings: Vec::new(alloc),
+        }))
     }
 
     /// The state of these parts.
@@ -81,7 +85,8 @@ impl State {
         ensures fault { IfErr result (λ given. given ≡ RoundFault.NoMemory) }
     {
         let core = self.core();
-        let rows = us_output::final_rows(alloc, core.config(), core.outstanding(), core.buckets())?;
+        let buckets = core.buckets(alloc)?;
+        let rows = us_output::final_rows(alloc, core.config(), core.outstanding(), &buckets)?;
         Ok(rows)
     }
 

@@ -118,7 +118,7 @@ agree_later (turn ∷ turns) known allowances place bytes here all =
 
 -- The claims.
 
-option_before : {A : Type 0} (o : Option A) (xs : List A) → cons_option o xs ≡ option_to_list o ++ xs
+pub option_before : {A : Type 0} (o : Option A) (xs : List A) → cons_option o xs ≡ option_to_list o ++ xs
 option_before None xs = refl
 option_before (Some x) xs = refl
 

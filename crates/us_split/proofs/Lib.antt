@@ -11,3 +11,6 @@ pub mod AskingLaws
 pub mod TurnNumberLemmas
 pub mod AskerLemmas
 pub mod AskerStepLemmas
+pub mod ByPlaceLemmas
+pub mod TurnRowLemmas
+pub mod RowPlanLemmas

@@ -154,7 +154,7 @@ after_with : (place : ℕ) (planned : Planned) (cs : List ChannelPlan) →
 after_with place planned [] = refl
 after_with place planned (c ∷ cs) = ap (λ bs. budget_in (with_turn place planned c) ∷ bs) (after_with place planned cs)
 
-ledger_after : (place : ℕ) (planned : Planned) (partial : PartialPlan) →
+pub ledger_after : (place : ℕ) (planned : Planned) (partial : PartialPlan) →
     ledger_in (planned_further place planned partial) ≡ after_turn (ledger_in partial) planned
 unfolding planned_further after_turn
 ledger_after place planned partial =
@@ -196,7 +196,7 @@ planned_further_claims outstanding place partial (turn ∷ turns) =
     (ledger_after place planned partial) ∙
     next_claims place planned partial (plan_of outstanding (after_turn (ledger_in partial) planned) turns)
 
-idle_budgets : (channels : List Channel) (idle : List ℕ) →
+pub idle_budgets : (channels : List Channel) (idle : List ℕ) →
     map budget_in (map (λ pair. record { channel = pair.0; slots = pair.1; claims = [] }) (zip channels idle)) ≡
     map (λ pair. record { channel = pair.0; slots = pair.1 }) (zip channels idle)
 idle_budgets [] idle = refl

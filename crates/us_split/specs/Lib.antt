@@ -15,9 +15,13 @@ pub mod PlanLaws
 pub mod Laws
 -- who asks in a round, and that its plan is theirs
 pub mod Asking
+-- what plans one round after another
+pub mod Planners
 -- the definitions at small inputs
 pub mod Examples
 -- inside the crate, and of no use to a reader of the promise: a plan in the making,
 pub mod PartialPlans
--- and how it is kept who asks
+-- how it is kept who asks,
 pub mod Askers
+-- and turns by the places of their channels
+pub mod TurnRows

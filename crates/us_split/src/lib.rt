@@ -33,6 +33,18 @@ mod planning;
 // Who asks in a round.
 mod asking;
 
+// Turns by the places of their channels,
+mod turn_rows;
+
+// channels by their places,
+mod by_places;
+
+// the turns of a round by these,
+mod row_plans;
+
+// and the planner that keeps them from round to round.
+mod planner;
+
 // Laws of claims and of those who ask.
 mod laws;
 
@@ -40,6 +52,7 @@ pub use asking::Askers;
 pub use claims::{Claim, Claimant};
 pub use divisions::{MAX_CHANNELS_OF_FLOW, divide};
 pub use laws::{askers_claim, claims_are_of_turns, clusters_claim_once, turns_pass};
+pub use planner::Planner;
 pub use planning::{plan, plan_with};
 pub use plans::Plan;
 

@@ -14,7 +14,6 @@ use us_bucket::Bucket;
 use us_calendar::Settled;
 use us_channel::ChannelRound;
 use us_flows::{Channel, Config, ConfigFault};
-use us_requests::ClusterState;
 use us_samples::put_channel;
 use us_slots::{NoMemory, grant_cost};
 use us_split::{Claim, Claimant};
@@ -97,10 +96,9 @@ fn tell(alloc: Global, answer: &mut String, config: &Config) -> Result<(), NoMem
     if !config.rounds_fit(1) || !settled_inside(&built) || !grants_inside(&built) {
         return Ok(());
     }
-    let left = states_of(alloc, &LEFT)?;
     let mut all = Vec::with_capacity(alloc, 1)?;
     all.push(built)?;
-    let out = round_out(alloc, config, 0, &OUTSTANDING, &left, &all)?;
+    let out = round_out(alloc, config, 0, &OUTSTANDING, &LEFT, &all)?;
     let (maps, rows) = out.into_parts();
     for row in &rows {
         tell_line(answer, row)?;
@@ -108,35 +106,19 @@ fn tell(alloc: Global, answer: &mut String, config: &Config) -> Result<(), NoMem
     for map in &maps {
         tell_words(answer, map)?;
     }
-    tell_finals(alloc, answer, config, &left)
+    tell_finals(alloc, answer, config)
 }
 
 /// The final lines, where every bucket is full.
-fn tell_finals(
-    alloc: Global,
-    answer: &mut String,
-    config: &Config,
-    left: &[ClusterState],
-) -> Result<(), NoMemory> {
+fn tell_finals(alloc: Global, answer: &mut String, config: &Config) -> Result<(), NoMemory> {
     let mut buckets = Vec::new(alloc);
     for flow in config.flows() {
         buckets.push(Bucket::full(flow.rate(), flow.burst()))?;
     }
-    for row in &final_rows(alloc, config, left, &buckets)? {
+    for row in &final_rows(alloc, config, &LEFT, &buckets)? {
         tell_line(answer, row)?;
     }
     Ok(())
-}
-
-/// Clusters of which so much is outstanding.
-fn states_of(alloc: Global, bytes: &[u64]) -> Result<Vec<ClusterState>, NoMemory> {
-    let mut states = Vec::new(alloc);
-    for bytes in bytes {
-        let mut state = ClusterState::new();
-        state.add(*bytes & 0xffff);
-        states.push(state)?;
-    }
-    Ok(states)
 }
 
 /// The configuration's first channel in round 0, once the claims are placed, if the round may be made.

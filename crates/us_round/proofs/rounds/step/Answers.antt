@@ -23,25 +23,27 @@ plan-requires-clause-room g c =
 
 pub build-requires-clause-claims : goal.build-requires-clause-claims
 build-requires-clause-claims g c =
-    stage_claims c.begin-begun.result.core c.in_ok-filled.filled.core c.begin-begun.result.channels.items
-    c.in_ok-filled.filled.channels.items c.in_ok-plan.plan c.begin-begun.ensures.known c.in_ok-filled.ensures.core
-    c.in_ok-filled.ensures.channels c.in_ok-plan.ensures
+    stage_claims c.begin-begun.result.core c.in_ok-filled.filled.core c.plan.new.self.core
+    c.begin-begun.result.channels.items c.in_ok-filled.filled.channels.items c.plan.new.self.channels.items
+    c.begin-begun.ensures.known c.in_ok-filled.ensures.core c.in_ok-filled.ensures.channels c.in_ok-plan.ensures.core
+    c.plan.ensures.channels
 
 pub build-requires-clause-hands : goal.build-requires-clause-hands
 build-requires-clause-hands g c =
     let same : c.begin-begun.result.core.tables ≡ c.args.state.tables =
     ap (λ (s : State). s.tables) c.begin-begun.ensures.value in
-    rw c.in_ok-filled.ensures.core (c.fill.ensures.same c.begin-begun.result.core.tables (rw same c.requires.hands))
+    rw (c.in_ok-plan.ensures.core, c.in_ok-filled.ensures.core) (c.fill.ensures.same c.begin-begun.result.core.tables (rw same c.requires.hands))
 
 pub close-requires-clause-built : goal.close-requires-clause-built
 close-requires-clause-built g c =
     stage_built c.begin-begun.result.core c.in_ok-built.built.core c.begin-begun.result.channels.items
     c.in_ok-built.built.channels.items c.begin-begun.ensures.known
     (subst (λ s. (s.round + 1) * s.tables.round_ticks ≤ max_run_ticks) (sym c.begin-begun.ensures.value) c.requires.time)
-    (built_in_stages c.begin-begun.result.core c.in_ok-filled.filled.core c.in_ok-built.built.core
-    c.begin-begun.result.channels.items c.in_ok-filled.filled.channels.items c.in_ok-built.built.channels.items
-    c.in_ok-plan.plan c.begin-begun.ensures.known c.in_ok-filled.ensures.core c.in_ok-filled.ensures.channels
-    c.in_ok-plan.ensures c.in_ok-built.ensures.core c.in_ok-built.ensures.channels)
+    (built_in_stages c.begin-begun.result.core c.in_ok-filled.filled.core c.plan.new.self.core c.in_ok-built.built.core
+    c.begin-begun.result.channels.items c.in_ok-filled.filled.channels.items c.plan.new.self.channels.items
+    c.in_ok-built.built.channels.items c.begin-begun.ensures.known c.in_ok-filled.ensures.core
+    c.in_ok-filled.ensures.channels c.in_ok-plan.ensures.core c.plan.ensures.channels c.in_ok-built.ensures.core
+    c.in_ok-built.ensures.channels)
 
 pub returns-clause-value : goal.returns-clause-value
 returns-clause-value g c =
@@ -49,10 +51,11 @@ returns-clause-value g c =
     (λ done. done ≡ done_of c.in_ok-built.built.core c.in_ok-built.built.channels.items) _
     (λ done is. stepped_as c.args.state c.args.cuts.now c.begin-begun.result.core c.in_ok-built.built.core
     c.begin-begun.result.channels.items c.in_ok-built.built.channels.items done c.begin-begun.ensures.value
-    (built_in_stages c.begin-begun.result.core c.in_ok-filled.filled.core c.in_ok-built.built.core
-    c.begin-begun.result.channels.items c.in_ok-filled.filled.channels.items c.in_ok-built.built.channels.items
-    c.in_ok-plan.plan c.begin-begun.ensures.known c.in_ok-filled.ensures.core c.in_ok-filled.ensures.channels
-    c.in_ok-plan.ensures c.in_ok-built.ensures.core c.in_ok-built.ensures.channels) is)
+    (built_in_stages c.begin-begun.result.core c.in_ok-filled.filled.core c.plan.new.self.core c.in_ok-built.built.core
+    c.begin-begun.result.channels.items c.in_ok-filled.filled.channels.items c.plan.new.self.channels.items
+    c.in_ok-built.built.channels.items c.begin-begun.ensures.known c.in_ok-filled.ensures.core
+    c.in_ok-filled.ensures.channels c.in_ok-plan.ensures.core c.plan.ensures.channels c.in_ok-built.ensures.core
+    c.in_ok-built.ensures.channels) is)
     c.close.ensures
 
 pub returns-clause-sound : goal.returns-clause-sound
@@ -71,8 +74,9 @@ returns-clause-few g c =
     c.begin-begun.ensures.known c.begin-begun.ensures.value
     (stepped_as c.args.state c.args.cuts.now c.begin-begun.result.core c.in_ok-built.built.core
     c.begin-begun.result.channels.items c.in_ok-built.built.channels.items done c.begin-begun.ensures.value
-    (built_in_stages c.begin-begun.result.core c.in_ok-filled.filled.core c.in_ok-built.built.core
-    c.begin-begun.result.channels.items c.in_ok-filled.filled.channels.items c.in_ok-built.built.channels.items
-    c.in_ok-plan.plan c.begin-begun.ensures.known c.in_ok-filled.ensures.core c.in_ok-filled.ensures.channels
-    c.in_ok-plan.ensures c.in_ok-built.ensures.core c.in_ok-built.ensures.channels) is))
+    (built_in_stages c.begin-begun.result.core c.in_ok-filled.filled.core c.plan.new.self.core c.in_ok-built.built.core
+    c.begin-begun.result.channels.items c.in_ok-filled.filled.channels.items c.plan.new.self.channels.items
+    c.in_ok-built.built.channels.items c.begin-begun.ensures.known c.in_ok-filled.ensures.core
+    c.in_ok-filled.ensures.channels c.in_ok-plan.ensures.core c.plan.ensures.channels c.in_ok-built.ensures.core
+    c.in_ok-built.ensures.channels) is))
     c.close.ensures
