@@ -19,7 +19,7 @@ use us_slots::NoMemory;
 use us_split::Claim;
 
 /// What a channel has of its own in memory. It stays where it stands while the channel goes from list to list.
-pub(crate) struct RoundTrack {
+pub(crate) struct Track {
     pub calendar: Calendar,
     pub board: Board,
     pub settled: Vec<Settled>,
@@ -27,9 +27,9 @@ pub(crate) struct RoundTrack {
 }
 
 /// Gives all of it up. It is written out so that it is one step wherever a channel ends.
-impl Drop for RoundTrack {
+impl Drop for Track {
     fn drop(self) {
-        let RoundTrack {
+        let Track {
             calendar: _,
             board: _,
             settled: _,
@@ -43,12 +43,12 @@ impl Drop for RoundTrack {
 #[derive(Drop)]
 pub struct ChannelRound {
     channel: Channel,
-    track: Box<RoundTrack>,
+    track: Box<Track>,
 }
 
 impl Model for ChannelRound {
     ghost use Rattle.us_channel.specs.Channels as spec;
-    ghost use Rattle.us_channel.specs.Tracks.{IsRoundTrack};
+    ghost use Rattle.us_channel.specs.Tracks.{IsTrack};
 
     ghost Value = { spec.Built };
 
@@ -60,7 +60,7 @@ impl Model for ChannelRound {
       grants = r.track.value.grants.items;
     } };
 
-    ghost invariant = { λ r. IsRoundTrack r.channel r.track.value };
+    ghost invariant = { λ r. IsTrack r.channel r.track.value };
 }
 
 impl ChannelRound {
@@ -77,7 +77,7 @@ impl ChannelRound {
         let grants = Vec::with_capacity(alloc, MAX_ASSIGNMENTS as usize)?;
         let track = Box::new(
             alloc,
-            RoundTrack {
+            Track {
                 calendar,
                 board,
                 settled,
@@ -99,7 +99,7 @@ impl ChannelRound {
         ensures len { OnOk result (length self.new.board.cells ≡ map_len config.now self.old.channel) }
         ensures channel { self.new.channel ≡ self.old.channel }
     {
-        let RoundTrack {
+        let Track {
             calendar,
             board,
             settled,
@@ -116,7 +116,7 @@ impl ChannelRound {
         ensures value { self.new ≡ spec.build_on claims.now (spec.filled_part self.old) }
         ensures len { length self.new.board.cells ≡ length self.old.board.cells }
     {
-        let RoundTrack {
+        let Track {
             calendar,
             board,
             settled: _,
