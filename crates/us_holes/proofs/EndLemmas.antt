@@ -3,7 +3,7 @@ use Rattle.std.proofs.Common.{◌≡◌, ℕ, ◌+◌, ◌-◌, ◌<◌, ◌≤�
 use Rattle.std.proofs.lemmas.Bool.{cases_lt, lt-ltb, le-ltb, eq-eqb, ne_eqb}
 use Rattle.std.proofs.lemmas.List.{append-nil}
 use Rattle.us_holes.specs.Boards.{Owner, Board, Assignment, empty_board, assign, held, ends_held}
-use Rattle.us_holes.specs.Lists.{board_of, place_among, put, Hole, hole_from, hole_in, HasAt, narrowed_at, rank, AreLists, one_from}
+use Rattle.us_holes.specs.Lists.{board_of, place_among, put, hole_from, hole_in, HasAt, narrowed_at, AreLists, one_from}
 use Rattle.us_holes.proofs.PutLemmas.{put_later}
 use Rattle.us_holes.specs.declared.boards.Board.TheInside.{Inside}
 use Rattle.us_holes.proofs.KeptLemmas.{empty_lists, empty_kept, kept_length, kept_range, kept_put, kept_assigned, rank_of_one}
