@@ -2,7 +2,7 @@
 use Rattle.std.proofs.Common.{◌≡◌, ℕ, ◌+◌, ◌-◌, ◌<◌, ◌≤◌, ◌==◌, List, [], ◌∷◌, ◌++◌, length, true, false, refl, ap, sym, ◌∙◌, subst, inl, inr, arith}
 use Rattle.std.proofs.lemmas.Bool.{cases_lt, lt-ltb, le-ltb, eq-eqb, ne_eqb}
 use Rattle.std.proofs.lemmas.List.{append-nil}
-use Rattle.us_holes.specs.Boards.{Owner, Board, Assignment, empty_board, assign, held, ends_held}
+use Rattle.us_holes.specs.Boards.{Owner, Board, Assignment, empty_board, assign, assign_some, ends_held}
 use Rattle.us_holes.specs.Lists.{board_of, place_among, put, hole_from, hole_in, HasAt, narrowed_at, AreLists, one_from}
 use Rattle.us_holes.proofs.PutLemmas.{put_later}
 use Rattle.us_holes.specs.declared.boards.Board.TheInside.{Inside}
@@ -69,7 +69,7 @@ abbrev one_at : ℕ → ℕ → Owner → Assignment
 one_at start slots owner = record { start = start; slots = slots; owner = owner }
 
 head_held : (len head : ℕ) (first : Owner) → 1 ≤ len → len ≤ 4096 → head ≤ len →
-    AreEnds (one_from 0 head first) head len len (len - head) (held (empty_board len) 0 head first)
+    AreEnds (one_from 0 head first) head len len (len - head) (assign_some (empty_board len) 0 head first)
 head_held len head first some most few = elim (cases_lt 0 head) [
   | inl more ↦
       let not : (head == 0) ≡ false = ne_eqb head 0 (omega arith) in
@@ -110,7 +110,7 @@ tail_held len head tail first last some most few =
       | inl more ↦
           let not : (tail == 0) ≡ false = ne_eqb tail 0 (omega arith) in
           rw not
-          (one_more (one_from 0 head first) head len len (len - head) (held (empty_board len) 0 head first)
+          (one_more (one_from 0 head first) head len len (len - head) (assign_some (empty_board len) 0 head first)
           (one_at (len - tail) tail last) (one_from 0 head first ++ one_at (len - tail) tail last ∷ []) head (len - tail) ends
           (head_few head first) (omega arith) (omega arith) (omega arith) more
           (put_last head first (one_at (len - tail) tail last)) (last_taken head len tail (omega arith) (omega arith)))

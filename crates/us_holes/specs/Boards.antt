@@ -57,12 +57,13 @@ assign board start slots owner =
     }
 
 -- so many minislots for an owner; none are no assignment
-abbrev pub held : Board → ℕ → ℕ → Owner → Board
-held board start slots owner = if slots == 0 then board else assign board start slots owner
+abbrev pub assign_some : Board → ℕ → ℕ → Owner → Board
+assign_some board start slots owner = if slots == 0 then board else assign board start slots owner
 
 -- `len` minislots, of which one owner has the first `head`, and one the last `tail`
 abbrev pub ends_held : ℕ → ℕ → Owner → ℕ → Owner → Board
-ends_held len head first tail last = held (held (empty_board len) 0 head first) (len - tail) tail last
+ends_held len head first tail last =
+    assign_some (assign_some (empty_board len) 0 head first) (len - tail) tail last
 
 abbrev pub free_count : List (Option Holder) → ℕ
 free_count cells = count_by is_none cells
