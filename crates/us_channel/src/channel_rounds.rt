@@ -132,6 +132,7 @@ impl ChannelRound {
         ensures value { result ≡ free_count self.now.board.cells }
         ensures known { spec.IsBuilt self.now }
     {
+        // Asked for what it tells of the calendar, as in `grants`.
         let _ = self.track.calendar.next_round();
         self.track.board.free_count()
     }
