@@ -12,6 +12,7 @@ ghost use Rattle.us_split.specs.PartialPlans.{budget_in, channel_of, IsPlaceOf, 
 use crate::claims::{Claim, Claimant};
 use std::alloc::Global;
 use std::marker::Model;
+use std::mem;
 use us_flows::Channel;
 use us_slots::{BurstSet, NoMemory, capacity, grant_cost};
 
@@ -99,6 +100,14 @@ impl ChannelPlan {
     {
         self.claims.clear();
         self.slots = slots;
+    }
+
+    /// Exchanges its claims for others.
+    pub(crate) fn swap_claims(&mut self, claims: &mut Vec<Claim>)
+        ensures given { claims.new.items ≡ self.old.claims }
+        ensures taken { self.new ≡ record self.old { claims = claims.old.items } }
+    {
+        mem::swap(&mut self.claims, claims);
     }
 
     /// The id of the channel.

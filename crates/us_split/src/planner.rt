@@ -1,4 +1,4 @@
-ghost use Rattle.std.specs.Prelude.{◌≡◌, ℕ, List, Option, [], ◌<◌, length, map, slice_index_or, IfOk, OnOk};
+ghost use Rattle.std.specs.Prelude.{◌≡◌, ℕ, List, Option, [], ◌<◌, length, map, set, slice_index_or, IfOk, OnOk};
 ghost use Rattle.std.specs.List.{AllByRecursion};
 ghost use Rattle.us_flows.specs.Clusters.{clusters_of, turns_of};
 ghost use Rattle.us_split.specs.Plans.{IsIdle, at_most, plan_for};
@@ -110,6 +110,17 @@ impl Planner {
             Some(plan) => plan.claims(),
             None => &[],
         }
+    }
+
+    /// Exchanges the claims on the channel at this place of the table for another list, whose memory the next rounds have.
+    /// So a channel can be moved elsewhere with its claims.
+    pub fn swap_claims(&mut self, channel: usize, claims: &mut Vec<Claim>)
+        requires { channel < length self.old.tables.channels }
+        ensures given { claims.new.items ≡ slice_index_or self.old.claims channel [] }
+        ensures taken { self.new.claims ≡ set self.old.claims channel claims.old.items }
+        ensures tables { self.new.tables ≡ self.old.tables }
+    {
+        self.channels[channel].swap_claims(claims);
     }
 }
 
