@@ -2,12 +2,15 @@
 """Measures mapsim on the loads of bench/make_loads.py, and prints tables as docs/FIGURES.md has them.
 
   bench/measure.py times [LOAD..]          the least and the most time of some runs, and the most memory
+  bench/measure.py workers [LOAD..]        medians of time by numbers of workers, as parts of one's, and what each adds to
+                                           a round
   bench/measure.py instructions [LOAD..]   instructions by valgrind's callgrind: a whole replay, a round, a request read
   bench/measure.py bytes [LOAD..]          compares what some numbers of workers print and write
 
   --part N          N times fewer rounds and requests
   --runs N          runs of each measurement of `times` (5)
-  --workers N,..    numbers of workers: `times` takes each (1), `bytes` compares the first with the others (1,2,4,16)
+  --workers N,..    numbers of workers: `times` takes each (1), `workers` and `bytes` compare the first with the others
+                    (1,2,4 and 1,2,4,16)
   --program FILE    the program (crates/mapsim/out/mapsim)
 
 `instructions` counts with one worker. A round is the difference of a replay and of one of half its rounds, over the
@@ -22,6 +25,7 @@ import hashlib
 import os
 import pathlib
 import re
+import statistics
 import subprocess
 import sys
 import tempfile
@@ -118,6 +122,24 @@ def measure_times(replays_of, given):
     return 0
 
 
+def measure_workers(replays_of, given):
+    """The table of times by numbers of workers. Answers the status."""
+    first, *others = given.workers or [1, 2, 4]
+    head("Load", "Rounds", f"Seconds by {first}, median", f"us a round by {first}",
+         *(f"by {workers}: part of that, us a round more" for workers in others))
+    for replays in replays_of:
+        # in turns, so that what else the machine does meets all alike
+        seconds = {workers: [] for workers in (first, *others)}
+        for _ in range(given.runs):
+            for workers, found in seconds.items():
+                found.append(replays.timed(workers)[0])
+        base = statistics.median(seconds[first])
+        each = [statistics.median(seconds[workers]) for workers in others]
+        row(replays.name, f"{replays.rounds:,}", show_seconds(base), f"{base / replays.rounds * 1e6:.1f}",
+            *(f"{took / base:.2f}, {(took - base) / replays.rounds * 1e6:+.1f}" for took in each))
+    return 0
+
+
 def a_round(replays, trace=None):
     """Instructions of a round: a replay less one of half its rounds."""
     half = replays.rounds // 2
@@ -155,7 +177,7 @@ def measure_bytes(replays_of, given):
     return status
 
 
-TABLES = {"times": measure_times, "instructions": measure_instructions, "bytes": measure_bytes}
+TABLES = {"times": measure_times, "workers": measure_workers, "instructions": measure_instructions, "bytes": measure_bytes}
 
 
 def numbers(text):

@@ -58,7 +58,7 @@ fn split(alloc: Global, intake: &Intake, seat: Seat) -> Result<(Seat, Seat), Int
     }
 }
 
-/// Makes all rounds in one thread, while two others submit. In the end all seats are one again.
+/// Makes all rounds in this thread, while two others submit. In the end all seats are one again.
 fn run<R: Threads + Sync>(
     rt: &R,
     alloc: Global,
@@ -73,12 +73,8 @@ fn run<R: Threads + Sync>(
     requires some { 1 ≤ intake.now.clusters }
     ensures { result.1.intake ≡ intake.now }
 {
-    let ((live, seat), (first, second)) = join(
+    let ((first, second), (live, seat)) = join(
         rt,
-        move || -> (Live, Seat)
-            requires { IsSync R.row × Feeds live intake.now seat }
-            ensures { Feeds result.0 intake.entry.now result.1 }
-        { make_rounds(rt, alloc, intake, live, seat) },
         move || -> (Seat, Seat)
             requires { IsSync R.row × (first.intake ≡ intake.now) × (second.intake ≡ intake.now)
                 × (1 ≤ intake.now.clusters) }
@@ -90,6 +86,10 @@ fn run<R: Threads + Sync>(
                 move || submit_all(intake, second),
             )
         },
+        move || -> (Live, Seat)
+            requires { IsSync R.row × Feeds live intake.now seat }
+            ensures { Feeds result.0 intake.entry.now result.1 }
+        { make_rounds(rt, alloc, intake, live, seat) },
     );
     (live, intake.join(intake.join(seat, first), second))
 }

@@ -1,3 +1,4 @@
 pub mod LevelLemmas
+pub mod RoundLemmas
 pub mod SpanLemmas
 pub mod AllowanceLemmas

@@ -1,6 +1,7 @@
 -- Small inputs, computed by the definitions alone.
 use Rattle.std.specs.Prelude.{◌≡◌, ◌*◌, List, [], ◌∷◌, None, Some, refl}
 use Rattle.us_bucket.specs.Levels.{Level, full, refilled, spent, bytes_in, units_in}
+use Rattle.us_bucket.specs.RoundBuckets.{Kept, full_at_first, after_rounds, level_in, brought_to, less}
 use Rattle.us_bucket.specs.Allowances.{credits_of, credited}
 use Rattle.us_bucket.specs.Laws.{level_after}
 use Rattle.us_bucket.specs.declared.events.Event.{Event}
@@ -56,3 +57,20 @@ whole_byte = refl
 no_limit : bytes_in (refilled 320 (spent 9999 (full 0 1522))) ≡ None
 unfolding bytes_in spent refilled
 no_limit = refl
+
+-- all is granted in round 0 and nothing until round 4, which has the bytes of four rounds
+abbrev pub drained : Kept
+drained = less 1522 (full_at_first 1280000 1522)
+
+fourth_round : bytes_in (level_in 320 4 drained) ≡ Some 1280
+unfolding bytes_in spent refilled after_rounds
+fourth_round = refl
+
+-- the next one fills the bucket, whether it was asked for in between or not
+filled_at_once : bytes_in (level_in 320 5 drained) ≡ Some 1522
+unfolding bytes_in spent refilled after_rounds
+filled_at_once = refl
+
+filled_in_two_steps : bytes_in (level_in 320 5 (brought_to 320 2 drained)) ≡ Some 1522
+unfolding bytes_in spent refilled after_rounds
+filled_in_two_steps = refl

@@ -4,6 +4,8 @@
 
 -- what a bucket holds, and how it is refilled and spent
 pub mod Levels
+-- a bucket with the round as of which it stands, and its laws
+pub mod RoundBuckets
 -- the bound over every span of rounds, and the greatest number of bytes that keeps it
 pub mod Allowances
 -- the laws of the bucket

@@ -48,6 +48,7 @@ impl Bucket {
     pub fn refill(&mut self, ticks: u32)
         requires { ticks ≤ MAX_REFILL_TICKS }
         ensures value { self.new ≡ refilled ticks self.old }
+        ensures known { IsLevel self.old }
 
         // The limit that the condition names, and the units of a byte.
         ensures limit { MAX_REFILL_TICKS ≡ 2 ^ 26 }

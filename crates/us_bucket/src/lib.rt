@@ -13,6 +13,9 @@
 // What a bucket holds, and how it is refilled and spent.
 mod buckets;
 
+// A bucket that is refilled when it is asked for.
+mod round_buckets;
+
 // Rounds and credits of a flow.
 mod events;
 
@@ -25,7 +28,11 @@ mod laws;
 pub use allowances::{OverBound, allowance};
 pub use buckets::{Bucket, MAX_REFILL_TICKS, UNITS_PER_BYTE};
 pub use events::Event;
-pub use laws::{bucket_is_allowance, bucket_keeps_bound};
+pub use laws::{
+    bringing_keeps_levels, bucket_is_allowance, bucket_keeps_bound, next_round_refills,
+    refills_are_one, rounds_are_one_refill,
+};
+pub use round_buckets::RoundBucket;
 
 #[cfg(test)]
 mod tests;

@@ -3,3 +3,4 @@
 mod base;
 mod numbers;
 mod plain;
+mod rounds;

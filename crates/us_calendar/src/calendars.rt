@@ -112,19 +112,49 @@ impl Calendar {
         ensures counts { IfOk result (λ settled.
             length settled.items + spec.settled_in self.old ≡ spec.settled_in self.new) }
     {
-        let span = Span::new(self.pace, round);
         let mut settled = Vec::new(alloc);
+        self.run_into(round, board, &mut settled)?;
+        Ok(settled)
+    }
+
+    /// Does what [`Calendar::run`] does, and answers in a list that is kept: it is cleared first, and keeps its room. After
+    /// want of memory nothing is said of calendar, board and list.
+    pub fn run_into(
+        &mut self,
+        round: u32,
+        board: &mut Board,
+        settled: &mut Vec<Settled>,
+    ) -> Result<(), NoMemory>
+        requires next { round ≡ self.old.next_round }
+        requires time { (round + 1) * (self.old.pace.len * minislot_ticks self.old.pace.time) ≤ max_run_ticks }
+        requires len { length board.old.cells ≡ self.old.pace.len }
+        ensures settled { OnOk result (settled.new.items ≡ (spec.ran self.old board.old).settled) }
+        ensures board { OnOk result (board.new ≡ (spec.ran self.old board.old).board) }
+        ensures calendar { OnOk result (self.new ≡ spec.after self.old board.old) }
+
+        // The board keeps its length, what is granted starts inside it and is one more assignment each, and all that is
+        // settled is counted.
+        ensures len { length board.new.cells ≡ length board.old.cells }
+        ensures inside { OnOk result (AllByRecursion (spec.StartsInside (length board.old.cells)) settled.new.items) }
+        ensures granted { OnOk result (spec.granted_in settled.new.items + board.old.standing ≡ board.new.standing) }
+        ensures counts { OnOk result (length settled.new.items + spec.settled_in self.old ≡ spec.settled_in self.new) }
+
+        // The calendar keeps its pace, also after want of memory.
+        ensures pace { self.new.pace ≡ self.old.pace }
+    {
+        let span = Span::new(self.pace, round);
+        settled.clear();
         match settle_due(
             &span,
             &mut self.states,
             &mut self.near,
             &mut self.far,
             board,
-            &mut settled,
+            settled,
         ) {
             Ok(()) => {
                 self.next_round = round + 1;
-                Ok(settled)
+                Ok(())
             }
             Err(refused) => {
                 self.states.clear();

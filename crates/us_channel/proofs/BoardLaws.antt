@@ -1,5 +1,5 @@
 -- What a channel's board has: its reserves, what its calendar granted, and its grants, each of which fits and is of a claim.
-use Rattle.std.proofs.Common.{◌≡◌, ℕ, ◌+◌, ◌-◌, ◌%◌, ◌<◌, ◌≤◌, ◌==◌, if◌then◌else◌, List, [], ◌∷◌, ◌++◌, map, flat_map, true, Option, Some, None, refl, sym, ap, ◌∙◌, subst, inl, inr, eq-eqb, ne_eqb, arith}
+use Rattle.std.proofs.Common.{◌≡◌, ℕ, ◌-◌, ◌%◌, ◌≤◌, ◌==◌, if◌then◌else◌, List, [], ◌∷◌, ◌++◌, map, flat_map, true, Option, Some, None, refl, sym, ap, ◌∙◌, subst, inl, inr, eq-eqb, ne_eqb, arith}
 use Rattle.std.specs.Prelude.{option_map, option_to_list}
 use Rattle.std.specs.List.{AllByRecursion}
 use Rattle.std.proofs.lemmas.Bool.{cases_Bool, cases_eq}
@@ -20,7 +20,6 @@ use Rattle.us_calendar.proofs.FitLaws as calendar_laws
 use Rattle.us_split.specs.Claims.{Claim}
 use Rattle.us_channel.specs.Reserves.{reserved, maintenance, reserves}
 use Rattle.us_channel.specs.Placements.{Spot, PlacedClaim, spot, grant_at, grant_of, with_grant, grants_of, assignments}
-use Rattle.us_channel.specs.Channels.{Built, Filled, fill, build_on}
 use Rattle.us_channel.specs.Laws.{AreGrantsFor, BoardsAreBuilt, GrantsAreOfClaims, GrantsFit, HaveMinislots, IsMadeOf, PlacedHaveMinislots, ReservesFit, reserve, reserve_assignments}
 use Rattle.us_channel.proofs.GrantLaws.{Granted, grants_are}
 use Rattle.us_channel.proofs.ReserveLemmas.{empty_fits, maintained_fits}

@@ -5,9 +5,9 @@ use Rattle.std.proofs.lemmas.Bool.{cases_Bool, and_from, le-leb}
 use Rattle.std.proofs.lemmas.List.{drop-replicate, length-replicate, length-append, length-drop}
 use Rattle.std.proofs.lemmas.Slice.{drop-append-drop}
 use Rattle.us_flows.specs.declared.channels.Channel.{Channel}
-use Rattle.us_holes.specs.Boards.{Owner, Holder, Board, empty_board, is_idle_at, fits, assign}
+use Rattle.us_holes.specs.Boards.{Owner, Holder, Board, empty_board, is_idle_at, fits, assign, ends_held}
 use Rattle.us_holes.proofs.LawLemmas.{fit_length}
-use Rattle.us_channel.specs.Reserves.{reserved, maintenance, reserves}
+use Rattle.us_channel.specs.Reserves.{reserved, maintenance_in, maintenance, reserves}
 use Rattle.us_channel.proofs.FitLemmas.{fit_from}
 
 -- minislots that nobody holds are idle
@@ -86,7 +86,17 @@ maintained_fits c len round few =
     fit_from (maintenance c round (empty_board len)) c.contention_minislots (len - c.contention_minislots)
     (maintained_few c len round) (maintained_end c len round few)
 
-pub ruleset reserve_facts = (empty_fits, maintained_fits)
+-- Reserves are the ends of a board.
+pub reserves_are_ends : (c : Channel) (len round : ℕ) →
+    ends_held len (maintenance_in c round) (record { sid = 16383; iuc = 3 }) c.contention_minislots (record { sid = 16383; iuc = 1 })
+    ≡ reserves c len round
+unfolding reserves
+reserves_are_ends c len round = elim (cases_Bool (round % c.maintenance_every == 0)) [
+  | inl meets ↦ rw meets refl
+  | inr other ↦ rw other refl
+]
+
+pub ruleset reserve_facts = (reserves_are_ends)
 
 -- Reserves leave a board its length.
 

@@ -1,12 +1,12 @@
 -- One channel in a round (ours): its reserves, what its calendar settles, and the claims that are placed on it.
-use Rattle.std.specs.Prelude.{ℕ, ◌*◌, ◌≤◌, List, length}
+use Rattle.std.specs.Prelude.{◌≡◌, ℕ, ◌*◌, ◌≤◌, List, [], length}
 use Rattle.us_slots.specs.Times.{minislot_ticks}
 use Rattle.us_flows.specs.declared.channels.Channel.{Channel}
 use Rattle.us_flows.specs.Ranges.{max_round_ticks}
 use Rattle.us_flows.specs.Tables.{Tables, map_len}
-use Rattle.us_holes.specs.Boards.{Board, assign_all}
+use Rattle.us_holes.specs.Boards.{Board, empty_board, assign_all}
 use Rattle.us_calendar.specs.Calendars as calendars
-use Rattle.us_calendar.specs.Calendars.{Calendar, Ran}
+use Rattle.us_calendar.specs.Calendars.{Calendar, Ran, IsCalendar}
 use Rattle.us_calendar.specs.declared.settled.Settled.{Settled}
 use Rattle.us_split.specs.Claims.{Claim}
 use Rattle.us_channel.specs.Reserves.{reserves}
@@ -34,6 +34,24 @@ pub record Built : Type 0 where
   pub settled : List Settled
   pub grants : List PlacedClaim
 
+-- before round 0: nothing stands on its board, and nothing of its calendar is settled
+abbrev pub opening : Tables → Channel → Built
+opening t c = record {
+  channel = c;
+  board = empty_board (map_len t c);
+  calendar = calendars.opening t c;
+  settled = [];
+  grants = [];
+}
+
+-- none of its claims is granted yet
+abbrev pub ungranted : Filled → Built
+ungranted f = record { channel = f.channel; board = f.board; calendar = f.calendar; settled = f.settled; grants = [] }
+
+-- all of it but its grants
+abbrev pub filled_part : Built → Filled
+filled_part b = record { channel = b.channel; board = b.board; calendar = b.calendar; settled = b.settled }
+
 -- a channel with these claims placed
 abbrev pub build_on : List Claim → Filled → Built
 build_on claims f =
@@ -49,3 +67,9 @@ build_on claims f =
 -- the MAP of a channel has at most so many ticks as any has
 abbrev pub HasFewTicks : Filled → Type 0
 HasFewTicks f = length f.board.cells * minislot_ticks f.channel.bursts.time ≤ max_round_ticks
+
+-- what every channel keeps: its board has the length of its MAPs, and the calendar its time
+pub record IsBuilt (b : Built) : Type 0 where
+  pub calendar : IsCalendar b.calendar
+  pub len : length b.board.cells ≡ b.calendar.pace.len
+  pub time : b.calendar.pace.time ≡ b.channel.bursts.time

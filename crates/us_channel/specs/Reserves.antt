@@ -13,6 +13,10 @@ abbrev pub reserved : Board → ℕ → ℕ → ℕ → Board
 reserved board start slots iuc =
     if slots == 0 then board else assign board start slots (record { sid = broadcast; iuc = iuc })
 
+-- how many minislots the Initial Maintenance of a round has
+abbrev pub maintenance_in : Channel → ℕ → ℕ
+maintenance_in c round = if round % c.maintenance_every == 0 then c.maintenance_minislots else 0
+
 -- the Initial Maintenance of a round that has one, at the start of the MAP
 abbrev pub maintenance : Channel → ℕ → Board → Board
 maintenance c round board =

@@ -51,7 +51,7 @@ pub fn map_of(
 
 /// What stands before the elements of a MAP.
 #[tactic(auto, unfolding(crate::specs::Maps::head_of))]
-fn head_of(config: &Config, channel: &Channel, round: u32) -> Head
+pub fn head_of(config: &Config, channel: &Channel, round: u32) -> Head
     requires lawful { IsChannel config.now channel.now }
     requires time { (round + 1) * config.now.round_ticks ≤ max_run_ticks }
     ensures value { result ≡ spec.head_of config.now round channel.now }
@@ -112,7 +112,7 @@ fn elements_in(
 }
 
 /// The element of a run: of its owner, or a gap, which is a broadcast request where one fits.
-fn element_of(channel: &Channel, run: Run) -> Element
+pub fn element_of(channel: &Channel, run: Run) -> Element
     requires { run.start < 2 ^ 14 }
     ensures value { result ≡ spec.run_element channel.now run }
     ensures other { result.iuc ≢ codes.null }
@@ -126,6 +126,15 @@ fn element_of(channel: &Channel, run: Run) -> Element
     Element::from_fields(sid, iuc, run.start() as u16)
 }
 
+/// The data grant pending of a SID, at the MAP's length.
+pub fn pending_of(sid: u16, len: u16) -> Element
+    requires sid { sid < 2 ^ 14 }
+    requires len { len < 2 ^ 14 }
+    ensures { result ≡ spec.pending_element len sid }
+{
+    Element::from_fields(sid, Iuc::long_data_grant(), len)
+}
+
 /// The data grants pending of some SIDs, at the MAP's length.
 fn pendings_of(alloc: Global, sids: &[u16], len: u16) -> Result<Vec<Element>, NoMemory>
     requires len { len < 2 ^ 14 }
@@ -134,7 +143,7 @@ fn pendings_of(alloc: Global, sids: &[u16], len: u16) -> Result<Vec<Element>, No
 {
     let mut pendings = Vec::with_capacity(alloc, sids.len())?;
     for sid in sids {
-        pendings.push_reserved(Element::from_fields(*sid, Iuc::long_data_grant(), len));
+        pendings.push_reserved(pending_of(*sid, len));
     }
     Ok(pendings)
 }

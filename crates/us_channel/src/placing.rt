@@ -1,7 +1,7 @@
 ghost use Rattle.std.specs.Prelude.{◌≡◌, ◌+◌, ◌-◌, ◌*◌, ◌^◌, ◌<◌, ◌≤◌, true, length, IfSome, option_map};
 ghost use Rattle.us_slots.specs.Bursts as bursts_spec;
 ghost use Rattle.us_slots.specs.Times.{minislot_ticks};
-ghost use Rattle.us_holes.specs.Boards.{fits};
+ghost use Rattle.us_holes.specs.Boards.{fits, max_assignments};
 ghost use Rattle.us_holes.specs.Placements.{HasNoRoom};
 ghost use Rattle.us_channel.specs.Placements as spec;
 
@@ -99,6 +99,9 @@ pub(crate) fn place(board: &mut Board, bursts: &BurstSet, claim: &Claim) -> Opti
     ensures some { IfSome result (λ grant. 1 ≤ grant.credit) }
     ensures few { IfSome result (λ grant. grant.credit ≤ claim.now.share) }
     ensures inside { IfSome result (λ grant. grant.assignment.start < length board.old.cells) }
+
+    // It is one more assignment.
+    ensures one { IfSome result (λ _. board.old.standing < max_assignments) }
 {
     let owner = Owner::new(claim.sid, claim.iuc);
     match board.place_earliest(0, board.len() - 1, claim.slots, owner) {

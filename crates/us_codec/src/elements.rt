@@ -91,7 +91,7 @@ impl Element {
     }
 
     /// The Null at the MAP's length `len`, at most 16,383.
-    pub(crate) fn null_at(len: u16) -> Element
+    pub fn null_at(len: u16) -> Element
         requires { len ≤ MAX_OFFSET }
         ensures { result ≡ null_at len }
     {

@@ -1,7 +1,9 @@
 ghost use Rattle.std.specs.Prelude.{◌≡◌, ◌+◌, ◌*◌, ◌<◌, ◌≤◌, ◌∷◌, ◌++◌, length, take, drop};
+ghost use Rattle.std.specs.Int.{to_be_bytes, w32};
+ghost use Rattle.us_codec.specs.Elements.{word_of};
 ghost use Rattle.us_codec.specs.Bodies.{MapBody, IsMapBody, front, spelling, max_body_bytes};
 
-use crate::elements::ELEMENT_BYTES;
+use crate::elements::{ELEMENT_BYTES, Element};
 use crate::heads::{HEAD_BYTES, Head};
 use crate::maps::{MAX_ELEMENTS, Map};
 
@@ -31,6 +33,25 @@ pub fn encode_into(map: &Map, out: &mut [u8; MAX_BODY_BYTES]) -> usize
         at += ELEMENT_BYTES;
     }
     at
+}
+
+/// The sixteen bytes before `count` elements. Reserved is 0.
+pub fn front_bytes(head: &Head, count: u8) -> [u8; HEAD_BYTES]
+    ensures { result ≡ front head.now count }
+{
+    let mut bytes = [0; HEAD_BYTES];
+    put_front(&mut bytes, head, count);
+    bytes
+}
+
+/// Puts the four bytes of an element into `out` from `at` on.
+pub fn put_element(out: &mut [u8], at: usize, element: Element)
+    requires { at + ELEMENT_BYTES ≤ length out.old }
+    ensures { out.new ≡
+        take at out.old ++ to_be_bytes w32 (word_of element) ++ drop (at + ELEMENT_BYTES) out.old }
+{
+    let word = element.word();
+    put(out, at, word.to_be_bytes());
 }
 
 /// Puts the sixteen bytes before `count` elements to the front of `out`. Reserved is 0.

@@ -43,10 +43,10 @@ mod maps_files;
 mod laws;
 
 pub use decoding::decode;
-pub use elements::Element;
-pub use encoding::{MAX_BODY_BYTES, encode_into};
+pub use elements::{ELEMENT_BYTES, Element};
+pub use encoding::{MAX_BODY_BYTES, encode_into, front_bytes, put_element};
 pub use faults::MapFault;
-pub use heads::Head;
+pub use heads::{HEAD_BYTES, Head};
 pub use laws::{one_reading, one_spelling};
 pub use maps::{MAX_ELEMENTS, MAX_LEN, Map};
 pub use maps_files::{Record, records};

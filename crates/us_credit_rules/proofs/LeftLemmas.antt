@@ -2,11 +2,12 @@
 use Rattle.std.proofs.Common.{◌≡◌, ℕ, zero, suc, ◌+◌, ◌-◌, ◌*◌, ◌<◌, ◌≤◌, List, [], ◌∷◌, refl, sym, ap, ap₂, ◌∙◌, arith}
 use Rattle.std.specs.List.{AllByRecursion}
 use Rattle.us_bucket.specs.Levels.{Level, IsLevel, refilled, spent}
+use Rattle.us_bucket.proofs.RoundLemmas.{refilled-nothing, refills-are-one}
 use Rattle.us_lawful.specs.Finals.{level_left}
 use Rattle.us_credit_rules.specs.declared.moves.Move.{Move}
 use Rattle.us_credit_rules.specs.Moves.{Rising}
 use Rattle.us_credit_rules.specs.Shorts.{level_behind, level_in}
-use Rattle.us_credit_rules.proofs.LevelLemmas.{refilled-nothing, refilled-refilled, refilled-is, spent-nothing, spent-spent, spent-is}
+use Rattle.us_credit_rules.proofs.LevelLemmas.{refilled-is, spent-nothing, spent-spent, spent-is}
 use Rattle.us_credit_rules.proofs.WalkLemmas.{credit_in, first_credit, later_credit, nothing_before, rounds_of, rounds_same}
 
 -- rounds without credits, before others
@@ -36,7 +37,7 @@ left-later ticks credit from (suc wait) n l is none =
     ∙ ap (λ k. level_left ticks (rounds_of credit (from + 1) k) (refilled ticks l)) rest_count
     ∙ rest
     ∙ ap₂ (λ at level. level_left ticks (rounds_of credit at (suc n)) level) start
-    (refilled-refilled (wait * ticks) ticks l ∙ ap (λ time. refilled time l) time)
+    (refills-are-one ticks (wait * ticks) l ∙ ap (λ time. refilled time l) time)
 
 -- a round's credits in two parts
 left-part : (ticks bytes : ℕ) (f g : ℕ → ℕ) (from n : ℕ) (l : Level) → f from ≡ bytes + g from →

@@ -1,27 +1,13 @@
--- Levels of buckets: spends and refills one after another are one of all.
-use Rattle.std.proofs.Common.{◌≡◌, ℕ, ◌+◌, ◌-◌, ◌*◌, ◌/◌, ◌<◌, ◌≤◌, ◌==◌, true, false, min, leb, refl, sym, ap, inl, inr, arith}
+-- Levels of buckets: spends one after another are one of all, as refills are.
+use Rattle.std.proofs.Common.{◌≡◌, ℕ, ◌+◌, ◌-◌, ◌*◌, ◌/◌, ◌<◌, ◌≤◌, ◌==◌, true, false, leb, refl, sym, inl, inr, arith}
 use Rattle.std.specs.Prelude.{◌&&◌, nat_le}
 use Rattle.std.proofs.lemmas.Bool.{cases_Bool, false≢true, leb-true, leb-false, le-leb, lt-leb}
-use Rattle.us_bucket.specs.Levels.{Level, IsLevel, full, cap, units_per_byte, refilled, spent, bytes_in, Has}
+use Rattle.us_bucket.specs.Levels.{Level, IsLevel, full, units_per_byte, refilled, spent, bytes_in, Has}
 use Rattle.us_bucket.proofs.LevelLemmas.{refilled-rate, refilled-burst, spent-rate, spent-burst}
+use Rattle.us_bucket.proofs.RoundLemmas.{same_level}
 use Rattle.us_credit_rules.specs.Shorts.{has}
 
--- levels of one flow with as many units are one level
-same_level : (l : Level) (a b : ℕ) → a ≡ b →
-    ◌≡◌ {A = Level} (record { rate = l.rate; burst = l.burst; units = a }) (record { rate = l.rate; burst = l.burst; units = b })
-same_level l a b same = ap (λ units. record { rate = l.rate; burst = l.burst; units = units }) same
-
 -- Refills.
-
-pub refilled-nothing : (l : Level) → IsLevel l → refilled 0 l ≡ l
-unfolding refilled
-refilled-nothing l is = same_level l (min (l.units + 0 * l.rate) (cap l)) l.units (omega (arith, is))
-
-pub refilled-refilled : (a b : ℕ) (l : Level) → refilled a (refilled b l) ≡ refilled (b + a) l
-unfolding refilled
-refilled-refilled a b l =
-    same_level l (min (min (l.units + b * l.rate) (cap l) + a * l.rate) (cap l)) (min (l.units + (b + a) * l.rate) (cap l))
-    (omega arith)
 
 pub refilled-is : (ticks : ℕ) (l : Level) → IsLevel (refilled ticks l)
 unfolding refilled

@@ -4,11 +4,12 @@ use Rattle.std.specs.Prelude.{◌&&◌}
 use Rattle.std.specs.List.{AllByRecursion, range_with_len}
 use Rattle.std.proofs.lemmas.Bool.{cases_Bool, cases_lt, and_left}
 use Rattle.us_bucket.specs.Levels.{Level, IsLevel, refilled, spent}
+use Rattle.us_bucket.proofs.RoundLemmas.{refilled-nothing, refills-are-one}
 use Rattle.us_lawful.proofs.ItemLemmas.{map_same}
 use Rattle.us_credit_rules.specs.declared.moves.Move.{Move}
 use Rattle.us_credit_rules.specs.Moves.{Rising}
 use Rattle.us_credit_rules.specs.Shorts.{has, level_in, short_round}
-use Rattle.us_credit_rules.proofs.LevelLemmas.{refilled-nothing, refilled-refilled, refilled-is, spent-nothing, spent-spent, spent-is, has-both, has-nothing}
+use Rattle.us_credit_rules.proofs.LevelLemmas.{refilled-is, spent-nothing, spent-spent, spent-is, has-both, has-nothing}
 
 -- what holds of each number of a range holds of all
 pub range_all : (P : ℕ → Type 0) (from n : ℕ) → ((i : ℕ) → from ≤ i → i < from + n → P i) →
@@ -52,7 +53,7 @@ has-later ticks credit from (suc wait) n l is none =
     (λ i late inside. none i (omega (arith, late)) (omega (arith, inside))) in
     rw (count, here, has-nothing l, spent-nothing l)
     (rest ∙ ap₂ (λ start level. has_rounds ticks (rounds_of credit start n) level) start
-    (refilled-refilled (wait * ticks) ticks l ∙ ap (λ time. refilled time l) time))
+    (refills-are-one ticks (wait * ticks) l ∙ ap (λ time. refilled time l) time))
 
 -- a round's credits in two parts
 pub has-part : (ticks bytes : ℕ) (f g : ℕ → ℕ) (from n : ℕ) (l : Level) → f from ≡ bytes + g from →

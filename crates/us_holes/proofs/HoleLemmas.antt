@@ -1,7 +1,7 @@
 -- Holes: where an assignment fits, and what it leaves of them.
 use Rattle.std.proofs.Common.{◌≡◌, ℕ, zero, suc, ◌+◌, ◌-◌, ◌<◌, ◌≤◌, nat_le, max, List, [], ◌∷◌, ◌++◌, length, get_or, set, true, false, Some, None, refl, ap, sym, ◌∙◌, inl, inr, arith}
 use Rattle.std.specs.List.{insert, remove}
-use Rattle.std.proofs.lemmas.Bool.{cases_Bool, cases_lt, and_parts, and_from, leb-true, le-leb, lt-ltb, le-ltb}
+use Rattle.std.proofs.lemmas.Bool.{cases_Bool, cases_lt, false_from_ne_true, and_parts, and_from, leb-true, le-leb, lt-ltb, le-ltb}
 use Rattle.std.proofs.lemmas.List.{append-nil}
 use Rattle.us_holes.specs.Boards.{Assignment}
 use Rattle.us_holes.specs.Runs.{end_of, InOrder}
@@ -128,6 +128,13 @@ fits_here : (hole : Hole) (start to slots : ℕ) → fits_in hole start to slots
 fits_here hole start to slots h =
     let parts = and_parts (nat_le start to) (nat_le (start + slots) (hole_end hole)) h in
     (leb-true start to parts.0, leb-true (start + slots) (hole_end hole) parts.1)
+
+-- a hole that ends too early has no room for any start of the window
+pub ends_early : (hole : Hole) (from to slots : ℕ) → hole_end hole < from + slots →
+    fits_in hole (max from hole.start) to slots ≡ false
+ends_early hole from to slots early =
+    false_from_ne_true (fits_in hole (max from hole.start) to slots)
+    (λ h. let known = fits_here hole (max from hole.start) to slots h in omega (arith, known.1, early))
 
 fits_not : (hole : Hole) (from to slots at : ℕ) → fits_in hole (max from hole.start) to slots ≡ false → from ≤ at →
     at ≤ to → hole.start ≤ at → at + slots ≤ hole_end hole → ⊥

@@ -16,7 +16,7 @@ pub empty_lists : (len : ℕ) → board_of [] len ≡ empty_board len
 unfolding cells_of
 empty_lists len = let all : len - 0 ≡ len = omega arith in rw all refl
 
-rank_of_one : (from to : ℕ) → rank (hole_in from to) ≡ hole_in from to
+pub rank_of_one : (from to : ℕ) → rank (hole_in from to) ≡ hole_in from to
 unfolding rank place_for
 rank_of_one from to = elim (cases_lt from to) [
   | inl some ↦ rw (lt-ltb from to some) refl

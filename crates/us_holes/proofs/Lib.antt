@@ -9,6 +9,7 @@ pub mod HoleLemmas
 pub mod RankLemmas
 pub mod KeptLemmas
 pub mod PlacingLemmas
+pub mod EndLemmas
 pub mod LawLemmas
 pub mod StandLemmas
 pub mod OrderLaws

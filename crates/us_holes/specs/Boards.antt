@@ -1,5 +1,5 @@
 -- Boards: which assignment holds each minislot of a MAP (ours).
-use Rattle.std.specs.Prelude.{◌≡◌, ◌≢◌, ℕ, ◌^◌, zero, suc, ◌+◌, ◌-◌, ◌<◌, ◌≤◌, nat_le, nat_lt, Bool, true, false, ◌&&◌, if◌then◌else◌, List, [], ◌∷◌, ◌++◌, length, take, drop, replicate, count_by, Option, Some, None, is_none, is_some, option_map}
+use Rattle.std.specs.Prelude.{◌≡◌, ◌≢◌, ℕ, ◌^◌, zero, suc, ◌+◌, ◌-◌, ◌<◌, ◌≤◌, nat_le, nat_lt, ◌==◌, Bool, true, false, ◌&&◌, if◌then◌else◌, List, [], ◌∷◌, ◌++◌, length, take, drop, replicate, count_by, Option, Some, None, is_none, is_some, option_map}
 use Rattle.std.specs.List.{list_all}
 use Rattle.us_slots.specs.UsageCodes as codes
 
@@ -55,6 +55,15 @@ assign board start slots owner =
           ++ drop (start + slots) board.cells;
       standing = board.standing + 1;
     }
+
+-- so many minislots for an owner; none are no assignment
+abbrev pub assign_some : Board → ℕ → ℕ → Owner → Board
+assign_some board start slots owner = if slots == 0 then board else assign board start slots owner
+
+-- `len` minislots, of which one owner has the first `head`, and one the last `tail`
+abbrev pub ends_held : ℕ → ℕ → Owner → ℕ → Owner → Board
+ends_held len head first tail last =
+    assign_some (assign_some (empty_board len) 0 head first) (len - tail) tail last
 
 abbrev pub free_count : List (Option Holder) → ℕ
 free_count cells = count_by is_none cells

@@ -1,6 +1,6 @@
 -- Small boards, computed by the definitions alone.
 use Rattle.std.specs.Prelude.{◌≡◌, ℕ, [], ◌∷◌, true, false, Option, Some, None, refl}
-use Rattle.us_holes.specs.Boards.{Owner, Holder, Board, empty_board, is_idle_at, assign, free_count, first_of, least_fit, longest_up_to, longest_idle}
+use Rattle.us_holes.specs.Boards.{Owner, Holder, Board, empty_board, is_idle_at, assign, ends_held, free_count, first_of, least_fit, longest_up_to, longest_idle}
 use Rattle.us_holes.specs.Placements.{placed, after_placing}
 use Rattle.us_holes.specs.Runs.{Run, runs_from, runs_of}
 use Rattle.us_holes.specs.Kept.{begun, changes}
@@ -21,6 +21,10 @@ reserved = assign (empty_board 8) 6 2 broadcast
 -- and 2 from minislot 2 on are a grant
 abbrev pub granted : Board
 granted = assign reserved 2 2 grant
+
+-- ends of no minislots are no assignment
+ends : (ends_held 8 0 grant 2 broadcast ≡ reserved) × (ends_held 8 0 grant 0 broadcast ≡ empty_board 8)
+ends = (refl, refl)
 
 abbrev held : ℕ → Owner → Option Holder
 held start owner = Some (record { start = start; owner = owner })

@@ -1,7 +1,7 @@
 -- Inside the crate, and of no use to a reader of the promise: a board as its assignments and the holes between them.
-use Rattle.std.specs.Prelude.{◌≡◌, ℕ, zero, suc, ◌+◌, ◌-◌, ◌<◌, ◌≤◌, nat_le, nat_lt, nat_eq, max, Bool, ◌&&◌, ◌||◌, if◌then◌else◌, List, [], ◌∷◌, ◌++◌, length, take, drop, replicate, slice_index_or, Option, Some, None}
+use Rattle.std.specs.Prelude.{◌≡◌, ℕ, zero, suc, ◌+◌, ◌-◌, ◌<◌, ◌≤◌, nat_le, nat_lt, nat_eq, ◌==◌, max, Bool, ◌&&◌, ◌||◌, if◌then◌else◌, List, [], ◌∷◌, ◌++◌, length, take, drop, replicate, slice_index_or, Option, Some, None}
 use Rattle.std.specs.List.{insert, remove}
-use Rattle.us_holes.specs.Boards.{Holder, Board, Assignment, max_assignments, free_count}
+use Rattle.us_holes.specs.Boards.{Owner, Holder, Board, Assignment, max_assignments, free_count}
 use Rattle.us_holes.specs.Runs.{end_of, InOrder}
 use Rattle.us_holes.specs.Kept.{IsBoard}
 
@@ -27,6 +27,10 @@ place_among start (one ∷ more) = if nat_lt start one.start then 0 else suc (pl
 -- one more
 abbrev pub put : Assignment → List Assignment → List Assignment
 put one assigned = insert assigned (place_among one.start assigned) one
+
+-- an assignment, where it has a minislot
+abbrev pub one_from : ℕ → ℕ → Owner → List Assignment
+one_from start slots owner = if slots == 0 then [] else record { start = start; slots = slots; owner = owner } ∷ []
 
 -- Holes by start.
 

@@ -1,4 +1,4 @@
-ghost use Rattle.std.specs.Prelude.{◌≡◌, ◌+◌, ◌<◌, ◌≤◌, vec_len, vec_capacity};
+ghost use Rattle.std.specs.Prelude.{◌≡◌, ◌+◌, ◌<◌, ◌≤◌, ◌++◌, vec_len, vec_capacity};
 ghost use Rattle.us_holes.specs.Boards as spec;
 ghost use Rattle.us_holes.specs.Lists as lists;
 ghost use Rattle.us_holes.specs.Runs as runs;
@@ -64,6 +64,19 @@ impl Assignment {
         ensures inside { runs.end_of self ≤ spec.max_minislots }
     {
         self.start() + self.slots()
+    }
+}
+
+/// Puts an assignment behind the others, if it has a minislot. It needs no memory.
+pub(crate) fn push_some(assigned: &mut Vec<Assignment>, start: u32, slots: u32, owner: Owner)
+    requires inside { start + slots ≤ spec.max_minislots }
+    requires room { vec_len assigned.old < vec_capacity assigned.old }
+    ensures items { assigned.new.items ≡ assigned.old.items ++ lists.one_from start slots owner }
+    ensures len { vec_len assigned.new ≤ vec_len assigned.old + 1 }
+    ensures capacity { vec_capacity assigned.old ≤ vec_capacity assigned.new }
+{
+    if slots > 0 {
+        assigned.push_reserved(Assignment::new(start, slots, owner));
     }
 }
 

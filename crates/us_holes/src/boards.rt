@@ -7,7 +7,7 @@ ghost use Rattle.us_holes.specs.Placements as placements;
 ghost use Rattle.us_holes.specs.Runs as runs;
 
 use crate::assigning::assign;
-use crate::assignments::Assignment;
+use crate::assignments::{Assignment, push_some};
 use crate::holes::{self, Hole};
 use crate::owners::Owner;
 use crate::placements::Placed;
@@ -68,14 +68,20 @@ impl Board {
         })
     }
 
-    /// All minislots are idle again. It needs no memory.
-    pub fn clear(&mut self)
-        ensures { self.new ≡ spec.empty_board (length self.old.cells) }
+    /// Clears the board, and gives its first `head` minislots to `first` and its last `tail` to `last`, each as one
+    /// assignment; none are no assignment. It needs no memory.
+    pub fn reserve_ends(&mut self, head: u32, first: Owner, tail: u32, last: Owner)
+        requires room { head + tail ≤ length self.old.cells }
+        ensures board { self.new ≡ spec.ends_held (length self.old.cells) head first tail last }
+        ensures len { length self.new.cells ≡ length self.old.cells }
     {
+        let to = self.len - tail;
         self.assigned.clear();
-        holes::refill(&mut self.holes, self.len);
-        holes::refill(&mut self.ranked, self.len);
-        self.free = self.len;
+        push_some(&mut self.assigned, 0, head, first);
+        push_some(&mut self.assigned, to, tail, last);
+        holes::refill(&mut self.holes, head, to);
+        holes::refill(&mut self.ranked, head, to);
+        self.free = to - head;
     }
 
     /// Assigns `slots` minislots to `owner` at the earliest start from `from` to `to` where so many are idle. A board

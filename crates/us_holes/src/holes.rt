@@ -1,4 +1,4 @@
-ghost use Rattle.std.specs.Prelude.{◌≡◌, ◌+◌, ◌-◌, ◌<◌, ◌≤◌, max, length, slice_index_or, IfOk, vec_len, vec_capacity};
+ghost use Rattle.std.specs.Prelude.{◌≡◌, ◌+◌, ◌-◌, ◌<◌, ◌≤◌, max, drop, length, slice_index_or, IfOk, vec_len, vec_capacity};
 ghost use Rattle.std.specs.List.{insert};
 ghost use Rattle.us_holes.specs.Boards as spec;
 ghost use Rattle.us_holes.specs.Lists as lists;
@@ -76,29 +76,42 @@ pub(crate) fn whole(alloc: Global, len: u32) -> Result<Vec<Hole>, NoMemory>
     Ok(holes)
 }
 
-/// Makes it the one hole of an idle board of `len` minislots again. It needs no memory.
-pub(crate) fn refill(holes: &mut Vec<Hole>, len: u32)
-    requires some { 1 ≤ len }
-    requires most { len ≤ spec.max_minislots }
+/// Makes it the one hole from `from` on that ends before `to`, if it has a minislot. It needs no memory.
+pub(crate) fn refill(holes: &mut Vec<Hole>, from: u32, to: u32)
+    requires order { from ≤ to }
+    requires most { to ≤ spec.max_minislots }
     requires room { 1 ≤ vec_capacity holes.old }
-    ensures items { holes.new.items ≡ lists.hole_in 0 len }
+    ensures items { holes.new.items ≡ lists.hole_in from to }
     ensures capacity { vec_capacity holes.old ≤ vec_capacity holes.new }
 {
     holes.clear();
-    match holes.push(Hole::between(0, len)) {
-        Ok(()) => {}
-        Err(_) => unreachable!(),
+    if from < to {
+        holes.push_reserved(Hole::between(from, to));
     }
 }
 
+/// How many of the first holes end before `slots` minislots from `from` on do, so that none has room in the window.
+#[tactic(auto, unfolding(crate::specs::Lists::fit), using(crate::proofs::HoleLemmas::ends_early))]
+fn passed(holes: &[Hole], from: u32, to: u32, slots: u32) -> usize
+    ensures { lists.fit result from to slots (drop result holes.now) ≡ lists.fit 0 from to slots holes.now }
+{
+    let least = from as u64 + slots as u64;
+    for i in 0..holes.len() {
+        let one = holes[i];
+        if one.end() as u64 >= least {
+            return i;
+        }
+    }
+    holes.len()
+}
+
 /// Whether `slots` minislots fit in the hole from its first start on that is no earlier than `from`, and this start is
-/// no later than `to`. The first test passes over holes that end too early.
+/// no later than `to`.
 fn fits_in(hole: Hole, from: u32, to: u32, slots: u32) -> bool
     ensures { result ≡ lists.fits_in hole (max from hole.start) to slots }
 {
-    let end = hole.end() as u64;
     let start = from.max(hole.start());
-    from as u64 + slots as u64 <= end && start <= to && start as u64 + slots as u64 <= end
+    start <= to && start as u64 + slots as u64 <= hole.end() as u64
 }
 
 /// The first hole where `slots` minislots fit from a start from `from` to `to` on: its place, and the least such start.
@@ -106,7 +119,7 @@ fn fits_in(hole: Hole, from: u32, to: u32, slots: u32) -> bool
 pub(crate) fn earliest(holes: &[Hole], from: u32, to: u32, slots: u32) -> Option<(usize, u32)>
     ensures { result ≡ lists.fit 0 from to slots holes.now }
 {
-    for i in 0..holes.len() {
+    for i in passed(holes, from, to, slots)..holes.len() {
         let hole = holes[i];
         if fits_in(hole, from, to, slots) {
             return Some((i, from.max(hole.start())));
@@ -122,17 +135,10 @@ pub(crate) fn put_at(holes: &mut Vec<Hole>, place: usize, hole: Hole)
     ensures items { holes.new.items ≡ insert holes.old.items place hole }
     ensures capacity { vec_capacity holes.old ≤ vec_capacity holes.new }
 {
-    let mut at = holes.len();
-    match holes.push(hole) {
+    match holes.insert(place, hole) {
         Ok(()) => {}
         Err(_) => unreachable!(),
     }
-    while place < at {
-        let one = holes[at - 1];
-        holes[at] = one;
-        at -= 1;
-    }
-    holes[at] = hole;
 }
 
 /// Takes the `slots` minislots from `start` on out of the hole at a place. It needs no memory.

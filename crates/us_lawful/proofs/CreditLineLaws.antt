@@ -32,8 +32,7 @@ use Rattle.us_output.proofs.PartLemmas.{all_found, all_weaker}
 use Rattle.us_round.proofs.ChannelRunLaws.{channels_stay}
 use Rattle.us_lawful.specs.declared.place.Place.{Place}
 use Rattle.us_lawful.specs.Runs.{Run, as_grant, is_requested, grants_in, requested_in}
-use Rattle.us_lawful.specs.Files.{counts_row}
-use Rattle.us_lawful.specs.Output.{output_of, judged_of, run_of}
+use Rattle.us_lawful.specs.Output.{counts_row, output_of, judged_of, run_of}
 use Rattle.us_lawful.specs.Places.{is_told_at}
 use Rattle.us_lawful.specs.Credits.{is_of, has_cost, is_like, is_right_for, is_right_credit, is_credit_at, credit_lines_hold}
 use Rattle.us_lawful.proofs.SameLemmas.{worth, sum_append, sum_filter, sum_filter_map, sum_flat_map, sum_map}

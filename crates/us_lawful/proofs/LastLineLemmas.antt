@@ -20,8 +20,7 @@ use Rattle.us_round.specs.Rounds.{State, opening, schedule, final, builds_of, ro
 use Rattle.us_output.specs.Outputs.{settled_row, grant_row, final_row, out_of}
 use Rattle.us_round.specs.States.{final_rows}
 use Rattle.us_round.specs.ScheduleLaws.{AreCuts}
-use Rattle.us_lawful.specs.Files.{counts_row}
-use Rattle.us_lawful.specs.Output.{output_of, all_rows, judged_of}
+use Rattle.us_lawful.specs.Output.{counts_row, output_of, all_rows, judged_of}
 use Rattle.us_lawful.specs.Runs.{as_final, as_counts, finals_in, counts_in, counts_told}
 use Rattle.us_lawful.proofs.SameLemmas.{worth, sum_append, sum_flat_map, sum_map}
 use Rattle.us_lawful.proofs.RoundLemmas.{last_rows, round_rows, rounds_of, rows_in, sum_lines}

@@ -6,8 +6,8 @@ use Rattle.std.proofs.lemmas.Grind.{flat_map-append}
 use Rattle.us_output.specs.declared.rows.Row.{Row}
 use Rattle.us_output.specs.declared.rows.Row.TheVariants as rows
 use Rattle.us_output.proofs.PartLemmas.{all_append}
-use Rattle.us_lawful.specs.Lines.{text_of}
-use Rattle.us_lawful.specs.Files.{lines}
+use Rattle.us_output.specs.Lines.{text_of}
+use Rattle.us_output.specs.Files.{lines}
 use Rattle.us_lawful.specs.Texts.{IsRow}
 use Rattle.us_lawful.specs.Reports.{IsReport, IsFirstBad, BeginsNoLine, OneReading}
 use Rattle.us_lawful.specs.ReportReaders.{row_at}

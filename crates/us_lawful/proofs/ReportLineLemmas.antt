@@ -10,8 +10,8 @@ use Rattle.us_output.specs.declared.rows.Row.{Row}
 use Rattle.us_output.specs.declared.rows.Row.TheVariants as rows
 use Rattle.us_output.specs.declared.rows.TraceCounts.{TraceCounts}
 use Rattle.us_lawful.specs.Runs.{is_requested}
-use Rattle.us_lawful.specs.Lines.{word_text, numbers, units_text, text_of, grant_text, missed_text, final_text, counts_text}
-use Rattle.us_lawful.specs.Texts.{Fit, IsRow}
+use Rattle.us_output.specs.Lines.{word_text, numbers, units_text, text_of, grant_text, missed_text, final_text, counts_text, Fit}
+use Rattle.us_lawful.specs.Texts.{IsRow}
 use Rattle.us_lawful.specs.ReportReaders.{after, field_at, word_at, units_at, occurrence_at, grant_at, missed_at, final_at, counts_at, told_by, row_at}
 use Rattle.us_lawful.proofs.ReportReaderLemmas.{Stops, bool_tells, found_in, moved, after_again, after_found, field_found, field_again, field_comma, field_end, word_found, word_again, units_found, units_again}
 

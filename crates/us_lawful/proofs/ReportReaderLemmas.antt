@@ -8,7 +8,7 @@ use Rattle.std.proofs.lemmas.Bool.Decides.{eqb_tells, nat_tests}
 use Rattle.std.proofs.lemmas.Bool.{eq-eqb}
 use Rattle.us_output.specs.declared.rows.EntryWord.{EntryWord}
 use Rattle.us_output.specs.declared.rows.EntryWord.TheVariants as words
-use Rattle.us_lawful.specs.Lines.{word_text, units_text}
+use Rattle.us_output.specs.Lines.{word_text, units_text}
 use Rattle.us_lawful.specs.ReportReaders.{◌>>=◌, after, with_digit, more_digits, number_at, field_at, spelled_at, word_at, units_at}
 
 -- Steps.

@@ -27,8 +27,7 @@ use Rattle.us_output.proofs.LineLemmas.{granted_inside}
 use Rattle.us_output.proofs.OutputLaws.{by_start_moves}
 use Rattle.us_round.proofs.ChannelRunLaws.{channels_stay}
 use Rattle.us_round.proofs.ScheduleLaws.{IsBegunIn, opening_begun, rounds_are_numbered, schedule_is_of_begun_rounds, state_sound}
-use Rattle.us_lawful.specs.Files.{counts_row}
-use Rattle.us_lawful.specs.Output.{output_of, all_rows, judged_of}
+use Rattle.us_lawful.specs.Output.{counts_row, output_of, all_rows, judged_of}
 use Rattle.us_lawful.specs.Places.{is_told_at}
 use Rattle.us_lawful.proofs.SameLemmas.{same_moved, sum_append, sum_flat_map, sum_map}
 use Rattle.us_lawful.proofs.SumLemmas.{sum_none, sum_same, sum_single}

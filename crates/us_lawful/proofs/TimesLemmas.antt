@@ -23,8 +23,7 @@ use Rattle.us_round.specs.ScheduleLaws.{AreCuts, settled_at}
 use Rattle.us_output.proofs.PartLemmas.{all_append, all_found}
 use Rattle.us_round.proofs.ChannelRunLaws.{calendars_run, channels_stay}
 use Rattle.us_round.proofs.ScheduleLaws.{schedule_is_of_begun_rounds}
-use Rattle.us_lawful.specs.Files.{counts_row}
-use Rattle.us_lawful.specs.Output.{output_of, judged_of}
+use Rattle.us_lawful.specs.Output.{counts_row, output_of, judged_of}
 use Rattle.us_lawful.specs.CalendarLines.{names, times}
 use Rattle.us_lawful.proofs.SameLemmas.{Same, sum_append, sum_flat_map}
 use Rattle.us_lawful.proofs.SumLemmas.{sum_none}

@@ -22,7 +22,7 @@ use Rattle.us_lawful.specs.Places.{places_hold}
 use Rattle.us_lawful.specs.Regions.{element_regions, regions_hold}
 use Rattle.us_lawful.specs.Credits.{credits_hold}
 use Rattle.us_lawful.specs.Finals.{level_left, finals_hold}
-use Rattle.us_lawful.specs.Files.{lines}
+use Rattle.us_output.specs.Files.{lines}
 use Rattle.us_lawful.specs.Output.{judged_of, output_of, report_text}
 
 -- The stored run.

@@ -12,7 +12,8 @@ use Rattle.us_round.specs.ScheduleLaws.{AreCuts}
 use Rattle.us_lawful.specs.Output.{judged_of, maps_text, output_of, report_text, run_of}
 use Rattle.us_lawful.specs.Regions.{Region, minislot_holds}
 use Rattle.us_lawful.specs.Lawful.{IsLawful}
-use Rattle.us_lawful.specs.Texts.{HasFields, AreLawful}
+use Rattle.us_lawful.specs.Texts.{AreLawful}
+use Rattle.us_output.specs.Lines.{HasFields}
 use Rattle.us_lawful.specs.Reports.{IsReport}
 
 -- Schedules.

@@ -1,13 +1,10 @@
--- Read in this order: what a run is judged by, and what is judged; lines and files; the rules, each at a place; what is
--- lawful; the output of a schedule, and that it is lawful.
+-- Read in this order: what a run is judged by, and what is judged; the rules, each at a place; what is lawful; the output
+-- of a schedule, and that it is lawful. The text of a line, and files, stand in us_output.
 -- In a definition `≡` is equals, `×` is and, `→` implies, `++` one list behind another, `∷` one item before a list, and ℕ
 -- has the whole numbers from 0; `/` rounds down, and `-` stops at 0.
 
 -- runs, and what is judged of them
 pub mod Runs
--- the text of a line, and files
-pub mod Lines
-pub mod Files
 -- what each MAP says of itself
 pub mod Headings
 -- the rounds and channels of lines
@@ -34,7 +31,7 @@ pub mod Output
 pub mod Laws
 -- how their lines are read, for the calls of this crate
 pub mod ReportReaders
--- lines at small inputs,
+-- what a line may tell, at small inputs,
 pub mod LineExamples
 -- the stored run,
 pub mod Examples

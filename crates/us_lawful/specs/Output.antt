@@ -7,9 +7,14 @@ use Rattle.us_round.specs.Rounds.{opening, schedule, final}
 use Rattle.us_output.specs.Outputs.{RoundOut, out_of}
 use Rattle.us_round.specs.States.{final_rows}
 use Rattle.us_output.specs.declared.rows.Row.{Row}
+use Rattle.us_output.specs.declared.rows.Row.TheVariants as rows
+use Rattle.us_output.specs.Files.{records, round_lines, lines}
 use Rattle.us_lawful.specs.declared.judged.RoundMap.{RoundMap}
-use Rattle.us_lawful.specs.Runs.{Run, Judged}
-use Rattle.us_lawful.specs.Files.{records, round_lines, lines, counts_row}
+use Rattle.us_lawful.specs.Runs.{Run, Judged, counts_told}
+
+-- the U line
+abbrev pub counts_row : Counts → Row
+counts_row counts = rows.Counts (counts_told counts)
 
 -- what each round gives, and the lines at the end of the report
 pub record Output : Type 0 where

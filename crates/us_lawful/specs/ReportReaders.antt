@@ -11,7 +11,7 @@ use Rattle.us_output.specs.declared.rows.MissedOccurrence.{MissedOccurrence}
 use Rattle.us_output.specs.declared.rows.Row.{Row}
 use Rattle.us_output.specs.declared.rows.Row.TheVariants as rows
 use Rattle.us_output.specs.declared.rows.TraceCounts.{TraceCounts}
-use Rattle.us_lawful.specs.Lines.{word_text}
+use Rattle.us_output.specs.Lines.{word_text}
 use Rattle.us_lawful.specs.Runs.{is_requested}
 
 -- the second step, where the first found something

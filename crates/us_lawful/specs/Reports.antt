@@ -6,8 +6,8 @@ use Rattle.std.specs.List.{AllByRecursion}
 use Rattle.us_output.specs.declared.rows.Row.{Row}
 use Rattle.us_lawful.specs.declared.report_faults.ReportFault.{ReportFault}
 use Rattle.us_lawful.specs.declared.report_faults.ReportFault.TheVariants as fault
-use Rattle.us_lawful.specs.Lines.{text_of}
-use Rattle.us_lawful.specs.Files.{lines}
+use Rattle.us_output.specs.Lines.{text_of}
+use Rattle.us_output.specs.Files.{lines}
 use Rattle.us_lawful.specs.Texts.{IsRow}
 
 -- the bytes are the lines of these rows

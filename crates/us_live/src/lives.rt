@@ -92,6 +92,10 @@ impl Live {
     /// each of which enters the gate before each channel. How many there are, and which comes when, changes nothing of
     /// the answer.
     ///
+    /// Workers are opened for this call alone, as `round` of `us_round` does. Each of its two phases starts threads, one
+    /// fewer than the workers that have a channel, and joins them: some tens of microseconds a thread. So one worker is
+    /// the fastest, unless the channels have more to do than that.
+    ///
     /// LV4: memory was wanting in an earlier round; LV5: all rounds were answered; LV6: the workers are 0 or over 64;
     /// LV7: want of memory. The first of these is answered. After LV4 to LV6 everything is as it was, and the intake
     /// isn't cut. LV7 is the last answer but LV4: the log is what it was, and the seat has taken what the round had

@@ -1,8 +1,12 @@
+pub mod PairLemmas
 pub mod PartLemmas
 pub mod PendingLemmas
 pub mod OrderLemmas
+pub mod SinkLemmas
 pub mod FinalLemmas
 pub mod LineLemmas
 pub mod OutputLaws
 pub mod OwnerLemmas
 pub mod MapLemmas
+pub mod RecordLemmas
+pub mod TextLemmas

@@ -11,24 +11,26 @@ use Rattle.us_calendar.specs.declared.settled.Settled.TheVariants as settled
 use Rattle.us_channel.specs.Placements.{PlacedClaim}
 use Rattle.us_output.specs.declared.rows.Row.{Row}
 use Rattle.us_output.specs.Outputs.{start_of, by_start, is_granted, settled_row, grant_row, granted_rows, missed_rows, rows_on}
+use Rattle.us_output.specs.Orders.{in_order}
 use Rattle.us_output.specs.OutputLaws.{IsLineOf, ByStartMoves, LinesBearRound}
 use Rattle.us_output.proofs.PartLemmas.{all_append}
-use Rattle.us_output.proofs.OrderLemmas.{by_start-none, starting, upto, behind, in_parts, one_more}
+use Rattle.us_output.proofs.OrderLemmas.{in_order-none, starting, upto, behind, in_parts, one_more}
 
 -- one more line
 moved : (len : ℕ) (lines : List Row) (g : Row) → start_of g < len →
     IsPermutation lines (by_start len lines) → IsPermutation (lines ++ g ∷ []) (by_start len (lines ++ g ∷ []))
+unfolding by_start in_order
 moved len lines g inside so_far =
-    let early : List Row = upto lines (start_of g) in
-    let later : List Row = behind lines (start_of g) len in
+    let early : List Row = upto start_of lines (start_of g) in
+    let later : List Row = behind start_of lines (start_of g) len in
     let parts : IsPermutation lines (early ++ later) =
-    subst (λ xs. IsPermutation lines xs) (in_parts lines (start_of g) len inside) so_far in
+    subst (λ xs. IsPermutation lines xs) (in_parts start_of lines (start_of g) len inside) so_far in
     let last : IsPermutation (lines ++ g ∷ []) (early ++ (later ++ g ∷ [])) =
     subst (λ xs. IsPermutation (lines ++ g ∷ []) xs) (append_assoc early later (g ∷ []))
     (IsPermutation-append_left (g ∷ []) lines (early ++ later) parts) in
     let front : IsPermutation (early ++ (later ++ g ∷ [])) (early ++ g ∷ later) =
     IsPermutation-append_right early (later ++ g ∷ []) (g ∷ later) (IsPermutation-to_front later g) in
-    subst (λ xs. IsPermutation (lines ++ g ∷ []) xs) (sym (one_more lines g len inside))
+    subst (λ xs. IsPermutation (lines ++ g ∷ []) xs) (sym (one_more start_of lines g len inside))
     (IsPermutation-trans (lines ++ g ∷ []) (early ++ (later ++ g ∷ [])) (early ++ g ∷ later) last front)
 
 all_moved : (len : ℕ) (done rest : List Row) → AllByRecursion (λ line. start_of line < len) rest →
@@ -40,9 +42,10 @@ all_moved len done (g ∷ rest) inside so_far =
     (all_moved len (done ++ g ∷ []) rest inside.1 (moved len done g inside.0 so_far))
 
 pub by_start_moves : ByStartMoves
+unfolding by_start in_order
 by_start_moves len lines inside =
     all_moved len [] lines inside
-    (subst (λ xs. IsPermutation [] xs) (sym (by_start-none len)) (IsPermutation-refl []))
+    (subst (λ xs. IsPermutation [] xs) (sym (in_order-none start_of len)) (IsPermutation-refl []))
 
 -- What all lines keep, those that pass keep, and those by their start.
 all_filtered : (P : Row → Type 0) (passes : Row → Bool) (lines : List Row) → AllByRecursion P lines →
@@ -54,10 +57,10 @@ all_filtered P passes (line ∷ lines) h = elim (cases_Bool (passes line)) [
 ]
 
 all_starting : (P : Row → Type 0) (lines : List Row) (starts : List ℕ) → AllByRecursion P lines →
-    AllByRecursion P (flat_map (starting lines) starts)
+    AllByRecursion P (flat_map (starting start_of lines) starts)
 all_starting P lines [] h = tt
 all_starting P lines (start ∷ starts) h =
-    all_append P (starting lines start) (flat_map (starting lines) starts)
+    all_append P (starting start_of lines start) (flat_map (starting start_of lines) starts)
     (all_filtered P (λ line. start_of line == start) lines h) (all_starting P lines starts h)
 
 all_by_start : (P : Row → Type 0) (len : ℕ) (lines : List Row) → AllByRecursion P lines →

@@ -1,5 +1,5 @@
 -- How a round tells who is pending, by the outstanding bytes before and after its grants; and what its boards keep.
-use Rattle.std.specs.Prelude.{◌≡◌, ℕ, ◌<◌, ◌≤◌, Bool, nat_le, nat_lt, ◌==◌, ◌&&◌, if◌then◌else◌, List, ◌++◌, length, take, drop, filter_map, slice_index, Option, None, option_and_then}
+use Rattle.std.specs.Prelude.{◌≡◌, ℕ, ◌<◌, nat_lt, ◌==◌, ◌&&◌, if◌then◌else◌, List, length, filter_map, slice_index, Option, None, option_and_then}
 use Rattle.std.specs.List.{AllByRecursion}
 use Rattle.us_flows.specs.Tables.{Tables, map_len}
 use Rattle.us_flows.specs.Turns.{turn_at}
@@ -9,8 +9,7 @@ use Rattle.us_flows.specs.Lawful.{IsChannel}
 use Rattle.us_calendar.specs.Calendars as calendars
 use Rattle.us_channel.specs.Placements.{PlacedClaim}
 use Rattle.us_channel.specs.Channels.{Built}
-use Rattle.us_output.specs.Outputs.{Scheduled, start_of, by_start, first_sid}
-use Rattle.us_output.specs.declared.rows.Row.{Row}
+use Rattle.us_output.specs.Outputs.{Scheduled, first_sid}
 
 -- a turn that has bytes left, as many as were outstanding of it before, is pending
 abbrev pub still_asking : List ℕ → List ℕ → Turn → Option (ℕ × ℕ)
@@ -22,13 +21,14 @@ still_asking outstanding left turn =
 abbrev pub still_asking_at : Tables → List ℕ → List ℕ → places.Turn → Option (ℕ × ℕ)
 still_asking_at t outstanding left turn = option_and_then (still_asking outstanding left) (turn_at t turn)
 
--- a round of these channels, where so much was outstanding before, and so much is left
+-- a round of these channels, where this is pending
+abbrev pub told : ℕ → List Built → List (ℕ × ℕ) → Scheduled
+told round builds pending = record { round = round; channels = builds; pending = pending }
+
+-- the same, where so much was outstanding before, and so much is left
 abbrev pub scheduled_by : Tables → ℕ → List ℕ → List ℕ → List Built → Scheduled
-scheduled_by t round outstanding left builds = record {
-  round = round;
-  channels = builds;
-  pending = filter_map (still_asking outstanding left) (turns_of t);
-}
+scheduled_by t round outstanding left builds =
+    told round builds (filter_map (still_asking outstanding left) (turns_of t))
 
 -- a grant starts inside a MAP of this length
 abbrev pub StartsInside : ℕ → PlacedClaim → Type 0
@@ -43,14 +43,3 @@ pub record IsBuiltFor (t : Tables) (built : Built) : Type 0 where
 pub record AreInside (built : Built) : Type 0 where
   pub settled : AllByRecursion (calendars.StartsInside (length built.board.cells)) built.settled
   pub grants : AllByRecursion (StartsInside (length built.board.cells)) built.grants
-
--- a line starts at `start` or earlier
-abbrev pub starts_by : ℕ → Row → Bool
-starts_by start line = nat_le (start_of line) start
-
--- Among the lines from a place on, which stand by where they start, more were put in; those before the place stay.
-pub record ArePutIn (from : ℕ) (more old new : List Row) : Type 0 where
-  pub place : from ≤ length new
-  pub front : take from new ≡ take from old
-  pub order : (len : ℕ) (lines : List Row) → AllByRecursion (λ line. start_of line < len) more →
-      drop from old ≡ by_start len lines → drop from new ≡ by_start len (lines ++ more)

@@ -6,22 +6,45 @@
 //! let maps = out.maps(); // a MAP for each channel, in table order
 //! let rows = out.rows(); // the lines of grants, and of what was missed
 //! let finals = final_rows(alloc, &config, &left, &buckets)?; // the F lines, behind the last round
+//!
+//! // the same as bytes, straight from the channels, behind what the texts have
+//! push_records(&mut maps, &mut scratch, &config, round, &built, &pendings)?;
+//! push_lines(&mut report, &mut scratch, &mut tally, round, &built)?;
+//! push_rows(&mut report, &mut scratch, &finals)?;
 //! ```
 //!
 //! What these are stands in `specs/`, in the order of its `Lib.antt`. How a round comes to its channels is for `us_round`.
 #![tactic(auto)]
 
-// The lines of a round.
+// The lines of a round,
 mod rows;
+
+// their text, and that their numbers have 64 bits.
+mod fields;
+mod lines;
+mod pairs;
 
 // Who is pending.
 mod pendings;
 
-// The MAPs of a round.
+// From grants to lines, by where they start.
+mod orders;
+
+// What texts keep.
+mod scratch;
+
+// The MAPs of a round, as values,
 mod mapping;
 
-// From grants to lines.
+// and its lines.
 mod reporting;
+
+// The same as bytes: records,
+mod records;
+
+// and lines, which are counted.
+mod tallies;
+mod texts;
 
 // What a round gives,
 mod round_outs;
@@ -33,10 +56,15 @@ mod outputs;
 mod output_laws;
 
 pub use output_laws::{lines_are_of_grants, lines_bear_round};
-pub use outputs::round_out;
+pub use outputs::{out_by, round_out};
+pub use pendings::{PendingSid, first_sid_of, pending_sids};
+pub use records::push_records;
 pub use reporting::final_rows;
 pub use round_outs::RoundOut;
 pub use rows::{EntryWord, FinalState, Grant, MissedOccurrence, Row, TraceCounts};
+pub use scratch::Scratch;
+pub use tallies::LineTally;
+pub use texts::{push_lines, push_rows};
 
 #[cfg(test)]
 mod tests;

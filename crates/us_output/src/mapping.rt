@@ -4,12 +4,12 @@ ghost use Rattle.us_flows.specs.Tables.{max_run_ticks};
 ghost use Rattle.us_output.specs.Leftovers.{IsBuiltFor};
 ghost use Rattle.us_output.specs.Outputs as spec;
 
-use crate::pendings::{PendingSid, sids_on};
+use crate::pendings::{PendingSid, list_sids};
+use crate::scratch::Scratch;
 use std::alloc::Global;
-use us_channel::{Built, map_of};
+use us_channel::{ChannelRound, map_of};
 use us_codec::Map;
 use us_flows::Config;
-use us_holes::Run;
 use us_slots::NoMemory;
 
 /// The MAP of each channel of a round, with the SIDs that are pending there.
@@ -17,7 +17,7 @@ pub(crate) fn maps_of(
     alloc: Global,
     config: &Config,
     round: u32,
-    built: &[Built],
+    built: &[ChannelRound],
     pendings: &[PendingSid],
 ) -> Result<Vec<Map>, NoMemory>
     requires built { AllByRecursion (IsBuiltFor config.now) built.now }
@@ -25,37 +25,38 @@ pub(crate) fn maps_of(
     ensures value { IfOk result (λ maps. maps.items ≡ map (spec.built_map config.now round pendings.now) built.now) }
     ensures limits { IfOk result (λ _. AllByRecursion (spec.IsWithinLimits config.now round pendings.now) built.now) }
 {
-    let mut runs = Vec::new(alloc);
+    let mut scratch = Scratch::new(alloc);
     let mut maps = Vec::with_capacity(alloc, built.len())?;
     for part in built {
-        maps.push_reserved(built_map(alloc, config, round, part, pendings, &mut runs)?);
+        maps.push_reserved(built_map(alloc, config, round, part, pendings, &mut scratch)?);
     }
     Ok(maps)
 }
 
-/// The MAP of one channel. The list of runs is for what a board has, and nothing that stands there is kept.
+/// The MAP of one channel.
 #[tactic(auto, using(us_channel::proofs::MapLemmas::few_bytes))]
 fn built_map(
     alloc: Global,
     config: &Config,
     round: u32,
-    part: &Built,
+    part: &ChannelRound,
     pendings: &[PendingSid],
-    runs: &mut Vec<Run>,
+    scratch: &mut Scratch,
 ) -> Result<Map, NoMemory>
     requires built { IsBuiltFor config.now part.now }
     requires time { (round + 1) * config.now.round_ticks ≤ max_run_ticks }
     ensures value { IfOk result (λ map. map ≡ spec.built_map config.now round pendings.now part.now) }
     ensures limits { IfOk result (λ _. spec.IsWithinLimits config.now round pendings.now part.now) }
 {
-    let sids = sids_on(alloc, pendings, part.channel().id)?;
+    let Scratch { runs, sids, .. } = scratch;
+    list_sids(sids, pendings, part.channel().id)?;
     map_of(
         alloc,
         config,
         round,
         part.channel(),
         part.board(),
-        &sids,
+        sids,
         runs,
     )
 }

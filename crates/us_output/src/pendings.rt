@@ -1,6 +1,6 @@
-ghost use Rattle.std.specs.Prelude.{◌≡◌, ◌==◌, ℕ, ◌^◌, ◌<◌, ◌≤◌, length, zip, filter_map, slice_get, slice_index, option_and_then, IfOk};
+ghost use Rattle.std.specs.Prelude.{◌≡◌, ◌==◌, ℕ, ◌^◌, ◌<◌, ◌≤◌, length, zip, filter_map, slice_get, slice_index, option_and_then, IfOk, OnOk};
 ghost use Rattle.std.specs.List.{AllByRecursion};
-ghost use Rattle.us_flows.specs.Turns.{in_flow};
+ghost use Rattle.us_flows.specs.Turns.{in_flow, turn_at};
 ghost use Rattle.us_flows.specs.Clusters.{turns_of};
 ghost use Rattle.us_channel.specs.Maps.{max_pendings};
 ghost use Rattle.us_output.specs.Outputs as spec;
@@ -9,7 +9,6 @@ ghost use Rattle.us_output.specs.Leftovers.{still_asking, still_asking_at};
 use std::alloc::Global;
 use std::marker::Model;
 use us_flows::{Config, Flow, Turn};
-use us_requests::ClusterState;
 use us_slots::NoMemory;
 
 /// The most pendings of a MAP (ours).
@@ -17,7 +16,7 @@ const MAX_PENDINGS: usize = 38;
 
 /// Where a turn is pending: a channel, by its id, and the SID there, of 14 bits.
 #[derive(Clone, Copy)]
-pub(crate) struct PendingSid {
+pub struct PendingSid {
     channel: u8,
     sid: u16,
 }
@@ -33,6 +32,14 @@ impl Model for PendingSid {
 }
 
 impl PendingSid {
+    /// A SID on the channel with this id.
+    pub fn new(channel: u8, sid: u16) -> PendingSid
+        requires { sid < 2 ^ 14 }
+        ensures { result ≡ (channel, sid) }
+    {
+        PendingSid { channel, sid }
+    }
+
     /// Whether it is on the channel with this id.
     fn is_on(&self, id: u8) -> bool
         ensures { result ≡ (self.now.0 == id) }
@@ -51,11 +58,11 @@ impl PendingSid {
 
 /// Who is pending after a round: in the order of turns, those with as many bytes `left` as were `outstanding` before their
 /// channels placed, and with one at least.
-pub(crate) fn pending_sids(
+pub fn pending_sids(
     alloc: Global,
     config: &Config,
     outstanding: &[u64],
-    left: &[ClusterState],
+    left: &[u64],
 ) -> Result<Vec<PendingSid>, NoMemory>
     ensures { IfOk result (λ pendings.
         pendings.items ≡ filter_map (still_asking outstanding.now left.now) (turns_of config.now)) }
@@ -75,35 +82,32 @@ fn pending_sid(
     config: &Config,
     turn: &Turn,
     outstanding: &[u64],
-    left: &[ClusterState],
+    left: &[u64],
 ) -> Option<PendingSid>
     ensures { result ≡ still_asking_at config.now outstanding.now left.now turn.now }
 {
-    let bytes = left_at(left, turn.cluster);
+    let bytes = bytes_at(left, turn.cluster);
     if bytes == 0 || bytes != bytes_at(outstanding, turn.cluster) {
         return None;
     }
+    first_sid_of(config, turn)
+}
+
+/// Where a turn is told as pending, if it is: on the first channel of its flow, by its SID there.
+pub fn first_sid_of(config: &Config, turn: &Turn) -> Option<PendingSid>
+    ensures { result ≡ option_and_then spec.first_sid (turn_at config.now turn.now) }
+{
     match config.flows().get(turn.flow) {
         Some(flow) => first_sid(flow, turn),
         None => None,
     }
 }
 
-/// The outstanding bytes of the cluster with this number.
-pub(crate) fn left_at(left: &[ClusterState], number: usize) -> u64
-    ensures { result ≡ slice_index left.now number }
+/// The bytes of the cluster with this number.
+pub(crate) fn bytes_at(bytes: &[u64], number: usize) -> u64
+    ensures { result ≡ slice_index bytes.now number }
 {
-    match left.get(number) {
-        Some(state) => state.outstanding(),
-        None => 0,
-    }
-}
-
-/// Those that were outstanding of it before.
-fn bytes_at(outstanding: &[u64], number: usize) -> u64
-    ensures { result ≡ slice_index outstanding.now number }
-{
-    match outstanding.get(number) {
+    match bytes.get(number) {
         Some(bytes) => *bytes,
         None => 0,
     }
@@ -129,20 +133,23 @@ fn sid_of(channels: &[u8], sids: &[u16]) -> Option<PendingSid>
     if channels.is_empty() || sids.is_empty() {
         return None;
     }
-    Some(PendingSid {
-        channel: channels[0],
-        sid: sids[0],
-    })
+    Some(PendingSid::new(channels[0], sids[0]))
 }
 
-/// The SIDs that the MAP of a channel lists: the first that are pending there, at most 38.
+/// Lists the SIDs that the MAP of a channel has: the first that are pending there, at most 38. What stood in the list is
+/// dropped.
 #[tactic(auto, unfolding(crate::specs::Outputs::pendings_on))]
-pub(crate) fn sids_on(alloc: Global, pendings: &[PendingSid], id: u8) -> Result<Vec<u16>, NoMemory>
-    ensures value { IfOk result (λ sids. sids.items ≡ spec.pendings_on id pendings.now) }
-    ensures few { IfOk result (λ sids. length sids.items ≤ max_pendings) }
-    ensures bits { IfOk result (λ sids. AllByRecursion (λ sid. sid < 2 ^ 14) sids.items) }
+pub(crate) fn list_sids(
+    sids: &mut Vec<u16>,
+    pendings: &[PendingSid],
+    id: u8,
+) -> Result<(), NoMemory>
+    ensures value { OnOk result (sids.new.items ≡ spec.pendings_on id pendings.now) }
+    ensures few { OnOk result (length sids.new.items ≤ max_pendings) }
+    ensures bits { OnOk result (AllByRecursion (λ sid. sid < 2 ^ 14) sids.new.items) }
 {
-    let mut sids = Vec::with_capacity(alloc, pendings.len().min(MAX_PENDINGS))?;
+    sids.clear();
+    sids.reserve(MAX_PENDINGS)?;
     for pending in pendings {
         if sids.len() == MAX_PENDINGS {
             break;
@@ -151,5 +158,5 @@ pub(crate) fn sids_on(alloc: Global, pendings: &[PendingSid], id: u8) -> Result<
             sids.push_reserved(pending.sid());
         }
     }
-    Ok(sids)
+    Ok(())
 }

@@ -1,5 +1,9 @@
-//! What no clause says: a worked round's lines and MAP, and each allocation refused in turn.
+//! What no clause says: a worked round's lines and MAP, its texts beside a plain writer, a line of each kind, numbers
+//! beside those of std, and each allocation refused in turn.
 
 mod base;
 mod lines;
 mod memory;
+mod numbers;
+mod texts;
+mod words;

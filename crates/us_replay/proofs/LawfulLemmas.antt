@@ -11,7 +11,8 @@ use Rattle.us_requests.specs.Texts.{requests_of}
 use Rattle.us_requests.specs.Readings.{Reads}
 use Rattle.us_round.specs.ScheduleLaws.{AreCuts}
 use Rattle.us_lawful.specs.Output.{judged_of, maps_text, report_text, run_of}
-use Rattle.us_lawful.specs.Texts.{HasFields, AreLawful}
+use Rattle.us_lawful.specs.Texts.{AreLawful}
+use Rattle.us_output.specs.Lines.{HasFields}
 use Rattle.us_lawful.proofs.LawfulLaws.{texts_of_schedules_are_lawful}
 use Rattle.us_replay.specs.declared.summaries.Summary.{Summary}
 use Rattle.us_replay.specs.declared.faults.RunFault.{RunFault}

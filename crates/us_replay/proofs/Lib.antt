@@ -1,11 +1,12 @@
-pub mod TextLemmas
 pub mod CutLemmas
 pub mod SumLemmas
 pub mod CollectingLemmas
 pub mod ChunkLemmas
 pub mod SettledLemmas
 pub mod RoundLemmas
+pub mod MadeLemmas
 pub mod ReplayStopLemmas
 pub mod LoopLemmas
 pub mod ReplayLemmas
 pub mod LawfulLemmas
+pub mod LadenLemmas

@@ -1,5 +1,5 @@
 -- The loop over rounds: how state, progress and writers stand after each.
-use Rattle.std.proofs.Common.{◌≡◌, ℕ, zero, suc, ◌+◌, ◌*◌, ◌^◌, ◌<◌, ◌≤◌, List, [], ◌∷◌, ◌++◌, length, replicate, map, take, drop, cond, nat_le, Bool, sum, sum_by, count_by, true, refl, ap, sym, subst, ◌∙◌, arith}
+use Rattle.std.proofs.Common.{◌≡◌, ℕ, zero, suc, ◌+◌, ◌*◌, ◌^◌, ◌<◌, ◌≤◌, List, [], ◌∷◌, ◌++◌, length, replicate, map, take, drop, cond, nat_le, Bool, sum, sum_by, count_by, true, Option, Err, refl, ap, sym, subst, ◌∙◌, arith}
 use Rattle.std.specs.List.{AllByRecursion, range_with_len, zip}
 use Rattle.std.proofs.lemmas.Bool.{and_parts, leb-true}
 use Rattle.std.proofs.lemmas.Nat.{mul-le}
@@ -18,17 +18,18 @@ use Rattle.us_round.specs.Rounds.{State, round_of, opening, schedule, final}
 use Rattle.us_output.specs.Outputs.{Scheduled, RoundOut, AreWithinLimits, out_of}
 use Rattle.us_round.specs.States.{final_rows}
 use Rattle.us_replay.specs.Collecting.{AreAsks}
-use Rattle.us_lawful.specs.Files.{records, lines, counts_row}
+use Rattle.us_output.specs.Files.{records, lines, is_granted, is_missed}
+use Rattle.us_lawful.specs.Output.{counts_row, all_rows, judged_of, output_of}
 use Rattle.us_output.proofs.PartLemmas.{all_append}
-use Rattle.us_lawful.specs.Output.{all_rows, judged_of, output_of}
-use Rattle.us_lawful.specs.Texts.{HasFields}
-use Rattle.us_replay.specs.Replays.{KeptLimits, is_granted, is_missed, summary_of}
+use Rattle.us_output.specs.Lines.{HasFields}
+use Rattle.us_replay.specs.Replays.{KeptLimits, summary_of}
 use Rattle.us_lawful.specs.Runs.{cuts_in}
-use Rattle.us_replay.specs.Progress.{Progress, Along, CanMake, IsMade, last_rows, opening_progress, out_after, output_in, step_of, summary_after, with_last, with_round}
+use Rattle.us_replay.specs.Progress.{Progress, Along, EndsAs, grown, CanMake, IsMade, last_rows, opening_progress, out_after, output_in, step_of, summary_after, with_last, with_round}
 use Rattle.us_replay.proofs.RoundLemmas.{After, after, HasCalendars, opening-calendars, next-calendars, some-records}
 use Rattle.us_replay.proofs.CollectingLemmas.{all-within, are-asks}
 use Rattle.us_replay.proofs.SumLemmas.{added-below, length-cut, sum-cut}
-use Rattle.us_replay.proofs.ReplayStopLemmas.{next-of, next-part, AreTexts, AreLast}
+use Rattle.us_replay.specs.declared.faults.RunFault.TheVariants as fault
+use Rattle.us_replay.proofs.ReplayStopLemmas.{next-of, next-part, nothing-yet, none-kept, stops-between, AreTexts, AreLast}
 
 -- Before round 0.
 
@@ -247,6 +248,17 @@ pub some-next : (t : Tables) (v : TraceAsks) (k : ℕ) → AreTables t → (next
 unfolding output_of
 some-next t v k lawful next rest here =
     some-in (opening t) (cuts_in t v) k next rest (opening-calendars t) lawful.some_channels.0 here
+
+-- where nothing was written
+pub ends-at-once : (t : Tables) (v : TraceAsks) (a d : Option (List ℕ)) → AreTables t →
+    EndsAs t v (grown a a) (grown d d) (Err (fault.NoMemory 0))
+ends-at-once t v a d lawful = record {
+  ran = (
+    stops-between (output_in t v) 0 _ _ (nothing-yet (output_in t v) a d) (some-next t v 0 lawful),
+    none-kept t (cuts_in t v),
+  );
+  fields = tt;
+}
 
 -- All rounds.
 

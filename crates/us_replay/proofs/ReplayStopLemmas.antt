@@ -10,11 +10,11 @@ use Rattle.us_flows.specs.Tables.{Tables}
 use Rattle.us_requests.specs.declared.asks.Counts.{Counts}
 use Rattle.us_replay.specs.declared.faults.RunFault.{RunFault}
 use Rattle.us_output.specs.Outputs.{RoundOut}
-use Rattle.us_lawful.specs.Files.{records, round_lines, lines}
+use Rattle.us_output.specs.Files.{records, round_lines, lines}
 use Rattle.us_replay.specs.Endings.{Ending, Refused, StoppedBy, Maps, Report, Memory, rounds_done}
 use Rattle.us_lawful.specs.Output.{Output, maps_text, report_text}
 use Rattle.us_replay.specs.Replays.{Growth, Took, TookRounds, Holds, Stopped, Ran, KeptLimits}
-use Rattle.us_replay.specs.Progress.{Sent, Flushed}
+use Rattle.us_replay.specs.Progress.{Sent, Flushed, grown}
 
 -- Lists.
 
@@ -143,9 +143,6 @@ pub passed-on : {A : Type 0} {reason : RunFault} (result : Result A RunFault) �
     result ≡ Err reason
 passed-on (Ok value) never = absurd never
 passed-on (Err given) is = ap (λ r. Err r) is
-
-abbrev pub grown : Option (List ℕ) → Option (List ℕ) → Growth
-grown old new = record { before = old; after = new }
 
 pub so-far-at : (out : Output) (j k : ℕ) (to_maps to_report : Growth) → j ≡ k → TookRounds out j to_maps to_report →
     TookRounds out k to_maps to_report

@@ -9,7 +9,7 @@ use Rattle.us_calendar.specs.Calendars as calendars
 use Rattle.us_channel.specs.Placements.{PlacedClaim, credits}
 use Rattle.us_round.specs.Rounds.{State, all_grants, begun, build_planned, builds_of, fills_of, is_of_cluster, uncredited, opening, round_from, round_of, round_plan, with_cut}
 use Rattle.us_output.specs.Outputs.{RoundOut, built_map, out_of}
-use Rattle.us_lawful.specs.Files.{records}
+use Rattle.us_output.specs.Files.{records}
 use Rattle.us_replay.proofs.SumLemmas.{sum-cons, sum-added}
 
 -- States.

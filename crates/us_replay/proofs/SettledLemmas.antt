@@ -51,13 +51,13 @@ next-settled clusters intake seat full next asks cut settled full_is next_is eve
     }
 
 -- what stands in a collector whose intake and seat are these
-pub settled-here : (clusters : ℕ) (held : Option (Intake × Seat)) (intake : Intake) (seat : Seat) → AreSettled clusters held →
-    held ≡ Some (intake, seat) → IsSettled clusters intake seat
-settled-here clusters held intake seat are is = subst (AreSettled clusters) is are
+pub settled-here : (clusters : ℕ) (intakes : Option Intake) (seats : Option Seat) (intake : Intake) (seat : Seat) →
+    AreSettled clusters intakes seats → intakes ≡ Some intake → seats ≡ Some seat → IsSettled clusters intake seat
+settled-here clusters intakes seats intake seat are intake_is seat_is =
+    subst (λ s. AreSettled clusters (Some intake) s) seat_is (subst (λ i. AreSettled clusters i seats) intake_is are)
 
-pub collected-here : (held : Option (Intake × Seat)) (intake : Intake) (seat : Seat) → held ≡ Some (intake, seat) →
-    collected_by held ≡ spent seat
-collected-here held intake seat is = ap collected_by is
+pub collected-here : (seats : Option Seat) (seat : Seat) → seats ≡ Some seat → collected_by seats ≡ spent seat
+collected-here seats seat is = ap collected_by is
 
 -- where nobody asks
 pub none-asked : (n : ℕ) (asks : List Ask) → length asks ≡ 0 → (replicate n 0 ≡ cut_of n asks) × (sum (cut_of n asks) ≡ 0)
@@ -76,10 +76,10 @@ empty-round old cut collected asks none is =
     let same : collected ≡ collected + sum (cut_of (length old) asks) = omega (arith, nothing.1) in
     ap (λ l. collector l collected) (is ∙ nothing.0) ∙ ap (collector (cut_of (length old) asks)) same
 
-pub full-round : (old cut : List ℕ) (held : Option (Intake × Seat)) (intake : Intake) (seat next : Seat) (asks : List Ask) →
-    held ≡ Some (intake, seat) → IsNext (length old) intake seat next asks cut →
-    record { cut = cut; collected = spent next } ≡ with_asks (record { cut = old; collected = collected_by held }) asks
-full-round old cut held intake seat next asks held_is made =
-    let same : spent next ≡ collected_by held + sum (cut_of (length old) asks) =
-    omega (arith, made.more, collected-here held intake seat held_is) in
+pub full-round : (old cut : List ℕ) (seats : Option Seat) (intake : Intake) (seat next : Seat) (asks : List Ask) →
+    seats ≡ Some seat → IsNext (length old) intake seat next asks cut →
+    record { cut = cut; collected = spent next } ≡ with_asks (record { cut = old; collected = collected_by seats }) asks
+full-round old cut seats intake seat next asks seat_is made =
+    let same : spent next ≡ collected_by seats + sum (cut_of (length old) asks) =
+    omega (arith, made.more, collected-here seats seat seat_is) in
     ap (λ l. collector l (spent next)) made.cut_is ∙ ap (collector (cut_of (length old) asks)) same

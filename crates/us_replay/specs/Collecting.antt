@@ -5,7 +5,7 @@ use Rattle.us_intake.specs.Tallies.{added}
 use Rattle.us_intake.specs.Seats.{Intake, Seat, new_seat, joined_seat, spent}
 use Rattle.us_requests.specs.declared.asks.Ask.{Ask}
 use Rattle.us_requests.specs.Cuts.{cut_of}
-use Rattle.us_requests.specs.Traces.{max_ask, max_asked}
+use Rattle.us_requests.specs.Traces.{max_ask, max_asked, max_asks}
 
 -- Chunks.
 
@@ -27,6 +27,16 @@ pub record CanSubmit (intake : Intake) (seat : Seat) (asks : List Ask) : Type 0 
 -- a seat that was split off for a chunk, and the chunk
 abbrev pub IsChunk : Intake → Seat → List Ask → Type 0
 IsChunk intake seat asks = (seat ≡ new_seat intake (chunk_quota asks)) × AreAsks intake.clusters asks
+
+-- a seat of an intake with which some asks may be submitted, whole or in chunks
+pub record CanGather (intake : Intake) (seat : Seat) (asks : List Ask) : Type 0 where
+  pub own : seat.intake ≡ intake
+  pub submitted_row : length seat.submitted ≡ intake.clusters
+  pub taken_row : length seat.taken ≡ intake.clusters
+  pub some : 1 ≤ length asks
+  pub few : length asks ≤ max_asks
+  pub room : spent seat + chunk_quota asks < seat.quota
+  pub asks_are : AreAsks intake.clusters asks
 
 -- the seat that submitted these asks
 abbrev pub seat_after_asks : Seat → List Ask → Seat
@@ -65,10 +75,10 @@ with_asks c asks = record {
   collected = c.collected + sum (cut_of (length c.cut) asks);
 }
 
--- the bytes that were collected by an intake and its seat
-abbrev pub collected_by : Option (Intake × Seat) → ℕ
+-- the bytes that were collected with a seat
+abbrev pub collected_by : Option Seat → ℕ
 collected_by None = 0
-collected_by (Some both) = spent both.1
+collected_by (Some seat) = spent seat
 
 -- the seat is whole, and all that was submitted was taken
 pub record IsSettled (clusters : ℕ) (intake : Intake) (seat : Seat) : Type 0 where
@@ -80,6 +90,12 @@ pub record IsSettled (clusters : ℕ) (intake : Intake) (seat : Seat) : Type 0 w
   pub row : length seat.submitted ≡ clusters
   pub even : seat.taken ≡ seat.submitted
 
-abbrev pub AreSettled : ℕ → Option (Intake × Seat) → Type 0
-AreSettled clusters None = ⊤
-AreSettled clusters (Some both) = IsSettled clusters both.0 both.1
+-- where there is a seat, it is of the intake, and so
+abbrev pub AreSettled : ℕ → Option Intake → Option Seat → Type 0
+AreSettled clusters intake None = ⊤
+AreSettled clusters None (Some seat) = ⊥
+AreSettled clusters (Some intake) (Some seat) = IsSettled clusters intake seat
+
+-- an intake that was opened for so many clusters, and its seat
+abbrev pub AreOpen : ℕ → Option Intake → Option Seat → Type 0
+AreOpen clusters intake seat = AreSettled clusters intake seat × (collected_by seat ≡ 0)

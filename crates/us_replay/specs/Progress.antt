@@ -1,10 +1,10 @@
 -- A replay on its way: the cuts of the trace that was read, what is kept from one round to the next, and what one writing
 -- of texts leaves.
-use Rattle.std.specs.Prelude.{◌≡◌, ℕ, ◌+◌, ◌*◌, ◌^◌, ◌<◌, ◌≤◌, List, [], ◌∷◌, ◌++◌, length, map, drop, take, replicate, sum, sum_by, count_by, Result, Ok, Err}
+use Rattle.std.specs.Prelude.{◌≡◌, ℕ, ◌+◌, ◌*◌, ◌^◌, ◌<◌, ◌≤◌, true, List, [], ◌∷◌, ◌++◌, length, map, drop, take, replicate, sum, sum_by, count_by, Option, Result, Ok, Err, OnOk}
 use Rattle.std.specs.List.{AllByRecursion, range_with_len}
 use Rattle.std.specs.Io.KnownBytes.{Keeps}
 use Rattle.us_slots.specs.Devices.{AppendsFront}
-use Rattle.us_flows.specs.Tables.{Tables, max_run_ticks}
+use Rattle.us_flows.specs.Tables.{Tables, max_run_ticks, rounds_fit}
 use Rattle.us_flows.specs.Clusters.{clusters_of}
 use Rattle.us_flows.specs.Lawful.{AreTables}
 use Rattle.us_flows.specs.Ranges.{max_channels}
@@ -20,12 +20,13 @@ use Rattle.us_output.specs.Outputs.{RoundOut, AreWithinLimits, out_of}
 use Rattle.us_replay.specs.declared.summaries.Summary.{Summary}
 use Rattle.us_replay.specs.declared.faults.RunFault.{RunFault}
 use Rattle.us_replay.specs.Collecting.{AreAsks, chunk_quota}
-use Rattle.us_lawful.specs.Files.{records, round_lines, lines, counts_row}
+use Rattle.us_output.specs.Files.{records, round_lines, lines, is_granted, is_missed}
+use Rattle.us_lawful.specs.Output.{counts_row, judged_of, Output, all_rows, maps_text, output_of, report_text, run_of}
 use Rattle.us_replay.specs.Endings.{ended, rounds_done, Ending, Refused, StoppedBy, Maps, Report, Memory}
-use Rattle.us_lawful.specs.Output.{Output, all_rows, maps_text, output_of, report_text, run_of}
 use Rattle.us_lawful.specs.Runs.{cuts_in}
-use Rattle.us_lawful.specs.Texts.{HasFields, AreLawful}
-use Rattle.us_replay.specs.Replays.{Growth, Took, Ran, KeptLimits, is_granted, is_missed}
+use Rattle.us_lawful.specs.Texts.{AreLawful}
+use Rattle.us_output.specs.Lines.{HasFields}
+use Rattle.us_replay.specs.Replays.{Growth, Took, Ran, KeptLimits}
 
 -- Traces.
 
@@ -42,6 +43,20 @@ abbrev pub RanTrace : Tables → TraceAsks → Growth → Growth → Result Summ
 RanTrace t v to_maps to_report result =
     Ran (output_in t v) v.counts to_maps to_report (ended result)
     × KeptLimits t (cuts_in t v) (rounds_done (ended result))
+
+-- a trace that can be run with a configuration
+pub record IsTraceFor (t : Tables) (v : TraceAsks) : Type 0 where
+  pub fits : rounds_fit t v.rounds ≡ true
+  pub known : (round : ℕ) → AllByRecursion (λ ask. ask.cluster < length (clusters_of t)) (asks_in v round)
+
+-- what a writer had and has
+abbrev pub grown : Option (List ℕ) → Option (List ℕ) → Growth
+grown before after = record { before = before; after = after }
+
+-- what stands at the end of its run
+pub record EndsAs (t : Tables) (v : TraceAsks) (to_maps to_report : Growth) (result : Result Summary RunFault) : Type 0 where
+  pub ran : RanTrace t v to_maps to_report result
+  pub fields : OnOk result (AllByRecursion HasFields (judged_of (output_in t v)).lines)
 
 -- Progress.
 

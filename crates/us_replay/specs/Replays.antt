@@ -1,5 +1,5 @@
 -- Replays (ours): what a run writes, and what stands after it ended early.
-use Rattle.std.specs.Prelude.{◌≡◌, ℕ, ◌≤◌, List, [], length, map, flat_map, count_by, take, Bool, true, false, Option, None, Result, Ok, Err}
+use Rattle.std.specs.Prelude.{◌≡◌, ℕ, ◌≤◌, List, [], length, map, flat_map, count_by, take, true, false, Option, None, Result, Ok, Err}
 use Rattle.std.specs.List.{AllByRecursion, range_with_len}
 use Rattle.std.specs.Io.KnownBytes.{Appends}
 use Rattle.us_flows.specs.Tables.{Tables, rounds_fit}
@@ -10,9 +10,7 @@ use Rattle.us_requests.specs.Texts.{trace_fault, requests_of}
 use Rattle.us_requests.specs.Readings.{IsTextOf, Reads}
 use Rattle.us_round.specs.Rounds.{opening, schedule}
 use Rattle.us_output.specs.Outputs.{RoundOut, AreWithinLimits}
-use Rattle.us_output.specs.declared.rows.Row.{Row}
-use Rattle.us_output.specs.declared.rows.Row.TheVariants as rows
-use Rattle.us_lawful.specs.Files.{records, round_lines}
+use Rattle.us_output.specs.Files.{records, round_lines, is_granted, is_missed}
 use Rattle.us_lawful.specs.Runs.{Run}
 use Rattle.us_lawful.specs.Output.{Output, output_of, maps_text, report_text, all_rows, run_of}
 use Rattle.us_lawful.specs.Texts.{AreLawful}
@@ -25,15 +23,6 @@ use Rattle.us_replay.specs.Endings.{Refusal, Rounds, Workers, Trace, Memory, End
 -- the cuts of all rounds: what each cluster asks for by the rows of the trace
 unfoldable pub cuts_of : Tables → ℕ → List Request → List (List ℕ)
 cuts_of t rounds requests = map (cut_at t rounds requests) (range_with_len 0 rounds)
-
--- whether a line is of a grant, and whether of a missed occurrence
-abbrev pub is_granted : Row → Bool
-is_granted (rows.Granted grant) = true
-is_granted _ = false
-
-abbrev pub is_missed : Row → Bool
-is_missed (rows.Missed missed) = true
-is_missed _ = false
 
 -- what a run did
 unfoldable pub summary_of : Output → Counts → Summary

@@ -14,7 +14,7 @@ use Rattle.us_calendar.specs.Occurrences.{due}
 use Rattle.us_calendar.specs.Settling.{settle_each, settle_entry}
 use Rattle.us_calendar.specs.Calendars.{run_entries}
 use Rattle.us_round.specs.RoundExamples.{base, base_channel, base_flow, round_steps, tables, without_flows}
-use Rattle.us_lawful.specs.Files.{records, lines}
+use Rattle.us_output.specs.Files.{records, lines}
 use Rattle.us_lawful.specs.Output.{Output, output_of, maps_text, report_text}
 use Rattle.us_replay.specs.Replays.{cuts_of, summary_of}
 

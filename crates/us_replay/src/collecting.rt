@@ -1,88 +1,87 @@
 //! How the requests of a round are collected: workers submit them to an intake, each with a seat of its own, and the
 //! intake is cut once all seats are one again.
 
-ghost use Rattle.std.specs.Prelude.{◌≡◌, ◌+◌, ◌≤◌, true, length, vec_len, IfOk, OnOk};
+ghost use Rattle.std.specs.Prelude.{◌≡◌, ◌+◌, ◌≤◌, true, length, vec_len, IfOk, OnOk, option_map};
+ghost use Rattle.us_flows.specs.Tables.{Tables};
 ghost use Rattle.us_intake.specs.Seats.{IsWhole, first_seat, seat_after_cut};
 ghost use Rattle.us_requests.specs.Traces.{max_asked, max_asks};
 ghost use Rattle.us_replay.specs.Collecting as spec;
 
-use gathering::gather;
+use crate::doers::Doers;
 use std::alloc::Global;
 use std::marker::Model;
-use std::thread::Threads;
-use us_crew::Gate;
 use us_intake::{Intake, MAX_CLUSTERS, Seat};
 use us_requests::Ask;
 use us_slots::NoMemory;
 
-mod gathering;
 mod seats;
 mod submitting;
+
+pub(crate) use seats::{join_all, split_all};
+pub(crate) use submitting::{Chunk, Submitting, submit_all};
 
 /// The bytes that may be submitted in a run: one more than 1,000,000 rows can name.
 const RUN_QUOTA: u64 = 1_048_560_000_001;
 
-/// What collects the requests of a run, and the cut of the last round. With no cluster it has no intake, and after want
+/// What collects the requests of a run, and the cut of the last round. With no cluster it has no seat, and after want
 /// of memory none any more. Between rounds the seat is whole, and all that was submitted was taken.
 #[derive(Drop)]
-pub(crate) struct Collector {
+pub(crate) struct Collector<'a> {
     cut: Vec<u64>,
-    intake: Option<(Intake, Seat)>,
+    intake: Option<&'a Intake>,
+    seat: Option<Seat>,
 }
 
-impl Model for Collector {
-    ghost use Rattle.std.specs.Prelude.{length};
+impl<'a> Model for Collector<'a> {
+    ghost use Rattle.std.specs.Prelude.{length, option_map};
     ghost use Rattle.us_replay.specs.Collecting.{AreSettled, Collector, collected_by};
 
     ghost Value = { Collector };
 
-    ghost view = { λ c. record { cut = c.cut.items; collected = collected_by c.intake } };
+    ghost view = { λ c. record { cut = c.cut.items; collected = collected_by c.seat } };
 
-    ghost invariant = { λ c. AreSettled (length c.cut.items) c.intake };
+    ghost invariant = { λ c. AreSettled (length c.cut.items) (option_map (λ i. i.now) c.intake) c.seat };
 }
 
-impl Collector {
-    /// Before round 0 of so many clusters.
-    pub(crate) fn open(alloc: Global, clusters: usize) -> Result<Collector, NoMemory>
-        requires { clusters ≤ MAX_CLUSTERS }
+impl<'a> Collector<'a> {
+    /// Before round 0 of so many clusters, with what was opened for them.
+    pub(crate) fn open(
+        alloc: Global,
+        clusters: usize,
+        intake: Option<&'a Intake>,
+        seat: Option<Seat>,
+    ) -> Result<Collector<'a>, NoMemory>
+        requires { spec.AreOpen clusters (option_map (λ i. i.now) intake) seat }
         ensures { IfOk result (λ c. c ≡ spec.opening_collector clusters) }
     {
         let cut = vec![in alloc; 0; clusters]?;
-        let intake = if clusters == 0 {
-            None
-        } else {
-            Some(open_intake(alloc, clusters as u16)?)
-        };
-        Ok(Collector { cut, intake })
+        Ok(Collector { cut, intake, seat })
     }
 
-    /// Collects the asks of the next round, by so many workers, each of which enters the gate before each chunk. After
-    /// want of memory nothing is said of what stands here.
-    pub(crate) fn collect<H: Threads + Sync, G: Gate + Sync>(
+    /// Has the asks of the next round collected. After want of memory nothing is said of what stands here.
+    pub(crate) fn collect<D: Doers<'a>>(
         &mut self,
-        threads: &H,
         alloc: Global,
-        asks: &[Ask],
-        workers: usize,
-        gate: &G,
+        asks: &'a [Ask],
+        doers: &mut D,
     ) -> Result<(), NoMemory>
-        requires workers { 1 ≤ workers }
         requires asks { spec.AreAsks (length self.old.cut) asks.now }
         requires few { length asks.now ≤ max_asks }
         requires room { self.old.collected + spec.chunk_quota asks.now ≤ max_asked }
-        ensures { OnOk result (self.new ≡ spec.with_asks self.old asks.now) }
+        ensures collected { OnOk result (self.new ≡ spec.with_asks self.old asks.now) }
+        ensures same { (t : Tables) → D.knows doers.old t → D.knows doers.new t }
     {
         if asks.is_empty() {
             self.cut.fill(0);
             return Ok(());
         }
-        // With no cluster nobody asks, so where there is no intake, memory was wanting before.
-        let Some((intake, seat)) = self.intake.take() else {
+        // With no cluster nobody asks, so where there is no seat, memory was wanting before.
+        let (Some(intake), Some(seat)) = (self.intake, self.seat.take()) else {
             return Err(NoMemory);
         };
-        let mut seat = gather(threads, alloc, &intake, seat, asks, workers, gate)?;
-        cut_words(&intake, &mut seat, &mut self.cut);
-        self.intake = Some((intake, seat));
+        let mut seat = doers.gather(alloc, intake, seat, asks)?;
+        cut_words(intake, &mut seat, &mut self.cut);
+        self.seat = Some(seat);
         Ok(())
     }
 
@@ -106,8 +105,23 @@ fn cut_words(intake: &Intake, seat: &mut Seat, cut: &mut Vec<u64>)
     intake.cut(seat, cut);
 }
 
-/// Opens the intake of a run.
-fn open_intake(alloc: Global, clusters: u16) -> Result<(Intake, Seat), NoMemory>
+/// Opens what the requests of so many clusters are collected with: none where there are no clusters.
+pub(crate) fn open_intake(
+    alloc: Global,
+    clusters: usize,
+) -> Result<(Option<Intake>, Option<Seat>), NoMemory>
+    requires { clusters ≤ MAX_CLUSTERS }
+    ensures { IfOk result (λ opened. spec.AreOpen clusters opened.0 opened.1) }
+{
+    if clusters == 0 {
+        return Ok((None, None));
+    }
+    let (intake, seat) = open_for(alloc, clusters as u16)?;
+    Ok((Some(intake), Some(seat)))
+}
+
+/// Opens an intake for the clusters that there are, and its first seat.
+fn open_for(alloc: Global, clusters: u16) -> Result<(Intake, Seat), NoMemory>
     requires some { 1 ≤ clusters }
     requires most { clusters ≤ MAX_CLUSTERS }
     ensures { IfOk result (λ opened. (opened.0.clusters ≡ clusters) × (opened.0.quota ≡ spec.run_quota)

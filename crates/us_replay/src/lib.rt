@@ -12,15 +12,11 @@
 //! What these bytes are stands in `specs/`, in the order of its `Lib.antt`.
 #![tactic(auto)]
 
-// The lines of the report, and that their numbers have 64 bits.
-mod fields;
-mod lines;
-
-// The bytes of a round: its records and its lines.
-mod texts;
-
-// The requests of a round, which workers collect.
+// The requests of a round, as they are collected.
 mod collecting;
+
+// Who collects them, and does the channels.
+mod doers;
 
 // Every refusal, in order.
 mod faults;

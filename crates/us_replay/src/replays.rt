@@ -1,32 +1,36 @@
-ghost use Rattle.std.specs.Prelude.{◌≡◌, ◌↔◌, ◌⊎◌, ℕ, ◌<◌, ◌≤◌, true, false, length, Err, IfOk, OnOk, IfErr};
+ghost use Rattle.std.specs.Prelude.{◌≡◌, ◌↔◌, ◌⊎◌, ℕ, ◌<◌, ◌≤◌, true, false, length, option_map, Err, IfOk, OnOk, IfErr};
 ghost use Rattle.std.specs.List.{AllByRecursion};
 ghost use Rattle.us_flows.specs.Tables;
 ghost use Rattle.us_flows.specs.Clusters.{clusters_of};
+ghost use Rattle.us_flows.specs.Lawful.{AreTables};
 ghost use Rattle.us_slots.specs.Devices.{TookAtMost};
 ghost use Rattle.us_requests.specs.Readings.{max_bytes};
 ghost use Rattle.us_requests.specs.Traces.{asks_in};
 ghost use Rattle.us_round.specs.Rounds.{opening};
-ghost use Rattle.us_lawful.specs.Output.{judged_of};
-ghost use Rattle.us_lawful.specs.Texts.{HasFields};
+ghost use Rattle.us_replay.specs.Collecting.{AreOpen};
 ghost use Rattle.us_replay.specs.Endings.{comes_before, blames_maps, blames_report};
 ghost use Rattle.us_replay.specs.Replays.{Growth, Replayed, WroteLawful};
-ghost use Rattle.us_replay.specs.Progress.{Along, CanMake, IsLawfulOutput, IsMade, RanTrace, output_in};
+ghost use Rattle.us_replay.specs.Progress.{Along, CanMake, EndsAs, IsLawfulOutput, IsMade, IsTraceFor, RanTrace, grown, opening_progress, output_in};
 
+use crate::collecting::open_intake;
+use crate::doers::{Doers, beside_workers, open_crew, take_back};
 use crate::faults::RunFault;
 use crate::summaries::Summary;
+use crewed::WithCrew;
 use progress::Progress;
 use sending::{flush, send};
 use std::alloc::Global;
 use std::thread::Threads;
 use us_crew::{Gate, MAX_WORKERS};
 use us_flows::Config;
+use us_intake::{Intake, Seat};
 use us_requests::{Ask, Trace, TraceFault};
-use us_round::{State, round};
+use us_round::{Alone, State, step};
 use us_slots::{NoMemory, Sink, Source};
 
+mod crewed;
 mod progress;
 mod sending;
-mod tallies;
 
 /// Replays the trace of `trace` with a configuration, for so many rounds: writes the maps file and the report. The
 /// channels of each round are shared among so many workers, each of which enters the gate before each channel. How many
@@ -90,7 +94,7 @@ pub fn check_run(config: &Config, rounds: u32, workers: usize) -> Result<(), Run
     Ok(())
 }
 
-/// Replays a trace that was read.
+/// Replays a trace that was read: opens the intake where its requests are collected, which has to outlive the workers.
 fn run<H: Threads + Sync, W1: Sink, W2: Sink, G: Gate + Sync>(
     threads: &H,
     alloc: Global,
@@ -101,42 +105,141 @@ fn run<H: Threads + Sync, W1: Sink, W2: Sink, G: Gate + Sync>(
     maps: &mut W1,
     report: &mut W2,
 ) -> Result<Summary, RunFault>
-    requires fits { Tables.rounds_fit config.now trace.now.rounds ≡ true }
-    requires known { (round : ℕ) →
-        AllByRecursion (λ ask. ask.cluster < length (clusters_of config.now)) (asks_in trace.now round) }
+    requires trace { IsTraceFor config.now trace.now }
     requires workers { 1 ≤ workers }
     requires maps_ready { W1.failed maps.old ≡ false }
     requires report_ready { W2.failed report.old ≡ false }
-    ensures ran { let to_maps : Growth = record { before = W1.contents maps.old; after = W1.contents maps.new } in
-        let to_report : Growth = record { before = W2.contents report.old; after = W2.contents report.new } in
-        RanTrace config.now trace.now to_maps to_report result }
+    ensures ends { EndsAs config.now trace.now (grown (W1.contents maps.old) (W1.contents maps.new))
+        (grown (W2.contents report.old) (W2.contents report.new)) result }
     ensures lawful { OnOk result (IsLawfulOutput config.now trace.now) }
     ensures maps_failed { W1.failed maps.new ≡ blames_maps result }
     ensures report_failed { W2.failed report.new ≡ blames_report result }
 {
-    let Ok(mut progress) = Progress::opening(alloc, config.clusters()) else {
+    let Ok((intake, seat)) = open_intake(alloc, config.clusters()) else {
         return Err(RunFault::NoMemory(0));
     };
+    let intake = intake.as_ref();
+    run_with(
+        threads, alloc, config, trace, intake, seat, workers, gate, maps, report,
+    )
+}
+
+/// Replays a trace with an intake that was opened for it, and its seat.
+fn run_with<'a, H: Threads + Sync, W1: Sink, W2: Sink, G: Gate + Sync>(
+    threads: &H,
+    alloc: Global,
+    config: &'a Config,
+    trace: &'a Trace,
+    intake: Option<&'a Intake>,
+    seat: Option<Seat>,
+    workers: usize,
+    gate: &'a G,
+    maps: &mut W1,
+    report: &mut W2,
+) -> Result<Summary, RunFault>
+    requires trace { IsTraceFor config.now trace.now }
+    requires workers { 1 ≤ workers }
+    requires open { AreOpen (length (clusters_of config.now)) (option_map (λ i. i.now) intake) seat }
+    requires maps_ready { W1.failed maps.old ≡ false }
+    requires report_ready { W2.failed report.old ≡ false }
+    ensures ends { EndsAs config.now trace.now (grown (W1.contents maps.old) (W1.contents maps.new))
+        (grown (W2.contents report.old) (W2.contents report.new)) result }
+    ensures maps_failed { W1.failed maps.new ≡ blames_maps result }
+    ensures report_failed { W2.failed report.new ≡ blames_report result }
+{
+    let Ok(mut progress) = Progress::opening(alloc, config.clusters(), intake, seat) else {
+        return Err(RunFault::NoMemory(0));
+    };
+    if workers == 1 {
+        let mut doers = Alone { gate };
+        return run_by(
+            alloc,
+            config,
+            trace,
+            &mut progress,
+            &mut doers,
+            maps,
+            report,
+        );
+    }
+    run_kept(
+        threads, alloc, config, trace, workers, gate, progress, maps, report,
+    )
+}
+
+/// Replays a trace by several workers, who are kept until its end.
+fn run_kept<'a, H: Threads + Sync, W1: Sink, W2: Sink, G: Gate + Sync>(
+    threads: &H,
+    alloc: Global,
+    config: &'a Config,
+    trace: &'a Trace,
+    workers: usize,
+    gate: &'a G,
+    progress: Progress<'a>,
+    maps: &mut W1,
+    report: &mut W2,
+) -> Result<Summary, RunFault>
+    requires lawful { AreTables config.now }
+    requires trace { IsTraceFor config.now trace.now }
+    requires opening { progress ≡ opening_progress (length (clusters_of config.now)) }
+    requires maps_ready { W1.failed maps.old ≡ false }
+    requires report_ready { W2.failed report.old ≡ false }
+    ensures ends { EndsAs config.now trace.now (grown (W1.contents maps.old) (W1.contents maps.new))
+        (grown (W2.contents report.old) (W2.contents report.new)) result }
+    ensures maps_failed { W1.failed maps.new ≡ blames_maps result }
+    ensures report_failed { W2.failed report.new ≡ blames_report result }
+{
+    let Ok((kept, posts)) = open_crew(alloc, config, gate, workers) else {
+        return Err(RunFault::NoMemory(0));
+    };
+    let task = WithCrew {
+        alloc,
+        config,
+        trace,
+        progress,
+        doers: kept,
+        maps,
+        report,
+    };
+    let (ended, maps, report) = beside_workers(threads, posts, task);
+    take_back(maps);
+    take_back(report);
+    ended
+}
+
+/// Replays a trace from its start, by these doers.
+fn run_by<'a, D: Doers<'a>, W1: Sink, W2: Sink>(
+    alloc: Global,
+    config: &Config,
+    trace: &'a Trace,
+    progress: &mut Progress<'a>,
+    doers: &mut D,
+    maps: &mut W1,
+    report: &mut W2,
+) -> Result<Summary, RunFault>
+    requires trace { IsTraceFor config.now trace.now }
+    requires opening { progress.old ≡ opening_progress (length (clusters_of config.now)) }
+    requires doers { D.knows doers.old config.now }
+    requires maps_ready { W1.failed maps.old ≡ false }
+    requires report_ready { W2.failed report.old ≡ false }
+    ensures ends { EndsAs config.now trace.now (grown (W1.contents maps.old) (W1.contents maps.new))
+        (grown (W2.contents report.old) (W2.contents report.new)) result }
+    ensures maps_failed { W1.failed maps.new ≡ blames_maps result }
+    ensures report_failed { W2.failed report.new ≡ blames_report result }
+{
     let Ok(state) = opened(alloc, config) else {
         return Err(RunFault::NoMemory(0));
     };
-    run_on(
-        threads,
-        alloc,
-        trace,
-        state,
-        &mut progress,
-        workers,
-        gate,
-        maps,
-        report,
-    )
+    run_on(alloc, trace, state, progress, doers, maps, report)
 }
 
 /// The state before round 0, of a copy of the configuration.
 fn opened(alloc: Global, config: &Config) -> Result<State, NoMemory>
-    ensures { IfOk result (λ state. state ≡ opening config.now) }
+    ensures value { IfOk result (λ state. state ≡ opening config.now) }
+    ensures lawful { AreTables config.now }
 {
+    // What is known of tables is told by their readers.
+    let _ = config.clusters();
     let copy = config.copy(alloc)?;
     match State::new(alloc, copy) {
         Ok(state) => Ok(state),
@@ -146,28 +249,22 @@ fn opened(alloc: Global, config: &Config) -> Result<State, NoMemory>
 
 /// Replays a trace from before round 0 on. That the progress stands with the caller spares each way out of here to give
 /// it up.
-fn run_on<H: Threads + Sync, W1: Sink, W2: Sink, G: Gate + Sync>(
-    threads: &H,
+fn run_on<'a, D: Doers<'a>, W1: Sink, W2: Sink>(
     alloc: Global,
-    trace: &Trace,
+    trace: &'a Trace,
     state: State,
-    progress: &mut Progress,
-    workers: usize,
-    gate: &G,
+    progress: &mut Progress<'a>,
+    doers: &mut D,
     maps: &mut W1,
     report: &mut W2,
 ) -> Result<Summary, RunFault>
-    requires fits { Tables.rounds_fit state.tables trace.now.rounds ≡ true }
-    requires known { (round : ℕ) →
-        AllByRecursion (λ ask. ask.cluster < length (clusters_of state.tables)) (asks_in trace.now round) }
+    requires trace { IsTraceFor state.tables trace.now }
     requires along { Along state.tables trace.now 0 state progress.old }
-    requires workers { 1 ≤ workers }
+    requires doers { D.knows doers.old state.tables }
     requires maps_ready { W1.failed maps.old ≡ false }
     requires report_ready { W2.failed report.old ≡ false }
-    ensures ran { let to_maps : Growth = record { before = W1.contents maps.old; after = W1.contents maps.new } in
-        let to_report : Growth = record { before = W2.contents report.old; after = W2.contents report.new } in
-        RanTrace state.tables trace.now to_maps to_report result }
-    ensures fields { OnOk result (AllByRecursion HasFields (judged_of (output_in state.tables trace.now)).lines) }
+    ensures ends { EndsAs state.tables trace.now (grown (W1.contents maps.old) (W1.contents maps.new))
+        (grown (W2.contents report.old) (W2.contents report.new)) result }
     ensures maps_failed { W1.failed maps.new ≡ blames_maps result }
     ensures report_failed { W2.failed report.new ≡ blames_report result }
 {
@@ -175,7 +272,7 @@ fn run_on<H: Threads + Sync, W1: Sink, W2: Sink, G: Gate + Sync>(
     let rounds = trace.rounds();
     for done in 0..rounds {
         let asks = trace.asks(done);
-        let Ok(next) = make_round(threads, alloc, state, progress, asks, workers, gate) else {
+        let Ok(next) = make_round(alloc, state, progress, asks, doers) else {
             return Err(RunFault::NoMemory(done));
         };
         state = next;
@@ -196,26 +293,22 @@ fn run_on<H: Threads + Sync, W1: Sink, W2: Sink, G: Gate + Sync>(
 }
 
 /// Makes the round of a state and these asks, and its texts. After want of memory nothing is said of `progress`.
-fn make_round<H: Threads + Sync, G: Gate + Sync>(
-    threads: &H,
+fn make_round<'a, D: Doers<'a>>(
     alloc: Global,
     state: State,
-    progress: &mut Progress,
-    asks: &[Ask],
-    workers: usize,
-    gate: &G,
+    progress: &mut Progress<'a>,
+    asks: &'a [Ask],
+    doers: &mut D,
 ) -> Result<State, NoMemory>
     requires ready { CanMake state progress.old asks.now }
-    requires workers { 1 ≤ workers }
-    ensures { IfOk result (λ next. IsMade state progress.old asks.now next progress.new) }
+    requires doers { D.knows doers.old state.tables }
+    ensures made { IfOk result (λ next. IsMade state progress.old asks.now next progress.new) }
+    ensures same { (t : Tables.Tables) → D.knows doers.old t → D.knows doers.new t }
 {
-    progress.take_asks(threads, alloc, asks, workers, gate)?;
-    let Ok((next, out)) = round(threads, alloc, state, progress.cut(), workers, gate) else {
-        // The number of workers was looked at before the first round.
-        return Err(NoMemory);
-    };
+    progress.take_asks(alloc, asks, doers)?;
+    let made = step(state, progress.cut(), doers)?;
     // Its clauses bound how many rounds there were and how much the calendars settled, so that no count of lines wraps.
-    let _ = next.round();
-    progress.take_round(&out)?;
-    Ok(next)
+    let _ = made.next_round();
+    progress.take_round(&made)?;
+    Ok(made.into_state())
 }

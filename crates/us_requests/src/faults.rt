@@ -90,18 +90,6 @@ impl From<ReadFault> for TraceFault {
     }
 }
 
-/// Of a reader of records of a slice, which can want nothing but memory.
-impl From<csv::Error> for TraceFault {
-    ghost use Rattle.std.specs.Prelude.{◌≡◌};
-    ghost use Rattle.us_requests.specs.declared.faults.TraceFault.TheVariants.{NoMemory};
-
-    ghost from_gives = { λ _ fault. fault ≡ NoMemory };
-
-    fn from(_refused: csv::Error) -> TraceFault {
-        TraceFault::NoMemory
-    }
-}
-
 impl From<AllocError> for TraceFault {
     ghost use Rattle.std.specs.Prelude.{◌≡◌};
     ghost use Rattle.us_requests.specs.declared.faults.TraceFault.TheVariants.{NoMemory};

@@ -75,33 +75,28 @@ fn number_in(field: &[u8], greatest: u32) -> Option<u32>
     ensures value { result ≡ if is_number greatest field.now then Some (number_of field.now) else None }
     ensures small { IfSome result (λ number. number ≤ greatest) }
 {
-    if field.is_empty() || field.len() > MAX_DIGITS || !are_digits(field) {
+    if field.is_empty() || field.len() > MAX_DIGITS {
         return None;
     }
-    let number = decimal(field);
+    let number = decimal(field)?;
     if number > u64::from(greatest) {
         return None;
     }
     Some(number as u32)
 }
 
-/// Whether all bytes are ASCII digits.
-fn are_digits(field: &[u8]) -> bool
-    ensures { result ≡ list_all is_digit field.now }
-{
-    field.iter().all(|byte| *byte >= b'0' && *byte <= b'9')
-}
-
-/// The number that up to 10 digits tell.
+/// The number that up to 10 digits tell, `None` where a byte is no digit.
 #[tactic(auto, unfolding(crate::specs::Texts::number_from))]
-fn decimal(field: &[u8]) -> u64
-    requires digits { list_all is_digit field.now ≡ true }
-    requires short { length field.now ≤ 10 }
-    ensures { result ≡ number_of field.now }
+fn decimal(field: &[u8]) -> Option<u64>
+    requires { length field.now ≤ 10 }
+    ensures { result ≡ if list_all is_digit field.now then Some (number_of field.now) else None }
 {
     let mut number = 0;
-    for digit in field {
-        number = 10 * number + u64::from(digit - b'0');
+    for byte in field {
+        if !byte.is_ascii_digit() {
+            return None;
+        }
+        number = 10 * number + u64::from(byte - b'0');
     }
-    number
+    Some(number)
 }

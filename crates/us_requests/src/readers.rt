@@ -2,8 +2,8 @@ ghost use Rattle.std.specs.Prelude.{◌≡◌, List, IfOk};
 ghost use Rattle.csv.specs.Records.{fields_of};
 ghost use Rattle.us_requests.specs.Records.{Record, records_of, records_left, IsRecordReader, TakesRecord};
 
-use csv::{ByteRecord, Error, Reader, ReaderBuilder};
-use std::alloc::Global;
+use csv::{ByteRecord, Reader, ReaderBuilder};
+use std::alloc::{AllocError, Global};
 use std::marker::Model;
 
 /// The records of a text that are left to read, the header among them.
@@ -36,9 +36,12 @@ impl<'a> RecordReader<'a> {
     /// Reads the next record into `fields` and answers whether there was one. A slice gives every read, and records
     /// may differ in their count of fields, so the one error is want of memory.
     #[tactic(auto, using(crate::proofs::RecordLemmas::reading))]
-    pub(crate) fn read(&mut self, fields: &mut ByteRecord) -> Result<bool, Error>
+    pub(crate) fn read(&mut self, fields: &mut ByteRecord) -> Result<bool, AllocError>
         ensures { IfOk result (λ found. TakesRecord self.old self.new (fields_of fields.new) found) }
     {
-        self.reader.read_byte_record(fields)
+        match self.reader.read_byte_record(fields) {
+            Ok(found) => Ok(found),
+            Err(_) => Err(AllocError),
+        }
     }
 }

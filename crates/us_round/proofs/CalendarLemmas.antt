@@ -1,5 +1,5 @@
 -- The calendars that a round leaves: one for each channel still, at the next round, and none has settled too much.
-use Rattle.std.proofs.Common.{◌≡◌, ℕ, zero, suc, ◌+◌, ◌*◌, ◌<◌, ◌≤◌, ◌++◌, take, List, [], ◌∷◌, length, map, refl, ap, ◌∙◌, arith}
+use Rattle.std.proofs.Common.{◌≡◌, ℕ, zero, suc, ◌+◌, ◌*◌, ◌<◌, ◌≤◌, ◌++◌, take, List, [], ◌∷◌, length, map, refl, ap, sym, subst, ◌∙◌, arith}
 use Rattle.std.specs.Prelude.{zip, sum_by, slice_get, IfSome}
 use Rattle.std.specs.List.{AllByRecursion}
 use Rattle.std.proofs.lemmas.List.{length-map, length-replicate}
@@ -13,10 +13,13 @@ use Rattle.us_calendar.specs.Settling.{EntryState}
 use Rattle.us_bucket.specs.Levels.{full}
 use Rattle.us_flows.specs.Clusters.{clusters_of}
 use Rattle.us_split.specs.Plans.{Planned}
-use Rattle.us_channel.specs.Channels.{Filled, Built, fill}
+use Rattle.us_channel.specs.Channels as channel
+use Rattle.us_channel.specs.Channels.{Filled, Built, IsBuilt, fill}
+use Rattle.us_round.specs.Rounds as rounds
 use Rattle.us_round.specs.Rounds.{State, build_planned, round_plan, builds_of}
 use Rattle.us_round.specs.Cores.{Core, IsCore, opening_core, AreCalendars, AreCounted, settled_now, settled_then, with_calendars, credited_core}
 use Rattle.us_round.specs.States.{IsState, max_settled_by}
+use Rattle.us_round.specs.Parts.{ArePartsOfState, state_of}
 use Rattle.us_round.proofs.FillLemmas.{calendars_long}
 use Rattle.us_round.proofs.StateLemmas.{left-length, spent-length}
 
@@ -92,15 +95,19 @@ sum_few (calendar ∷ cs) all =
     omega (arith, one, sum_few cs all.1, sum_by-cons settled_in calendar cs)
 
 -- all calendars together have settled no more than may be
-pub settled_few : (core : Core) (cs left : List Calendar) (built : List Built) → AreTables core.tables →
-    AreCalendars core.tables core.round cs → built ≡ builds_of (with_calendars core cs) →
-    left ≡ map (λ b. b.calendar) built → AllByRecursion IsCalendar left → sum_by settled_in left ≤ max_settled_by
-settled_few core cs left built lawful are is those known =
-    let long : length left ≡ length core.tables.channels =
-    ap (λ cs. length cs) those ∙ length-map built (λ b. b.calendar) ∙ ap (λ bs. length bs) is
-    ∙ builds_long (with_calendars core cs) are in
-    let channels : length core.tables.channels ≤ 16 = lawful.some_channels.1 in
-    omega (arith, sum_few left known, long, channels)
+pub settled_few : (t : Tables) (bs : List Built) → AreTables t → map (λ b. b.channel) bs ≡ t.channels →
+    AllByRecursion IsBuilt bs → sum_by settled_in (map (λ b. b.calendar) bs) ≤ max_settled_by
+settled_few t bs lawful are known =
+    let long : length (map (λ (b : Built). b.calendar) bs) ≡ length t.channels =
+    length-map bs (λ (b : Built). b.calendar) ∙ sym (length-map bs (λ (b : Built). b.channel))
+    ∙ ap (λ cs. length cs) are in
+    let channels : length t.channels ≤ 16 = lawful.some_channels.1 in
+    omega (arith, sum_few (map (λ (b : Built). b.calendar) bs) (calendars_known bs known), long, channels)
+  where
+    calendars_known : (bs : List Built) → AllByRecursion IsBuilt bs →
+        AllByRecursion IsCalendar (map (λ (b : Built). b.calendar) bs)
+    calendars_known [] known = tt
+    calendars_known (b ∷ bs) known = (known.0.calendar, calendars_known bs known.1)
 
 -- What built channels tell of their calendars is what the filled ones do.
 now_kept : (plan : List Planned) (fs : List Filled) →
@@ -133,7 +140,7 @@ counted plan fs cs counts = omega (arith, counts, now_kept plan fs, then_kept pl
 
 -- Before round 0.
 
--- one more calendar, where so many of them are made
+-- one more channel, where so many of them are made
 pub mapped_more : {X Y : Type 0} (f : X → Y) (xs : List X) (n : ℕ) (y : Y) → n < length xs →
     IfSome (slice_get xs n) (λ x. y ≡ f x) → map f (take n xs) ++ y ∷ [] ≡ map f (take (n + 1) xs)
 mapped_more f [] n y inside is = absurd (omega (arith, inside))
@@ -175,5 +182,30 @@ opening_state t = record {
   rounds = opening_rounds t t.channels;
 }
 
-pub opening_few : (t : Tables) → sum_by settled_in (map (opening t) t.channels) ≤ max_settled_by
+opening_few : (t : Tables) → sum_by settled_in (map (opening t) t.channels) ≤ max_settled_by
 opening_few t = omega (arith, none_by t t.channels)
+
+-- the channels before round 0 have these calendars, and are the table's
+opening_calendars : (t : Tables) (channels : List Channel) →
+    map (λ b. b.calendar) (map (channel.opening t) channels) ≡ map (opening t) channels
+opening_calendars t [] = refl
+opening_calendars t (c ∷ channels) = ap (λ more. opening t c ∷ more) (opening_calendars t channels)
+
+opening_channels : (t : Tables) (channels : List Channel) →
+    map (λ b. b.channel) (map (channel.opening t) channels) ≡ channels
+opening_channels t [] = refl
+opening_channels t (c ∷ channels) = ap (λ more. c ∷ more) (opening_channels t channels)
+
+-- so they are parts of a state, the opening
+pub opening_parts : (t : Tables) → ArePartsOfState (opening_core t) (map (channel.opening t) t.channels)
+opening_parts t =
+    let cs = opening_calendars t t.channels in
+    record {
+      state = subst (λ cs. IsState (with_calendars (opening_core t) cs)) (sym cs) (opening_state t);
+      few = subst (λ cs. sum_by settled_in cs ≤ max_settled_by) (sym cs) (opening_few t);
+      told = refl;
+      channels = opening_channels t t.channels;
+    }
+
+pub opening_value : (t : Tables) → state_of (opening_core t) (map (channel.opening t) t.channels) ≡ rounds.opening t
+opening_value t = ap (λ cs. with_calendars (opening_core t) cs) (opening_calendars t t.channels)

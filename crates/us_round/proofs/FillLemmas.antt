@@ -1,18 +1,17 @@
--- The channels of a round after reserves and calendars: they are the table's, their bursts are lawful, and they have no more
--- idle minislots than minislots, and no more of these than a MAP may have.
-use Rattle.std.proofs.Common.{◌≡◌, ℕ, zero, suc, ◌*◌, ◌≤◌, List, [], ◌∷◌, map, length, Option, Some, None, refl, ap, sym, subst, ◌∙◌, arith}
+-- The channels of a round after reserves and calendars: they are the table's, and they have no more idle minislots than
+-- minislots.
+use Rattle.std.proofs.Common.{◌≡◌, ℕ, zero, suc, ◌≤◌, List, [], ◌∷◌, map, length, Option, Some, None, refl, ap, sym, ◌∙◌, arith}
 use Rattle.std.specs.Prelude.{slice_get, slice_index, is_none, zip}
 use Rattle.std.specs.List.{AllByRecursion}
 use Rattle.std.proofs.lemmas.List.{length-map}
 use Rattle.std.proofs.lemmas.List.Sums.{count_by-le-length}
-use Rattle.us_slots.specs.Times.{minislot_ticks}
 use Rattle.us_flows.specs.declared.channels.Channel.{Channel}
 use Rattle.us_flows.specs.Tables.{Tables, map_len}
-use Rattle.us_flows.specs.Lawful.{AreApart, AreTables, IsChannel}
+use Rattle.us_flows.specs.Lawful.{AreApart, AreTables}
 use Rattle.us_holes.specs.Boards.{Holder, free_count}
 use Rattle.us_split.specs.Plans.{IsIdle}
 use Rattle.us_calendar.specs.Calendars.{Calendar, pace_of}
-use Rattle.us_channel.specs.Channels.{Filled, fill, HasFewTicks}
+use Rattle.us_channel.specs.Channels.{Filled, fill}
 use Rattle.us_round.specs.Rounds.{filled, idle}
 use Rattle.us_round.specs.Cores.{AreCalendars, IsFilledFor}
 
@@ -49,21 +48,6 @@ channels_in P (f ∷ fs) h = (h.0, channels_in P fs h.1)
 pub filled_all : (P : Channel → Type 0) (t : Tables) (round : ℕ) (cs : List Calendar) → AreCalendars t round cs →
     AllByRecursion P t.channels → AllByRecursion (λ f. P f.channel) (filled t round cs)
 filled_all P t round cs are h = channels_in P (filled t round cs) (rw (filled_channels t round cs are) h)
-
-ticks_in : (t : Tables) (fs : List Filled) → t.round_ticks ≤ 4096 →
-    AllByRecursion (λ f. IsChannel t f.channel) fs → AllByRecursion (IsFilledFor t) fs → AllByRecursion HasFewTicks fs
-ticks_in t [] few lawful sound = tt
-ticks_in t (f ∷ fs) few lawful sound =
-    let whole : map_len t f.channel * minislot_ticks f.channel.bursts.time ≡ t.round_ticks = lawful.0.whole in
-    (rw sound.0.len (omega (arith, whole)), ticks_in t fs few lawful.1 sound.1)
-
-pub filled_ticks : (t : Tables) (round : ℕ) (cs : List Calendar) (fs : List Filled) → AreTables t →
-    AreCalendars t round cs → fs ≡ filled t round cs → AllByRecursion (IsFilledFor t) fs →
-    AllByRecursion HasFewTicks fs
-filled_ticks t round cs fs lawful are is sound =
-    ticks_in t fs lawful.round_ticks.1
-    (subst (λ fs. AllByRecursion (λ f. IsChannel t f.channel) fs) (sym is)
-    (filled_all (IsChannel t) t round cs are lawful.channels)) sound
 
 free_few : (cells : List (Option Holder)) → free_count cells ≤ length cells
 free_few cells = count_by-le-length is_none cells

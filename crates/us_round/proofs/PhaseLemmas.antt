@@ -1,9 +1,8 @@
--- Channels that are moved to workers and back: which may be, what reserves and calendars make of them, and what is
--- answered for all of them.
-use Rattle.std.proofs.Common.{◌≡◌, ℕ, ◌+◌, ◌*◌, ◌<◌, ◌≤◌, suc, List, [], ◌∷◌, ◌++◌, length, get_or, append_assoc, map, Result, Ok, Err, IfOk, refl, ap, sym, subst, ◌∙◌, arith}
-use Rattle.std.specs.Prelude.{zip, sum_by}
+-- The channels of a round, which those who do its phases are given and answer: which may be done, and what reserves and
+-- calendars make of them.
+use Rattle.std.proofs.Common.{◌≡◌, ℕ, zero, suc, ◌+◌, ◌*◌, ◌<◌, ◌≤◌, List, [], ◌∷◌, ◌++◌, length, take, drop, set, get_or, map, refl, ap, sym, subst, ◌∙◌, arith}
+use Rattle.std.specs.Prelude.{zip, sum_by, slice_get, Some}
 use Rattle.std.specs.List.{AllByRecursion}
-use Rattle.std.proofs.lemmas.List.{length-append}
 use Rattle.std.proofs.lemmas.List.Sums.{sum_by-cons}
 use Rattle.us_flows.specs.declared.channels.Channel.{Channel}
 use Rattle.us_flows.specs.Tables.{Tables, map_len, max_run_ticks}
@@ -14,9 +13,9 @@ use Rattle.us_calendar.specs.Calendars.{Calendar, StartsInside, pace_of, ran, se
 use Rattle.us_calendar.proofs.FitLaws.{grants_fit}
 use Rattle.us_calendar.proofs.RunLaws.{run_ended}
 use Rattle.us_crew.specs.Items.{AreAccepted}
-use Rattle.us_crew.specs.Values.{values_from}
+use Rattle.us_crew.specs.Values.{values_from, values_of}
 use Rattle.us_channel.specs.Reserves.{reserves}
-use Rattle.us_channel.specs.Channels.{Filled, fill}
+use Rattle.us_channel.specs.Channels.{Filled, Built, fill}
 use Rattle.us_round.specs.Rounds.{filled}
 use Rattle.us_round.specs.Cores.{AreCalendars, IsFilledFor, IsReady, settled_now, settled_then}
 use Rattle.us_round.proofs.FillLemmas.{calendars_long}
@@ -36,49 +35,72 @@ pub values_are : {T R : Type 0} (value : T → R) (first : ℕ) (items : List T)
 values_are value first [] = refl
 values_are value first (item ∷ items) = ap (λ more. value item ∷ more) (values_are value (first + 1) items)
 
--- what is known of what workers answered is known of what is answered
-pub answered_so : {A E F : Type 0} (P : A → Type 0) (answered : Result A E) (result : Result A F) →
-    IfOk result (λ all. answered ≡ Ok all) → IfOk answered P → IfOk result P
-answered_so P answered (Ok all) is holds = subst (λ r. IfOk r P) is holds
-answered_so P answered (Err fault) is holds = tt
+-- Items that are done where they stand: as far as a place values, and items behind them.
 
-pub zip_none : {X Y : Type 0} (xs : List X) → (none : List Y) → none ≡ [] → zip xs none ≡ []
-zip_none [] none is = refl
-zip_none (x ∷ xs) none is = rw is refl
+abbrev pub done_to : {T : Type 0} → (ℕ → T → T) → ℕ → List T → List T
+done_to value place items = take place (values_of value items) ++ drop place items
+
+values_long : {T R : Type 0} (value : ℕ → T → R) (first : ℕ) (items : List T) →
+    length (values_from value first items) ≡ length items
+values_long value first [] = refl
+values_long value first (item ∷ items) = ap (λ n. suc n) (values_long value (first + 1) items)
+
+mixed_get : {T : Type 0} (n : ℕ) (vs xs : List T) (x : T) → length vs ≡ length xs → n < length xs →
+    x ≡ get_or (take n vs ++ drop n xs) n x → slice_get xs n ≡ Some x
+mixed_get n vs [] x same inside is = absurd (omega (arith, inside))
+mixed_get zero vs (y ∷ xs) x same inside is = ap (λ y. Some y) (sym is)
+mixed_get (suc n) [] (y ∷ xs) x same inside is = absurd (omega (arith, same))
+mixed_get (suc n) (v ∷ vs) (y ∷ xs) x same inside is =
+    mixed_get n vs xs x (omega (arith, same)) (omega (arith, inside)) is
+
+mixed_set : {T : Type 0} (value : ℕ → T → T) (first n : ℕ) (xs : List T) (x v : T) → slice_get xs n ≡ Some x →
+    v ≡ value (first + n) x →
+    set (take n (values_from value first xs) ++ drop n xs) n v ≡ take (suc n) (values_from value first xs) ++ drop (suc n) xs
+mixed_set value first n [] x v at is = absurd (cc at)
+mixed_set value first zero (y ∷ xs) x v at is =
+    let own : first + 0 ≡ first = omega arith in
+    let here : y ≡ x = cc in
+    ap (λ v. v ∷ xs) (is ∙ ap (λ k. value k x) own ∙ ap (λ x. value first x) (sym here))
+mixed_set value first (suc n) (y ∷ xs) x v at is =
+    let next : first + suc n ≡ first + 1 + n = omega arith in
+    ap (λ more. value first y ∷ more) (mixed_set value (first + 1) n xs x v at (is ∙ ap (λ k. value k x) next))
+
+-- the item at the place that is next
+pub next_at : {T : Type 0} (value : ℕ → T → T) (place : ℕ) (items now : List T) (x : T) → now ≡ done_to value place items →
+    place < length items → x ≡ get_or now place x → slice_get items place ≡ Some x
+next_at value place items now x is inside at =
+    mixed_get place (values_of value items) items x (values_long value 0 items) inside
+    (at ∙ ap (λ xs. get_or xs place x) is)
+
+-- one more is done,
+pub done_more : {T : Type 0} (value : ℕ → T → T) (place : ℕ) (items now : List T) (x v : T) → now ≡ done_to value place items →
+    slice_get items place ≡ Some x → v ≡ value place x → set now place v ≡ done_to value (place + 1) items
+done_more value place items now x v is at made =
+    let next : suc place ≡ place + 1 = omega arith in
+    let own : place ≡ 0 + place = omega arith in
+    ap (λ xs. set xs place v) is ∙ mixed_set value 0 place items x v at (made ∙ ap (λ k. value k x) own) ∙ ap (λ n. done_to value n items) next
+
+behind : {T : Type 0} (n : ℕ) (vs xs : List T) → length vs ≡ length xs → length xs ≤ n → take n vs ++ drop n xs ≡ vs
+behind zero [] [] same end = refl
+behind zero [] (x ∷ xs) same end = absurd (omega (arith, end))
+behind zero (v ∷ vs) [] same end = absurd (omega (arith, same))
+behind zero (v ∷ vs) (x ∷ xs) same end = absurd (omega (arith, end))
+behind (suc n) [] [] same end = refl
+behind (suc n) [] (x ∷ xs) same end = absurd (omega (arith, same))
+behind (suc n) (v ∷ vs) [] same end = absurd (omega (arith, same))
+behind (suc n) (v ∷ vs) (x ∷ xs) same end =
+    ap (λ more. v ∷ more) (behind n vs xs (omega (arith, same)) (omega (arith, end)))
+
+-- and all are
+pub done_all : {T : Type 0} (value : ℕ → T → T) (place : ℕ) (items now : List T) → now ≡ done_to value place items →
+    length items ≤ place → now ≡ values_of value items
+done_all value place items now is end = is ∙ behind place (values_of value items) items (values_long value 0 items) end
 
 pub zip_long : {X Y : Type 0} (xs : List X) (ys : List Y) → length ys ≤ length xs → length (zip xs ys) ≡ length ys
 zip_long [] [] few = refl
 zip_long [] (y ∷ ys) few = absurd (omega (arith, few))
 zip_long (x ∷ xs) [] few = refl
 zip_long (x ∷ xs) (y ∷ ys) few = ap (λ n. suc n) (zip_long xs ys (omega (arith, few)))
-
-zip_more : {X Y : Type 0} (xs : List X) (ys : List Y) (x : X) (y : Y) → length ys < length xs →
-    x ≡ get_or xs (length ys) x → zip xs (ys ++ y ∷ []) ≡ zip xs ys ++ (x, y) ∷ []
-zip_more [] ys x y inside is = absurd (omega (arith, inside))
-zip_more (z ∷ xs) [] x y inside is = ap (λ z. (z, y) ∷ zip xs []) (sym is) ∙ ap (λ more. (x, y) ∷ more) (zip_none xs [] refl)
-zip_more (z ∷ xs) (w ∷ ys) x y inside is = ap (λ more. (z, w) ∷ more) (zip_more xs ys x y (omega (arith, inside)) is)
-
--- where an item is left, what it is paired with is too
-pub pair_left : {X Y : Type 0} (xs : List X) (done : List Y) (y : Y) (left rest all : List Y) → length all ≡ length xs →
-    done ++ left ≡ all → left ≡ y ∷ rest → (length done < length xs) × (length (zip xs done) ≡ length done)
-pair_left xs done y left rest all same parts is =
-    let long : length done + length left ≡ length xs =
-    sym (length-append done left) ∙ ap (λ ys. length ys) parts ∙ same in
-    let some : length left ≡ suc (length rest) = ap (λ ys. length ys) is in
-    let below : length done < length xs = omega (arith, long, some) in
-    (below, zip_long xs done (omega (arith, below)))
-
--- one more pair
-pub pair_more : {X Y : Type 0} (xs : List X) (done : List Y) (x : X) (y : Y) (left rest all : List Y) (place : ℕ)
-    (pairs new : List (X × Y)) → length all ≡ length xs → done ++ left ≡ all → left ≡ y ∷ rest → pairs ≡ zip xs done →
-    place ≡ length pairs → x ≡ get_or xs place x → new ≡ pairs ++ (x, y) ∷ [] →
-    (new ≡ zip xs (done ++ y ∷ [])) × ((done ++ y ∷ []) ++ rest ≡ all)
-pair_more xs done x y left rest all place pairs new same parts is so_far here at put =
-    let known = pair_left xs done y left rest all same parts is in
-    let place_is : place ≡ length done = here ∙ ap (λ ps. length ps) so_far ∙ known.1 in (
-      put ∙ ap (λ ps. ps ++ (x, y) ∷ []) so_far ∙ sym (zip_more xs done x y known.0 (at ∙ ap (λ n. get_or xs n x) place_is)),
-      append_assoc done (y ∷ []) rest ∙ ap (λ more. done ++ more) (sym is) ∙ parts,
-    )
 
 -- Calendars.
 
@@ -110,26 +132,24 @@ all_sound t round (c ∷ channels) (calendar ∷ cs) lawful paces =
     let first : calendar.pace ≡ pace_of t c = cc in
     (fill_sound t round c calendar lawful.0 first, all_sound t round channels cs lawful.1 rest)
 
-all_ready : (t : Tables) (round : ℕ) (channels : List Channel) (cs : List Calendar) →
-    (round + 1) * t.round_ticks ≤ max_run_ticks → AllByRecursion (IsChannel t) channels →
-    map (λ calendar. calendar.pace) cs ≡ map (pace_of t) channels →
-    AllByRecursion (λ calendar. calendar.next_round ≡ round) cs → AllByRecursion (IsReady t round) (zip channels cs)
-all_ready t round [] cs time lawful paces rounds = tt
-all_ready t round (c ∷ channels) [] time lawful paces rounds = tt
-all_ready t round (c ∷ channels) (calendar ∷ cs) time lawful paces rounds =
-    let both : calendar.pace ∷ map (λ calendar. calendar.pace) cs ≡ pace_of t c ∷ map (pace_of t) channels = paces in
-    let rest : map (λ calendar. calendar.pace) cs ≡ map (pace_of t) channels = cc in
-    let first : calendar.pace ≡ pace_of t c = cc in (
+-- channels of the tables, each with its calendar, are ready for the round
+pub all_ready : (t : Tables) (round : ℕ) (bs : List Built) → (round + 1) * t.round_ticks ≤ max_run_ticks →
+    AllByRecursion (IsChannel t) (map (λ b. b.channel) bs) →
+    map (λ calendar. calendar.pace) (map (λ b. b.calendar) bs) ≡ map (pace_of t) (map (λ b. b.channel) bs) →
+    AllByRecursion (λ calendar. calendar.next_round ≡ round) (map (λ b. b.calendar) bs) →
+    AllByRecursion (IsReady t round) bs
+all_ready t round [] time lawful paces rounds = tt
+all_ready t round (b ∷ bs) time lawful paces rounds =
+    let both : b.calendar.pace ∷ map (λ calendar. calendar.pace) (map (λ (b : Built). b.calendar) bs)
+    ≡ pace_of t b.channel ∷ map (pace_of t) (map (λ (b : Built). b.channel) bs) = paces in
+    let rest : map (λ calendar. calendar.pace) (map (λ (b : Built). b.calendar) bs)
+    ≡ map (pace_of t) (map (λ (b : Built). b.channel) bs) = cc in
+    let first : b.calendar.pace ≡ pace_of t b.channel = cc in (
       record { channel = lawful.0; pace = first; next = rounds.0; time = time },
-      all_ready t round channels cs time lawful.1 rest rounds.1,
+      all_ready t round bs time lawful.1 rest rounds.1,
     )
 
--- each channel with its calendar is ready for the round
-pub calendars_ready : (t : Tables) (round : ℕ) (cs : List Calendar) → (round + 1) * t.round_ticks ≤ max_run_ticks →
-    AreTables t → AreCalendars t round cs → AllByRecursion (IsReady t round) (zip t.channels cs)
-calendars_ready t round cs time lawful are = all_ready t round t.channels cs time lawful.channels are.paces are.rounds
-
--- and is sound after it, whatever the time is
+-- and are sound after it, whatever the time is
 pub filled_sound : (t : Tables) (round : ℕ) (cs : List Calendar) → AreTables t → AreCalendars t round cs →
     AllByRecursion (IsFilledFor t) (filled t round cs)
 filled_sound t round cs lawful are = all_sound t round t.channels cs lawful.channels are.paces

@@ -44,7 +44,15 @@ calendars_in s is = record { paces = is.paces; rounds = is.rounds }
 -- leaves one,
 pub next_state : (s : State) → IsState s → IsState (credited s (builds_of s))
 next_state s is =
-    let core : Core = record { tables = s.tables; round = s.round; outstanding = s.outstanding; buckets = s.buckets } in
+    let core : Core = record {
+      tables = s.tables;
+      round = s.round;
+      told = 0;
+      outstanding = s.outstanding;
+      buckets = s.buckets;
+      pending = [];
+      claims = [];
+    } in
     state_next core s.calendars (builds_of s) (record { clusters = is.clusters; flows = is.flows }) (calendars_in s is) refl
 
 -- has no more idle minislots than its MAPs have,

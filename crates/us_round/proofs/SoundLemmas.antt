@@ -21,9 +21,9 @@ use Rattle.us_split.specs.Claims.{Claim, Claimant, claimant_of, claim_at, claims
 use Rattle.us_crew.specs.Values.{values_from}
 use Rattle.us_split.specs.PlanLaws.{IsLawfulPlan, planned_bytes}
 use Rattle.us_channel.specs.Placements.{PlacedClaim, Spot, spot, grant_at, grants_of, with_grant, assignments, credits}
-use Rattle.us_channel.specs.Channels.{Filled, build_on}
+use Rattle.us_channel.specs.Channels.{Filled, Built, build_on, ungranted, filled_part}
 use Rattle.us_round.specs.Rounds.{State, idle, fills_of, build_planned, builds_of, round_plan, all_grants, is_of_flow}
-use Rattle.us_round.specs.Stages.{AreClaimsOn, built_by}
+use Rattle.us_round.specs.Parts.{AreClaimsOn, built_by}
 use Rattle.us_output.specs.Leftovers.{StartsInside, IsBuiltFor, AreInside}
 use Rattle.us_round.specs.States.{IsKnown, AreSound}
 use Rattle.us_round.specs.Cores.{AreCalendars, IsFilledFor}
@@ -198,7 +198,8 @@ turns_planned s =
 -- the channel at each place of the table places the claims that the plan has there
 built_from : (plan : List Planned) (all before : List (List Claim)) (place : ℕ) (fs : List Filled) →
     all ≡ before ++ map (λ c. claims_on c plan) (map (λ f. f.channel) fs) → place ≡ length before →
-    values_from (λ place f. build_on (slice_index_or all place []) f) place fs ≡ map (build_planned plan) fs
+    values_from (λ place b. build_on (slice_index_or all place []) (filled_part b)) place (map ungranted fs)
+    ≡ map (build_planned plan) fs
 unfolding build_planned
 built_from plan all before place [] is at = refl
 built_from plan all before place (f ∷ fs) is at =
@@ -215,27 +216,27 @@ built_from plan all before place (f ∷ fs) is at =
     get-behind [] own rest = refl
     get-behind (x ∷ before) own rest = get-behind before own rest
 
-pub builds_are : (s : State) (plan : List (List Claim)) (fs : List Filled) →
-    AreCalendars s.tables s.round s.calendars → plan ≡ all_claims s.tables (round_plan s) → fs ≡ fills_of s →
-    built_by plan fs ≡ builds_of s
+pub builds_are : (s : State) (plan : List (List Claim)) (bs : List Built) →
+    AreCalendars s.tables s.round s.calendars → plan ≡ all_claims s.tables (round_plan s) →
+    bs ≡ map ungranted (fills_of s) → built_by plan bs ≡ builds_of s
 unfolding builds_of
-builds_are s plan fs are is those =
+builds_are s plan bs are is those =
     let channels : map (λ f. f.channel) (fills_of s) ≡ s.tables.channels =
     filled_channels s.tables s.round s.calendars are in
     let all : plan ≡ map (λ c. claims_on c (round_plan s)) (map (λ f. f.channel) (fills_of s)) =
     is ∙ ap (λ cs. map (λ c. claims_on c (round_plan s)) cs) (sym channels) in
-    ap (λ fs. built_by plan fs) those ∙ built_from (round_plan s) plan [] 0 (fills_of s) all refl
+    ap (λ bs. built_by plan bs) those ∙ built_from (round_plan s) plan [] 0 (fills_of s) all refl
 
 -- which can be placed there
-pub claims_for : (t : Tables) (plan : List Planned) (all : List (List Claim)) (fs : List Filled) →
-    all ≡ all_claims t plan → map (λ f. f.channel) fs ≡ t.channels → AreClaims t plan → AreClaimsOn all fs
-claims_for t plan all fs is channels are place f at =
-    let here : slice_get t.channels place ≡ Some f.channel =
-    ap (λ cs. slice_get cs place) (sym channels) ∙ slice_get-map (λ (f : Filled). f.channel) fs place ∙
-    ap (λ found. option_map (λ (f : Filled). f.channel) found) at in
-    let own : slice_index_or all place [] ≡ claims_on f.channel plan =
+pub claims_for : (t : Tables) (plan : List Planned) (all : List (List Claim)) (bs : List Built) →
+    all ≡ all_claims t plan → map (λ b. b.channel) bs ≡ t.channels → AreClaims t plan → AreClaimsOn all bs
+claims_for t plan all bs is channels are place b at =
+    let here : slice_get t.channels place ≡ Some b.channel =
+    ap (λ cs. slice_get cs place) (sym channels) ∙ slice_get-map (λ (b : Built). b.channel) bs place ∙
+    ap (λ found. option_map (λ (b : Built). b.channel) found) at in
+    let own : slice_index_or all place [] ≡ claims_on b.channel plan =
     ap (λ xs. slice_index_or xs place []) is ∙
-    get_or_from_slice_get (all_claims t plan) place (claims_on f.channel plan) []
+    get_or_from_slice_get (all_claims t plan) place (claims_on b.channel plan) []
     (slice_get-map (λ c. claims_on c plan) t.channels place ∙ ap (option_map (λ c. claims_on c plan)) here) in
-    subst (AllByRecursion (IsClaimOn f.channel)) (sym own)
-    (all_found (λ c. AllByRecursion (IsClaimOn c) (claims_on c plan)) t.channels place f.channel are.each here)
+    subst (AllByRecursion (IsClaimOn b.channel)) (sym own)
+    (all_found (λ c. AllByRecursion (IsClaimOn c) (claims_on c plan)) t.channels place b.channel are.each here)

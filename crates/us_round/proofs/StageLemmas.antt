@@ -1,165 +1,242 @@
 -- From stage to stage of a round.
-use Rattle.std.proofs.Common.{◌≡◌, ℕ, ◌+◌, ◌*◌, ◌≤◌, List, Option, length, map, ap, sym, subst, ◌∙◌}
-use Rattle.std.specs.Prelude.{sum_by, zip}
+use Rattle.std.proofs.Common.{◌≡◌, ℕ, ◌+◌, ◌*◌, ◌≤◌, List, [], ◌∷◌, length, map, refl, ap, ap₂, sym, subst, ◌∙◌, arith}
+use Rattle.std.specs.Prelude.{zip, filter_map, ◌-◌}
 use Rattle.std.specs.List.{AllByRecursion}
-use Rattle.us_flows.specs.declared.channels.Channel.{Channel}
 use Rattle.us_flows.specs.Tables.{Tables, max_run_ticks}
-use Rattle.us_flows.specs.Lawful.{AreTables}
+use Rattle.us_flows.specs.Clusters.{clusters_of, turns_of}
+use Rattle.us_flows.specs.Lawful.{AreTables, IsChannel}
 use Rattle.us_bucket.specs.Levels.{bytes_in}
-use Rattle.us_calendar.specs.Calendars.{Calendar, settled_in}
+use Rattle.us_calendar.specs.Calendars.{pace_of}
+use Rattle.us_holes.specs.Boards.{free_count}
 use Rattle.us_split.specs.Plans.{IsIdle, plan_for}
-use Rattle.us_split.specs.PlanLaws.{IsLawfulPlan}
-use Rattle.us_split.specs.Claims.{Claim, AreClaims, all_claims}
-use Rattle.us_channel.specs.Channels.{Filled, Built, HasFewTicks}
-use Rattle.us_round.specs.Rounds.{State, begun, filled, fills_of, idle, round_plan, builds_of}
-use Rattle.us_output.specs.Outputs.{RoundOut, out_of, AreWithinLimits}
-use Rattle.us_round.specs.States.{AreSound, settled_by}
-use Rattle.us_round.specs.Cores.{Core, IsCore, AreCalendars, AreCounted, IsFilledFor, IsReady, begun_core, credited_core, plan_over, scheduled_of, settled_now, settled_then, with_calendars}
-use Rattle.us_round.specs.Stages.{IsBegun, AreFilled, IsPlanned, AreClaimsOn, built_by, AreBuilt, IsOver, IsOverFor}
-use Rattle.us_round.proofs.FillLemmas.{calendars_long, filled_channels, filled_idle, filled_ticks}
-use Rattle.us_round.proofs.PhaseLemmas.{calendars_ready, filled_sound, filled_counted}
-use Rattle.us_round.proofs.SoundLemmas.{sound, turns_planned, builds_are, claims_for}
-use Rattle.us_round.proofs.CalendarLemmas.{counted}
-use Rattle.us_round.proofs.RoundLemmas.{run_state, run_out, run_limits, run_few}
+use Rattle.us_split.specs.Claims.{Claim, all_claims}
+use Rattle.us_split.proofs.ClaimLemmas.{plan_for-claims}
+use Rattle.us_channel.specs.Channels.{Filled, Built, IsBuilt, fill, ungranted}
+use Rattle.us_output.specs.Outputs.{RoundOut, Scheduled, out_of, AreWithinLimits}
+use Rattle.us_output.specs.Leftovers.{still_asking, told}
+use Rattle.us_round.specs.Rounds.{State, RoundResult, begun, fills_of, idle, round_plan, builds_of, credited, round_from, round_of}
+use Rattle.us_round.specs.States.{IsState, AreSound, settled_by}
+use Rattle.us_round.specs.Cores.{Core, IsReady, begun_core, credited_core, first_sid_at, idle_of, plan_over, planned_core}
+use Rattle.us_round.specs.Parts.{ArePartsDone, ArePartsOfRound, ArePartsOfState, AreBuilt, AreClaimsOn, built_by, done_by, done_of, filled_by, state_of}
+use Rattle.us_round.proofs.AskingLemmas.{pendings_are}
+use Rattle.us_round.proofs.FillLemmas.{filled_channels}
+use Rattle.us_round.proofs.PhaseLemmas.{all_ready}
+use Rattle.us_round.proofs.SoundLemmas.{builds_are, claims_for}
+use Rattle.us_round.proofs.CalendarLemmas.{settled_few}
+use Rattle.us_round.proofs.ScheduleLaws.{begun_state, calendars_in, next_state, state_idle, state_sound}
+use Rattle.us_round.proofs.ChannelRunLaws.{channels_stay}
+use Rattle.us_round.proofs.RoundLemmas.{run_state, run_scheduled, run_few}
 
 -- The beginning.
 
-pub begun_as : (s : State) (cut : List ℕ) (old core : Core) (before : List ℕ) (cs : List Calendar) →
-    with_calendars old cs ≡ s → core ≡ begun_core old cut → before ≡ core.outstanding → AreTables old.tables →
-    AreCalendars s.tables s.round cs → IsBegun (begun s cut) core before cs
-begun_as s cut old core before cs parts is was lawful are = record {
-  value = ap (λ k. with_calendars k cs) is ∙ ap (λ s. begun s cut) parts;
-  told = was;
-  lawful = subst (λ k. AreTables k.tables) (sym is) lawful;
-  calendars = subst (λ k. AreCalendars k.tables k.round cs) (sym is)
-      (subst (λ s. AreCalendars s.tables s.round cs) (sym parts) are);
+pub begun_parts : (old : Core) (bs : List Built) (cut : List ℕ) → ArePartsOfState old bs → AreTables old.tables →
+    length cut ≡ length (clusters_of old.tables) → ArePartsOfRound (begun_core old cut) bs
+begun_parts old bs cut are lawful long = record {
+  state = begun_state (state_of old bs) cut are.state long;
+  channels = are.channels;
+  told = refl;
+  lawful = lawful;
 }
 
-pub begun_time : (s : State) (core : Core) (before : List ℕ) (cs : List Calendar) → IsBegun s core before cs →
-    (s.round + 1) * s.tables.round_ticks ≤ max_run_ticks → (core.round + 1) * core.tables.round_ticks ≤ max_run_ticks
-begun_time s core before cs is time =
-    subst (λ s. (s.round + 1) * s.tables.round_ticks ≤ max_run_ticks) (sym is.value) time
+-- Reserves and calendars.
 
--- Reserves and calendars, of these tables and in this round.
+pub parts_ready : (core : Core) (bs : List Built) → ArePartsOfRound core bs →
+    (core.round + 1) * core.tables.round_ticks ≤ max_run_ticks → AllByRecursion (IsReady core.tables core.round) bs
+parts_ready core bs are time =
+    all_ready core.tables core.round bs time
+    (subst (λ cs. AllByRecursion (IsChannel core.tables) cs) (sym are.channels) are.lawful.channels)
+    (are.state.paces ∙ ap (λ cs. map (pace_of core.tables) cs) (sym are.channels)) are.state.rounds
 
-pub channels_for : (core : Core) (cs : List Calendar) (t : Tables) → t ≡ core.tables →
-    AreCalendars core.tables core.round cs → length cs ≡ length t.channels
-channels_for core cs t same are =
-    subst (λ u. length cs ≡ length u.channels) (sym same) (calendars_long core.tables core.round cs are)
+fills_parts : (t : Tables) (round : ℕ) (bs : List Built) →
+    map (λ b. ungranted (fill t round b.channel b.calendar)) bs
+    ≡ map ungranted (map (λ pair. fill t round pair.0 pair.1) (zip (map (λ b. b.channel) bs) (map (λ b. b.calendar) bs)))
+fills_parts t round [] = refl
+fills_parts t round (b ∷ bs) = ap (λ more. ungranted (fill t round b.channel b.calendar) ∷ more) (fills_parts t round bs)
 
-pub ready_as : (core : Core) (cs : List Calendar) (t : Tables) (round : ℕ) (items : List (Channel × Calendar)) →
-    t ≡ core.tables → round ≡ core.round → (core.round + 1) * core.tables.round_ticks ≤ max_run_ticks → AreTables t →
-    AreCalendars core.tables core.round cs → items ≡ zip t.channels cs → AllByRecursion (IsReady t round) items
-ready_as core cs t round items same number time lawful are is =
-    subst (λ xs. AllByRecursion (IsReady t round) xs) (sym is)
-    (subst (λ u. AllByRecursion (IsReady u round) (zip u.channels cs)) (sym same)
-    (subst (λ n. AllByRecursion (IsReady core.tables n) (zip core.tables.channels cs)) (sym number)
-    (calendars_ready core.tables core.round cs time (subst (λ u. AreTables u) same lawful) are)))
-
-pub filled_as : (core : Core) (cs : List Calendar) (t : Tables) (round : ℕ) (fs : List Filled) →
-    t ≡ core.tables → round ≡ core.round → AreTables t → AreCalendars core.tables core.round cs → fs ≡ filled t round cs →
-    AreFilled core cs fs
-filled_as core cs t round fs same number lawful are is =
-    let all : fs ≡ filled core.tables core.round cs =
-    is ∙ ap (λ u. filled u round cs) same ∙ ap (λ n. filled core.tables n cs) number in
-    record {
-      value = all;
-      sound = subst (λ fs. AllByRecursion (IsFilledFor core.tables) fs) (sym all)
-          (filled_sound core.tables core.round cs (subst (λ u. AreTables u) same lawful) are);
-      counts = subst (λ fs. settled_now fs + sum_by settled_in cs ≡ settled_then fs) (sym all)
-          (filled_counted core.tables core.round cs are);
-    }
+-- these are the channels of the state
+fills_are : (core : Core) (bs : List Built) → ArePartsOfRound core bs →
+    filled_by core bs ≡ map ungranted (fills_of (state_of core bs))
+fills_are core bs are =
+    fills_parts core.tables core.round bs
+    ∙ ap (λ cs. map ungranted (map (λ pair. fill core.tables core.round pair.0 pair.1) (zip cs (map (λ b. b.calendar) bs))))
+    are.channels
 
 -- The plan.
 
-pub room_as : (core : Core) (cs : List Calendar) (fs told : List Filled) → AreCalendars core.tables core.round cs →
-    AreFilled core cs fs → told ≡ fs → IsIdle core.tables (idle told)
-room_as core cs fs told are all is =
-    subst (λ fs. IsIdle core.tables (idle fs)) (sym is)
-    (filled_idle core.tables core.round cs fs are all.value all.sound)
+idle_parts : (fs : List Filled) → idle_of (map ungranted fs) ≡ idle fs
+idle_parts [] = refl
+idle_parts (f ∷ fs) = ap (λ more. free_count f.board.cells ∷ more) (idle_parts fs)
 
--- the plan of these tables, outstanding, allowances and idle minislots
-abbrev IsPlanOf : List (List Claim) → Tables → List ℕ → List (Option ℕ) → List ℕ → Type 0
-IsPlanOf plan t outstanding most free =
-    (plan ≡ all_claims t (plan_for t outstanding most free)) × IsLawfulPlan t outstanding most free (plan_for t outstanding most free)
-    × AreClaims t (plan_for t outstanding most free) × AreTables t
+filled_idle : (core : Core) (bs : List Built) → ArePartsOfRound core bs →
+    idle_of (filled_by core bs) ≡ idle (fills_of (state_of core bs))
+filled_idle core bs are = ap (λ bs. idle_of bs) (fills_are core bs are) ∙ idle_parts (fills_of (state_of core bs))
 
-pub planned_as : (core : Core) (fs : List Filled) (t : Tables) (outstanding : List ℕ) (most : List (Option ℕ)) (free : List ℕ)
-    (plan : List (List Claim)) → IsCore core → t ≡ core.tables → outstanding ≡ core.outstanding → most ≡ map bytes_in core.buckets →
-    free ≡ idle fs → IsPlanOf plan t outstanding most free → IsPlanned core fs plan
-planned_as core fs t outstanding most free plan known same was allowed left is =
-    let made : IsPlanOf plan core.tables core.outstanding (map bytes_in core.buckets) (idle fs) =
-    subst (λ xs. IsPlanOf plan core.tables core.outstanding (map bytes_in core.buckets) xs) left
-    (subst (λ ms. IsPlanOf plan core.tables core.outstanding ms free) allowed
-    (subst (λ ds. IsPlanOf plan core.tables ds most free) was
-    (subst (λ u. IsPlanOf plan u outstanding most free) same is))) in
-    record { known = known; value = made.0; law = made.1; claims = made.2; lawful = made.3 }
+pub room_as : (core : Core) (bs : List Built) → ArePartsOfRound core bs → IsIdle core.tables (idle_of (filled_by core bs))
+room_as core bs are =
+    subst (λ free. IsIdle core.tables free) (sym (filled_idle core bs are)) (state_idle (state_of core bs) are.lawful are.state)
+
+plan_as : (core : Core) (bs : List Built) → ArePartsOfRound core bs →
+    plan_over core (filled_by core bs) ≡ round_plan (state_of core bs)
+plan_as core bs are =
+    ap (λ free. plan_for core.tables core.outstanding (map bytes_in core.buckets) free) (filled_idle core bs are)
+
+-- the parts are those of the round still
+planned_parts : (core : Core) (old bs : List Built) → ArePartsOfRound core old → ArePartsOfRound (planned_core core bs) old
+planned_parts core old bs are =
+    record { state = are.state; channels = are.channels; told = are.told; lawful = are.lawful }
 
 -- Claims.
 
-pub claims_as : (core : Core) (cs : List Calendar) (fs told : List Filled) (plan : List (List Claim)) →
-    AreCalendars core.tables core.round cs → AreFilled core cs fs → told ≡ fs → IsPlanned core told plan →
-    AreClaimsOn plan fs
-claims_as core cs fs told plan are all is planned =
-    let channels : map (λ f. f.channel) fs ≡ core.tables.channels =
-    ap (λ fs. map (λ (f : Filled). f.channel) fs) all.value ∙ filled_channels core.tables core.round cs are in
-    claims_for core.tables (plan_over core told) plan fs planned.value channels planned.claims
+channels_kept : (fs : List Filled) → map (λ b. b.channel) (map ungranted fs) ≡ map (λ f. f.channel) fs
+channels_kept [] = refl
+channels_kept (f ∷ fs) = ap (λ more. f.channel ∷ more) (channels_kept fs)
 
-pub ticks_as : (core : Core) (cs : List Calendar) (fs told : List Filled) (plan : List (List Claim)) →
-    AreCalendars core.tables core.round cs → AreFilled core cs fs → IsPlanned core told plan →
-    AllByRecursion HasFewTicks fs
-ticks_as core cs fs told plan are all planned =
-    filled_ticks core.tables core.round cs fs planned.lawful are all.value all.sound
+pub claims_as : (core : Core) (bs : List Built) (plan : List (List Claim)) → ArePartsOfRound core bs →
+    plan ≡ all_claims core.tables (plan_over core (filled_by core bs)) → AreClaimsOn plan (filled_by core bs)
+claims_as core bs plan are is =
+    let s : State = state_of core bs in
+    let channels : map (λ b. b.channel) (filled_by core bs) ≡ core.tables.channels =
+    ap (λ bs. map (λ (b : Built). b.channel) bs) (fills_are core bs are) ∙ channels_kept (fills_of s)
+    ∙ filled_channels core.tables core.round s.calendars (calendars_in s are.state) in
+    claims_for core.tables (round_plan s) plan (filled_by core bs)
+    (is ∙ ap (λ plan. all_claims core.tables plan) (plan_as core bs are)) channels
+    (plan_for-claims core.tables core.outstanding (map bytes_in core.buckets) (idle (fills_of s)) are.lawful
+    (state_idle s are.lawful are.state))
 
-pub built_as : (core : Core) (cs : List Calendar) (fs told : List Filled) (plan : List (List Claim)) (bs : List Built) →
-    AreCalendars core.tables core.round cs → AreFilled core cs fs → told ≡ fs →
-    IsPlanned core told plan → bs ≡ built_by plan fs → AreBuilt core cs bs
-unfolding builds_of
-built_as core cs fs told plan bs are all is planned made =
-    let s : State = with_calendars core cs in
-    let over : told ≡ fills_of s = is ∙ all.value in
-    let value : bs ≡ builds_of s =
-    made ∙ builds_are s plan fs are (planned.value ∙ ap (λ fs. all_claims core.tables (plan_over core fs)) over) all.value in
-    let law : IsLawfulPlan s.tables s.outstanding (map bytes_in s.buckets) (idle (fills_of s)) (round_plan s) =
-    subst (λ fs. IsLawfulPlan s.tables s.outstanding (map bytes_in s.buckets) (idle fs) (plan_over core fs)) over
-    planned.law in
-    let lens : AllByRecursion (IsFilledFor s.tables) (fills_of s) =
-    subst (λ fs. AllByRecursion (IsFilledFor core.tables) fs) all.value all.sound in
-    let counts : settled_now (fills_of s) + sum_by settled_in cs ≡ settled_then (fills_of s) =
-    subst (λ fs. settled_now fs + sum_by settled_in cs ≡ settled_then fs) all.value all.counts in
-    record {
-      known = planned.known;
-      calendars = are;
-      value = value;
-      sound = subst (λ bs. AreSound s bs) (sym value)
-          (sound s planned.lawful are planned.known.clusters planned.known.flows law (turns_planned s) lens);
-      counts = subst (λ bs. AreCounted cs bs) (sym value) (counted (round_plan s) (fills_of s) cs counts);
-    }
+pub builds_as : (core : Core) (bs : List Built) (plan : List (List Claim)) → ArePartsOfRound core bs →
+    plan ≡ all_claims core.tables (plan_over core (filled_by core bs)) →
+    built_by plan (filled_by core bs) ≡ builds_of (state_of core bs)
+builds_as core bs plan are is =
+    builds_are (state_of core bs) plan (filled_by core bs) (calendars_in (state_of core bs) are.state)
+    (is ∙ ap (λ plan. all_claims core.tables plan) (plan_as core bs are)) (fills_are core bs are)
 
 -- The end.
 
-pub over_as : (core next : Core) (cs left : List Calendar) (round : ℕ) (before : List ℕ) (built told : List Built)
-    (out : RoundOut) (end : State) → AreBuilt core cs built → told ≡ built → next ≡ credited_core core told →
-    round ≡ core.round → before ≡ core.outstanding → out ≡ out_of next.tables (scheduled_of next round before told) →
-    AreWithinLimits next.tables (scheduled_of next round before told) → left ≡ map (λ b. b.calendar) built →
-    end ≡ with_calendars next left → IsOver (with_calendars core cs) end out
-over_as core next cs left round before built told out end all same after number was made within calendars ends =
-    let s : State = with_calendars core cs in
-    let is : told ≡ builds_of s = same ∙ all.value in
-    let those : left ≡ map (λ b. b.calendar) told = calendars ∙ ap (λ bs. map (λ b. b.calendar) bs) (sym same) in
-    let sound : AreSound s (builds_of s) = subst (λ bs. AreSound s bs) all.value all.sound in
-    let outs = run_out core next cs round before told out is after number was made in
-    let limits = run_limits core next cs round before told is after number was within in
+pub built_as : (core : Core) (old bs : List Built) → ArePartsOfRound core old →
+    (core.round + 1) * core.tables.round_ticks ≤ max_run_ticks → bs ≡ builds_of (state_of core old) → AreBuilt core bs
+built_as core old bs are time is =
+    let s : State = state_of core old in
+    let sound : AreSound s bs = subst (λ bs. AreSound s bs) (sym is) (state_sound s are.lawful are.state) in
     record {
-      state = ends ∙ run_state core next cs left told is after those;
-      out = outs;
-      sound = sound;
-      limits = limits;
-      few = subst (λ e. length out.rows + settled_by s ≤ 100 * length s.tables.channels + settled_by e) (sym ends)
-          (run_few core cs left built out all.calendars all.value sound limits all.counts outs calendars);
+      lawful = are.lawful;
+      told = are.told;
+      time = time;
+      covers = sound.covers;
+      boards = sound.boards;
+      inside = sound.inside;
+      next = subst (λ bs. IsState (credited s bs)) (sym is) (next_state s are.state);
+      channels = ap (λ bs. map (λ (b : Built). b.channel) bs) is ∙ channels_stay s are.state;
     }
 
--- what its parts come to, the state does
-pub over_begun : (s next : State) (core : Core) (before : List ℕ) (cs : List Calendar) (built : List Built) (out : RoundOut) →
-    IsBegun s core before cs → AreBuilt core cs built → IsOverFor core built next out → IsOver s next out
-over_begun s next core before cs built out is all over = subst (λ s. IsOver s next out) is.value (over cs all)
+-- what is left are parts of a state again
+done_parts : (core : Core) (bs : List Built) → AreBuilt core bs → AllByRecursion IsBuilt bs →
+    ArePartsDone (credited_core core bs) bs
+done_parts core bs are known = record {
+  parts = record {
+    state = are.next;
+    few = settled_few core.tables bs are.lawful are.channels known;
+    told = omega (arith, are.told);
+    channels = are.channels;
+  };
+  later = omega arith;
+  time = are.time;
+  boards = are.boards;
+  inside = are.inside;
+}
+
+pub next_parts : (core next : Core) (bs : List Built) → AreBuilt core bs → next ≡ credited_core core bs →
+    AllByRecursion IsBuilt bs → ArePartsDone next bs
+next_parts core next bs are is known = subst (λ k. ArePartsDone k bs) (sym is) (done_parts core bs are known)
+
+-- what they leave, by the number that is told
+abbrev done_at : Core → List Built → ℕ → List (ℕ × ℕ) → RoundResult
+done_at core bs n pending = record { state = state_of (credited_core core bs) bs; scheduled = told n bs pending }
+
+-- and tell the round
+pub told_as : (core next : Core) (bs : List Built) (pending : List (ℕ × ℕ)) → next ≡ credited_core core bs →
+    pending ≡ filter_map (first_sid_at next.tables) next.pending → done_by next bs pending ≡ done_of core bs
+told_as core next bs pending is lists =
+    let pendings : pending ≡ filter_map (still_asking core.outstanding (credited_core core bs).outstanding) (turns_of core.tables) =
+    lists ∙ ap (λ (k : Core). filter_map (first_sid_at k.tables) k.pending) is
+    ∙ pendings_are core.tables core.outstanding (credited_core core bs).outstanding in
+    let number : core.round + 1 - 1 ≡ core.round = omega arith in
+    ap (λ k. done_by k bs pending) is ∙ ap (λ n. done_at core bs n pending) number
+    ∙ ap (λ ps. done_at core bs core.round ps) pendings
+
+-- The round.
+
+abbrev result_of : State → Scheduled → RoundResult
+result_of state scheduled = record { state = state; scheduled = scheduled }
+
+pub round_as : (s : State) (core : Core) (old bs : List Built) → state_of core old ≡ s →
+    bs ≡ builds_of (state_of core old) → done_of core bs ≡ round_from s
+unfolding round_from
+round_as s core old bs begins is =
+    ap₂ (λ state scheduled. result_of state scheduled) (run_state core old bs is)
+    (run_scheduled core old bs is)
+    ∙ ap round_from begins
+
+-- its tables are those that it began with
+pub same_tables : (s : State) (cut : List ℕ) → (round_of s cut).state.tables ≡ s.tables
+unfolding round_of round_from
+same_tables s cut = refl
+
+-- and it has few lines
+pub few_as : (s : State) (cut : List ℕ) (core : Core) (bs : List Built) (done : RoundResult) → ArePartsOfRound core bs →
+    state_of core bs ≡ begun s cut → done ≡ round_of s cut → AreWithinLimits s.tables done.scheduled →
+    length (out_of s.tables done.scheduled).rows + settled_by s
+    ≤ 100 * length s.tables.channels + settled_by done.state
+unfolding round_of
+few_as s cut core bs done are begins is limits =
+    subst (λ d. length (out_of s.tables d.scheduled).rows + settled_by s
+    ≤ 100 * length s.tables.channels + settled_by d.state) (sym is)
+    (run_few (begun s cut) (subst (λ b. AreTables b.tables) begins are.lawful) (subst IsState begins are.state)
+    (subst (λ d. AreWithinLimits s.tables d.scheduled) is limits))
+
+pub sound_as : (s : State) (core : Core) (bs : List Built) → ArePartsOfRound core bs → state_of core bs ≡ s →
+    AreSound s (builds_of s)
+sound_as s core bs are begins = subst (λ s. AreSound s (builds_of s)) begins (state_sound (state_of core bs) are.lawful are.state)
+
+-- what it gives tells these
+pub done_few : (s : State) (cut : List ℕ) (done : RoundResult) (next : State) (out : RoundOut) → done ≡ round_of s cut →
+    next ≡ done.state → out ≡ out_of done.state.tables done.scheduled → AreWithinLimits done.state.tables done.scheduled →
+    (AreWithinLimits s.tables done.scheduled → length (out_of s.tables done.scheduled).rows + settled_by s
+    ≤ 100 * length s.tables.channels + settled_by done.state) →
+    length out.rows + settled_by s ≤ 100 * length s.tables.channels + settled_by next
+done_few s cut done next out is ends made limits few =
+    let same : done.state.tables ≡ s.tables = ap (λ (d : RoundResult). d.state.tables) is ∙ same_tables s cut in
+    rw (ends, made, same) (few (subst (λ t. AreWithinLimits t done.scheduled) same limits))
+
+-- Stage after stage, the channels come to those of the state.
+pub built_in_stages : (core second planned third : Core) (old fs those bs : List Built) → ArePartsOfRound core old →
+    second ≡ core → fs ≡ filled_by core old → planned ≡ planned_core second fs → those ≡ fs → third ≡ planned →
+    bs ≡ built_by planned.claims those →
+    (third ≡ planned_core core (filled_by core old)) × (bs ≡ builds_of (state_of core old))
+built_in_stages core second planned third old fs those bs are still fills plans kept same builds =
+    let all : planned ≡ planned_core core (filled_by core old) =
+    plans ∙ ap₂ (λ k fs. planned_core k fs) still fills in
+    let made : planned.claims ≡ all_claims core.tables (plan_over core (filled_by core old)) = ap (λ (k : Core). k.claims) all in
+    (same ∙ all, builds ∙ ap (λ fs. built_by planned.claims fs) (kept ∙ fills) ∙ builds_as core old planned.claims are made)
+
+-- what they leave is the round
+pub stepped_as : (s : State) (cut : List ℕ) (core third : Core) (old bs : List Built) (done : RoundResult) →
+    state_of core old ≡ begun s cut →
+    (third ≡ planned_core core (filled_by core old)) × (bs ≡ builds_of (state_of core old)) →
+    done ≡ done_of third bs → done ≡ round_of s cut
+unfolding round_of
+stepped_as s cut core third old bs done begins stages is =
+    is ∙ ap (λ k. done_of k bs) stages.0 ∙ round_as (begun s cut) core old bs begins stages.1
+
+pub stage_claims : (core second planned : Core) (old fs those : List Built) → ArePartsOfRound core old → second ≡ core →
+    fs ≡ filled_by core old → planned ≡ planned_core second fs → those ≡ fs → AreClaimsOn planned.claims those
+stage_claims core second planned old fs those are still fills plans kept =
+    let made : planned.claims ≡ all_claims core.tables (plan_over core (filled_by core old)) =
+    ap (λ (k : Core). k.claims) (plans ∙ ap₂ (λ k fs. planned_core k fs) still fills) in
+    subst (AreClaimsOn planned.claims) (sym (kept ∙ fills)) (claims_as core old planned.claims are made)
+
+pub stage_built : (core third : Core) (old bs : List Built) → ArePartsOfRound core old →
+    (core.round + 1) * core.tables.round_ticks ≤ max_run_ticks →
+    (third ≡ planned_core core (filled_by core old)) × (bs ≡ builds_of (state_of core old)) → AreBuilt third bs
+stage_built core third old bs are time stages =
+    subst (λ k. AreBuilt k bs) (sym stages.0)
+    (built_as (planned_core core (filled_by core old)) old bs (planned_parts core old (filled_by core old) are) time stages.1)

@@ -1,26 +1,37 @@
--- Inside the crate, and of no use to a reader of the promise: a state without its calendars, which go from channel to
--- channel by themselves; and what the channels of a round keep on the way.
-use Rattle.std.specs.Prelude.{◌≡◌, ℕ, ◌+◌, ◌*◌, ◌≤◌, List, [], length, map, replicate, sum_by}
+-- Inside the crate, and of no use to a reader of the promise: a state without its calendars, which go from round to round
+-- with their channels; and what is known of the channels of a round on the way.
+use Rattle.std.specs.Prelude.{◌≡◌, ℕ, ◌+◌, ◌*◌, ◌≤◌, List, [], length, map, replicate, slice_get, slice_index_or, sum_by, Option, Some, None, option_and_then}
 use Rattle.std.specs.List.{AllByRecursion}
-use Rattle.us_flows.specs.declared.channels.Channel.{Channel}
 use Rattle.us_flows.specs.Tables.{Tables, map_len, max_run_ticks}
-use Rattle.us_flows.specs.Lawful.{IsChannel}
-use Rattle.us_flows.specs.Clusters.{clusters_of}
+use Rattle.us_flows.specs.Lawful.{AreTables, IsChannel}
+use Rattle.us_flows.specs.Clusters.{clusters_of, turns_of}
+use Rattle.us_flows.specs.declared.turns.Turn as places
 use Rattle.us_bucket.specs.Levels.{Level, full, bytes_in}
+use Rattle.us_holes.specs.Boards.{free_count}
+use Rattle.us_split.specs.Plans.{Planned, plan_for}
+use Rattle.us_split.specs.Claims.{Claim, all_claims}
+use Rattle.us_split.specs.Asking.{Asking, numbers_of, pending_places}
+use Rattle.us_split.specs.Planners.{Planner}
+use Rattle.us_channel.specs.Placements.{PlacedClaim}
+use Rattle.us_output.specs.Outputs.{first_sid}
+use Rattle.us_round.specs.Buckets.{Buckets}
 use Rattle.us_calendar.specs.Calendars as calendars
 use Rattle.us_calendar.specs.Calendars.{Calendar, pace_of, settled_in, granted_in}
-use Rattle.us_split.specs.Plans.{Planned, plan_for}
 use Rattle.us_channel.specs.Channels.{Filled, Built}
-use Rattle.us_round.specs.Rounds.{State, with_cut, grown, idle, all_grants, uncredited, spent_of}
-use Rattle.us_output.specs.Outputs.{Scheduled}
-use Rattle.us_output.specs.Leftovers.{scheduled_by}
+use Rattle.us_round.specs.States.{Covers}
+use Rattle.us_round.specs.Rounds.{State, with_cut, grown, all_grants, uncredited, spent_of}
 
 -- all of a state but its calendars
 pub record Core : Type 0 where
   pub tables : Tables
   pub round : ℕ
+  -- the round as of which the buckets are told
+  pub told : ℕ
   pub outstanding : List ℕ
   pub buckets : List Level
+  -- the places of the turns that were pending in the round before, and the claims on each channel
+  pub pending : List ℕ
+  pub claims : List (List Claim)
 
 -- the state that it is with these calendars
 abbrev pub with_calendars : Core → List Calendar → State
@@ -42,8 +53,11 @@ abbrev pub opening_core : Tables → Core
 opening_core t = record {
   tables = t;
   round = 0;
+  told = 0;
   outstanding = replicate (length (clusters_of t)) 0;
   buckets = map (λ flow. full flow.rate flow.burst) t.flows;
+  pending = [];
+  claims = map (λ c. []) t.channels;
 }
 
 -- what a round begins with
@@ -51,8 +65,29 @@ abbrev pub begun_core : Core → List ℕ → Core
 begun_core core cut = record {
   tables = core.tables;
   round = core.round;
+  told = core.round;
   outstanding = with_cut core.outstanding cut;
   buckets = grown (with_calendars core []);
+  pending = core.pending;
+  claims = core.claims;
+}
+
+-- what is idle on channels with reserves and calendars, and the plan of that
+abbrev pub idle_of : List Built → List ℕ
+idle_of bs = map (λ b. free_count b.board.cells) bs
+
+abbrev pub plan_over : Core → List Built → List Planned
+plan_over core bs = plan_for core.tables core.outstanding (map bytes_in core.buckets) (idle_of bs)
+
+abbrev pub planned_core : Core → List Built → Core
+planned_core core bs = record {
+  tables = core.tables;
+  round = core.round;
+  told = core.told;
+  outstanding = core.outstanding;
+  buckets = core.buckets;
+  pending = core.pending;
+  claims = all_claims core.tables (plan_over core bs);
 }
 
 -- and what its channels leave
@@ -60,20 +95,81 @@ abbrev pub credited_core : Core → List Built → Core
 credited_core core builds = record {
   tables = core.tables;
   round = core.round + 1;
+  told = core.told;
   outstanding = uncredited (all_grants builds) 0 core.outstanding;
   buckets = spent_of (all_grants builds) 0 core.buckets;
+  pending = pending_places core.outstanding (uncredited (all_grants builds) 0 core.outstanding) (numbers_of (turns_of core.tables));
+  claims = core.claims;
 }
+
+-- What it is made of.
+
+-- what a core is made of
+abbrev pub core_of : Tables → ℕ → Asking → Buckets → Planner → Core
+core_of t round asking buckets planner = record {
+  tables = t;
+  round = round;
+  told = buckets.round;
+  outstanding = asking.outstanding;
+  buckets = buckets.levels;
+  pending = asking.pending;
+  claims = planner.claims;
+}
+
+-- its parts are of the same tables; and nothing is credited that isn't settled
+pub record AreKept (t : Tables) (asks : Asking) (kept : Buckets) (plans : Planner) (most : List (Option ℕ)) : Type 0 where
+  pub lawful : AreTables t
+  pub clusters : length asks.outstanding ≡ length (clusters_of t)
+  pub flows : length kept.levels ≡ length t.flows
+  pub numbers : asks.numbers ≡ numbers_of (turns_of t)
+  pub left : asks.left ≡ asks.outstanding
+  pub ticks : kept.ticks ≡ t.round_ticks
+  pub planner : plans.tables ≡ t
+  pub allowances : length most ≡ length t.flows
+
+-- the allowance of the flow of the turn at this place is what the bucket allows
+abbrev pub IsAllowed : List places.Turn → List Level → List (Option ℕ) → ℕ → Type 0
+IsAllowed turns levels allowances place = (turn : places.Turn) → slice_get turns place ≡ Some turn →
+    slice_index_or allowances turn.flow None ≡ slice_index_or (map bytes_in levels) turn.flow None
+
+abbrev pub AreAllowed : List places.Turn → List Level → List (Option ℕ) → List ℕ → Type 0
+AreAllowed turns levels allowances these = AllByRecursion (IsAllowed turns levels allowances) these
+
+-- what grants leave of those who ask and of the buckets
+pub record AreCredited (grants : List PlacedClaim) (asking next : Asking) (buckets after : Buckets) : Type 0 where
+  pub left : next.left ≡ uncredited grants 0 asking.left
+  pub outstanding : next.outstanding ≡ asking.outstanding
+  pub numbers : next.numbers ≡ asking.numbers
+  pub levels : after.levels ≡ spent_of grants 0 buckets.levels
+  pub ticks : after.ticks ≡ buckets.ticks
+  pub round : after.round ≡ buckets.round
+
+-- while the grants of all are credited, these are the rest
+pub record IsCrediting (rest all : List PlacedClaim) (first now : Asking) (before after : Buckets) : Type 0 where
+  pub covers : Covers now.left after.levels rest
+  pub left : uncredited rest 0 now.left ≡ uncredited all 0 first.left
+  pub levels : spent_of rest 0 after.levels ≡ spent_of all 0 before.levels
+  pub outstanding : now.outstanding ≡ first.outstanding
+  pub numbers : now.numbers ≡ first.numbers
+  pub ticks : after.ticks ≡ before.ticks
+  pub round : after.round ≡ before.round
+
+-- where the turn at a place is pending, if there is one
+abbrev pub first_sid_at : Tables → ℕ → Option (ℕ × ℕ)
+first_sid_at t place = option_and_then first_sid (slice_get (turns_of t) place)
+
+-- Channels.
 
 -- a calendar for each channel, at this round
 pub record AreCalendars (t : Tables) (round : ℕ) (cs : List Calendar) : Type 0 where
   pub paces : map (λ calendar. calendar.pace) cs ≡ map (pace_of t) t.channels
   pub rounds : AllByRecursion (λ calendar. calendar.next_round ≡ round) cs
 
--- a channel of these tables with its calendar, in a round that may be made
-pub record IsReady (t : Tables) (round : ℕ) (item : Channel × Calendar) : Type 0 where
-  pub channel : IsChannel t item.0
-  pub pace : item.1.pace ≡ pace_of t item.0
-  pub next : item.1.next_round ≡ round
+-- a channel of these tables, with its calendar, in a round that may be made
+pub record IsReady (t : Tables) (round : ℕ) (b : Built) : Type 0 where
+  pub channel : IsChannel t b.channel
+  pub pace : b.calendar.pace ≡ pace_of t b.channel
+  pub next : b.calendar.next_round ≡ round
   pub time : (round + 1) * t.round_ticks ≤ max_run_ticks
 
 -- a channel of these tables after its calendar: its board has the length of its MAPs, and what was granted starts inside
@@ -94,11 +190,3 @@ settled_then fs = sum_by (λ f. settled_in f.calendar) fs
 abbrev pub AreCounted : List Calendar → List Built → Type 0
 AreCounted before builds =
     sum_by (λ b. length b.settled) builds + sum_by settled_in before ≡ sum_by (λ b. settled_in b.calendar) builds
-
--- the plan of a round that has begun, over these channels
-abbrev pub plan_over : Core → List Filled → List Planned
-plan_over core fs = plan_for core.tables core.outstanding (map bytes_in core.buckets) (idle fs)
-
--- what these channels were scheduled, where so much was outstanding before, and the core tells what is left
-abbrev pub scheduled_of : Core → ℕ → List ℕ → List Built → Scheduled
-scheduled_of core round outstanding builds = scheduled_by core.tables round outstanding core.outstanding builds

@@ -20,9 +20,11 @@ pub mod States
 pub mod ScheduleLaws
 -- the texts of faults
 pub mod Faults
+-- buckets that are refilled when they are asked for,
+pub mod Buckets
 -- a state without its calendars,
 pub mod Cores
--- the stages of a round,
-pub mod Stages
+-- its parts at each stage of a round,
+pub mod Parts
 -- and who does its phases
-pub mod Doers
+pub mod Hands

@@ -1,22 +1,58 @@
 ghost use Rattle.std.specs.Prelude.{◌≡◌, ◌+◌, ◌*◌, ◌^◌, ◌<◌, ◌≤◌, ⊤, length, zip, IfErr, IfOk};
 ghost use Rattle.std.specs.List.{AllByRecursion};
-ghost use Rattle.us_flows.specs.Tables.{max_run_ticks};
+ghost use Rattle.us_flows.specs.Tables.{Tables, max_run_ticks};
 ghost use Rattle.us_flows.specs.Clusters.{clusters_of};
 ghost use Rattle.us_crew.specs.Items.{AreAccepted};
 ghost use Rattle.us_crew.specs.Values.{values_of};
-ghost use Rattle.us_round.specs.Doers.{CanFill, CanBuild, filled_at, built_at};
+ghost use Rattle.us_round.specs.Hands.{CanFill, CanBuild, filled_at, built_at};
 ghost use Rattle.us_round.specs.Rounds as spec;
 ghost use Rattle.us_output.specs.Outputs.{out_of};
 
 use crate::faults::RoundFault;
-use crate::phases::{Answered, Building, Filling};
-use crate::rounds::round_by;
+use crate::hands::{Answered, Building, Filling, Hands};
+use crate::rounds::step;
 use crate::states::State;
 use std::alloc::Global;
-use us_channel::{Built, Filled, Lane};
-use us_crew::map_alone;
-use us_flows::Channel;
+use us_channel::ChannelRound;
+use us_crew::{Gate, OpenGate, Phase};
 use us_output::RoundOut;
+
+/// The calling thread, which does channels one after another, where they stand. It enters a gate before each.
+#[derive(Clone, Copy)]
+pub struct Alone<'a, G> {
+    /// The gate.
+    pub gate: &'a G,
+}
+
+impl<'a, G: Gate> Hands for Alone<'a, G> {
+    ghost knows = { λ _ _. ⊤ };
+
+    fn fill(&mut self, work: &Filling<'_>, channels: Vec<ChannelRound>) -> Answered
+        requires ready { AreAccepted (λ _. ⊤) (CanFill work.now) channels.items }
+        ensures value { IfOk result (λ all. all.items ≡ values_of (filled_at work.now) channels.items) }
+        ensures same { (t : Tables) → ⊤ → ⊤ }
+    {
+        let mut channels = channels;
+        for place in 0..channels.len() {
+            self.gate.enter(Phase::Fill, place);
+            channels[place].fill(work.config, work.round)?;
+        }
+        Ok(channels)
+    }
+
+    fn build(&mut self, work: &Building<'_>, channels: Vec<ChannelRound>) -> Answered
+        requires claims { AreAccepted (λ _. ⊤) (CanBuild work.now) channels.items }
+        ensures value { IfOk result (λ all. all.items ≡ values_of (built_at work.now) channels.items) }
+        ensures same { (t : Tables) → ⊤ → ⊤ }
+    {
+        let mut channels = channels;
+        for place in 0..channels.len() {
+            self.gate.enter(Phase::Build, place);
+            channels[place].place_claims(work.claims(place));
+        }
+        Ok(channels)
+    }
+}
 
 /// Schedules the round of a state as `round` does, in which the calling thread does all channels, one after another.
 ///
@@ -33,14 +69,7 @@ pub fn round_alone(
     ensures out { IfOk result (λ done. done.1 ≡ out_of state.tables (spec.round_of state cuts.now).scheduled) }
     ensures fault { IfErr result (λ given. given ≡ RoundFault.NoMemory) }
 {
-    let fill = |work: &Filling<'_>, items: Vec<(Channel, Lane)>| -> Answered<Filled>
-        requires { AreAccepted (λ _. ⊤) (CanFill work.now) items.items }
-        ensures { IfOk result (λ all. all.items ≡ values_of (filled_at work.now) items.items) }
-    { map_alone(alloc, work, items) };
-    let build = |work: &Building<'_>, items: Vec<Filled>| -> Answered<Built>
-        requires { AreAccepted (λ _. ⊤) (CanBuild work.now) items.items }
-        ensures { IfOk result (λ all. all.items ≡ values_of (built_at work.now) items.items) }
-    { map_alone(alloc, work, items) };
-    let done = round_by(alloc, state, cuts, fill, build)?;
-    Ok(done)
+    let done = step(state, cuts, &mut Alone { gate: &OpenGate })?;
+    let out = done.out(alloc)?;
+    Ok((done.into_state(), out))
 }

@@ -1,61 +1,85 @@
-ghost use Rattle.std.specs.Prelude.{◌≡◌, ◌+◌, ◌^◌, ◌<◌, ◌≤◌, true, length, map, replicate, zip, IfOk};
+ghost use Rattle.std.specs.Prelude.{◌≡◌, ◌+◌, ◌-◌, ◌*◌, ◌^◌, ◌<◌, ◌≤◌, filter_map, length, zip, IfOk, OnOk};
 ghost use Rattle.std.specs.List.{AllByRecursion};
+ghost use Rattle.us_flows.specs.Tables.{max_run_ticks};
 ghost use Rattle.us_flows.specs.Clusters.{clusters_of};
 ghost use Rattle.us_flows.specs.Lawful.{AreTables};
-ghost use Rattle.us_bucket.specs.Levels.{bytes_in, full, refilled};
-ghost use Rattle.us_round.specs.Rounds.{with_cut, all_grants};
+ghost use Rattle.us_split.specs.Plans.{IsIdle};
+ghost use Rattle.us_channel.specs.Channels.{IsBuilt};
+ghost use Rattle.us_round.specs.Rounds.{all_grants};
 ghost use Rattle.us_round.specs.Cores as spec;
 ghost use Rattle.us_round.specs.States.{Covers};
 
+use crate::buckets::Buckets;
 use std::alloc::Global;
 use std::marker::Model;
 use us_bucket::Bucket;
-use us_channel::Built;
-use us_flows::{Config, Flow};
-use us_requests::ClusterState;
+use us_channel::ChannelRound;
+use us_flows::Config;
+use us_output::PendingSid;
 use us_slots::NoMemory;
+use us_split::{Askers, Planner};
+
+// What those who ask are allowed.
+mod allowing;
 
 // What grants take of it.
 mod crediting;
 
-use crediting::credit_all;
+// Who is pending.
+mod pending;
 
-/// All that a round starts from but the calendars: the configuration, the number of the round, what is outstanding of
-/// each SID cluster, and the bucket of each flow.
-pub(crate) struct Core {
+use allowing::{allow, note_idle};
+use crediting::credit_all;
+use pending::list_pendings;
+
+/// What a core has in memory. It stays where it stands while the core goes through the stages of a round.
+pub(crate) struct Kept {
     config: Config,
     round: u32,
-    outstanding: Vec<ClusterState>,
-    buckets: Vec<Bucket>,
+    askers: Askers,
+    buckets: Buckets,
+    planner: Planner,
+
+    // room for what a plan is made of: allowances by flow, and idle minislots by channel
+    allowances: Vec<Option<u64>>,
+    idle: Vec<u32>,
+}
+
+/// Gives all of it up. It is written out so that it is one step wherever a core ends.
+impl Drop for Kept {
+    fn drop(self) {
+        let Kept {
+            config: _,
+            round: _,
+            askers: _,
+            buckets: _,
+            planner: _,
+            allowances: _,
+            idle: _,
+        } = self;
+    }
+}
+
+/// All that a round starts from but the channels: the configuration, the number of the round, what is outstanding of each
+/// SID cluster, and the bucket of each flow; and the planner, which has the claims of the round.
+pub(crate) struct Core {
+    kept: Box<Kept>,
 }
 
 impl Model for Core {
     ghost Value = { spec.Core };
 
-    ghost view = { λ s. record {
-      tables = s.config;
-      round = s.round;
-      outstanding = s.outstanding.items;
-      buckets = s.buckets.items;
-    } };
+    ghost view = { λ s. spec.core_of s.kept.value.config s.kept.value.round s.kept.value.askers s.kept.value.buckets
+        s.kept.value.planner };
 
-    ghost invariant = { λ s. spec.IsCore (record {
-      tables = s.config;
-      round = s.round;
-      outstanding = s.outstanding.items;
-      buckets = s.buckets.items;
-    }) };
+    ghost invariant = { λ s. spec.AreKept s.kept.value.config s.kept.value.askers s.kept.value.buckets s.kept.value.planner
+        s.kept.value.allowances.items };
 }
 
 /// Gives the core up. It is written out so that it is one step wherever a core ends.
 impl Drop for Core {
     fn drop(self) {
-        let Core {
-            config: _,
-            round: _,
-            outstanding: _,
-            buckets: _,
-        } = self;
+        let Core { kept: _ } = self;
     }
 }
 
@@ -64,14 +88,23 @@ impl Core {
     pub(crate) fn new(alloc: Global, config: Config) -> Result<Core, NoMemory>
         ensures { IfOk result (λ core. core ≡ spec.opening_core config) }
     {
-        let outstanding = nothing_outstanding(alloc, config.clusters())?;
-        let buckets = full_buckets(alloc, config.flows())?;
-        Ok(Core {
-            config,
-            round: 0,
-            outstanding,
-            buckets,
-        })
+        let askers = Askers::new(alloc, &config)?;
+        let buckets = Buckets::full(alloc, &config)?;
+        let planner = Planner::new(alloc, &config)?;
+        let allowances = no_limits(alloc, config.flows().len())?;
+        let kept = Box::new(
+            alloc,
+            Kept {
+                config,
+                round: 0,
+                askers,
+                buckets,
+                planner,
+                allowances,
+                idle: Vec::new(alloc),
+            },
+        )?;
+        Ok(Core { kept })
     }
 
     /// The configuration.
@@ -79,119 +112,105 @@ impl Core {
         ensures value { result.now ≡ self.now.tables }
         ensures known { spec.IsCore self.now }
     {
-        &self.config
+        &self.kept.config
     }
 
     /// The number of the next round.
     pub(crate) fn round(&self) -> u32
         ensures { result ≡ self.now.round }
     {
-        self.round
+        self.kept.round
     }
 
     /// What is outstanding of each cluster.
-    pub(crate) fn outstanding(&self) -> &[ClusterState]
-        ensures value { result.now ≡ self.now.outstanding }
-        ensures known { spec.IsCore self.now }
+    pub(crate) fn outstanding(&self) -> &[u64]
+        ensures { result.now ≡ self.now.outstanding }
     {
-        &self.outstanding
+        self.kept.askers.outstanding()
     }
 
     /// The bucket of each flow.
-    pub(crate) fn buckets(&self) -> &[Bucket]
-        ensures { result.now ≡ self.now.buckets }
+    pub(crate) fn buckets(&self, alloc: Global) -> Result<Vec<Bucket>, NoMemory>
+        ensures { IfOk result (λ buckets. buckets.items ≡ self.now.buckets) }
     {
-        &self.buckets
+        self.kept.buckets.levels(alloc)
     }
 
-    /// The outstanding bytes of each cluster.
-    pub(crate) fn outstanding_bytes(&self, alloc: Global) -> Result<Vec<u64>, NoMemory>
-        ensures value { IfOk result (λ bytes. bytes.items ≡ self.now.outstanding) }
-        ensures known { spec.IsCore self.now }
+    /// The claims on each channel.
+    pub(crate) fn planner(&self) -> &Planner
+        ensures { result.now.claims ≡ self.now.claims }
     {
-        let mut bytes = Vec::with_capacity(alloc, self.outstanding.len())?;
-        for state in &self.outstanding {
-            bytes.push_reserved(state.outstanding());
-        }
-        Ok(bytes)
-    }
-
-    /// The bytes that the bucket of each flow allows.
-    pub(crate) fn allowances(&self, alloc: Global) -> Result<Vec<Option<u64>>, NoMemory>
-        ensures value { IfOk result (λ most. most.items ≡ map bytes_in self.now.buckets) }
-        ensures known { spec.IsCore self.now }
-    {
-        let mut most = Vec::with_capacity(alloc, self.buckets.len())?;
-        for bucket in &self.buckets {
-            most.push_reserved(bucket.bytes());
-        }
-        Ok(most)
+        &self.kept.planner
     }
 
     /// Begins the round: each cluster asks for the bytes of its cut, and in every round but the first the buckets grow.
     pub(crate) fn begin(&mut self, cuts: &[u64])
         requires clusters { length cuts.now ≡ length (clusters_of self.old.tables) }
         requires room { AllByRecursion (λ pair. pair.0 + pair.1 < 2 ^ 62) (zip self.old.outstanding cuts.now) }
+        requires told { self.old.told ≡ self.old.round - 1 }
+        requires time { (self.old.round + 1) * self.old.tables.round_ticks ≤ max_run_ticks }
         ensures value { self.new ≡ spec.begun_core self.old cuts.now }
         ensures lawful { AreTables self.old.tables }
     {
-        let ticks = self.config.round_ticks();
-        let outstanding = self.outstanding.as_mut_slice();
-        add_all(outstanding, cuts);
-        if self.round > 0 {
-            let buckets = self.buckets.as_mut_slice();
-            refill_all(buckets, ticks);
-        }
+        let Kept {
+            round,
+            askers,
+            buckets,
+            ..
+        } = self.kept.as_mut();
+        askers.add_all(cuts);
+        buckets.begin(*round);
+    }
+
+    /// Plans the round, over channels with reserves and calendars.
+    pub(crate) fn plan(&mut self, channels: &[ChannelRound]) -> Result<(), NoMemory>
+        requires room { IsIdle self.old.tables (spec.idle_of channels.now) }
+        ensures { OnOk result (self.new ≡ spec.planned_core self.old channels.now) }
+    {
+        let Kept {
+            config,
+            askers,
+            buckets,
+            planner,
+            allowances,
+            idle,
+            ..
+        } = self.kept.as_mut();
+        note_idle(idle, channels)?;
+        let allowances = allowances.as_mut_slice();
+        allow(config.turns(), askers.asking(), buckets, allowances);
+        planner.plan(askers.asking(), askers.outstanding(), allowances, idle)
     }
 
     /// Ends the round: what was granted leaves the outstanding bytes and the buckets.
-    pub(crate) fn close(&mut self, built: &[Built])
+    pub(crate) fn close(&mut self, built: &[ChannelRound])
         requires covers { Covers self.old.outstanding self.old.buckets (all_grants built.now) }
         requires round { self.old.round + 1 < 2 ^ 32 }
-        ensures { self.new ≡ spec.credited_core self.old built.now }
+        ensures value { self.new ≡ spec.credited_core self.old built.now }
+        ensures known { AllByRecursion IsBuilt built.now }
     {
-        let outstanding = self.outstanding.as_mut_slice();
-        let buckets = self.buckets.as_mut_slice();
-        credit_all(outstanding, buckets, built);
-        self.round += 1;
+        let Kept {
+            round,
+            askers,
+            buckets,
+            ..
+        } = self.kept.as_mut();
+        credit_all(askers, buckets, built);
+        askers.settle();
+        *round += 1;
+    }
+
+    /// Lists who was pending in the round before.
+    pub(crate) fn list_pendings(&self, pendings: &mut Vec<PendingSid>) -> Result<(), NoMemory>
+        ensures { OnOk result (pendings.new.items ≡ filter_map (spec.first_sid_at self.now.tables) self.now.pending) }
+    {
+        list_pendings(pendings, &self.kept.config, self.kept.askers.pending())
     }
 }
 
-/// So many clusters of which nothing is outstanding.
-fn nothing_outstanding(alloc: Global, clusters: usize) -> Result<Vec<ClusterState>, NoMemory>
-    ensures { IfOk result (λ states. states.items ≡ replicate clusters 0) }
+/// An allowance without limit for so many flows.
+fn no_limits(alloc: Global, flows: usize) -> Result<Vec<Option<u64>>, NoMemory>
+    ensures { IfOk result (λ all. length all.items ≡ flows) }
 {
-    Ok(vec![in alloc; ClusterState::new(); clusters]?)
-}
-
-/// The bucket of each flow in round 0.
-fn full_buckets(alloc: Global, flows: &[Flow]) -> Result<Vec<Bucket>, NoMemory>
-    ensures { IfOk result (λ buckets. buckets.items ≡ map (λ flow. full flow.rate flow.burst) flows.now) }
-{
-    let mut buckets = Vec::with_capacity(alloc, flows.len())?;
-    for flow in flows {
-        buckets.push(Bucket::full(flow.rate(), flow.burst()))?;
-    }
-    Ok(buckets)
-}
-
-/// Adds to the outstanding bytes of each cluster those of its cut.
-fn add_all(outstanding: &mut [ClusterState], cuts: &[u64])
-    requires clusters { length outstanding.old ≡ length cuts.now }
-    requires room { AllByRecursion (λ pair. pair.0 + pair.1 < 2 ^ 62) (zip outstanding.old cuts.now) }
-    ensures { outstanding.new ≡ with_cut outstanding.old cuts.now }
-{
-    for place in 0..cuts.len() {
-        outstanding[place].add(cuts[place]);
-    }
-}
-
-/// Lets every bucket grow by what so many ticks bring.
-fn refill_all(buckets: &mut [Bucket], ticks: u32)
-    requires { ticks ≤ 4096 }
-    ensures { buckets.new ≡ map (refilled ticks) buckets.old }
-{
-    for place in 0..buckets.len() {
-        buckets[place].refill(ticks);
-    }
+    Ok(vec![in alloc; None; flows]?)
 }

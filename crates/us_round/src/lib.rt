@@ -18,13 +18,20 @@ mod faults;
 // The order in which claims are placed.
 mod placing_laws;
 
-// Channels moved to workers and back.
-mod phases;
+// Who does the channels of a round.
+mod hands;
 
-// What a round starts from: all but the calendars,
+// What a round starts from: the buckets,
+mod buckets;
+
+// all but the channels,
 mod cores;
 
-// and all of it.
+// both parts,
+mod parts;
+
+// the state, and what a round leaves of it.
+mod done;
 mod states;
 
 // The round,
@@ -36,16 +43,18 @@ mod alone;
 // Laws of all rounds of a schedule.
 mod schedule_laws;
 
-pub use alone::round_alone;
+pub use alone::{Alone, round_alone};
+pub use done::RoundDone;
 pub use faults::RoundFault;
+pub use hands::{Answered, Building, Filling, Hands};
 pub use placing_laws::turns_are_placed_in_order;
-pub use rounds::round;
+pub use rounds::{round, step};
 pub use schedule_laws::{
     bytes_are_kept, calendars_run, maps_are_lawful, rounds_are_sound, rounds_follow_on,
 };
 pub use states::State;
 pub use us_output::{
-    EntryWord, FinalState, Grant, MissedOccurrence, RoundOut, Row, TraceCounts,
+    EntryWord, FinalState, Grant, LineTally, MissedOccurrence, RoundOut, Row, Scratch, TraceCounts,
     lines_are_of_grants, lines_bear_round,
 };
 

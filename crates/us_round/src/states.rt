@@ -1,14 +1,15 @@
 ghost use Rattle.std.specs.Prelude.{◌≡◌, ◌≤◌, length, map, IfErr, IfOk};
-ghost use Rattle.us_calendar.specs.Calendars as calendars;
-ghost use Rattle.us_round.specs.Cores.{AreCalendars, with_calendars};
+ghost use Rattle.us_channel.specs.Channels as channels;
+ghost use Rattle.us_round.specs.Parts.{ArePartsOfState, state_of};
 ghost use Rattle.us_round.specs.Rounds as spec;
 ghost use Rattle.us_round.specs.States.{final_rows, IsState, settled_by, max_settled_by};
 
 use crate::cores::Core;
 use crate::faults::RoundFault;
+use crate::parts::Parts;
 use std::alloc::Global;
 use std::marker::Model;
-use us_channel::Lane;
+use us_channel::ChannelRound;
 use us_flows::Config;
 use us_output::Row;
 use us_slots::NoMemory;
@@ -16,23 +17,21 @@ use us_slots::NoMemory;
 /// What a round starts from: the configuration, the number of the round, what is outstanding of each SID cluster, the
 /// bucket of each flow, and the calendar of each channel.
 pub struct State {
-    core: Core,
-    lanes: Vec<Lane>,
+    parts: Parts,
 }
 
 impl Model for State {
     ghost Value = { spec.State };
 
-    ghost view = { λ s. with_calendars s.core s.lanes.items };
+    ghost view = { λ s. state_of s.parts.core s.parts.channels.items };
 
-    ghost invariant = { λ s. IsState (with_calendars s.core s.lanes.items)
-        × (settled_by (with_calendars s.core s.lanes.items) ≤ max_settled_by) };
+    ghost invariant = { λ s. ArePartsOfState s.parts.core s.parts.channels.items };
 }
 
 /// Gives the state up. It is written out so that it is one step wherever a state ends.
 impl Drop for State {
     fn drop(self) {
-        let State { core: _, lanes: _ } = self;
+        let State { parts: _ } = self;
     }
 }
 
@@ -43,36 +42,39 @@ impl State {
         ensures state { IfOk result (λ state. state ≡ spec.opening config) }
         ensures fault { IfErr result (λ given. given ≡ RoundFault.NoMemory) }
     {
-        let lanes = lanes_of(alloc, &config)?;
+        let channels = channels_of(alloc, &config)?;
         let core = Core::new(alloc, config)?;
-        Ok(State::of(core, lanes))
+        Ok(State::of(Parts {
+            core,
+            channels,
+            pendings: Vec::new(alloc),
+        }))
     }
 
-    /// The state of a core and of its calendars.
-    pub(crate) fn of(core: Core, lanes: Vec<Lane>) -> State
-        requires state { IsState (with_calendars core lanes.items) }
-        requires few { settled_by (with_calendars core lanes.items) ≤ max_settled_by }
-        ensures { result ≡ with_calendars core lanes.items }
+    /// The state of these parts.
+    pub(crate) fn of(parts: Parts) -> State
+        requires { ArePartsOfState parts.core parts.channels.items }
+        ensures { result ≡ state_of parts.core parts.channels.items }
     {
-        State { core, lanes }
+        State { parts }
     }
 
-    /// Its core and its calendars.
-    pub(crate) fn into_parts(self) -> (Core, Vec<Lane>)
-        ensures value { with_calendars result.0 result.1.items ≡ self }
-        ensures calendars { AreCalendars self.tables self.round result.1.items }
+    /// Its parts.
+    pub(crate) fn into_parts(self) -> Parts
+        ensures value { state_of result.core result.channels.items ≡ self }
+        ensures known { ArePartsOfState result.core result.channels.items }
     {
-        let State { core, lanes } = self;
-        (core, lanes)
+        let State { parts } = self;
+        parts
     }
 
-    /// All but its calendars.
+    /// All but its channels.
     pub(crate) fn core(&self) -> &Core
         ensures tables { result.now.tables ≡ self.now.tables }
         ensures outstanding { result.now.outstanding ≡ self.now.outstanding }
         ensures buckets { result.now.buckets ≡ self.now.buckets }
     {
-        &self.core
+        &self.parts.core
     }
 
     /// The F lines: of each SID cluster in table order what is outstanding, and the units of its flow's bucket. The fault
@@ -83,7 +85,8 @@ impl State {
         ensures fault { IfErr result (λ given. given ≡ RoundFault.NoMemory) }
     {
         let core = self.core();
-        let rows = us_output::final_rows(alloc, core.config(), core.outstanding(), core.buckets())?;
+        let buckets = core.buckets(alloc)?;
+        let rows = us_output::final_rows(alloc, core.config(), core.outstanding(), &buckets)?;
         Ok(rows)
     }
 
@@ -91,7 +94,7 @@ impl State {
     pub fn channels(&self) -> usize
         ensures { result ≡ length self.now.tables.channels }
     {
-        self.core.config().channels().len()
+        self.parts.core.config().channels().len()
     }
 
     /// The number of the next round.
@@ -100,19 +103,19 @@ impl State {
         ensures known { IsState self.now }
         ensures few { settled_by self.now ≤ max_settled_by }
     {
-        self.core.round()
+        self.parts.core.round()
     }
 }
 
-/// The calendar of each channel, before round 0, and its board.
-fn lanes_of(alloc: Global, config: &Config) -> Result<Vec<Lane>, NoMemory>
-    ensures { IfOk result (λ all. all.items ≡ map (calendars.opening config.now) config.now.channels) }
+/// Each channel, before round 0.
+fn channels_of(alloc: Global, config: &Config) -> Result<Vec<ChannelRound>, NoMemory>
+    ensures { IfOk result (λ all. all.items ≡ map (channels.opening config.now) config.now.channels) }
 {
     let channels = config.channels().len();
     let mut all = Vec::with_capacity(alloc, channels)?;
     for place in 0..channels {
-        let lane = Lane::new(alloc, config, place)?;
-        all.push(lane)?;
+        let channel = ChannelRound::new(alloc, config, place)?;
+        all.push(channel)?;
     }
     Ok(all)
 }

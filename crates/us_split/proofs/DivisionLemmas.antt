@@ -1,10 +1,10 @@
 -- Division: what is left over is at most one byte for each channel whose part is below its weight, so all of it is given.
-use Rattle.std.proofs.Common.{◌≡◌, ℕ, zero, suc, ◌+◌, ◌-◌, ◌*◌, ◌/◌, ◌%◌, ◌<◌, ◌≤◌, min, List, [], ◌∷◌, length, map, drop, get_or, zip, Bool, true, false, ◌==◌, ◌||◌, not, nat_lt, nat_le, if◌then◌else◌, refl, sym, ap, ◌∙◌, subst, inl, inr, lt-ltb, le-ltb, ne_eqb, arith}
+use Rattle.std.proofs.Common.{◌≡◌, ℕ, zero, suc, ◌+◌, ◌-◌, ◌*◌, ◌/◌, ◌%◌, ◌<◌, ◌≤◌, min, List, [], ◌∷◌, ◌++◌, length, map, take, drop, set, get_or, zip, Bool, true, false, ◌==◌, ◌||◌, not, nat_lt, nat_le, if◌then◌else◌, refl, sym, ap, ap₂, ◌∙◌, subst, inl, inr, lt-ltb, le-ltb, ne_eqb, append_assoc, arith}
 use Rattle.std.specs.Prelude.{slice_index, sum}
 use Rattle.std.specs.List.{AllByRecursion}
 use Rattle.std.proofs.lemmas.Bool.{cases_lt}
 use Rattle.std.proofs.lemmas.Nat.{mul-le, mod_below, div-add-mod'}
-use Rattle.std.proofs.lemmas.List.{drop_more, length-map}
+use Rattle.std.proofs.lemmas.List.{drop_more, length-map, map-append, take_more, take_more_set}
 use Rattle.std.proofs.lemmas.List.Sums.{sum_by-cons, sum_by-le}
 use Rattle.std.proofs.lemmas.List.Elements.{All-from_recursion}
 use Rattle.us_split.specs.Divisions.{topped_up, divided}
@@ -251,5 +251,63 @@ left_more f left i ws d lt =
     let at : drop i ws ≡ get_or ws i d ∷ drop (i + 1) ws = drop_more ws i d lt in
     let sums : sum (map f (get_or ws i d ∷ drop (i + 1) ws)) ≡ f (get_or ws i d) + sum (map f (drop (i + 1) ws)) = sum-cons (f (get_or ws i d)) (map f (drop (i + 1) ws)) in
     rw (at, sums) (omega arith)
+
+-- The code's two walks: parts first, and then a byte more for some.
+
+pub parts_within : (bytes total : ℕ) (ws : List ℕ) (k : ℕ) → bytes < total →
+    slice_index (map (λ w. bytes * w / total) ws) k ≤ slice_index ws k
+parts_within bytes total [] k h = omega arith
+parts_within bytes total (w ∷ ws) zero h = part_within bytes total w h
+parts_within bytes total (w ∷ ws) (suc k) h = parts_within bytes total ws k h
+
+-- one part more
+pub parts_more : (f : ℕ → ℕ) (parts ws : List ℕ) (i part : ℕ) → i < length ws → i < length parts →
+    take i parts ≡ map f (take i ws) → part ≡ f (get_or ws i 0) →
+    take (i + 1) (set parts i part) ≡ map f (take (i + 1) ws)
+parts_more f parts ws i part within inside before is =
+    take_more_set parts i part inside ∙
+    ap₂ (λ xs x. xs ++ x ∷ []) before is ∙
+    sym (ap (map f) (take_more ws i 0 within) ∙ map-append f (take i ws) (get_or ws i 0 ∷ []))
+
+-- the part of a channel, and those of the channels after it
+pub next_part : (f : ℕ → ℕ) (shares ws : List ℕ) (i : ℕ) → i < length shares → i < length ws →
+    drop i shares ≡ map f (drop i ws) →
+    (get_or shares i 0 ≡ f (get_or ws i 0)) × (drop (i + 1) shares ≡ map f (drop (i + 1) ws))
+next_part f shares ws i inside within are =
+    let both : get_or shares i 0 ∷ drop (i + 1) shares ≡ f (get_or ws i 0) ∷ map f (drop (i + 1) ws) =
+    sym (drop_more shares i 0 inside) ∙ are ∙ ap (map f) (drop_more ws i 0 within) in
+    (cc, cc)
+
+-- a byte more on top of a part
+topped_step : (left part w more : ℕ) (rest : List (ℕ × ℕ)) →
+    more ≡ (if (left == 0) || not (nat_lt part w) then 0 else 1) →
+    topped_up left ((part, w) ∷ rest) ≡ (part + more) ∷ topped_up (left - more) rest
+topped_step left part w more rest is = by ((left == 0) || not (nat_lt part w)) is
+  where
+    by : (b : Bool) → more ≡ (if b then 0 else 1) →
+        (if b then part ∷ topped_up left rest else (part + 1) ∷ topped_up (left - 1) rest) ≡
+        (part + more) ∷ topped_up (left - more) rest
+    by true none =
+        let same : part ≡ part + more = omega arith in
+        let all : left ≡ left - more = omega arith in
+        ap₂ (λ x n. x ∷ topped_up n rest) same all
+    by false one = ap (λ n. (part + n) ∷ topped_up (left - n) rest) (sym one)
+
+pub topped_more : (f : ℕ → ℕ) (shares ws all : List ℕ) (left i more : ℕ) → i < length shares → i < length ws →
+    drop i shares ≡ map f (drop i ws) →
+    more ≡ (if (left == 0) || not (nat_lt (get_or shares i 0) (get_or ws i 0)) then 0 else 1) →
+    take i shares ++ topped_up left (map (λ w. (f w, w)) (drop i ws)) ≡ all →
+    take (i + 1) (set shares i (get_or shares i 0 + more)) ++ topped_up (left - more) (map (λ w. (f w, w)) (drop (i + 1) ws)) ≡ all
+topped_more f shares ws all left i more inside within are is before =
+    let w : ℕ = get_or ws i 0 in
+    let part : ℕ = get_or shares i 0 in
+    let rest : List (ℕ × ℕ) = map (λ w. (f w, w)) (drop (i + 1) ws) in
+    let here : part ≡ f w = (next_part f shares ws i inside within are).0 in
+    let first : map (λ w. (f w, w)) (drop i ws) ≡ (part, w) ∷ rest =
+    ap (map (λ w. (f w, w))) (drop_more ws i 0 within) ∙ ap (λ q. (q, w) ∷ rest) (sym here) in
+    ap (λ xs. xs ++ topped_up (left - more) rest) (take_more_set shares i (part + more) inside) ∙
+    append_assoc (take i shares) ((part + more) ∷ []) (topped_up (left - more) rest) ∙
+    ap (λ xs. take i shares ++ xs) (sym (topped_step left part w more rest is)) ∙
+    ap (λ ps. take i shares ++ topped_up left ps) (sym first) ∙ before
 
 pub ruleset division_facts = (few_weights, divided-length)

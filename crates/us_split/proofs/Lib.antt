@@ -7,3 +7,11 @@ pub mod PlanLawLemmas
 pub mod ClaimLemmas
 pub mod ChannelShareLemmas
 pub mod TurnClaimLaws
+pub mod AskingLaws
+pub mod TurnNumberLemmas
+pub mod AskerLemmas
+pub mod AskerStepLemmas
+pub mod AskerCutLemmas
+pub mod ByPlaceLemmas
+pub mod TurnRowLemmas
+pub mod RowPlanLemmas

@@ -44,13 +44,13 @@ no_share : (shares : List ℕ) (found : Option ℕ) → sum shares ≡ 0 → sha
 no_share shares None none = refl
 no_share shares (Some k) none = omega (arith, share-le-sum shares k)
 
-no_cost : (planned : Planned) (c : Channel) → sum planned.shares ≡ 0 → cost_on c planned ≡ 0
+pub no_cost : (planned : Planned) (c : Channel) → sum planned.shares ≡ 0 → cost_on c planned ≡ 0
 unfolding cost_on
 no_cost planned c none =
     let share : share_on c.id planned ≡ 0 = no_share planned.shares _ none in
     ap (share_cost c (header_bytes planned.turn.cluster.flow)) share
 
-no_claim : (place : ℕ) (planned : Planned) (c : Channel) → sum planned.shares ≡ 0 → claim_on c place planned ≡ None
+pub no_claim : (place : ℕ) (planned : Planned) (c : Channel) → sum planned.shares ≡ 0 → claim_on c place planned ≡ None
 no_claim place planned c none = by (position (λ id. id == c.id) planned.turn.cluster.flow.channels)
   where
     by : (found : Option ℕ) → option_and_then (claim_at c place planned) found ≡ None
@@ -69,7 +69,7 @@ none_with place planned (c ∷ cs) none =
     ap₂ (λ n xs. let c : ChannelPlan = record { channel = c.channel; slots = n; claims = xs } in c) slots claims in
     ap₂ (λ c cs. c ∷ cs) first (none_with place planned cs none)
 
-none_less : (planned : Planned) (allowances : List (Option ℕ)) → sum planned.shares ≡ 0 →
+pub none_less : (planned : Planned) (allowances : List (Option ℕ)) → sum planned.shares ≡ 0 →
     allowed_less planned allowances ≡ allowances
 none_less planned allowances none =
     ap (set allowances planned.turn.place) (same (slice_index_or allowances planned.turn.place None)) ∙
@@ -154,7 +154,7 @@ after_with : (place : ℕ) (planned : Planned) (cs : List ChannelPlan) →
 after_with place planned [] = refl
 after_with place planned (c ∷ cs) = ap (λ bs. budget_in (with_turn place planned c) ∷ bs) (after_with place planned cs)
 
-ledger_after : (place : ℕ) (planned : Planned) (partial : PartialPlan) →
+pub ledger_after : (place : ℕ) (planned : Planned) (partial : PartialPlan) →
     ledger_in (planned_further place planned partial) ≡ after_turn (ledger_in partial) planned
 unfolding planned_further after_turn
 ledger_after place planned partial =
@@ -196,7 +196,7 @@ planned_further_claims outstanding place partial (turn ∷ turns) =
     (ledger_after place planned partial) ∙
     next_claims place planned partial (plan_of outstanding (after_turn (ledger_in partial) planned) turns)
 
-idle_budgets : (channels : List Channel) (idle : List ℕ) →
+pub idle_budgets : (channels : List Channel) (idle : List ℕ) →
     map budget_in (map (λ pair. record { channel = pair.0; slots = pair.1; claims = [] }) (zip channels idle)) ≡
     map (λ pair. record { channel = pair.0; slots = pair.1 }) (zip channels idle)
 idle_budgets [] idle = refl

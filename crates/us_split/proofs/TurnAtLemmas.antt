@@ -1,5 +1,5 @@
 -- The turns of a configuration, as places and as clusters, one by one.
-use Rattle.std.proofs.Common.{◌≡◌, ℕ, zero, suc, ◌+◌, ◌*◌, Bool, true, false, flat_map, if◌then◌else◌, ◌<◌, ◌≤◌, List, [], ◌∷◌, length, map, drop, get_or, Option, Some, None, slice_get, option_map, option_and_then, refl, sym, ap, subst, add-one, arith}
+use Rattle.std.proofs.Common.{◌≡◌, ℕ, zero, suc, ◌+◌, ◌*◌, Bool, true, false, flat_map, if◌then◌else◌, ◌<◌, ◌≤◌, List, [], ◌∷◌, length, map, drop, get_or, Option, Some, None, slice_get, option_map, option_and_then, refl, sym, ap, ap₂, subst, add-one, arith}
 use Rattle.std.specs.Prelude.{count_by}
 use Rattle.std.specs.List.{AllByRecursion}
 use Rattle.std.proofs.lemmas.List.{length-append}
@@ -125,7 +125,7 @@ few_requesting t flow is = by (makes_requests flow.kind)
     by true = omega (arith, few_of_flow 0 flow flow.clusters, is.some_clusters.1)
     by false = omega arith
 
-few_clusters : (t : Tables) (flows : List FlowTable) → AllByRecursion (IsFlow t) flows →
+pub few_clusters : (t : Tables) (flows : List FlowTable) → AllByRecursion (IsFlow t) flows →
     length (flat_map requesting flows) ≤ 2 * length flows
 few_clusters t [] all = omega arith
 few_clusters t (flow ∷ flows) all =
@@ -135,7 +135,7 @@ all_counted : (ts : List Turn) → count_by (λ turn. true) ts ≡ length ts
 all_counted [] = refl
 all_counted (turn ∷ ts) = omega (arith, sum_by-cons (λ (turn : Turn). 1) turn ts, all_counted ts)
 
-few_turns : (t : Tables) → length (turns_of t) ≤ length (clusters_of t)
+pub few_turns : (t : Tables) → length (turns_of t) ≤ length (clusters_of t)
 unfolding turns_of
 few_turns t =
     omega (arith, all_counted (in_order (table_order t)), all_counted (table_order t), in_order-few (λ turn. true) (table_order t), table_order-length t)
@@ -157,3 +157,16 @@ turn_small t u i lawful at number =
       flow = omega (arith, at.within, lawful.few_flows);
       list = omega (arith, at.list at.turn.cluster.flow, is.some_clusters.1);
     }
+
+-- their clusters are those of the turns
+pub numbers_are : (t : Tables) (us : List places.Turn) (ts : List Turn) → map (turn_at t) us ≡ map Some ts →
+    map (λ u. u.cluster) us ≡ map (λ turn. turn.number) ts
+numbers_are t [] [] same = refl
+numbers_are t [] (turn ∷ ts) same = let no : [] ≡ Some turn ∷ map Some ts = same in cc
+numbers_are t (u ∷ us) [] same = let no : turn_at t u ∷ map (turn_at t) us ≡ [] = same in cc
+numbers_are t (u ∷ us) (turn ∷ ts) same =
+    let both : turn_at t u ∷ map (turn_at t) us ≡ Some turn ∷ map Some ts = same in
+    let first : turn_at t u ≡ Some turn = cc in
+    let rest : map (turn_at t) us ≡ map Some ts = cc in
+    let number : u.cluster ≡ turn.number = sym (led t u turn first).is.number in
+    ap₂ (λ n ns. n ∷ ns) number (numbers_are t us ts rest)

@@ -10,6 +10,7 @@ use Rattle.us_flows.specs.Clusters.{turns_of}
 use Rattle.us_split.specs.Divisions.{divided}
 use Rattle.us_split.specs.Plans.{weights, shares_of, cost_on, after_turn, plan_of, plan_for}
 use Rattle.us_split.specs.Claims.{Claim, claims_from, all_claims, share_of}
+use Rattle.us_split.specs.Asking.{asking, asking_in, claims_at, places_from, plan_of_askers, pending_places}
 
 -- what these computations unfold
 unfoldable all_steps : ⊤
@@ -162,3 +163,21 @@ looked_up :
     (share_of second_only 0 0 ≡ 0)
 unfolding all_steps
 looked_up = (refl, refl, refl, refl)
+
+-- Who asks.
+
+-- clusters 2, 0 and 1 in the order of turns: the first of these turns asks, and the last one; and the second is pending, where
+-- cluster 1 was credited 5 bytes, and cluster 2 all that was outstanding
+three_turns :
+    (asking (0 ∷ 9 ∷ 7 ∷ []) (2 ∷ 0 ∷ 1 ∷ []) ≡ 0 ∷ 2 ∷ []) ×
+    (pending_places (4 ∷ 9 ∷ 7 ∷ []) (4 ∷ 4 ∷ 0 ∷ []) (2 ∷ 0 ∷ 1 ∷ []) ≡ 1 ∷ [])
+unfolding places_from
+three_turns = (refl, refl)
+
+-- the second cluster alone asks, and claims as it does among all turns
+second_asks :
+    map (λ c. claims_at c (asking_in (bonded (1 ∷ 2 ∷ [])) (0 ∷ 7 ∷ []))
+    (plan_of_askers (bonded (1 ∷ 2 ∷ [])) (0 ∷ 7 ∷ []) (None ∷ []) (150 ∷ 150 ∷ []))) (channel 1 ∷ channel 2 ∷ [])
+    ≡ second_only
+unfolding all_steps places_from
+second_asks = refl

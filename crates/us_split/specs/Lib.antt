@@ -13,7 +13,17 @@ pub mod Claims
 pub mod PlanLaws
 -- whose the claims of a plan are
 pub mod Laws
+-- who asks in a round, and that its plan is theirs
+pub mod Asking
+-- what plans one round after another
+pub mod Planners
 -- the definitions at small inputs
 pub mod Examples
--- inside the crate, and of no use to a reader of the promise: a plan in the making
+-- inside the crate, and of no use to a reader of the promise: a plan in the making,
 pub mod PartialPlans
+-- what grants on a channel cost,
+pub mod KnownCosts
+-- how it is kept who asks,
+pub mod Askers
+-- and turns by the places of their channels
+pub mod TurnRows

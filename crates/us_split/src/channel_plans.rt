@@ -1,17 +1,22 @@
 ghost use Rattle.std.specs.Prelude.{◌≡◌, ℕ, ◌+◌, ◌*◌, ◌≤◌, [], length, map, slice_index, Some, None, MatchOption, IfOk, OnOk};
+ghost use Rattle.std.specs.List.{All};
 ghost use Rattle.us_slots.specs.Times.{minislot_ticks};
 ghost use Rattle.us_flows.specs.Lawful.{AreApart};
 ghost use Rattle.us_flows.specs.Ranges.{max_channels_of_flow, max_round_ticks};
 ghost use Rattle.us_flows.specs.Tables.{segment_header_bytes};
 ghost use Rattle.us_split.specs.Plans.{budget_of, weight, max_burst_bytes};
+ghost use Rattle.us_slots.specs.Capacities.{capacity_of};
 ghost use Rattle.us_split.specs.PartialPlans as spec;
+ghost use Rattle.us_split.specs.TurnRows.{IsTable};
+ghost use Rattle.us_split.specs.KnownCosts.{IsCost};
 ghost use Rattle.us_split.specs.PartialPlans.{budget_in, channel_of, IsPlaceOf, with_claim, with_share, claimed_at, claimed_from};
 
 use crate::claims::{Claim, Claimant};
+use crate::known_costs::{KnownCost, cost_of, first_costs};
 use std::alloc::Global;
 use std::marker::Model;
 use us_flows::Channel;
-use us_slots::{NoMemory, capacity, grant_cost};
+use us_slots::{BurstSet, NoMemory, capacity};
 
 /// Who claims: a SID cluster, the place of its turn, and the bytes of its segment header.
 #[derive(Clone, Copy)]
@@ -29,12 +34,15 @@ impl Model for Asker {
     ghost inverse = { λ a. record { claimant = a.claimant; turn = a.turn; header = a.header } };
 }
 
-/// A channel, the minislots that are still to be planned on it, and the claims so far, in the order of turns.
-#[derive(Drop)]
+/// A channel, the minislots that are still to be planned on it, and the claims so far, in the order of turns. What
+/// minislots carry in its long profile may stand in a table, by their number, and costs of grants that were reckoned
+/// before in another.
 pub(crate) struct ChannelPlan {
     channel: Channel,
     slots: u32,
     claims: Vec<Claim>,
+    carries: Vec<u32>,
+    costs: Vec<KnownCost>,
 }
 
 impl Model for ChannelPlan {
@@ -42,7 +50,21 @@ impl Model for ChannelPlan {
 
     ghost view = { λ c. record { channel = c.channel; slots = c.slots; claims = c.claims.items } };
 
-    ghost invariant = { λ c. c.slots * minislot_ticks c.channel.bursts.time ≤ max_round_ticks };
+    ghost invariant = { λ c. (c.slots * minislot_ticks c.channel.bursts.time ≤ max_round_ticks)
+        × IsTable c.channel.bursts c.carries.items × All (IsCost c.channel.bursts) c.costs.items };
+}
+
+/// Gives all lists up. It is written out so that it is one step wherever a channel's plan ends.
+impl Drop for ChannelPlan {
+    fn drop(self) {
+        let ChannelPlan {
+            channel: _,
+            slots: _,
+            claims: _,
+            carries: _,
+            costs: _,
+        } = self;
+    }
 }
 
 impl ChannelPlan {
@@ -55,7 +77,41 @@ impl ChannelPlan {
             channel,
             slots,
             claims: Vec::new(alloc),
+            carries: Vec::new(alloc),
+            costs: Vec::new(alloc),
         }
+    }
+
+    /// No minislots of a channel, no claims, a table of what up to so many of its minislots carry, which are no more than
+    /// a MAP has, and one of costs.
+    pub(crate) fn tabled(
+        alloc: Global,
+        channel: Channel,
+        most: u32,
+    ) -> Result<ChannelPlan, NoMemory>
+        requires { most * minislot_ticks channel.bursts.time ≤ max_round_ticks }
+        ensures { let plan : spec.ChannelPlan = record { channel = channel; slots = 0; claims = [] } in
+            IfOk result (λ made. made ≡ plan) }
+    {
+        let carries = table_of(alloc, &channel.bursts, most)?;
+        let costs = first_costs(alloc, &channel.bursts)?;
+        Ok(ChannelPlan {
+            channel,
+            slots: 0,
+            claims: Vec::new(alloc),
+            carries,
+            costs,
+        })
+    }
+
+    /// Gives the claims up, and has so many minislots, which are no more than a MAP has.
+    pub(crate) fn clear(&mut self, slots: u32)
+        requires { slots * minislot_ticks self.old.channel.bursts.time ≤ max_round_ticks }
+        ensures { let plan : spec.ChannelPlan = record { channel = self.old.channel; slots = slots; claims = [] } in
+            self.new ≡ plan }
+    {
+        self.claims.clear();
+        self.slots = slots;
     }
 
     /// The id of the channel.
@@ -73,26 +129,44 @@ impl ChannelPlan {
     }
 
     /// The most bytes that the channel can carry behind a header.
-    fn weight(&self, header: u32) -> u32
+    pub(crate) fn weight(&self, header: u32) -> u32
         requires { header ≤ segment_header_bytes }
         ensures value { result ≡ weight header (Some (budget_in self.now)) }
         ensures burst { result + header ≤ max_burst_bytes }
     {
-        capacity(
-            self.channel.bursts.time(),
-            self.channel.bursts.long(),
-            self.slots,
-        )
-        .saturating_sub(header)
+        self.carried().saturating_sub(header)
+    }
+
+    /// The most bytes that its minislots carry.
+    fn carried(&self) -> u32
+        ensures value { result ≡ capacity_of self.now.channel.bursts.time self.now.channel.bursts.long self.now.slots }
+        ensures burst { result ≤ max_burst_bytes }
+    {
+        match self.carries.get(self.slots as usize) {
+            Some(bytes) => *bytes,
+            None => capacity(
+                self.channel.bursts.time(),
+                self.channel.bursts.long(),
+                self.slots,
+            ),
+        }
     }
 
     /// Claims a share, and takes off the minislots that it costs.
     #[tactic(auto, using(crate::proofs::ChannelPlanLemmas::fewer_ticks))]
-    fn claim(&mut self, asker: Asker, position: u8, sid: u16, share: u32) -> Result<(), NoMemory>
+    pub(crate) fn claim(
+        &mut self,
+        asker: Asker,
+        position: u8,
+        sid: u16,
+        share: u32,
+    ) -> Result<(), NoMemory>
         requires { share + asker.header ≤ max_burst_bytes }
-        ensures { OnOk result (self.new ≡ with_claim asker position sid share self.old) }
+        ensures claim { OnOk result (self.new ≡ with_claim asker position sid share self.old) }
+        ensures channel { self.new.channel ≡ self.old.channel }
     {
-        let (slots, iuc) = grant_cost(&self.channel.bursts, share + u32::from(asker.header));
+        let bytes = share + u32::from(asker.header);
+        let (slots, iuc) = cost_of(&mut self.costs, &self.channel.bursts, bytes);
         self.claims.push(Claim {
             claimant: asker.claimant,
             turn: asker.turn,
@@ -106,6 +180,18 @@ impl ChannelPlan {
         self.slots = self.slots.saturating_sub(slots);
         Ok(())
     }
+}
+
+/// What minislots carry in the long profile of a channel, by their number, up to so many, which are no more than a MAP has.
+fn table_of(alloc: Global, bursts: &BurstSet, most: u32) -> Result<Vec<u32>, NoMemory>
+    requires { most * minislot_ticks bursts.now.time ≤ max_round_ticks }
+    ensures { IfOk result (λ table. IsTable bursts.now table.items) }
+{
+    let mut table = Vec::with_capacity(alloc, most as usize + 1)?;
+    for slots in 0..most + 1 {
+        table.push(capacity(bursts.time(), bursts.long(), slots))?;
+    }
+    Ok(table)
 }
 
 /// Where the channel with this id stands. Ids mostly follow one another in table order, so that place is tried first.
@@ -203,7 +289,7 @@ pub(crate) fn claim_all(
 }
 
 /// The SID at this position; 0 where there is none.
-fn sid_at(sids: &[u16], position: usize) -> u16
+pub(crate) fn sid_at(sids: &[u16], position: usize) -> u16
     ensures { result ≡ slice_index sids.now position }
 {
     match sids.get(position) {

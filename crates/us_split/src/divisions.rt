@@ -56,15 +56,20 @@ fn part_of(bytes: u64, total: u64, weight: u32) -> u32
     (bytes * u64::from(weight) / total) as u32
 }
 
-/// The bytes that are left over where each channel gets its part.
-fn left_over(bytes: u64, total: u64, weights: &[u32]) -> u64
+/// Writes the part of each channel, and answers the bytes that are left over then.
+fn write_parts(bytes: u64, total: u64, weights: &[u32], parts: &mut [u32]) -> u64
+    requires same_length { length weights.now ≡ length parts.old }
     requires below { bytes < total }
     requires small { total ≤ max_channels_of_flow * max_burst_bytes }
-    ensures { result ≡ bytes - sum (map (λ weight. bytes * weight / total) weights.now) }
+    ensures parts { parts.new ≡ map (λ weight. bytes * weight / total) weights.now }
+    ensures left { result ≡ bytes - sum (map (λ weight. bytes * weight / total) weights.now) }
+    ensures within { (channel : ℕ) → slice_index parts.new channel ≤ slice_index weights.now channel }
 {
     let mut left = bytes;
-    for weight in weights {
-        left = left.saturating_sub(u64::from(part_of(bytes, total, *weight)));
+    for i in 0..weights.len() {
+        let part = part_of(bytes, total, weights[i]);
+        parts[i] = part;
+        left = left.saturating_sub(u64::from(part));
     }
     left
 }
@@ -86,9 +91,9 @@ fn top_up(bytes: u64, total: u64, weights: &[u32], shares: &mut [u32])
     ensures { shares.new ≡ topped_up (bytes - sum (map (λ weight. bytes * weight / total) weights.now))
         (map (λ weight. (bytes * weight / total, weight)) weights.now) }
 {
-    let mut left = left_over(bytes, total, weights);
+    let mut left = write_parts(bytes, total, weights, shares);
     for i in 0..weights.len() {
-        let part = part_of(bytes, total, weights[i]);
+        let part = shares[i];
         let more = byte_more(left, part, weights[i]);
         shares[i] = part + more;
         left -= u64::from(more);

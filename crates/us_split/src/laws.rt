@@ -1,5 +1,6 @@
-//! Laws of the claims of a plan, each as the contract of a function that does nothing.
+//! Laws of the claims of a plan and of those who ask, each as the contract of a function that does nothing.
 
+ghost use Rattle.us_split.specs.Asking.{AskersClaim, TurnsPass};
 ghost use Rattle.us_split.specs.Laws.{ClaimsAreOfTurns, ClustersClaimOnce};
 
 /// Each claim of a plan is of a turn of the tables: of its cluster, with its header, and with the cluster's SID on the
@@ -11,4 +12,14 @@ pub fn claims_are_of_turns()
 /// On a channel no cluster has two claims.
 pub fn clusters_claim_once()
     ensures { ClustersClaimOnce }
+{}
+
+/// The claims of a plan are those of the turns that ask, whatever is said to be allowed of the flows of others.
+pub fn askers_claim()
+    ensures { AskersClaim }
+{}
+
+/// The turns at the places of those that pass are the turns that pass.
+pub fn turns_pass()
+    ensures { TurnsPass }
 {}

@@ -15,6 +15,9 @@ mod divisions;
 // What a turn may send on a channel.
 mod claims;
 
+// What a grant on a channel costs.
+mod known_costs;
+
 // What is planned on a channel.
 mod channel_plans;
 
@@ -30,12 +33,29 @@ mod plans;
 // The plan of a round.
 mod planning;
 
-// Laws of its claims.
+// Who asks in a round.
+mod asking;
+
+// Turns by the places of their channels,
+mod turn_rows;
+
+// channels by their places,
+mod by_places;
+
+// the turns of a round by these,
+mod row_plans;
+
+// and the planner that keeps them from round to round.
+mod planner;
+
+// Laws of claims and of those who ask.
 mod laws;
 
+pub use asking::Askers;
 pub use claims::{Claim, Claimant};
 pub use divisions::{MAX_CHANNELS_OF_FLOW, divide};
-pub use laws::{claims_are_of_turns, clusters_claim_once};
+pub use laws::{askers_claim, claims_are_of_turns, clusters_claim_once, turns_pass};
+pub use planner::Planner;
 pub use planning::{plan, plan_with};
 pub use plans::Plan;
 

@@ -181,7 +181,7 @@ impl PartialPlan {
 }
 
 /// Who claims in a turn of this flow.
-fn asker_of(place: u16, turn: &Turn, flow: &Flow) -> Asker
+pub(crate) fn asker_of(place: u16, turn: &Turn, flow: &Flow) -> Asker
     requires { IsSmall turn.now }
     ensures { let claimant : claims_spec.Claimant = record {
       cluster = turn.now.cluster;
@@ -206,7 +206,7 @@ fn asker_of(place: u16, turn: &Turn, flow: &Flow) -> Asker
 }
 
 /// The SIDs of the cluster at this place of a flow's list.
-fn sids_of(flow: &Flow, list: usize) -> &[u16]
+pub(crate) fn sids_of(flow: &Flow, list: usize) -> &[u16]
     ensures { (sids : List ℕ) → slice_get flow.now.clusters list ≡ Some sids → result.now ≡ sids }
 {
     match flow.clusters().get(list) {

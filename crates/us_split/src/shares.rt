@@ -1,4 +1,4 @@
-ghost use Rattle.std.specs.Prelude.{◌≡◌, ℕ, ◌+◌, ◌≤◌, length, map, take, slice_index, sum, List};
+ghost use Rattle.std.specs.Prelude.{◌≡◌, ℕ, ◌+◌, ◌<◌, ◌≤◌, length, map, take, slice_index, sum, List};
 ghost use Rattle.std.specs.List.{AllByRecursion};
 ghost use Rattle.us_flows.specs.Lawful.{AreApart};
 ghost use Rattle.us_flows.specs.Ranges.{max_channels_of_flow};
@@ -6,9 +6,12 @@ ghost use Rattle.us_flows.specs.Tables.{segment_header_bytes};
 ghost use Rattle.us_split.specs.Divisions.{divided};
 ghost use Rattle.us_split.specs.PartialPlans.{budget_in};
 ghost use Rattle.us_split.specs.Plans.{budget_of, weight, max_burst_bytes};
+ghost use Rattle.us_split.specs.TurnRows.{weight_at};
 
+use crate::by_places::weigh_at;
 use crate::channel_plans::{ChannelPlan, weigh};
 use crate::divisions::{MAX_CHANNELS_OF_FLOW, divide, sum_of};
+use crate::turn_rows::Seat;
 use std::marker::Model;
 
 /// Bytes for each channel of a flow, in the flow's order: what it can carry, or its share. It has no memory of its own.
@@ -55,6 +58,22 @@ impl Shares {
         Shares {
             bytes,
             count: ids.len(),
+        }
+    }
+
+    /// The bytes that the channels at these seats can carry behind a header.
+    pub(crate) fn weights_at(channels: &[ChannelPlan], seats: &[Seat], header: u32) -> Shares
+        requires inside { AllByRecursion (λ seat. seat.place < length channels.now) seats.now }
+        requires few { length seats.now ≤ max_channels_of_flow }
+        requires header { header ≤ segment_header_bytes }
+        ensures value { result ≡ map (λ seat. weight_at header channels.now seat.place) seats.now }
+        ensures bursts { (k : ℕ) → slice_index result k + header ≤ max_burst_bytes }
+    {
+        let mut bytes = [0; MAX_CHANNELS_OF_FLOW];
+        weigh_at(channels, seats, header, &mut bytes[..seats.len()]);
+        Shares {
+            bytes,
+            count: seats.len(),
         }
     }
 

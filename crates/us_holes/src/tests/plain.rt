@@ -1,8 +1,9 @@
 ghost use Rattle.std.specs.Prelude.{◌≤◌, ◌<◌};
 
 use super::base::{Triple, Wish, is_told, place, same};
-use crate::{Board, Placed};
+use crate::{Board, Owner, Placed};
 use std::alloc::Global;
+use us_slots::Iuc;
 
 /// The minislots of a plain program, a list of owners: the number of the assignment that holds each, and 0 where it is
 /// idle.
@@ -160,6 +161,7 @@ fn plain_program_agrees(rt: HostRuntime) {
     let mut seed = 1;
     for _ in 0..40u32 {
         same(&rt, wishes_agree(rt.alloc(), &mut board, &mut seed), 30);
-        board.clear();
+        let nobody = Owner::new(0, Iuc::request());
+        board.reserve_ends(0, nobody, 0, nobody);
     }
 }

@@ -69,17 +69,17 @@ fn run<R: Threads + Sync>(
     requires some { 1 ≤ intake.now.clusters }
     ensures { result.1.intake ≡ intake.now }
 {
-    let ((live, first), (second, third)) = join(
+    let ((second, third), (live, first)) = join(
         rt,
-        move || -> (Live, Seat)
-            requires { IsSync R.row × Feeds live intake.now first }
-            ensures { Feeds result.0 intake.entry.now result.1 }
-        { make_all(rt, alloc, live, intake, first) },
         move || -> (Seat, Seat)
             requires { IsSync R.row × (second.intake ≡ intake.now) × (third.intake ≡ intake.now)
                 × (1 ≤ intake.now.clusters) }
             ensures { (result.0.intake ≡ intake.entry.now) × (result.1.intake ≡ intake.entry.now) }
         { submit_both(rt, intake, second, third) },
+        move || -> (Live, Seat)
+            requires { IsSync R.row × Feeds live intake.now first }
+            ensures { Feeds result.0 intake.entry.now result.1 }
+        { make_all(rt, alloc, live, intake, first) },
     );
     (live, intake.join(intake.join(first, second), third))
 }

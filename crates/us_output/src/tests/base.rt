@@ -12,11 +12,10 @@ use std::alloc::{AllocError, Global};
 use std::process::Abort;
 use us_bucket::Bucket;
 use us_calendar::Settled;
-use us_channel::{Built, Filled, Lane, build_on, fill};
+use us_channel::ChannelRound;
 use us_flows::{Channel, Config, ConfigFault};
-use us_requests::ClusterState;
 use us_samples::put_channel;
-use us_slots::{MAX_MAP_TICKS, NoMemory, grant_cost};
+use us_slots::{NoMemory, grant_cost};
 use us_split::{Claim, Claimant};
 
 /// Two clusters of a flow without a limit, two unsolicited grants of a minislot that are ideal at minislot 70, and a
@@ -77,7 +76,7 @@ pub(super) fn answer_of(alloc: Global) -> Result<String, AllocError> {
     Ok(answer)
 }
 
-fn config_of(alloc: Global) -> Result<Config, ConfigFault> {
+pub(super) fn config_of(alloc: Global) -> Result<Config, ConfigFault> {
     let text = text_of(alloc)?;
     Config::read(alloc, text.as_bytes())
 }
@@ -97,10 +96,9 @@ fn tell(alloc: Global, answer: &mut String, config: &Config) -> Result<(), NoMem
     if !config.rounds_fit(1) || !settled_inside(&built) || !grants_inside(&built) {
         return Ok(());
     }
-    let left = states_of(alloc, &LEFT)?;
     let mut all = Vec::with_capacity(alloc, 1)?;
     all.push(built)?;
-    let out = round_out(alloc, config, 0, &OUTSTANDING, &left, &all)?;
+    let out = round_out(alloc, config, 0, &OUTSTANDING, &LEFT, &all)?;
     let (maps, rows) = out.into_parts();
     for row in &rows {
         tell_line(answer, row)?;
@@ -108,73 +106,49 @@ fn tell(alloc: Global, answer: &mut String, config: &Config) -> Result<(), NoMem
     for map in &maps {
         tell_words(answer, map)?;
     }
-    tell_finals(alloc, answer, config, &left)
+    tell_finals(alloc, answer, config)
 }
 
 /// The final lines, where every bucket is full.
-fn tell_finals(
-    alloc: Global,
-    answer: &mut String,
-    config: &Config,
-    left: &[ClusterState],
-) -> Result<(), NoMemory> {
+fn tell_finals(alloc: Global, answer: &mut String, config: &Config) -> Result<(), NoMemory> {
     let mut buckets = Vec::new(alloc);
     for flow in config.flows() {
         buckets.push(Bucket::full(flow.rate(), flow.burst()))?;
     }
-    for row in &final_rows(alloc, config, left, &buckets)? {
+    for row in &final_rows(alloc, config, &LEFT, &buckets)? {
         tell_line(answer, row)?;
     }
     Ok(())
 }
 
-/// Clusters of which so much is outstanding.
-fn states_of(alloc: Global, bytes: &[u64]) -> Result<Vec<ClusterState>, NoMemory> {
-    let mut states = Vec::new(alloc);
-    for bytes in bytes {
-        let mut state = ClusterState::new();
-        state.add(*bytes & 0xffff);
-        states.push(state)?;
-    }
-    Ok(states)
-}
-
 /// The configuration's first channel in round 0, once the claims are placed, if the round may be made.
-fn built_of(alloc: Global, config: &Config) -> Result<Option<Built>, NoMemory>
+pub(super) fn built_of(alloc: Global, config: &Config) -> Result<Option<ChannelRound>, NoMemory>
     ensures { IfOk result (λ found. IfSome found (IsBuiltFor config.now)) }
 {
     if config.channels().is_empty() || !config.rounds_fit(1) {
         return Ok(None);
     }
-    let channel = config.channels()[0];
-    let lane = Lane::new(alloc, config, 0)?;
-    let filled = fill(alloc, config, &channel, lane, 0)?;
-    place(alloc, config, &channel, filled)
+    let mut part = ChannelRound::new(alloc, config, 0)?;
+    part.fill(config, 0)?;
+    Ok(place(config, part))
 }
 
 /// Places the claims, if they are claims of the channel.
-fn place(
-    alloc: Global,
-    config: &Config,
-    channel: &Channel,
-    filled: Filled,
-) -> Result<Option<Built>, NoMemory>
-    requires lawful { IsChannel config.now channel.now }
-    requires channel { filled.channel ≡ channel.now }
-    requires len { length filled.board.cells ≡ map_len config.now channel.now }
-    ensures { IfOk result (λ found. IfSome found (IsBuiltFor config.now)) }
+fn place(config: &Config, part: ChannelRound) -> Option<ChannelRound>
+    requires lawful { IsChannel config.now part.channel }
+    requires len { length part.board.cells ≡ map_len config.now part.channel }
+    ensures { IfSome result (IsBuiltFor config.now) }
 {
+    let mut part = part;
+    let channel = *part.channel();
     let (Some(first), Some(second)) = (
-        claim_of(channel, 0, 291, 1_000),
-        claim_of(channel, 1, 292, 2_000),
+        claim_of(&channel, 0, 291, 1_000),
+        claim_of(&channel, 1, 292, 2_000),
     ) else {
-        return Ok(None);
+        return None;
     };
-    if config.map_len(channel) * channel.bursts.time().minislot_ticks() > MAX_MAP_TICKS {
-        return Ok(None);
-    }
-    let built = build_on(alloc, &[first, second], filled)?;
-    Ok(Some(built))
+    part.place_claims(&[first, second]);
+    Some(part)
 }
 
 /// A claim of a cluster of the first flow, of so many bytes behind no header.
@@ -208,7 +182,7 @@ fn claim_of(channel: &Channel, list: u8, sid: u16, share: u32) -> Option<Claim>
 }
 
 /// Whether all that a calendar granted on a channel starts inside its MAP.
-fn settled_inside(part: &Built) -> bool
+pub(super) fn settled_inside(part: &ChannelRound) -> bool
     ensures { IsTrue result →
         AllByRecursion (calendars.StartsInside (length part.now.board.cells)) part.now.settled }
 {
@@ -224,7 +198,7 @@ fn settled_inside(part: &Built) -> bool
 }
 
 /// Whether all grants of requests on a channel start inside its MAP.
-fn grants_inside(part: &Built) -> bool
+pub(super) fn grants_inside(part: &ChannelRound) -> bool
     ensures { IsTrue result → AllByRecursion (StartsInside (length part.now.board.cells)) part.now.grants }
 {
     let len = part.board().len();

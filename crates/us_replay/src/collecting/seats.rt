@@ -4,6 +4,7 @@ ghost use Rattle.us_intake.specs.Seats.{new_seat, seat_after_split, spent};
 ghost use Rattle.us_requests.specs.Traces.{max_asks};
 ghost use Rattle.us_replay.specs.Collecting.{AreAsks, IsChunk, chunk_quota, joined_seats};
 
+use super::submitting::Chunk;
 use std::alloc::Global;
 use us_intake::{Intake, Seat};
 use us_requests::Ask;
@@ -14,13 +15,13 @@ const MAX_ASK: u64 = 1_048_560;
 
 /// Divides asks into so many chunks that stand side by side, none of them much longer than another, and splits a seat
 /// off for each. What is left of the seat comes first.
-pub(super) fn split_all<'a>(
+pub(crate) fn split_all<'a>(
     alloc: Global,
     intake: &Intake,
     seat: Seat,
     asks: &'a [Ask],
     parts: usize,
-) -> Result<(Seat, Vec<(Seat, &'a [Ask])>), NoMemory>
+) -> Result<(Seat, Vec<Chunk<'a>>), NoMemory>
     requires own { seat.intake ≡ intake.now }
     requires some { 1 ≤ parts }
     requires parts { parts ≤ length asks.now }
@@ -68,7 +69,7 @@ fn split_off(
 }
 
 /// Makes a seat and those that were split off it one again.
-pub(super) fn join_all(intake: &Intake, seat: Seat, others: Vec<Seat>) -> Seat
+pub(crate) fn join_all(intake: &Intake, seat: Seat, others: Vec<Seat>) -> Seat
     requires own { seat.intake ≡ intake.now }
     requires others { AllByRecursion (λ other. other.intake ≡ intake.now) others.items }
     ensures { result ≡ joined_seats seat others.items }

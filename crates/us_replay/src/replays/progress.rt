@@ -1,40 +1,36 @@
-ghost use Rattle.std.specs.Prelude.{◌≡◌, ◌+◌, ◌≤◌, length, IfOk, OnOk};
+ghost use Rattle.std.specs.Prelude.{◌≡◌, ◌+◌, ◌≤◌, length, IfOk, OnOk, option_map};
 ghost use Rattle.std.specs.List.{AllByRecursion};
+ghost use Rattle.us_flows.specs.Tables.{Tables};
 ghost use Rattle.us_requests.specs.Traces.{max_asked, max_asks};
-ghost use Rattle.us_lawful.specs.Texts.{HasFields};
-ghost use Rattle.us_replay.specs.Collecting.{AreAsks, chunk_quota};
+ghost use Rattle.us_output.specs.Lines.{HasFields};
+ghost use Rattle.us_output.specs.Outputs.{AreWithinLimits, out_of};
+ghost use Rattle.us_replay.specs.Collecting.{AreAsks, AreOpen, chunk_quota};
 ghost use Rattle.us_replay.specs.Progress as spec;
 ghost use Rattle.us_replay.specs.Progress.{HasRoom, last_rows, summary_after, with_asks, with_last, with_round};
 
-use super::tallies::Tally;
 use crate::collecting::Collector;
-use crate::lines::LINE_BYTES;
+use crate::doers::Doers;
 use crate::summaries::Summary;
-use crate::texts::{push_lines, push_records};
 use std::alloc::Global;
 use std::marker::Model;
-use std::thread::Threads;
-use us_codec::MAX_BODY_BYTES;
-use us_crew::Gate;
-use us_intake::MAX_CLUSTERS;
+use us_intake::{Intake, Seat};
+use us_output::{LineTally, Scratch, push_rows};
 use us_requests::{Ask, Counts};
-use us_round::{RoundOut, Row, State, TraceCounts};
+use us_round::{RoundDone, Row, State, TraceCounts};
 use us_slots::NoMemory;
 
 /// What a replay keeps from one round to the next beside the state: what collects requests, the buffers that every round
 /// uses again, and how many lines there were.
 #[derive(Drop)]
-pub(crate) struct Progress {
-    collector: Collector,
+pub(crate) struct Progress<'a> {
+    collector: Collector<'a>,
     to_maps: Vec<u8>,
     to_report: Vec<u8>,
-    tally: Tally,
-    // Where a MAP is encoded, and where a line is put together.
-    body: [u8; MAX_BODY_BYTES],
-    line: [u8; LINE_BYTES],
+    tally: LineTally,
+    scratch: Scratch,
 }
 
-impl Model for Progress {
+impl<'a> Model for Progress<'a> {
     ghost Value = { spec.Progress };
 
     ghost view = { λ p. record {
@@ -47,41 +43,43 @@ impl Model for Progress {
     } };
 }
 
-impl Progress {
-    /// Before round 0 of so many clusters.
-    pub(crate) fn opening(alloc: Global, clusters: usize) -> Result<Progress, NoMemory>
-        requires { clusters ≤ MAX_CLUSTERS }
+impl<'a> Progress<'a> {
+    /// Before round 0 of so many clusters, with what was opened for them.
+    pub(crate) fn opening(
+        alloc: Global,
+        clusters: usize,
+        intake: Option<&'a Intake>,
+        seat: Option<Seat>,
+    ) -> Result<Progress<'a>, NoMemory>
+        requires { AreOpen clusters (option_map (λ i. i.now) intake) seat }
         ensures { IfOk result (λ p. p ≡ spec.opening_progress clusters) }
     {
         Ok(Progress {
-            collector: Collector::open(alloc, clusters)?,
+            collector: Collector::open(alloc, clusters, intake, seat)?,
             to_maps: Vec::new(alloc),
             to_report: Vec::new(alloc),
-            tally: Tally {
+            tally: LineTally {
                 granted: 0,
                 missed: 0,
             },
-            body: [0; MAX_BODY_BYTES],
-            line: [0; LINE_BYTES],
+            scratch: Scratch::new(alloc),
         })
     }
 
-    /// Collects the asks of the next round. After want of memory nothing is said of what stands here.
-    pub(crate) fn take_asks<H: Threads + Sync, G: Gate + Sync>(
+    /// Has the asks of the next round collected. After want of memory nothing is said of what stands here.
+    pub(crate) fn take_asks<D: Doers<'a>>(
         &mut self,
-        threads: &H,
         alloc: Global,
-        asks: &[Ask],
-        workers: usize,
-        gate: &G,
+        asks: &'a [Ask],
+        doers: &mut D,
     ) -> Result<(), NoMemory>
-        requires workers { 1 ≤ workers }
         requires asks { AreAsks (length self.old.cut) asks.now }
         requires few { length asks.now ≤ max_asks }
         requires room { self.old.collected + chunk_quota asks.now ≤ max_asked }
-        ensures { OnOk result (self.new ≡ with_asks self.old asks.now) }
+        ensures collected { OnOk result (self.new ≡ with_asks self.old asks.now) }
+        ensures same { (t : Tables) → D.knows doers.old t → D.knows doers.new t }
     {
-        self.collector.collect(threads, alloc, asks, workers, gate)
+        self.collector.collect(alloc, asks, doers)
     }
 
     /// What each cluster newly asks for.
@@ -94,16 +92,19 @@ impl Progress {
     /// Makes all that is to be written of a round. After want of memory nothing is said of what stands here.
     // `with_round` is closed elsewhere: only here is it what the calls below make.
     #[tactic(auto, unfolding(crate::specs::Progress::with_round))]
-    pub(crate) fn take_round(&mut self, out: &RoundOut) -> Result<(), NoMemory>
-        requires { HasRoom self.old (length out.now.rows) }
-        ensures progress { OnOk result (self.new ≡ with_round self.old out.now) }
-        ensures fields { OnOk result (AllByRecursion HasFields out.now.rows) }
+    pub(crate) fn take_round(&mut self, made: &RoundDone) -> Result<(), NoMemory>
+        requires { AreWithinLimits made.now.state.tables made.now.scheduled →
+            HasRoom self.old (length (out_of made.now.state.tables made.now.scheduled).rows) }
+        ensures progress { OnOk result (self.new ≡
+            with_round self.old (out_of made.now.state.tables made.now.scheduled)) }
+        ensures limits { OnOk result (AreWithinLimits made.now.state.tables made.now.scheduled) }
+        ensures fields { OnOk result (AllByRecursion HasFields
+            (out_of made.now.state.tables made.now.scheduled).rows) }
     {
-        self.tally.add(out.rows());
         self.to_maps.clear();
-        push_records(&mut self.to_maps, &mut self.body, out)?;
+        made.push_records(&mut self.to_maps, &mut self.scratch)?;
         self.to_report.clear();
-        push_lines(&mut self.to_report, &mut self.line, out.rows())
+        made.push_lines(&mut self.to_report, &mut self.scratch, &mut self.tally)
     }
 
     /// Makes the end of the report, of the state after all rounds. After want of memory nothing is said of what stands
@@ -129,7 +130,7 @@ impl Progress {
         }))?;
         self.to_maps.clear();
         self.to_report.clear();
-        push_lines(&mut self.to_report, &mut self.line, &rows)
+        push_rows(&mut self.to_report, &mut self.scratch, &rows)
     }
 
     /// What is to be written to the maps file.

@@ -8,95 +8,102 @@ use std::sync::atomic::{AtomicBool, AtomicUsize, Ordering};
 use std::thread::{Threads, yield_now};
 use us_crew::{Gate, Phase};
 
-/// The turns that a worker waits where another one is sure to come.
-const MANY: u64 = 100_000_000;
+/// The turns that a worker waits for another one. Before the first round the other workers may not be there yet: their
+/// items are done by the thread of the replay, so a phase is waited in until some have met there.
+const MANY: u64 = 1_000_000;
 
-/// A gate that holds the first two items of a phase, each until the other has entered as often, for at most so many
-/// turns.
+/// Where the workers of a phase meet.
 #[derive(Drop)]
-struct Meeting {
-    phase: Phase,
-    turns: u64,
-    first: AtomicUsize,
-    second: AtomicUsize,
-    missed: AtomicBool,
+struct Square {
+    entered: AtomicUsize,
+    inside: AtomicUsize,
+    have_met: AtomicBool,
 }
 
-impl Meeting {
-    fn new(phase: Phase, turns: u64) -> Meeting {
-        Meeting {
-            phase,
-            turns,
-            first: AtomicUsize::new(0),
-            second: AtomicUsize::new(0),
-            missed: AtomicBool::new(false),
+impl Square {
+    fn new() -> Square {
+        Square {
+            entered: AtomicUsize::new(0),
+            inside: AtomicUsize::new(0),
+            have_met: AtomicBool::new(false),
         }
     }
 
-    /// Enters by one counter, and waits for the other.
-    fn meet(&self, own: &AtomicUsize, other: &AtomicUsize) {
-        let before = own.fetch_add(1, Ordering::SeqCst);
-        for _ in 0..self.turns {
-            if other.load(Ordering::SeqCst) > before {
-                return;
+    /// Stays until two have been here at the same time, for at most so many turns.
+    fn stay(&self, turns: u64) {
+        self.entered.fetch_add(1, Ordering::SeqCst);
+        if self.inside.fetch_add(1, Ordering::SeqCst) > 0 {
+            self.have_met.store(true, Ordering::SeqCst);
+        }
+        for _ in 0..turns {
+            if self.have_met.load(Ordering::SeqCst) {
+                break;
             }
             yield_now();
         }
-        self.missed.store(true, Ordering::SeqCst);
+        self.inside.fetch_sub(1, Ordering::SeqCst);
     }
+
+    /// How many entered, and whether two have met.
+    fn seen(&self) -> (usize, bool) {
+        (
+            self.entered.load(Ordering::SeqCst),
+            self.have_met.load(Ordering::SeqCst),
+        )
+    }
+}
+
+/// A gate with a square for each phase.
+#[derive(Drop)]
+struct Meeting {
+    turns: u64,
+    collect: Square,
+    fill: Square,
+    build: Square,
 }
 
 impl Gate for Meeting {
     ghost entered = { λ _ _ _. ⊤ };
 
-    fn enter(&self, phase: Phase, index: usize) {
-        if phase == self.phase {
-            match index {
-                0 => self.meet(&self.first, &self.second),
-                _ => self.meet(&self.second, &self.first),
-            }
-        }
+    fn enter(&self, phase: Phase, _index: usize) {
+        let square = match phase {
+            Phase::Collect => &self.collect,
+            Phase::Fill => &self.fill,
+            Phase::Build => &self.build,
+        };
+        square.stay(self.turns);
     }
 }
 
-/// How often the first two items of a phase are entered in the bonded run, and whether one went on alone: workers wait for
-/// each other so many turns.
+/// How many items of each phase the gate is entered for in the bonded run, and whether two workers met there.
 fn enter(
     rt: &(impl Abort + Threads + Sync),
     alloc: Global,
-    phase: Phase,
     workers: usize,
     turns: u64,
-    wanted: (usize, usize, bool),
+    wanted: ((usize, bool), (usize, bool), (usize, bool)),
 ) {
-    let gate = Meeting::new(phase, turns);
+    let gate = Meeting {
+        turns,
+        collect: Square::new(),
+        fill: Square::new(),
+        build: Square::new(),
+    };
     expect(rt, alloc, workers, &gate, BONDED_OUTCOME);
-    let met = (
-        gate.first.load(Ordering::SeqCst),
-        gate.second.load(Ordering::SeqCst),
-        gate.missed.load(Ordering::SeqCst),
-    );
-    same(rt, &met, &wanted, "met");
+    let found = (gate.collect.seen(), gate.fill.seen(), gate.build.seen());
+    same(rt, &found, &wanted, "met");
 }
 
-/// Round 0 has no requests.
+/// Round 0 has no requests, and round 1 has two.
 #[test]
-fn workers_meet_in_collect(rt: HostRuntime) {
-    enter(&rt, rt.alloc(), Phase::Collect, 2, MANY, (1, 1, false));
+fn workers_meet_in_each_phase(rt: HostRuntime) {
+    let wanted = ((2, true), (4, true), (4, true));
+    enter(&rt, rt.alloc(), 2, MANY, wanted);
 }
 
-/// One worker has all requests of a round.
+/// One worker has all requests of a round, as one item.
 #[test]
-fn one_worker_enters_collect(rt: HostRuntime) {
-    enter(&rt, rt.alloc(), Phase::Collect, 1, 0, (1, 0, true));
-}
-
-#[test]
-fn workers_meet_in_fill(rt: HostRuntime) {
-    enter(&rt, rt.alloc(), Phase::Fill, 2, MANY, (2, 2, false));
-}
-
-#[test]
-fn workers_meet_in_build(rt: HostRuntime) {
-    enter(&rt, rt.alloc(), Phase::Build, 2, MANY, (2, 2, false));
+fn one_worker_enters_each_phase(rt: HostRuntime) {
+    let wanted = ((1, false), (4, false), (4, false));
+    enter(&rt, rt.alloc(), 1, 0, wanted);
 }

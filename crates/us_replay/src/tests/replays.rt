@@ -1,4 +1,6 @@
-use super::base::{MAPS, REPORT, TRACE, base, same};
+use super::base::{
+    BONDED_MAPS, BONDED_REPORT, BONDED_TRACE, MAPS, REPORT, TRACE, base, bonded, same,
+};
 use super::devices::{FakeReader, FakeWriter, reader, short_writer, stuck_writer, writer};
 use crate::{RunFault, Summary, replay};
 use std::alloc::Global;
@@ -165,17 +167,22 @@ fn trace_that_fails(rt: HostRuntime) {
     }
 }
 
-/// Whether a replay answers what it may where memory is refused, and blames no device.
-fn is_right(threads: &(impl Threads + Sync), alloc: Global, config: &Config) -> bool {
-    let (maps, report) = (writer(MAPS, 100), writer(REPORT, 100));
-    let trace = reader(TRACE, false);
+/// Whether the bonded run by so many workers answers what it may where memory is refused, and blames no device.
+fn is_right(
+    threads: &(impl Threads + Sync),
+    alloc: Global,
+    config: &Config,
+    workers: usize,
+) -> bool {
+    let (maps, report) = (writer(BONDED_MAPS, 100), writer(BONDED_REPORT, 100));
+    let trace = reader(BONDED_TRACE, false);
     let (answer, trace, maps, report) = outcome(
-        threads, alloc, config, 1, &OpenGate, trace, maps, report,
+        threads, alloc, config, workers, &OpenGate, trace, maps, report,
     );
     let blameless = !trace.0 && !maps.0 && !report.0;
     let as_wanted = maps.2 && report.2;
     let right = match answer {
-        Ok(summary) => summary == STORED,
+        Ok(summary) => summary.granted == 5,
         Err(RunFault::NoMemory(done)) => done <= 2,
         Err(fault) => fault == RunFault::Trace(TraceFault::NoMemory),
     };
@@ -185,12 +192,11 @@ fn is_right(threads: &(impl Threads + Sync), alloc: Global, config: &Config) -> 
 /// Run by `tools/refuse-memory` too, where each allocation is refused in turn.
 #[test]
 fn refused_memory(rt: HostRuntime) {
-    if let Ok(config) = base(rt.alloc()) {
-        same(
-            &rt,
-            &is_right(&rt, rt.alloc(), &config),
-            &true,
-            "without memory",
-        );
+    let Ok(config) = bonded(rt.alloc()) else {
+        return;
+    };
+    for workers in [1, 2, 3] {
+        let right = is_right(&rt, rt.alloc(), &config, workers);
+        same(&rt, &right, &true, "without memory");
     }
 }

@@ -8,7 +8,6 @@ use std::thread::Threads;
 use us_codec::Map;
 use us_crew::{Gate, OpenGate};
 use us_flows::{Config, ConfigFault};
-use us_requests::ClusterState;
 use us_samples::put_channel;
 use us_slots::NoMemory;
 
@@ -168,14 +167,14 @@ fn next_round<H: Threads + Sync, G: Gate + Sync>(
 }
 
 /// Whether what is outstanding and asked for is below 2^62 of each cluster.
-fn have_room(outstanding: &[ClusterState], cut: &[u64]) -> bool
+fn have_room(outstanding: &[u64], cut: &[u64]) -> bool
     ensures { IsTrue result → AllByRecursion (λ pair. pair.0 + pair.1 < 2 ^ 62) (zip outstanding.now cut.now) }
 {
     if outstanding.len() != cut.len() {
         return false;
     }
     for place in 0..cut.len() {
-        if cut[place] >= (1 << 62) - outstanding[place].outstanding() {
+        if outstanding[place] >= 1 << 62 || cut[place] >= (1 << 62) - outstanding[place] {
             return false;
         }
     }

@@ -54,7 +54,7 @@ pub fn config_of(alloc: Global, case: &Case<'_>) -> Option<Config> {
 }
 
 /// Whether these are idle minislots of the channels.
-fn is_idle(config: &Config, idle: &[u32]) -> bool
+pub fn is_idle(config: &Config, idle: &[u32]) -> bool
     ensures { IsTrue result → IsIdle config.now idle.now }
 {
     let channels = config.channels();
@@ -87,23 +87,29 @@ pub fn tell(alloc: Global, plan: &Plan, channels: usize) -> Result<String, Alloc
     let mut text = String::new(alloc);
     for channel in 0..channels {
         let claims = plan.claims(channel);
-        if claims.is_empty() {
-            continue;
-        }
-        write!(
-            text,
-            "{}{channel}:",
-            if text.is_empty() { "" } else { "; " }
-        )?;
-        for (place, claim) in claims.iter().enumerate() {
-            write!(text, "{}", if place == 0 { " " } else { ", " })?;
-            tell_claim(&mut text, plan, claim)?;
+        tell_list(&mut text, channel, claims)?;
+        if !are_found(plan, claims) {
+            text.push_str(" (not found)")?;
         }
     }
     Ok(text)
 }
 
-fn tell_claim(text: &mut String, plan: &Plan, claim: &Claim) -> Result<(), AllocError> {
+/// The claims on a channel.
+pub fn tell_list(text: &mut String, channel: usize, claims: &[Claim]) -> Result<(), AllocError> {
+    for (place, claim) in claims.iter().enumerate() {
+        if place == 0 {
+            let between = if text.is_empty() { "" } else { "; " };
+            write!(text, "{between}{channel}: ")?;
+        } else {
+            text.push_str(", ")?;
+        }
+        tell_claim(text, claim)?;
+    }
+    Ok(())
+}
+
+fn tell_claim(text: &mut String, claim: &Claim) -> Result<(), AllocError> {
     let Claim {
         turn,
         sid,
@@ -112,9 +118,21 @@ fn tell_claim(text: &mut String, plan: &Plan, claim: &Claim) -> Result<(), Alloc
         iuc,
         ..
     } = *claim;
-    write!(text, "{turn} {sid} {share} {slots} {}", iuc.number())?;
-    if plan.share(usize::from(turn), usize::from(claim.position)) != share {
-        text.push_str(" (not found)")?;
+    write!(text, "{turn} {sid} {share} {slots} {}", iuc.number())
+}
+
+/// Whether the share of each claim is found.
+fn are_found(plan: &Plan, claims: &[Claim]) -> bool {
+    for claim in claims {
+        let Claim {
+            turn,
+            position,
+            share,
+            ..
+        } = *claim;
+        if plan.share(usize::from(turn), usize::from(position)) != share {
+            return false;
+        }
     }
-    Ok(())
+    true
 }

@@ -19,7 +19,7 @@ pub const TWO_CLUSTERS: Case<'static> = Case {
     answer: "0: 0 291 4000 126 10, 1 293 744 24 10; 1: 0 292 4000 126 10, 1 294 744 24 10",
 };
 
-const CASES: &[Case<'static>] = &[
+pub const CASES: &[Case<'static>] = &[
     TWO_CLUSTERS,
     Case {
         name: "clusters of one flow share its allowance",

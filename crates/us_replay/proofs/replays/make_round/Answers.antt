@@ -1,14 +1,33 @@
-use Rattle.std.proofs.Common.{length, ap, ◌∙◌}
+use Rattle.std.proofs.Common.{◌^◌, ◌<◌, length, ap, rules, sym, ◌∙◌}
 use Rattle.us_replay.proofs.LoopLemmas.{pairs-room}
+use Rattle.us_replay.proofs.MadeLemmas.{is-made, room-for}
 use Rattle.us_replay.proofs.SumLemmas.{length-cut}
 use Rattle.us_replay.proofs.replays.make_round.Goals as goal
 
-pub round-requires-clause-clusters : goal.round-requires-clause-clusters
-round-requires-clause-clusters g c = λ κs live.
-    ap length (c.cut.ensures ∙ ap (λ p. p.cut) c.in_ok-take_asks.ensures) ∙
+pub step-requires-clause-clusters : goal.step-requires-clause-clusters
+step-requires-clause-clusters g c =
+    ap length (c.cut.ensures ∙ ap (λ p. p.cut) c.in_ok-take_asks.ensures.collected) ∙
     length-cut (length c.args.progress.now.cut) c.args.asks.now ∙ c.requires.ready.clusters
 
-pub round-requires-clause-room : goal.round-requires-clause-room
-round-requires-clause-room g c = λ κs live.
+pub step-requires-clause-room : goal.step-requires-clause-room
+step-requires-clause-room g c =
     pairs-room c.args.state.outstanding c.cut.result.now (length c.args.progress.now.cut) c.args.asks.now
-    (c.cut.ensures ∙ ap (λ p. p.cut) c.in_ok-take_asks.ensures) c.requires.ready.asked
+    (c.cut.ensures ∙ ap (λ p. p.cut) c.in_ok-take_asks.ensures.collected) c.requires.ready.asked
+
+pub step-requires-clause-hands : goal.step-requires-clause-hands
+step-requires-clause-hands g c = c.take_asks.ensures.same c.args.state.tables c.requires.doers
+
+pub take_round-requires : goal.take_round-requires
+take_round-requires g c =
+    let below : c.next_round.result < 2 ^ 32 = search rules in
+    let rounds : c.in_ok-made.made.state.round < 2 ^ 32 = rw (sym c.next_round.ensures.value) below in
+    room-for c.args.state c.cut.result.now c.in_ok-made.made c.in_ok-made.ensures.value c.args.progress.now
+    c.take_asks.new.self c.args.asks.now c.requires.ready c.in_ok-take_asks.ensures.collected c.in_ok-made.ensures.few rounds
+    c.next_round.ensures.few
+
+pub returns-clause-made : goal.returns-clause-made
+returns-clause-made g c =
+    is-made c.args.state c.cut.result.now c.in_ok-made.made c.in_ok-made.ensures.value c.args.progress.now
+    c.take_asks.new.self c.take_round.new.self c.args.asks.now c.into_state.result c.requires.ready
+    c.in_ok-take_asks.ensures.collected c.cut.ensures c.in_ok-made.ensures.few c.in_ok-take_round.ensures.progress
+    c.in_ok-take_round.ensures.limits c.in_ok-take_round.ensures.fields c.into_state.ensures

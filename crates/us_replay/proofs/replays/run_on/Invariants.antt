@@ -1,8 +1,7 @@
 use Rattle.std.proofs.Common.{◌≡◌, false}
 use Rattle.us_requests.specs.Traces.{IsTrace}
-use Rattle.us_replay.specs.Progress.{Along, output_in}
+use Rattle.us_replay.specs.Progress.{Along, grown, output_in}
 use Rattle.us_replay.specs.Replays.{TookRounds}
-use Rattle.us_replay.proofs.ReplayStopLemmas.{grown}
 use Rattle.us_replay.proofs.replays.run_on.Given as goal
 
 abbrev pub invariant-loop-done : goal.invariant-loop-done
@@ -11,4 +10,4 @@ invariant-loop-done g l =
     TookRounds (output_in l.fn.state.tables l.trace) l.done
     (grown (g.W1.Sink.contents l.fn.maps) (g.W1.Sink.contents l.maps))
     (grown (g.W2.Sink.contents l.fn.report) (g.W2.Sink.contents l.report)) ×
-    (g.W1.Sink.failed l.maps ≡ false) × (g.W2.Sink.failed l.report ≡ false)
+    (g.W1.Sink.failed l.maps ≡ false) × (g.W2.Sink.failed l.report ≡ false) × g.D.Hands.knows l.doers l.fn.state.tables

@@ -1,8 +1,12 @@
-use Rattle.us_round.proofs.StageLemmas.{begun_as}
+use Rattle.std.proofs.Common.{◌≡◌, sym, subst, length}
+use Rattle.us_flows.specs.Clusters.{clusters_of}
+use Rattle.us_round.specs.Parts.{ArePartsOfRound}
+use Rattle.us_round.proofs.StageLemmas.{begun_parts}
 use Rattle.us_round.proofs.rounds.begin.Goals as goal
 
-pub returns : goal.returns
-returns c =
-    begun_as c.args.state c.args.cuts.now c.into_parts-core.result.0 c.begin.new.self c.in_ok-outstanding.outstanding.items
-    c.into_parts-core.result.1.items c.into_parts-core.ensures.value c.begin.ensures.value c.in_ok-outstanding.ensures.value
-    c.begin.ensures.lawful c.into_parts-core.ensures.calendars
+pub returns-clause-known : goal.returns-clause-known
+returns-clause-known c =
+    subst (λ k. ArePartsOfRound k c.into_parts-parts.result.channels.items) (sym c.begin.ensures.value)
+    (begun_parts c.into_parts-parts.result.core c.into_parts-parts.result.channels.items c.args.cuts.now
+    c.into_parts-parts.ensures.known c.begin.ensures.lawful
+    (subst (λ s. length c.args.cuts.now ≡ length (clusters_of s.tables)) (sym c.into_parts-parts.ensures.value) c.requires.clusters))

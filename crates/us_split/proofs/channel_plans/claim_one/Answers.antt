@@ -16,7 +16,7 @@ returns-in-Some c =
     (λ is. ap (set c.args.channels.now c.in-Some.place) is ∙
     one_claimed c.args.asker c.args.position c.args.id c.args.sid c.args.share c.in-Some.place c.args.channels.now
     c.index-channels-place.result c.requires.apart c.in-Some.ensures c.if-share-eq0.false)
-    c.claim.ensures
+    c.claim.ensures.claim
 
 pub returns-in-None : goal.returns-in-None
 returns-in-None c =

@@ -1,8 +1,8 @@
-use Rattle.us_round.proofs.CalendarLemmas.{opening_state, opening_few}
+use Rattle.us_round.proofs.CalendarLemmas.{opening_parts, opening_value}
 use Rattle.us_round.proofs.states.State.new.Goals as goal
 
-pub of-requires-clause-state : goal.of-requires-clause-state
-of-requires-clause-state c = rw (c.in_ok-core.ensures, c.in_ok-lanes.ensures) (opening_state c.args.config)
+pub of-requires : goal.of-requires
+of-requires c = rw (c.in_ok-core.ensures, c.in_ok-channels.ensures) (opening_parts c.args.config)
 
-pub of-requires-clause-few : goal.of-requires-clause-few
-of-requires-clause-few c = rw c.in_ok-lanes.ensures (opening_few c.args.config)
+pub returns-clause-state : goal.returns-clause-state
+returns-clause-state c = rw (c.of.ensures, c.in_ok-core.ensures, c.in_ok-channels.ensures) (opening_value c.args.config)

@@ -1,0 +1,161 @@
+ghost use Rattle.std.specs.Prelude.{◌≡◌, ◌+◌, ◌*◌, ◌^◌, ◌<◌, ◌≤◌, ◌++◌, length, take, flat_map, OnOk};
+ghost use Rattle.std.specs.List.{AllByRecursion};
+ghost use Rattle.std.specs.Int.{to_be_bytes, w16, w32};
+ghost use Rattle.us_codec.specs.Elements.{word_of};
+ghost use Rattle.us_codec.specs.Bodies.{front, max_elements, spelling};
+ghost use Rattle.us_codec.specs.MapsFiles.{Piece, record_bytes};
+ghost use Rattle.us_flows.specs.Tables.{max_run_ticks};
+ghost use Rattle.us_channel.specs.Maps.{pending_element, run_element};
+ghost use Rattle.us_output.specs.Files.{records};
+ghost use Rattle.us_output.specs.Leftovers.{IsBuiltFor, told};
+ghost use Rattle.us_output.specs.Outputs as spec;
+ghost use Rattle.us_output.specs.Outputs.{AreWithinLimits, out_of};
+
+use crate::pendings::{PendingSid, list_sids};
+use crate::scratch::Scratch;
+use us_channel::{ChannelRound, element_of, head_of, pending_of};
+use us_codec::{
+    ELEMENT_BYTES, Element, HEAD_BYTES, Head, MAX_BODY_BYTES, front_bytes, put_element,
+};
+use us_flows::{Channel, Config};
+use us_holes::Run;
+use us_slots::NoMemory;
+
+/// The bytes of a round and of a length, which stand before a body.
+const MARK_BYTES: usize = 6;
+
+/// The bytes in which a record is put together: the longest fits.
+pub(crate) const RECORD_BYTES: usize = MARK_BYTES + MAX_BODY_BYTES;
+
+/// Adds the records of a round: one for the MAP of each channel, in table order, with the SIDs that are pending there. The
+/// one fault is want of memory.
+pub fn push_records(
+    text: &mut Vec<u8>,
+    scratch: &mut Scratch,
+    config: &Config,
+    round: u32,
+    channels: &[ChannelRound],
+    pendings: &[PendingSid],
+) -> Result<(), NoMemory>
+    requires built { AllByRecursion (IsBuiltFor config.now) channels.now }
+    requires time { (round + 1) * config.now.round_ticks ≤ max_run_ticks }
+    ensures records { OnOk result (text.new.items ≡
+        text.old.items ++ records (out_of config.now (told round channels.now pendings.now))) }
+    ensures limits { OnOk result (AreWithinLimits config.now (told round channels.now pendings.now)) }
+{
+    for part in channels {
+        push_record(text, scratch, config, round, part, pendings)?;
+    }
+    Ok(())
+}
+
+/// Adds the record of a channel's MAP.
+fn push_record(
+    text: &mut Vec<u8>,
+    scratch: &mut Scratch,
+    config: &Config,
+    round: u32,
+    part: &ChannelRound,
+    pendings: &[PendingSid],
+) -> Result<(), NoMemory>
+    requires built { IsBuiltFor config.now part.now }
+    requires time { (round + 1) * config.now.round_ticks ≤ max_run_ticks }
+    ensures record { let piece : Piece =
+        record { round = round; body = spelling (spec.built_map config.now round pendings.now part.now) } in
+        OnOk result (text.new.items ≡ text.old.items ++ record_bytes piece) }
+    ensures limits { OnOk result (spec.IsWithinLimits config.now round pendings.now part.now) }
+{
+    let Scratch {
+        runs,
+        sids,
+        record,
+        ..
+    } = scratch;
+    runs.clear();
+    part.board().push_runs(runs)?;
+    list_sids(sids, pendings, part.channel().id)?;
+    let len = part.board().len() as u16;
+    let head = head_of(config, part.channel(), round);
+    let end = put_opening(record, round, &head, runs.len() + 1 + sids.len());
+    let end = put_runs(record, end, part.channel(), runs);
+    let end = put_next(record, end, Element::null_at(len));
+    let end = put_pendings(record, end, sids, len);
+    push_first(text, record, end)?;
+    Ok(())
+}
+
+/// Adds the bytes before `end`.
+fn push_first(text: &mut Vec<u8>, out: &[u8; RECORD_BYTES], end: usize) -> Result<(), NoMemory>
+    requires { end ≤ RECORD_BYTES }
+    ensures { OnOk result (text.new.items ≡ text.old.items ++ take end out.now) }
+{
+    text.extend_from_slice(&out[..end])?;
+    Ok(())
+}
+
+/// Puts what stands of a record before so many elements: the round, the length of the body, and its front.
+fn put_opening(out: &mut [u8; RECORD_BYTES], round: u32, head: &Head, count: usize) -> usize
+    requires { count ≤ max_elements }
+    ensures end { result ≡ MARK_BYTES + HEAD_BYTES }
+    ensures bytes { take result out.new ≡
+        to_be_bytes w32 round ++ to_be_bytes w16 (16 + 4 * count) ++ front head.now count }
+{
+    let length = (HEAD_BYTES + ELEMENT_BYTES * count) as u16;
+    let end = put_bytes(out, 0, &round.to_be_bytes());
+    let end = put_bytes(out, end, &length.to_be_bytes());
+    put_bytes(out, end, &front_bytes(head, count as u8))
+}
+
+/// Puts the element of each run behind what stands before `at`.
+fn put_runs(out: &mut [u8; RECORD_BYTES], at: usize, channel: &Channel, runs: &[Run]) -> usize
+    requires room { at + ELEMENT_BYTES * length runs.now ≤ RECORD_BYTES }
+    requires starts { AllByRecursion (λ run. run.start < 2 ^ 14) runs.now }
+    ensures end { result ≡ at + ELEMENT_BYTES * length runs.now }
+    ensures bytes { take result out.new ≡ take at out.old
+        ++ flat_map (λ run. to_be_bytes w32 (word_of (run_element channel.now run))) runs.now }
+{
+    let mut end = at;
+    for run in runs {
+        end = put_next(out, end, element_of(channel, *run));
+    }
+    end
+}
+
+/// Puts a data grant pending for each of these SIDs, at the MAP's length, behind what stands before `at`.
+fn put_pendings(out: &mut [u8; RECORD_BYTES], at: usize, sids: &[u16], len: u16) -> usize
+    requires room { at + ELEMENT_BYTES * length sids.now ≤ RECORD_BYTES }
+    requires len { len < 2 ^ 14 }
+    requires bits { AllByRecursion (λ sid. sid < 2 ^ 14) sids.now }
+    ensures end { result ≡ at + ELEMENT_BYTES * length sids.now }
+    ensures bytes { take result out.new ≡ take at out.old
+        ++ flat_map (λ sid. to_be_bytes w32 (word_of (pending_element len sid))) sids.now }
+{
+    let mut end = at;
+    for sid in sids {
+        end = put_next(out, end, pending_of(*sid, len));
+    }
+    end
+}
+
+/// Puts an element behind what stands before `at`.
+#[inline(always)]
+fn put_next(out: &mut [u8; RECORD_BYTES], at: usize, element: Element) -> usize
+    requires { at + ELEMENT_BYTES ≤ RECORD_BYTES }
+    ensures end { result ≡ at + ELEMENT_BYTES }
+    ensures bytes { take result out.new ≡ take at out.old ++ to_be_bytes w32 (word_of element) }
+{
+    put_element(out, at, element);
+    at + ELEMENT_BYTES
+}
+
+/// Puts some bytes behind what stands before `at`.
+#[inline(always)]
+fn put_bytes<const N: usize>(out: &mut [u8; RECORD_BYTES], at: usize, bytes: &[u8; N]) -> usize
+    requires { at + N ≤ RECORD_BYTES }
+    ensures end { result ≡ at + N }
+    ensures bytes { take result out.new ≡ take at out.old ++ bytes.now }
+{
+    let end = at + N;
+    out[at..end].copy_from_slice(bytes);
+    end
+}

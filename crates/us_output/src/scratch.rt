@@ -1,0 +1,45 @@
+use crate::lines::LINE_BYTES;
+use crate::orders::GrantLine;
+use crate::records::RECORD_BYTES;
+use std::alloc::Global;
+use us_holes::Run;
+
+/// What is kept from round to round for the texts of rounds: lists, and the bytes in which a record or a line is put
+/// together. What stands in it never matters.
+pub struct Scratch {
+    // the runs of a board, and the SIDs that are pending on its channel
+    pub(crate) runs: Vec<Run>,
+    pub(crate) sids: Vec<u16>,
+
+    // the G lines of a channel
+    pub(crate) lines: Vec<GrantLine>,
+
+    pub(crate) record: [u8; RECORD_BYTES],
+    pub(crate) line: [u8; LINE_BYTES],
+}
+
+/// Gives the lists up. It is written out so that it is one step wherever texts end.
+impl Drop for Scratch {
+    fn drop(self) {
+        let Scratch {
+            runs: _,
+            sids: _,
+            lines: _,
+            record: _,
+            line: _,
+        } = self;
+    }
+}
+
+impl Scratch {
+    /// Empty lists, which take no memory yet.
+    pub fn new(alloc: Global) -> Scratch {
+        Scratch {
+            runs: Vec::new(alloc),
+            sids: Vec::new(alloc),
+            lines: Vec::new(alloc),
+            record: [0; RECORD_BYTES],
+            line: [0; LINE_BYTES],
+        }
+    }
+}

@@ -1,0 +1,153 @@
+ghost use Rattle.std.specs.Prelude.{◌≡◌, ◌+◌, ◌^◌, ◌<◌, ◌≤◌, [], ◌∷◌, ◌++◌, length, drop, flat_map, map, count_by, OnOk};
+ghost use Rattle.std.specs.List.{AllByRecursion};
+ghost use Rattle.us_output.specs.Files.{lines, is_granted, is_missed};
+ghost use Rattle.us_output.specs.Leftovers.{AreInside};
+ghost use Rattle.us_output.specs.Lines.{HasFields, numbers};
+ghost use Rattle.us_output.specs.Orders.{line_row, missed_of, ordered_lines};
+ghost use Rattle.us_output.specs.Outputs as spec;
+
+use crate::lines::{FRONT_BYTES, LINE_BYTES, front_of, push_granted, push_line, push_missed};
+use crate::orders::{GrantLine, missed_at, order_lines};
+use crate::rows::Row;
+use crate::scratch::Scratch;
+use crate::tallies::LineTally;
+use us_calendar::Settled;
+use us_channel::ChannelRound;
+use us_flows::Channel;
+use us_slots::NoMemory;
+
+/// Adds the lines of a round, and counts them: channels in table order, and on each the grants by their start, then what
+/// was missed. The one fault is want of memory, and then nothing is said of the count.
+pub fn push_lines(
+    text: &mut Vec<u8>,
+    scratch: &mut Scratch,
+    tally: &mut LineTally,
+    round: u32,
+    channels: &[ChannelRound],
+) -> Result<(), NoMemory>
+    requires inside { AllByRecursion AreInside channels.now }
+    requires granted_room { tally.old.granted + length (flat_map (spec.rows_on round) channels.now) < 2 ^ 64 }
+    requires missed_room { tally.old.missed + length (flat_map (spec.rows_on round) channels.now) < 2 ^ 64 }
+    ensures lines { OnOk result
+        (text.new.items ≡ text.old.items ++ lines (flat_map (spec.rows_on round) channels.now)) }
+    ensures fields { OnOk result (AllByRecursion HasFields (flat_map (spec.rows_on round) channels.now)) }
+    ensures granted { OnOk result (tally.new.granted ≡
+        tally.old.granted + count_by is_granted (flat_map (spec.rows_on round) channels.now)) }
+    ensures missed { OnOk result (tally.new.missed ≡
+        tally.old.missed + count_by is_missed (flat_map (spec.rows_on round) channels.now)) }
+{
+    for part in channels {
+        push_part(text, scratch, tally, round, part)?;
+    }
+    Ok(())
+}
+
+/// Adds the lines of a channel, and counts them.
+fn push_part(
+    text: &mut Vec<u8>,
+    scratch: &mut Scratch,
+    tally: &mut LineTally,
+    round: u32,
+    part: &ChannelRound,
+) -> Result<(), NoMemory>
+    requires inside { AreInside part.now }
+    requires granted_room { tally.old.granted + length (spec.rows_on round part.now) < 2 ^ 64 }
+    requires missed_room { tally.old.missed + length (spec.rows_on round part.now) < 2 ^ 64 }
+    ensures lines { OnOk result (text.new.items ≡ text.old.items ++ lines (spec.rows_on round part.now)) }
+    ensures fields { OnOk result (AllByRecursion HasFields (spec.rows_on round part.now)) }
+    ensures granted { OnOk result
+        (tally.new.granted ≡ tally.old.granted + count_by is_granted (spec.rows_on round part.now)) }
+    ensures missed { OnOk result
+        (tally.new.missed ≡ tally.old.missed + count_by is_missed (spec.rows_on round part.now)) }
+{
+    let Scratch { lines, line, .. } = scratch;
+    order_lines(lines, part)?;
+    push_all_granted(text, line, round, part.channel(), lines)?;
+    push_all_missed(text, line, round, part.channel(), part.settled())?;
+    tally.add(lines.len(), missed_lines(part, lines.len()));
+    Ok(())
+}
+
+/// How many M lines a channel has beside so many G lines: one for each occurrence that its calendar settled and didn't
+/// grant.
+fn missed_lines(part: &ChannelRound, granted: usize) -> usize
+    requires inside { AreInside part.now }
+    requires granted { granted ≡ length (ordered_lines part.now) }
+    ensures { result + granted ≡ length part.now.settled + length part.now.grants }
+{
+    part.settled().len() - (granted - part.grants().len())
+}
+
+/// Adds G lines.
+fn push_all_granted(
+    text: &mut Vec<u8>,
+    line: &mut [u8; LINE_BYTES],
+    round: u32,
+    channel: &Channel,
+    granted: &[GrantLine],
+) -> Result<(), NoMemory>
+    ensures lines { OnOk result
+        (text.new.items ≡ text.old.items ++ lines (map (line_row round channel.now) granted.now)) }
+    ensures fields { OnOk result (AllByRecursion HasFields (map (line_row round channel.now) granted.now)) }
+{
+    let (front, begin) = front_of(line, round, channel.id);
+    push_behind_front(text, line, &front, begin, round, channel, granted)
+}
+
+/// Adds G lines that begin with what stands in `front` from `begin` on.
+// `lines` is closed elsewhere, as in `push_rows`: only here is it the texts of rows.
+#[tactic(auto, unfolding(crate::specs::Files::lines))]
+fn push_behind_front(
+    text: &mut Vec<u8>,
+    line: &mut [u8; LINE_BYTES],
+    front: &[u8; FRONT_BYTES],
+    begin: usize,
+    round: u32,
+    channel: &Channel,
+    granted: &[GrantLine],
+) -> Result<(), NoMemory>
+    requires begin { begin ≤ FRONT_BYTES }
+    requires front { drop begin front.now ≡ 71 ∷ numbers (round ∷ channel.now.id ∷ []) }
+    ensures lines { OnOk result
+        (text.new.items ≡ text.old.items ++ lines (map (line_row round channel.now) granted.now)) }
+    ensures fields { OnOk result (AllByRecursion HasFields (map (line_row round channel.now) granted.now)) }
+{
+    for one in granted {
+        push_granted(text, line, front, begin, &one.grant(round, channel))?;
+    }
+    Ok(())
+}
+
+/// Adds the M lines of what a calendar settled.
+#[tactic(auto, unfolding(crate::specs::Files::lines))]
+fn push_all_missed(
+    text: &mut Vec<u8>,
+    line: &mut [u8; LINE_BYTES],
+    round: u32,
+    channel: &Channel,
+    settled: &[Settled],
+) -> Result<(), NoMemory>
+    ensures lines { OnOk result
+        (text.new.items ≡ text.old.items ++ lines (missed_of round channel.now settled.now)) }
+    ensures fields { OnOk result (AllByRecursion HasFields (missed_of round channel.now settled.now)) }
+{
+    for one in settled {
+        if let Some(missed) = missed_at(round, channel, *one) {
+            push_missed(text, line, &missed)?;
+        }
+    }
+    Ok(())
+}
+
+/// Adds the lines of some rows, such as those at the end of a report. The one fault is want of memory.
+#[tactic(auto, unfolding(crate::specs::Files::lines))]
+pub fn push_rows(text: &mut Vec<u8>, scratch: &mut Scratch, rows: &[Row]) -> Result<(), NoMemory>
+    ensures lines { OnOk result (text.new.items ≡ text.old.items ++ lines rows.now) }
+    ensures fields { OnOk result (AllByRecursion HasFields rows.now) }
+{
+    let Scratch { line, .. } = scratch;
+    for row in rows {
+        push_line(text, line, row)?;
+    }
+    Ok(())
+}

@@ -1,0 +1,4 @@
+use Rattle.us_replay.proofs.doers.kept.KeptHands.build.Goals as goal
+
+pub map_kept-requires : goal.map_kept-requires
+map_kept-requires g c = λ place item is entered. c.in_ok-items.ensures.ready place item is tt

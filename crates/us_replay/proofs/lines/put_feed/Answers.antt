@@ -1,9 +1,0 @@
-use Rattle.std.proofs.Common.{◌≡◌, ◌∷◌, drop, ap, sym, ◌∙◌, arith}
-use Rattle.std.proofs.lemmas.List.{drop_all}
-use Rattle.us_replay.proofs.lines.put_feed.Goals as goal
-
-pub returns : goal.returns
-returns c =
-    let at : c.put_byte.result ≡ 255 = omega (arith, c.put_byte.ensures.start) in
-    ap (λ n. drop n c.put_byte.new.line) (sym at) ∙ c.put_byte.ensures.line ∙
-    ap (λ rest. 10 ∷ rest) (drop_all 256 c.args.line.now (omega arith))

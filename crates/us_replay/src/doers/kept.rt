@@ -1,0 +1,157 @@
+ghost use Rattle.std.specs.Prelude.{◌≡◌, ◌≤◌, ⊤, IfOk, Ok};
+ghost use Rattle.us_flows.specs.Tables.{Tables};
+ghost use Rattle.us_crew.specs.Items.{AreAccepted};
+ghost use Rattle.us_crew.specs.Values.{values_of};
+ghost use Rattle.us_round.specs.Hands.{CanBuild, CanFill, built_at, filled_at};
+ghost use Rattle.us_replay.specs.Collecting.{CanGather, seat_after_asks};
+
+use super::Doers;
+use super::alone::gather_alone;
+use super::placing::{Laden, Placing, laden};
+use crate::collecting::{Chunk, Submitting, join_all, split_all};
+use std::alloc::Global;
+use us_channel::ChannelRound;
+use us_crew::{Crew, CrewFault, First, Gate, OneOf, Only, Phase, Post, Second, Task, map_kept};
+use us_flows::Config;
+use us_intake::{Intake, IntakeFault, Seat};
+use us_requests::Ask;
+use us_round::{Building, Filling, Hands};
+use us_slots::NoMemory;
+
+/// What a worker is given to do in each of the phases.
+type Doing<'a, G> = OneOf<
+    Task<Submitting<'a>, &'a G, Chunk<'a>>,
+    OneOf<Task<Filling<'a>, &'a G, ChannelRound>, Task<Placing, &'a G, Laden>>,
+>;
+
+/// What is answered for the items of a task.
+type Answered<R, E> = Result<Vec<R>, CrewFault<E>>;
+
+/// What a worker answers.
+type Done = OneOf<
+    Answered<Seat, IntakeFault>,
+    OneOf<Answered<ChannelRound, NoMemory>, Answered<ChannelRound, NoMemory>>,
+>;
+
+/// Where the workers stand.
+pub(crate) type Posts<'a, G> = Vec<Post<Doing<'a, G>, Done>>;
+
+/// Workers that are kept for a whole run, each of whom enters the gate before each item. They borrow the configuration of
+/// the replay, which outlives every state.
+#[derive(Drop)]
+pub(crate) struct Kept<'a, G: Gate> {
+    alloc: Global,
+    crew: Crew<Doing<'a, G>, Done>,
+    config: &'a Config,
+    gate: &'a G,
+}
+
+/// Workers to be kept, so many with the calling thread, and their posts.
+pub(crate) fn open_crew<'a, G: Gate>(
+    alloc: Global,
+    config: &'a Config,
+    gate: &'a G,
+    workers: usize,
+) -> Result<(Kept<'a, G>, Posts<'a, G>), NoMemory>
+    ensures { IfOk result (λ opened. opened.0.config.now ≡ config.now) }
+{
+    let (crew, posts) = Crew::open(alloc, workers)?;
+    let kept = Kept {
+        alloc,
+        crew,
+        config,
+        gate,
+    };
+    Ok((kept, posts))
+}
+
+impl<'a, G: Gate> Hands for Kept<'a, G> {
+    ghost knows = { λ kept t. kept.config.now ≡ t };
+
+    fn fill(
+        &mut self,
+        work: &Filling<'_>,
+        channels: Vec<ChannelRound>,
+    ) -> Result<Vec<ChannelRound>, NoMemory>
+        requires known { self.old.config.now ≡ work.now.config.now }
+        requires ready { AreAccepted (λ _. ⊤) (CanFill work.now) channels.items }
+        ensures value { IfOk result (λ all. all.items ≡ values_of (filled_at work.now) channels.items) }
+        ensures same { (t : Tables) → self.old.config.now ≡ t → self.new.config.now ≡ t }
+    {
+        let own = Filling {
+            config: self.config,
+            round: work.round,
+        };
+        answers(map_kept(
+            &mut self.crew,
+            Second(First),
+            self.alloc,
+            own,
+            Phase::Fill,
+            channels,
+            self.gate,
+        ))
+    }
+
+    fn build(
+        &mut self,
+        work: &Building<'_>,
+        channels: Vec<ChannelRound>,
+    ) -> Result<Vec<ChannelRound>, NoMemory>
+        requires claims { AreAccepted (λ _. ⊤) (CanBuild work.now) channels.items }
+        ensures value { IfOk result (λ all. all.items ≡ values_of (built_at work.now) channels.items) }
+        ensures same { (t : Tables) → self.old.config.now ≡ t → self.new.config.now ≡ t }
+    {
+        let items = laden(self.alloc, work, channels)?;
+        answers(map_kept(
+            &mut self.crew,
+            Second(Second(Only)),
+            self.alloc,
+            Placing,
+            Phase::Build,
+            items,
+            self.gate,
+        ))
+    }
+}
+
+impl<'a, G: Gate> Doers<'a> for Kept<'a, G> {
+    fn gather(
+        &mut self,
+        alloc: Global,
+        intake: &'a Intake,
+        seat: Seat,
+        asks: &'a [Ask],
+    ) -> Result<Seat, NoMemory>
+        requires { CanGather intake.now seat asks.now }
+        ensures seat { IfOk result (λ after. after ≡ seat_after_asks seat asks.now) }
+        ensures same { (t : Tables) → self.old.config.now ≡ t → self.new.config.now ≡ t }
+    {
+        let parts = asks.len().min(self.crew.workers() + 1);
+        if parts == 1 {
+            return Ok(gather_alone(intake, seat, asks, self.gate));
+        }
+        let (seat, chunks) = split_all(alloc, intake, seat, asks, parts)?;
+        let work = Submitting { intake };
+        let seats = answers(map_kept(
+            &mut self.crew,
+            First,
+            alloc,
+            work,
+            Phase::Collect,
+            chunks,
+            self.gate,
+        ))?;
+        Ok(join_all(intake, seat, seats))
+    }
+}
+
+/// The answers for all items, or want of memory.
+fn answers<R: Drop, E: Drop>(answered: Answered<R, E>) -> Result<Vec<R>, NoMemory>
+    ensures { IfOk result (λ all. answered ≡ Ok all) }
+{
+    match answered {
+        Ok(all) => Ok(all),
+        Err(_) => Err(NoMemory),
+    }
+}

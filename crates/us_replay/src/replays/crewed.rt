@@ -1,0 +1,65 @@
+use super::progress::Progress;
+use super::run_by;
+use crate::doers::{Doers, Meanwhile};
+use crate::faults::RunFault;
+use crate::summaries::Summary;
+use std::alloc::Global;
+use us_flows::Config;
+use us_requests::Trace;
+use us_slots::Sink;
+
+/// The replay of a trace by doers who own the crew of the workers beside it.
+#[derive(Drop)]
+pub(super) struct WithCrew<'a, 'm, 'r, D, W1, W2> {
+    pub(super) alloc: Global,
+    pub(super) config: &'a Config,
+    pub(super) trace: &'a Trace,
+    pub(super) progress: Progress<'a>,
+    pub(super) doers: D,
+    pub(super) maps: &'m mut W1,
+    pub(super) report: &'r mut W2,
+}
+
+impl<'a, 'm, 'r, D: Doers<'a> + Drop, W1: Sink, W2: Sink> Meanwhile
+    for WithCrew<'a, 'm, 'r, D, W1, W2> {
+    ghost use Rattle.std.specs.Prelude.{◌≡◌, false, length};
+    ghost use Rattle.us_flows.specs.Clusters.{clusters_of};
+    ghost use Rattle.us_replay.specs.Endings.{blames_maps, blames_report};
+    ghost use Rattle.us_replay.specs.Progress.{EndsAs, IsTraceFor, grown, opening_progress};
+
+    // How it ended, and the writers.
+    type Output = (Result<Summary, RunFault>, &'m mut W1, &'r mut W2);
+
+    ghost can_run = { λ t. IsTraceFor t.config.now t.trace.now × D.knows t.doers t.config.now
+        × (t.progress ≡ opening_progress (length (clusters_of t.config.now)))
+        × (W1.failed t.maps.now ≡ false) × (W2.failed t.report.now ≡ false) };
+
+    ghost gives = { λ t r. (r.1.ghost_name ≡ t.maps.ghost_name) × (r.2.ghost_name ≡ t.report.ghost_name)
+        × EndsAs t.config.now t.trace.now (grown (W1.contents t.maps.now) (W1.contents r.1.now))
+        (grown (W2.contents t.report.now) (W2.contents r.2.now)) r.0
+        × (W1.failed r.1.now ≡ blames_maps r.0) × (W2.failed r.2.now ≡ blames_report r.0) };
+
+    /// The crew ends with the run, so that its workers leave.
+    // The doers are a parameter, so that they can be given up here: what holds a gate that is a parameter can't be.
+    fn run(self) -> (Result<Summary, RunFault>, &'m mut W1, &'r mut W2) {
+        let WithCrew {
+            alloc,
+            config,
+            trace,
+            mut progress,
+            mut doers,
+            maps,
+            report,
+        } = self;
+        let ended = run_by(
+            alloc,
+            config,
+            trace,
+            &mut progress,
+            &mut doers,
+            maps,
+            report,
+        );
+        (ended, maps, report)
+    }
+}

@@ -1,0 +1,18 @@
+use Rattle.std.proofs.Common.{length, ap, sym, subst, ◌∙◌}
+use Rattle.us_round.specs.Cores.{AreKept, core_of}
+use Rattle.us_round.specs.declared.cores.Kept.{Kept}
+use Rattle.us_round.proofs.CoreLemmas.{opening_kept, opening_value}
+use Rattle.us_round.proofs.cores.Core.new.Goals as goal
+
+pub invariant_of-result : goal.invariant_of-result
+invariant_of-result c =
+    subst (λ (k : Kept). AreKept k.config k.askers k.buckets k.planner k.allowances.items) (sym c.in_ok-kept.ensures.ok)
+    (opening_kept c.args.config c.in_ok-askers.askers c.in_ok-buckets.buckets c.in_ok-planner.planner
+    c.in_ok-allowances.allowances.items c.flows.ensures.lawful (c.in_ok-allowances.ensures ∙ ap length c.flows.ensures.value)
+    c.in_ok-askers.ensures c.in_ok-buckets.ensures c.in_ok-planner.ensures)
+
+pub returns : goal.returns
+returns c =
+    ap (λ (k : Kept). core_of k.config k.round k.askers k.buckets k.planner) c.in_ok-kept.ensures.ok
+    ∙ opening_value c.args.config c.in_ok-askers.askers c.in_ok-buckets.buckets c.in_ok-planner.planner
+    c.in_ok-askers.ensures c.in_ok-buckets.ensures c.in_ok-planner.ensures

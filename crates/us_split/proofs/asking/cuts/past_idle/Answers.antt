@@ -1,0 +1,15 @@
+use Rattle.std.proofs.Common.{◌≡◌, ◌+◌, ◌-◌, take, drop, sym, ap, ◌∙◌, arith}
+use Rattle.us_split.proofs.AskerCutLemmas.{idle_more}
+use Rattle.us_split.proofs.asking.cuts.past_idle.Goals as goal
+
+pub loop-at-preserved : goal.loop-at-preserved
+loop-at-preserved c =
+    let at = c.loop-at.at in
+    let cut = c.args.cut.now in
+    let eight : at + 8 - at ≡ 8 = omega arith in
+    record {
+      order = omega (arith, c.loop-at.invariant.order);
+      inside = omega (arith, c.loop-at.invariant.inside, c.loop-at-test.true);
+      none = idle_more cut c.args.from at 8 c.loop-at.invariant.none
+          (ap (λ n. take n (drop at cut)) (sym eight) ∙ c.if-are_idle.ensures);
+    }

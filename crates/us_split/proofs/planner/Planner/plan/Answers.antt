@@ -1,0 +1,120 @@
+use Rattle.std.proofs.Common.{rules, ◌≡◌, List, length, map, ap, ap₂, ◌∙◌}
+use Rattle.std.specs.Vec.{with_items}
+use Rattle.std.proofs.lemmas.List.{places, with_items_is}
+use Rattle.us_flows.specs.declared.channels.Channel.{Channel}
+use Rattle.us_flows.specs.Tables.{Tables}
+use Rattle.us_split.specs.PartialPlans.{ChannelPlan}
+use Rattle.us_split.specs.Planners.{Planner}
+use Rattle.us_split.specs.TurnRows.{IsPlanning, partial_of, with_rows}
+use Rattle.us_split.proofs.ClaimLemmas.{plan_for-claims}
+use Rattle.us_split.proofs.PlanLawLemmas.{plan_for-lawful}
+use Rattle.us_split.proofs.RowPlanLemmas.{askers_ready, claims_of_round, clusters_ready, idle_within, own_length, planning_after, rows_ready, told}
+use Rattle.us_split.proofs.planner.Planner.plan.Goals as goal
+
+abbrev tables_in : Planner → Tables
+tables_in p = p.tables
+
+abbrev channels_in : List ChannelPlan → List Channel
+channels_in cs = map (λ c. c.channel) cs
+
+pub clear_all-requires-clause-within : goal.clear_all-requires-clause-within
+clear_all-requires-clause-within c =
+    let t : Tables = c.args.self.now.tables in
+    let is : IsPlanning t c.self.inside.rows.items c.self.inside.channels.items =
+    told c.self.inside.tables.value t c.self.inside.rows.items c.self.inside.channels.items
+    (ap tables_in c.self.view_is) c.self.invariant in
+    idle_within t c.as_mut_slice-channels.result.now c.args.idle.now is.lawful c.requires.idle
+    (ap channels_in c.as_mut_slice-channels.ensures.value ∙ is.own)
+
+pub plan_rows-requires-clause-rows : goal.plan_rows-requires-clause-rows
+plan_rows-requires-clause-rows c =
+    let t : Tables = c.args.self.now.tables in
+    let is : IsPlanning t c.self.inside.rows.items c.self.inside.channels.items =
+    told c.self.inside.tables.value t c.self.inside.rows.items c.self.inside.channels.items
+    (ap tables_in c.self.view_is) c.self.invariant in
+    rows_ready t c.deref.result.now (length c.args.allowances.now) (length c.clear_all.new.channels) is.lawful
+    (c.deref.ensures.value ∙ is.turns) c.requires.flows
+    (c.clear_all.auto.channels ∙ ap length c.as_mut_slice-channels.ensures.value ∙ own_length t c.self.inside.channels.items is.own)
+
+pub plan_rows-requires-clause-clusters : goal.plan_rows-requires-clause-clusters
+plan_rows-requires-clause-clusters c =
+    let t : Tables = c.args.self.now.tables in
+    let is : IsPlanning t c.self.inside.rows.items c.self.inside.channels.items =
+    told c.self.inside.tables.value t c.self.inside.rows.items c.self.inside.channels.items
+    (ap tables_in c.self.view_is) c.self.invariant in
+    clusters_ready t c.deref.result.now (length c.args.outstanding.now) (c.deref.ensures.value ∙ is.turns) c.requires.clusters
+
+pub plan_rows-requires-clause-askers : goal.plan_rows-requires-clause-askers
+plan_rows-requires-clause-askers c =
+    let t : Tables = c.args.self.now.tables in
+    let is : IsPlanning t c.self.inside.rows.items c.self.inside.channels.items =
+    told c.self.inside.tables.value t c.self.inside.rows.items c.self.inside.channels.items
+    (ap tables_in c.self.view_is) c.self.invariant in
+    askers_ready t c.deref.result.now c.args.outstanding.now c.args.askers.now (c.deref.ensures.value ∙ is.turns)
+    c.requires.askers
+
+pub invariant_of-self : goal.invariant_of-self
+invariant_of-self c =
+    let long : length c.plan_rows.new.channels ≡ c.self.inside.channels.len = search (rules, places) in
+    planning_after c.self.inside.tables.value c.args.self.now.tables c.self.inside.rows.items c.args.idle.now
+    c.self.inside.channels.items c.as_mut_slice-channels.result.now c.clear_all.new.channels c.plan_rows.new.channels
+    (with_items c.self.inside.channels c.plan_rows.new.channels).items (ap tables_in c.self.view_is) c.self.invariant
+    c.requires.idle c.as_mut_slice-channels.ensures.value c.clear_all.ensures c.plan_rows.ensures.kept
+    (with_items_is c.self.inside.channels c.plan_rows.new.channels long)
+
+pub invariant_of-self-2 : goal.invariant_of-self-2
+invariant_of-self-2 c =
+    let long : length c.plan_rows.new.channels ≡ c.self.inside.channels.len = search (rules, places) in
+    planning_after c.self.inside.tables.value c.args.self.now.tables c.self.inside.rows.items c.args.idle.now
+    c.self.inside.channels.items c.as_mut_slice-channels.result.now c.clear_all.new.channels c.plan_rows.new.channels
+    (with_items c.self.inside.channels c.plan_rows.new.channels).items (ap tables_in c.self.view_is) c.self.invariant
+    c.requires.idle c.as_mut_slice-channels.ensures.value c.clear_all.ensures c.plan_rows.ensures.kept
+    (with_items_is c.self.inside.channels c.plan_rows.new.channels long)
+
+pub returns-clause-claims : goal.returns-clause-claims
+returns-clause-claims c = λ allowed agree.
+    let t : Tables = c.args.self.now.tables in
+    let is : IsPlanning t c.self.inside.rows.items c.self.inside.channels.items =
+    told c.self.inside.tables.value t c.self.inside.rows.items c.self.inside.channels.items
+    (ap tables_in c.self.view_is) c.self.invariant in
+    let long : length c.plan_rows.new.channels ≡ c.self.inside.channels.len = search (rules, places) in
+    ap (λ (cs : List ChannelPlan). map (λ c. c.claims) cs)
+    (with_items_is c.self.inside.channels c.plan_rows.new.channels long) ∙
+    claims_of_round t c.args.outstanding.now c.args.askers.now c.args.idle.now c.args.allowances.now c.plan_rows.new.allowances
+    allowed c.as_mut_slice-channels.result.now c.plan_rows.new.channels is.lawful c.requires.idle
+    (ap channels_in c.as_mut_slice-channels.ensures.value ∙ is.own) c.requires.askers agree
+    (c.in_ok-plan_rows.ensures.plan ∙
+    ap₂ (λ rows cs. with_rows rows c.args.outstanding.now c.args.askers.now (partial_of cs c.args.allowances.now))
+    (c.deref.ensures.value ∙ is.turns) c.clear_all.ensures)
+
+pub returns-clause-law : goal.returns-clause-law
+returns-clause-law c = λ allowed.
+    let t : Tables = c.args.self.now.tables in
+    let is : IsPlanning t c.self.inside.rows.items c.self.inside.channels.items =
+    told c.self.inside.tables.value t c.self.inside.rows.items c.self.inside.channels.items
+    (ap tables_in c.self.view_is) c.self.invariant in
+    plan_for-lawful t c.args.outstanding.now allowed c.args.idle.now is.lawful c.requires.idle
+
+pub returns-clause-bursts : goal.returns-clause-bursts
+returns-clause-bursts c = λ allowed.
+    let t : Tables = c.args.self.now.tables in
+    let is : IsPlanning t c.self.inside.rows.items c.self.inside.channels.items =
+    told c.self.inside.tables.value t c.self.inside.rows.items c.self.inside.channels.items
+    (ap tables_in c.self.view_is) c.self.invariant in
+    plan_for-claims t c.args.outstanding.now allowed c.args.idle.now is.lawful c.requires.idle
+
+pub returns-in_err-plan_rows-clause-law : goal.returns-in_err-plan_rows-clause-law
+returns-in_err-plan_rows-clause-law c = λ allowed.
+    let t : Tables = c.args.self.now.tables in
+    let is : IsPlanning t c.self.inside.rows.items c.self.inside.channels.items =
+    told c.self.inside.tables.value t c.self.inside.rows.items c.self.inside.channels.items
+    (ap tables_in c.self.view_is) c.self.invariant in
+    plan_for-lawful t c.args.outstanding.now allowed c.args.idle.now is.lawful c.requires.idle
+
+pub returns-in_err-plan_rows-clause-bursts : goal.returns-in_err-plan_rows-clause-bursts
+returns-in_err-plan_rows-clause-bursts c = λ allowed.
+    let t : Tables = c.args.self.now.tables in
+    let is : IsPlanning t c.self.inside.rows.items c.self.inside.channels.items =
+    told c.self.inside.tables.value t c.self.inside.rows.items c.self.inside.channels.items
+    (ap tables_in c.self.view_is) c.self.invariant in
+    plan_for-claims t c.args.outstanding.now allowed c.args.idle.now is.lawful c.requires.idle

@@ -1,0 +1,120 @@
+-- Inside the crate: turns by the places of their channels, and plans by these.
+use Rattle.std.specs.Prelude.{◌≡◌, ℕ, zero, suc, ◌+◌, ◌-◌, ◌<◌, ◌≤◌, ◌==◌, List, [], ◌∷◌, length, map, position, set, sum, slice_get, slice_index, slice_index_or, zip, Option, Some, None, option_map}
+use Rattle.std.specs.List.{AllByRecursion}
+use Rattle.us_slots.specs.Bursts.{ChannelBursts}
+use Rattle.us_slots.specs.Capacities.{capacity_of}
+use Rattle.us_flows.specs.declared.channels.Channel.{Channel}
+use Rattle.us_flows.specs.Tables.{Tables}
+use Rattle.us_flows.specs.Clusters.{Turn, turns_of}
+use Rattle.us_flows.specs.Lawful.{AreTables}
+use Rattle.us_split.specs.declared.turn_rows.Seat.{Seat}
+use Rattle.us_split.specs.Divisions.{divided}
+use Rattle.us_split.specs.Plans.{weight, at_most, max_burst_bytes}
+use Rattle.us_split.specs.PartialPlans.{Asker, ChannelPlan, PartialPlan, asker_of, budget_in, with_share}
+
+-- what minislots carry on a channel, by their number: some are in a table
+pub record IsTable (b : ChannelBursts) (table : List ℕ) : Type 0 where
+  pub each : (slots : ℕ) → slots < length table → slice_index table slots ≡ capacity_of b.time b.long slots
+  pub bursts : (slots : ℕ) → slice_index table slots ≤ max_burst_bytes
+
+-- a turn: who asks, and where its cluster has its SIDs, a seat for each channel of its flow
+pub record TurnRow : Type 0 where
+  pub asker : Asker
+  pub seats : List Seat
+
+abbrev pub place_or_first : Option ℕ → ℕ
+place_or_first None = 0
+place_or_first (Some place) = place
+
+-- where the channel with this id stands; each flow has channels of the table alone
+unfoldable pub place_of : List Channel → ℕ → ℕ
+place_of channels id = place_or_first (position (λ c. c.id == id) channels)
+
+-- the seats on channels with these ids, from a position on
+abbrev pub seats_from : List Channel → ℕ → List ℕ → List ℕ → List Seat
+seats_from channels position [] sids = []
+seats_from channels position (id ∷ ids) sids =
+    record { place = place_of channels id; sid = slice_index sids position } ∷ seats_from channels (position + 1) ids sids
+
+-- a turn that has this place among the turns of a round
+abbrev pub row_of : List Channel → ℕ → Turn → TurnRow
+row_of channels place turn = record {
+  asker = asker_of place turn;
+  seats = seats_from channels 0 turn.cluster.flow.channels turn.cluster.sids;
+}
+
+-- turns, of which the first has this place
+abbrev pub rows_from : List Channel → ℕ → List Turn → List TurnRow
+rows_from channels place [] = []
+rows_from channels place (turn ∷ turns) = row_of channels place turn ∷ rows_from channels (place + 1) turns
+
+-- what a planner keeps of the tables
+pub record IsPlanning (t : Tables) (rows : List TurnRow) (channels : List ChannelPlan) : Type 0 where
+  pub lawful : AreTables t
+  pub turns : rows ≡ rows_from t.channels 0 (turns_of t)
+  pub own : map (λ c. c.channel) channels ≡ t.channels
+
+-- channels with so many idle minislots, and no claims
+abbrev pub cleared : List ChannelPlan → List ℕ → List ChannelPlan
+cleared channels idle =
+    map (λ pair. record { channel = pair.0.channel; slots = pair.1; claims = [] }) (zip channels idle)
+
+-- the most bytes that the channel at a place can carry behind a header
+abbrev pub weight_at : ℕ → List ChannelPlan → ℕ → ℕ
+weight_at header channels place = weight header (option_map budget_in (slice_get channels place))
+
+-- a change of the channel at a place
+abbrev pub changed : (ChannelPlan → ChannelPlan) → List ChannelPlan → ℕ → List ChannelPlan
+changed f [] place = []
+changed f (c ∷ channels) zero = f c ∷ channels
+changed f (c ∷ channels) (suc place) = c ∷ changed f channels place
+
+-- shares at these seats, from a position on
+abbrev pub put_from : Asker → ℕ → List Seat → List ℕ → List ChannelPlan → List ChannelPlan
+put_from asker position [] shares channels = channels
+put_from asker position (seat ∷ seats) shares channels =
+    put_from asker (position + 1) seats shares
+    (changed (with_share asker position seat.sid (slice_index shares position)) channels seat.place)
+
+-- bytes, divided over the channels of a turn
+abbrev pub shares_at : TurnRow → ℕ → List ChannelPlan → List ℕ
+shares_at row bytes channels =
+    divided bytes (map (λ seat. weight_at row.asker.header channels seat.place) row.seats)
+
+-- the shares of a turn of so many outstanding bytes,
+abbrev pub shares_in : TurnRow → ℕ → PartialPlan → List ℕ
+shares_in row bytes partial =
+    shares_at row (at_most (slice_index_or partial.allowances row.asker.claimant.place None) bytes) partial.channels
+
+-- and what is planned then
+abbrev pub with_shares : TurnRow → List ℕ → PartialPlan → PartialPlan
+with_shares row shares partial = record {
+  channels = put_from row.asker 0 row.seats shares partial.channels;
+  allowances = set partial.allowances row.asker.claimant.place
+      (option_map (λ most. most - sum shares) (slice_index_or partial.allowances row.asker.claimant.place None));
+}
+
+unfoldable pub with_row : TurnRow → ℕ → PartialPlan → PartialPlan
+with_row row bytes partial = with_shares row (shares_in row bytes partial) partial
+
+-- the same of a turn by its place, of the bytes that are outstanding of each cluster,
+abbrev pub with_row_if : Option TurnRow → List ℕ → PartialPlan → PartialPlan
+with_row_if None outstanding partial = partial
+with_row_if (Some row) outstanding partial =
+    with_row row (slice_index outstanding row.asker.claimant.cluster) partial
+
+-- and of turns, one after another
+abbrev pub with_rows : List TurnRow → List ℕ → List ℕ → PartialPlan → PartialPlan
+with_rows rows outstanding [] partial = partial
+with_rows rows outstanding (place ∷ places) partial =
+    with_rows rows outstanding places (with_row_if (slice_get rows place) outstanding partial)
+
+-- a plan of these channels and allowances
+abbrev pub partial_of : List ChannelPlan → List (Option ℕ) → PartialPlan
+partial_of channels allowances = record { channels = channels; allowances = allowances }
+
+-- a row leads to a flow and to channels
+pub record IsRowWithin (flows channels : ℕ) (row : TurnRow) : Type 0 where
+  pub flow : row.asker.claimant.place < flows
+  pub inside : AllByRecursion (λ seat. seat.place < channels) row.seats
+  pub header : row.asker.header ≤ 8

@@ -1,0 +1,185 @@
+ghost use Rattle.std.specs.Prelude.{◌≡◌, ◌+◌, ◌^◌, ◌<◌, ◌≤◌, length, replicate, zip, slice_index, IfOk, vec_capacity};
+ghost use Rattle.std.specs.List.{AllByRecursion};
+ghost use Rattle.us_split.specs.Asking as spec;
+ghost use Rattle.us_split.specs.Askers.{AreAskers};
+
+use std::alloc::Global;
+use std::marker::Model;
+use us_flows::Config;
+use us_slots::NoMemory;
+
+// Which turn is whose.
+mod cluster_turns;
+
+// Who asks in a cut.
+mod cuts;
+
+// Lists of turns.
+mod listing;
+
+use cluster_turns::{numbers_of, places_of};
+use cuts::first_in_cut;
+use listing::{drop_answered, list_turn, note_pending};
+
+/// Who asks in a round: what is outstanding of each SID cluster, and the turns of which something is. Between rounds,
+/// and while clusters ask for more, `left` is the same as `outstanding`; credits of a round lower it alone, until the
+/// round is settled.
+///
+/// Only [`Askers::new`] takes memory.
+pub struct Askers {
+    // of each turn its cluster, and of each cluster its turn
+    numbers: Vec<u16>,
+    places: Vec<u16>,
+
+    // bytes by cluster
+    outstanding: Vec<u64>,
+    left: Vec<u64>,
+
+    // places of turns, rising
+    asking: Vec<u16>,
+    pending: Vec<u16>,
+}
+
+impl Model for Askers {
+    ghost Value = { spec.Asking };
+
+    ghost view = { λ a. record {
+      numbers = a.numbers.items;
+      outstanding = a.outstanding.items;
+      left = a.left.items;
+      pending = a.pending.items;
+    } };
+
+    ghost invariant = { λ a. AreAskers a.numbers.items a.places.items a.outstanding.items a.left.items a.asking.items
+        (vec_capacity a.asking) (vec_capacity a.pending) };
+}
+
+/// Gives all lists up. It is written out so that it is one step wherever askers end.
+impl Drop for Askers {
+    fn drop(self) {
+        let Askers {
+            numbers: _,
+            places: _,
+            outstanding: _,
+            left: _,
+            asking: _,
+            pending: _,
+        } = self;
+    }
+}
+
+impl Askers {
+    /// Before round 0 nothing is outstanding.
+    pub fn new(alloc: Global, config: &Config) -> Result<Askers, NoMemory>
+        ensures { IfOk result (λ askers. askers ≡ spec.nobody_asks config.now) }
+    {
+        let clusters = config.clusters();
+        let numbers = numbers_of(alloc, config)?;
+        let places = places_of(alloc, &numbers, clusters)?;
+        let outstanding = no_bytes(alloc, clusters)?;
+        let left = no_bytes(alloc, clusters)?;
+        let asking = Vec::with_capacity(alloc, numbers.len())?;
+        let pending = Vec::with_capacity(alloc, numbers.len())?;
+        Ok(Askers {
+            numbers,
+            places,
+            outstanding,
+            left,
+            asking,
+            pending,
+        })
+    }
+
+    /// The bytes that are outstanding of each cluster, by number, before the credits of this round.
+    pub fn outstanding(&self) -> &[u64]
+        ensures value { result.now ≡ self.now.outstanding }
+        ensures range { AllByRecursion (λ bytes. bytes < 2 ^ 62) result.now }
+    {
+        &self.outstanding
+    }
+
+    /// Those of them that are left after these credits.
+    pub fn left(&self) -> &[u64]
+        ensures value { result.now ≡ self.now.left }
+        ensures range { AllByRecursion (λ bytes. bytes < 2 ^ 62) result.now }
+    {
+        &self.left
+    }
+
+    /// The places of the turns of which bytes are outstanding, in the order of turns.
+    pub fn asking(&self) -> &[u16]
+        ensures { result.now ≡ spec.asking self.now.outstanding self.now.numbers }
+    {
+        &self.asking
+    }
+
+    /// The places of the turns that were pending when the round was settled, in the order of turns.
+    pub fn pending(&self) -> &[u16]
+        ensures { result.now ≡ self.now.pending }
+    {
+        &self.pending
+    }
+
+    /// A cluster asks for so many bytes more.
+    pub fn add(&mut self, cluster: usize, bytes: u64)
+        requires cluster { cluster < length self.old.outstanding }
+        requires room { slice_index self.old.outstanding cluster + bytes < 2 ^ 62 }
+        ensures { self.new ≡ spec.asked_more cluster bytes self.old }
+    {
+        if bytes == 0 {
+            return;
+        }
+        let before = self.outstanding[cluster];
+        let place = self.places[cluster];
+        list_turn(&mut self.asking, place, before);
+        self.outstanding[cluster] = before + bytes;
+        self.left[cluster] += bytes;
+    }
+
+    /// Each cluster asks for the bytes of its cut more.
+    pub fn add_all(&mut self, cuts: &[u64])
+        requires clusters { length cuts.now ≡ length self.old.outstanding }
+        requires room { AllByRecursion (λ pair. pair.0 + pair.1 < 2 ^ 62) (zip self.old.outstanding cuts.now) }
+        ensures { self.new ≡ spec.all_asked_more cuts.now self.old }
+    {
+        let clusters = self.outstanding.len();
+        let mut cluster = first_in_cut(cuts, 0);
+        while cluster < clusters {
+            self.add(cluster, cuts[cluster]);
+            cluster = first_in_cut(cuts, cluster + 1);
+        }
+    }
+
+    /// So many of the bytes that are left of a cluster were granted.
+    pub fn credit(&mut self, cluster: usize, bytes: u64)
+        requires cluster { cluster < length self.old.left }
+        requires within { bytes ≤ slice_index self.old.left cluster }
+        ensures { self.new ≡ spec.credited cluster bytes self.old }
+    {
+        self.left[cluster] -= bytes;
+    }
+
+    /// Ends the round: what is left is outstanding. Those of whom bytes are left and who were credited nothing are pending,
+    /// and those of whom nothing is left ask no more.
+    pub fn settle(&mut self)
+        ensures { self.new ≡ spec.settled self.old }
+    {
+        note_pending(
+            &mut self.pending,
+            &self.asking,
+            &self.numbers,
+            &self.outstanding,
+            &self.left,
+        );
+        drop_answered(&mut self.asking, &self.numbers, &self.left);
+        let outstanding = self.outstanding.as_mut_slice();
+        outstanding.copy_from_slice(&self.left);
+    }
+}
+
+/// No bytes of so many clusters.
+fn no_bytes(alloc: Global, clusters: usize) -> Result<Vec<u64>, NoMemory>
+    ensures { IfOk result (λ bytes. bytes.items ≡ replicate clusters 0) }
+{
+    Ok(vec![in alloc; 0u64; clusters]?)
+}
