@@ -89,7 +89,7 @@ put_last head first one = elim (cases_lt 0 head) [
   | inl more ↦
       let not : (head == 0) ≡ false = ne_eqb head 0 (omega arith) in
       rw not (put_later one (one_at 0 head first) [] (omega arith)
-          ∙ ap (λ more. one_at 0 head first ∷ more) (first_put one))
+      ∙ ap (λ more. one_at 0 head first ∷ more) (first_put one))
   | inr none ↦
       let is : (head == 0) ≡ true = eq-eqb head 0 (omega arith) in
       rw is (first_put one)
