@@ -11,6 +11,7 @@ use Rattle.us_codec.proofs.PutLemmas.{length-spelling}
 use Rattle.us_flows.specs.declared.channels.Channel.{Channel}
 use Rattle.us_flows.specs.Tables.{Tables, map_len}
 use Rattle.us_holes.specs.Runs.{Run, runs_of}
+use Rattle.us_holes.specs.Boards.{max_assignments}
 use Rattle.us_holes.specs.Kept.{IsBoard}
 use Rattle.us_channel.specs.Maps.{head_of, elements_of, map_of, pending_element, run_element}
 use Rattle.us_channel.specs.Channels.{Built}
@@ -74,7 +75,7 @@ record_joined t round pending b h len count runs sids text one two three new is-
 
 -- a board's MAP keeps the limits
 pub within : (t : Tables) (round : ℕ) (pending : List (ℕ × ℕ)) (b : Built) (sids : List ℕ) → IsBoard b.board →
-    length (runs_of b.board.cells) ≤ 2 * b.board.standing + 1 → length (head_of t round b.channel).backoffs ≡ 4 →
+    length (runs_of b.board.cells) ≤ 2 * max_assignments + 1 → length (head_of t round b.channel).backoffs ≡ 4 →
     sids ≡ pendings_on b.channel.id pending → length sids ≤ 38 → IsWithinLimits t round pending b
 unfolding map_of elements_of
 within t round pending b sids is few four is-sids few-sids =

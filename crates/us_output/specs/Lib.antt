@@ -11,6 +11,8 @@ pub mod Files
 pub mod Leftovers
 -- inside the crate: G lines by where they start
 pub mod Orders
+-- inside the crate: what is written ahead
+pub mod Ahead
 -- laws of what a round gives
 pub mod OutputLaws
 -- the definitions at small inputs

@@ -33,6 +33,10 @@ mod orders;
 // What texts keep.
 mod scratch;
 
+// What of them is written ahead, and a channel that has it.
+mod ahead;
+mod channels_with_text;
+
 // The MAPs of a round, as values,
 mod mapping;
 
@@ -55,6 +59,7 @@ mod outputs;
 // Laws of what a round gives.
 mod output_laws;
 
+pub use channels_with_text::ChannelWithText;
 pub use output_laws::{lines_are_of_grants, lines_bear_round};
 pub use outputs::{out_by, round_out};
 pub use pendings::{PendingSid, first_sid_of, pending_sids};

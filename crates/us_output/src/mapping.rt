@@ -4,6 +4,7 @@ ghost use Rattle.us_flows.specs.Tables.{max_run_ticks};
 ghost use Rattle.us_output.specs.Leftovers.{IsBuiltFor};
 ghost use Rattle.us_output.specs.Outputs as spec;
 
+use crate::channels_with_text::ChannelWithText;
 use crate::pendings::{PendingSid, list_sids};
 use crate::scratch::Scratch;
 use std::alloc::Global;
@@ -17,7 +18,7 @@ pub(crate) fn maps_of(
     alloc: Global,
     config: &Config,
     round: u32,
-    built: &[ChannelRound],
+    built: &[ChannelWithText],
     pendings: &[PendingSid],
 ) -> Result<Vec<Map>, NoMemory>
     requires built { AllByRecursion (IsBuiltFor config.now) built.now }
@@ -28,7 +29,8 @@ pub(crate) fn maps_of(
     let mut scratch = Scratch::new(alloc);
     let mut maps = Vec::with_capacity(alloc, built.len())?;
     for part in built {
-        maps.push_reserved(built_map(alloc, config, round, part, pendings, &mut scratch)?);
+        let channel = part.channel_round();
+        maps.push_reserved(built_map(alloc, config, round, channel, pendings, &mut scratch)?);
     }
     Ok(maps)
 }

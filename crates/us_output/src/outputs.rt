@@ -4,12 +4,12 @@ ghost use Rattle.us_flows.specs.Tables.{max_run_ticks};
 ghost use Rattle.us_output.specs.Leftovers.{AreInside, IsBuiltFor, scheduled_by, told};
 ghost use Rattle.us_output.specs.Outputs.{AreWithinLimits, out_of};
 
+use crate::channels_with_text::ChannelWithText;
 use crate::mapping::maps_of;
 use crate::pendings::{PendingSid, pending_sids};
 use crate::reporting::rows_of;
 use crate::round_outs::RoundOut;
 use std::alloc::Global;
-use us_channel::ChannelRound;
 use us_flows::Config;
 use us_slots::NoMemory;
 
@@ -19,7 +19,7 @@ pub fn out_by(
     alloc: Global,
     config: &Config,
     round: u32,
-    channels: &[ChannelRound],
+    channels: &[ChannelWithText],
     pendings: &[PendingSid],
 ) -> Result<RoundOut, NoMemory>
     requires built { AllByRecursion (IsBuiltFor config.now) channels.now }
@@ -42,7 +42,7 @@ pub fn round_out(
     round: u32,
     outstanding: &[u64],
     left: &[u64],
-    built: &[ChannelRound],
+    built: &[ChannelWithText],
 ) -> Result<RoundOut, NoMemory>
     requires built { AllByRecursion (IsBuiltFor config.now) built.now }
     requires inside { AllByRecursion AreInside built.now }

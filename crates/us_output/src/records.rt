@@ -1,24 +1,28 @@
-ghost use Rattle.std.specs.Prelude.{◌≡◌, ◌+◌, ◌*◌, ◌^◌, ◌<◌, ◌≤◌, ◌++◌, length, take, flat_map, OnOk};
+ghost use Rattle.std.specs.Prelude.{◌≡◌, ◌+◌, ◌*◌, ◌^◌, ◌<◌, ◌≤◌, ◌++◌, length, take, flat_map, IfOk, OnOk};
 ghost use Rattle.std.specs.List.{AllByRecursion};
 ghost use Rattle.std.specs.Int.{to_be_bytes, w16, w32};
 ghost use Rattle.us_codec.specs.Elements.{word_of};
 ghost use Rattle.us_codec.specs.Bodies.{front, max_elements, spelling};
 ghost use Rattle.us_codec.specs.MapsFiles.{Piece, record_bytes};
 ghost use Rattle.us_flows.specs.Tables.{max_run_ticks};
-ghost use Rattle.us_channel.specs.Maps.{pending_element, run_element};
+ghost use Rattle.us_channel.specs.Maps.{max_pendings, pending_element, run_element};
+ghost use Rattle.us_holes.specs.Boards.{max_assignments};
+ghost use Rattle.us_holes.specs.Runs.{runs_of};
+ghost use Rattle.us_output.specs.Ahead.{words_of};
 ghost use Rattle.us_output.specs.Files.{records};
 ghost use Rattle.us_output.specs.Leftovers.{IsBuiltFor, told};
 ghost use Rattle.us_output.specs.Outputs as spec;
 ghost use Rattle.us_output.specs.Outputs.{AreWithinLimits, out_of};
 
+use crate::channels_with_text::ChannelWithText;
 use crate::pendings::{PendingSid, list_sids};
 use crate::scratch::Scratch;
-use us_channel::{ChannelRound, element_of, head_of, pending_of};
+use us_channel::{element_of, head_of, pending_of};
 use us_codec::{
     ELEMENT_BYTES, Element, HEAD_BYTES, Head, MAX_BODY_BYTES, front_bytes, put_element,
 };
 use us_flows::{Channel, Config};
-use us_holes::Run;
+use us_holes::{Board, Run};
 use us_slots::NoMemory;
 
 /// The bytes of a round and of a length, which stand before a body.
@@ -34,7 +38,7 @@ pub fn push_records(
     scratch: &mut Scratch,
     config: &Config,
     round: u32,
-    channels: &[ChannelRound],
+    channels: &[ChannelWithText],
     pendings: &[PendingSid],
 ) -> Result<(), NoMemory>
     requires built { AllByRecursion (IsBuiltFor config.now) channels.now }
@@ -55,7 +59,7 @@ fn push_record(
     scratch: &mut Scratch,
     config: &Config,
     round: u32,
-    part: &ChannelRound,
+    part: &ChannelWithText,
     pendings: &[PendingSid],
 ) -> Result<(), NoMemory>
     requires built { IsBuiltFor config.now part.now }
@@ -71,16 +75,55 @@ fn push_record(
         record,
         ..
     } = scratch;
-    runs.clear();
-    part.board().push_runs(runs)?;
-    list_sids(sids, pendings, part.channel().id)?;
-    let len = part.board().len() as u16;
-    let head = head_of(config, part.channel(), round);
-    let end = put_opening(record, round, &head, runs.len() + 1 + sids.len());
-    let end = put_runs(record, end, part.channel(), runs);
+    let channel = part.channel_round().channel();
+    list_sids(sids, pendings, channel.id)?;
+    let len = part.channel_round().board().len() as u16;
+    let head = head_of(config, channel, round);
+    let end = put_granted(record, runs, round, &head, part, 1 + sids.len())?;
     let end = put_next(record, end, Element::null_at(len));
     let end = put_pendings(record, end, sids, len);
     push_first(text, record, end)?;
+    Ok(())
+}
+
+/// Puts what stands of a record before its null element, where so many elements come from there on: its opening, and the
+/// elements of the runs. Where they were written ahead, these are copied.
+fn put_granted(
+    out: &mut [u8; RECORD_BYTES],
+    runs: &mut Vec<Run>,
+    round: u32,
+    head: &Head,
+    part: &ChannelWithText,
+    more: usize,
+) -> Result<usize, NoMemory>
+    requires more { more ≤ 1 + max_pendings }
+    ensures room { IfOk result (λ end. end + ELEMENT_BYTES * more ≤ RECORD_BYTES) }
+    ensures few { OnOk result (length (runs_of part.now.board.cells) ≤ 2 * max_assignments + 1) }
+    ensures bytes { IfOk result (λ end. take end out.new ≡
+        (to_be_bytes w32 round ++ to_be_bytes w16 (16 + 4 * (length (runs_of part.now.board.cells) + more))
+        ++ front head.now (length (runs_of part.now.board.cells) + more))
+        ++ words_of part.now.channel (runs_of part.now.board.cells)) }
+{
+    if let Some(ahead) = part.ahead(round) {
+        let end = put_opening(out, round, head, ahead.runs.len() + more);
+        return Ok(put_some(out, end, ahead.elements()));
+    }
+    let channel = part.channel_round();
+    list_runs(runs, channel.board())?;
+    let end = put_opening(out, round, head, runs.len() + more);
+    Ok(put_runs(out, end, channel.channel(), runs))
+}
+
+/// Lists the runs of a board. What stood in the list is dropped.
+pub(crate) fn list_runs(runs: &mut Vec<Run>, board: &Board) -> Result<(), NoMemory>
+    ensures runs { OnOk result (runs.new.items ≡ runs_of board.now.cells) }
+    ensures few { OnOk result (length (runs_of board.now.cells) ≤ 2 * max_assignments + 1) }
+    ensures starts { OnOk result (AllByRecursion (λ run. run.start < 2 ^ 14) (runs_of board.now.cells)) }
+{
+    // Asked for what it tells of a board: how long it is at most.
+    let _ = board.len();
+    runs.clear();
+    board.push_runs(runs)?;
     Ok(())
 }
 
@@ -107,7 +150,12 @@ fn put_opening(out: &mut [u8; RECORD_BYTES], round: u32, head: &Head, count: usi
 }
 
 /// Puts the element of each run behind what stands before `at`.
-fn put_runs(out: &mut [u8; RECORD_BYTES], at: usize, channel: &Channel, runs: &[Run]) -> usize
+pub(crate) fn put_runs(
+    out: &mut [u8; RECORD_BYTES],
+    at: usize,
+    channel: &Channel,
+    runs: &[Run],
+) -> usize
     requires room { at + ELEMENT_BYTES * length runs.now ≤ RECORD_BYTES }
     requires starts { AllByRecursion (λ run. run.start < 2 ^ 14) runs.now }
     ensures end { result ≡ at + ELEMENT_BYTES * length runs.now }
@@ -149,6 +197,17 @@ fn put_next(out: &mut [u8; RECORD_BYTES], at: usize, element: Element) -> usize
 }
 
 /// Puts some bytes behind what stands before `at`.
+fn put_some(out: &mut [u8; RECORD_BYTES], at: usize, bytes: &[u8]) -> usize
+    requires { at + length bytes.now ≤ RECORD_BYTES }
+    ensures end { result ≡ at + length bytes.now }
+    ensures bytes { take result out.new ≡ take at out.old ++ bytes.now }
+{
+    let end = at + bytes.len();
+    out[at..end].copy_from_slice(bytes);
+    end
+}
+
+/// The same of so many bytes as are known beforehand.
 #[inline(always)]
 fn put_bytes<const N: usize>(out: &mut [u8; RECORD_BYTES], at: usize, bytes: &[u8; N]) -> usize
     requires { at + N ≤ RECORD_BYTES }

@@ -1,4 +1,4 @@
-ghost use Rattle.std.specs.Prelude.{◌≡◌, ◌+◌, ◌^◌, ◌<◌, ◌≤◌, [], ◌∷◌, ◌++◌, length, drop, flat_map, map, count_by, OnOk};
+ghost use Rattle.std.specs.Prelude.{◌≡◌, ◌+◌, ◌^◌, ◌<◌, ◌≤◌, [], ◌∷◌, ◌++◌, length, drop, flat_map, map, count_by, IfOk, OnOk};
 ghost use Rattle.std.specs.List.{AllByRecursion};
 ghost use Rattle.us_output.specs.Files.{lines, is_granted, is_missed};
 ghost use Rattle.us_output.specs.Leftovers.{AreInside};
@@ -6,6 +6,7 @@ ghost use Rattle.us_output.specs.Lines.{HasFields, numbers};
 ghost use Rattle.us_output.specs.Orders.{line_row, missed_of, ordered_lines};
 ghost use Rattle.us_output.specs.Outputs as spec;
 
+use crate::channels_with_text::ChannelWithText;
 use crate::lines::{FRONT_BYTES, LINE_BYTES, front_of, push_granted, push_line, push_missed};
 use crate::orders::{GrantLine, missed_at, order_lines};
 use crate::rows::Row;
@@ -23,7 +24,7 @@ pub fn push_lines(
     scratch: &mut Scratch,
     tally: &mut LineTally,
     round: u32,
-    channels: &[ChannelRound],
+    channels: &[ChannelWithText],
 ) -> Result<(), NoMemory>
     requires inside { AllByRecursion AreInside channels.now }
     requires granted_room { tally.old.granted + length (flat_map (spec.rows_on round) channels.now) < 2 ^ 64 }
@@ -48,7 +49,7 @@ fn push_part(
     scratch: &mut Scratch,
     tally: &mut LineTally,
     round: u32,
-    part: &ChannelRound,
+    part: &ChannelWithText,
 ) -> Result<(), NoMemory>
     requires inside { AreInside part.now }
     requires granted_room { tally.old.granted + length (spec.rows_on round part.now) < 2 ^ 64 }
@@ -60,11 +61,48 @@ fn push_part(
     ensures missed { OnOk result
         (tally.new.missed ≡ tally.old.missed + count_by is_missed (spec.rows_on round part.now)) }
 {
+    let granted = push_written(text, scratch, round, part)?;
+    tally.add(granted, missed_lines(part.channel_round(), granted));
+    Ok(())
+}
+
+/// Adds the lines of a channel, and answers how many of them are of grants. Lines that were written ahead are copied.
+fn push_written(
+    text: &mut Vec<u8>,
+    scratch: &mut Scratch,
+    round: u32,
+    part: &ChannelWithText,
+) -> Result<usize, NoMemory>
+    requires inside { AreInside part.now }
+    ensures lines { OnOk result (text.new.items ≡ text.old.items ++ lines (spec.rows_on round part.now)) }
+    ensures fields { OnOk result (AllByRecursion HasFields (spec.rows_on round part.now)) }
+    ensures granted { IfOk result (λ granted. granted ≡ length (ordered_lines part.now)) }
+{
+    if let Some(ahead) = part.ahead(round) {
+        text.extend_from_slice(&ahead.lines)?;
+        return Ok(ahead.ordered.len());
+    }
     let Scratch { lines, line, .. } = scratch;
-    order_lines(lines, part)?;
-    push_all_granted(text, line, round, part.channel(), lines)?;
+    push_all(text, lines, line, round, part.channel_round())?;
+    Ok(lines.len())
+}
+
+/// Adds the lines of a channel. In `ordered` are left those of grants.
+pub(crate) fn push_all(
+    text: &mut Vec<u8>,
+    ordered: &mut Vec<GrantLine>,
+    line: &mut [u8; LINE_BYTES],
+    round: u32,
+    part: &ChannelRound,
+) -> Result<(), NoMemory>
+    ensures ordered { OnOk result (AreInside part.now → ordered.new.items ≡ ordered_lines part.now) }
+    ensures lines { OnOk result
+        (AreInside part.now → text.new.items ≡ text.old.items ++ lines (spec.rows_on round part.now)) }
+    ensures fields { OnOk result (AreInside part.now → AllByRecursion HasFields (spec.rows_on round part.now)) }
+{
+    order_lines(ordered, part)?;
+    push_all_granted(text, line, round, part.channel(), ordered)?;
     push_all_missed(text, line, round, part.channel(), part.settled())?;
-    tally.add(lines.len(), missed_lines(part, lines.len()));
     Ok(())
 }
 

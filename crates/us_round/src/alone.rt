@@ -13,9 +13,8 @@ use crate::hands::{Answered, Building, Filling, Hands};
 use crate::rounds::step;
 use crate::states::State;
 use std::alloc::Global;
-use us_channel::ChannelRound;
 use us_crew::{Gate, OpenGate, Phase};
-use us_output::RoundOut;
+use us_output::{ChannelWithText, RoundOut};
 
 /// The calling thread, which does channels one after another, where they stand. It enters a gate before each.
 #[derive(Clone, Copy)]
@@ -27,7 +26,7 @@ pub struct Alone<'a, G> {
 impl<'a, G: Gate> Hands for Alone<'a, G> {
     ghost knows = { λ _ _. ⊤ };
 
-    fn fill(&mut self, work: &Filling<'_>, channels: Vec<ChannelRound>) -> Answered
+    fn fill(&mut self, work: &Filling<'_>, channels: Vec<ChannelWithText>) -> Answered
         requires ready { AreAccepted (λ _. ⊤) (CanFill work.now) channels.items }
         ensures value { IfOk result (λ all. all.items ≡ values_of (filled_at work.now) channels.items) }
         ensures same { (t : Tables) → ⊤ → ⊤ }
@@ -40,7 +39,7 @@ impl<'a, G: Gate> Hands for Alone<'a, G> {
         Ok(channels)
     }
 
-    fn build(&mut self, work: &Building<'_>, channels: Vec<ChannelRound>) -> Answered
+    fn build(&mut self, work: &Building<'_>, channels: Vec<ChannelWithText>) -> Answered
         requires claims { AreAccepted (λ _. ⊤) (CanBuild work.now) channels.items }
         ensures value { IfOk result (λ all. all.items ≡ values_of (built_at work.now) channels.items) }
         ensures same { (t : Tables) → ⊤ → ⊤ }

@@ -13,9 +13,8 @@ use crate::buckets::Buckets;
 use std::alloc::Global;
 use std::marker::Model;
 use us_bucket::Bucket;
-use us_channel::ChannelRound;
 use us_flows::Config;
-use us_output::PendingSid;
+use us_output::{ChannelWithText, PendingSid};
 use us_slots::NoMemory;
 use us_split::{Askers, Planner};
 
@@ -163,7 +162,7 @@ impl Core {
     }
 
     /// Plans the round, over channels with reserves and calendars.
-    pub(crate) fn plan(&mut self, channels: &[ChannelRound]) -> Result<(), NoMemory>
+    pub(crate) fn plan(&mut self, channels: &[ChannelWithText]) -> Result<(), NoMemory>
         requires room { IsIdle self.old.tables (spec.idle_of channels.now) }
         ensures { OnOk result (self.new ≡ spec.planned_core self.old channels.now) }
     {
@@ -183,7 +182,7 @@ impl Core {
     }
 
     /// Ends the round: what was granted leaves the outstanding bytes and the buckets.
-    pub(crate) fn close(&mut self, built: &[ChannelRound])
+    pub(crate) fn close(&mut self, built: &[ChannelWithText])
         requires covers { Covers self.old.outstanding self.old.buckets (all_grants built.now) }
         requires round { self.old.round + 1 < 2 ^ 32 }
         ensures value { self.new ≡ spec.credited_core self.old built.now }

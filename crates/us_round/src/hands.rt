@@ -5,9 +5,9 @@ ghost use Rattle.us_flows.specs.Tables.{Tables};
 ghost use Rattle.us_round.specs.Hands.{CanFill, CanBuild, filled_at, built_at};
 
 use std::alloc::Global;
-use us_channel::ChannelRound;
 use us_crew::{CrewFault, Work};
 use us_flows::Config;
+use us_output::ChannelWithText;
 use us_slots::NoMemory;
 use us_split::{Claim, Planner};
 
@@ -24,6 +24,9 @@ pub struct Filling<'a> {
 #[derive(Clone, Copy)]
 pub struct Building<'a> {
     pub(crate) planner: &'a Planner,
+
+    /// The number of the round.
+    pub round: u32,
 }
 
 impl<'a> Building<'a> {
@@ -36,7 +39,7 @@ impl<'a> Building<'a> {
 }
 
 /// Channels, or want of memory.
-pub type Answered = Result<Vec<ChannelRound>, NoMemory>;
+pub type Answered = Result<Vec<ChannelWithText>, NoMemory>;
 
 /// Who does with all channels what a round has to do with each. Channels are given and given back in table order; on want
 /// of memory they are given up.
@@ -47,14 +50,14 @@ pub trait Hands {
     ghost knows: { Self → Tables → Type 0 };
 
     /// Makes the reserves of each channel, and settles what its calendar has due.
-    fn fill(&mut self, work: &Filling<'_>, channels: Vec<ChannelRound>) -> Answered
+    fn fill(&mut self, work: &Filling<'_>, channels: Vec<ChannelWithText>) -> Answered
         requires known { knows self.old work.now.config.now }
         requires ready { AreAccepted (λ _. ⊤) (CanFill work.now) channels.items }
         ensures value { IfOk result (λ all. all.items ≡ values_of (filled_at work.now) channels.items) }
         ensures same { (t : Tables) → knows self.old t → knows self.new t };
 
     /// Places the claims on each channel.
-    fn build(&mut self, work: &Building<'_>, channels: Vec<ChannelRound>) -> Answered
+    fn build(&mut self, work: &Building<'_>, channels: Vec<ChannelWithText>) -> Answered
         requires known { (t : Tables) × knows self.old t }
         requires claims { AreAccepted (λ _. ⊤) (CanBuild work.now) channels.items }
         ensures value { IfOk result (λ all. all.items ≡ values_of (built_at work.now) channels.items) }
@@ -69,23 +72,23 @@ pub(crate) struct ByEach<F, B> {
 }
 
 impl<
-    F: Fn(&Filling<'_>, Vec<ChannelRound>) -> Answered,
-    B: Fn(&Building<'_>, Vec<ChannelRound>) -> Answered,
+    F: Fn(&Filling<'_>, Vec<ChannelWithText>) -> Answered,
+    B: Fn(&Building<'_>, Vec<ChannelWithText>) -> Answered,
 > Hands for ByEach<F, B> {
     ghost use Rattle.us_round.specs.Hands.{DoesFill, DoesBuild};
 
     ghost knows = { λ by t. DoesFill F.Fn by.fill × DoesBuild B.Fn by.build };
 
-    fn fill(&mut self, work: &Filling<'_>, channels: Vec<ChannelRound>) -> Answered {
+    fn fill(&mut self, work: &Filling<'_>, channels: Vec<ChannelWithText>) -> Answered {
         (self.fill)(work, channels)
     }
 
-    fn build(&mut self, work: &Building<'_>, channels: Vec<ChannelRound>) -> Answered {
+    fn build(&mut self, work: &Building<'_>, channels: Vec<ChannelWithText>) -> Answered {
         (self.build)(work, channels)
     }
 }
 
-impl<'a> Work<ChannelRound, ChannelRound, NoMemory> for Filling<'a> {
+impl<'a> Work<ChannelWithText, ChannelWithText, NoMemory> for Filling<'a> {
     ghost accepts = { λ work place item. CanFill work place item };
 
     ghost value = { λ work place item. filled_at work place item };
@@ -98,15 +101,15 @@ impl<'a> Work<ChannelRound, ChannelRound, NoMemory> for Filling<'a> {
         &self,
         _alloc: Global,
         _index: usize,
-        item: ChannelRound,
-    ) -> Result<ChannelRound, NoMemory> {
+        item: ChannelWithText,
+    ) -> Result<ChannelWithText, NoMemory> {
         let mut channel = item;
         channel.fill(self.config, self.round)?;
         Ok(channel)
     }
 }
 
-impl<'a> Work<ChannelRound, ChannelRound, NoMemory> for Building<'a> {
+impl<'a> Work<ChannelWithText, ChannelWithText, NoMemory> for Building<'a> {
     ghost accepts = { λ work place item. CanBuild work place item };
 
     ghost value = { λ work place item. built_at work place item };
@@ -119,8 +122,8 @@ impl<'a> Work<ChannelRound, ChannelRound, NoMemory> for Building<'a> {
         &self,
         _alloc: Global,
         index: usize,
-        item: ChannelRound,
-    ) -> Result<ChannelRound, NoMemory> {
+        item: ChannelWithText,
+    ) -> Result<ChannelWithText, NoMemory> {
         let mut channel = item;
         channel.place_claims(self.planner.claims(index));
         Ok(channel)
@@ -128,7 +131,7 @@ impl<'a> Work<ChannelRound, ChannelRound, NoMemory> for Building<'a> {
 }
 
 /// What workers answered for all channels, or want of memory.
-pub(crate) fn answers(answered: Result<Vec<ChannelRound>, CrewFault<NoMemory>>) -> Answered
+pub(crate) fn answers(answered: Result<Vec<ChannelWithText>, CrewFault<NoMemory>>) -> Answered
     ensures { IfOk result (λ all. answered ≡ Ok all) }
 {
     match answered {

@@ -7,14 +7,13 @@ ghost use Rattle.us_round.specs.Parts.{AreBuilt, AreClaimsOn, ArePartsOfRound, b
 use crate::cores::Core;
 use crate::done::RoundDone;
 use crate::hands::{Building, Filling, Hands};
-use us_channel::ChannelRound;
-use us_output::PendingSid;
+use us_output::{ChannelWithText, PendingSid};
 use us_slots::NoMemory;
 
 /// What a state consists of, which go through the stages of a round: what its channels know nothing of, and the channels.
 pub(crate) struct Parts {
     pub core: Core,
-    pub channels: Vec<ChannelRound>,
+    pub channels: Vec<ChannelWithText>,
 
     // who was pending in the last round
     pub pendings: Vec<PendingSid>,
@@ -82,6 +81,7 @@ impl Parts {
         } = self;
         let work = Building {
             planner: core.planner(),
+            round: core.round(),
         };
         let channels = hands.build(&work, channels)?;
         Ok(Parts {

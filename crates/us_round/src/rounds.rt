@@ -18,9 +18,8 @@ use crate::parts::Parts;
 use crate::states::State;
 use std::alloc::Global;
 use std::thread::Threads;
-use us_channel::ChannelRound;
 use us_crew::{Gate, MAX_WORKERS, Phase, map_owned};
-use us_output::RoundOut;
+use us_output::{ChannelWithText, RoundOut};
 use us_slots::NoMemory;
 
 /// Schedules the round of a state, in which the clusters ask for the bytes of `cuts`, one number for each cluster in
@@ -62,11 +61,11 @@ pub fn round<H: Threads + Sync, G: Gate + Sync>(
     if workers == 0 || workers > MAX_WORKERS {
         return Err(RoundFault::Workers);
     }
-    let fill = |work: &Filling<'_>, channels: Vec<ChannelRound>| -> Answered
+    let fill = |work: &Filling<'_>, channels: Vec<ChannelWithText>| -> Answered
         requires { AreAccepted (λ _. ⊤) (CanFill work.now) channels.items }
         ensures { IfOk result (λ all. all.items ≡ values_of (filled_at work.now) channels.items) }
     { answers(map_owned(threads, alloc, work, Phase::Fill, channels, workers, gate)) };
-    let build = |work: &Building<'_>, channels: Vec<ChannelRound>| -> Answered
+    let build = |work: &Building<'_>, channels: Vec<ChannelWithText>| -> Answered
         requires { AreAccepted (λ _. ⊤) (CanBuild work.now) channels.items }
         ensures { IfOk result (λ all. all.items ≡ values_of (built_at work.now) channels.items) }
     { answers(map_owned(threads, alloc, work, Phase::Build, channels, workers, gate)) };

@@ -9,9 +9,8 @@ use crate::faults::RoundFault;
 use crate::parts::Parts;
 use std::alloc::Global;
 use std::marker::Model;
-use us_channel::ChannelRound;
 use us_flows::Config;
-use us_output::Row;
+use us_output::{ChannelWithText, Row};
 use us_slots::NoMemory;
 
 /// What a round starts from: the configuration, the number of the round, what is outstanding of each SID cluster, the
@@ -108,13 +107,13 @@ impl State {
 }
 
 /// Each channel, before round 0.
-fn channels_of(alloc: Global, config: &Config) -> Result<Vec<ChannelRound>, NoMemory>
+fn channels_of(alloc: Global, config: &Config) -> Result<Vec<ChannelWithText>, NoMemory>
     ensures { IfOk result (λ all. all.items ≡ map (channels.opening config.now) config.now.channels) }
 {
     let channels = config.channels().len();
     let mut all = Vec::with_capacity(alloc, channels)?;
     for place in 0..channels {
-        let channel = ChannelRound::new(alloc, config, place)?;
+        let channel = ChannelWithText::new(alloc, config, place)?;
         all.push(channel)?;
     }
     Ok(all)

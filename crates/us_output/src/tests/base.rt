@@ -7,12 +7,11 @@ ghost use Rattle.us_calendar.specs.Calendars as calendars;
 ghost use Rattle.us_output.specs.Leftovers.{IsBuiltFor, StartsInside};
 
 use super::lines::{tell_line, tell_words};
-use crate::{final_rows, round_out};
+use crate::{ChannelWithText, final_rows, round_out};
 use std::alloc::{AllocError, Global};
 use std::process::Abort;
 use us_bucket::Bucket;
 use us_calendar::Settled;
-use us_channel::ChannelRound;
 use us_flows::{Channel, Config, ConfigFault};
 use us_samples::put_channel;
 use us_slots::{NoMemory, grant_cost};
@@ -122,25 +121,25 @@ fn tell_finals(alloc: Global, answer: &mut String, config: &Config) -> Result<()
 }
 
 /// The configuration's first channel in round 0, once the claims are placed, if the round may be made.
-pub(super) fn built_of(alloc: Global, config: &Config) -> Result<Option<ChannelRound>, NoMemory>
+pub(super) fn built_of(alloc: Global, config: &Config) -> Result<Option<ChannelWithText>, NoMemory>
     ensures { IfOk result (λ found. IfSome found (IsBuiltFor config.now)) }
 {
     if config.channels().is_empty() || !config.rounds_fit(1) {
         return Ok(None);
     }
-    let mut part = ChannelRound::new(alloc, config, 0)?;
+    let mut part = ChannelWithText::new(alloc, config, 0)?;
     part.fill(config, 0)?;
     Ok(place(config, part))
 }
 
 /// Places the claims, if they are claims of the channel.
-fn place(config: &Config, part: ChannelRound) -> Option<ChannelRound>
+fn place(config: &Config, part: ChannelWithText) -> Option<ChannelWithText>
     requires lawful { IsChannel config.now part.channel }
     requires len { length part.board.cells ≡ map_len config.now part.channel }
     ensures { IfSome result (IsBuiltFor config.now) }
 {
     let mut part = part;
-    let channel = *part.channel();
+    let channel = *part.channel_round().channel();
     let (Some(first), Some(second)) = (
         claim_of(&channel, 0, 291, 1_000),
         claim_of(&channel, 1, 292, 2_000),
@@ -182,10 +181,11 @@ fn claim_of(channel: &Channel, list: u8, sid: u16, share: u32) -> Option<Claim>
 }
 
 /// Whether all that a calendar granted on a channel starts inside its MAP.
-pub(super) fn settled_inside(part: &ChannelRound) -> bool
+pub(super) fn settled_inside(part: &ChannelWithText) -> bool
     ensures { IsTrue result →
         AllByRecursion (calendars.StartsInside (length part.now.board.cells)) part.now.settled }
 {
+    let part = part.channel_round();
     let len = part.board().len();
     for settled in part.settled() {
         if let Settled::Granted { start, .. } = *settled {
@@ -198,9 +198,10 @@ pub(super) fn settled_inside(part: &ChannelRound) -> bool
 }
 
 /// Whether all grants of requests on a channel start inside its MAP.
-pub(super) fn grants_inside(part: &ChannelRound) -> bool
+pub(super) fn grants_inside(part: &ChannelWithText) -> bool
     ensures { IsTrue result → AllByRecursion (StartsInside (length part.now.board.cells)) part.now.grants }
 {
+    let part = part.channel_round();
     let len = part.board().len();
     for grant in part.grants() {
         if grant.start >= len {

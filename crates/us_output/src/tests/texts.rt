@@ -6,11 +6,11 @@ ghost use Rattle.us_output.specs.Outputs.{out_of};
 
 use super::base::{built_of, config_of, grants_inside, same, settled_inside};
 use crate::{
-    LineTally, PendingSid, RoundOut, Scratch, out_by, push_lines, push_records, push_rows,
+    ChannelWithText, LineTally, PendingSid, RoundOut, Scratch, out_by, push_lines, push_records,
+    push_rows,
 };
 use std::alloc::{AllocError, Global};
 use std::test::Fail;
-use us_channel::ChannelRound;
 use us_codec::{MAX_BODY_BYTES, encode_into};
 use us_flows::Config;
 use us_slots::NoMemory;
@@ -23,14 +23,17 @@ struct Texts {
 }
 
 /// The texts of round 0 of the worked configuration, where more SIDs are pending than a MAP lists: twice over, the second
-/// time over what the first left in the lists that are kept.
-fn texts_of(alloc: Global) -> Result<Option<Texts>, NoMemory> {
+/// time over what the first left in the lists that are kept. Its channel writes ahead what it can, or doesn't.
+fn texts_of(alloc: Global, is_ahead: bool) -> Result<Option<Texts>, NoMemory> {
     let Ok(config) = config_of(alloc) else {
         return Err(NoMemory);
     };
-    let Some(built) = built_of(alloc, &config)? else {
+    let Some(mut built) = built_of(alloc, &config)? else {
         return Ok(None);
     };
+    if is_ahead {
+        built.write_ahead(0)?;
+    }
     if !config.rounds_fit(1) || !settled_inside(&built) || !grants_inside(&built) {
         return Ok(None);
     }
@@ -56,7 +59,7 @@ fn pendings(alloc: Global) -> Result<Vec<PendingSid>, AllocError> {
 fn straight(
     alloc: Global,
     config: &Config,
-    channels: &[ChannelRound],
+    channels: &[ChannelWithText],
     pendings: &[PendingSid],
     out: &RoundOut,
 ) -> Result<Vec<u8>, NoMemory>
@@ -78,7 +81,7 @@ fn push_texts(
     text: &mut Vec<u8>,
     scratch: &mut Scratch,
     config: &Config,
-    channels: &[ChannelRound],
+    channels: &[ChannelWithText],
     pendings: &[PendingSid],
     out: &RoundOut,
 ) -> Result<(), NoMemory>
@@ -123,9 +126,11 @@ fn push_plain(alloc: Global, text: &mut Vec<u8>, out: &RoundOut) -> Result<(), N
 
 #[test]
 fn straight_as_plain(rt: HostRuntime) -> Result<(), Fail> {
-    match texts_of(rt.alloc())? {
-        Some(texts) => assert_eq!(&rt; texts.straight.as_slice(), texts.plain.as_slice()),
-        None => same(&rt, "texts", "none", "some"),
+    for is_ahead in [false, true] {
+        match texts_of(rt.alloc(), is_ahead)? {
+            Some(texts) => assert_eq!(&rt; texts.straight.as_slice(), texts.plain.as_slice()),
+            None => same(&rt, "texts", "none", "some"),
+        }
     }
     Ok(())
 }
@@ -133,7 +138,9 @@ fn straight_as_plain(rt: HostRuntime) -> Result<(), Fail> {
 /// Run by `tools/refuse-memory` too, where each allocation is refused in turn: texts are whole, or there are none.
 #[test]
 fn refused_memory(rt: HostRuntime) {
-    if let Ok(Some(texts)) = texts_of(rt.alloc()) {
-        assert_eq!(&rt; texts.straight.as_slice(), texts.plain.as_slice());
+    for is_ahead in [false, true] {
+        if let Ok(Some(texts)) = texts_of(rt.alloc(), is_ahead) {
+            assert_eq!(&rt; texts.straight.as_slice(), texts.plain.as_slice());
+        }
     }
 }

@@ -10,10 +10,10 @@ use super::alone::gather_alone;
 use super::placing::{Laden, Placing, laden};
 use crate::collecting::{Chunk, Submitting, join_all, split_all};
 use std::alloc::Global;
-use us_channel::ChannelRound;
 use us_crew::{Crew, CrewFault, First, Gate, OneOf, Only, Phase, Post, Second, Task, map_kept};
 use us_flows::Config;
 use us_intake::{Intake, IntakeFault, Seat};
+use us_output::ChannelWithText;
 use us_requests::Ask;
 use us_round::{Building, Filling, Hands};
 use us_slots::NoMemory;
@@ -21,7 +21,7 @@ use us_slots::NoMemory;
 /// What a worker is given to do in each of the phases.
 type Doing<'a, G> = OneOf<
     Task<Submitting<'a>, &'a G, Chunk<'a>>,
-    OneOf<Task<Filling<'a>, &'a G, ChannelRound>, Task<Placing, &'a G, Laden>>,
+    OneOf<Task<Filling<'a>, &'a G, ChannelWithText>, Task<Placing, &'a G, Laden>>,
 >;
 
 /// What is answered for the items of a task.
@@ -30,7 +30,7 @@ type Answered<R, E> = Result<Vec<R>, CrewFault<E>>;
 /// What a worker answers.
 type Done = OneOf<
     Answered<Seat, IntakeFault>,
-    OneOf<Answered<ChannelRound, NoMemory>, Answered<ChannelRound, NoMemory>>,
+    OneOf<Answered<ChannelWithText, NoMemory>, Answered<ChannelWithText, NoMemory>>,
 >;
 
 /// Where the workers stand.
@@ -71,8 +71,8 @@ impl<'a, G: Gate> Hands for Kept<'a, G> {
     fn fill(
         &mut self,
         work: &Filling<'_>,
-        channels: Vec<ChannelRound>,
-    ) -> Result<Vec<ChannelRound>, NoMemory>
+        channels: Vec<ChannelWithText>,
+    ) -> Result<Vec<ChannelWithText>, NoMemory>
         requires known { self.old.config.now ≡ work.now.config.now }
         requires ready { AreAccepted (λ _. ⊤) (CanFill work.now) channels.items }
         ensures value { IfOk result (λ all. all.items ≡ values_of (filled_at work.now) channels.items) }
@@ -96,8 +96,8 @@ impl<'a, G: Gate> Hands for Kept<'a, G> {
     fn build(
         &mut self,
         work: &Building<'_>,
-        channels: Vec<ChannelRound>,
-    ) -> Result<Vec<ChannelRound>, NoMemory>
+        channels: Vec<ChannelWithText>,
+    ) -> Result<Vec<ChannelWithText>, NoMemory>
         requires claims { AreAccepted (λ _. ⊤) (CanBuild work.now) channels.items }
         ensures value { IfOk result (λ all. all.items ≡ values_of (built_at work.now) channels.items) }
         ensures same { (t : Tables) → self.old.config.now ≡ t → self.new.config.now ≡ t }
@@ -107,7 +107,7 @@ impl<'a, G: Gate> Hands for Kept<'a, G> {
             &mut self.crew,
             Second(Second(Only)),
             self.alloc,
-            Placing,
+            Placing { round: work.round },
             Phase::Build,
             items,
             self.gate,

@@ -5,31 +5,36 @@ ghost use Rattle.us_round.specs.Hands.{CanBuild, built_at};
 ghost use Rattle.us_replay.specs.Doing.{CanPlace, placed};
 
 use std::alloc::Global;
-use us_channel::ChannelRound;
 use us_crew::Work;
+use us_output::ChannelWithText;
 use us_round::Building;
 use us_slots::NoMemory;
 use us_split::Claim;
 
 /// A channel, and the claims that are to be placed on it.
-pub(crate) type Laden = (ChannelRound, Vec<Claim>);
+pub(crate) type Laden = (ChannelWithText, Vec<Claim>);
 
-/// Places on a channel the claims that come with it. The planner, which has them, doesn't live as long as the workers.
+/// Places on a channel the claims that come with it, and writes ahead what of the texts needs this channel alone. The
+/// planner, which has the claims, doesn't live as long as the workers.
 #[derive(Clone, Copy)]
-pub(crate) struct Placing;
+pub(crate) struct Placing {
+    /// The number of the round.
+    pub round: u32,
+}
 
-impl Work<Laden, ChannelRound, NoMemory> for Placing {
+impl Work<Laden, ChannelWithText, NoMemory> for Placing {
     ghost accepts = { λ _ _ item. CanPlace item.0 item.1.items };
 
     ghost value = { λ _ _ item. placed item.0 item.1.items };
 
-    ghost may_fail = { λ _ _ _ _. ⊥ };
+    ghost may_fail = { λ _ _ _ _. ⊤ };
 
     ghost must_fail = { λ _ _ _. ⊥ };
 
-    fn run(&self, _alloc: Global, _index: usize, item: Laden) -> Result<ChannelRound, NoMemory> {
+    fn run(&self, _alloc: Global, _index: usize, item: Laden) -> Result<ChannelWithText, NoMemory> {
         let (mut channel, claims) = item;
         channel.place_claims(&claims);
+        channel.write_ahead(self.round)?;
         Ok(channel)
     }
 }
@@ -38,7 +43,7 @@ impl Work<Laden, ChannelRound, NoMemory> for Placing {
 pub(super) fn laden(
     alloc: Global,
     work: &Building<'_>,
-    channels: Vec<ChannelRound>,
+    channels: Vec<ChannelWithText>,
 ) -> Result<Vec<Laden>, NoMemory>
     requires { AreAccepted (λ _. ⊤) (CanBuild work.now) channels.items }
     ensures ready { IfOk result (λ all.

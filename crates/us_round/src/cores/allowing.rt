@@ -3,17 +3,17 @@ ghost use Rattle.std.specs.List.{AllByRecursion};
 ghost use Rattle.us_round.specs.Cores.{AreAllowed, idle_of};
 
 use crate::buckets::Buckets;
-use us_channel::ChannelRound;
 use us_flows::Turn;
+use us_output::ChannelWithText;
 use us_slots::NoMemory;
 
 /// Notes how many minislots of each channel are idle.
-pub(super) fn note_idle(idle: &mut Vec<u32>, channels: &[ChannelRound]) -> Result<(), NoMemory>
+pub(super) fn note_idle(idle: &mut Vec<u32>, channels: &[ChannelWithText]) -> Result<(), NoMemory>
     ensures { OnOk result (idle.new.items ≡ idle_of channels.now) }
 {
     idle.clear();
     for channel in channels {
-        idle.push(channel.idle())?;
+        idle.push(channel.channel_round().idle())?;
     }
     Ok(())
 }

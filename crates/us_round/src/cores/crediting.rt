@@ -6,18 +6,19 @@ ghost use Rattle.us_round.specs.Rounds.{all_grants};
 ghost use Rattle.us_round.specs.States.{Covers};
 
 use crate::buckets::Buckets;
-use us_channel::{ChannelRound, PlacedClaim};
+use us_channel::PlacedClaim;
+use us_output::ChannelWithText;
 use us_split::Askers;
 
 /// Takes the credits of all channels' grants from the outstanding bytes of their clusters, and from the buckets of
 /// their flows.
-pub(super) fn credit_all(askers: &mut Askers, buckets: &mut Buckets, built: &[ChannelRound])
+pub(super) fn credit_all(askers: &mut Askers, buckets: &mut Buckets, built: &[ChannelWithText])
     requires { Covers askers.old.left buckets.old.levels (all_grants built.now) }
     ensures credited { AreCredited (all_grants built.now) askers.old askers.new buckets.old buckets.new }
     ensures known { AllByRecursion IsBuilt built.now }
 {
     for channel in built {
-        credit_grants(askers, buckets, channel.grants());
+        credit_grants(askers, buckets, channel.channel_round().grants());
     }
 }
 

@@ -1,55 +1,29 @@
-use Rattle.std.proofs.Common.{◌≡◌, ◌++◌, length, map, ap, sym, subst, ◌∙◌, append_assoc, arith}
-use Rattle.std.specs.List.{AllByRecursion}
-use Rattle.us_output.specs.Files.{lines}
-use Rattle.us_output.specs.Lines.{HasFields}
-use Rattle.us_output.specs.Orders.{line_row, missed_of, ordered_lines}
-use Rattle.us_output.proofs.OrderLemmas.{rows_are}
-use Rattle.us_output.proofs.PartLemmas.{all_append}
-use Rattle.us_output.proofs.TextLemmas.{counted, lines_append}
+use Rattle.std.proofs.Common.{arith}
+use Rattle.us_output.proofs.TextLemmas.{counted}
 use Rattle.us_output.proofs.texts.push_part.Goals as goal
-
-pub returns-clause-lines : goal.returns-clause-lines
-returns-clause-lines c =
-    let b = c.args.part.now in
-    let round = c.args.round in
-    let old = c.args.text.now.items in
-    let granted = map (line_row round b.channel) (ordered_lines b) in
-    let missed = missed_of round b.channel b.settled in
-    let first : c.push_all_granted.new.text.items ≡ old ++ lines granted =
-    rw (c.channel.ensures, c.deref.ensures.value, c.in_ok-order_lines.ensures) at c.in_ok-push_all_granted.ensures.lines in
-    let then : c.push_all_missed.new.text.items ≡ c.push_all_granted.new.text.items ++ lines missed =
-    rw (c.channel-2.ensures, c.settled.ensures) at c.in_ok-push_all_missed.ensures.lines in
-    then ∙ ap (λ text. text ++ lines missed) first ∙ append_assoc old (lines granted) (lines missed) ∙
-    ap (λ text. old ++ text) (sym (lines_append granted missed) ∙ ap lines (rows_are round b))
-
-pub returns-clause-fields : goal.returns-clause-fields
-returns-clause-fields c =
-    let b = c.args.part.now in
-    let round = c.args.round in
-    subst (λ rows. AllByRecursion HasFields rows) (rows_are round b)
-    (all_append HasFields (map (line_row round b.channel) (ordered_lines b)) (missed_of round b.channel b.settled)
-    (rw (c.channel.ensures, c.deref.ensures.value, c.in_ok-order_lines.ensures) at c.in_ok-push_all_granted.ensures.fields)
-    (rw (c.channel-2.ensures, c.settled.ensures) at c.in_ok-push_all_missed.ensures.fields))
 
 pub add-requires-clause-granted_room : goal.add-requires-clause-granted_room
 add-requires-clause-granted_room c =
     let all = counted c.args.round c.args.part.now c.requires.inside in
-    let long = ap length c.in_ok-order_lines.ensures in
-    omega (arith, c.requires.granted_room, all.whole, all.all, c.len.ensures, c.order_lines.new.lines.ok.0, long)
+    omega (arith, c.requires.granted_room, all.whole, all.all, c.in_ok-granted.ensures.granted)
 
 pub add-requires-clause-missed_room : goal.add-requires-clause-missed_room
 add-requires-clause-missed_room c =
     let all = counted c.args.round c.args.part.now c.requires.inside in
-    omega (arith, c.requires.missed_room, all.whole, c.missed_lines.ensures)
+    omega (arith, c.requires.missed_room, all.whole, rw c.channel_round.ensures at c.missed_lines.ensures)
 
 pub returns-clause-granted : goal.returns-clause-granted
 returns-clause-granted c =
     let all = counted c.args.round c.args.part.now c.requires.inside in
-    let long = ap length c.in_ok-order_lines.ensures in
-    omega (arith, c.add.ensures.granted, all.granted, c.len.ensures, c.order_lines.new.lines.ok.0, long)
+    omega (arith, c.add.ensures.granted, all.granted, c.in_ok-granted.ensures.granted)
 
 pub returns-clause-missed : goal.returns-clause-missed
 returns-clause-missed c =
     let all = counted c.args.round c.args.part.now c.requires.inside in
-    let long = ap length c.in_ok-order_lines.ensures in
-    omega (arith, c.add.ensures.missed, c.missed_lines.ensures, all.all, c.len-2.ensures, c.order_lines.new.lines.ok.0, long)
+    omega (
+      arith,
+      c.add.ensures.missed,
+      rw c.channel_round.ensures at c.missed_lines.ensures,
+      all.all,
+      c.in_ok-granted.ensures.granted,
+    )
