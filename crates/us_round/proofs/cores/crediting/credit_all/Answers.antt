@@ -29,7 +29,7 @@ credit_grants-requires c =
     let is = subst (λ bs. IsCrediting (all_grants bs) (all_grants all) c.args.askers.now c.loop-channel.askers
     c.args.buckets.now c.loop-channel.buckets) same c.loop-channel.invariant.0 in
     channel_may b more (all_grants all) c.grants.result.now c.args.askers.now c.loop-channel.askers c.args.buckets.now
-    c.loop-channel.buckets c.grants.ensures.value is
+    c.loop-channel.buckets (rw c.channel_round.ensures at c.grants.ensures.value) is
 
 pub loop-channel-preserved : goal.loop-channel-preserved
 loop-channel-preserved c =
@@ -42,8 +42,9 @@ loop-channel-preserved c =
     c.args.buckets.now c.loop-channel.buckets) same c.loop-channel.invariant.0 in (
       crediting_channel b more (all_grants all) c.grants.result.now c.args.askers.now c.loop-channel.askers
           c.credit_grants.new.askers c.args.buckets.now c.loop-channel.buckets c.credit_grants.new.buckets
-          c.grants.ensures.value is c.credit_grants.ensures,
-      known_more all at b c.loop-channel-test.true c.channel-item.is c.grants.ensures.known c.loop-channel.invariant.1,
+          (rw c.channel_round.ensures at c.grants.ensures.value) is c.credit_grants.ensures,
+      known_more all at b c.loop-channel-test.true c.channel-item.is
+          (rw c.channel_round.ensures at c.grants.ensures.known) c.loop-channel.invariant.1,
     )
 
 pub returns-clause-credited : goal.returns-clause-credited
