@@ -135,7 +135,7 @@ const WORKERS: CommandOption = CommandOption {
     value: Value::Number,
     default: Some(DEFAULT_WORKERS_WORD),
     help: "How many workers share the channels of a round, 1 to 64. More workers pay where each channel has much to do in \
-        a round, some 20 grants and more; short rounds take a little longer with them",
+        a round, some 10 grants and more; short rounds take a little longer with them",
 };
 
 /// The program as clap is told of it.

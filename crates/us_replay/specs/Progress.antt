@@ -1,7 +1,7 @@
 -- A replay on its way: the cuts of the trace that was read, what is kept from one round to the next, and what one writing
 -- of texts leaves.
-use Rattle.std.specs.Prelude.{◌≡◌, ℕ, ◌+◌, ◌*◌, ◌^◌, ◌<◌, ◌≤◌, true, List, [], ◌∷◌, ◌++◌, length, map, drop, take, replicate, sum, sum_by, count_by, Option, Result, Ok, Err, OnOk}
-use Rattle.std.specs.List.{AllByRecursion, range_with_len}
+use Rattle.std.specs.Prelude.{◌≡◌, ℕ, ◌+◌, ◌*◌, ◌^◌, ◌<◌, ◌≤◌, true, List, [], ◌∷◌, ◌++◌, length, drop, take, replicate, sum, sum_by, count_by, Option, Result, Ok, Err, OnOk}
+use Rattle.std.specs.List.{AllByRecursion}
 use Rattle.std.specs.Io.KnownBytes.{Keeps}
 use Rattle.us_slots.specs.Devices.{AppendsFront}
 use Rattle.us_flows.specs.Tables.{Tables, max_run_ticks, rounds_fit}

@@ -1,4 +1,4 @@
-use Rattle.std.proofs.Common.{◌≡◌, arith}
+use Rattle.std.proofs.Common.{arith}
 use Rattle.us_channel.proofs.MapLemmas.{follow_starts}
 use Rattle.us_output.proofs.records.list_runs.Goals as goal
 

@@ -1,7 +1,6 @@
 use Rattle.std.proofs.Common.{◌≡◌, ℕ, List, ◌+◌, ◌*◌, ◌++◌, [], length, take, ap, refl, ◌∙◌, arith}
 use Rattle.std.specs.Int.{to_be_bytes, w16, w32}
 use Rattle.us_codec.specs.Bodies.{front}
-use Rattle.us_flows.specs.declared.channels.Channel.{Channel}
 use Rattle.us_holes.specs.Runs.{Run, runs_of}
 use Rattle.us_channel.specs.Maps.{head_of}
 use Rattle.us_output.proofs.RecordLemmas.{record_joined, within}
