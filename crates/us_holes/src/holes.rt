@@ -129,7 +129,7 @@ pub(crate) fn earliest(holes: &[Hole], from: u32, to: u32, slots: u32) -> Option
 }
 
 /// Gives the last hole up, and puts one at a place: those from there on move one further.
-fn move_last(holes: &mut [Hole], place: usize, hole: Hole)
+fn put_for_last(holes: &mut [Hole], place: usize, hole: Hole)
     requires { place < length holes.old }
     ensures { holes.new ≡ insert (remove holes.old (length holes.old - 1)) place hole }
 {
@@ -151,7 +151,7 @@ pub(crate) fn put_at(holes: &mut Vec<Hole>, place: usize, hole: Hole)
 {
     // few stand behind it mostly, and to move them in a row costs less than to have a block of memory moved
     holes.push_reserved(hole);
-    move_last(holes.as_mut_slice(), place, hole);
+    put_for_last(holes.as_mut_slice(), place, hole);
 }
 
 /// Takes the `slots` minislots from `start` on out of the hole at a place. It needs no memory.

@@ -1,6 +1,6 @@
 use Rattle.std.proofs.Common.{◌≡◌, refl, ◌∙◌, arith}
 use Rattle.us_holes.proofs.ShiftLemmas.{stands}
-use Rattle.us_holes.proofs.holes.move_last.Goals as goal
+use Rattle.us_holes.proofs.holes.put_for_last.Goals as goal
 
 pub returns : goal.returns
 returns c =

@@ -1,6 +1,6 @@
 use Rattle.std.proofs.Common.{◌≡◌, ◌-◌, ◌<◌, ◌≤◌, length}
 use Rattle.std.specs.List.{remove}
-use Rattle.us_holes.proofs.holes.move_last.Given as goal
+use Rattle.us_holes.proofs.holes.put_for_last.Given as goal
 
 -- but for the entry that is given up, the list is as it was
 abbrev pub invariant-loop-at : goal.invariant-loop-at
