@@ -116,7 +116,8 @@ fn missed_lines(part: &ChannelRound, granted: usize) -> usize
     part.settled().len() - (granted - part.grants().len())
 }
 
-/// Adds G lines.
+/// Adds G lines. Where there are none, their front isn't put together.
+#[tactic(auto, unfolding(crate::specs::Files::lines))]
 fn push_all_granted(
     text: &mut Vec<u8>,
     line: &mut [u8; LINE_BYTES],
@@ -128,6 +129,9 @@ fn push_all_granted(
         (text.new.items ≡ text.old.items ++ lines (map (line_row round channel.now) granted.now)) }
     ensures fields { OnOk result (AllByRecursion HasFields (map (line_row round channel.now) granted.now)) }
 {
+    if granted.is_empty() {
+        return Ok(());
+    }
     let (front, begin) = front_of(line, round, channel.id);
     push_behind_front(text, line, &front, begin, round, channel, granted)
 }
