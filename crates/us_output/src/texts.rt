@@ -87,7 +87,9 @@ fn push_written(
     Ok(lines.len())
 }
 
-/// Adds the lines of a channel. In `ordered` are left those of grants.
+/// Adds the lines of a channel. In `ordered` are left those of grants. Inlined, as are the lines, in both places that write
+/// them.
+#[inline(always)]
 pub(crate) fn push_all(
     text: &mut Vec<u8>,
     ordered: &mut Vec<GrantLine>,
