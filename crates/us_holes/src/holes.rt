@@ -149,7 +149,7 @@ pub(crate) fn put_at(holes: &mut Vec<Hole>, place: usize, hole: Hole)
     ensures items { holes.new.items ≡ insert holes.old.items place hole }
     ensures capacity { vec_capacity holes.old ≤ vec_capacity holes.new }
 {
-    // few stand behind it mostly, and to move them in a row costs less than to have a block of memory moved
+    // mostly few stand behind it: to move them one by one costs less than to have a block of memory moved
     holes.push_reserved(hole);
     put_for_last(holes.as_mut_slice(), place, hole);
 }
