@@ -114,8 +114,7 @@ fn put_granted(
     Ok(put_runs(out, end, channel.channel(), runs))
 }
 
-/// Lists the runs of a board. What stood in the list is dropped. Inlined, as a board has few runs mostly.
-#[inline(always)]
+/// Lists the runs of a board. What stood in the list is dropped.
 pub(crate) fn list_runs(runs: &mut Vec<Run>, board: &Board) -> Result<(), NoMemory>
     ensures runs { OnOk result (runs.new.items ≡ runs_of board.now.cells) }
     ensures few { OnOk result (length (runs_of board.now.cells) ≤ 2 * max_assignments + 1) }
