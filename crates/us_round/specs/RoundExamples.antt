@@ -62,6 +62,7 @@ flow_with id priority channels clusters = record {
   priority = priority;
   rate = 0;
   burst = 3044;
+  min_rate = 0;
   unit = 4;
   headers = true;
   start_us = 0;

@@ -61,6 +61,7 @@ flow channels clusters = record {
   priority = 0;
   rate = 0;
   burst = 3044;
+  min_rate = 0;
   unit = 4;
   headers = true;
   start_us = 0;
