@@ -54,7 +54,9 @@ mod laws;
 pub use asking::Askers;
 pub use claims::{Claim, Claimant};
 pub use divisions::{MAX_CHANNELS_OF_FLOW, divide};
-pub use laws::{askers_claim, claims_are_of_turns, clusters_claim_once, turns_pass};
+pub use laws::{
+    askers_claim, claims_are_of_turns, clusters_claim_once, one_pass_does, turns_pass,
+};
 pub use planner::Planner;
 pub use planning::{plan, plan_with};
 pub use plans::Plan;
