@@ -1,5 +1,5 @@
 -- The second pass of a plan: what a turn gets beside its first shares, what both cost, and what is left then.
-use Rattle.std.proofs.Common.{◌≡◌, ◌≢◌, ◌⊎◌, ℕ, zero, suc, ◌+◌, ◌-◌, ◌*◌, ◌==◌, ◌<◌, ◌≤◌, List, [], ◌∷◌, length, map, set, filter, Option, Some, None, option_map, refl, sym, ap, ◌∙◌, subst, inl, inr, eqb-true, eq-eqb, ne_eqb, get_or-set_other, arith}
+use Rattle.std.proofs.Common.{◌≡◌, ◌≢◌, ◌⊎◌, ℕ, zero, suc, ◌+◌, ◌-◌, ◌*◌, ◌==◌, ◌<◌, ◌≤◌, List, [], ◌∷◌, ◌++◌, length, map, set, take, filter, Option, Some, None, option_map, refl, sym, ap, ◌∙◌, subst, inl, inr, eqb-true, eq-eqb, ne_eqb, get_or-set_other, arith}
 use Rattle.std.specs.Prelude.{sum, sum_by, position, slice_index, slice_index_or}
 use Rattle.std.specs.List.{AllByRecursion}
 use Rattle.std.proofs.lemmas.Bool.{cases_Bool, cases_eq, cases_lt}
@@ -46,6 +46,23 @@ pub minus-length : (xs ys : List ℕ) → length (minus xs ys) ≡ length xs
 minus-length [] ys = refl
 minus-length (x ∷ xs) [] = refl
 minus-length (x ∷ xs) (y ∷ ys) = ap suc (minus-length xs ys)
+
+-- one place more
+pub minus-more : (xs ys : List ℕ) (i : ℕ) → i < length xs → i < length ys →
+    minus (take i xs) (take i ys) ++ (slice_index xs i - slice_index ys i) ∷ [] ≡ minus (take (suc i) xs) (take (suc i) ys)
+minus-more [] ys i within inside = absurd (omega (arith, within))
+minus-more (x ∷ xs) [] i within inside = absurd (omega (arith, inside))
+minus-more (x ∷ xs) (y ∷ ys) zero within inside = refl
+minus-more (x ∷ xs) (y ∷ ys) (suc i) within inside =
+    ap (λ ns. (x - y) ∷ ns) (minus-more xs ys i (omega (arith, within)) (omega (arith, inside)))
+
+pub plus-more : (xs ys : List ℕ) (i : ℕ) → i < length xs → i < length ys →
+    plus (take i xs) (take i ys) ++ (slice_index xs i + slice_index ys i) ∷ [] ≡ plus (take (suc i) xs) (take (suc i) ys)
+plus-more [] ys i within inside = absurd (omega (arith, within))
+plus-more (x ∷ xs) [] i within inside = absurd (omega (arith, inside))
+plus-more (x ∷ xs) (y ∷ ys) zero within inside = refl
+plus-more (x ∷ xs) (y ∷ ys) (suc i) within inside =
+    ap (λ ns. (x + y) ∷ ns) (plus-more xs ys i (omega (arith, within)) (omega (arith, inside)))
 
 -- Budgets.
 

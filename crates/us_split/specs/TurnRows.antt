@@ -134,6 +134,10 @@ pub record FirstPass : Type 0 where
   pub reserves : List ℕ
   pub firsts : List (List ℕ)
 
+abbrev pub pass_of : List ChannelPlan → List (Option ℕ) → List ℕ → List (List ℕ) → FirstPass
+pass_of channels allowances reserves firsts =
+    record { partial = partial_of channels allowances; reserves = reserves; firsts = firsts }
+
 -- the first shares of a turn of so many outstanding bytes,
 abbrev pub first_in : TurnRow → ℕ → PartialPlan → List ℕ → List ℕ
 first_in row bytes partial reserves =
