@@ -18,3 +18,4 @@ pub mod AskerCutLemmas
 pub mod ByPlaceLemmas
 pub mod TurnRowLemmas
 pub mod RowPlanLemmas
+pub mod RowPassLemmas
