@@ -1,8 +1,9 @@
 -- What is planned on channels: fewer minislots last no longer, where ids are apart a channel stands at one place, and the
 -- shares of a turn change each channel as its share there does.
-use Rattle.std.proofs.Common.{◌≡◌, ◌≢◌, ℕ, zero, suc, ◌+◌, ◌-◌, ◌*◌, ◌==◌, ◌<◌, ◌≤◌, List, [], ◌∷◌, ◌++◌, length, map, set, zip, get_or, Option, Some, None, option_map, refl, sym, ap, ap₂, ◌∙◌, subst, inl, inr, eq-eqb, ne_eqb, append-nil, arith}
+use Rattle.std.proofs.Common.{◌≡◌, ◌≢◌, ℕ, zero, suc, ◌+◌, ◌-◌, ◌*◌, ◌/◌, ◌==◌, ◌<◌, ◌≤◌, min, List, [], ◌∷◌, ◌++◌, length, map, set, zip, get_or, Option, Some, None, option_map, refl, sym, ap, ap₂, ◌∙◌, subst, inl, inr, eq-eqb, ne_eqb, append-nil, arith}
 use Rattle.std.specs.Prelude.{slice_index, position, option_and_then, option_to_list}
 use Rattle.std.specs.List.{AllByRecursion}
+use Rattle.std.proofs.Math.Nat.{div-le_self, div-mul-le_self}
 use Rattle.std.proofs.lemmas.Nat.{mul-le}
 use Rattle.std.proofs.lemmas.Bool.{cases_eq}
 use Rattle.us_flows.specs.declared.channels.Channel.{Channel}
@@ -18,6 +19,17 @@ pub fewer_ticks : (slots less ticks : ℕ) → slots * ticks ≤ max_round_ticks
 fewer_ticks slots less ticks h =
     let product : (slots - less) * ticks ≤ slots * ticks = mul-le (slots - less) ticks slots ticks (omega arith) (omega arith) in
     omega arith
+
+-- so many minislots as a MAP can have last no longer than a round
+pub most_ticks : (slots ticks : ℕ) → slots ≤ 4096 / ticks → slots * ticks ≤ 4096
+most_ticks slots ticks few =
+    omega (arith, mul-le slots ticks (4096 / ticks) ticks few (omega arith), div-mul-le_self 4096 ticks)
+
+-- and are no more than 4,096
+pub most_few : (slots ticks : ℕ) → min (min slots 4294967295) (4096 / ticks) ≡ min slots (4096 / ticks)
+most_few slots ticks = omega (arith, div-le_self 4096 ticks)
+
+pub ruleset most_facts = (most_ticks, most_few)
 
 -- Ids.
 

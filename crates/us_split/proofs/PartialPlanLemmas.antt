@@ -203,24 +203,3 @@ idle_budgets [] idle = refl
 idle_budgets (c ∷ channels) [] = refl
 idle_budgets (c ∷ channels) (slots ∷ idle) =
     ap (λ bs. record { channel = c; slots = slots } ∷ bs) (idle_budgets channels idle)
-
-idle_claims : (plan : List Planned) (channels : List Channel) (idle : List ℕ) → length idle ≡ length channels →
-    map (λ (c : ChannelPlan). c.claims ++ claims_from c.channel 0 plan)
-    (map (λ pair. record { channel = pair.0; slots = pair.1; claims = [] }) (zip channels idle)) ≡
-    map (λ c. claims_from c 0 plan) channels
-idle_claims plan [] [] same = refl
-idle_claims plan [] (slots ∷ idle) same = refl
-idle_claims plan (c ∷ channels) [] same = absurd (omega (arith, same))
-idle_claims plan (c ∷ channels) (slots ∷ idle) same =
-    ap (λ xs. claims_from c 0 plan ∷ xs) (idle_claims plan channels idle (omega (arith, same)))
-
-pub claims_of_plan : (t : Tables) (outstanding : List ℕ) (allowances : List (Option ℕ)) (idle : List ℕ) →
-    length idle ≡ length t.channels →
-    map (λ c. c.claims) (planned_through outstanding 0 (idle_plan t allowances idle) (turns_of t)).channels ≡
-    all_claims t (plan_for t outstanding allowances idle)
-unfolding plan_for
-claims_of_plan t outstanding allowances idle same =
-    planned_further_claims outstanding 0 (idle_plan t allowances idle) (turns_of t) ∙
-    ap (λ bs. map (λ c. c.claims ++ claims_from c.channel 0 (plan_of outstanding (record { budgets = bs; allowances = allowances }) (turns_of t))) (idle_plan t allowances idle).channels)
-    (idle_budgets t.channels idle) ∙
-    idle_claims (plan_of outstanding (ledger_of t allowances idle) (turns_of t)) t.channels idle same

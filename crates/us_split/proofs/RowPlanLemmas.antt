@@ -36,7 +36,7 @@ none_put asker position (seat ∷ seats) shares cs none =
     (nothing_put asker position seat.sid (slice_index shares position) seat.place cs
     (omega (arith, share-le-sum shares position, none)))
 
-none_spent : (allowances : List (Option ℕ)) (place bytes : ℕ) → bytes ≡ 0 →
+pub none_spent : (allowances : List (Option ℕ)) (place bytes : ℕ) → bytes ≡ 0 →
     allowances ≡ set allowances place (option_map (λ most. most - bytes) (slice_index_or allowances place None))
 none_spent allowances place bytes none =
     sym (ap (set allowances place) (same (slice_index_or allowances place None)) ∙ set-get_or allowances place None)
@@ -230,29 +230,6 @@ idle_claims_by f [] idle same = refl
 idle_claims_by f (c ∷ channels) [] same = absurd (omega (arith, same))
 idle_claims_by f (c ∷ channels) (slots ∷ idle) same =
     ap (λ xs. f c ∷ xs) (idle_claims_by f channels idle (omega (arith, same)))
-
-pub claims_of_round : (t : Tables) (outstanding askers idle : List ℕ) (known left allowed : List (Option ℕ))
-    (old new : List ChannelPlan) → AreTables t → IsIdle t idle → map (λ c. c.channel) old ≡ t.channels →
-    askers ≡ asking_in t outstanding → AgreeOn (turns_at (turns_of t) askers) known allowed →
-    partial_of new left ≡
-    with_rows (rows_from t.channels 0 (turns_of t)) outstanding askers (partial_of (cleared old idle) known) →
-    map (λ c. c.claims) new ≡ all_claims t (plan_for t outstanding allowed idle)
-claims_of_round t outstanding askers idle known left allowed old new lawful is own asks agree planned =
-    let rows : List TurnRow = rows_from t.channels 0 (turns_of t) in
-    let start : PartialPlan = idle_plan t known idle in
-    let places : List ℕ = asking_in t outstanding in
-    let own_start : map (λ c. c.channel) start.channels ≡ t.channels =
-    ap (λ (p : PartialPlan). map (λ c. c.channel) p.channels) (sym (cleared_is t known old idle own)) ∙
-    cleared_channels old idle (is.one_each ∙ sym (ap length own) ∙ length-map old (λ (c : ChannelPlan). c.channel)) ∙ own in
-    ap (λ p. map (λ c. c.claims) p.channels)
-    (planned ∙ ap₂ (λ ps p. with_rows rows outstanding ps p) asks (cleared_is t known old idle own)) ∙
-    claims_of_rows t outstanding places start lawful own_start (askers_inside t outstanding) ∙
-    ap (λ bs. map (λ c. c.claims ++ claims_at c.channel places
-    (plan_of outstanding (record { budgets = bs; allowances = known }) (turns_at (turns_of t) places))) start.channels)
-    (idle_budgets t.channels idle) ∙
-    idle_claims_by (λ c. claims_at c places (plan_of_askers t outstanding known idle)) t.channels idle is.one_each ∙
-    askers_claim_all t outstanding known allowed idle
-    (subst (λ ps. AgreeOn (turns_at (turns_of t) ps) known allowed) asks agree)
 
 -- A planner's channels and rows.
 

@@ -1,5 +1,6 @@
 ghost use Rattle.std.specs.Prelude.{◌≡◌, ◌+◌, ◌^◌, ◌<◌, ◌≤◌, length, replicate, zip, slice_index, IfOk, vec_capacity};
 ghost use Rattle.std.specs.List.{AllByRecursion};
+ghost use Rattle.us_flows.specs.Clusters.{clusters_of};
 ghost use Rattle.us_split.specs.Asking as spec;
 ghost use Rattle.us_split.specs.Askers.{AreAskers};
 
@@ -175,6 +176,38 @@ impl Askers {
         let outstanding = self.outstanding.as_mut_slice();
         outstanding.copy_from_slice(&self.left);
     }
+}
+
+/// The places of the turns of which bytes are outstanding, in the order of turns.
+pub(crate) fn places_of_askers(
+    alloc: Global,
+    config: &Config,
+    outstanding: &[u64],
+) -> Result<Vec<u16>, NoMemory>
+    requires { length outstanding.now ≡ length (clusters_of config.now) }
+    ensures { IfOk result (λ places. places.items ≡ spec.asking_in config.now outstanding.now) }
+{
+    let numbers = numbers_of(alloc, config)?;
+    places_asking(alloc, &numbers, outstanding)
+}
+
+/// The places of those of these clusters of which bytes are outstanding.
+fn places_asking(
+    alloc: Global,
+    numbers: &[u16],
+    outstanding: &[u64],
+) -> Result<Vec<u16>, NoMemory>
+    requires few { length numbers.now ≤ 65536 }
+    requires clusters { AllByRecursion (λ number. number < length outstanding.now) numbers.now }
+    ensures { IfOk result (λ places. places.items ≡ spec.asking outstanding.now numbers.now) }
+{
+    let mut places = Vec::with_capacity(alloc, numbers.len())?;
+    for (place, number) in numbers.iter().enumerate() {
+        if outstanding[usize::from(*number)] > 0 {
+            places.push(place as u16)?;
+        }
+    }
+    Ok(places)
 }
 
 /// No bytes of so many clusters.
