@@ -27,6 +27,14 @@ full_buckets t = record {
   round = 0;
 }
 
+-- and so are those of minimum rates
+abbrev pub full_reserves : Tables → Buckets
+full_reserves t = record {
+  levels = map (λ flow. full flow.min_rate flow.burst) t.flows;
+  ticks = t.round_ticks;
+  round = 0;
+}
+
 -- in every round but the first they grow by what a round's time brings
 abbrev pub begun_buckets : ℕ → Buckets → Buckets
 begun_buckets round b = record {
