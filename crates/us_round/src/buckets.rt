@@ -1,4 +1,5 @@
 ghost use Rattle.std.specs.Prelude.{◌≡◌, ◌-◌, ◌*◌, ◌<◌, ◌≤◌, length, slice_index_or, slice_set, IfOk};
+ghost use Rattle.std.specs.List.{AllByRecursion};
 ghost use Rattle.us_flows.specs.Tables.{max_run_ticks};
 ghost use Rattle.us_bucket.specs.Levels.{Has, Level, bytes_in, full, reserve_in, spent};
 ghost use Rattle.us_bucket.specs.RoundBuckets.{brought_to};
@@ -51,11 +52,7 @@ impl Buckets {
         for flow in flows {
             kept.push(RoundBucket::full(flow.rate(), flow.burst()))?;
         }
-        Ok(Buckets {
-            kept,
-            ticks: config.round_ticks(),
-            round: 0,
-        })
+        Ok(Buckets::at_first(kept, config.round_ticks()))
     }
 
     /// Before round 0 those of minimum rates are full too.
@@ -67,11 +64,16 @@ impl Buckets {
         for flow in flows {
             kept.push(RoundBucket::full(flow.min_rate(), flow.burst()))?;
         }
-        Ok(Buckets {
-            kept,
-            ticks: config.round_ticks(),
-            round: 0,
-        })
+        Ok(Buckets::at_first(kept, config.round_ticks()))
+    }
+
+    /// Buckets as they are before round 0.
+    fn at_first(kept: Vec<RoundBucket>, ticks: u32) -> Buckets
+        requires { AllByRecursion (λ k. k.as_of ≤ 0) kept.items }
+        ensures { result ≡ spec.at_first ticks kept.items }
+    {
+        let round = 0;
+        Buckets { kept, ticks, round }
     }
 
     /// The round of this number begins, which is the next one: in every round but the first each bucket grows by what a
