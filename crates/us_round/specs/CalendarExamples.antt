@@ -1,7 +1,8 @@
 -- Rounds with calendars in small, computed by the definitions alone.
 use Rattle.std.specs.Prelude.{◌≡◌, ℕ, List, [], ◌∷◌, map, refl}
 use Rattle.us_flows.specs.declared.flows.SchedulingType.TheVariants.{UnsolicitedGrant}
-use Rattle.us_flows.specs.Tables.{Tables}
+use Rattle.us_flows.specs.Tables.{FlowTable, Tables}
+use Rattle.us_bucket.specs.Levels.{reserve_in}
 use Rattle.us_codec.specs.Elements.{word_of}
 use Rattle.us_calendar.specs.Occurrences.{due}
 use Rattle.us_calendar.specs.Settling.{settle_each, settle_entry}
@@ -87,3 +88,10 @@ elements = refl
 left : (final (opening split) ((0 ∷ []) ∷ (1000 ∷ []) ∷ [])).outstanding ≡ 800 ∷ []
 unfolding round_steps due settle_each settle_entry
 left = refl
+
+-- where the base flow's 3,044 bytes are reserved, those that are planned leave its reserve, and not those that are placed
+reserve_left :
+    map reserve_in (final (opening (split_for (record base_flow { min_rate = 1280000 }))) ((0 ∷ []) ∷ (1000 ∷ []) ∷ [])).reserves
+    ≡ 2652 ∷ 0 ∷ []
+unfolding round_steps due settle_each settle_entry
+reserve_left = refl
