@@ -20,7 +20,7 @@ use Rattle.us_split.specs.Plans.{IsIdle, Budget, Ledger, Planned, at_most, weigh
 use Rattle.us_split.specs.Claims.{Claim, all_claims, claim_on}
 use Rattle.us_split.specs.Asking.{AgreeOn, asking_in, asks, claims_at, plan_of_askers, turns_at}
 use Rattle.us_split.specs.PartialPlans.{Asker, ChannelPlan, IsPlaceOf, PartialPlan, asker_of, budget_in, idle_plan, ledger_in, most_slots, returned, taken, with_turn}
-use Rattle.us_split.specs.TurnRows.{FirstPass, TurnRow, at_seats, changed, cleared, first_in, first_pass, is_reserved, last_pass, more_in, no_firsts, partial_of, pass_of, place_of, put_from, returned_at, row_of, rows_from, seats_from, some_reserved, taken_at, with_first_if, with_first_row, with_firsts, with_second_if, with_second_row, with_seconds}
+use Rattle.us_split.specs.TurnRows.{FirstPass, TurnRow, at_seats, changed, cleared, first_in, first_pass, is_reserved, last_pass, more_in, no_firsts, partial_of, pass_of, place_of, put_from, returned_at, row_of, rows_from, seats_from, some_reserved, taken_at, weight_at, with_first_if, with_first_row, with_firsts, with_second_if, with_second_row, with_seconds}
 use Rattle.us_split.proofs.AskingLaws.{AreIdle, asked_in, askers_claim_all, first_idle, first_same, limits_agree, turns_pass}
 use Rattle.us_split.proofs.ChannelPlanLemmas.{absent, claimed_turn, ids, later, not_first}
 use Rattle.us_split.proofs.ChannelShareLemmas.{first_place, later_place}
@@ -415,3 +415,232 @@ through-reserves (planned ∷ plan) pass place =
           (λ same. other (sym same)) in
           rw (ne_eqb planned.turn.place place other) (omega (arith, later, here))
     ]
+
+-- The second pass.
+
+budgets_given : (first : Planned) (cs : List ChannelPlan) → map budget_in (map (given_to first) cs) ≡ given_back first (map budget_in cs)
+budgets_given first [] = refl
+budgets_given first (c ∷ cs) = ap (λ bs. budget_in (given_to first c) ∷ bs) (budgets_given first cs)
+
+channels_given : (first : Planned) (cs : List ChannelPlan) → map (λ c. c.channel) (map (given_to first) cs) ≡ map (λ c. c.channel) cs
+channels_given first [] = refl
+channels_given first (c ∷ cs) = ap (λ xs. c.channel ∷ xs) (channels_given first cs)
+
+claims_given : (first : Planned) (f : Channel → List Claim) (cs : List ChannelPlan) →
+    map (λ c. c.claims ++ f c.channel) (map (given_to first) cs) ≡ map (λ c. c.claims ++ f c.channel) cs
+claims_given first f [] = refl
+claims_given first f (c ∷ cs) = ap (λ xs. (c.claims ++ f c.channel) ∷ xs) (claims_given first f cs)
+
+budgets_with : (place : ℕ) (planned : Planned) (cs : List ChannelPlan) →
+    map budget_in (map (with_turn place planned) cs) ≡ lowered planned (map budget_in cs)
+budgets_with place planned [] = refl
+budgets_with place planned (c ∷ cs) = ap (λ bs. budget_in (with_turn place planned c) ∷ bs) (budgets_with place planned cs)
+
+channels_with : (place : ℕ) (planned : Planned) (cs : List ChannelPlan) →
+    map (λ c. c.channel) (map (with_turn place planned) cs) ≡ map (λ c. c.channel) cs
+channels_with place planned [] = refl
+channels_with place planned (c ∷ cs) = ap (λ xs. c.channel ∷ xs) (channels_with place planned cs)
+
+-- what a turn with all its shares leaves
+abbrev second_further : ℕ → Planned → List ℕ → PartialPlan → PartialPlan
+second_further place first more partial =
+    partial_of (map (with_turn place (with_more first more)) (map (given_to first) partial.channels))
+    (allowed_less (record { turn = first.turn; shares = more }) partial.allowances)
+
+ledger_both : (place : ℕ) (first : Planned) (more : List ℕ) (partial : PartialPlan) →
+    ledger_in (second_further place first more partial) ≡ after_both (ledger_in partial) first more
+unfolding after_both
+ledger_both place first more partial =
+    ap (λ bs. let l : Ledger = record { budgets = bs; allowances = allowed_less (record { turn = first.turn; shares = more }) partial.allowances } in l)
+    (budgets_with place (with_more first more) (map (given_to first) partial.channels) ∙
+    ap (lowered (with_more first more)) (budgets_given first partial.channels))
+
+second_step : (t : Tables) (outstanding : List ℕ) (place : ℕ) (first : Planned) (partial : PartialPlan) → AreTables t →
+    IsTurnIn t first.turn → map (λ c. c.channel) partial.channels ≡ t.channels →
+    AllByRecursion (λ c. IsBudget (record { channel = c.channel; slots = c.slots + cost_on c.channel first })) partial.channels →
+    with_second_row (row_of t.channels place first.turn) (slice_index outstanding first.turn.number) first.shares partial ≡
+    second_further place first (more_shares outstanding (ledger_in partial) first) partial
+unfolding more_shares weights
+second_step t outstanding place first partial lawful is same can =
+    let turn : Turn = first.turn in
+    let f : FlowTable = turn.cluster.flow in
+    let flow : IsFlow t f = flow_of t turn lawful is in
+    let seats : List Seat = seats_from t.channels 0 f.channels turn.cluster.sids in
+    let row : TurnRow = row_of t.channels place turn in
+    let asker : Asker = asker_of place turn in
+    let given : List ChannelPlan = map (given_to first) partial.channels in
+    let returns : returned_at (header_bytes f) first.shares seats partial.channels ≡ given =
+    given_turn t turn lawful is first.shares partial.channels same can in
+    let bytes : ℕ =
+    at_most (slice_index_or partial.allowances turn.place None) (slice_index outstanding turn.number - sum first.shares) in
+    let own : map (λ c. c.channel) given ≡ t.channels = channels_given first partial.channels ∙ same in
+    let more : List ℕ = more_shares outstanding (ledger_in partial) first in
+    let gets : more_in row (slice_index outstanding turn.number) first.shares partial ≡ more =
+    ap (λ cs. divided bytes (minus (map (λ (seat : Seat). weight_at (header_bytes f) cs seat.place) seats) first.shares)) returns ∙
+    ap (λ ws. divided bytes (minus ws first.shares))
+    (weights_there t.channels (header_bytes f) 0 f.channels turn.cluster.sids given own lawful.channels_apart flow.channels ∙
+    ap (weights f) (budgets_given first partial.channels)) in
+    ap₂ (λ ss cs. partial_of (put_from asker 0 seats (plus first.shares ss) cs)
+    (allowed_less (record { turn = turn; shares = ss }) partial.allowances)) gets returns ∙
+    ap (λ cs. partial_of cs (allowed_less (record { turn = turn; shares = more }) partial.allowances))
+    (put_claimed t.channels asker 0 f.channels turn.cluster.sids (plus first.shares more) given own lawful.channels_apart flow.channels ∙
+    claimed_turn place (with_more first more) given flow.apart)
+
+-- first shares of turns at places
+abbrev ArePlaced : List Turn → List ℕ → List Planned → Type 0
+ArePlaced turns [] [] = Unit {0}
+ArePlaced turns [] (first ∷ plan) = ⊥
+ArePlaced turns (place ∷ places) [] = ⊥
+ArePlaced turns (place ∷ places) (first ∷ plan) = (slice_get turns place ≡ Some first.turn) × ArePlaced turns places plan
+
+planned_placed : (outstanding : List ℕ) (turns : List Turn) (ledger : Ledger) (places : List ℕ) →
+    AllByRecursion (λ place. place < length turns) places →
+    ArePlaced turns places (plan_of outstanding ledger (turns_at turns places))
+unfolding plan_of
+planned_placed outstanding turns ledger [] inside = tt
+planned_placed outstanding turns ledger (place ∷ places) inside =
+    let found = some_at turns place inside.0 in
+    let turn : Turn = found.0 in
+    let planned : Planned = record { turn = turn; shares = shares_of outstanding ledger turn } in
+    let rest : turns_at turns (place ∷ places) ≡ turn ∷ turns_at turns places = ap (λ o. cons_option o (turns_at turns places)) found.1 in
+    subst (λ ts. ArePlaced turns (place ∷ places) (plan_of outstanding ledger ts)) (sym rest)
+    (found.1, planned_placed outstanding turns (after_turn ledger planned) places inside.1)
+
+held_first : (first : Planned) (plan : List Planned) (cs : List ChannelPlan) → AllByRecursion (IsHeld (first ∷ plan)) (map budget_in cs) →
+    AllByRecursion (λ c. IsBudget (record { channel = c.channel; slots = c.slots + cost_on c.channel first })) cs
+held_first first plan cs all = each cs (held-given first plan (map budget_in cs) all)
+  where
+    each : (cs : List ChannelPlan) → AllByRecursion IsBudget (given_back first (map budget_in cs)) →
+        AllByRecursion (λ c. IsBudget (record { channel = c.channel; slots = c.slots + cost_on c.channel first })) cs
+    each [] all = tt
+    each (c ∷ cs) all = (all.0, each cs all.1)
+
+no_more_claims : (cs : List ChannelPlan) → map (λ c. c.claims) cs ≡ map (λ c. c.claims ++ []) cs
+no_more_claims [] = refl
+no_more_claims (c ∷ cs) = ap₂ (λ x xs. x ∷ xs) (sym (append-nil c.claims)) (no_more_claims cs)
+
+seconds_of_rows : (t : Tables) (outstanding : List ℕ) (lawful : AreTables t) (places : List ℕ) (plan : List Planned)
+    (partial : PartialPlan) → ArePlaced (turns_of t) places plan → map (λ c. c.channel) partial.channels ≡ t.channels →
+    AllByRecursion (IsHeld plan) (map budget_in partial.channels) →
+    map (λ c. c.claims)
+    (with_seconds (rows_from t.channels 0 (turns_of t)) outstanding places (map (λ planned. planned.shares) plan) partial).channels ≡
+    map (λ c. c.claims ++ claims_at c.channel places (second_of outstanding (ledger_in partial) plan)) partial.channels
+unfolding second_of
+seconds_of_rows t outstanding lawful [] [] partial placed same held = no_more_claims partial.channels
+seconds_of_rows t outstanding lawful [] (first ∷ plan) partial placed same held = absurd placed
+seconds_of_rows t outstanding lawful (place ∷ places) [] partial placed same held = absurd placed
+seconds_of_rows t outstanding lawful (place ∷ places) (first ∷ plan) partial placed same held =
+    let rows : List TurnRow = rows_from t.channels 0 (turns_of t) in
+    let is : IsTurnIn t first.turn = all_at (IsTurnIn t) (turns_of t) place first.turn (turns_of-turns t) placed.0 in
+    let more : List ℕ = more_shares outstanding (ledger_in partial) first in
+    let both : Planned = with_more first more in
+    let next : PartialPlan = second_further place first more partial in
+    let given : List ChannelPlan = map (given_to first) partial.channels in
+    let shares : List (List ℕ) = map (λ planned. planned.shares) plan in
+    let rest : List Planned = second_of outstanding (after_both (ledger_in partial) first more) plan in
+    let step : with_second_if (slice_get rows place) outstanding first.shares partial ≡ next =
+    ap (λ o. with_second_if o outstanding first.shares partial) (row_found t outstanding lawful place first.turn placed.0) ∙
+    second_step t outstanding place first partial lawful is same (held_first first plan partial.channels held) in
+    let still : AllByRecursion (IsHeld plan) (map budget_in next.channels) =
+    subst (AllByRecursion (IsHeld plan))
+    (sym (budgets_with place both given ∙ ap (lowered both) (budgets_given first partial.channels)))
+    (held-after first more plan (map budget_in partial.channels) held) in
+    ap (λ p. map (λ c. c.claims) (with_seconds rows outstanding places shares p).channels) step ∙
+    seconds_of_rows t outstanding lawful places plan next placed.1
+    (channels_with place both given ∙ channels_given first partial.channels ∙ same) still ∙
+    ap (λ l. map (λ c. c.claims ++ claims_at c.channel places (second_of outstanding l plan)) next.channels)
+    (ledger_both place first more partial) ∙
+    claims_of_more place both places rest given ∙
+    claims_given first (λ c. claims_at c (place ∷ places) (both ∷ rest)) partial.channels
+
+-- Both.
+
+module _ (t : Tables) (outstanding : List ℕ) (places reserves : List ℕ) (partial : PartialPlan) (lawful : AreTables t)
+    (same : map (λ c. c.channel) partial.channels ≡ t.channels) (flows : length partial.allowances ≡ length t.flows)
+    (inside : AllByRecursion (λ place. place < length (turns_of t)) places) where
+  abbrev these : List Turn
+  these = turns_at (turns_of t) places
+
+  abbrev rows : List TurnRow
+  rows = rows_from t.channels 0 (turns_of t)
+
+  abbrev firsts : List Planned
+  firsts = first_of outstanding (ledger_in partial) reserves these
+
+  -- where nothing is reserved for these turns the first pass gives nothing
+  nothing_at : (places : List ℕ) → AllByRecursion (λ place. place < length (turns_of t)) places →
+      some_reserved rows reserves places ≡ false → NothingFirst partial.allowances reserves (turns_at (turns_of t) places)
+  nothing_at [] inside none = tt
+  nothing_at (place ∷ places) inside none =
+      let found = some_at (turns_of t) place inside.0 in
+      let turn : Turn = found.0 in
+      let is : IsTurnIn t turn = all_at (IsTurnIn t) (turns_of t) place turn (turns_of-turns t) found.1 in
+      let within = slice_get_within t.flows turn.place turn.cluster.flow is.flow in
+      let here : (nat_lt 0 (slice_index reserves turn.place) || some_reserved rows reserves places) ≡ false =
+      ap (λ o. is_reserved o reserves || some_reserved rows reserves places) (sym (row_found t outstanding lawful place turn found.1)) ∙ none in
+      let parts = both_false (nat_lt 0 (slice_index reserves turn.place)) (some_reserved rows reserves places) here in
+      let empty : slice_index reserves turn.place ≡ 0 = omega (arith, ltb-false 0 (slice_index reserves turn.place) parts.0) in
+      let rest : turns_at (turns_of t) (place ∷ places) ≡ turn ∷ turns_at (turns_of t) places =
+      ap (λ o. cons_option o (turns_at (turns_of t) places)) found.1 in
+      subst (NothingFirst partial.allowances reserves) (sym rest)
+      (nothing_first partial.allowances reserves turn.place (omega (arith, within, flows)) empty, nothing_at places inside.1 parts.1)
+    where
+      both_false : (a b : Bool) → (a || b) ≡ false → (a ≡ false) × (b ≡ false)
+      both_false true b is = let no : true ≡ false = is in cc
+      both_false false b is = (refl, is)
+
+  pub claims_of_passes : AllByRecursion IsBudget (map budget_in partial.channels) →
+      AreApart (map (λ b. b.channel.id) (map budget_in partial.channels)) →
+      map (λ c. c.claims) (last_pass rows outstanding places partial reserves).channels ≡
+      map (λ c. c.claims ++ claims_at c.channel places (two_passes outstanding (ledger_in partial) reserves these)) partial.channels
+  unfolding two_passes
+  claims_of_passes budgets apart = elim (cases_Bool (some_reserved rows reserves places)) [
+    | inr none ↦
+        rw none
+        (claims_of_rows t outstanding places partial lawful same inside ∙
+        ap (λ plan. map (λ c. c.claims ++ claims_at c.channel places plan) partial.channels)
+        (sym (one_pass outstanding (ledger_in partial) reserves these (nothing_at places inside none))))
+    | inl some ↦
+        let pass : FirstPass = firsts_through firsts (no_firsts partial reserves) in
+        let passed : with_firsts rows outstanding places (no_firsts partial reserves) ≡ pass =
+        firsts_of_rows t outstanding lawful places (no_firsts partial reserves) same flows inside in
+        let shares : pass.firsts ≡ map (λ planned. planned.shares) firsts = through-firsts firsts (no_firsts partial reserves) in
+        let ledger : ledger_in pass.partial ≡ after_plan (ledger_in partial) firsts =
+        through-ledger firsts (no_firsts partial reserves) in
+        let held : AllByRecursion (IsHeld firsts) (map budget_in pass.partial.channels) =
+        subst (λ (l : Ledger). AllByRecursion (IsHeld firsts) l.budgets) (sym ledger)
+        (held_after outstanding (ledger_in partial) reserves these budgets apart) in
+        rw some
+        (ap (λ (p : FirstPass). map (λ c. c.claims) (with_seconds rows outstanding places p.firsts p.partial).channels) passed ∙
+        ap (λ fs. map (λ c. c.claims) (with_seconds rows outstanding places fs pass.partial).channels) shares ∙
+        seconds_of_rows t outstanding lawful places firsts pass.partial
+        (planned_placed outstanding (turns_of t) (limited_in (no_firsts partial reserves)) places inside)
+        (through-channels firsts (no_firsts partial reserves) ∙ same) held ∙
+        ap (λ l. map (λ c. c.claims ++ claims_at c.channel places (second_of outstanding l firsts)) pass.partial.channels) ledger ∙
+        through-claims firsts (no_firsts partial reserves)
+        (λ c. claims_at c places (second_of outstanding (after_plan (ledger_in partial) firsts) firsts)))
+  ]
+
+  none_taken : (plan : List Planned) (place : ℕ) → AllByRecursion IsNone plan → flow_bytes plan place ≡ 0
+  none_taken [] place all = refl
+  none_taken (planned ∷ plan) place all = elim (cases_Bool (planned.turn.place == place)) [
+    | inl t ↦
+        rw t (omega (arith, sum_by-cons (λ (p : Planned). sum p.shares) planned (filter (λ planned. planned.turn.place == place) plan), none_taken plan place all.1, all.0.bytes))
+    | inr f ↦ rw f (none_taken plan place all.1)
+  ]
+
+  -- and what they leave of reserves
+  pub reserves_of_passes : (place : ℕ) →
+      slice_index (first_pass rows outstanding places partial reserves).reserves place ≡
+      slice_index reserves place - flow_bytes firsts place
+  reserves_of_passes place = elim (cases_Bool (some_reserved rows reserves places)) [
+    | inr none ↦
+        let empty : flow_bytes firsts place ≡ 0 =
+        none_taken firsts place (none_in_first outstanding (ledger_in partial) reserves these (nothing_at places inside none)) in
+        rw none (omega (arith, empty))
+    | inl some ↦
+        rw some
+        (ap (λ (p : FirstPass). slice_index p.reserves place)
+        (firsts_of_rows t outstanding lawful places (no_firsts partial reserves) same flows inside) ∙
+        through-reserves firsts (no_firsts partial reserves) place)
+  ]
