@@ -644,3 +644,106 @@ module _ (t : Tables) (outstanding : List ℕ) (places reserves : List ℕ) (par
         (firsts_of_rows t outstanding lawful places (no_firsts partial reserves) same flows inside) ∙
         through-reserves firsts (no_firsts partial reserves) place)
   ]
+
+-- A round.
+
+-- those who don't ask have no first shares
+asked_bytes : (outstanding : List ℕ) (plan : List Planned) (place : ℕ) → AreIdle outstanding plan →
+    flow_bytes (asked_in outstanding plan) place ≡ flow_bytes plan place
+asked_bytes outstanding [] place idle = refl
+asked_bytes outstanding (p ∷ plan) place idle =
+    let rest : flow_bytes (asked_in outstanding plan) place ≡ flow_bytes plan place = asked_bytes outstanding plan place idle.1 in
+    let own : List Planned → List Planned = λ plan. filter (λ planned. planned.turn.place == place) plan in
+    elim (cases_Bool (asks outstanding p.turn.number)) [
+      | inl t ↦
+          rw t (elim (cases_Bool (p.turn.place == place)) [
+            | inl here ↦
+                rw here (omega (
+                  arith,
+                  sum_by-cons (λ (p : Planned). sum p.shares) p (own (asked_in outstanding plan)),
+                  sum_by-cons (λ (p : Planned). sum p.shares) p (own plan),
+                  rest,
+                ))
+            | inr other ↦ rw other rest
+          ])
+      | inr f ↦
+          rw f (elim (cases_Bool (p.turn.place == place)) [
+            | inl here ↦ rw here (omega (arith, sum_by-cons (λ (p : Planned). sum p.shares) p (own plan), idle.0 f, rest))
+            | inr other ↦ rw other rest
+          ])
+    ]
+
+module _ (t : Tables) (outstanding askers idle : List ℕ) (known allowed : List (Option ℕ)) (known_reserves reserves : List ℕ)
+    (old : List ChannelPlan) (lawful : AreTables t) (is : IsIdle t idle) (flows : length known ≡ length t.flows)
+    (own : map (λ c. c.channel) old ≡ t.channels) (ask : askers ≡ asking_in t outstanding)
+    (agree : AgreeOn (turns_at (turns_of t) askers) known allowed known_reserves reserves) where
+  abbrev start : PartialPlan
+  start = idle_plan t known idle
+
+  abbrev places : List ℕ
+  places = asking_in t outstanding
+
+  agreed : AgreeOn (turns_at (turns_of t) places) known allowed known_reserves reserves
+  agreed = subst (λ ps. AgreeOn (turns_at (turns_of t) ps) known allowed known_reserves reserves) ask agree
+
+  own_start : map (λ c. c.channel) start.channels ≡ t.channels
+  own_start =
+      ap (λ (p : PartialPlan). map (λ c. c.channel) p.channels) (sym (cleared_is t known old idle own)) ∙
+      cleared_channels old idle (is.one_each ∙ sym (ap length own) ∙ length-map old (λ (c : ChannelPlan). c.channel)) ∙ own
+
+  budgets : AllByRecursion IsBudget (map budget_in start.channels)
+  budgets =
+      subst (AllByRecursion IsBudget) (sym (idle_budgets t.channels idle))
+      (idle-budgets t t.channels idle lawful.round_ticks.1 lawful.channels is.within)
+
+  apart : AreApart (map (λ b. b.channel.id) (map budget_in start.channels))
+  apart =
+      subst (λ (bs : List Budget). AreApart (map (λ b. b.channel.id) bs)) (sym (idle_budgets t.channels idle))
+      (subst AreApart (sym (idle_ids t.channels idle is.one_each)) lawful.channels_apart)
+
+  pub claims_of_round : (left : List (Option ℕ)) (new : List ChannelPlan) →
+      partial_of new left ≡
+      last_pass (rows_from t.channels 0 (turns_of t)) outstanding askers (partial_of (cleared old idle) known) known_reserves →
+      map (λ c. c.claims) new ≡ all_claims t (plan_for t outstanding allowed reserves idle)
+  claims_of_round left new planned =
+      let rows : List TurnRow = rows_from t.channels 0 (turns_of t) in
+      let turns : List Turn = turns_at (turns_of t) places in
+      ap (λ p. map (λ c. c.claims) p.channels)
+      (planned ∙ ap₂ (λ ps p. last_pass rows outstanding ps p known_reserves) ask (cleared_is t known old idle own)) ∙
+      claims_of_passes t outstanding places known_reserves start lawful own_start flows (askers_inside t outstanding) budgets
+      apart ∙
+      ap (λ bs. map (λ c. c.claims ++ claims_at c.channel places
+      (two_passes outstanding (record { budgets = bs; allowances = known }) known_reserves turns)) start.channels)
+      (idle_budgets t.channels idle) ∙
+      idle_claims_by (λ c. claims_at c places (plan_of_askers t outstanding known known_reserves idle)) t.channels idle is.one_each ∙
+      askers_claim_all t outstanding known allowed known_reserves reserves idle agreed
+
+  first_bytes : (place : ℕ) →
+      flow_bytes (first_of outstanding (ledger_in start) known_reserves (turns_at (turns_of t) places)) place ≡
+      reserved_for t outstanding allowed reserves idle place
+  unfolding reserved_for
+  first_bytes place =
+      let these : List Turn = filter (λ turn. asks outstanding turn.number) (turns_of t) in
+      let pass : turns_at (turns_of t) places ≡ these = turns_pass (asks outstanding) (turns_of t) in
+      let all : List Budget = (ledger_of t known idle).budgets in
+      let limited : Ledger = record { budgets = all; allowances = first_limits allowed reserves } in
+      ap (λ bs. flow_bytes (first_of outstanding (record { budgets = bs; allowances = known }) known_reserves (turns_at (turns_of t) places)) place)
+      (idle_budgets t.channels idle) ∙
+      ap (λ ts. flow_bytes (first_of outstanding (ledger_of t known idle) known_reserves ts) place) pass ∙
+      ap (λ plan. flow_bytes plan place)
+      (first_same outstanding (turns_of t) all (first_limits known known_reserves) (first_limits allowed reserves)
+      (limits_agree these known allowed known_reserves reserves
+      (subst (λ ts. AgreeOn ts known allowed known_reserves reserves) pass agreed))) ∙
+      asked_bytes outstanding (plan_of outstanding limited (turns_of t)) place (first_idle outstanding limited (turns_of t))
+
+  pub reserves_of_round : (left : List ℕ) →
+      left ≡
+      (first_pass (rows_from t.channels 0 (turns_of t)) outstanding askers (partial_of (cleared old idle) known) known_reserves).reserves →
+      (place : ℕ) →
+      slice_index left place ≡ slice_index known_reserves place - reserved_for t outstanding allowed reserves idle place
+  reserves_of_round left are place =
+      let rows : List TurnRow = rows_from t.channels 0 (turns_of t) in
+      ap (λ rs. slice_index rs place)
+      (are ∙ ap₂ (λ ps p. (first_pass rows outstanding ps p known_reserves).reserves) ask (cleared_is t known old idle own)) ∙
+      reserves_of_passes t outstanding places known_reserves start lawful own_start flows (askers_inside t outstanding) place ∙
+      ap (λ n. slice_index known_reserves place - n) (first_bytes place)
