@@ -111,7 +111,7 @@ less_there allowances place bytes = elim (cases_lt place (length allowances)) [
 ]
 
 -- two lists of allowances say the same of the flows of turns
-abbrev AllowSame : List Turn → List (Option ℕ) → List (Option ℕ) → Type 0
+abbrev pub AllowSame : List Turn → List (Option ℕ) → List (Option ℕ) → Type 0
 AllowSame turns known allowances = AllByRecursion (λ turn. allowed_of known turn.place ≡ allowed_of allowances turn.place) turns
 
 agree_later : (turns : List Turn) (known allowances : List (Option ℕ)) (place bytes : ℕ) →
@@ -134,7 +134,7 @@ agree_later (turn ∷ turns) known allowances place bytes here all =
         sym (get_or-set_other allowances place turn.place (less bytes (allowed_of allowances place)) None other)
 
 -- and so do what the first pass may give to them
-limits_agree : (turns : List Turn) (known allowances : List (Option ℕ)) (known_reserves reserves : List ℕ) →
+pub limits_agree : (turns : List Turn) (known allowances : List (Option ℕ)) (known_reserves reserves : List ℕ) →
     AgreeOn turns known allowances known_reserves reserves →
     AllowSame turns (first_limits known known_reserves) (first_limits allowances reserves)
 limits_agree turns known allowances known_reserves reserves agree = each turns agree.allowed agree.reserved
@@ -171,11 +171,11 @@ module _ (outstanding : List ℕ) where
   passing turns = filter (λ turn. asks outstanding turn.number) turns
 
   -- the turns of a plan that ask
-  abbrev asked_in : List Planned → List Planned
+  abbrev pub asked_in : List Planned → List Planned
   asked_in plan = filter (λ planned. asks outstanding planned.turn.number) plan
 
   -- the others have no bytes
-  abbrev AreIdle : List Planned → Type 0
+  abbrev pub AreIdle : List Planned → Type 0
   AreIdle plan = AllByRecursion (λ planned. asks outstanding planned.turn.number ≡ false → sum planned.shares ≡ 0) plan
 
   abbrev ledger_with : List Budget → List (Option ℕ) → Ledger
@@ -191,7 +191,7 @@ module _ (outstanding : List ℕ) where
 
   -- The first pass.
 
-  first_idle : (ledger : Ledger) (turns : List Turn) → AreIdle (plan_of outstanding ledger turns)
+  pub first_idle : (ledger : Ledger) (turns : List Turn) → AreIdle (plan_of outstanding ledger turns)
   unfolding plan_of
   first_idle ledger [] = tt
   first_idle ledger (turn ∷ turns) =

@@ -42,12 +42,12 @@ other_id id [] place d all within = absurd (omega (arith, within))
 other_id id (x ∷ xs) zero d all within = all.0
 other_id id (x ∷ xs) (suc place) d all within = other_id id xs place d all.1 (omega (arith, within))
 
-not_first : (x : ChannelPlan) (xs : List ChannelPlan) (id place : ℕ) → AreApart (ids (x ∷ xs)) →
+pub not_first : (x : ChannelPlan) (xs : List ChannelPlan) (id place : ℕ) → AreApart (ids (x ∷ xs)) →
     IsPlaceOf (x ∷ xs) id (suc place) → x.channel.id ≢ id
 not_first x xs id place apart is =
     λ same. other_id x.channel.id xs place x apart.0 (omega (arith, is.within)) (same ∙ sym (is.own x))
 
-later : (x : ChannelPlan) (xs : List ChannelPlan) (id place : ℕ) → IsPlaceOf (x ∷ xs) id (suc place) → IsPlaceOf xs id place
+pub later : (x : ChannelPlan) (xs : List ChannelPlan) (id place : ℕ) → IsPlaceOf (x ∷ xs) id (suc place) → IsPlaceOf xs id place
 later x xs id place is = record { within = omega (arith, is.within); own = λ c. is.own c }
 
 -- the channel that stands at the place of an id is the one that is found
@@ -182,7 +182,7 @@ shifted asker position (Some k) sids shares c =
     let next : position + 1 + k ≡ position + suc k = omega arith in
     ap (λ n. with_share asker n (slice_index sids n) (slice_index shares n) c) next
 
-absent : (id : ℕ) (more : List ℕ) → AllByRecursion (λ y. id ≢ y) more → position (λ i. i == id) more ≡ None
+pub absent : (id : ℕ) (more : List ℕ) → AllByRecursion (λ y. id ≢ y) more → position (λ i. i == id) more ≡ None
 absent id [] all = refl
 absent id (x ∷ xs) all =
     later_place (λ i. i == id) x xs (ne_eqb x id (λ same. all.0 (sym same))) ∙ ap (option_map suc) (absent id xs all.1)

@@ -19,3 +19,4 @@ pub mod ByPlaceLemmas
 pub mod TurnRowLemmas
 pub mod RowPlanLemmas
 pub mod RowPassLemmas
+pub mod RowTwoPassLemmas

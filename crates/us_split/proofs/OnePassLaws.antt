@@ -147,23 +147,45 @@ none_reserved reserves place all = elim (cases_lt place (length reserves)) [
   | inr past ↦ get_or_past reserves place 0 past
 ]
 
-pub one_pass_does : OnePassDoes
-unfolding plan_for two_passes
-one_pass_does t outstanding allowances reserves idle flows none =
-    let ledger : Ledger = ledger_of t allowances idle in
-    let limited : Ledger = record { budgets = ledger.budgets; allowances = first_limits allowances reserves } in
-    let first : List Planned = first_of outstanding ledger reserves (turns_of t) in
-    let all : AllByRecursion IsNone first = first-none outstanding limited (turns_of t) (limits (turns_of t) (turns_of-turns t)) in
+-- the first pass may give nothing to the flows of turns
+abbrev pub NothingFirst : List (Option ℕ) → List ℕ → List Turn → Type 0
+NothingFirst allowances reserves turns =
+    AllByRecursion (λ turn. slice_index_or (first_limits allowances reserves) turn.place None ≡ Some 0) turns
+
+pub none_in_first : (outstanding : List ℕ) (ledger : Ledger) (reserves : List ℕ) (turns : List Turn) →
+    NothingFirst ledger.allowances reserves turns → AllByRecursion IsNone (first_of outstanding ledger reserves turns)
+none_in_first outstanding ledger reserves turns none =
+    first-none outstanding (record { budgets = ledger.budgets; allowances = first_limits ledger.allowances reserves }) turns none
+
+pub one_pass : (outstanding : List ℕ) (ledger : Ledger) (reserves : List ℕ) (turns : List Turn) →
+    NothingFirst ledger.allowances reserves turns →
+    two_passes outstanding ledger reserves turns ≡ plan_of outstanding ledger turns
+unfolding two_passes
+one_pass outstanding ledger reserves turns none =
+    let limited : Ledger = record { budgets = ledger.budgets; allowances = first_limits ledger.allowances reserves } in
+    let first : List Planned = first_of outstanding ledger reserves turns in
+    let all : AllByRecursion IsNone first = none_in_first outstanding ledger reserves turns none in
     ap (λ l. second_of outstanding l first) (nothing_taken ledger first all) ∙
     second-none outstanding ledger first all ∙
-    ap (plan_of outstanding ledger) (plan_of-turns outstanding limited (turns_of t))
+    ap (plan_of outstanding ledger) (plan_of-turns outstanding limited turns)
+
+-- where nothing is reserved for a flow, the first pass gives it nothing
+pub nothing_first : (allowances : List (Option ℕ)) (reserves : List ℕ) (place : ℕ) → place < length allowances →
+    slice_index reserves place ≡ 0 → slice_index_or (first_limits allowances reserves) place None ≡ Some 0
+nothing_first allowances reserves place within none =
+    let limit : at_most (slice_index_or allowances place None) (slice_index reserves place) ≡ 0 =
+    omega (arith, at_most-le (slice_index_or allowances place None) (slice_index reserves place), none) in
+    limit-at allowances reserves place within ∙ ap Some limit
+
+pub one_pass_does : OnePassDoes
+unfolding plan_for
+one_pass_does t outstanding allowances reserves idle flows none =
+    one_pass outstanding (ledger_of t allowances idle) reserves (turns_of t) (limits (turns_of t) (turns_of-turns t))
   where
-    limits : (turns : List Turn) → AllByRecursion (IsTurnIn t) turns →
-        AllByRecursion (λ turn. slice_index_or (first_limits allowances reserves) turn.place None ≡ Some 0) turns
+    limits : (turns : List Turn) → AllByRecursion (IsTurnIn t) turns → NothingFirst allowances reserves turns
     limits [] all = tt
     limits (turn ∷ turns) all =
-        let place : ℕ = turn.place in
-        let within = slice_get_within t.flows place turn.cluster.flow all.0.flow in
-        let limit : at_most (slice_index_or allowances place None) (slice_index reserves place) ≡ 0 =
-        omega (arith, at_most-le (slice_index_or allowances place None) (slice_index reserves place), none_reserved reserves place none) in
-        (limit-at allowances reserves place (omega (arith, flows, within)) ∙ ap Some limit, limits turns all.1)
+        let within = slice_get_within t.flows turn.place turn.cluster.flow all.0.flow in (
+          nothing_first allowances reserves turn.place (omega (arith, flows, within)) (none_reserved reserves turn.place none),
+          limits turns all.1,
+        )

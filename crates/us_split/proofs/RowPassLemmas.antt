@@ -1,9 +1,11 @@
 -- Two passes by rows, step by step: what a turn does to a pass, and one turn more.
-use Rattle.std.proofs.Common.{◌≡◌, ℕ, zero, suc, ◌+◌, ◌-◌, ◌<◌, ◌||◌, nat_lt, min, List, [], ◌∷◌, ◌++◌, length, map, set, replicate, get_or, Option, Some, None, option_map, slice_get, refl, sym, ap, ap₂, ◌∙◌, subst, inl, inr, arith}
+use Rattle.std.proofs.Common.{◌≡◌, ℕ, zero, suc, ◌+◌, ◌-◌, ◌<◌, ◌||◌, Bool, nat_lt, min, List, [], ◌∷◌, ◌++◌, length, map, set, drop, replicate, get_or, Option, Some, None, option_map, slice_get, refl, sym, ap, ap₂, ◌∙◌, subst, inl, inr, arith}
 use Rattle.std.specs.Prelude.{sum, slice_index, slice_index_or}
 use Rattle.std.proofs.Math.Seq.{get_or-append_seam}
 use Rattle.std.proofs.lemmas.Bool.{cases_lt}
-use Rattle.std.proofs.lemmas.List.{get_or_append_left, length-append, length-map, set-get_or}
+use Rattle.std.specs.List.{AllByRecursion}
+use Rattle.std.proofs.lemmas.List.{drop_more, get_or_append_left, length-append, length-map, set-get_or}
+use Rattle.std.proofs.lemmas.List.Elements.{All-from_recursion}
 use Rattle.std.proofs.lemmas.Option.{slice_get_read}
 use Rattle.us_split.specs.declared.turn_rows.Seat.{Seat}
 use Rattle.us_split.specs.Divisions.{divided}
@@ -107,14 +109,20 @@ firsts_more rows places firsts items shares place i row all long here within at 
           (subst (FitsRow row) (sym own) fits)
     ]
 
--- whether something is reserved
-pub reserved_here : (rows : List TurnRow) (reserves places : List ℕ) (place bytes : ℕ) (row : TurnRow) → place < length rows →
-    row ≡ get_or rows place row → bytes ≡ slice_index reserves row.asker.claimant.place →
-    some_reserved rows reserves (place ∷ places) ≡ (nat_lt 0 bytes || some_reserved rows reserves places)
-reserved_here rows reserves places place bytes row within at is =
-    let here : slice_get rows place ≡ Some row = slice_get_read rows (length rows) place row refl within at in
-    ap (λ found. is_reserved found reserves || some_reserved rows reserves places) here ∙
-    ap (λ n. nat_lt 0 n || some_reserved rows reserves places) (sym is)
+-- whether something is reserved for the turn at a place, or for those after it
+pub reserved_at : (rows : List TurnRow) (reserves places : List ℕ) (i place flow bytes : ℕ) (row : TurnRow) →
+    AllByRecursion (λ place. place < length rows) places → i < length places → place ≡ get_or places i 0 →
+    row ≡ get_or rows place row → flow ≡ row.asker.claimant.place → bytes ≡ slice_index reserves flow →
+    some_reserved rows reserves (drop i places) ≡ (nat_lt 0 bytes || some_reserved rows reserves (drop (i + 1) places))
+reserved_at rows reserves places i place flow bytes row all some at row_at flow_at is =
+    let here : ℕ = get_or places i 0 in
+    let rest : Bool = some_reserved rows reserves (drop (i + 1) places) in
+    let within : here < length rows = All-from_recursion (λ place. place < length rows) places all i 0 some in
+    let found : slice_get rows here ≡ Some row =
+    slice_get_read rows (length rows) here row refl within (row_at ∙ ap (λ n. get_or rows n row) at) in
+    ap (some_reserved rows reserves) (drop_more places i 0 some) ∙
+    ap (λ found. is_reserved found reserves || rest) found ∙
+    ap (λ n. nat_lt 0 n || rest) (sym (is ∙ ap (slice_index reserves) flow_at))
 
 -- The second pass.
 

@@ -85,7 +85,7 @@ one_row_more rows outstanding places place bytes row old new within at asked is 
 
 -- All who ask.
 
-some_at : {X : Type 0} (xs : List X) (i : ℕ) → i < length xs → (x : X) × (slice_get xs i ≡ Some x)
+pub some_at : {X : Type 0} (xs : List X) (i : ℕ) → i < length xs → (x : X) × (slice_get xs i ≡ Some x)
 some_at [] i within = absurd (omega (arith, within))
 some_at (x ∷ xs) zero within = (x, refl)
 some_at (x ∷ xs) (suc i) within = some_at xs i (omega (arith, within))
@@ -95,7 +95,7 @@ no_claims [] = refl
 no_claims (c ∷ cs) = ap₂ (λ x xs. x ∷ xs) (sym (append-nil c.claims)) (no_claims cs)
 
 module _ (place : ℕ) (planned : Planned) (places : List ℕ) (plan : List Planned) where
-  claims_of_more : (cs : List ChannelPlan) →
+  pub claims_of_more : (cs : List ChannelPlan) →
       map (λ c. c.claims ++ claims_at c.channel places plan) (map (with_turn place planned) cs) ≡
       map (λ c. c.claims ++ claims_at c.channel (place ∷ places) (planned ∷ plan)) cs
   claims_of_more [] = refl
@@ -121,7 +121,7 @@ channels_stay : (place : ℕ) (planned : Planned) (partial : PartialPlan) →
 unfolding planned_further
 channels_stay place planned partial = channels_of_turn place planned partial.channels
 
-claims_of_rows : (t : Tables) (outstanding places : List ℕ) (partial : PartialPlan) → AreTables t →
+pub claims_of_rows : (t : Tables) (outstanding places : List ℕ) (partial : PartialPlan) → AreTables t →
     map (λ c. c.channel) partial.channels ≡ t.channels → AllByRecursion (λ place. place < length (turns_of t)) places →
     map (λ c. c.claims) (with_rows (rows_from t.channels 0 (turns_of t)) outstanding places partial).channels ≡
     map (λ c. c.claims ++ claims_at c.channel places (plan_of outstanding (ledger_in partial) (turns_at (turns_of t) places)))
@@ -173,7 +173,7 @@ askers_inside t outstanding =
 
 -- Before the first turn.
 
-abbrev made : Channel × ℕ → ChannelPlan
+abbrev pub made : Channel × ℕ → ChannelPlan
 made pair = record { channel = pair.0; slots = pair.1; claims = [] }
 
 cleared_made : (cs : List ChannelPlan) (idle : List ℕ) → cleared cs idle ≡ map made (zip (map (λ c. c.channel) cs) idle)
@@ -189,7 +189,7 @@ cleared_channels (c ∷ cs) [] same = absurd (omega (arith, same))
 cleared_channels (c ∷ cs) (slots ∷ idle) same =
     ap (λ xs. c.channel ∷ xs) (cleared_channels cs idle (omega (arith, same)))
 
-cleared_is : (t : Tables) (allowances : List (Option ℕ)) (cs : List ChannelPlan) (idle : List ℕ) →
+pub cleared_is : (t : Tables) (allowances : List (Option ℕ)) (cs : List ChannelPlan) (idle : List ℕ) →
     map (λ c. c.channel) cs ≡ t.channels → partial_of (cleared cs idle) allowances ≡ idle_plan t allowances idle
 cleared_is t allowances cs idle same =
     ap (λ xs. partial_of xs allowances) (cleared_made cs idle ∙ ap (λ channels. map made (zip channels idle)) same)
@@ -224,7 +224,7 @@ idle_within t cs idle lawful is same =
 
 -- The claims of a round.
 
-idle_claims_by : (f : Channel → List Claim) (channels : List Channel) (idle : List ℕ) → length idle ≡ length channels →
+pub idle_claims_by : (f : Channel → List Claim) (channels : List Channel) (idle : List ℕ) → length idle ≡ length channels →
     map (λ (c : ChannelPlan). c.claims ++ f c.channel) (map made (zip channels idle)) ≡ map f channels
 idle_claims_by f [] idle same = refl
 idle_claims_by f (c ∷ channels) [] same = absurd (omega (arith, same))

@@ -30,7 +30,7 @@ own_found (x ∷ xs) apart =
     later [] others all = tt
     later (y ∷ ys) others all = (rw (ne_eqb x.channel.id y.channel.id others.0) all.0, later ys others.1 all.1)
 
-idle_ids : (channels : List Channel) (idle : List ℕ) → length idle ≡ length channels →
+pub idle_ids : (channels : List Channel) (idle : List ℕ) → length idle ≡ length channels →
     map (λ b. b.channel.id) (idle_budgets channels idle) ≡ map (λ c. c.id) channels
 idle_ids [] idle same = refl
 idle_ids (c ∷ channels) [] same = absurd (omega (arith, same))

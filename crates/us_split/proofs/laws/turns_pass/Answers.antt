@@ -1,4 +1,5 @@
 use Rattle.us_split.proofs.AskingLaws.{turns_pass}
+use Rattle.us_split.proofs.RowTwoPassLemmas.{given_turn, taken_turn}
 use Rattle.us_split.proofs.laws.turns_pass.Goals as goal
 
 pub returns : goal.returns
