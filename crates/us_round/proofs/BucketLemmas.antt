@@ -128,6 +128,9 @@ rate_stays ticks (suc rounds) l = rate_stays ticks rounds l
 pub no_reserve : (ticks round : ℕ) (kept : Kept) → bytes_in kept.level ≡ None → reserve_in (level_in ticks round kept) ≡ 0
 unfolding bytes_in reserve_in
 no_reserve ticks round kept none = elim (cases_Bool (kept.level.rate == 0)) [
-  | inl no ↦ let same : ((level_in ticks round kept).rate == 0) ≡ true = ap (λ r. r == 0) (rate_stays ticks (round - kept.as_of) kept.level) ∙ no in rw same refl
-  | inr some ↦ let there = rw some at none in absurd (cc there)
+  | inl t ↦
+      let same : ((level_in ticks round kept).rate == 0) ≡ true =
+      ap (λ r. r == 0) (rate_stays ticks (round - kept.as_of) kept.level) ∙ t in
+      rw same refl
+  | inr f ↦ let there = rw f at none in absurd (cc there)
 ]

@@ -137,18 +137,18 @@ pub record AreBuckets (t : Tables) (kept : Buckets) : Type 0 where
   pub ticks : kept.ticks ≡ t.round_ticks
 
 -- its parts are of the same tables and the same round; and nothing is credited that isn't settled
-pub record AreKept (t : Tables) (asks : Asking) (kept reserves : Buckets) (plans : Planner) (most : List (Option ℕ))
-    (left : List ℕ) : Type 0 where
+pub record AreKept (t : Tables) (asks : Asking) (kept least : Buckets) (plans : Planner) (most : List (Option ℕ))
+    (noted : List ℕ) : Type 0 where
   pub lawful : AreTables t
   pub clusters : length asks.outstanding ≡ length (clusters_of t)
   pub buckets : AreBuckets t kept
-  pub reserves : AreBuckets t reserves
-  pub round : reserves.round ≡ kept.round
+  pub reserves : AreBuckets t least
+  pub round : least.round ≡ kept.round
   pub numbers : asks.numbers ≡ numbers_of (turns_of t)
   pub settled : asks.left ≡ asks.outstanding
   pub planner : plans.tables ≡ t
   pub allowances : length most ≡ length t.flows
-  pub left : length left ≡ length t.flows
+  pub left : length noted ≡ length t.flows
 
 -- the allowance of the flow of the turn at this place is what the bucket allows
 abbrev pub IsAllowed : List places.Turn → List Level → List (Option ℕ) → ℕ → Type 0
