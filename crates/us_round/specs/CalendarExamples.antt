@@ -14,10 +14,10 @@ use Rattle.us_output.specs.declared.rows.Row.{Row}
 use Rattle.us_output.specs.declared.rows.Row.TheVariants as rows
 use Rattle.us_output.specs.declared.rows.EntryWord.TheVariants as words
 
--- MAPs of 16 minislots, the last 2 of which are for contention; the base flow; and two grants of a minislot that are
+-- MAPs of 16 minislots, the last 2 of which are for contention; a flow; and two grants of a minislot that are
 -- ideal at minislot 6 of round 1, in a window that ends with it
-abbrev split : Tables
-split = record (tables (channel_with 1 2 0 1 ∷ []) (base_flow
+abbrev split_for : FlowTable → Tables
+split_for flow = record (tables (channel_with 1 2 0 1 ∷ []) (flow
     ∷ record (flow_with 2 0 (1 ∷ []) ((513 ∷ []) ∷ [])) {
       kind = UnsolicitedGrant;
       start_us = 275;
@@ -25,6 +25,9 @@ split = record (tables (channel_with 1 2 0 1 ∷ []) (base_flow
       grant_bytes = 16;
       grants_per_interval = 2;
     } ∷ [])) { round_ticks = 32 }
+
+abbrev split : Tables
+split = split_for base_flow
 
 -- rounds 0 and 1, in the second of which the base flow asks for so many bytes
 abbrev outs : ℕ → List RoundOut
