@@ -121,7 +121,7 @@ first-none outstanding ledger (turn ∷ turns) all =
     let none : sum planned.shares ≡ 0 = omega (arith, shares_of-allowed outstanding ledger turn 0 all.0) in (
       record { bytes = none; one_each = shares_of-length outstanding ledger turn },
       subst (λ l. AllByRecursion IsNone (plan_of outstanding l turns)) (sym (ledger_stays planned ledger none))
-      (first-none outstanding ledger turns all.1),
+          (first-none outstanding ledger turns all.1),
     )
 
 -- what the first pass may give to a flow

@@ -111,7 +111,7 @@ module _ (place : ℕ) (planned : Planned) (places : List ℕ) (plan : List Plan
   unfolding planned_further
   claims_later partial = claims_of_more partial.channels
 
-channels_of_turn : (place : ℕ) (planned : Planned) (cs : List ChannelPlan) →
+pub channels_of_turn : (place : ℕ) (planned : Planned) (cs : List ChannelPlan) →
     map (λ c. c.channel) (map (with_turn place planned) cs) ≡ map (λ c. c.channel) cs
 channels_of_turn place planned [] = refl
 channels_of_turn place planned (c ∷ cs) = ap (λ xs. c.channel ∷ xs) (channels_of_turn place planned cs)

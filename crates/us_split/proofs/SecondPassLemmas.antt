@@ -97,8 +97,8 @@ held-given first plan [] all = tt
 held-given first plan (b ∷ budgets) all =
     let sums = sum_by-cons (λ planned. cost_on b.channel planned) first plan in (
       fewer_slots
-      (record { channel = b.channel; slots = b.slots + sum_by (λ planned. cost_on b.channel planned) (first ∷ plan) })
-      (b.slots + cost_on b.channel first) all.0 (omega (arith, sums)),
+          (record { channel = b.channel; slots = b.slots + sum_by (λ planned. cost_on b.channel planned) (first ∷ plan) })
+          (b.slots + cost_on b.channel first) all.0 (omega (arith, sums)),
       held-given first plan budgets all.1,
     )
 
@@ -109,10 +109,10 @@ held-after first more plan [] all = tt
 held-after first more plan (b ∷ budgets) all =
     let sums = sum_by-cons (λ planned. cost_on b.channel planned) first plan in (
       fewer_slots
-      (record { channel = b.channel; slots = b.slots + sum_by (λ planned. cost_on b.channel planned) (first ∷ plan) })
-      (b.slots + cost_on b.channel first - cost_on b.channel (with_more first more)
-      + sum_by (λ planned. cost_on b.channel planned) plan)
-      all.0 (omega (arith, sums)),
+          (record { channel = b.channel; slots = b.slots + sum_by (λ planned. cost_on b.channel planned) (first ∷ plan) })
+          (b.slots + cost_on b.channel first - cost_on b.channel (with_more first more)
+          + sum_by (λ planned. cost_on b.channel planned) plan)
+          all.0 (omega (arith, sums)),
       held-after first more plan budgets all.1,
     )
 
@@ -273,7 +273,7 @@ second_of-bursts outstanding ledger (first ∷ plan) held bursts long =
     let more : List ℕ = more_shares outstanding ledger first in (
       both-bursts outstanding ledger first (held-given first plan ledger.budgets held) bursts.0 long.0,
       second_of-bursts outstanding (after_both ledger first more) plan (held-after first more plan ledger.budgets held)
-      bursts.1 long.1,
+          bursts.1 long.1,
     )
 
 -- What all of them cost on a channel is within its budget and what the first shares cost.

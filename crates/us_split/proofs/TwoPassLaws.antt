@@ -121,7 +121,7 @@ module _ (outstanding : List ℕ) (ledger : Ledger) (reserves : List ℕ) (turns
       omega (
         arith,
         plan_of-allowed outstanding limited turns place (at_most allowance (slice_index reserves place))
-        (limit-at ledger.allowances reserves place within),
+            (limit-at ledger.allowances reserves place within),
         at_most-le allowance (slice_index reserves place),
       )
 

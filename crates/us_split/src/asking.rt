@@ -194,11 +194,7 @@ pub(crate) fn places_of_askers(
 }
 
 /// The places of those of these clusters of which bytes are outstanding.
-fn places_asking(
-    alloc: Global,
-    numbers: &[u16],
-    outstanding: &[u64],
-) -> Result<Vec<u16>, NoMemory>
+fn places_asking(alloc: Global, numbers: &[u16], outstanding: &[u64]) -> Result<Vec<u16>, NoMemory>
     requires few { length numbers.now ≤ 65536 }
     requires clusters { AllByRecursion (λ number. number < length outstanding.now) numbers.now }
     ensures { IfOk result (λ places. places.items ≡ spec.asking outstanding.now numbers.now) }

@@ -80,7 +80,7 @@ returns-clause-reserved c = λ flow within.
       ap (λ xs. slice_index xs flow) held,
       ap (λ t. reserved_for t c.args.outstanding.now c.args.allowances.now c.args.reserves.now c.args.idle.now flow) same,
       reserved-within t c.args.outstanding.now c.args.allowances.now c.args.reserves.now c.args.idle.now flow
-      (omega (arith, within, c.requires.flows)),
+          (omega (arith, within, c.requires.flows)),
     )
 
 pub returns-clause-shares : goal.returns-clause-shares
