@@ -1,16 +1,16 @@
 -- What is planned on channels: fewer minislots last no longer, where ids are apart a channel stands at one place, and the
 -- shares of a turn change each channel as its share there does.
-use Rattle.std.proofs.Common.{◌≡◌, ◌≢◌, ℕ, zero, suc, ◌+◌, ◌-◌, ◌*◌, ◌/◌, ◌==◌, ◌<◌, ◌≤◌, min, List, [], ◌∷◌, ◌++◌, length, map, set, zip, get_or, Option, Some, None, option_map, refl, sym, ap, ap₂, ◌∙◌, subst, inl, inr, eq-eqb, ne_eqb, append-nil, arith}
+use Rattle.std.proofs.Common.{◌≡◌, ◌≢◌, ℕ, zero, suc, ◌+◌, ◌-◌, ◌*◌, ◌/◌, ◌==◌, ◌<◌, ◌≤◌, min, List, [], ◌∷◌, ◌++◌, length, map, set, get_or, Option, Some, None, option_map, refl, sym, ap, ap₂, ◌∙◌, subst, inl, inr, eq-eqb, ne_eqb, append-nil, arith}
 use Rattle.std.specs.Prelude.{slice_index, position, option_and_then, option_to_list}
 use Rattle.std.specs.List.{AllByRecursion}
 use Rattle.std.proofs.Math.Nat.{div-le_self, div-mul-le_self}
 use Rattle.std.proofs.lemmas.Nat.{mul-le}
 use Rattle.std.proofs.lemmas.Bool.{cases_eq}
 use Rattle.us_flows.specs.declared.channels.Channel.{Channel}
-use Rattle.us_flows.specs.Tables.{Tables, header_bytes}
+use Rattle.us_flows.specs.Tables.{header_bytes}
 use Rattle.us_flows.specs.Ranges.{max_round_ticks}
-use Rattle.us_flows.specs.Lawful.{AreApart, AreTables}
-use Rattle.us_split.specs.Plans.{IsIdle, Planned, budget_of, cost_on, share_at, share_cost}
+use Rattle.us_flows.specs.Lawful.{AreApart}
+use Rattle.us_split.specs.Plans.{Planned, budget_of, cost_on, share_at, share_cost}
 use Rattle.us_split.specs.Claims.{claim_at}
 use Rattle.us_split.specs.PartialPlans.{Asker, ChannelPlan, IsPlaceOf, asker_of, budget_in, channel_of, claimed_at, claimed_from, with_claim, with_share, with_turn}
 use Rattle.us_split.proofs.ChannelShareLemmas.{first_place, later_place}

@@ -1,21 +1,17 @@
 -- A plan in the making: a turn without a byte, and what a turn leaves to plan with.
-use Rattle.std.proofs.Common.{◌≡◌, ℕ, suc, ◌+◌, ◌-◌, ◌==◌, ◌≤◌, List, [], ◌∷◌, ◌++◌, length, map, set, zip, Option, Some, None, option_map, refl, sym, ap, ap₂, ◌∙◌, subst, inl, inr, eq-eqb, append_assoc, append-nil, arith}
-use Rattle.std.specs.Prelude.{sum, position, slice_index, slice_index_or, option_and_then, option_to_list}
+use Rattle.std.proofs.Common.{◌≡◌, ℕ, suc, ◌+◌, ◌-◌, ◌==◌, ◌≤◌, List, [], ◌∷◌, length, map, set, zip, Option, Some, None, option_map, refl, ap, ◌∙◌, inl, inr, eq-eqb, arith}
+use Rattle.std.specs.Prelude.{sum, position, slice_index, slice_index_or, option_and_then}
 use Rattle.std.specs.List.{AllByRecursion}
 use Rattle.std.proofs.lemmas.Bool.{cases_lt}
-use Rattle.std.proofs.lemmas.List.{set-get_or, get_or_past, length-set}
+use Rattle.std.proofs.lemmas.List.{set-get_or, get_or_past}
 use Rattle.std.proofs.lemmas.List.Sums.{get_or-le-sum_by}
 use Rattle.us_flows.specs.declared.channels.Channel.{Channel}
-use Rattle.us_flows.specs.Tables.{Tables, FlowTable, header_bytes}
-use Rattle.us_flows.specs.Clusters.{Turn, turns_of}
-use Rattle.us_flows.specs.Lawful.{AreApart}
-use Rattle.us_flows.specs.declared.turns.Turn as places
+use Rattle.us_flows.specs.Tables.{header_bytes}
 use Rattle.us_split.specs.Divisions.{divided}
-use Rattle.us_split.specs.Plans.{Ledger, Planned, weights, at_most, shares_of, share_at, share_on, share_cost, cost_on, lowered, allowed_less, after_turn, plan_of, plan_for, ledger_of}
-use Rattle.us_split.specs.Claims.{all_claims, claim_at, claim_on, claims_from}
-use Rattle.us_split.specs.PartialPlans.{IsTurnOf, Asker, ChannelPlan, PartialPlan, asker_of, budget_in, claimed_from, planned_further, planned_through, idle_plan, ledger_in, planned_in, with_turn}
+use Rattle.us_split.specs.Plans.{Ledger, Planned, share_at, share_on, share_cost, cost_on, lowered, allowed_less, after_turn}
+use Rattle.us_split.specs.Claims.{claim_at, claim_on}
+use Rattle.us_split.specs.PartialPlans.{ChannelPlan, PartialPlan, budget_in, planned_further, ledger_in, with_turn}
 use Rattle.us_split.proofs.DivisionLemmas.{divided-sum}
-use Rattle.us_split.proofs.ChannelPlanLemmas.{ids, claimed_turn}
 
 -- a share is within all of them
 pub share-le-sum : (shares : List ℕ) (k : ℕ) → slice_index shares k ≤ sum shares

@@ -1,6 +1,6 @@
 -- Plans of two passes by rows: what both passes come to, for those who ask.
 use Rattle.std.proofs.Common.{◌≡◌, ◌≢◌, ℕ, zero, suc, ◌+◌, ◌-◌, ◌*◌, ◌/◌, ◌==◌, ◌<◌, ◌≤◌, ◌||◌, nat_lt, min, Bool, true, false, if◌then◌else◌, List, [], ◌∷◌, ◌++◌, length, map, set, filter, Option, Some, None, option_map, slice_get, refl, sym, ap, ap₂, ◌∙◌, subst, inl, inr, eq-eqb, ne_eqb, append_assoc, append-nil, get_or-set_same, get_or-set_other, arith}
-use Rattle.std.specs.Prelude.{sum, sum_by, position, slice_index, slice_index_or, option_to_list}
+use Rattle.std.specs.Prelude.{sum, position, slice_index, slice_index_or}
 use Rattle.std.specs.List.{AllByRecursion, cons_option}
 use Rattle.std.proofs.Math.Nat.{le-div_iff_mul-le}
 use Rattle.std.proofs.lemmas.Bool.{cases_Bool, cases_eq, cases_lt, ltb-false}
@@ -17,9 +17,9 @@ use Rattle.us_flows.proofs.TurnLaws.{turns_of-turns}
 use Rattle.us_split.specs.declared.turn_rows.Seat.{Seat}
 use Rattle.us_split.specs.Divisions.{divided}
 use Rattle.us_split.specs.Plans.{IsIdle, Budget, Ledger, Planned, at_most, weights, shares_of, share_at, share_cost, cost_on, lowered, allowed_less, after_turn, after_plan, plan_of, plan_for, ledger_of, first_limits, first_of, given_back, minus, plus, more_shares, with_more, after_both, second_of, two_passes, flow_bytes, reserved_for}
-use Rattle.us_split.specs.Claims.{Claim, all_claims, claim_on}
+use Rattle.us_split.specs.Claims.{Claim, all_claims}
 use Rattle.us_split.specs.Asking.{AgreeOn, asking_in, asks, claims_at, plan_of_askers, turns_at}
-use Rattle.us_split.specs.PartialPlans.{Asker, ChannelPlan, IsPlaceOf, PartialPlan, asker_of, budget_in, idle_plan, ledger_in, most_slots, returned, taken, with_turn}
+use Rattle.us_split.specs.PartialPlans.{Asker, ChannelPlan, IsPlaceOf, PartialPlan, asker_of, budget_in, idle_plan, ledger_in, most_slots, with_turn}
 use Rattle.us_split.specs.TurnRows.{FirstPass, TurnRow, at_seats, changed, cleared, first_in, first_pass, is_reserved, last_pass, more_in, no_firsts, partial_of, pass_of, place_of, put_from, returned_at, row_of, rows_from, seats_from, some_reserved, taken_at, weight_at, with_first_if, with_first_row, with_firsts, with_second_if, with_second_row, with_seconds}
 use Rattle.us_split.proofs.AskingLaws.{AreIdle, asked_in, askers_claim_all, first_idle, first_same, limits_agree, turns_pass}
 use Rattle.us_split.proofs.ChannelPlanLemmas.{absent, claimed_turn, ids, later, not_first}

@@ -1,4 +1,4 @@
-use Rattle.std.proofs.Common.{◌≡◌, ℕ, ◌+◌, ◌<◌, ◌≤◌, Bool, true, false, nat_lt, if◌then◌else◌, List, [], ◌∷◌, ◌++◌, drop, get_or, length, refl, ap, ◌∙◌, sym, append_assoc, append-nil, arith}
+use Rattle.std.proofs.Common.{◌≡◌, ℕ, ◌+◌, ◌≤◌, Bool, true, false, nat_lt, if◌then◌else◌, List, [], ◌∷◌, ◌++◌, drop, get_or, length, ap, ◌∙◌, sym, append_assoc, append-nil, arith}
 use Rattle.std.proofs.lemmas.List.{drop_all, drop_more}
 use Rattle.us_split.specs.Asking.{asks, places_from}
 use Rattle.us_split.proofs.asking.places_asking.Goals as goal
