@@ -157,6 +157,21 @@ limits_agree turns known allowances known_reserves reserves agree = each turns a
     each [] allowed reserved = tt
     each (turn ∷ turns) allowed reserved = (at turn.place allowed.0 reserved.0, each turns allowed.1 reserved.1)
 
+-- what is the same says the same
+pub same_agree : (turns : List Turn) (known allowances : List (Option ℕ)) (known_reserves reserves : List ℕ) →
+    known ≡ allowances → known_reserves ≡ reserves → AgreeOn turns known allowances known_reserves reserves
+same_agree turns known allowances known_reserves reserves allow reserve =
+    record { flows = ap length allow; allowed = allowed turns; reserved = reserved turns }
+  where
+    allowed : (turns : List Turn) → AllowSame turns known allowances
+    allowed [] = tt
+    allowed (turn ∷ turns) = (ap (λ xs. allowed_of xs turn.place) allow, allowed turns)
+
+    reserved : (turns : List Turn) →
+        AllByRecursion (λ turn. slice_index known_reserves turn.place ≡ slice_index reserves turn.place) turns
+    reserved [] = tt
+    reserved (turn ∷ turns) = (ap (λ xs. slice_index xs turn.place) reserve, reserved turns)
+
 -- Two passes, of those who ask and of all.
 
 pub option_before : {A : Type 0} (o : Option A) (xs : List A) → cons_option o xs ≡ option_to_list o ++ xs

@@ -1,12 +1,12 @@
 -- Where nothing is reserved, one pass does: first shares of no bytes change nothing.
-use Rattle.std.proofs.Common.{◌≡◌, ℕ, zero, suc, ◌+◌, ◌-◌, ◌<◌, ◌≤◌, List, [], ◌∷◌, length, map, Option, Some, None, refl, sym, ap, ap₂, ◌∙◌, subst, inl, inr, arith}
+use Rattle.std.proofs.Common.{◌≡◌, ℕ, zero, suc, ◌+◌, ◌-◌, ◌<◌, List, [], ◌∷◌, length, map, Option, Some, None, refl, sym, ap, ap₂, ◌∙◌, subst, inl, inr, arith}
 use Rattle.std.specs.Prelude.{sum, slice_index, slice_index_or}
 use Rattle.std.specs.List.{AllByRecursion}
 use Rattle.std.proofs.lemmas.Bool.{cases_lt}
 use Rattle.std.proofs.lemmas.List.{get_or_past}
 use Rattle.std.proofs.lemmas.List.Elements.{All-from_recursion}
 use Rattle.std.proofs.lemmas.Option.{slice_get_within}
-use Rattle.us_flows.specs.Tables.{Tables, FlowTable}
+use Rattle.us_flows.specs.Tables.{FlowTable}
 use Rattle.us_flows.specs.Clusters.{Turn, IsTurnIn, turns_of}
 use Rattle.us_flows.proofs.TurnLaws.{turns_of-turns}
 use Rattle.us_split.specs.Divisions.{divided}
@@ -121,7 +121,7 @@ first-none outstanding ledger (turn ∷ turns) all =
     let none : sum planned.shares ≡ 0 = omega (arith, shares_of-allowed outstanding ledger turn 0 all.0) in (
       record { bytes = none; one_each = shares_of-length outstanding ledger turn },
       subst (λ l. AllByRecursion IsNone (plan_of outstanding l turns)) (sym (ledger_stays planned ledger none))
-      (first-none outstanding ledger turns all.1),
+          (first-none outstanding ledger turns all.1),
     )
 
 -- what the first pass may give to a flow

@@ -6,16 +6,14 @@ use Rattle.std.proofs.lemmas.Bool.{cases_Bool, cases_eq, cases_lt}
 use Rattle.std.proofs.lemmas.Nat.{mul-le}
 use Rattle.std.proofs.lemmas.List.{get_or_past}
 use Rattle.std.proofs.lemmas.List.Sums.{sum_by-cons}
-use Rattle.std.proofs.lemmas.Option.{get_or_from_slice_get}
 use Rattle.us_slots.specs.Times.{minislot_ticks}
 use Rattle.us_flows.specs.declared.channels.Channel.{Channel}
 use Rattle.us_flows.specs.Tables.{Tables, map_len}
-use Rattle.us_flows.specs.Clusters.{Turn, turns_of}
-use Rattle.us_flows.specs.Lawful.{AreApart, AreTables, IsChannel}
-use Rattle.us_flows.proofs.TurnLaws.{turns_of-once}
-use Rattle.us_split.specs.Plans.{IsIdle, Budget, Ledger, Planned, budget_of, at_most, shares_of, cost_on, lowered, after_turn, plan_of, ledger_of, plan_for}
-use Rattle.us_split.specs.PlanLaws.{Within, planned_bytes, AreBursts, IsLawfulPlan}
-use Rattle.us_split.proofs.ShareLemmas.{IsBudget, found_budget, shares_of-sum, shares_of-bursts, cost-within}
+use Rattle.us_flows.specs.Clusters.{Turn}
+use Rattle.us_flows.specs.Lawful.{AreApart, IsChannel}
+use Rattle.us_split.specs.Plans.{Budget, Ledger, Planned, budget_of, at_most, shares_of, cost_on, lowered, after_turn, plan_of}
+use Rattle.us_split.specs.PlanLaws.{planned_bytes, AreBursts}
+use Rattle.us_split.proofs.ShareLemmas.{IsBudget, shares_of-sum, shares_of-bursts, cost-within}
 
 -- the turns of a plan are those that it is made for
 pub plan_of-turns : (outstanding : List ℕ) (ledger : Ledger) (turns : List Turn) →

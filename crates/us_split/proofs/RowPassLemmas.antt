@@ -9,9 +9,9 @@ use Rattle.std.proofs.lemmas.List.Elements.{All-from_recursion}
 use Rattle.std.proofs.lemmas.Option.{slice_get_read}
 use Rattle.us_split.specs.declared.turn_rows.Seat.{Seat}
 use Rattle.us_split.specs.Divisions.{divided}
-use Rattle.us_split.specs.Plans.{at_most, plus, share_cost}
-use Rattle.us_split.specs.PartialPlans.{Asker, ChannelPlan, PartialPlan, taken}
-use Rattle.us_split.specs.TurnRows.{AreFirsts, FirstPass, FitsIf, FitsRow, TurnRow, at_seats, changed, first_in, is_reserved, more_at, more_in, partial_of, pass_of, put_from, returned_at, some_reserved, taken_at, weight_at, with_first, with_first_if, with_first_row, with_firsts, with_second_if, with_second_row, with_seconds}
+use Rattle.us_split.specs.Plans.{at_most, plus}
+use Rattle.us_split.specs.PartialPlans.{ChannelPlan, PartialPlan, taken}
+use Rattle.us_split.specs.TurnRows.{AreFirsts, FirstPass, FitsIf, FitsRow, TurnRow, at_seats, changed, first_in, is_reserved, more_at, more_in, partial_of, pass_of, put_from, returned_at, some_reserved, taken_at, weight_at, with_first_if, with_first_row, with_firsts, with_second_if, with_second_row, with_seconds}
 use Rattle.us_split.proofs.DivisionLemmas.{divided-length, sum-cons}
 use Rattle.us_split.proofs.PartialPlanLemmas.{none_divided, share-le-sum}
 use Rattle.us_split.proofs.RowPlanLemmas.{none_spent}

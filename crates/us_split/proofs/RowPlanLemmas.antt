@@ -13,15 +13,15 @@ use Rattle.us_flows.specs.Clusters.{Turn, IsTurnIn, clusters_of, turns_of}
 use Rattle.us_flows.specs.Lawful.{AreTables, IsChannel}
 use Rattle.us_flows.proofs.TurnLaws.{turns_of-turns}
 use Rattle.us_split.specs.declared.turn_rows.Seat.{Seat}
-use Rattle.us_split.specs.Plans.{IsIdle, Planned, at_most, after_turn, plan_of, plan_for}
-use Rattle.us_split.specs.Claims.{Claim, all_claims, claim_on}
-use Rattle.us_split.specs.Asking.{AgreeOn, asking_in, claims_at, numbers_of, places_from, plan_of_askers, turns_at}
+use Rattle.us_split.specs.Plans.{IsIdle, Planned, at_most, after_turn, plan_of}
+use Rattle.us_split.specs.Claims.{Claim, claim_on}
+use Rattle.us_split.specs.Asking.{asking_in, claims_at, numbers_of, places_from, turns_at}
 use Rattle.us_split.specs.PartialPlans.{Asker, ChannelPlan, PartialPlan, idle_plan, ledger_in, planned_further, planned_in, with_turn}
 use Rattle.us_split.specs.TurnRows.{IsPlanning, IsRowWithin, TurnRow, cleared, partial_of, put_from, row_of, rows_from, shares_at, shares_in, with_row, with_row_if, with_rows}
-use Rattle.us_split.proofs.AskingLaws.{askers_claim_all, option_before}
+use Rattle.us_split.proofs.AskingLaws.{option_before}
 use Rattle.us_split.proofs.ByPlaceLemmas.{nothing_put}
 use Rattle.us_split.proofs.ClaimLemmas.{all_at}
-use Rattle.us_split.proofs.PartialPlanLemmas.{idle_budgets, ledger_after, none_divided, share-le-sum}
+use Rattle.us_split.proofs.PartialPlanLemmas.{ledger_after, none_divided, share-le-sum}
 use Rattle.us_split.proofs.TurnRowLemmas.{row_planned, row_there, rows_inside, rows_known, rows_length}
 
 -- A turn.
@@ -111,7 +111,7 @@ module _ (place : ℕ) (planned : Planned) (places : List ℕ) (plan : List Plan
   unfolding planned_further
   claims_later partial = claims_of_more partial.channels
 
-channels_of_turn : (place : ℕ) (planned : Planned) (cs : List ChannelPlan) →
+pub channels_of_turn : (place : ℕ) (planned : Planned) (cs : List ChannelPlan) →
     map (λ c. c.channel) (map (with_turn place planned) cs) ≡ map (λ c. c.channel) cs
 channels_of_turn place planned [] = refl
 channels_of_turn place planned (c ∷ cs) = ap (λ xs. c.channel ∷ xs) (channels_of_turn place planned cs)

@@ -1,6 +1,6 @@
 -- Plans of two passes by rows: what both passes come to, for those who ask.
 use Rattle.std.proofs.Common.{◌≡◌, ◌≢◌, ℕ, zero, suc, ◌+◌, ◌-◌, ◌*◌, ◌/◌, ◌==◌, ◌<◌, ◌≤◌, ◌||◌, nat_lt, min, Bool, true, false, if◌then◌else◌, List, [], ◌∷◌, ◌++◌, length, map, set, filter, Option, Some, None, option_map, slice_get, refl, sym, ap, ap₂, ◌∙◌, subst, inl, inr, eq-eqb, ne_eqb, append_assoc, append-nil, get_or-set_same, get_or-set_other, arith}
-use Rattle.std.specs.Prelude.{sum, sum_by, position, slice_index, slice_index_or, option_to_list}
+use Rattle.std.specs.Prelude.{sum, position, slice_index, slice_index_or}
 use Rattle.std.specs.List.{AllByRecursion, cons_option}
 use Rattle.std.proofs.Math.Nat.{le-div_iff_mul-le}
 use Rattle.std.proofs.lemmas.Bool.{cases_Bool, cases_eq, cases_lt, ltb-false}
@@ -17,18 +17,18 @@ use Rattle.us_flows.proofs.TurnLaws.{turns_of-turns}
 use Rattle.us_split.specs.declared.turn_rows.Seat.{Seat}
 use Rattle.us_split.specs.Divisions.{divided}
 use Rattle.us_split.specs.Plans.{IsIdle, Budget, Ledger, Planned, at_most, weights, shares_of, share_at, share_cost, cost_on, lowered, allowed_less, after_turn, after_plan, plan_of, plan_for, ledger_of, first_limits, first_of, given_back, minus, plus, more_shares, with_more, after_both, second_of, two_passes, flow_bytes, reserved_for}
-use Rattle.us_split.specs.Claims.{Claim, all_claims, claim_on}
+use Rattle.us_split.specs.Claims.{Claim, all_claims}
 use Rattle.us_split.specs.Asking.{AgreeOn, asking_in, asks, claims_at, plan_of_askers, turns_at}
-use Rattle.us_split.specs.PartialPlans.{Asker, ChannelPlan, IsPlaceOf, PartialPlan, asker_of, budget_in, idle_plan, ledger_in, most_slots, returned, taken, with_turn}
+use Rattle.us_split.specs.PartialPlans.{Asker, ChannelPlan, IsPlaceOf, PartialPlan, asker_of, budget_in, idle_plan, ledger_in, most_slots, with_turn}
 use Rattle.us_split.specs.TurnRows.{FirstPass, TurnRow, at_seats, changed, cleared, first_in, first_pass, is_reserved, last_pass, more_in, no_firsts, partial_of, pass_of, place_of, put_from, returned_at, row_of, rows_from, seats_from, some_reserved, taken_at, weight_at, with_first_if, with_first_row, with_firsts, with_second_if, with_second_row, with_seconds}
 use Rattle.us_split.proofs.AskingLaws.{AreIdle, asked_in, askers_claim_all, first_idle, first_same, limits_agree, turns_pass}
 use Rattle.us_split.proofs.ChannelPlanLemmas.{absent, claimed_turn, ids, later, not_first}
 use Rattle.us_split.proofs.ChannelShareLemmas.{first_place, later_place}
 use Rattle.us_split.proofs.ClaimLemmas.{all_at, flow_of}
 use Rattle.us_split.proofs.OnePassLaws.{IsNone, NothingFirst, limit-at, none_in_first, nothing_first, one_pass}
-use Rattle.us_split.proofs.PartialPlanLemmas.{idle_budgets}
+use Rattle.us_split.proofs.PartialPlanLemmas.{after_with, idle_budgets}
 use Rattle.us_split.proofs.PlanLawLemmas.{idle-budgets}
-use Rattle.us_split.proofs.RowPlanLemmas.{askers_inside, claims_of_more, claims_of_rows, cleared_channels, cleared_is, idle_claims_by, some_at}
+use Rattle.us_split.proofs.RowPlanLemmas.{askers_inside, channels_of_turn, claims_of_more, claims_of_rows, cleared_channels, cleared_is, idle_claims_by, some_at}
 use Rattle.us_split.proofs.SecondPassLemmas.{IsHeld, held-after, held-given}
 use Rattle.us_split.proofs.ShareLemmas.{IsBudget}
 use Rattle.us_split.proofs.TurnRowLemmas.{ids_apart, plan_stands, put_claimed, row_there, stands, weights_there}
@@ -431,16 +431,6 @@ claims_given : (first : Planned) (f : Channel → List Claim) (cs : List Channel
 claims_given first f [] = refl
 claims_given first f (c ∷ cs) = ap (λ xs. (c.claims ++ f c.channel) ∷ xs) (claims_given first f cs)
 
-budgets_with : (place : ℕ) (planned : Planned) (cs : List ChannelPlan) →
-    map budget_in (map (with_turn place planned) cs) ≡ lowered planned (map budget_in cs)
-budgets_with place planned [] = refl
-budgets_with place planned (c ∷ cs) = ap (λ bs. budget_in (with_turn place planned c) ∷ bs) (budgets_with place planned cs)
-
-channels_with : (place : ℕ) (planned : Planned) (cs : List ChannelPlan) →
-    map (λ c. c.channel) (map (with_turn place planned) cs) ≡ map (λ c. c.channel) cs
-channels_with place planned [] = refl
-channels_with place planned (c ∷ cs) = ap (λ xs. c.channel ∷ xs) (channels_with place planned cs)
-
 -- what a turn with all its shares leaves
 abbrev second_further : ℕ → Planned → List ℕ → PartialPlan → PartialPlan
 second_further place first more partial =
@@ -452,7 +442,7 @@ ledger_both : (place : ℕ) (first : Planned) (more : List ℕ) (partial : Parti
 unfolding after_both
 ledger_both place first more partial =
     ap (λ bs. let l : Ledger = record { budgets = bs; allowances = allowed_less (record { turn = first.turn; shares = more }) partial.allowances } in l)
-    (budgets_with place (with_more first more) (map (given_to first) partial.channels) ∙
+    (after_with place (with_more first more) (map (given_to first) partial.channels) ∙
     ap (lowered (with_more first more)) (budgets_given first partial.channels))
 
 second_step : (t : Tables) (outstanding : List ℕ) (place : ℕ) (first : Planned) (partial : PartialPlan) → AreTables t →
@@ -543,11 +533,11 @@ seconds_of_rows t outstanding lawful (place ∷ places) (first ∷ plan) partial
     second_step t outstanding place first partial lawful is same (held_first first plan partial.channels held) in
     let still : AllByRecursion (IsHeld plan) (map budget_in next.channels) =
     subst (AllByRecursion (IsHeld plan))
-    (sym (budgets_with place both given ∙ ap (lowered both) (budgets_given first partial.channels)))
+    (sym (after_with place both given ∙ ap (lowered both) (budgets_given first partial.channels)))
     (held-after first more plan (map budget_in partial.channels) held) in
     ap (λ p. map (λ c. c.claims) (with_seconds rows outstanding places shares p).channels) step ∙
     seconds_of_rows t outstanding lawful places plan next placed.1
-    (channels_with place both given ∙ channels_given first partial.channels ∙ same) still ∙
+    (channels_of_turn place both given ∙ channels_given first partial.channels ∙ same) still ∙
     ap (λ l. map (λ c. c.claims ++ claims_at c.channel places (second_of outstanding l plan)) next.channels)
     (ledger_both place first more partial) ∙
     claims_of_more place both places rest given ∙

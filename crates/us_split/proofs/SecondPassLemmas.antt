@@ -10,8 +10,7 @@ use Rattle.std.proofs.lemmas.List.Quantifiers.{position-Some}
 use Rattle.std.proofs.lemmas.List.Sums.{sum_by-cons}
 use Rattle.us_slots.specs.Times.{minislot_ticks}
 use Rattle.us_flows.specs.Tables.{FlowTable, header_bytes}
-use Rattle.us_flows.specs.Clusters.{Turn}
-use Rattle.us_split.specs.Plans.{Budget, Ledger, Planned, budget_of, weight, weights, at_most, share_at, share_cost, cost_on, lowered, allowed_less, after_turn, after_plan, flow_bytes, given_back, plus, minus, more_shares, with_more, after_both, second_of}
+use Rattle.us_split.specs.Plans.{Budget, Ledger, Planned, budget_of, weight, weights, at_most, share_at, share_cost, cost_on, lowered, after_turn, after_plan, flow_bytes, given_back, plus, minus, more_shares, with_more, after_both, second_of}
 use Rattle.us_split.specs.PlanLaws.{AreBursts}
 use Rattle.us_split.proofs.DivisionLemmas.{divided-sum, divided-within, divided-length, sum-cons}
 use Rattle.us_split.proofs.ShareLemmas.{IsBudget, found_budget, fits_burst, fits_budget}
@@ -97,8 +96,8 @@ held-given first plan [] all = tt
 held-given first plan (b ∷ budgets) all =
     let sums = sum_by-cons (λ planned. cost_on b.channel planned) first plan in (
       fewer_slots
-      (record { channel = b.channel; slots = b.slots + sum_by (λ planned. cost_on b.channel planned) (first ∷ plan) })
-      (b.slots + cost_on b.channel first) all.0 (omega (arith, sums)),
+          (record { channel = b.channel; slots = b.slots + sum_by (λ planned. cost_on b.channel planned) (first ∷ plan) })
+          (b.slots + cost_on b.channel first) all.0 (omega (arith, sums)),
       held-given first plan budgets all.1,
     )
 
@@ -109,10 +108,10 @@ held-after first more plan [] all = tt
 held-after first more plan (b ∷ budgets) all =
     let sums = sum_by-cons (λ planned. cost_on b.channel planned) first plan in (
       fewer_slots
-      (record { channel = b.channel; slots = b.slots + sum_by (λ planned. cost_on b.channel planned) (first ∷ plan) })
-      (b.slots + cost_on b.channel first - cost_on b.channel (with_more first more)
-      + sum_by (λ planned. cost_on b.channel planned) plan)
-      all.0 (omega (arith, sums)),
+          (record { channel = b.channel; slots = b.slots + sum_by (λ planned. cost_on b.channel planned) (first ∷ plan) })
+          (b.slots + cost_on b.channel first - cost_on b.channel (with_more first more)
+          + sum_by (λ planned. cost_on b.channel planned) plan)
+          all.0 (omega (arith, sums)),
       held-after first more plan budgets all.1,
     )
 
@@ -273,7 +272,7 @@ second_of-bursts outstanding ledger (first ∷ plan) held bursts long =
     let more : List ℕ = more_shares outstanding ledger first in (
       both-bursts outstanding ledger first (held-given first plan ledger.budgets held) bursts.0 long.0,
       second_of-bursts outstanding (after_both ledger first more) plan (held-after first more plan ledger.budgets held)
-      bursts.1 long.1,
+          bursts.1 long.1,
     )
 
 -- What all of them cost on a channel is within its budget and what the first shares cost.

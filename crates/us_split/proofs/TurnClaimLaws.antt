@@ -7,7 +7,7 @@ use Rattle.std.proofs.lemmas.List.Sums.{sum_by-append, sum_by-cons}
 use Rattle.us_slots.specs.Bursts.{grant_cost}
 use Rattle.us_flows.specs.declared.channels.Channel.{Channel}
 use Rattle.us_flows.specs.Tables.{Tables, header_bytes}
-use Rattle.us_flows.specs.Clusters.{Turn, IsTurnIn, has_sid, turns_of}
+use Rattle.us_flows.specs.Clusters.{Turn, IsTurnIn, has_sid}
 use Rattle.us_flows.specs.Lawful.{AreTables, Between}
 use Rattle.us_flows.proofs.TurnLaws.{turns_of-once, turns_of-turns}
 use Rattle.us_flows.proofs.TurnLemmas.{all-append}

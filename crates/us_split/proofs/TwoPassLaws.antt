@@ -1,5 +1,5 @@
 -- What holds of every plan of a round.
-use Rattle.std.proofs.Common.{◌≡◌, ◌≢◌, ℕ, ◌+◌, ◌-◌, ◌*◌, ◌==◌, ◌<◌, ◌≤◌, List, [], ◌∷◌, length, map, zip, filter, count_by, Option, Some, None, slice_get, option_map, refl, sym, ap, ◌∙◌, subst, eq-eqb, ne_eqb, arith}
+use Rattle.std.proofs.Common.{◌≡◌, ◌≢◌, ℕ, ◌+◌, ◌-◌, ◌*◌, ◌==◌, ◌<◌, ◌≤◌, List, [], ◌∷◌, length, map, filter, count_by, Option, Some, None, slice_get, option_map, refl, sym, ap, ◌∙◌, subst, eq-eqb, ne_eqb, arith}
 use Rattle.std.specs.Prelude.{sum, sum_by, slice_index, slice_index_or}
 use Rattle.std.specs.List.{AllByRecursion}
 use Rattle.std.proofs.lemmas.Nat.{mul-le}
@@ -9,7 +9,7 @@ use Rattle.us_flows.specs.Tables.{Tables}
 use Rattle.us_flows.specs.Clusters.{Turn, turns_of}
 use Rattle.us_flows.specs.Lawful.{AreApart, AreTables}
 use Rattle.us_flows.proofs.TurnLaws.{turns_of-once}
-use Rattle.us_split.specs.Plans.{IsIdle, Budget, Ledger, Planned, at_most, budget_of, cost_on, after_turn, after_plan, plan_of, plan_for, ledger_of, first_limits, first_of, second_of, two_passes, flow_bytes, reserved_for}
+use Rattle.us_split.specs.Plans.{IsIdle, Budget, Ledger, Planned, at_most, budget_of, cost_on, after_turn, after_plan, plan_of, plan_for, ledger_of, first_limits, first_of, two_passes, flow_bytes, reserved_for}
 use Rattle.us_split.specs.PlanLaws.{AreBursts, Within, AreWithinReserves, IsLawfulPlan, planned_bytes}
 use Rattle.us_split.proofs.OnePassLaws.{limit-at}
 use Rattle.us_split.proofs.PlanLawLemmas.{asked_by_cluster, at_most-le, at_most-within, idle_budgets, idle-budgets, idle-found, plan_of-allowed, plan_of-asked, plan_of-bursts, plan_of-room, plan_of-turns, planned_of}
@@ -121,7 +121,7 @@ module _ (outstanding : List ℕ) (ledger : Ledger) (reserves : List ℕ) (turns
       omega (
         arith,
         plan_of-allowed outstanding limited turns place (at_most allowance (slice_index reserves place))
-        (limit-at ledger.allowances reserves place within),
+            (limit-at ledger.allowances reserves place within),
         at_most-le allowance (slice_index reserves place),
       )
 

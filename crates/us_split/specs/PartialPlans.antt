@@ -124,12 +124,6 @@ planned_further place planned partial = record {
 abbrev pub planned_in : List ℕ → PartialPlan → Turn → Planned
 planned_in outstanding partial turn = record { turn = turn; shares = shares_of outstanding (ledger_in partial) turn }
 
--- after all turns, of which the first has this place
-unfoldable pub planned_through : List ℕ → ℕ → PartialPlan → List Turn → PartialPlan
-planned_through outstanding place partial [] = partial
-planned_through outstanding place partial (turn ∷ turns) =
-    planned_through outstanding (place + 1) (planned_further place (planned_in outstanding partial turn) partial) turns
-
 -- Costs without claims.
 
 -- the most minislots that a MAP of a channel can have

@@ -121,7 +121,12 @@ fn give_back_one(channels: &mut [ChannelPlan], header: u8, seat: Seat, share: u3
 }
 
 /// Gives back what shares cost at these seats, one after another.
-pub(crate) fn give_back_all(channels: &mut [ChannelPlan], header: u8, seats: &[Seat], shares: &[u32])
+pub(crate) fn give_back_all(
+    channels: &mut [ChannelPlan],
+    header: u8,
+    seats: &[Seat],
+    shares: &[u32],
+)
     requires inside { AllByRecursion (λ seat. seat.place < length channels.old) seats.now }
     requires one_each { length shares.now ≡ length seats.now }
     requires bursts { (k : ℕ) → slice_index shares.now k + header ≤ max_burst_bytes }

@@ -40,8 +40,8 @@ mod row_plans;
 mod planner;
 
 // The plan of a round by itself, and how it is made.
-mod plans;
 mod planning;
+mod plans;
 
 // Laws of plans, of claims and of those who ask.
 mod laws;
@@ -49,9 +49,7 @@ mod laws;
 pub use asking::Askers;
 pub use claims::{Claim, Claimant};
 pub use divisions::{MAX_CHANNELS_OF_FLOW, divide};
-pub use laws::{
-    askers_claim, claims_are_of_turns, clusters_claim_once, one_pass_does, turns_pass,
-};
+pub use laws::{askers_claim, claims_are_of_turns, clusters_claim_once, one_pass_does, turns_pass};
 pub use planner::Planner;
 pub use planning::plan;
 pub use plans::Plan;

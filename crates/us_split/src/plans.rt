@@ -1,4 +1,4 @@
-ghost use Rattle.std.specs.Prelude.{◌≡◌, List, [], map, find, slice_index_or};
+ghost use Rattle.std.specs.Prelude.{◌≡◌, [], map, find, slice_index, slice_index_or};
 ghost use Rattle.us_split.specs.Claims.{is_at, share_of};
 
 use crate::channel_plans::ChannelPlan;

@@ -141,7 +141,10 @@ fn plan_first(
     ensures kept { map (λ c. c.channel) channels.new ≡ map (λ c. c.channel) channels.old }
     ensures flows { length allowances.new ≡ length allowances.old }
 {
-    let demand = demand_of(allowances, row.flow(), outstanding).min(reserve_of(reserves, row.flow()));
+    let demand = demand_of(allowances, row.flow(), outstanding).min(reserve_of(
+        reserves,
+        row.flow(),
+    ));
     if demand == 0 {
         return row.no_shares();
     }
@@ -177,7 +180,13 @@ fn plan_firsts(
     firsts.clear();
     for place in askers {
         let row = &rows[usize::from(*place)];
-        let shares = plan_first(row, outstanding[row.cluster()], channels, allowances, reserves);
+        let shares = plan_first(
+            row,
+            outstanding[row.cluster()],
+            channels,
+            allowances,
+            reserves,
+        );
         firsts.push(shares)?;
     }
     Ok(())
@@ -243,7 +252,13 @@ fn plan_seconds(
 {
     for i in 0..askers.len() {
         let row = &rows[usize::from(askers[i])];
-        plan_second(row, &firsts[i], outstanding[row.cluster()], channels, allowances)?;
+        plan_second(
+            row,
+            &firsts[i],
+            outstanding[row.cluster()],
+            channels,
+            allowances,
+        )?;
     }
     Ok(())
 }
@@ -273,7 +288,15 @@ pub(crate) fn plan_passes(
         plan_rows(rows, channels, askers, outstanding, allowances)?;
         return Ok(());
     }
-    plan_firsts(rows, channels, askers, outstanding, allowances, reserves, firsts)?;
+    plan_firsts(
+        rows,
+        channels,
+        askers,
+        outstanding,
+        allowances,
+        reserves,
+        firsts,
+    )?;
     plan_seconds(rows, firsts, channels, askers, outstanding, allowances)?;
     Ok(())
 }

@@ -1,5 +1,4 @@
 use Rattle.us_split.proofs.AskingLaws.{turns_pass}
-use Rattle.us_split.proofs.RowTwoPassLemmas.{given_turn, taken_turn}
 use Rattle.us_split.proofs.laws.turns_pass.Goals as goal
 
 pub returns : goal.returns

@@ -1,9 +1,7 @@
-use Rattle.std.proofs.Common.{◌≡◌, List, length, map, ap, ap₂, ◌∙◌, arith}
+use Rattle.std.proofs.Common.{◌≡◌, length, map, ap, ap₂, ◌∙◌, arith}
 use Rattle.std.specs.Prelude.{slice_index}
 use Rattle.std.proofs.lemmas.List.{length-map}
 use Rattle.us_split.specs.declared.turn_rows.Seat.{Seat}
-use Rattle.us_split.specs.Divisions.{divided}
-use Rattle.us_split.specs.Plans.{minus}
 use Rattle.us_split.specs.TurnRows.{weight_at}
 use Rattle.us_split.proofs.DivisionLemmas.{divided-within, divided-length}
 use Rattle.us_split.proofs.PartialPlanLemmas.{bursts_all}

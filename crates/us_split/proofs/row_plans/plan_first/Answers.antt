@@ -1,4 +1,4 @@
-use Rattle.std.proofs.Common.{◌≡◌, None, min, ap, ap₂, ◌∙◌, sym}
+use Rattle.std.proofs.Common.{None, min, ap, ap₂, ◌∙◌, sym}
 use Rattle.std.specs.Prelude.{slice_index, slice_index_or}
 use Rattle.us_split.specs.Plans.{at_most}
 use Rattle.us_split.proofs.RowPassLemmas.{nothing_first}

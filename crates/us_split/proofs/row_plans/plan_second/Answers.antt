@@ -1,8 +1,8 @@
-use Rattle.std.proofs.Common.{◌≡◌, ℕ, ◌-◌, length, set, option_map, None, ap, ap₂, ◌∙◌, sym, arith}
+use Rattle.std.proofs.Common.{ℕ, ◌-◌, length, set, option_map, None, ap, ap₂, ◌∙◌, sym, arith}
 use Rattle.std.specs.Prelude.{slice_index, slice_index_or}
 use Rattle.us_split.specs.Plans.{at_most}
 use Rattle.us_split.specs.PartialPlans.{Asker}
-use Rattle.us_split.specs.TurnRows.{more_at, put_from, returned_at}
+use Rattle.us_split.specs.TurnRows.{put_from, returned_at}
 use Rattle.us_split.proofs.RowPassLemmas.{second_planned}
 use Rattle.us_split.proofs.SecondPassLemmas.{plus-at, plus-length}
 use Rattle.us_split.proofs.row_plans.plan_second.Goals as goal

@@ -1,4 +1,4 @@
-use Rattle.std.proofs.Common.{◌≡◌, ℕ, ◌+◌, ◌||◌, Bool, drop, ap, ◌∙◌, sym, lt-ltb, le-ltb}
+use Rattle.std.proofs.Common.{ℕ, ◌+◌, ◌||◌, Bool, drop, ap, ◌∙◌, sym, lt-ltb, le-ltb}
 use Rattle.us_split.specs.TurnRows.{some_reserved}
 use Rattle.us_split.proofs.RowPassLemmas.{reserved_at}
 use Rattle.us_split.proofs.row_plans.some_reserved.Goals as goal
