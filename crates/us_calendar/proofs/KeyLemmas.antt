@@ -1,5 +1,5 @@
 -- What is noted: numbers that rise.
-use Rattle.std.proofs.Common.{◌≡◌, ℕ, ◌+◌, ◌-◌, ◌<◌, ◌≤◌, ◌⊎◌, List, [], ◌∷◌, ◌++◌, length, get_or, Ok, Err, refl, ap, sym, ◌∙◌, inl, inr, subst, arith}
+use Rattle.std.proofs.Common.{◌≡◌, ℕ, ◌+◌, ◌-◌, ◌<◌, ◌≤◌, ◌⊎◌, List, [], length, get_or, Ok, Err, refl, ap, sym, ◌∙◌, inl, inr, subst, arith}
 use Rattle.std.specs.List.{insert}
 use Rattle.std.specs.List.Sorted.{IsBinarySearchResult}
 use Rattle.std.specs.Ordering.{nat_cmp}
@@ -49,10 +49,6 @@ not_found keys key at rising answer =
         | inr high ↦ let above = is.2 noted.0 high noted.2 in absurd (omega (arith, above, noted.3))
       ],
     )
-
-insert_last : (old : List ℕ) (key : ℕ) → insert old (length old) key ≡ old ++ key ∷ []
-insert_last [] key = refl
-insert_last (x ∷ xs) key = ap (λ more. x ∷ more) (insert_last xs key)
 
 -- a number that comes between those below it and those above it
 module _ (old : List ℕ) (at key : ℕ) (rising : IsRising old) (parted : IsParted old at key)
@@ -148,15 +144,42 @@ module _ (old : List ℕ) (at key : ℕ) (rising : IsRising old) (parted : IsPar
     )
   ]
 
--- a number above all others comes last
-pub last_noted : (old : List ℕ) (key : ℕ) → IsParted old (length old) key → IsNotedIn old key (old ++ key ∷ [])
-last_noted old key parted =
+-- where the first ones are those that are not above a number: it is the last of them,
+pub stands_there : (old : List ℕ) (key at : ℕ) → IsParted old at (key + 1) → 0 < at → get_or old (at - 1) 0 ≡ key →
+    IsNotedIn old key old
+stands_there old key at parted some is =
+    inl ((at - 1, omega arith, omega (arith, some, parted.inside), is), refl)
+
+-- or comes behind them
+pub fits_there : (old : List ℕ) (key at : ℕ) → IsRising old → IsParted old at (key + 1) →
+    (0 < at → get_or old (at - 1) 0 ≡ key → ⊥) → IsNotedIn old key (insert old at key)
+fits_there old key at rising parted differs =
     inr (
-      length old,
-      parted,
-      sym (insert_last old key),
-      λ noted. let below = parted.below noted.0 noted.2 in absurd (omega (arith, below, noted.3)),
+      at,
+      record { inside = parted.inside; below = below; above = λ i high inside. let is = parted.above i high inside in omega (arith, is) },
+      refl,
+      λ noted. elim (cases_lt noted.0 at) [
+        | inl low ↦ let is = below noted.0 low in absurd (omega (arith, is, noted.3))
+        | inr high ↦ let is = parted.above noted.0 high noted.2 in absurd (omega (arith, is, noted.3))
+      ],
     )
+  where
+    last : 0 < at → get_or old (at - 1) 0 < key
+    last some =
+        let is = parted.below (at - 1) (omega (arith, some)) in
+        let other = differs some in
+        omega (arith, is, other)
+
+    below : (i : ℕ) → i < at → get_or old i 0 < key
+    below i low = elim (cases_lt i (at - 1)) [
+      | inl lower ↦
+          let less = rising i (at - 1) lower (omega (arith, low, parted.inside)) in
+          let is = last (omega (arith, low)) in
+          omega (arith, less, is)
+      | inr high ↦
+          let here : i ≡ at - 1 = omega (arith, low, high) in
+          rw here (last (omega (arith, low)))
+    ]
 
 -- what a list has once a number is noted in it
 pub record Put (old : List ℕ) (key : ℕ) (new : List ℕ) : Type 0 where

@@ -1,5 +1,5 @@
-ghost use Rattle.std.specs.Prelude.{◌≡◌, ℕ, ◌<◌, ◌≤◌, List, [], length, drop, slice_index, OnOk};
-ghost use Rattle.std.specs.Bool.{OnTrue};
+ghost use Rattle.std.specs.Prelude.{◌≡◌, ℕ, ◌+◌, ◌-◌, ◌<◌, ◌≤◌, List, [], length, drop, slice_index, OnErr, OnOk, vec_len};
+ghost use Rattle.std.specs.List.{insert, remove};
 ghost use Rattle.us_calendar.specs.Agendas.{IsRising, IsNotedIn, IsParted};
 
 use std::alloc::Global;
@@ -69,31 +69,12 @@ impl Rising {
     pub(crate) fn note(&mut self, number: u64) -> Result<(), NoMemory>
         ensures { OnOk result (IsNotedIn self.old number self.new) }
     {
-        // mostly it is above all others
-        if self.is_below(number) {
-            self.numbers.push(number)?;
+        let at = count_to(&self.numbers, number);
+        if at > 0 && self.numbers[at - 1] == number {
             return Ok(());
         }
-        self.put(number)?;
+        put_at(&mut self.numbers, at, number)?;
         Ok(())
-    }
-
-    /// Puts a number among the others, wherever it comes.
-    fn put(&mut self, number: u64) -> Result<(), NoMemory>
-        ensures { OnOk result (IsNotedIn self.old number self.new) }
-    {
-        if let Err(at) = self.numbers.binary_search(&number) {
-            self.numbers.insert(at, number)?;
-        }
-        Ok(())
-    }
-
-    /// Whether all are below a number.
-    fn is_below(&self, number: u64) -> bool
-        ensures { OnTrue result (IsParted self.now (length self.now) number) }
-    {
-        let len = self.numbers.len();
-        len == 0 || self.numbers[len - 1] < number
     }
 
     /// Takes the first ones away.
@@ -114,4 +95,43 @@ impl Rising {
     {
         self.numbers.clear();
     }
+}
+
+/// How many numbers are not above this one: the first ones. Mostly few are above it, so the last ones are looked at first.
+fn count_to(numbers: &[u64], number: u64) -> usize
+    requires { IsRising numbers.now }
+    ensures { IsParted numbers.now result (number + 1) }
+{
+    let mut at = numbers.len();
+    while at > 0 {
+        if numbers[at - 1] <= number {
+            break;
+        }
+        at -= 1;
+    }
+    at
+}
+
+/// Gives the last number up, and puts one at a place: those from there on move one further.
+fn put_for_last(numbers: &mut [u64], place: usize, number: u64)
+    requires { place < length numbers.old }
+    ensures { numbers.new ≡ insert (remove numbers.old (length numbers.old - 1)) place number }
+{
+    let mut at = numbers.len() - 1;
+    while at > place {
+        numbers[at] = numbers[at - 1];
+        at -= 1;
+    }
+    numbers[at] = number;
+}
+
+/// Puts a number at a place, and moves those from there on one further.
+fn put_at(numbers: &mut Vec<u64>, place: usize, number: u64) -> Result<(), NoMemory>
+    requires { place ≤ vec_len numbers.old }
+    ensures put { OnOk result (numbers.new.items ≡ insert numbers.old.items place number) }
+    ensures refused { OnErr result (numbers.new.items ≡ numbers.old.items) }
+{
+    numbers.push(number)?;
+    put_for_last(numbers.as_mut_slice(), place, number);
+    Ok(())
 }

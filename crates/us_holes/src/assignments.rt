@@ -1,4 +1,5 @@
-ghost use Rattle.std.specs.Prelude.{◌≡◌, ◌+◌, ◌<◌, ◌≤◌, ◌++◌, vec_len, vec_capacity};
+ghost use Rattle.std.specs.Prelude.{◌≡◌, ◌+◌, ◌-◌, ◌<◌, ◌≤◌, ◌++◌, length, vec_len, vec_capacity};
+ghost use Rattle.std.specs.List.{remove};
 ghost use Rattle.us_holes.specs.Boards as spec;
 ghost use Rattle.us_holes.specs.Lists as lists;
 ghost use Rattle.us_holes.specs.Runs as runs;
@@ -80,18 +81,13 @@ pub(crate) fn push_some(assigned: &mut Vec<Assignment>, start: u32, slots: u32, 
     }
 }
 
-/// Puts an assignment among the others, by its start: from behind, before all that begin later. It needs no memory.
-pub(crate) fn put(assigned: &mut Vec<Assignment>, one: Assignment)
-    requires room { vec_len assigned.old < vec_capacity assigned.old }
-    requires order { runs.InOrder 0 assigned.old.items spec.max_minislots }
-    ensures items { assigned.new.items ≡ lists.put one assigned.old.items }
-    ensures capacity { vec_capacity assigned.old ≤ vec_capacity assigned.new }
+/// Gives the last assignment up, and puts one among the others, by its start: from behind, before all that begin later.
+fn put_for_last(assigned: &mut [Assignment], one: Assignment)
+    requires some { 0 < length assigned.old }
+    requires order { runs.InOrder 0 (remove assigned.old (length assigned.old - 1)) spec.max_minislots }
+    ensures { assigned.new ≡ lists.put one (remove assigned.old (length assigned.old - 1)) }
 {
-    let mut at = assigned.len();
-    match assigned.push(one) {
-        Ok(()) => {}
-        Err(_) => unreachable!(),
-    }
+    let mut at = assigned.len() - 1;
     while at > 0 {
         let other = assigned[at - 1];
         if other.start() <= one.start() {
@@ -101,4 +97,15 @@ pub(crate) fn put(assigned: &mut Vec<Assignment>, one: Assignment)
         at -= 1;
     }
     assigned[at] = one;
+}
+
+/// Puts an assignment among the others, by its start. It needs no memory.
+pub(crate) fn put(assigned: &mut Vec<Assignment>, one: Assignment)
+    requires room { vec_len assigned.old < vec_capacity assigned.old }
+    requires order { runs.InOrder 0 assigned.old.items spec.max_minislots }
+    ensures items { assigned.new.items ≡ lists.put one assigned.old.items }
+    ensures capacity { vec_capacity assigned.old ≤ vec_capacity assigned.new }
+{
+    assigned.push_reserved(one);
+    put_for_last(assigned.as_mut_slice(), one);
 }

@@ -1,5 +1,5 @@
 ghost use Rattle.std.specs.Prelude.{◌≡◌, ◌+◌, ◌-◌, ◌<◌, ◌≤◌, max, drop, length, slice_index_or, IfOk, vec_len, vec_capacity};
-ghost use Rattle.std.specs.List.{insert};
+ghost use Rattle.std.specs.List.{insert, remove};
 ghost use Rattle.us_holes.specs.Boards as spec;
 ghost use Rattle.us_holes.specs.Lists as lists;
 
@@ -128,6 +128,20 @@ pub(crate) fn earliest(holes: &[Hole], from: u32, to: u32, slots: u32) -> Option
     None
 }
 
+/// Gives the last hole up, and puts one at a place: those from there on move one further.
+fn put_for_last(holes: &mut [Hole], place: usize, hole: Hole)
+    requires { place < length holes.old }
+    ensures { holes.new ≡ insert (remove holes.old (length holes.old - 1)) place hole }
+{
+    let mut at = holes.len() - 1;
+    while at > place {
+        let other = holes[at - 1];
+        holes[at] = other;
+        at -= 1;
+    }
+    holes[at] = hole;
+}
+
 /// Puts a hole at a place, and moves those from there on one further. It needs no memory.
 pub(crate) fn put_at(holes: &mut Vec<Hole>, place: usize, hole: Hole)
     requires place { place ≤ vec_len holes.old }
@@ -135,10 +149,9 @@ pub(crate) fn put_at(holes: &mut Vec<Hole>, place: usize, hole: Hole)
     ensures items { holes.new.items ≡ insert holes.old.items place hole }
     ensures capacity { vec_capacity holes.old ≤ vec_capacity holes.new }
 {
-    match holes.insert(place, hole) {
-        Ok(()) => {}
-        Err(_) => unreachable!(),
-    }
+    // mostly few stand behind it: to move them one by one costs less than to have a block of memory moved
+    holes.push_reserved(hole);
+    put_for_last(holes.as_mut_slice(), place, hole);
 }
 
 /// Takes the `slots` minislots from `start` on out of the hole at a place. It needs no memory.

@@ -15,11 +15,11 @@ use Rattle.us_output.specs.Outputs.{is_granted as settled_granted}
 use Rattle.us_output.specs.Files.{is_granted, is_missed, lines, round_lines}
 use Rattle.us_output.specs.Leftovers.{AreInside}
 use Rattle.us_output.specs.Lines.{text_of}
-use Rattle.us_output.specs.Orders.{line_row, missed_of, ordered_lines}
+use Rattle.us_output.specs.Orders.{grant_line, in_order, line_row, missed_of, ordered_lines, settled_lines}
 use Rattle.us_output.specs.declared.orders.GrantLine.{GrantLine}
 use Rattle.us_output.specs.declared.rows.Row.{Row}
 use Rattle.us_output.proofs.LineLemmas.{both_parts, lines_of}
-use Rattle.us_output.proofs.OrderLemmas.{missed_rows_are, rows_are}
+use Rattle.us_output.proofs.OrderLemmas.{in_order-none, missed_rows_are, rows_are}
 
 pub lines_append : (first second : List Row) → lines (first ++ second) ≡ lines first ++ lines second
 unfolding lines
@@ -115,6 +115,23 @@ counted round b inside =
       whole = all;
       requested = omega (arith, all, parts, one, same, fewer, both_parts settled_granted b.settled);
     }
+
+-- A channel of which nothing was settled and granted has no line.
+empty : {X : Type 0} (xs : List X) → length xs ≡ 0 → xs ≡ []
+empty [] none = refl
+empty (x ∷ xs) none = absurd (omega (arith, none))
+
+pub quiet_order : (b : Built) → length b.settled ≡ 0 → length b.grants ≡ 0 → ordered_lines b ≡ []
+quiet_order b settled grants =
+    ap₂ (λ s g. in_order (λ (line : GrantLine). line.start) (length b.board.cells) (flat_map settled_lines s ++ map grant_line g))
+    (empty b.settled settled) (empty b.grants grants) ∙
+    in_order-none (λ (line : GrantLine). line.start) (length b.board.cells)
+
+pub quiet_rows : (round : ℕ) (b : Built) → length b.settled ≡ 0 → length b.grants ≡ 0 → rows_on round b ≡ []
+quiet_rows round b settled grants =
+    sym (rows_are round b) ∙
+    ap₂ (λ lines s. map (line_row round b.channel) lines ++ missed_of round b.channel s)
+    (quiet_order b settled grants) (empty b.settled settled)
 
 -- Channel after channel.
 

@@ -1,4 +1,5 @@
 ghost use Rattle.std.specs.Prelude.{◌≡◌, ◌+◌, ◌^◌, ◌<◌, ◌≤◌, [], ◌∷◌, ◌++◌, length, drop, flat_map, map, count_by, IfOk, OnOk};
+ghost use Rattle.std.specs.Bool.{OnTrue};
 ghost use Rattle.std.specs.List.{AllByRecursion};
 ghost use Rattle.us_output.specs.Files.{lines, is_granted, is_missed};
 ghost use Rattle.us_output.specs.Leftovers.{AreInside};
@@ -66,7 +67,8 @@ fn push_part(
     Ok(())
 }
 
-/// Adds the lines of a channel, and answers how many of them are of grants. Lines that were written ahead are copied.
+/// Adds the lines of a channel, and answers how many of them are of grants. Lines that were written ahead are copied. In many
+/// rounds there are none, and then nothing is called.
 fn push_written(
     text: &mut Vec<u8>,
     scratch: &mut Scratch,
@@ -78,13 +80,24 @@ fn push_written(
     ensures fields { OnOk result (AllByRecursion HasFields (spec.rows_on round part.now)) }
     ensures granted { IfOk result (λ granted. granted ≡ length (ordered_lines part.now)) }
 {
+    let channel = part.channel_round();
+    if is_quiet(channel) {
+        return Ok(0);
+    }
     if let Some(ahead) = part.ahead(round) {
         text.extend_from_slice(&ahead.lines)?;
         return Ok(ahead.ordered.len());
     }
     let Scratch { lines, line, .. } = scratch;
-    push_all(text, lines, line, round, part.channel_round())?;
+    push_all(text, lines, line, round, channel)?;
     Ok(lines.len())
+}
+
+/// Whether nothing was settled or granted on a channel, so that it has no line.
+fn is_quiet(part: &ChannelRound) -> bool
+    ensures { OnTrue result ((length part.now.settled ≡ 0) × (length part.now.grants ≡ 0)) }
+{
+    part.settled().is_empty() && part.grants().is_empty()
 }
 
 /// Adds the lines of a channel. In `ordered` are left those of grants.
@@ -116,7 +129,8 @@ fn missed_lines(part: &ChannelRound, granted: usize) -> usize
     part.settled().len() - (granted - part.grants().len())
 }
 
-/// Adds G lines.
+/// Adds G lines. Where there are none, their front isn't put together.
+#[tactic(auto, unfolding(crate::specs::Files::lines))]
 fn push_all_granted(
     text: &mut Vec<u8>,
     line: &mut [u8; LINE_BYTES],
@@ -128,6 +142,9 @@ fn push_all_granted(
         (text.new.items ≡ text.old.items ++ lines (map (line_row round channel.now) granted.now)) }
     ensures fields { OnOk result (AllByRecursion HasFields (map (line_row round channel.now) granted.now)) }
 {
+    if granted.is_empty() {
+        return Ok(());
+    }
     let (front, begin) = front_of(line, round, channel.id);
     push_behind_front(text, line, &front, begin, round, channel, granted)
 }
