@@ -30,6 +30,7 @@ blank = record {
       priority = 0;
       rate = 0;
       burst = 0;
+      min_rate = 0;
       unit = 0;
       headers = false;
       start_us = 0;

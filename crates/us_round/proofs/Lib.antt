@@ -7,6 +7,7 @@ pub mod PhaseLemmas
 pub mod BucketLemmas
 pub mod AskingLemmas
 pub mod CreditingLemmas
+pub mod ReserveLemmas
 pub mod CoreLemmas
 pub mod SoundLemmas
 pub mod ScheduleLaws
