@@ -135,6 +135,25 @@ fn straight_as_plain(rt: HostRuntime) -> Result<(), Fail> {
     Ok(())
 }
 
+/// Whether the worked configuration's channel, once it wrote ahead in round 0, has texts of that round, and of the next.
+fn told_ahead(alloc: Global) -> Result<Option<(bool, bool)>, NoMemory> {
+    let Ok(config) = config_of(alloc) else {
+        return Err(NoMemory);
+    };
+    let Some(mut built) = built_of(alloc, &config)? else {
+        return Ok(None);
+    };
+    built.write_ahead(0)?;
+    Ok(Some((built.ahead(0).is_some(), built.ahead(1).is_some())))
+}
+
+/// With ample memory what can be written ahead is: no clause says so.
+#[test]
+fn written_ahead(rt: HostRuntime) -> Result<(), Fail> {
+    assert_eq!(&rt; told_ahead(rt.alloc())?, Some((true, false)));
+    Ok(())
+}
+
 /// Run by `tools/refuse-memory` too, where each allocation is refused in turn: texts are whole, or there are none.
 #[test]
 fn refused_memory(rt: HostRuntime) {
