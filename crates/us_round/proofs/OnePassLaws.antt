@@ -58,7 +58,7 @@ all_once s (cut ∷ cuts) is none long =
     let left : NoRates (begun s cut).reserves = none_brought s s.reserves none in (
       once (begun s cut) now left,
       all_once (round_of s cut).state cuts (next_state (begun s cut) now)
-      (none_left (reserved_in (begun s cut)) 0 (begun s cut).reserves left) long.1,
+          (none_left (reserved_in (begun s cut)) 0 (begun s cut).reserves left) long.1,
     )
 
 pub one_pass_does : OnePassDoes
