@@ -213,7 +213,7 @@ Units; docs/FORMATS.md has each key and field:
   bytes             burst, unit, grant_bytes, fec_k, 2 * fec_t, credit, outstanding
   `unit` bytes      units of the trace
   1/1,280,000 byte  units of the report, `-` where the flow has no rate
-  bits a second     rate
+  bits a second     rate, min_rate
   160 ksym/s        2^rate_log2
   symbols           preamble, guard
 ";
@@ -251,7 +251,7 @@ const PLACE: Place = Place {
     index: 0,
 };
 
-const CONFIG_FAULTS: [ConfigFault; 12] = [
+const CONFIG_FAULTS: [ConfigFault; 13] = [
     ConfigFault::Text,
     ConfigFault::Missing(PLACE),
     ConfigFault::Range(PLACE),
@@ -264,6 +264,7 @@ const CONFIG_FAULTS: [ConfigFault; 12] = [
     ConfigFault::Jitter(PLACE),
     ConfigFault::GrantLongerThanMap(PLACE),
     ConfigFault::Headers(PLACE),
+    ConfigFault::MinRate(PLACE),
 ];
 
 const TRACE_FAULTS: [TraceFault; 4] = [

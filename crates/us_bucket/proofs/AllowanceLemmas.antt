@@ -1,11 +1,11 @@
 -- The laws of the bucket, and how events are joined.
-use Rattle.std.proofs.Common.{◌≡◌, ℕ, ◌+◌, ◌-◌, ◌/◌, ◌<◌, List, [], ◌∷◌, ◌++◌, Some, refl, ap, ◌∙◌, inl, inr, add-one, arith, drop, get_or, subst, length}
+use Rattle.std.proofs.Common.{◌≡◌, ℕ, ◌+◌, ◌-◌, ◌/◌, ◌<◌, List, [], ◌∷◌, ◌++◌, Option, Some, None, refl, ap, ◌∙◌, inl, inr, add-one, arith, drop, get_or, subst, length}
 use Rattle.std.specs.Prelude.{◌↔◌}
 use Rattle.std.proofs.lemmas.Bool.{cases_lt}
 use Rattle.std.proofs.lemmas.List.{drop_more}
-use Rattle.us_bucket.specs.Levels.{Level, units_per_byte, refilled, spent, bytes_in, Has}
-use Rattle.us_bucket.specs.Allowances.{Limit, credits_from, credits_of, KeepsBound, AreLawful, IsAllowance}
-use Rattle.us_bucket.specs.Laws.{level_after, HasEach, first_level, BucketKeepsBound, BucketIsAllowance}
+use Rattle.us_bucket.specs.Levels.{Level, units_per_byte, refilled, spent, bytes_in, reserve_in, or_none, Has}
+use Rattle.us_bucket.specs.Allowances.{Limit, credits_from, credits_of, KeepsBound, AreLawful, IsAllowance, IsLimitedTo, IsReserve}
+use Rattle.us_bucket.specs.Laws.{level_after, HasEach, first_level, BucketKeepsBound, BucketIsAllowance, BucketIsReserve}
 use Rattle.us_bucket.specs.declared.events.Event.{Event}
 use Rattle.us_bucket.specs.declared.events.Event.TheVariants.{NextRound, Credit}
 use Rattle.us_bucket.proofs.LevelLemmas.{spent-rate, refilled-rate, bytes_in-limited, bytes_in-unlimited, unlimited-has}
@@ -137,3 +137,17 @@ is-allowance limit events lawful =
           rw holds (some, holds-allowance limit events l some (had limit events some (lawful some)) refl holds)
       | inr none ↦ rw (bytes_in-unlimited l (omega (arith, of.rate))) (omega arith)
     ]
+
+-- What the bucket of a minimum rate holds is the reserve.
+
+-- an allowance, read as nothing where there is no limit
+pub limited-reserve : (limit : Limit) (events : List Event) (allowed : Option ℕ) → IsLimitedTo limit events allowed →
+    IsReserve limit events (or_none allowed)
+limited-reserve limit events (Some most) is = inr is
+limited-reserve limit events None is = inl (is, refl)
+
+pub is-reserve : BucketIsReserve
+unfolding reserve_in
+is-reserve limit events lawful =
+    let l = level_after limit.round_ticks events (first_level limit) in
+    limited-reserve limit events (bytes_in l) (is-allowance limit events lawful)

@@ -1,9 +1,9 @@
 -- Facts of levels: what a refill and a spend leave, and that whole bytes have their units.
-use Rattle.std.proofs.Common.{◌≡◌, ℕ, ◌+◌, ◌*◌, ◌/◌, ◌<◌, ◌≤◌, Some, None, refl, ap, ◌⊎◌, arith}
+use Rattle.std.proofs.Common.{◌≡◌, ℕ, ◌+◌, ◌*◌, ◌/◌, ◌<◌, ◌≤◌, Some, None, refl, ap, ◌⊎◌, inl, inr, arith}
 use Rattle.std.specs.Prelude.{if◌then◌else◌}
-use Rattle.std.proofs.lemmas.Bool.{eq-eqb, ne_eqb}
+use Rattle.std.proofs.lemmas.Bool.{cases_lt, eq-eqb, ne_eqb}
 use Rattle.std.proofs.Math.Nat.{min-le_left, min-le_right, le-min}
-use Rattle.us_bucket.specs.Levels.{Level, units_per_byte, cap, IsLevel, refilled, spent, bytes_in, Has}
+use Rattle.us_bucket.specs.Levels.{Level, units_per_byte, cap, IsLevel, refilled, spent, bytes_in, reserve_in, Has}
 
 -- Refills.
 
@@ -96,3 +96,11 @@ units-has bytes l some had = rw (bytes_in-limited l some) (units-whole bytes l.u
 
 pub unlimited-has : (bytes : ℕ) (l : Level) → l.rate ≡ 0 → Has l bytes
 unlimited-has bytes l none = rw (bytes_in-unlimited l none) tt
+
+-- what is reserved is there
+pub has_reserved : (l : Level) (bytes : ℕ) → bytes ≤ reserve_in l → Has l bytes
+unfolding reserve_in
+has_reserved l bytes reserved = elim (cases_lt 0 l.rate) [
+  | inl some ↦ let holds = bytes_in-limited l some in rw holds (rw holds at reserved)
+  | inr none ↦ unlimited-has bytes l (omega arith)
+]

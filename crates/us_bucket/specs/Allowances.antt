@@ -1,12 +1,13 @@
--- What may be credited to a flow, by the bytes that were credited in each round. No bucket is mentioned here.
-use Rattle.std.specs.Prelude.{◌≡◌, ℕ, ◌+◌, ◌-◌, ◌*◌, ◌≤◌, ◌<◌, List, [], ◌∷◌, ◌++◌, length, take, drop, sum, Option, MatchOption}
+-- What may be credited to a flow, by the bytes that were credited in each round; and what is reserved of it, by the bytes
+-- that were planned first in each round. No bucket is mentioned here.
+use Rattle.std.specs.Prelude.{◌≡◌, ◌⊎◌, ℕ, ◌+◌, ◌-◌, ◌*◌, ◌≤◌, ◌<◌, List, [], ◌∷◌, ◌++◌, length, take, drop, sum, Option, MatchOption}
 use Rattle.us_bucket.specs.Levels.{units_per_byte}
 use Rattle.us_bucket.specs.declared.events.Event.{Event}
 use Rattle.us_bucket.specs.declared.events.Event.TheVariants.{NextRound, Credit}
 
 -- a flow's limit, and the length of a round
 pub record Limit : Type 0 where
-  pub rate : ℕ  -- the maximum sustained rate in bit/s
+  pub rate : ℕ  -- in bit/s: the maximum sustained rate, or of a reserve the minimum one
   pub burst : ℕ  -- the maximum burst in bytes
   pub round_ticks : ℕ  -- in ticks of 6.25 microseconds
 
@@ -44,3 +45,9 @@ pub record IsAllowance (limit : Limit) (events : List Event) (most : ℕ) : Type
 abbrev pub IsLimitedTo : Limit → List Event → Option ℕ → Type 0
 IsLimitedTo limit events allowed =
     MatchOption allowed (limit.rate ≡ 0) (λ most. (0 < limit.rate) × IsAllowance limit events most)
+
+-- what is reserved of a flow after some events, of which a credit is what was planned first, by a limit of its minimum rate:
+-- the greatest number of bytes that, planned first now, keeps the bound, and nothing where there is no minimum rate
+abbrev pub IsReserve : Limit → List Event → ℕ → Type 0
+IsReserve limit events most =
+    ((limit.rate ≡ 0) × (most ≡ 0)) ⊎ ((0 < limit.rate) × IsAllowance limit events most)

@@ -1,6 +1,6 @@
 -- Small inputs, computed by the definitions alone.
 use Rattle.std.specs.Prelude.{◌≡◌, ◌*◌, List, [], ◌∷◌, None, Some, refl}
-use Rattle.us_bucket.specs.Levels.{Level, full, refilled, spent, bytes_in, units_in}
+use Rattle.us_bucket.specs.Levels.{Level, full, refilled, spent, bytes_in, reserve_in, units_in}
 use Rattle.us_bucket.specs.RoundBuckets.{Kept, full_at_first, after_rounds, level_in, brought_to, less}
 use Rattle.us_bucket.specs.Allowances.{credits_of, credited}
 use Rattle.us_bucket.specs.Laws.{level_after}
@@ -74,3 +74,17 @@ filled_at_once = refl
 filled_in_two_steps : bytes_in (level_in 320 5 (brought_to 320 2 drained)) ≡ Some 1522
 unfolding bytes_in spent refilled after_rounds
 filled_in_two_steps = refl
+
+-- the reserve of a minimum rate of 1.28 Mbit/s: full in round 0, and 320 bytes a round after all of it was planned first
+full_reserve : reserve_in first ≡ 1522
+unfolding bytes_in reserve_in
+full_reserve = refl
+
+next_reserve : reserve_in (refilled 320 (spent 1522 first)) ≡ 320
+unfolding bytes_in spent refilled reserve_in
+next_reserve = refl
+
+-- without a minimum rate nothing is reserved, however large the burst is
+no_reserve : reserve_in (refilled 320 (full 0 1522)) ≡ 0
+unfolding bytes_in refilled reserve_in
+no_reserve = refl

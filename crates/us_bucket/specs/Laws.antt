@@ -1,7 +1,7 @@
--- The laws of the bucket: it lets through what keeps the bound, and holds what may be credited.
-use Rattle.std.specs.Prelude.{ℕ, ◌<◌, ◌↔◌, List, [], ◌∷◌}
-use Rattle.us_bucket.specs.Levels.{Level, full, refilled, spent, bytes_in, Has}
-use Rattle.us_bucket.specs.Allowances.{Limit, credits_of, KeepsBound, AreLawful, IsLimitedTo}
+-- The laws of the bucket: it lets through what keeps the bound, and holds what may be credited, or what is reserved.
+use Rattle.std.specs.Prelude.{ℕ, ◌≤◌, ◌<◌, ◌↔◌, List, [], ◌∷◌}
+use Rattle.us_bucket.specs.Levels.{Level, full, refilled, spent, bytes_in, reserve_in, Has}
+use Rattle.us_bucket.specs.Allowances.{Limit, credits_of, KeepsBound, AreLawful, IsLimitedTo, IsReserve}
 use Rattle.us_bucket.specs.declared.events.Event.{Event}
 use Rattle.us_bucket.specs.declared.events.Event.TheVariants.{NextRound, Credit}
 
@@ -32,3 +32,13 @@ abbrev pub BucketIsAllowance : Type 0
 BucketIsAllowance =
     (limit : Limit) (events : List Event) → AreLawful limit events →
     IsLimitedTo limit events (bytes_in (level_after limit.round_ticks events (first_level limit)))
+
+-- after lawful plans, the bucket of a minimum rate has in it what is reserved
+abbrev pub BucketIsReserve : Type 0
+BucketIsReserve =
+    (limit : Limit) (events : List Event) → AreLawful limit events →
+    IsReserve limit events (reserve_in (level_after limit.round_ticks events (first_level limit)))
+
+-- whatever is reserved can be spent
+abbrev pub BucketHasReserve : Type 0
+BucketHasReserve = (l : Level) (bytes : ℕ) → bytes ≤ reserve_in l → Has l bytes

@@ -4,7 +4,7 @@ use Rattle.std.specs.Prelude.{ℕ, ◌+◌, ◌-◌, ◌*◌, ◌/◌, ◌≤◌
 
 -- a flow's limit, and what its bucket holds
 pub record Level : Type 0 where
-  pub rate : ℕ  -- the maximum sustained rate in bit/s; 0 is no limit
+  pub rate : ℕ  -- in bit/s: the maximum sustained rate, of which 0 is no limit, or the minimum one, of which 0 is none
   pub burst : ℕ  -- the maximum burst in bytes
   pub units : ℕ  -- what is in the bucket, of which 1,280,000 are a byte
 
@@ -42,6 +42,14 @@ limited l amount = if l.rate == 0 then None else Some amount
 -- the whole bytes in the bucket
 unfoldable pub bytes_in : Level → Option ℕ
 bytes_in l = limited l (l.units / units_per_byte)
+
+-- the whole bytes that the bucket of a minimum rate reserves: those in it, and nothing where there is no such rate
+abbrev pub or_none : Option ℕ → ℕ
+or_none (Some bytes) = bytes
+or_none None = 0
+
+unfoldable pub reserve_in : Level → ℕ
+reserve_in l = or_none (bytes_in l)
 
 -- and all of its units
 unfoldable pub units_in : Level → Option ℕ

@@ -1,4 +1,5 @@
--- Read in this order: what a bucket holds; what may be credited, where no bucket is mentioned; that these are one.
+-- Read in this order: what a bucket holds; what may be credited or is reserved, where no bucket is mentioned; that these
+-- are one.
 -- In a definition `≡` is equals, `×` and, `→` implies, `↔` both ways, `∷` one item before a list, and ℕ has the whole
 -- numbers from 0.
 

@@ -1,5 +1,5 @@
 ghost use Rattle.std.specs.Prelude.{◌≡◌, ◌≤◌, ◌^◌};
-ghost use Rattle.us_bucket.specs.Levels.{Level, IsLevel, full, refilled, spent, limited, bytes_in, units_in, Has};
+ghost use Rattle.us_bucket.specs.Levels.{Level, IsLevel, full, refilled, spent, limited, bytes_in, reserve_in, units_in, Has};
 
 use std::marker::Model;
 
@@ -14,6 +14,9 @@ pub const MAX_REFILL_TICKS: u32 = 67_108_864;
 ///
 /// It gains the flow's maximum sustained rate, and never holds more than its maximum burst. It counts in units of
 /// 1/1,280,000 byte, so that a refill loses nothing by rounding. At a rate of 0 there is no limit.
+///
+/// A second one, of the flow's minimum rate and the same burst, has what is still reserved of the flow. At a rate of 0 that
+/// is nothing ([`Bucket::reserve`]).
 #[derive(Clone, Copy, Debug, PartialEq, Eq)]
 pub struct Bucket {
     rate: u32,
@@ -65,6 +68,18 @@ impl Bucket {
         ensures { result ≡ bytes_in self.now }
     {
         self.limited(self.units / UNITS_PER_BYTE)
+    }
+
+    /// The whole bytes that are reserved, where the bucket's rate is a minimum: those in the bucket, 0 where the rate is 0.
+    /// The bucket has them, so that they can be spent.
+    #[tactic(auto, unfolding(crate::specs::Levels::reserve_in))]
+    pub fn reserve(&self) -> u64
+        ensures { result ≡ reserve_in self.now }
+    {
+        match self.bytes() {
+            Some(bytes) => bytes,
+            None => 0,
+        }
     }
 
     /// The units in the bucket, [`UNITS_PER_BYTE`] a byte, `None` where the rate is 0 and there is no limit.

@@ -3,6 +3,6 @@
 pub enum Event {
     /// The next round starts.
     NextRound,
-    /// So many bytes are credited in the present round.
+    /// So many bytes are credited in the present round, or planned first in it, where it is asked what is reserved.
     Credit(u64),
 }

@@ -1,4 +1,5 @@
-//! The token bucket that limits what a service flow is granted: its maximum sustained rate and its maximum burst.
+//! The token bucket that limits what a service flow is granted: its maximum sustained rate and its maximum burst. A second
+//! one, of its minimum rate, holds what is reserved of it.
 //!
 //! ```
 //! let mut bucket = Bucket::full(1_280_000, 1_522); // 1.28 Mbit/s, and bursts of at most 1,522 bytes
@@ -22,6 +23,9 @@ mod events;
 // What may be credited after them.
 mod allowances;
 
+// And what is reserved.
+mod reserves;
+
 // What a bucket is for: laws over every list of rounds and credits.
 mod laws;
 
@@ -29,9 +33,10 @@ pub use allowances::{OverBound, allowance};
 pub use buckets::{Bucket, MAX_REFILL_TICKS, UNITS_PER_BYTE};
 pub use events::Event;
 pub use laws::{
-    bringing_keeps_levels, bucket_is_allowance, bucket_keeps_bound, next_round_refills,
-    refills_are_one, rounds_are_one_refill,
+    bringing_keeps_levels, bucket_has_reserve, bucket_is_allowance, bucket_is_reserve,
+    bucket_keeps_bound, next_round_refills, refills_are_one, rounds_are_one_refill,
 };
+pub use reserves::reserve;
 pub use round_buckets::RoundBucket;
 
 #[cfg(test)]

@@ -1,5 +1,5 @@
 ghost use Rattle.std.specs.Prelude.{◌≡◌, ◌≤◌, ◌-◌, ◌*◌};
-ghost use Rattle.us_bucket.specs.Levels.{bytes_in, Has};
+ghost use Rattle.us_bucket.specs.Levels.{bytes_in, reserve_in, Has};
 ghost use Rattle.us_bucket.specs.RoundBuckets.{Kept, full_at_first, level_in, brought_to, less};
 
 use crate::buckets::{Bucket, MAX_REFILL_TICKS};
@@ -58,6 +58,14 @@ impl RoundBucket {
         ensures { result ≡ bytes_in self.now.level }
     {
         self.bucket.bytes()
+    }
+
+    /// The whole bytes that are reserved in the round as of which the bucket stands, where its rate is a minimum; 0 where the
+    /// rate is 0. The bucket has them, so that they can be spent.
+    pub fn reserve(&self) -> u64
+        ensures { result ≡ reserve_in self.now.level }
+    {
+        self.bucket.reserve()
     }
 
     /// So many bytes are granted in the round as of which the bucket stands, and leave it. It must have them, as

@@ -36,6 +36,7 @@ flow id kind = record {
   priority = 0;
   rate = 0;
   burst = 3044;
+  min_rate = 0;
   unit = 4;
   headers = true;
   start_us = 1000;

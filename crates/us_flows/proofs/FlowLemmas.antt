@@ -13,7 +13,7 @@ use Rattle.us_flows.specs.Lawful.{Between, IsUnit, HasNoGrants, HasNoOthers, Has
 use Rattle.us_flows.specs.Documents.{number_of, number_at, flag_of, flag_at, items_of, items_at, read_or}
 use Rattle.us_flows.specs.Reading.{kind_at, flow_of}
 use Rattle.us_flows.specs.Shapes.{is_number, is_unit, is_number_list, count, all_items, allows, lacks, strays}
-use Rattle.us_flows.proofs.ShapeLemmas.{found_allowed, value_kept, number_in_range, number_between}
+use Rattle.us_flows.proofs.ShapeLemmas.{found_allowed, value_kept, number_in_range, number_between, optional_in_range}
 use Rattle.us_flows.proofs.ChannelLemmas.{list_in_range}
 
 -- the next item of what is left of a list
@@ -132,6 +132,7 @@ unsolicited_others t r = record {
   priority = absent unsolicited_keys t (codes "priority") r (λ d. refl);
   rate = absent unsolicited_keys t (codes "rate") r (λ d. refl);
   burst = absent unsolicited_keys t (codes "burst") r (λ d. refl);
+  min_rate = absent unsolicited_keys t (codes "min_rate") r (λ d. refl);
   unit = absent unsolicited_keys t (codes "unit") r (λ d. refl);
   headers = absent_flag unsolicited_keys t (codes "headers") r (λ d. refl);
 }
@@ -155,6 +156,7 @@ pub record FlowRanges (t : Members) : Type 0 where
   pub priority : number_at (codes "priority") t ≤ max_priority
   pub rate : number_at (codes "rate") t ≤ max_rate
   pub burst : number_at (codes "burst") t ≤ max_burst
+  pub min_rate : number_at (codes "min_rate") t ≤ max_rate
   pub unit : number_at (codes "unit") t ≤ max_unit
   pub start_us : number_at (codes "start_us") t ≤ max_us
   pub interval_us : number_at (codes "interval_us") t ≤ max_us
@@ -193,6 +195,7 @@ best_effort_ranges t w r =
         priority = (number_in_range best_effort_keys t (codes "priority") 0 max_priority w r refl (λ d. refl)).1;
         rate = (number_in_range best_effort_keys t (codes "rate") 0 max_rate w r refl (λ d. refl)).1;
         burst = burst.1;
+        min_rate = optional_in_range best_effort_keys t (codes "min_rate") max_rate r (λ d. refl);
         unit = few_bytes (number_at (codes "unit") t) units;
         start_us = omega (arith, none.0.start_us);
         interval_us = omega (arith, none.0.interval_us);
@@ -223,6 +226,7 @@ polling_ranges t w r =
       priority = (number_in_range polling_keys t (codes "priority") 0 max_priority w r refl (λ d. refl)).1;
       rate = (number_in_range polling_keys t (codes "rate") 0 max_rate w r refl (λ d. refl)).1;
       burst = burst.1;
+      min_rate = optional_in_range polling_keys t (codes "min_rate") max_rate r (λ d. refl);
       unit = few_bytes (number_at (codes "unit") t) units;
       start_us = (number_in_range polling_keys t (codes "start_us") 0 max_us w r refl (λ d. refl)).1;
       interval_us = interval.1;
@@ -252,6 +256,7 @@ unsolicited_ranges t w r =
         priority = omega (arith, none.priority);
         rate = omega (arith, none.rate);
         burst = omega (arith, none.burst);
+        min_rate = omega (arith, none.min_rate);
         unit = omega (arith, none.unit);
         start_us = (number_in_range unsolicited_keys t (codes "start_us") 0 max_us w r refl (λ d. refl)).1;
         interval_us = interval.1;
@@ -293,6 +298,7 @@ pub record FlowWidths (t : Members) : Type 0 where
   pub priority : number_at (codes "priority") t ≤ 255
   pub rate : number_at (codes "rate") t ≤ 4294967295
   pub burst : number_at (codes "burst") t ≤ 4294967295
+  pub min_rate : number_at (codes "min_rate") t ≤ 4294967295
   pub unit : number_at (codes "unit") t ≤ 255
   pub start_us : number_at (codes "start_us") t ≤ 4294967295
   pub interval_us : number_at (codes "interval_us") t ≤ 4294967295
@@ -306,6 +312,7 @@ widths t ranges = record {
   priority = omega (arith, ranges.priority);
   rate = omega (arith, ranges.rate);
   burst = omega (arith, ranges.burst);
+  min_rate = omega (arith, ranges.min_rate);
   unit = omega (arith, ranges.unit);
   start_us = omega (arith, ranges.start_us);
   interval_us = omega (arith, ranges.interval_us);

@@ -51,6 +51,7 @@ judged (fault.ReservesTooLong place) first Is is h = h
 judged (fault.Jitter place) first Is is h = h
 judged (fault.GrantLongerThanMap place) first Is is h = h
 judged (fault.Headers place) first Is is h = h
+judged (fault.MinRate place) first Is is h = h
 judged fault.NoMemory first Is is h = tt
 
 -- the fault of a part is that of the whole
@@ -68,6 +69,7 @@ carried (fault.ReservesTooLong place) part whole Is Are on h = on h
 carried (fault.Jitter place) part whole Is Are on h = on h
 carried (fault.GrantLongerThanMap place) part whole Is Are on h = on h
 carried (fault.Headers place) part whole Is Are on h = on h
+carried (fault.MinRate place) part whole Is Are on h = on h
 carried fault.NoMemory part whole Is Are on h = tt
 
 -- A flow.
@@ -107,7 +109,7 @@ grants_judged round channels earlier t index flow f here is shape names h =
     let apart : first_of (flow_names (flow_place earlier) channels earlier (flow_of t)) ≡ None = rw (here, is) at names in
     let found : first_of (flow_grants (flow_place earlier) round channels (flow_of t)) ≡ Some f = rw (here, is) at h in
     judged f (flow_fault round channels earlier t) (λ flow. flow ≡ flow_of t)
-    (first_judged (flow_grants (flow_place earlier) round channels (flow_of t)) f (tt, (tt, (tt, tt))) found)
+    (first_judged (flow_grants (flow_place earlier) round channels (flow_of t)) f (tt, (tt, (tt, (tt, tt)))) found)
     (rw (none, apart, found) refl)
 
 -- it has few clusters

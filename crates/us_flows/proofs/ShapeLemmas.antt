@@ -1,5 +1,5 @@
 -- What a table without a fault in its shape has at a key.
-use Rattle.std.proofs.Common.{◌≡◌, ℕ, pos, negsuc, Bool, true, false, not, ◌||◌, ◌&&◌, List, [], ◌∷◌, length, Option, Some, None, is_none, Ordering, Less, Equal, Greater, nat_cmp, is_eq, refl, ap, sym, ◌∙◌, arith, inl, inr, nat_le}
+use Rattle.std.proofs.Common.{◌≡◌, ℕ, pos, negsuc, Bool, true, false, not, ◌||◌, ◌&&◌, List, [], ◌∷◌, length, ◌≤◌, Option, Some, None, is_none, Ordering, Less, Equal, Greater, nat_cmp, is_eq, refl, ap, sym, ◌∙◌, arith, inl, inr, nat_le}
 use Rattle.std.specs.Str.{bytes_eq}
 use Rattle.std.specs.Cmp.Lexicographic.{slice_cmp}
 use Rattle.std.specs.Ordering.{match_ordering}
@@ -9,7 +9,7 @@ use Rattle.std.proofs.lemmas.Slice.Eq.{bytes_eq-Decides}
 use Rattle.toml.specs.Data.{Data, string, integer, float, boolean, datetime, array, table, Items, no_items, item, Members, no_members, member, get_member}
 use Rattle.us_flows.specs.Keys.{Key}
 use Rattle.us_flows.specs.Lawful.{Between}
-use Rattle.us_flows.specs.Documents.{number_of, number_at, numbers_of, lists_of}
+use Rattle.us_flows.specs.Documents.{number_of, number_at, numbers_of, lists_of, read_or}
 use Rattle.us_flows.specs.Shapes.{is_number, count, allows, lacks, strays, is_optional}
 
 -- Each item of a list is read as one number, or one list.
@@ -97,3 +97,12 @@ pub number_in_range : (keys : List Key) (t : Members) (k : List ℕ) (least most
 number_in_range keys t k least most whole ranged listed by_rule =
     let kept = value_kept keys k t whole ranged listed in
     rw kept.1 (number_between least most kept.0 (sym (by_rule kept.0) ∙ kept.2))
+
+-- and a number whose key may be left out, which is then 0, is at most the greatest one
+pub optional_in_range : (keys : List Key) (t : Members) (k : List ℕ) (most : ℕ) → strays keys t ≡ false →
+    ((d : Data) → allows keys k d ≡ is_number 0 most d) → number_at k t ≤ most
+optional_in_range keys t k most ranged by_rule = found (get_member k t) refl
+  where
+    found : (value : Option Data) → get_member k t ≡ value → read_or 0 number_of value ≤ most
+    found None is = omega arith
+    found (Some d) is = (number_between 0 most d (sym (by_rule d) ∙ found_allowed keys k d t ranged is)).1

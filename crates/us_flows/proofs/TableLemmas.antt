@@ -2,7 +2,7 @@
 use Rattle.std.proofs.Common.{◌≡◌, ℕ, zero, suc, ◌+◌, ◌*◌, ◌/◌, ◌%◌, ◌^◌, ◌<◌, ◌≤◌, ◌==◌, nat_eq, nat_lt, nat_le, Bool, true, false, not, ◌&&◌, List, [], ◌∷◌, ◌++◌, length, map, flat_map, codes, Option, Some, None, append_assoc, refl, sym, subst, ◌∙◌, ap, arith, inl, inr}
 use Rattle.std.specs.Prelude.{Err, is_some, option_and_then, slice_get}
 use Rattle.std.specs.List.{AllByRecursion, list_all, list_any}
-use Rattle.std.proofs.lemmas.Bool.{cases_Bool, and_parts, or_parts, eqb-true, ltb-false, leb-false, not-false, false≢true}
+use Rattle.std.proofs.lemmas.Bool.{cases_Bool, and_parts, or_parts, eqb-true, lt-ltb, ltb-false, leb-false, not-false, false≢true}
 use Rattle.std.proofs.Math.Nat.{div-le_self}
 use Rattle.std.proofs.lemmas.Nat.{div-add-mod'}
 use Rattle.std.proofs.lemmas.List.{append-nil}
@@ -218,10 +218,16 @@ one_without : (headers : Bool) (n : ℕ) → (not headers && nat_lt 1 n) ≡ fal
 one_without true n h some without = absurd (false≢true (sym without))
 one_without false n h some without = omega (arith, ltb-false 1 n h, some)
 
+-- under a maximum rate the minimum one is at most that
+within_maximum : (rate min_rate : ℕ) → (nat_lt 0 rate && nat_lt rate min_rate) ≡ false → 0 < rate → min_rate ≤ rate
+within_maximum rate min_rate h some = ltb-false rate min_rate (rw (lt-ltb 0 rate some) at h)
+
 requesting_is : (m : Members) → RequestRanges m → 1 ≤ length (flow_of m).channels →
-    (not (flow_of m).headers && nat_lt 1 (length (flow_of m).channels)) ≡ false → IsRequesting (flow_of m)
-requesting_is m ranges some headers = record {
+    (not (flow_of m).headers && nat_lt 1 (length (flow_of m).channels)) ≡ false →
+    (nat_lt 0 (flow_of m).rate && nat_lt (flow_of m).rate (flow_of m).min_rate) ≡ false → IsRequesting (flow_of m)
+requesting_is m ranges some headers rates = record {
   burst = ranges.burst;
+  min_rate = within_maximum (number_at (codes "rate") m) (number_at (codes "min_rate") m) rates;
   unit = ranges.unit;
   headers = one_without (flag_at (codes "headers") m) (length (flow_of m).channels) headers some;
 }
@@ -242,13 +248,14 @@ scheduled_is : (t : Tables) (m : Members) (kind : SchedulingType) → FlowRanges
     (has_intervals kind && nat_le (flow_of m).interval_us (flow_of m).jitter_us) ≡ false →
     is_too_long t.round_ticks (grant_slots (flow_of m) kind) (first_channel t.channels (flow_of m)) ≡ false →
     (makes_requests kind && (not (flow_of m).headers && nat_lt 1 (length (flow_of m).channels))) ≡ false →
+    (nat_lt 0 (flow_of m).rate && nat_lt (flow_of m).rate (flow_of m).min_rate) ≡ false →
     IsScheduled t (flow_of m) kind
-scheduled_is t m BestEffort ranges own some first jitter long headers = requesting_is m own some headers
-scheduled_is t m NonRealTimePolling ranges own some first jitter long headers =
-    (requesting_is m own.0 some headers, polled_is t m ranges first own.1 jitter long)
-scheduled_is t m RealTimePolling ranges own some first jitter long headers =
-    (requesting_is m own.0 some headers, polled_is t m ranges first own.1 jitter long)
-scheduled_is t m UnsolicitedGrant ranges own some first jitter long headers = record {
+scheduled_is t m BestEffort ranges own some first jitter long headers rates = requesting_is m own some headers rates
+scheduled_is t m NonRealTimePolling ranges own some first jitter long headers rates =
+    (requesting_is m own.0 some headers rates, polled_is t m ranges first own.1 jitter long)
+scheduled_is t m RealTimePolling ranges own some first jitter long headers rates =
+    (requesting_is m own.0 some headers rates, polled_is t m ranges first own.1 jitter long)
+scheduled_is t m UnsolicitedGrant ranges own some first jitter long headers rates = record {
   schedule = schedule (number_at (codes "start_us") m) (number_at (codes "interval_us") m) (number_at (codes "jitter_us") m)
       ranges.start_us own.interval_us ranges.interval_us jitter;
   one_channel = omega (arith, some, own.channels, length-numbers_of (items_at (codes "channels") m));
@@ -289,6 +296,7 @@ flow_is t earlier m h =
       priority = ranges.priority;
       rate = ranges.rate;
       burst = ranges.burst;
+      min_rate = ranges.min_rate;
       unit = ranges.unit;
       grant_bytes = ranges.grant_bytes;
       grants = ranges.grants;
@@ -296,7 +304,7 @@ flow_is t earlier m h =
       interval_us = ranges.interval_us;
       jitter_us = ranges.jitter_us;
       scheduled = scheduled_is t m (kind_at m) ranges both.1 some (first_there t.channels f.channels known some) grants.0
-          grants.1.0 grants.1.1.0;
+          grants.1.0 grants.1.1.0 grants.1.1.1.0;
       others = others_absent m (kind_at m) shape.1.1.1.0;
     }
 

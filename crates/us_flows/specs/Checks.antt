@@ -130,12 +130,13 @@ abbrev pub is_too_long : ℕ → (Channel → ℕ) → Option Channel → Bool
 is_too_long round slots None = false
 is_too_long round slots (Some channel) = nat_lt (round / minislot_ticks channel.bursts.time) (slots channel)
 
--- and its grants
+-- and its grants and its rates, of which the minimum is at most the maximum, where there is one
 abbrev pub flow_grants : Place → ℕ → List Channel → FlowTable → List Check
 flow_grants place round channels flow =
     (has_intervals flow.kind && nat_le flow.interval_us flow.jitter_us, fault.Jitter place) ∷
     (is_too_long round (grant_slots flow flow.kind) (first_channel channels flow), fault.GrantLongerThanMap place) ∷
-    (makes_requests flow.kind && (not flow.headers && nat_lt 1 (length flow.channels)), fault.Headers place) ∷ []
+    (makes_requests flow.kind && (not flow.headers && nat_lt 1 (length flow.channels)), fault.Headers place) ∷
+    (nat_lt 0 flow.rate && nat_lt flow.rate flow.min_rate, fault.MinRate place) ∷ []
 
 -- it stands behind these others
 abbrev pub flow_place : List FlowTable → Place

@@ -8,7 +8,7 @@ use Rattle.us_flows.specs.declared.flows.SchedulingType.TheVariants.{BestEffort,
 use Rattle.us_flows.specs.declared.faults.Place.{Place}
 use Rattle.us_flows.specs.declared.faults.TableName.TheVariants as name
 use Rattle.us_flows.specs.declared.faults.ConfigFault.{ConfigFault}
-use Rattle.us_flows.specs.declared.faults.ConfigFault.TheVariants.{Missing, Range, UnknownChannel, DuplicateId, DuplicateSid, ClusterLength, RoundNotMultiple, ReservesTooLong, Jitter, GrantLongerThanMap, Headers}
+use Rattle.us_flows.specs.declared.faults.ConfigFault.TheVariants.{Missing, Range, UnknownChannel, DuplicateId, DuplicateSid, ClusterLength, RoundNotMultiple, ReservesTooLong, Jitter, GrantLongerThanMap, Headers, MinRate}
 use Rattle.us_flows.specs.Tables.{Tables, FlowTable, rounds_fit}
 use Rattle.us_flows.specs.Clusters.{lookup, table_order, turns_of}
 use Rattle.us_flows.specs.Turns.{turn_at}
@@ -139,6 +139,7 @@ base_tables = record {
     priority = 0;
     rate = 0;
     burst = 3044;
+    min_rate = 0;
     unit = 4;
     headers = true;
     start_us = 0;
@@ -321,6 +322,30 @@ unfolding first_fault channel_fault channel_lacks channel_strays flow_fault stat
     burst_cost coded_length
 headers_wanted = refl
 
+-- minimum rates beside a maximum rate, and where there is none; of a flow with unsolicited grants even 0 isn't listed
+abbrev pub rates : ℕ → ℕ → Members → Members
+rates rate min_rate t =
+    with_key (codes "rate") (number rate) (with_key (codes "min_rate") (number min_rate) t)
+
+abbrev pub first_with : Members → Option ConfigFault
+first_with flow = first_fault (document (base_channel ∷ other_channel ∷ []) (flow ∷ []))
+
+minimum_rates :
+    (first_with (rates 1280000 1280000 base_flow) ≡ None) ×
+    (first_with (rates 1280000 1280001 base_flow) ≡ Some (MinRate flow)) ×
+    (first_with (rates 1 1000000000 polled_flow) ≡ Some (MinRate flow)) ×
+    (first_with (rates 0 1000000000 base_flow) ≡ None) ×
+    (first_with (rates 0 1000000001 base_flow) ≡ Some (Range flow)) ×
+    (granted_with (codes "min_rate") (number 0) ≡ Some (Range second)) ×
+    -- the place is that of the flow, and other faults of it come before
+    (second_with (with_key (codes "clusters") (cluster (400 ∷ [])) (with_key (codes "id") (number 3)
+    (rates 1 2 base_flow))) ≡ Some (MinRate second)) ×
+    (first_with (with_key (codes "headers") (boolean false) (rates 1 2 (on_channels (2 ∷ 1 ∷ [])))) ≡ Some (Headers flow))
+unfolding first_fault channel_fault channel_lacks channel_strays flow_fault station_fault
+    top_keys channel_keys profile_keys short_keys all_flow_keys station_keys
+    burst_cost coded_length
+minimum_rates = (refl, refl, refl, refl, refl, refl, refl, refl)
+
 -- stations: one with a flow's SID, two of one id, one on no channel, and one whose jitter is its interval
 abbrev pub station : ℕ → Place
 station index = record { table = name.Station; index = index }
@@ -356,6 +381,7 @@ two_clusters id priority = record {
   priority = priority;
   rate = 0;
   burst = 3044;
+  min_rate = 0;
   unit = 1;
   headers = true;
   start_us = 0;

@@ -82,6 +82,7 @@ all_flow_keys =
     (codes "priority", types.Requesting, rule.Number 0 max_priority) ∷
     (codes "rate", types.Requesting, rule.Number 0 max_rate) ∷
     (codes "burst", types.Requesting, rule.Number 1 max_burst) ∷
+    (codes "min_rate", types.Requesting, rule.OptionalNumber 0 max_rate) ∷
     (codes "unit", types.Requesting, rule.Unit) ∷
     (codes "headers", types.Requesting, rule.Flag) ∷
     (codes "start_us", types.AtIntervals, rule.Number 0 max_us) ∷

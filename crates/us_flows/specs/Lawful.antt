@@ -54,9 +54,11 @@ pub record IsSchedule (start_us interval_us jitter_us : ℕ) : Type 0 where
   pub interval : Between min_interval_us max_us interval_us
   pub jitter : jitter_us < interval_us
 
--- a flow that makes requests; without segment headers it has one channel
+-- a flow that makes requests; under a maximum rate its minimum rate is at most that, and without segment headers it has
+-- one channel
 pub record IsRequesting (f : FlowTable) : Type 0 where
   pub burst : 1 ≤ f.burst
+  pub min_rate : 0 < f.rate → f.min_rate ≤ f.rate
   pub unit : IsUnit f.unit
   pub headers : f.headers ≡ false → length f.channels ≡ 1
 
@@ -80,6 +82,7 @@ pub record MakesNoRequests (f : FlowTable) : Type 0 where
   pub priority : f.priority ≡ 0
   pub rate : f.rate ≡ 0
   pub burst : f.burst ≡ 0
+  pub min_rate : f.min_rate ≡ 0
   pub unit : f.unit ≡ 0
   pub headers : f.headers ≡ false
 
@@ -122,6 +125,7 @@ pub record IsFlow (t : Tables) (f : FlowTable) : Type 0 where
   pub priority : f.priority ≤ max_priority
   pub rate : f.rate ≤ max_rate
   pub burst : f.burst ≤ max_burst
+  pub min_rate : f.min_rate ≤ max_rate
   pub unit : f.unit ≤ max_unit
   pub start_us : f.start_us ≤ max_us
   pub interval_us : f.interval_us ≤ max_us

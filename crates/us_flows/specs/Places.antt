@@ -20,6 +20,7 @@ place_of (fault.ReservesTooLong place) = Some place
 place_of (fault.Jitter place) = Some place
 place_of (fault.GrantLongerThanMap place) = Some place
 place_of (fault.Headers place) = Some place
+place_of (fault.MinRate place) = Some place
 place_of fault.NoMemory = None
 
 abbrev pub table_word : TableName → List ℕ

@@ -96,7 +96,8 @@ max_channels_of_flow = 8
 abbrev pub max_clusters_of_flow : ℕ
 max_clusters_of_flow = 2
 
--- its priority (the standard's), its rate in bit/s, its burst in bytes, and the bytes of a unit of its requests,
+-- its priority (the standard's), its rates in bit/s, maximum and minimum, its burst in bytes, and the bytes of a unit of
+-- its requests,
 abbrev pub max_priority : ℕ
 max_priority = 7
 

@@ -68,6 +68,7 @@ flow_of t = record {
   priority = number_at (codes "priority") t;
   rate = number_at (codes "rate") t;
   burst = number_at (codes "burst") t;
+  min_rate = number_at (codes "min_rate") t;
   unit = number_at (codes "unit") t;
   headers = flag_at (codes "headers") t;
   start_us = number_at (codes "start_us") t;

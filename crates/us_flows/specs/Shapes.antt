@@ -54,6 +54,7 @@ is_number_list least most _ = false
 -- a value keeps a rule
 abbrev pub keeps : Rule → Data → Bool
 keeps (rule.Number least most) d = is_number least most d
+keeps (rule.OptionalNumber least most) d = is_number least most d
 keeps rule.Type d = is_type d
 keeps rule.Unit d = is_unit d
 keeps rule.Flag d = is_flag d
@@ -64,6 +65,7 @@ keeps (rule.Tables fewest many) d = is_list fewest many is_table d
 
 -- a key of this rule may be left out
 abbrev pub is_optional : Rule → Bool
+is_optional (rule.OptionalNumber least most) = true
 is_optional (rule.Tables fewest many) = fewest == 0
 is_optional _ = false
 

@@ -20,6 +20,8 @@ pub record FlowTable : Type 0 where
   -- the maximum sustained rate in bit/s, 0 for no limit, and the maximum burst in bytes
   pub rate : ℕ
   pub burst : ℕ
+  -- the minimum reserved rate in bit/s, 0 for none
+  pub min_rate : ℕ
   -- the bytes of a unit of a request
   pub unit : ℕ
   -- whether each requested grant carries a segment header

@@ -75,7 +75,7 @@ impl fmt::Debug for Place {
 
 /// Why a text is no configuration. Of several faults the first is answered: C1; those of the top level, of each
 /// channel, of each flow and of each station, in this order of tables and each table's by number, but a flow's type is
-/// looked at first, and C7 before C6; C13 last, but memory may be wanting before a later check is made.
+/// looked at first, C7 before C6 and C14 behind C12; C13 last, but memory may be wanting before a later check is made.
 #[derive(Clone, Copy, PartialEq, Eq, Error)]
 pub enum ConfigFault {
     /// C1: over 4,194,304 bytes, or no TOML document.
@@ -102,6 +102,8 @@ pub enum ConfigFault {
     GrantLongerThanMap(Place),
     /// C12: no segment headers, but more than one channel.
     Headers(Place),
+    /// C14: a minimum rate above the maximum one, where that is a limit.
+    MinRate(Place),
     /// C13: want of memory.
     NoMemory,
 }
@@ -111,7 +113,7 @@ impl ConfigFault {
     ghost use Rattle.us_flows.specs.Codes.{code_of};
     ghost use Rattle.us_flows.specs.Places.{place_of};
 
-    /// Its code, C1 to C13.
+    /// Its code, C1 to C14.
     pub fn code(self) -> &'static str
         ensures { result.now ≡ code_of self }
     {
@@ -128,6 +130,7 @@ impl ConfigFault {
             ConfigFault::Jitter(_) => "C10",
             ConfigFault::GrantLongerThanMap(_) => "C11",
             ConfigFault::Headers(_) => "C12",
+            ConfigFault::MinRate(_) => "C14",
             ConfigFault::NoMemory => "C13",
         }
     }
@@ -147,6 +150,7 @@ impl ConfigFault {
             ConfigFault::Jitter(_) => "the jitter is not below the interval in ",
             ConfigFault::GrantLongerThanMap(_) => "a grant passes the length of the MAPs in ",
             ConfigFault::Headers(_) => "segment headers are wanting on several channels in ",
+            ConfigFault::MinRate(_) => "the minimum rate is above the maximum rate in ",
             ConfigFault::NoMemory => "out of memory",
         }
     }
@@ -166,7 +170,8 @@ impl ConfigFault {
             | ConfigFault::ReservesTooLong(place)
             | ConfigFault::Jitter(place)
             | ConfigFault::GrantLongerThanMap(place)
-            | ConfigFault::Headers(place) => Some(place),
+            | ConfigFault::Headers(place)
+            | ConfigFault::MinRate(place) => Some(place),
             ConfigFault::Text | ConfigFault::NoMemory => None,
         }
     }

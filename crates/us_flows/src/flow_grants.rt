@@ -10,7 +10,7 @@ use crate::limits::is_too_long;
 use crate::listed::Channels;
 use us_slots::cost;
 
-/// The first fault of a flow's grants, in MAPs of a round of so many ticks.
+/// The first fault of a flow's grants and rates, in MAPs of a round of so many ticks.
 pub(crate) fn grants_fault(
     place: Place,
     round_ticks: u32,
@@ -27,6 +27,9 @@ pub(crate) fn grants_fault(
     }
     if flow.kind().makes_requests() && !flow.headers() && flow.channels().len() > 1 {
         return Some(ConfigFault::Headers(place));
+    }
+    if 0 < flow.rate() && flow.rate() < flow.min_rate() {
+        return Some(ConfigFault::MinRate(place));
     }
     None
 }

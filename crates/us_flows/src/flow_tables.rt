@@ -151,6 +151,7 @@ fn flow_of(alloc: Global, table: &Table) -> Result<Flow, AllocError>
         priority: u8_at(table, "priority"),
         rate: u32_at(table, "rate"),
         burst: u32_at(table, "burst"),
+        min_rate: u32_at(table, "min_rate"),
         unit: u8_at(table, "unit"),
         headers: flag_at(table, "headers"),
         start_us: u32_at(table, "start_us"),

@@ -43,6 +43,7 @@ pub struct Flow {
     pub(crate) priority: u8,
     pub(crate) rate: u32,
     pub(crate) burst: u32,
+    pub(crate) min_rate: u32,
     pub(crate) unit: u8,
     pub(crate) headers: bool,
     pub(crate) start_us: u32,
@@ -63,6 +64,7 @@ impl Model for Flow {
       priority = f.priority;
       rate = f.rate;
       burst = f.burst;
+      min_rate = f.min_rate;
       unit = f.unit;
       headers = f.headers;
       start_us = f.start_us;
@@ -84,6 +86,7 @@ impl Drop for Flow {
             priority: _,
             rate: _,
             burst: _,
+            min_rate: _,
             unit: _,
             headers: _,
             start_us: _,
@@ -110,6 +113,7 @@ impl Flow {
             priority: self.priority,
             rate: self.rate,
             burst: self.burst,
+            min_rate: self.min_rate,
             unit: self.unit,
             headers: self.headers,
             start_us: self.start_us,
@@ -167,6 +171,13 @@ impl Flow {
         ensures value { result ≡ self.now.burst }
     {
         self.burst
+    }
+
+    /// The minimum reserved rate in bit/s, at most the maximum sustained rate where that is a limit; 0 for none.
+    pub fn min_rate(&self) -> u32
+        ensures value { result ≡ self.now.min_rate }
+    {
+        self.min_rate
     }
 
     /// The bytes of a unit of a request: 1, 2, 4, 8 or 16; 0 for unsolicited grants.

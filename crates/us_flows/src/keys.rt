@@ -16,6 +16,8 @@ use crate::ranges::{
 pub(crate) enum Rule {
     /// A whole number.
     Number(u32, u32),
+    /// A whole number whose key may be left out.
+    OptionalNumber(u32, u32),
     /// A scheduling type: 2, 3, 4 or 6.
     Type,
     /// The bytes of a unit: 1, 2, 4, 8 or 16.
@@ -108,7 +110,7 @@ static PROFILE_KEYS: [Key; 7] = [
 ];
 
 /// The keys of all flows.
-static FLOW_KEYS: [FlowKey; 16] = [
+static FLOW_KEYS: [FlowKey; 17] = [
     ("id", Types::All, Rule::Number(1, MAX_ID)),
     ("type", Types::All, Rule::Type),
     (
@@ -134,6 +136,11 @@ static FLOW_KEYS: [FlowKey; 16] = [
     ("priority", Types::Requesting, Rule::Number(0, MAX_PRIORITY)),
     ("rate", Types::Requesting, Rule::Number(0, MAX_RATE)),
     ("burst", Types::Requesting, Rule::Number(1, MAX_BURST)),
+    (
+        "min_rate",
+        Types::Requesting,
+        Rule::OptionalNumber(0, MAX_RATE),
+    ),
     ("unit", Types::Requesting, Rule::Unit),
     ("headers", Types::Requesting, Rule::Flag),
     ("start_us", Types::AtIntervals, Rule::Number(0, MAX_US)),

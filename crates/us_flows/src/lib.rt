@@ -63,7 +63,7 @@ mod flow_tables;
 // their channels, ids and SIDs,
 mod flow_names;
 
-// and their grants.
+// and their grants and rates.
 mod flow_grants;
 
 // Stations, read and judged.

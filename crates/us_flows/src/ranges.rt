@@ -85,7 +85,7 @@ pub(crate) const MAX_CLUSTERS_OF_FLOW: u32 = 2;
 /// The greatest traffic priority (the standard's).
 pub(crate) const MAX_PRIORITY: u32 = 7;
 
-/// The greatest maximum sustained rate, in bit/s.
+/// The greatest maximum sustained rate and the greatest minimum reserved rate, in bit/s.
 pub(crate) const MAX_RATE: u32 = 1_000_000_000;
 
 /// The greatest maximum burst, in bytes.

@@ -85,6 +85,7 @@ fn is_optional(rule: Rule) -> bool
     ensures { result ≡ Shapes.is_optional rule }
 {
     match rule {
+        Rule::OptionalNumber(..) => true,
         Rule::Tables(fewest, _) => fewest == 0,
         _ => false,
     }
@@ -95,7 +96,9 @@ fn keeps(rule: Rule, value: &Value) -> bool
     ensures { result ≡ Shapes.keeps rule (view value.now) }
 {
     match rule {
-        Rule::Number(least, most) => is_number(value, least, most),
+        Rule::Number(least, most) | Rule::OptionalNumber(least, most) => {
+            is_number(value, least, most)
+        }
         Rule::Type => is_type(value),
         Rule::Unit => is_unit(value),
         Rule::Flag => value.as_bool().is_some(),

@@ -6,6 +6,7 @@ mod base;
 mod faults;
 mod lookups;
 mod memory;
+mod min_rates;
 mod sizes;
 mod texts;
 mod turns;

@@ -10,7 +10,7 @@ use Rattle.us_flows.specs.Clusters.{Turn, turns_of}
 use Rattle.us_flows.specs.Turns.{turn_at, in_flow}
 use Rattle.us_flows.specs.declared.turns.Turn as places
 use Rattle.us_bucket.specs.Levels.{Level, bytes_in, full}
-use Rattle.us_split.specs.Asking.{AgreeOn, asking, is_pending, numbers_of, pending_places, turns_at}
+use Rattle.us_split.specs.Asking.{asking, is_pending, numbers_of, pending_places, turns_at}
 use Rattle.us_split.proofs.AskingLaws.{map_passing}
 use Rattle.us_split.proofs.AskerStepLemmas.{listed-below}
 use Rattle.us_output.specs.Outputs.{first_sid}
@@ -75,12 +75,12 @@ no_turn t (u ∷ turns) (x ∷ all) (suc place) same past =
     no_turn t turns all place rest (omega (arith, past))
 
 -- the turn as places that leads to a turn
-record Leads (t : Tables) (turns : List places.Turn) (place : ℕ) (turn : Turn) : Type 0 where
-  own : places.Turn
-  at : slice_get turns place ≡ Some own
-  leads : turn_at t own ≡ Some turn
+pub record Leads (t : Tables) (turns : List places.Turn) (place : ℕ) (turn : Turn) : Type 0 where
+  pub own : places.Turn
+  pub at : slice_get turns place ≡ Some own
+  pub leads : turn_at t own ≡ Some turn
 
-leading : (t : Tables) (turns : List places.Turn) (all : List Turn) (place : ℕ) (turn : Turn) →
+pub leading : (t : Tables) (turns : List places.Turn) (all : List Turn) (place : ℕ) (turn : Turn) →
     map (turn_at t) turns ≡ map Some all → slice_get all place ≡ Some turn → Leads t turns place turn
 leading t turns [] place turn same at = absurd (cc at)
 leading t [] (x ∷ all) place turn same at = absurd (cc same)
@@ -94,7 +94,7 @@ leading t (u ∷ turns) (x ∷ all) (suc place) turn same at =
     let more = leading t turns all place turn rest at in
     record { own = more.own; at = more.at; leads = more.leads }
 
-place_is : (t : Tables) (u : places.Turn) (turn : Turn) → turn_at t u ≡ Some turn → turn.place ≡ u.flow
+pub place_is : (t : Tables) (u : places.Turn) (turn : Turn) → turn_at t u ≡ Some turn → turn.place ≡ u.flow
 place_is t u turn is = by (slice_get t.flows u.flow) is
   where
     in_list : (flow : FlowTable) (sids : Option (List ℕ)) → option_map (λ s. record {
@@ -167,16 +167,21 @@ allowed_more turns levels allowances these i place own most long inside is at kn
       tt,
     ))
 
-pub agree : (t : Tables) (turns : List places.Turn) (levels : List Level) (allowances : List (Option ℕ)) (these : List ℕ) →
+-- so it is of the flows of those turns
+abbrev pub Allows : List Level → List (Option ℕ) → Turn → Type 0
+Allows levels allowances turn =
+    slice_index_or allowances turn.place None ≡ slice_index_or (map bytes_in levels) turn.place None
+
+pub allows_each : (t : Tables) (turns : List places.Turn) (levels : List Level) (allowances : List (Option ℕ)) (these : List ℕ) →
     map (turn_at t) turns ≡ map Some (turns_of t) → AreAllowed turns levels allowances these →
-    AgreeOn (turns_at (turns_of t) these) allowances (map bytes_in levels)
-agree t turns levels allowances [] same are = tt
-agree t turns levels allowances (place ∷ these) same are =
-    by (slice_get (turns_of t) place) refl (agree t turns levels allowances these same are.1)
+    AllByRecursion (Allows levels allowances) (turns_at (turns_of t) these)
+allows_each t turns levels allowances [] same are = tt
+allows_each t turns levels allowances (place ∷ these) same are =
+    by (slice_get (turns_of t) place) refl (allows_each t turns levels allowances these same are.1)
   where
     by : (found : Option Turn) → slice_get (turns_of t) place ≡ found →
-        AgreeOn (turns_at (turns_of t) these) allowances (map bytes_in levels) →
-        AgreeOn (cons_option found (turns_at (turns_of t) these)) allowances (map bytes_in levels)
+        AllByRecursion (Allows levels allowances) (turns_at (turns_of t) these) →
+        AllByRecursion (Allows levels allowances) (cons_option found (turns_at (turns_of t) these))
     by None at rest = rest
     by (Some turn) at rest =
         let led = leading t turns (turns_of t) place turn same at in

@@ -1,10 +1,10 @@
 -- Buckets that are refilled when they are asked for.
-use Rattle.std.proofs.Common.{◌≡◌, ℕ, zero, suc, ◌+◌, ◌-◌, ◌==◌, if◌then◌else◌, ◌<◌, ◌≤◌, List, [], ◌∷◌, length, set, get_or, map, refl, ap, ap₂, sym, ◌∙◌, inl, inr, arith}
+use Rattle.std.proofs.Common.{◌≡◌, ℕ, zero, suc, ◌+◌, ◌-◌, ◌==◌, if◌then◌else◌, ◌<◌, ◌≤◌, List, [], ◌∷◌, length, set, get_or, map, None, true, refl, ap, ap₂, sym, ◌∙◌, inl, inr, arith}
 use Rattle.std.proofs.lemmas.Bool.{cases_Bool, eqb-true, eqb-false}
 use Rattle.std.proofs.lemmas.List.{length-map}
 use Rattle.std.specs.List.{AllByRecursion}
 use Rattle.us_flows.specs.Tables.{FlowTable}
-use Rattle.us_bucket.specs.Levels.{Level, full, refilled, spent}
+use Rattle.us_bucket.specs.Levels.{Level, bytes_in, full, refilled, reserve_in, spent}
 use Rattle.us_bucket.specs.RoundBuckets.{Kept, after_rounds, brought_to, full_at_first, less, level_in}
 use Rattle.us_bucket.proofs.RoundLemmas.{next-refills}
 use Rattle.us_round.specs.Buckets.{Buckets, begun_buckets, levels_in}
@@ -104,3 +104,33 @@ pub full_levels : (ticks : ℕ) (flows : List FlowTable) →
 unfolding after_rounds
 full_levels ticks [] = refl
 full_levels ticks (flow ∷ flows) = ap (λ more. full flow.rate flow.burst ∷ more) (full_levels ticks flows)
+
+-- and so of minimum rates
+pub reserves_before : (flows : List FlowTable) →
+    AllByRecursion (λ k. k.as_of ≤ 0) (map (λ flow. full_at_first flow.min_rate flow.burst) flows)
+reserves_before [] = tt
+reserves_before (flow ∷ flows) = (omega arith, reserves_before flows)
+
+pub reserve_levels : (ticks : ℕ) (flows : List FlowTable) →
+    levels_in ticks 0 (map (λ flow. full_at_first flow.min_rate flow.burst) flows)
+    ≡ map (λ flow. full flow.min_rate flow.burst) flows
+unfolding after_rounds
+reserve_levels ticks [] = refl
+reserve_levels ticks (flow ∷ flows) = ap (λ more. full flow.min_rate flow.burst ∷ more) (reserve_levels ticks flows)
+
+-- A bucket that has no rate reserves nothing, in whatever round.
+
+rate_stays : (ticks rounds : ℕ) (l : Level) → (after_rounds ticks rounds l).rate ≡ l.rate
+unfolding after_rounds refilled
+rate_stays ticks zero l = refl
+rate_stays ticks (suc rounds) l = rate_stays ticks rounds l
+
+pub no_reserve : (ticks round : ℕ) (kept : Kept) → bytes_in kept.level ≡ None → reserve_in (level_in ticks round kept) ≡ 0
+unfolding bytes_in reserve_in
+no_reserve ticks round kept none = elim (cases_Bool (kept.level.rate == 0)) [
+  | inl t ↦
+      let same : ((level_in ticks round kept).rate == 0) ≡ true =
+      ap (λ r. r == 0) (rate_stays ticks (round - kept.as_of) kept.level) ∙ t in
+      rw same refl
+  | inr f ↦ let there = rw f at none in absurd (cc there)
+]

@@ -73,6 +73,7 @@ state_next core cs built known are is =
     rw is (record {
       clusters = left-length _ 0 core.outstanding ∙ known.clusters;
       flows = spent-length _ 0 core.buckets ∙ known.flows;
+      reserves = known.reserves;
       paces = paces_kept t core.round plan t.channels cs (calendars_long t core.round cs are) ∙ are.paces;
       rounds = rounds_next t core.round plan t.channels cs are.rounds;
     })
@@ -178,6 +179,7 @@ pub opening_state : (t : Tables) → IsState (with_calendars (opening_core t) (m
 opening_state t = record {
   clusters = length-replicate (length (clusters_of t)) 0;
   flows = length-map t.flows (λ flow. full flow.rate flow.burst);
+  reserves = length-map t.flows (λ flow. full flow.min_rate flow.burst);
   paces = opening_paces t t.channels;
   rounds = opening_rounds t t.channels;
 }

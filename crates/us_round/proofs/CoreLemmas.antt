@@ -6,49 +6,53 @@ use Rattle.std.proofs.lemmas.List.{length-map, length-replicate}
 use Rattle.us_flows.specs.Tables.{Tables}
 use Rattle.us_flows.specs.Clusters.{clusters_of, turns_of}
 use Rattle.us_flows.specs.Lawful.{AreTables}
-use Rattle.us_bucket.specs.Levels.{Level, bytes_in, full, refilled}
-use Rattle.us_split.specs.Plans.{plan_for}
+use Rattle.us_bucket.specs.Levels.{Level, bytes_in, full, refilled, reserve_in}
+use Rattle.us_split.specs.Plans.{plan_for, reserved_for}
 use Rattle.us_split.specs.Asking.{Asking, all_asked_more, nobody_asks, numbers_of, pending_places, settled, with_cut}
 use Rattle.us_split.specs.Planners.{Planner, before_planning}
 use Rattle.us_channel.specs.Channels.{Built}
-use Rattle.us_round.specs.Buckets.{Buckets, begun_buckets, full_buckets}
+use Rattle.us_round.specs.Buckets.{Buckets, begun_buckets, full_buckets, full_reserves}
 use Rattle.us_round.specs.declared.cores.Kept.{Kept}
-use Rattle.us_round.specs.Cores.{AreCredited, AreKept, Core, begun_core, core_of, credited_core, idle_of, opening_core, planned_core, plan_over}
+use Rattle.us_round.specs.Cores.{AreBuckets, AreCredited, AreKept, Core, begun_core, core_of, credited_core, idle_of, opening_core, planned_core, plan_over, reserved_over}
 use Rattle.us_split.specs.Claims.{Claim, all_claims}
-use Rattle.us_round.specs.Rounds.{all_grants, uncredited}
+use Rattle.us_round.specs.Rounds.{all_grants, uncredited, unreserved}
 use Rattle.us_round.proofs.PhaseLemmas.{zip_long}
 use Rattle.us_round.proofs.StateLemmas.{left-length, spent-length}
 
 -- what a core has in memory, in its box
 abbrev pub core_in : Kept → Core
-core_in k = core_of k.config k.round k.askers k.buckets k.planner
+core_in k = core_of k.config k.round k.askers k.buckets k.reserves k.planner
 
-pub kept_too : (k boxed : Kept) → k ≡ boxed →
-    AreKept boxed.config boxed.askers boxed.buckets boxed.planner boxed.allowances.items →
-    AreKept k.config k.askers k.buckets k.planner k.allowances.items
-kept_too k boxed same are =
-    subst (λ (k : Kept). AreKept k.config k.askers k.buckets k.planner k.allowances.items) (sym same) are
+abbrev pub IsKept : Kept → Type 0
+IsKept k = AreKept k.config k.askers k.buckets k.reserves k.planner k.allowances.items k.left.items
+
+pub kept_too : (k boxed : Kept) → k ≡ boxed → IsKept boxed → IsKept k
+kept_too k boxed same are = subst IsKept (sym same) are
 
 -- Before round 0.
 
-pub opening_kept : (t : Tables) (asking : Asking) (buckets : Buckets) (planner : Planner) (allowances : List (Option ℕ)) →
-    AreTables t → length allowances ≡ length t.flows → asking ≡ nobody_asks t → buckets ≡ full_buckets t →
-    planner ≡ before_planning t → AreKept t asking buckets planner allowances
-opening_kept t asking buckets planner allowances lawful long asks fills plans =
-    rw (asks, fills, plans) (record {
+pub opening_kept : (t : Tables) (asking : Asking) (buckets reserves : Buckets) (planner : Planner)
+    (allowances : List (Option ℕ)) (left : List ℕ) → AreTables t → length allowances ≡ length t.flows →
+    length left ≡ length t.flows → asking ≡ nobody_asks t → buckets ≡ full_buckets t → reserves ≡ full_reserves t →
+    planner ≡ before_planning t → AreKept t asking buckets reserves planner allowances left
+opening_kept t asking buckets reserves planner allowances left lawful long also asks fills keeps plans =
+    rw (asks, fills, keeps, plans) (record {
       lawful = lawful;
       clusters = length-replicate (length (clusters_of t)) 0;
-      flows = length-map t.flows (λ flow. full flow.rate flow.burst);
+      buckets = record { flows = length-map t.flows (λ flow. full flow.rate flow.burst); ticks = refl };
+      reserves = record { flows = length-map t.flows (λ flow. full flow.min_rate flow.burst); ticks = refl };
+      round = refl;
       numbers = refl;
-      left = refl;
-      ticks = refl;
+      settled = refl;
       planner = refl;
       allowances = long;
+      left = also;
     })
 
-pub opening_value : (t : Tables) (asking : Asking) (buckets : Buckets) (planner : Planner) → asking ≡ nobody_asks t →
-    buckets ≡ full_buckets t → planner ≡ before_planning t → core_of t 0 asking buckets planner ≡ opening_core t
-opening_value t asking buckets planner asks fills plans = rw (asks, fills, plans) refl
+pub opening_value : (t : Tables) (asking : Asking) (buckets reserves : Buckets) (planner : Planner) →
+    asking ≡ nobody_asks t → buckets ≡ full_buckets t → reserves ≡ full_reserves t → planner ≡ before_planning t →
+    core_of t 0 asking buckets reserves planner ≡ opening_core t
+opening_value t asking buckets reserves planner asks fills keeps plans = rw (asks, fills, keeps, plans) refl
 
 -- The beginning of a round.
 
@@ -59,84 +63,142 @@ begun_long round ticks levels = elim (cases_Bool (round == 0)) [
   | inr later ↦ rw later (length-map levels (refilled ticks))
 ]
 
-pub begun_kept : (t : Tables) (round : ℕ) (cut : List ℕ) (asking next : Asking) (buckets after : Buckets) (planner : Planner)
-    (allowances : List (Option ℕ)) → AreKept t asking buckets planner allowances →
-    length cut ≡ length (clusters_of t) → next ≡ all_asked_more cut asking → after ≡ begun_buckets round buckets →
-    AreKept t next after planner allowances
-begun_kept t round cut asking next buckets after planner allowances are long asks begins =
-    rw (asks, begins) (record {
+begun_too : (t : Tables) (round : ℕ) (buckets : Buckets) → AreBuckets t buckets → AreBuckets t (begun_buckets round buckets)
+begun_too t round buckets are = record {
+  flows = begun_long round buckets.ticks buckets.levels ∙ are.flows;
+  ticks = are.ticks;
+}
+
+pub begun_kept : (t : Tables) (round : ℕ) (cut : List ℕ) (asking next : Asking) (buckets after reserves later : Buckets)
+    (planner : Planner) (allowances : List (Option ℕ)) (left : List ℕ) →
+    AreKept t asking buckets reserves planner allowances left → length cut ≡ length (clusters_of t) →
+    next ≡ all_asked_more cut asking → after ≡ begun_buckets round buckets → later ≡ begun_buckets round reserves →
+    AreKept t next after later planner allowances left
+begun_kept t round cut asking next buckets after reserves later planner allowances left are long asks begins also =
+    rw (asks, begins, also) (record {
       lawful = are.lawful;
       clusters = length-map (zip asking.outstanding cut) (λ (pair : ℕ × ℕ). pair.0 + pair.1)
           ∙ zip_long asking.outstanding cut (omega (arith, long, are.clusters)) ∙ long;
-      flows = begun_long round buckets.ticks buckets.levels ∙ are.flows;
+      buckets = begun_too t round buckets are.buckets;
+      reserves = begun_too t round reserves are.reserves;
+      round = refl;
       numbers = are.numbers;
-      left = ap (λ os. with_cut os cut) are.left;
-      ticks = are.ticks;
+      settled = ap (λ os. with_cut os cut) are.settled;
       planner = are.planner;
       allowances = are.allowances;
+      left = are.left;
     })
 
-pub begun_value : (t : Tables) (round : ℕ) (cut : List ℕ) (asking next : Asking) (buckets after : Buckets)
-    (planner : Planner) → buckets.ticks ≡ t.round_ticks → next ≡ all_asked_more cut asking →
-    after ≡ begun_buckets round buckets →
-    core_of t round next after planner ≡ begun_core (core_of t round asking buckets planner) cut
-begun_value t round cut asking next buckets after planner ticks asks begins =
-    ap₂ (λ a b. core_of t round a b planner) asks begins
-    ∙ ap (λ n. record (begun_core (core_of t round asking buckets planner) cut) {
-      buckets = if round == 0 then buckets.levels else map (refilled n) buckets.levels;
-    }) ticks
+-- buckets as they have grown
+abbrev grown_by : ℕ → ℕ → List Level → List Level
+grown_by round ticks levels = if round == 0 then levels else map (refilled ticks) levels
+
+pub begun_value : (t : Tables) (round : ℕ) (cut : List ℕ) (asking next : Asking) (buckets after reserves later : Buckets)
+    (planner : Planner) → buckets.ticks ≡ t.round_ticks → reserves.ticks ≡ t.round_ticks →
+    next ≡ all_asked_more cut asking → after ≡ begun_buckets round buckets → later ≡ begun_buckets round reserves →
+    core_of t round next after later planner ≡ begun_core (core_of t round asking buckets reserves planner) cut
+begun_value t round cut asking next buckets after reserves later planner ticks also asks begins too =
+    let begun : Core = begun_core (core_of t round asking buckets reserves planner) cut in
+    ap₂ (λ a b. core_of t round a b later planner) asks begins
+    ∙ ap (λ r. core_of t round (all_asked_more cut asking) (begun_buckets round buckets) r planner) too
+    ∙ ap₂ (λ n m. record begun {
+      buckets = grown_by round n buckets.levels;
+      reserves = grown_by round m reserves.levels;
+    }) ticks also
 
 -- The plan.
 
--- the claims are those of what the core is made of
-pub claims_over : (t tables : Tables) (round : ℕ) (asking : Asking) (buckets : Buckets) (planner : Planner) (bs : List Built)
-    (outstanding free : List ℕ) (claims : List (List Claim)) → tables ≡ t → outstanding ≡ asking.outstanding →
-    free ≡ idle_of bs →
-    claims ≡ all_claims tables (plan_for tables outstanding (map bytes_in buckets.levels) free) →
-    claims ≡ all_claims t (plan_over (core_of t round asking buckets planner) bs)
-claims_over t tables round asking buckets planner bs outstanding free claims own asked idle is =
-    is ∙ ap (λ x. all_claims x (plan_for x outstanding (map bytes_in buckets.levels) free)) own
-    ∙ ap₂ (λ os ms. all_claims t (plan_for t os (map bytes_in buckets.levels) ms)) asked idle
+-- the claims are those of what the core is made of,
+pub claims_over : (t tables : Tables) (round : ℕ) (asking : Asking) (buckets reserves : Buckets) (planner : Planner)
+    (bs : List Built) (outstanding free : List ℕ) (claims : List (List Claim)) → tables ≡ t →
+    outstanding ≡ asking.outstanding → free ≡ idle_of bs →
+    claims ≡ all_claims tables
+    (plan_for tables outstanding (map bytes_in buckets.levels) (map reserve_in reserves.levels) free) →
+    claims ≡ all_claims t (plan_over (core_of t round asking buckets reserves planner) bs)
+claims_over t tables round asking buckets reserves planner bs outstanding free claims own asked idle is =
+    let allowed : List (Option ℕ) = map bytes_in buckets.levels in
+    let kept : List ℕ = map reserve_in reserves.levels in
+    is ∙ ap (λ x. all_claims x (plan_for x outstanding allowed kept free)) own
+    ∙ ap₂ (λ os ms. all_claims t (plan_for t os allowed kept ms)) asked idle
 
-pub planned_value : (t : Tables) (round : ℕ) (asking : Asking) (buckets after : Buckets) (planner next : Planner)
-    (bs : List Built) → after ≡ buckets →
-    next.claims ≡ all_claims t (plan_over (core_of t round asking buckets planner) bs) →
-    core_of t round asking after next ≡ planned_core (core_of t round asking buckets planner) bs
-planned_value t round asking buckets after planner next bs same claims =
-    ap (λ b. core_of t round asking b next) same
-    ∙ ap (λ cs. record (core_of t round asking buckets planner) { claims = cs }) claims
+-- and so are the reserves
+pub reserves_over : (t tables : Tables) (round : ℕ) (asking : Asking) (buckets reserves : Buckets) (planner : Planner)
+    (bs : List Built) (outstanding free : List ℕ) (levels : List Level) → tables ≡ t →
+    outstanding ≡ asking.outstanding → free ≡ idle_of bs →
+    levels ≡ unreserved
+    (reserved_for tables outstanding (map bytes_in buckets.levels) (map reserve_in reserves.levels) free) 0 reserves.levels →
+    levels ≡ unreserved (reserved_over (core_of t round asking buckets reserves planner) bs) 0 reserves.levels
+reserves_over t tables round asking buckets reserves planner bs outstanding free levels own asked idle is =
+    let allowed : List (Option ℕ) = map bytes_in buckets.levels in
+    let kept : List ℕ = map reserve_in reserves.levels in
+    is ∙ ap (λ x. unreserved (reserved_for x outstanding allowed kept free) 0 reserves.levels) own
+    ∙ ap₂ (λ os ms. unreserved (reserved_for t os allowed kept ms) 0 reserves.levels) asked idle
+
+pub planned_kept : (t : Tables) (asking : Asking) (buckets after reserves later : Buckets) (planner next : Planner)
+    (allowances allowed : List (Option ℕ)) (left rest : List ℕ) → AreKept t asking buckets reserves planner allowances left →
+    after ≡ buckets → length later.levels ≡ length reserves.levels → later.ticks ≡ reserves.ticks →
+    later.round ≡ reserves.round → next.tables ≡ planner.tables → length allowed ≡ length allowances →
+    length rest ≡ length left → AreKept t asking after later next allowed rest
+planned_kept t asking buckets after reserves later planner next allowances allowed left rest are same long ticks round tables
+    allows leaves = rw same (record {
+      lawful = are.lawful;
+      clusters = are.clusters;
+      buckets = are.buckets;
+      reserves = record { flows = long ∙ are.reserves.flows; ticks = ticks ∙ are.reserves.ticks };
+      round = round ∙ are.round;
+      numbers = are.numbers;
+      settled = are.settled;
+      planner = tables ∙ are.planner;
+      allowances = allows ∙ are.allowances;
+      left = leaves ∙ are.left;
+    })
+
+pub planned_value : (t : Tables) (round : ℕ) (asking : Asking) (buckets after reserves later : Buckets)
+    (planner next : Planner) (bs : List Built) → after ≡ buckets →
+    later.levels ≡ unreserved (reserved_over (core_of t round asking buckets reserves planner) bs) 0 reserves.levels →
+    next.claims ≡ all_claims t (plan_over (core_of t round asking buckets reserves planner) bs) →
+    core_of t round asking after later next ≡ planned_core (core_of t round asking buckets reserves planner) bs
+planned_value t round asking buckets after reserves later planner next bs same leaves claims =
+    ap (λ b. core_of t round asking b later next) same
+    ∙ ap₂ (λ ls cs. record (core_of t round asking buckets reserves planner) { reserves = ls; claims = cs }) leaves claims
 
 -- The end.
 
-pub closed_kept : (t : Tables) (asking now next : Asking) (buckets after : Buckets) (planner : Planner)
-    (allowances : List (Option ℕ)) (bs : List Built) → AreKept t asking buckets planner allowances →
-    AreCredited (all_grants bs) asking now buckets after → next ≡ settled now → AreKept t next after planner allowances
-closed_kept t asking now next buckets after planner allowances bs are done ends =
+pub closed_kept : (t : Tables) (asking now next : Asking) (buckets after reserves : Buckets) (planner : Planner)
+    (allowances : List (Option ℕ)) (left : List ℕ) (bs : List Built) →
+    AreKept t asking buckets reserves planner allowances left → AreCredited (all_grants bs) asking now buckets after →
+    next ≡ settled now → AreKept t next after reserves planner allowances left
+closed_kept t asking now next buckets after reserves planner allowances left bs are done ends =
     rw ends (record {
       lawful = are.lawful;
-      clusters = ap (λ os. length os) done.left ∙ left-length (all_grants bs) 0 asking.left ∙ ap (λ os. length os) are.left
+      clusters = ap (λ os. length os) done.left ∙ left-length (all_grants bs) 0 asking.left ∙ ap (λ os. length os) are.settled
           ∙ are.clusters;
-      flows = ap (λ ls. length ls) done.levels ∙ spent-length (all_grants bs) 0 buckets.levels ∙ are.flows;
+      buckets = record {
+        flows = ap (λ ls. length ls) done.levels ∙ spent-length (all_grants bs) 0 buckets.levels ∙ are.buckets.flows;
+        ticks = done.ticks ∙ are.buckets.ticks;
+      };
+      reserves = are.reserves;
+      round = are.round ∙ sym done.round;
       numbers = done.numbers ∙ are.numbers;
-      left = refl;
-      ticks = done.ticks ∙ are.ticks;
+      settled = refl;
       planner = are.planner;
       allowances = are.allowances;
+      left = are.left;
     })
 
-pub closed_value : (t : Tables) (round : ℕ) (asking now next : Asking) (buckets after : Buckets) (planner : Planner)
-    (allowances : List (Option ℕ)) (bs : List Built) → AreKept t asking buckets planner allowances →
+pub closed_value : (t : Tables) (round : ℕ) (asking now next : Asking) (buckets after reserves : Buckets) (planner : Planner)
+    (bs : List Built) → asking.left ≡ asking.outstanding → asking.numbers ≡ numbers_of (turns_of t) →
     AreCredited (all_grants bs) asking now buckets after → next ≡ settled now →
-    core_of t (round + 1) next after planner ≡ credited_core (core_of t round asking buckets planner) bs
-closed_value t round asking now next buckets after planner allowances bs are done ends =
+    core_of t (round + 1) next after reserves planner ≡ credited_core (core_of t round asking buckets reserves planner) bs
+closed_value t round asking now next buckets after reserves planner bs same own done ends =
     let left : now.left ≡ uncredited (all_grants bs) 0 asking.outstanding =
-    done.left ∙ ap (λ os. uncredited (all_grants bs) 0 os) are.left in
+    done.left ∙ ap (λ os. uncredited (all_grants bs) 0 os) same in
     let pending : pending_places now.outstanding now.left now.numbers
     ≡ pending_places asking.outstanding (uncredited (all_grants bs) 0 asking.outstanding) (numbers_of (turns_of t)) =
     ap (λ os. pending_places os now.left now.numbers) done.outstanding
     ∙ ap (λ os. pending_places asking.outstanding os now.numbers) left
-    ∙ ap (λ ns. pending_places asking.outstanding (uncredited (all_grants bs) 0 asking.outstanding) ns) (done.numbers ∙ are.numbers) in
-    ap (λ a. core_of t (round + 1) a after planner) ends
+    ∙ ap (λ ns. pending_places asking.outstanding (uncredited (all_grants bs) 0 asking.outstanding) ns) (done.numbers ∙ own) in
+    ap (λ a. core_of t (round + 1) a after reserves planner) ends
     ∙ ap₂ (λ n os. left_core n os after.levels (pending_places now.outstanding now.left now.numbers)) done.round left
     ∙ ap₂ (λ ls ps. left_core buckets.round (uncredited (all_grants bs) 0 asking.outstanding) ls ps) done.levels pending
   where
@@ -147,6 +209,7 @@ closed_value t round asking now next buckets after planner allowances bs are don
       told = told;
       outstanding = left;
       buckets = levels;
+      reserves = reserves.levels;
       pending = pending;
       claims = planner.claims;
     }

@@ -7,9 +7,11 @@ pub mod PhaseLemmas
 pub mod BucketLemmas
 pub mod AskingLemmas
 pub mod CreditingLemmas
+pub mod ReserveLemmas
 pub mod CoreLemmas
 pub mod SoundLemmas
 pub mod ScheduleLaws
+pub mod OnePassLaws
 pub mod ChannelRunLaws
 pub mod RoundLemmas
 pub mod StageLemmas

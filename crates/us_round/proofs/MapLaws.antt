@@ -9,7 +9,7 @@ use Rattle.us_flows.specs.Tables.{Tables, map_len, max_run_ticks}
 use Rattle.us_flows.specs.Clusters.{Turn, IsTurnIn, turns_of}
 use Rattle.us_flows.specs.Lawful.{AreTables, IsChannel}
 use Rattle.us_flows.proofs.TurnLaws.{turns_of-turns}
-use Rattle.us_bucket.specs.Levels.{bytes_in}
+use Rattle.us_bucket.specs.Levels.{bytes_in, reserve_in}
 use Rattle.us_holes.specs.Boards.{Board, IsOwner}
 use Rattle.us_holes.proofs.LawLemmas.{assign_all-is_board}
 use Rattle.us_calendar.specs.Entries.{Entry, entries}
@@ -149,7 +149,8 @@ state_maps s lawful is known time =
     let pending : List (ℕ × ℕ) = (ended s (builds_of s)).scheduled.pending in
     let grants : List PlacedClaim = all_grants (builds_of s) in
     let claims : AreClaims s.tables (round_plan s) =
-    plan_for-claims s.tables s.outstanding (map bytes_in s.buckets) (idle (fills_of s)) lawful (state_idle s lawful is) in
+    plan_for-claims s.tables s.outstanding (map bytes_in s.buckets) (map reserve_in s.reserves) (idle (fills_of s)) lawful
+    (state_idle s lawful is) in
     let made : AllByRecursion (λ b. IsMade b.board) (builds_of s) =
     builds_made s.tables s.round (round_plan s) s.tables.channels s.calendars lawful.channels known claims.each in
     let small : AllByRecursion IsSmall pending =

@@ -1,16 +1,18 @@
 -- That the parts of a round are the round.
-use Rattle.std.proofs.Common.{◌≡◌, ℕ, ◌+◌, ◌*◌, ◌<◌, ◌≤◌, List, length, map, refl, ap, arith}
+use Rattle.std.proofs.Common.{◌≡◌, ℕ, ◌+◌, ◌*◌, ◌<◌, ◌≤◌, List, length, map, refl, ap, ◌∙◌, arith}
 use Rattle.std.specs.Prelude.{filter_map, flat_map, sum_by}
 use Rattle.std.proofs.lemmas.Nat.{mul-le}
 use Rattle.us_flows.specs.Tables.{max_run_ticks}
 use Rattle.us_flows.specs.Clusters.{turns_of}
 use Rattle.us_flows.specs.Lawful.{AreTables}
+use Rattle.us_bucket.specs.Levels.{bytes_in, reserve_in}
 use Rattle.us_calendar.specs.Calendars.{settled_in}
+use Rattle.us_split.specs.Plans.{reserved_for}
 use Rattle.us_channel.specs.Channels.{Built}
-use Rattle.us_round.specs.Rounds.{State, uncredited, all_grants, pending_sids, credited, builds_of, fills_of, round_plan, round_from}
+use Rattle.us_round.specs.Rounds.{State, uncredited, all_grants, pending_sids, credited, builds_of, fills_of, idle, round_plan, round_from, unreserved}
 use Rattle.us_output.specs.Outputs.{rows_on, out_of, AreWithinLimits}
 use Rattle.us_output.specs.Leftovers.{still_asking}
-use Rattle.us_round.specs.Cores.{Core, AreCounted, credited_core}
+use Rattle.us_round.specs.Cores.{Core, AreCounted, credited_core, idle_of, planned_core}
 use Rattle.us_round.specs.Parts.{scheduled_of, state_of}
 use Rattle.us_round.specs.States.{AreSound, IsState}
 use Rattle.us_round.proofs.CalendarLemmas.{builds_long, calendars_sum, counted}
@@ -21,11 +23,23 @@ use Rattle.us_round.proofs.ScheduleLaws.{calendars_in, state_sound}
 
 -- The round.
 
--- what a round that has begun leaves
-pub run_state : (core : Core) (old bs : List Built) → bs ≡ builds_of (state_of core old) →
-    state_of (credited_core core bs) bs ≡ (round_from (state_of core old)).state
+-- what a round that is planned on what is idle leaves,
+pub left_state : (core : Core) (old fs bs : List Built) → idle_of fs ≡ idle (fills_of (state_of core old)) →
+    bs ≡ builds_of (state_of core old) →
+    state_of (credited_core (planned_core core fs) bs) bs ≡ credited (state_of core old) (builds_of (state_of core old))
+left_state core old fs bs free is =
+    let s : State = state_of core old in
+    ap (λ ms. record (credited s bs) {
+      reserves = unreserved (reserved_for core.tables core.outstanding (map bytes_in core.buckets) (map reserve_in core.reserves) ms) 0
+          core.reserves;
+    }) free
+    ∙ ap (λ bs. credited s bs) is
+
+pub run_state : (core : Core) (old fs bs : List Built) → idle_of fs ≡ idle (fills_of (state_of core old)) →
+    bs ≡ builds_of (state_of core old) →
+    state_of (credited_core (planned_core core fs) bs) bs ≡ (round_from (state_of core old)).state
 unfolding round_from
-run_state core old bs is = ap (λ bs. credited (state_of core old) bs) is
+run_state core old fs bs free is = left_state core old fs bs free is
 
 -- and what it was scheduled
 pub run_scheduled : (core : Core) (old bs : List Built) → bs ≡ builds_of (state_of core old) →

@@ -7,10 +7,10 @@ use Rattle.std.proofs.lemmas.List.{length-map}
 use Rattle.us_flows.specs.Tables.{Tables}
 use Rattle.us_flows.specs.Clusters.{clusters_of}
 use Rattle.us_flows.specs.Lawful.{AreTables}
-use Rattle.us_bucket.specs.Levels.{refilled, bytes_in}
+use Rattle.us_bucket.specs.Levels.{Level, refilled, bytes_in, reserve_in}
 use Rattle.us_split.specs.Plans.{IsIdle}
-use Rattle.us_split.proofs.PlanLawLemmas.{plan_for-lawful}
-use Rattle.us_round.specs.Rounds.{State, opening, grown, begun, fills_of, idle, builds_of, credited, round_from, round_of, schedule}
+use Rattle.us_split.proofs.TwoPassLaws.{plan_for-lawful}
+use Rattle.us_round.specs.Rounds.{State, opening, brought, begun, fills_of, idle, builds_of, credited, round_from, round_of, schedule, reserved_in}
 use Rattle.us_round.specs.Cores.{Core, AreCalendars, IsFilledFor}
 use Rattle.us_round.specs.States.{IsState, AreSound}
 use Rattle.us_round.specs.ScheduleLaws.{begun_rounds, AreCuts, ScheduleIsOfBegunRounds, RoundsAreNumbered, TablesStay, RoundsAreSound}
@@ -18,14 +18,15 @@ use Rattle.us_output.proofs.PartLemmas.{all_weaker}
 use Rattle.us_round.proofs.FillLemmas.{filled_idle}
 use Rattle.us_round.proofs.PhaseLemmas.{filled_sound, zip_long}
 use Rattle.us_round.proofs.CalendarLemmas.{state_next, opening_state}
+use Rattle.us_round.proofs.ReserveLemmas.{unreserved-length}
 use Rattle.us_round.proofs.SoundLemmas.{sound, turns_planned}
 
 -- One round.
 
-grown_length : (s : State) → length (grown s) ≡ length s.buckets
-grown_length s = elim (cases_Bool (s.round == 0)) [
+brought-length : (s : State) (levels : List Level) → length (brought s levels) ≡ length levels
+brought-length s levels = elim (cases_Bool (s.round == 0)) [
   | inl first ↦ rw first refl
-  | inr later ↦ rw later (length-map s.buckets (refilled s.tables.round_ticks))
+  | inr later ↦ rw later (length-map levels (refilled s.tables.round_ticks))
 ]
 
 -- a round begins with a state,
@@ -33,7 +34,8 @@ pub begun_state : (s : State) (cut : List ℕ) → IsState s → length cut ≡ 
 begun_state s cut is long = record {
   clusters = length-map (zip s.outstanding cut) (λ (pair : ℕ × ℕ). pair.0 + pair.1)
       ∙ zip_long s.outstanding cut (omega (arith, long, is.clusters)) ∙ long;
-  flows = grown_length s ∙ is.flows;
+  flows = brought-length s s.buckets ∙ is.flows;
+  reserves = brought-length s s.reserves ∙ is.reserves;
   paces = is.paces;
   rounds = is.rounds;
 }
@@ -50,10 +52,19 @@ next_state s is =
       told = 0;
       outstanding = s.outstanding;
       buckets = s.buckets;
+      reserves = s.reserves;
       pending = [];
       claims = [];
     } in
-    state_next core s.calendars (builds_of s) (record { clusters = is.clusters; flows = is.flows }) (calendars_in s is) refl
+    let next = state_next core s.calendars (builds_of s)
+    (record { clusters = is.clusters; flows = is.flows; reserves = is.reserves }) (calendars_in s is) refl in
+    record {
+      clusters = next.clusters;
+      flows = next.flows;
+      reserves = unreserved-length (reserved_in s) 0 s.reserves ∙ is.reserves;
+      paces = next.paces;
+      rounds = next.rounds;
+    }
 
 -- has no more idle minislots than its MAPs have,
 pub state_filled : (s : State) → AreTables s.tables → IsState s → AllByRecursion (IsFilledFor s.tables) (fills_of s)
@@ -67,7 +78,8 @@ state_idle s lawful is =
 pub state_sound : (s : State) → AreTables s.tables → IsState s → AreSound s (builds_of s)
 state_sound s lawful is =
     sound s lawful (calendars_in s is) is.clusters is.flows
-    (plan_for-lawful s.tables s.outstanding (map bytes_in s.buckets) (idle (fills_of s)) lawful (state_idle s lawful is))
+    (plan_for-lawful s.tables s.outstanding (map bytes_in s.buckets) (map reserve_in s.reserves) (idle (fills_of s)) lawful
+    (state_idle s lawful is))
     (turns_planned s) (state_filled s lawful is)
 
 -- All rounds.

@@ -9,13 +9,13 @@ use Rattle.us_flows.specs.Tables.{Tables}
 use Rattle.us_flows.specs.Clusters.{Turn, IsTurnIn, clusters_of, turns_of}
 use Rattle.us_flows.specs.Lawful.{AreTables, IsChannel, AreApart}
 use Rattle.us_flows.proofs.TurnLaws.{turns_of-turns}
-use Rattle.us_bucket.specs.Levels.{Level, bytes_in}
+use Rattle.us_bucket.specs.Levels.{Level, bytes_in, reserve_in}
 use Rattle.us_holes.specs.Boards.{Board, assign, assign_all}
 use Rattle.us_holes.proofs.LawLemmas.{fit_length, assign_all-length, assign_all-standing}
 use Rattle.us_calendar.specs.Calendars as calendars
 use Rattle.us_calendar.specs.Calendars.{granted_in}
-use Rattle.us_split.specs.Plans.{Planned, ledger_of, plan_for}
-use Rattle.us_split.proofs.PlanLawLemmas.{plan_of-turns}
+use Rattle.us_split.specs.Plans.{Planned}
+use Rattle.us_split.proofs.TwoPassLaws.{plan_for-turns}
 use Rattle.us_flows.specs.declared.channels.Channel.{Channel}
 use Rattle.us_split.specs.Claims.{Claim, Claimant, claimant_of, claim_at, claims_from, claims_on, all_claims, AreClaims, IsClaimOn}
 use Rattle.us_crew.specs.Values.{values_from}
@@ -191,9 +191,8 @@ sound s lawful all clusters flows law turns long =
 -- The plan of a round.
 
 pub turns_planned : (s : State) → map (λ planned. planned.turn) (round_plan s) ≡ turns_of s.tables
-unfolding plan_for
 turns_planned s =
-    plan_of-turns s.outstanding (ledger_of s.tables (map bytes_in s.buckets) (idle (fills_of s))) (turns_of s.tables)
+    plan_for-turns s.tables s.outstanding (map bytes_in s.buckets) (map reserve_in s.reserves) (idle (fills_of s))
 
 -- the channel at each place of the table places the claims that the plan has there
 built_from : (plan : List Planned) (all before : List (List Claim)) (place : ℕ) (fs : List Filled) →

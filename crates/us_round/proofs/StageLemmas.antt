@@ -5,7 +5,7 @@ use Rattle.std.specs.List.{AllByRecursion}
 use Rattle.us_flows.specs.Tables.{Tables, max_run_ticks}
 use Rattle.us_flows.specs.Clusters.{clusters_of, turns_of}
 use Rattle.us_flows.specs.Lawful.{AreTables, IsChannel}
-use Rattle.us_bucket.specs.Levels.{bytes_in}
+use Rattle.us_bucket.specs.Levels.{bytes_in, reserve_in}
 use Rattle.us_calendar.specs.Calendars.{pace_of}
 use Rattle.us_holes.specs.Boards.{free_count}
 use Rattle.us_split.specs.Plans.{IsIdle, plan_for}
@@ -14,7 +14,7 @@ use Rattle.us_split.proofs.ClaimLemmas.{plan_for-claims}
 use Rattle.us_channel.specs.Channels.{Filled, Built, IsBuilt, fill, ungranted}
 use Rattle.us_output.specs.Outputs.{RoundOut, Scheduled, out_of, AreWithinLimits}
 use Rattle.us_output.specs.Leftovers.{still_asking, told}
-use Rattle.us_round.specs.Rounds.{State, RoundResult, begun, fills_of, idle, round_plan, builds_of, credited, round_from, round_of}
+use Rattle.us_round.specs.Rounds.{State, RoundResult, begun, fills_of, idle, round_plan, builds_of, round_from, round_of}
 use Rattle.us_round.specs.States.{IsState, AreSound, settled_by}
 use Rattle.us_round.specs.Cores.{Core, IsReady, begun_core, credited_core, first_sid_at, idle_of, plan_over, planned_core}
 use Rattle.us_round.specs.Parts.{ArePartsDone, ArePartsOfRound, ArePartsOfState, AreBuilt, AreClaimsOn, built_by, done_by, done_of, filled_by, state_of}
@@ -25,7 +25,7 @@ use Rattle.us_round.proofs.SoundLemmas.{builds_are, claims_for}
 use Rattle.us_round.proofs.CalendarLemmas.{settled_few}
 use Rattle.us_round.proofs.ScheduleLaws.{begun_state, calendars_in, next_state, state_idle, state_sound}
 use Rattle.us_round.proofs.ChannelRunLaws.{channels_stay}
-use Rattle.us_round.proofs.RoundLemmas.{run_state, run_scheduled, run_few}
+use Rattle.us_round.proofs.RoundLemmas.{left_state, run_state, run_scheduled, run_few}
 
 -- The beginning.
 
@@ -78,12 +78,8 @@ room_as core bs are =
 plan_as : (core : Core) (bs : List Built) → ArePartsOfRound core bs →
     plan_over core (filled_by core bs) ≡ round_plan (state_of core bs)
 plan_as core bs are =
-    ap (λ free. plan_for core.tables core.outstanding (map bytes_in core.buckets) free) (filled_idle core bs are)
-
--- the parts are those of the round still
-planned_parts : (core : Core) (old bs : List Built) → ArePartsOfRound core old → ArePartsOfRound (planned_core core bs) old
-planned_parts core old bs are =
-    record { state = are.state; channels = are.channels; told = are.told; lawful = are.lawful }
+    ap (λ free. plan_for core.tables core.outstanding (map bytes_in core.buckets) (map reserve_in core.reserves) free)
+    (filled_idle core bs are)
 
 -- Claims.
 
@@ -100,7 +96,8 @@ claims_as core bs plan are is =
     ∙ filled_channels core.tables core.round s.calendars (calendars_in s are.state) in
     claims_for core.tables (round_plan s) plan (filled_by core bs)
     (is ∙ ap (λ plan. all_claims core.tables plan) (plan_as core bs are)) channels
-    (plan_for-claims core.tables core.outstanding (map bytes_in core.buckets) (idle (fills_of s)) are.lawful
+    (plan_for-claims core.tables core.outstanding (map bytes_in core.buckets) (map reserve_in core.reserves)
+    (idle (fills_of s)) are.lawful
     (state_idle s are.lawful are.state))
 
 pub builds_as : (core : Core) (bs : List Built) (plan : List (List Claim)) → ArePartsOfRound core bs →
@@ -113,7 +110,8 @@ builds_as core bs plan are is =
 -- The end.
 
 pub built_as : (core : Core) (old bs : List Built) → ArePartsOfRound core old →
-    (core.round + 1) * core.tables.round_ticks ≤ max_run_ticks → bs ≡ builds_of (state_of core old) → AreBuilt core bs
+    (core.round + 1) * core.tables.round_ticks ≤ max_run_ticks → bs ≡ builds_of (state_of core old) →
+    AreBuilt (planned_core core (filled_by core old)) bs
 built_as core old bs are time is =
     let s : State = state_of core old in
     let sound : AreSound s bs = subst (λ bs. AreSound s bs) (sym is) (state_sound s are.lawful are.state) in
@@ -124,7 +122,7 @@ built_as core old bs are time is =
       covers = sound.covers;
       boards = sound.boards;
       inside = sound.inside;
-      next = subst (λ bs. IsState (credited s bs)) (sym is) (next_state s are.state);
+      next = subst IsState (sym (left_state core old (filled_by core old) bs (filled_idle core old are) is)) (next_state s are.state);
       channels = ap (λ bs. map (λ (b : Built). b.channel) bs) is ∙ channels_stay s are.state;
     }
 
@@ -168,12 +166,12 @@ told_as core next bs pending is lists =
 abbrev result_of : State → Scheduled → RoundResult
 result_of state scheduled = record { state = state; scheduled = scheduled }
 
-pub round_as : (s : State) (core : Core) (old bs : List Built) → state_of core old ≡ s →
-    bs ≡ builds_of (state_of core old) → done_of core bs ≡ round_from s
+pub round_as : (s : State) (core : Core) (old bs : List Built) → ArePartsOfRound core old → state_of core old ≡ s →
+    bs ≡ builds_of (state_of core old) → done_of (planned_core core (filled_by core old)) bs ≡ round_from s
 unfolding round_from
-round_as s core old bs begins is =
-    ap₂ (λ state scheduled. result_of state scheduled) (run_state core old bs is)
-    (run_scheduled core old bs is)
+round_as s core old bs are begins is =
+    ap₂ (λ state scheduled. result_of state scheduled)
+    (run_state core old (filled_by core old) bs (filled_idle core old are) is) (run_scheduled core old bs is)
     ∙ ap round_from begins
 
 -- its tables are those that it began with
@@ -220,12 +218,12 @@ built_in_stages core second planned third old fs those bs are still fills plans 
 
 -- what they leave is the round
 pub stepped_as : (s : State) (cut : List ℕ) (core third : Core) (old bs : List Built) (done : RoundResult) →
-    state_of core old ≡ begun s cut →
+    ArePartsOfRound core old → state_of core old ≡ begun s cut →
     (third ≡ planned_core core (filled_by core old)) × (bs ≡ builds_of (state_of core old)) →
     done ≡ done_of third bs → done ≡ round_of s cut
 unfolding round_of
-stepped_as s cut core third old bs done begins stages is =
-    is ∙ ap (λ k. done_of k bs) stages.0 ∙ round_as (begun s cut) core old bs begins stages.1
+stepped_as s cut core third old bs done are begins stages is =
+    is ∙ ap (λ k. done_of k bs) stages.0 ∙ round_as (begun s cut) core old bs are begins stages.1
 
 pub stage_claims : (core second planned : Core) (old fs those : List Built) → ArePartsOfRound core old → second ≡ core →
     fs ≡ filled_by core old → planned ≡ planned_core second fs → those ≡ fs → AreClaimsOn planned.claims those
@@ -239,4 +237,4 @@ pub stage_built : (core third : Core) (old bs : List Built) → ArePartsOfRound 
     (third ≡ planned_core core (filled_by core old)) × (bs ≡ builds_of (state_of core old)) → AreBuilt third bs
 stage_built core third old bs are time stages =
     subst (λ k. AreBuilt k bs) (sym stages.0)
-    (built_as (planned_core core (filled_by core old)) old bs (planned_parts core old (filled_by core old) are) time stages.1)
+    (built_as core old bs are time stages.1)

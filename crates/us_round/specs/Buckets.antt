@@ -19,10 +19,22 @@ pub record AreKept (ticks round : ℕ) (kept : List Kept) : Type 0 where
   pub before : AllByRecursion (λ k. k.as_of ≤ round) kept
   pub time : round * ticks ≤ max_run_ticks
 
--- before round 0 they are full
+-- before round 0
+abbrev pub at_first : ℕ → List Kept → Buckets
+at_first ticks kept = record { levels = levels_in ticks 0 kept; ticks = ticks; round = 0 }
+
+-- they are full,
 abbrev pub full_buckets : Tables → Buckets
 full_buckets t = record {
   levels = map (λ flow. full flow.rate flow.burst) t.flows;
+  ticks = t.round_ticks;
+  round = 0;
+}
+
+-- and so are those of minimum rates
+abbrev pub full_reserves : Tables → Buckets
+full_reserves t = record {
+  levels = map (λ flow. full flow.min_rate flow.burst) t.flows;
   ticks = t.round_ticks;
   round = 0;
 }

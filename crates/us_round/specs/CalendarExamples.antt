@@ -1,7 +1,8 @@
 -- Rounds with calendars in small, computed by the definitions alone.
 use Rattle.std.specs.Prelude.{◌≡◌, ℕ, List, [], ◌∷◌, map, refl}
 use Rattle.us_flows.specs.declared.flows.SchedulingType.TheVariants.{UnsolicitedGrant}
-use Rattle.us_flows.specs.Tables.{Tables}
+use Rattle.us_flows.specs.Tables.{FlowTable, Tables}
+use Rattle.us_bucket.specs.Levels.{reserve_in}
 use Rattle.us_codec.specs.Elements.{word_of}
 use Rattle.us_calendar.specs.Occurrences.{due}
 use Rattle.us_calendar.specs.Settling.{settle_each, settle_entry}
@@ -13,10 +14,10 @@ use Rattle.us_output.specs.declared.rows.Row.{Row}
 use Rattle.us_output.specs.declared.rows.Row.TheVariants as rows
 use Rattle.us_output.specs.declared.rows.EntryWord.TheVariants as words
 
--- MAPs of 16 minislots, the last 2 of which are for contention; the base flow; and two grants of a minislot that are
+-- MAPs of 16 minislots, the last 2 of which are for contention; a flow; and two grants of a minislot that are
 -- ideal at minislot 6 of round 1, in a window that ends with it
-abbrev split : Tables
-split = record (tables (channel_with 1 2 0 1 ∷ []) (base_flow
+abbrev split_for : FlowTable → Tables
+split_for flow = record (tables (channel_with 1 2 0 1 ∷ []) (flow
     ∷ record (flow_with 2 0 (1 ∷ []) ((513 ∷ []) ∷ [])) {
       kind = UnsolicitedGrant;
       start_us = 275;
@@ -24,6 +25,9 @@ split = record (tables (channel_with 1 2 0 1 ∷ []) (base_flow
       grant_bytes = 16;
       grants_per_interval = 2;
     } ∷ [])) { round_ticks = 32 }
+
+abbrev split : Tables
+split = split_for base_flow
 
 -- rounds 0 and 1, in the second of which the base flow asks for so many bytes
 abbrev outs : ℕ → List RoundOut
@@ -87,3 +91,10 @@ elements = refl
 left : (final (opening split) ((0 ∷ []) ∷ (1000 ∷ []) ∷ [])).outstanding ≡ 800 ∷ []
 unfolding round_steps due settle_each settle_entry
 left = refl
+
+-- where the base flow's 3,044 bytes are reserved, those that are planned leave its reserve, and not those that are placed
+reserve_left :
+    map reserve_in (final (opening (split_for (record base_flow { min_rate = 1280000 }))) ((0 ∷ []) ∷ (1000 ∷ []) ∷ [])).reserves
+    ≡ 2652 ∷ 0 ∷ []
+unfolding round_steps due settle_each settle_entry
+reserve_left = refl

@@ -1,14 +1,14 @@
 -- Inside the crate, and of no use to a reader of the promise: a state without its calendars, which go from round to round
 -- with their channels; and what is known of the channels of a round on the way.
-use Rattle.std.specs.Prelude.{◌≡◌, ℕ, ◌+◌, ◌*◌, ◌≤◌, List, [], length, map, replicate, slice_get, slice_index_or, sum_by, Option, Some, None, option_and_then}
+use Rattle.std.specs.Prelude.{◌≡◌, ℕ, ◌+◌, ◌-◌, ◌*◌, ◌≤◌, List, [], ◌∷◌, length, map, replicate, slice_get, slice_index, slice_index_or, slice_set, sum_by, Option, Some, None, option_and_then}
 use Rattle.std.specs.List.{AllByRecursion}
 use Rattle.us_flows.specs.Tables.{Tables, map_len, max_run_ticks}
 use Rattle.us_flows.specs.Lawful.{AreTables, IsChannel}
 use Rattle.us_flows.specs.Clusters.{clusters_of, turns_of}
 use Rattle.us_flows.specs.declared.turns.Turn as places
-use Rattle.us_bucket.specs.Levels.{Level, full, bytes_in}
+use Rattle.us_bucket.specs.Levels.{Level, full, spent, bytes_in, reserve_in}
 use Rattle.us_holes.specs.Boards.{free_count}
-use Rattle.us_split.specs.Plans.{Planned, plan_for}
+use Rattle.us_split.specs.Plans.{Planned, plan_for, reserved_for}
 use Rattle.us_split.specs.Claims.{Claim, all_claims}
 use Rattle.us_split.specs.Asking.{Asking, numbers_of, pending_places}
 use Rattle.us_split.specs.Planners.{Planner}
@@ -19,7 +19,7 @@ use Rattle.us_calendar.specs.Calendars as calendars
 use Rattle.us_calendar.specs.Calendars.{Calendar, pace_of, settled_in, granted_in}
 use Rattle.us_channel.specs.Channels.{Filled, Built}
 use Rattle.us_round.specs.States.{Covers}
-use Rattle.us_round.specs.Rounds.{State, with_cut, grown, all_grants, uncredited, spent_of}
+use Rattle.us_round.specs.Rounds.{State, with_cut, grown, grown_reserves, all_grants, uncredited, spent_of, unreserved}
 
 -- all of a state but its calendars
 pub record Core : Type 0 where
@@ -29,6 +29,8 @@ pub record Core : Type 0 where
   pub told : ℕ
   pub outstanding : List ℕ
   pub buckets : List Level
+  -- the buckets of minimum rates; once a round is planned, what its plan leaves of them
+  pub reserves : List Level
   -- the places of the turns that were pending in the round before, and the claims on each channel
   pub pending : List ℕ
   pub claims : List (List Claim)
@@ -40,13 +42,15 @@ with_calendars core cs = record {
   round = core.round;
   outstanding = core.outstanding;
   buckets = core.buckets;
+  reserves = core.reserves;
   calendars = cs;
 }
 
--- there is a number for each cluster, and a bucket for each flow
+-- there is a number for each cluster, and a bucket and a reserve for each flow
 pub record IsCore (core : Core) : Type 0 where
   pub clusters : length core.outstanding ≡ length (clusters_of core.tables)
   pub flows : length core.buckets ≡ length core.tables.flows
+  pub reserves : length core.reserves ≡ length core.tables.flows
 
 -- before round 0
 abbrev pub opening_core : Tables → Core
@@ -56,6 +60,7 @@ opening_core t = record {
   told = 0;
   outstanding = replicate (length (clusters_of t)) 0;
   buckets = map (λ flow. full flow.rate flow.burst) t.flows;
+  reserves = map (λ flow. full flow.min_rate flow.burst) t.flows;
   pending = [];
   claims = map (λ c. []) t.channels;
 }
@@ -68,6 +73,7 @@ begun_core core cut = record {
   told = core.round;
   outstanding = with_cut core.outstanding cut;
   buckets = grown (with_calendars core []);
+  reserves = grown_reserves (with_calendars core []);
   pending = core.pending;
   claims = core.claims;
 }
@@ -77,7 +83,13 @@ abbrev pub idle_of : List Built → List ℕ
 idle_of bs = map (λ b. free_count b.board.cells) bs
 
 abbrev pub plan_over : Core → List Built → List Planned
-plan_over core bs = plan_for core.tables core.outstanding (map bytes_in core.buckets) (idle_of bs)
+plan_over core bs =
+    plan_for core.tables core.outstanding (map bytes_in core.buckets) (map reserve_in core.reserves) (idle_of bs)
+
+-- and what it takes of the reserve of the flow at a place
+abbrev pub reserved_over : Core → List Built → ℕ → ℕ
+reserved_over core bs =
+    reserved_for core.tables core.outstanding (map bytes_in core.buckets) (map reserve_in core.reserves) (idle_of bs)
 
 abbrev pub planned_core : Core → List Built → Core
 planned_core core bs = record {
@@ -86,6 +98,7 @@ planned_core core bs = record {
   told = core.told;
   outstanding = core.outstanding;
   buckets = core.buckets;
+  reserves = unreserved (reserved_over core bs) 0 core.reserves;
   pending = core.pending;
   claims = all_claims core.tables (plan_over core bs);
 }
@@ -98,6 +111,7 @@ credited_core core builds = record {
   told = core.told;
   outstanding = uncredited (all_grants builds) 0 core.outstanding;
   buckets = spent_of (all_grants builds) 0 core.buckets;
+  reserves = core.reserves;
   pending = pending_places core.outstanding (uncredited (all_grants builds) 0 core.outstanding) (numbers_of (turns_of core.tables));
   claims = core.claims;
 }
@@ -105,27 +119,36 @@ credited_core core builds = record {
 -- What it is made of.
 
 -- what a core is made of
-abbrev pub core_of : Tables → ℕ → Asking → Buckets → Planner → Core
-core_of t round asking buckets planner = record {
+abbrev pub core_of : Tables → ℕ → Asking → Buckets → Buckets → Planner → Core
+core_of t round asking buckets reserves planner = record {
   tables = t;
   round = round;
   told = buckets.round;
   outstanding = asking.outstanding;
   buckets = buckets.levels;
+  reserves = reserves.levels;
   pending = asking.pending;
   claims = planner.claims;
 }
 
--- its parts are of the same tables; and nothing is credited that isn't settled
-pub record AreKept (t : Tables) (asks : Asking) (kept : Buckets) (plans : Planner) (most : List (Option ℕ)) : Type 0 where
+-- buckets of these tables' flows
+pub record AreBuckets (t : Tables) (kept : Buckets) : Type 0 where
+  pub flows : length kept.levels ≡ length t.flows
+  pub ticks : kept.ticks ≡ t.round_ticks
+
+-- its parts are of the same tables and the same round; and nothing is credited that isn't settled
+pub record AreKept (t : Tables) (asks : Asking) (kept least : Buckets) (plans : Planner) (most : List (Option ℕ))
+    (noted : List ℕ) : Type 0 where
   pub lawful : AreTables t
   pub clusters : length asks.outstanding ≡ length (clusters_of t)
-  pub flows : length kept.levels ≡ length t.flows
+  pub buckets : AreBuckets t kept
+  pub reserves : AreBuckets t least
+  pub round : least.round ≡ kept.round
   pub numbers : asks.numbers ≡ numbers_of (turns_of t)
-  pub left : asks.left ≡ asks.outstanding
-  pub ticks : kept.ticks ≡ t.round_ticks
+  pub settled : asks.left ≡ asks.outstanding
   pub planner : plans.tables ≡ t
   pub allowances : length most ≡ length t.flows
+  pub left : length noted ≡ length t.flows
 
 -- the allowance of the flow of the turn at this place is what the bucket allows
 abbrev pub IsAllowed : List places.Turn → List Level → List (Option ℕ) → ℕ → Type 0
@@ -134,6 +157,27 @@ IsAllowed turns levels allowances place = (turn : places.Turn) → slice_get tur
 
 abbrev pub AreAllowed : List places.Turn → List Level → List (Option ℕ) → List ℕ → Type 0
 AreAllowed turns levels allowances these = AllByRecursion (IsAllowed turns levels allowances) these
+
+-- the flow of the turn at a place
+abbrev pub flow_at : List places.Turn → ℕ → ℕ
+flow_at turns place = (slice_index_or turns place (record { flow = 0; list = 0; cluster = 0 })).flow
+
+-- what is noted for the flows of the turns at these places is what the buckets of their minimum rates reserve
+abbrev pub AreReserved : List places.Turn → List Level → List ℕ → List ℕ → Type 0
+AreReserved turns levels reserves these =
+    AllByRecursion (λ place. slice_index reserves (flow_at turns place) ≡ slice_index (map reserve_in levels) (flow_at turns place)) these
+
+-- a bucket once it reserves no more than so many bytes
+abbrev pub left_in : ℕ → Level → Level
+left_in left level = spent (reserve_in level - left) level
+
+-- the buckets once that of the flow of each turn at these places reserves no more than is left there
+abbrev pub left_at : List places.Turn → List ℕ → List ℕ → List Level → List Level
+left_at turns left [] levels = levels
+left_at turns left (place ∷ these) levels =
+    let flow : ℕ = flow_at turns place in
+    left_at turns left these
+    (slice_set levels flow (left_in (slice_index left flow) (slice_index_or levels flow (full 0 0))))
 
 -- what grants leave of those who ask and of the buckets
 pub record AreCredited (grants : List PlacedClaim) (asking next : Asking) (buckets after : Buckets) : Type 0 where

@@ -9,13 +9,13 @@ use Rattle.us_flows.specs.declared.channels.Channel.{Channel}
 use Rattle.us_flows.specs.declared.flows.SchedulingType.TheVariants.{BestEffort}
 use Rattle.us_flows.specs.Tables.{FlowTable, Tables}
 use Rattle.us_flows.specs.Clusters.{Turn, table_order, turns_of}
-use Rattle.us_bucket.specs.Levels.{bytes_in, refilled, spent, units_in}
+use Rattle.us_bucket.specs.Levels.{bytes_in, refilled, reserve_in, spent, units_in}
 use Rattle.us_holes.specs.Boards.{assign_all, first_of, longest_up_to}
 use Rattle.us_holes.specs.Runs.{runs_from}
 use Rattle.us_calendar.specs.Calendars.{run_entries}
 use Rattle.us_calendar.specs.Entries.{entries}
 use Rattle.us_split.specs.Divisions.{divided}
-use Rattle.us_split.specs.Plans.{after_turn, cost_on, plan_for, plan_of, shares_of, weights}
+use Rattle.us_split.specs.Plans.{after_both, after_plan, after_turn, cost_on, more_shares, plan_for, plan_of, reserved_for, second_of, shares_of, two_passes, weights}
 use Rattle.us_split.specs.Claims.{claims_from}
 use Rattle.us_channel.specs.Reserves.{reserves}
 use Rattle.us_channel.specs.Placements.{grants_of, spot}
@@ -30,8 +30,8 @@ use Rattle.us_output.specs.declared.rows.EntryWord.TheVariants as words
 -- what these computations unfold
 unfoldable pub round_steps : ⊤
 unfolding coded_length burst_cost greatest_up_to capacity_of turns_of bytes_in refilled spent units_in assign_all
-    first_of longest_up_to runs_from divided after_turn cost_on plan_for plan_of shares_of weights reserves claims_from
-    grants_of spot build_planned builds_of final pending_sids pendings_on round_from round_of schedule by_start elements_of
+    first_of longest_up_to runs_from divided after_turn cost_on plan_of shares_of weights after_plan more_shares after_both
+    second_of two_passes plan_for reserve_in reserved_for reserves claims_from grants_of spot build_planned builds_of final pending_sids pendings_on round_from round_of schedule by_start elements_of
     final_rows head_of map_of out_of rows_on word_of entries run_entries
 round_steps = tt
 
@@ -62,6 +62,7 @@ flow_with id priority channels clusters = record {
   priority = priority;
   rate = 0;
   burst = 3044;
+  min_rate = 0;
   unit = 4;
   headers = true;
   start_us = 0;
@@ -300,3 +301,28 @@ limited_round :
     ((step limited 1 (2000 ∷ 1000 ∷ [])).scheduled.pending ≡ (1, 292) ∷ [])
 unfolding round_steps
 limited_round = (refl, refl, refl, refl, refl)
+
+-- Minimum rates.
+
+-- a flow of priority 7 that asks for all, and one for which 1,522 bytes are reserved, and 320 more in each round
+abbrev reserved : Tables
+reserved =
+    tables (base_channel ∷ [])
+    (flow_with 1 7 (1 ∷ []) ((291 ∷ []) ∷ [])
+    ∷ record (flow_with 2 0 (1 ∷ []) ((292 ∷ []) ∷ [])) { burst = 1522; min_rate = 1280000 } ∷ [])
+
+-- so many bytes are asked for in round 1
+abbrev cuts : List (List ℕ)
+cuts = (0 ∷ 0 ∷ []) ∷ (262140 ∷ 10000 ∷ []) ∷ (0 ∷ 0 ∷ []) ∷ []
+
+-- the second flow has 1,544 bytes in round 1 and 328 in round 2, of which 22 and 8 aren't taken of its reserve
+reserved_rounds :
+    (map (λ scheduled. map (λ m. map word_of m.elements) (out_of reserved scheduled).maps) (schedule (opening reserved) cuts) ≡
+    ((0xfffc4000 ∷ 0xfffc4096 ∷ 0x0001c0a0 ∷ []) ∷ [])
+    ∷ ((0x048e8000 ∷ 0x04928065 ∷ 0xfffc4096 ∷ 0x0001c0a0 ∷ []) ∷ [])
+    ∷ ((0x048e8000 ∷ 0x0492808b ∷ 0xfffc4096 ∷ 0x0001c0a0 ∷ []) ∷ []) ∷ []) ×
+    ((final (opening reserved) cuts).outstanding ≡ 254508 ∷ 8128 ∷ []) ×
+    (map reserve_in (opening reserved).reserves ≡ 0 ∷ 1522 ∷ []) ×
+    (map reserve_in (final (opening reserved) cuts).reserves ≡ 0 ∷ 0 ∷ [])
+unfolding round_steps
+reserved_rounds = (refl, refl, refl, refl)

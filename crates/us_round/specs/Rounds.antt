@@ -2,23 +2,24 @@
 use Rattle.std.specs.Prelude.{ℕ, ◌+◌, ◌-◌, ◌==◌, nat_lt, Bool, ◌&&◌, if◌then◌else◌, List, [], ◌∷◌, length, replicate, map, flat_map, filter_map, zip, slice_index, Option, None}
 use Rattle.us_flows.specs.Tables.{Tables}
 use Rattle.us_flows.specs.Clusters.{Turn, clusters_of, turns_of}
-use Rattle.us_bucket.specs.Levels.{Level, full, refilled, spent, bytes_in}
+use Rattle.us_bucket.specs.Levels.{Level, full, refilled, spent, bytes_in, reserve_in}
 use Rattle.us_holes.specs.Boards.{free_count}
 use Rattle.us_calendar.specs.Calendars as calendars
 use Rattle.us_calendar.specs.Calendars.{Calendar}
-use Rattle.us_split.specs.Plans.{Planned, plan_for}
+use Rattle.us_split.specs.Plans.{Planned, plan_for, reserved_for}
 use Rattle.us_split.specs.Claims.{claims_on}
 use Rattle.us_channel.specs.Placements.{PlacedClaim, credits}
 use Rattle.us_channel.specs.Channels.{Filled, fill, Built, build_on}
 use Rattle.us_output.specs.Outputs.{Scheduled, first_sid}
 
--- what a round starts from: the tables, its number, the outstanding bytes of each cluster, the bucket of each flow, and
--- the calendar of each channel
+-- what a round starts from: the tables, its number, the outstanding bytes of each cluster, the bucket of each flow and that of
+-- its minimum rate, and the calendar of each channel
 pub record State : Type 0 where
   pub tables : Tables
   pub round : ℕ
   pub outstanding : List ℕ
   pub buckets : List Level
+  pub reserves : List Level
   pub calendars : List Calendar
 
 -- before round 0 nothing is outstanding, every bucket is full, and nothing of the calendars is settled
@@ -28,6 +29,7 @@ opening t = record {
   round = 0;
   outstanding = replicate (length (clusters_of t)) 0;
   buckets = map (λ flow. full flow.rate flow.burst) t.flows;
+  reserves = map (λ flow. full flow.min_rate flow.burst) t.flows;
   calendars = map (calendars.opening t) t.channels;
 }
 
@@ -37,9 +39,17 @@ opening t = record {
 abbrev pub with_cut : List ℕ → List ℕ → List ℕ
 with_cut outstanding cut = map (λ pair. pair.0 + pair.1) (zip outstanding cut)
 
--- in every round but the first the buckets grow by what a round's time brings
+-- in every round but the first buckets grow by what a round's time brings,
+abbrev pub brought : State → List Level → List Level
+brought state levels = if state.round == 0 then levels else map (refilled state.tables.round_ticks) levels
+
+-- those that limit flows
 abbrev pub grown : State → List Level
-grown state = if state.round == 0 then state.buckets else map (refilled state.tables.round_ticks) state.buckets
+grown state = brought state state.buckets
+
+-- and those of minimum rates
+abbrev pub grown_reserves : State → List Level
+grown_reserves state = brought state state.reserves
 
 -- Channels.
 
@@ -74,11 +84,16 @@ uncredited grants number [] = []
 uncredited grants number (bytes ∷ more) =
     (bytes - credits (is_of_cluster number) grants) ∷ uncredited grants (number + 1) more
 
--- and the buckets of the flows from `place` on
+-- the buckets of the flows from `place` on,
 abbrev pub spent_of : List PlacedClaim → ℕ → List Level → List Level
 spent_of grants place [] = []
 spent_of grants place (bucket ∷ more) =
     spent (credits (is_of_flow place) grants) bucket ∷ spent_of grants (place + 1) more
+
+-- and what the plan reserves of each flow leaves the bucket of its minimum rate, whether it is placed or not
+abbrev pub unreserved : (ℕ → ℕ) → ℕ → List Level → List Level
+unreserved reserved place [] = []
+unreserved reserved place (bucket ∷ more) = spent (reserved place) bucket ∷ unreserved reserved (place + 1) more
 
 -- Pendings.
 
@@ -99,13 +114,14 @@ pub record RoundResult : Type 0 where
   pub state : State
   pub scheduled : Scheduled
 
--- a state whose round has begun: what is newly asked for is outstanding too, and the buckets have grown
+-- a state whose round has begun: what is newly asked for is outstanding too, and all buckets have grown
 abbrev pub begun : State → List ℕ → State
 begun state cut = record {
   tables = state.tables;
   round = state.round;
   outstanding = with_cut state.outstanding cut;
   buckets = grown state;
+  reserves = grown_reserves state;
   calendars = state.calendars;
 }
 
@@ -115,7 +131,14 @@ fills_of state = filled state.tables state.round state.calendars
 
 -- its plan, on what is idle then
 abbrev pub round_plan : State → List Planned
-round_plan state = plan_for state.tables state.outstanding (map bytes_in state.buckets) (idle (fills_of state))
+round_plan state =
+    plan_for state.tables state.outstanding (map bytes_in state.buckets) (map reserve_in state.reserves) (idle (fills_of state))
+
+-- and what that takes of the reserve of the flow at a place
+abbrev pub reserved_in : State → ℕ → ℕ
+reserved_in state =
+    reserved_for state.tables state.outstanding (map bytes_in state.buckets) (map reserve_in state.reserves)
+    (idle (fills_of state))
 
 -- and its channels, once all claims are placed
 unfoldable pub builds_of : State → List Built
@@ -130,6 +153,7 @@ credited state builds =
       round = state.round + 1;
       outstanding = uncredited grants 0 state.outstanding;
       buckets = spent_of grants 0 state.buckets;
+      reserves = unreserved (reserved_in state) 0 state.reserves;
       calendars = map (λ b. b.calendar) builds;
     }
 

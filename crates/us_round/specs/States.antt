@@ -12,10 +12,11 @@ use Rattle.us_output.specs.Leftovers.{IsBuiltFor, AreInside}
 use Rattle.us_output.specs.declared.rows.Row.{Row}
 use Rattle.us_round.specs.Rounds.{State, all_grants, is_of_cluster, is_of_flow}
 
--- there is a number for each cluster, a bucket for each flow, and a calendar for each channel, at this round
+-- there is a number for each cluster, a bucket and a reserve for each flow, and a calendar for each channel, at this round
 pub record IsState (s : State) : Type 0 where
   pub clusters : length s.outstanding ≡ length (clusters_of s.tables)
   pub flows : length s.buckets ≡ length s.tables.flows
+  pub reserves : length s.reserves ≡ length s.tables.flows
   pub paces : map (λ calendar. calendar.pace) s.calendars ≡ map (pace_of s.tables) s.tables.channels
   pub rounds : AllByRecursion (λ calendar. calendar.next_round ≡ s.round) s.calendars
 

@@ -1,8 +1,10 @@
 ghost use Rattle.std.specs.Prelude.{◌≡◌, ◌-◌, ◌*◌, ◌<◌, ◌≤◌, length, slice_index_or, slice_set, IfOk};
+ghost use Rattle.std.specs.List.{AllByRecursion};
 ghost use Rattle.us_flows.specs.Tables.{max_run_ticks};
-ghost use Rattle.us_bucket.specs.Levels.{Has, Level, bytes_in, spent};
+ghost use Rattle.us_bucket.specs.Levels.{Has, Level, bytes_in, full, reserve_in, spent};
 ghost use Rattle.us_bucket.specs.RoundBuckets.{brought_to};
 ghost use Rattle.us_round.specs.Buckets as spec;
+ghost use Rattle.us_round.specs.Cores.{left_in};
 
 use std::alloc::Global;
 use std::marker::Model;
@@ -50,11 +52,28 @@ impl Buckets {
         for flow in flows {
             kept.push(RoundBucket::full(flow.rate(), flow.burst()))?;
         }
-        Ok(Buckets {
-            kept,
-            ticks: config.round_ticks(),
-            round: 0,
-        })
+        Ok(Buckets::at_first(kept, config.round_ticks()))
+    }
+
+    /// Before round 0 those of minimum rates are full too.
+    pub(crate) fn full_reserves(alloc: Global, config: &Config) -> Result<Buckets, NoMemory>
+        ensures { IfOk result (λ buckets. buckets ≡ spec.full_reserves config.now) }
+    {
+        let flows = config.flows();
+        let mut kept = Vec::with_capacity(alloc, flows.len())?;
+        for flow in flows {
+            kept.push(RoundBucket::full(flow.min_rate(), flow.burst()))?;
+        }
+        Ok(Buckets::at_first(kept, config.round_ticks()))
+    }
+
+    /// Buckets as they are before round 0.
+    fn at_first(kept: Vec<RoundBucket>, ticks: u32) -> Buckets
+        requires { AllByRecursion (λ k. k.as_of ≤ 0) kept.items }
+        ensures { result ≡ spec.at_first ticks kept.items }
+    {
+        let round = 0;
+        Buckets { kept, ticks, round }
     }
 
     /// The round of this number begins, which is the next one: in every round but the first each bucket grows by what a
@@ -94,6 +113,33 @@ impl Buckets {
         let mut bucket = brought(kept, place, round, ticks);
         bucket.spend(bytes);
         kept[place] = bucket;
+    }
+
+    /// The bytes that the bucket of the flow at this place reserves, if its rate is a minimum. One of rate 0 reserves none,
+    /// and nothing is refilled for that.
+    pub(crate) fn reserve(&self, place: usize) -> u64
+        requires { place < length self.now.levels }
+        ensures { (d : Level) → result ≡ reserve_in (slice_index_or self.now.levels place d) }
+    {
+        let bucket = self.kept[place];
+        match bucket.bytes() {
+            Some(_) => bucket.level_in(self.round, self.ticks).reserve(),
+            None => 0,
+        }
+    }
+
+    /// The bucket of the flow at this place reserves no more than so many bytes from now on; the others leave it.
+    pub(crate) fn leave(&mut self, place: usize, left: u64)
+        requires { place < length self.old.levels }
+        ensures levels { self.new.levels ≡ slice_set self.old.levels place
+            (left_in left (slice_index_or self.old.levels place (full 0 0))) }
+        ensures ticks { self.new.ticks ≡ self.old.ticks }
+        ensures round { self.new.round ≡ self.old.round }
+    {
+        let reserve = self.reserve(place);
+        if left < reserve {
+            self.spend(place, reserve - left);
+        }
     }
 
     /// All of them, as they are in the round.

@@ -27,9 +27,13 @@ mod crediting;
 // Who is pending.
 mod pending;
 
+// What is reserved.
+mod reserving;
+
 use allowing::{allow, note_idle};
 use crediting::credit_all;
 use pending::list_pendings;
+use reserving::{leave, reserve};
 
 /// What a core has in memory. It stays where it stands while the core goes through the stages of a round.
 pub(crate) struct Kept {
@@ -37,10 +41,12 @@ pub(crate) struct Kept {
     round: u32,
     askers: Askers,
     buckets: Buckets,
+    reserves: Buckets,
     planner: Planner,
 
-    // room for what a plan is made of: allowances by flow, and idle minislots by channel
+    // room for what a plan is made of: allowances and what is reserved, by flow, and idle minislots by channel
     allowances: Vec<Option<u64>>,
+    left: Vec<u64>,
     idle: Vec<u32>,
 }
 
@@ -52,15 +58,17 @@ impl Drop for Kept {
             round: _,
             askers: _,
             buckets: _,
+            reserves: _,
             planner: _,
             allowances: _,
+            left: _,
             idle: _,
         } = self;
     }
 }
 
 /// All that a round starts from but the channels: the configuration, the number of the round, what is outstanding of each
-/// SID cluster, and the bucket of each flow; and the planner, which has the claims of the round.
+/// SID cluster, and of each flow its bucket and that of its minimum rate; and the planner, which has the claims of the round.
 pub(crate) struct Core {
     kept: Box<Kept>,
 }
@@ -69,10 +77,10 @@ impl Model for Core {
     ghost Value = { spec.Core };
 
     ghost view = { λ s. spec.core_of s.kept.value.config s.kept.value.round s.kept.value.askers s.kept.value.buckets
-        s.kept.value.planner };
+        s.kept.value.reserves s.kept.value.planner };
 
-    ghost invariant = { λ s. spec.AreKept s.kept.value.config s.kept.value.askers s.kept.value.buckets s.kept.value.planner
-        s.kept.value.allowances.items };
+    ghost invariant = { λ s. spec.AreKept s.kept.value.config s.kept.value.askers s.kept.value.buckets s.kept.value.reserves
+        s.kept.value.planner s.kept.value.allowances.items s.kept.value.left.items };
 }
 
 /// Gives the core up. It is written out so that it is one step wherever a core ends.
@@ -89,8 +97,11 @@ impl Core {
     {
         let askers = Askers::new(alloc, &config)?;
         let buckets = Buckets::full(alloc, &config)?;
+        let reserves = Buckets::full_reserves(alloc, &config)?;
         let planner = Planner::new(alloc, &config)?;
-        let allowances = no_limits(alloc, config.flows().len())?;
+        let flows = config.flows().len();
+        let allowances = no_limits(alloc, flows)?;
+        let left = nothing_left(alloc, flows)?;
         let kept = Box::new(
             alloc,
             Kept {
@@ -98,8 +109,10 @@ impl Core {
                 round: 0,
                 askers,
                 buckets,
+                reserves,
                 planner,
                 allowances,
+                left,
                 idle: Vec::new(alloc),
             },
         )?;
@@ -155,13 +168,16 @@ impl Core {
             round,
             askers,
             buckets,
+            reserves,
             ..
         } = self.kept.as_mut();
         askers.add_all(cuts);
         buckets.begin(*round);
+        reserves.begin(*round);
     }
 
-    /// Plans the round, over channels with reserves and calendars.
+    /// Plans the round, over channels with reserves and calendars. What the plan reserves of flows leaves the buckets of their
+    /// minimum rates, whether it is placed or not.
     pub(crate) fn plan(&mut self, channels: &[ChannelWithText]) -> Result<(), NoMemory>
         requires room { IsIdle self.old.tables (spec.idle_of channels.now) }
         ensures { OnOk result (self.new ≡ spec.planned_core self.old channels.now) }
@@ -170,15 +186,23 @@ impl Core {
             config,
             askers,
             buckets,
+            reserves,
             planner,
             allowances,
+            left,
             idle,
             ..
         } = self.kept.as_mut();
         note_idle(idle, channels)?;
+        let turns = config.turns();
+        let asking = askers.asking();
         let allowances = allowances.as_mut_slice();
-        allow(config.turns(), askers.asking(), buckets, allowances);
-        planner.plan(askers.asking(), askers.outstanding(), allowances, idle)
+        let left = left.as_mut_slice();
+        allow(turns, asking, buckets, allowances);
+        reserve(turns, asking, reserves, left);
+        planner.plan(asking, askers.outstanding(), allowances, left, idle)?;
+        leave(turns, asking, reserves, left);
+        Ok(())
     }
 
     /// Ends the round: what was granted leaves the outstanding bytes and the buckets.
@@ -212,4 +236,11 @@ fn no_limits(alloc: Global, flows: usize) -> Result<Vec<Option<u64>>, NoMemory>
     ensures { IfOk result (λ all. length all.items ≡ flows) }
 {
     Ok(vec![in alloc; None; flows]?)
+}
+
+/// Nothing left of what is reserved, for so many flows.
+fn nothing_left(alloc: Global, flows: usize) -> Result<Vec<u64>, NoMemory>
+    ensures { IfOk result (λ all. length all.items ≡ flows) }
+{
+    Ok(vec![in alloc; 0; flows]?)
 }

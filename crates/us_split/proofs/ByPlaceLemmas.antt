@@ -28,3 +28,9 @@ share_put asker position sid share at place xs d y here within some is =
     ap (set xs at) (is ∙ sym claim) ∙
     changed_here (with_share asker position sid share) xs at d (omega (arith, here, within)) ∙
     ap (changed (with_share asker position sid share) xs) here
+
+-- so does one that is written back
+pub change_put : (f : ChannelPlan → ChannelPlan) (at place : ℕ) (xs : List ChannelPlan) (d y : ChannelPlan) → at ≡ place →
+    place < length xs → y ≡ f (get_or xs at d) → set xs at y ≡ changed f xs place
+change_put f at place xs d y here within is =
+    ap (set xs at) is ∙ changed_here f xs at d (omega (arith, here, within)) ∙ ap (changed f xs) here

@@ -1,15 +1,16 @@
 -- What is planned on channels: fewer minislots last no longer, where ids are apart a channel stands at one place, and the
 -- shares of a turn change each channel as its share there does.
-use Rattle.std.proofs.Common.{◌≡◌, ◌≢◌, ℕ, zero, suc, ◌+◌, ◌-◌, ◌*◌, ◌==◌, ◌<◌, ◌≤◌, List, [], ◌∷◌, ◌++◌, length, map, set, zip, get_or, Option, Some, None, option_map, refl, sym, ap, ap₂, ◌∙◌, subst, inl, inr, eq-eqb, ne_eqb, append-nil, arith}
+use Rattle.std.proofs.Common.{◌≡◌, ◌≢◌, ℕ, zero, suc, ◌+◌, ◌-◌, ◌*◌, ◌/◌, ◌==◌, ◌<◌, ◌≤◌, min, List, [], ◌∷◌, ◌++◌, length, map, set, get_or, Option, Some, None, option_map, refl, sym, ap, ap₂, ◌∙◌, subst, inl, inr, eq-eqb, ne_eqb, append-nil, arith}
 use Rattle.std.specs.Prelude.{slice_index, position, option_and_then, option_to_list}
 use Rattle.std.specs.List.{AllByRecursion}
+use Rattle.std.proofs.Math.Nat.{div-le_self, div-mul-le_self}
 use Rattle.std.proofs.lemmas.Nat.{mul-le}
 use Rattle.std.proofs.lemmas.Bool.{cases_eq}
 use Rattle.us_flows.specs.declared.channels.Channel.{Channel}
-use Rattle.us_flows.specs.Tables.{Tables, header_bytes}
+use Rattle.us_flows.specs.Tables.{header_bytes}
 use Rattle.us_flows.specs.Ranges.{max_round_ticks}
-use Rattle.us_flows.specs.Lawful.{AreApart, AreTables}
-use Rattle.us_split.specs.Plans.{IsIdle, Planned, budget_of, cost_on, share_at, share_cost}
+use Rattle.us_flows.specs.Lawful.{AreApart}
+use Rattle.us_split.specs.Plans.{Planned, budget_of, cost_on, share_at, share_cost}
 use Rattle.us_split.specs.Claims.{claim_at}
 use Rattle.us_split.specs.PartialPlans.{Asker, ChannelPlan, IsPlaceOf, asker_of, budget_in, channel_of, claimed_at, claimed_from, with_claim, with_share, with_turn}
 use Rattle.us_split.proofs.ChannelShareLemmas.{first_place, later_place}
@@ -18,6 +19,17 @@ pub fewer_ticks : (slots less ticks : ℕ) → slots * ticks ≤ max_round_ticks
 fewer_ticks slots less ticks h =
     let product : (slots - less) * ticks ≤ slots * ticks = mul-le (slots - less) ticks slots ticks (omega arith) (omega arith) in
     omega arith
+
+-- so many minislots as a MAP can have last no longer than a round
+pub most_ticks : (slots ticks : ℕ) → slots ≤ 4096 / ticks → slots * ticks ≤ 4096
+most_ticks slots ticks few =
+    omega (arith, mul-le slots ticks (4096 / ticks) ticks few (omega arith), div-mul-le_self 4096 ticks)
+
+-- and are no more than 4,096
+pub most_few : (slots ticks : ℕ) → min (min slots 4294967295) (4096 / ticks) ≡ min slots (4096 / ticks)
+most_few slots ticks = omega (arith, div-le_self 4096 ticks)
+
+pub ruleset most_facts = (most_ticks, most_few)
 
 -- Ids.
 
@@ -30,12 +42,12 @@ other_id id [] place d all within = absurd (omega (arith, within))
 other_id id (x ∷ xs) zero d all within = all.0
 other_id id (x ∷ xs) (suc place) d all within = other_id id xs place d all.1 (omega (arith, within))
 
-not_first : (x : ChannelPlan) (xs : List ChannelPlan) (id place : ℕ) → AreApart (ids (x ∷ xs)) →
+pub not_first : (x : ChannelPlan) (xs : List ChannelPlan) (id place : ℕ) → AreApart (ids (x ∷ xs)) →
     IsPlaceOf (x ∷ xs) id (suc place) → x.channel.id ≢ id
 not_first x xs id place apart is =
     λ same. other_id x.channel.id xs place x apart.0 (omega (arith, is.within)) (same ∙ sym (is.own x))
 
-later : (x : ChannelPlan) (xs : List ChannelPlan) (id place : ℕ) → IsPlaceOf (x ∷ xs) id (suc place) → IsPlaceOf xs id place
+pub later : (x : ChannelPlan) (xs : List ChannelPlan) (id place : ℕ) → IsPlaceOf (x ∷ xs) id (suc place) → IsPlaceOf xs id place
 later x xs id place is = record { within = omega (arith, is.within); own = λ c. is.own c }
 
 -- the channel that stands at the place of an id is the one that is found
@@ -61,10 +73,6 @@ pub budget_at : (channels : List ChannelPlan) (id place : ℕ) (d : ChannelPlan)
 budget_at channels id place d apart is =
     budget_found channels id ∙ ap (option_map budget_in) (found_at channels id place d apart is)
 
-pub no_budget : (channels : List ChannelPlan) (id : ℕ) → channel_of channels id ≡ None →
-    budget_of (map budget_in channels) id ≡ None
-no_budget channels id none = budget_found channels id ∙ ap (option_map budget_in) none
-
 -- A share on one channel.
 
 other_kept : (asker : Asker) (position id sid share : ℕ) (c : ChannelPlan) → c.channel.id ≢ id →
@@ -78,20 +86,7 @@ all_kept asker position id sid share (x ∷ xs) all =
     ap₂ (λ c cs. c ∷ cs) (other_kept asker position id sid share x (λ same. all.0 (sym same)))
     (all_kept asker position id sid share xs all.1)
 
-none_with : (xs : List ChannelPlan) (id : ℕ) → channel_of xs id ≡ None → AllByRecursion (λ y. id ≢ y) (ids xs)
-none_with [] id none = tt
-none_with (x ∷ xs) id none = elim (cases_eq x.channel.id id) [
-  | inl same ↦ let no : Some x ≡ None = rw (eq-eqb x.channel.id id same) at none in cc
-  | inr other ↦ (λ same. other (sym same), none_with xs id (rw (ne_eqb x.channel.id id other) at none))
-]
-
--- where no channel has the id, nothing changes,
-pub none_claimed : (asker : Asker) (position id sid share : ℕ) (xs : List ChannelPlan) → channel_of xs id ≡ None →
-    xs ≡ map (claimed_at asker position id sid share) xs
-none_claimed asker position id sid share xs none =
-    sym (all_kept asker position id sid share xs (none_with xs id none))
-
--- nor where there is no share,
+-- where there is no share nothing changes,
 same_share : (asker : Asker) (position id sid share : ℕ) (c : ChannelPlan) → share ≡ 0 →
     claimed_at asker position id sid share c ≡ c
 same_share asker position id sid share c none = elim (cases_eq c.channel.id id) [
@@ -120,21 +115,6 @@ one_claimed asker position id sid share zero (x ∷ xs) d apart is some =
 one_claimed asker position id sid share (suc place) (x ∷ xs) d apart is some =
     ap₂ (λ c cs. c ∷ cs) (sym (other_kept asker position id sid share x (not_first x xs id place apart is)))
     (one_claimed asker position id sid share place xs d apart.1 (later x xs id place is) some)
-
-pub claimed_at-ids : (asker : Asker) (position id sid share : ℕ) (xs : List ChannelPlan) →
-    ids (map (claimed_at asker position id sid share) xs) ≡ ids xs
-claimed_at-ids asker position id sid share [] = refl
-claimed_at-ids asker position id sid share (x ∷ xs) =
-    ap₂ (λ n ns. n ∷ ns) (same x) (claimed_at-ids asker position id sid share xs)
-  where
-    same : (c : ChannelPlan) → (claimed_at asker position id sid share c).channel.id ≡ c.channel.id
-    same c = elim (cases_eq c.channel.id id) [
-      | inl own ↦ elim (cases_eq share 0) [
-        | inl none ↦ rw (eq-eqb c.channel.id id own, eq-eqb share 0 none) refl
-        | inr some ↦ rw (eq-eqb c.channel.id id own, ne_eqb share 0 some) refl
-      ]
-      | inr other ↦ ap (λ c. c.channel.id) (other_kept asker position id sid share c other)
-    ]
 
 -- Shares on channels, one after another.
 
@@ -170,7 +150,7 @@ shifted asker position (Some k) sids shares c =
     let next : position + 1 + k ≡ position + suc k = omega arith in
     ap (λ n. with_share asker n (slice_index sids n) (slice_index shares n) c) next
 
-absent : (id : ℕ) (more : List ℕ) → AllByRecursion (λ y. id ≢ y) more → position (λ i. i == id) more ≡ None
+pub absent : (id : ℕ) (more : List ℕ) → AllByRecursion (λ y. id ≢ y) more → position (λ i. i == id) more ≡ None
 absent id [] all = refl
 absent id (x ∷ xs) all =
     later_place (λ i. i == id) x xs (ne_eqb x id (λ same. all.0 (sym same))) ∙ ap (option_map suc) (absent id xs all.1)
@@ -244,17 +224,3 @@ claimed_turn place planned (x ∷ xs) apart =
     (claimed_by_channel (asker_of place planned.turn) 0 planned.turn.cluster.flow.channels planned.turn.cluster.sids planned.shares x apart ∙
     there_planned place planned (position (λ id. id == x.channel.id) planned.turn.cluster.flow.channels) x)
     (claimed_turn place planned xs apart)
-
--- Before the first turn.
-
-pub idle_apart : (t : Tables) (idle : List ℕ) → AreTables t → IsIdle t idle →
-    AreApart (ids (map (λ pair. record { channel = pair.0; slots = pair.1; claims = [] }) (zip t.channels idle)))
-idle_apart t idle lawful is = subst AreApart (sym (same t.channels idle is.one_each)) lawful.channels_apart
-  where
-    same : (channels : List Channel) (idle : List ℕ) → length idle ≡ length channels →
-        ids (map (λ pair. record { channel = pair.0; slots = pair.1; claims = [] }) (zip channels idle)) ≡
-        map (λ c. c.id) channels
-    same [] [] one_each = refl
-    same [] (slots ∷ idle) one_each = refl
-    same (c ∷ channels) [] one_each = absurd (omega (arith, one_each))
-    same (c ∷ channels) (slots ∷ idle) one_each = ap (λ ns. c.id ∷ ns) (same channels idle (omega (arith, one_each)))

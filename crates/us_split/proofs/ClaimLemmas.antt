@@ -10,16 +10,15 @@ use Rattle.us_slots.specs.Bursts.{IsChannelBursts, grant_cost}
 use Rattle.us_slots.proofs.CostLaws.{bytes_cost_minislots}
 use Rattle.us_flows.specs.declared.channels.Channel.{Channel}
 use Rattle.us_flows.specs.Tables.{Tables, has_channel, header_bytes}
-use Rattle.us_flows.specs.Clusters.{Turn, IsTurnIn, turns_of}
+use Rattle.us_flows.specs.Clusters.{Turn, IsTurnIn}
 use Rattle.us_flows.specs.Lawful.{AreApart, AreTables, Between, IsChannel, IsFlow}
 use Rattle.us_flows.proofs.TurnLaws.{turns_of-turns}
 use Rattle.us_flows.proofs.TurnLemmas.{all-append}
-use Rattle.us_split.specs.Plans.{IsIdle, Ledger, Planned, after_turn, ledger_of, plan_for, plan_of, shares_of}
+use Rattle.us_split.specs.Plans.{IsIdle, Planned, plan_for}
 use Rattle.us_split.specs.PlanLaws.{AreBursts}
 use Rattle.us_split.specs.Claims.{AreClaims, Claim, IsClaimOn, all_claims, claim_at, claim_on, claimant_of, claims_from, claims_on, is_at, share_of, share_or}
 use Rattle.us_split.proofs.ChannelShareLemmas.{first_place, later_place}
-use Rattle.us_split.proofs.PlanLawLemmas.{plan_for-lawful, plan_of-turns}
-use Rattle.us_split.proofs.ShareLemmas.{shares_of-length}
+use Rattle.us_split.proofs.TwoPassLaws.{plan_for-lawful, plan_for-one_each, plan_for-turns}
 
 -- what holds of all items holds of the one at a place
 pub all_at : {X : Type 0} (P : X → Type 0) (xs : List X) (i : ℕ) (x : X) → AllByRecursion P xs → slice_get xs i ≡ Some x → P x
@@ -33,12 +32,6 @@ record IsPlanned (t : Tables) (planned : Planned) : Type 0 where
   bursts : AreBursts planned
   one_each : length planned.shares ≡ length planned.turn.cluster.flow.channels
 
-one_each : (outstanding : List ℕ) (ledger : Ledger) (turns : List Turn) →
-    AllByRecursion (λ planned. length planned.shares ≡ length planned.turn.cluster.flow.channels) (plan_of outstanding ledger turns)
-unfolding plan_of
-one_each outstanding ledger [] = tt
-one_each outstanding ledger (turn ∷ turns) = (shares_of-length outstanding ledger turn, one_each outstanding (after_turn ledger (record { turn = turn; shares = shares_of outstanding ledger turn })) turns)
-
 all_planned : (t : Tables) (plan : List Planned) → AllByRecursion (IsTurnIn t) (map (λ planned. planned.turn) plan) →
     AllByRecursion AreBursts plan →
     AllByRecursion (λ planned. length planned.shares ≡ length planned.turn.cluster.flow.channels) plan →
@@ -49,15 +42,13 @@ all_planned t (planned ∷ plan) turns bursts long = (
   all_planned t plan turns.1 bursts.1 long.1,
 )
 
-plan_for-planned : (t : Tables) (outstanding : List ℕ) (allowances : List (Option ℕ)) (idle : List ℕ) → AreTables t →
-    IsIdle t idle → AllByRecursion (IsPlanned t) (plan_for t outstanding allowances idle)
-unfolding plan_for
-plan_for-planned t outstanding allowances idle lawful is =
-    let ledger : Ledger = ledger_of t allowances idle in
-    all_planned t (plan_of outstanding ledger (turns_of t))
-    (subst (AllByRecursion (IsTurnIn t)) (sym (plan_of-turns outstanding ledger (turns_of t))) (turns_of-turns t))
-    (plan_for-lawful t outstanding allowances idle lawful is).bursts
-    (one_each outstanding ledger (turns_of t))
+plan_for-planned : (t : Tables) (outstanding : List ℕ) (allowances : List (Option ℕ)) (reserves idle : List ℕ) → AreTables t →
+    IsIdle t idle → AllByRecursion (IsPlanned t) (plan_for t outstanding allowances reserves idle)
+plan_for-planned t outstanding allowances reserves idle lawful is =
+    all_planned t (plan_for t outstanding allowances reserves idle)
+    (subst (AllByRecursion (IsTurnIn t)) (sym (plan_for-turns t outstanding allowances reserves idle)) (turns_of-turns t))
+    (plan_for-lawful t outstanding allowances reserves idle lawful is).bursts
+    (plan_for-one_each t outstanding allowances reserves idle)
 
 pub flow_of : (t : Tables) (turn : Turn) → AreTables t → IsTurnIn t turn → IsFlow t turn.cluster.flow
 flow_of t turn lawful is = all_at (IsFlow t) t.flows turn.place turn.cluster.flow lawful.flows is.flow
@@ -121,11 +112,11 @@ channels_lawful t plan [] are lawful all = tt
 channels_lawful t plan (c ∷ cs) are lawful all =
     (claims_lawful t c 0 plan are.0.bursts lawful all, channels_lawful t plan cs are.1 lawful all)
 
-pub plan_for-claims : (t : Tables) (outstanding : List ℕ) (allowances : List (Option ℕ)) (idle : List ℕ) → AreTables t →
-    IsIdle t idle → AreClaims t (plan_for t outstanding allowances idle)
-plan_for-claims t outstanding allowances idle lawful is = record {
-  each = channels_lawful t (plan_for t outstanding allowances idle) t.channels lawful.channels lawful
-      (plan_for-planned t outstanding allowances idle lawful is);
+pub plan_for-claims : (t : Tables) (outstanding : List ℕ) (allowances : List (Option ℕ)) (reserves idle : List ℕ) → AreTables t →
+    IsIdle t idle → AreClaims t (plan_for t outstanding allowances reserves idle)
+plan_for-claims t outstanding allowances reserves idle lawful is = record {
+  each = channels_lawful t (plan_for t outstanding allowances reserves idle) t.channels lawful.channels lawful
+      (plan_for-planned t outstanding allowances reserves idle lawful is);
 }
 
 -- A claim has the share of its turn.
@@ -308,17 +299,17 @@ claimed t plan turn k lawful all some none =
     claim_there channel.0 0 turn k plan planned claim.0 own.1 (rw start claim.1) (rw start claim.2) (rw start channel.2)
 
 -- what is looked up is the share
-pub share_of-plan : (t : Tables) (outstanding : List ℕ) (allowances : List (Option ℕ)) (idle : List ℕ) → AreTables t →
+pub share_of-plan : (t : Tables) (outstanding : List ℕ) (allowances : List (Option ℕ)) (reserves idle : List ℕ) → AreTables t →
     IsIdle t idle → (turn position : ℕ) →
-    share_of (all_claims t (plan_for t outstanding allowances idle)) turn position ≡
-    slice_index (slice_index_or (map (λ planned. planned.shares) (plan_for t outstanding allowances idle)) turn []) position
-share_of-plan t outstanding allowances idle lawful is turn position =
-    let plan : List Planned = plan_for t outstanding allowances idle in
+    share_of (all_claims t (plan_for t outstanding allowances reserves idle)) turn position ≡
+    slice_index (slice_index_or (map (λ planned. planned.shares) (plan_for t outstanding allowances reserves idle)) turn []) position
+share_of-plan t outstanding allowances reserves idle lawful is turn position =
+    let plan : List Planned = plan_for t outstanding allowances reserves idle in
     elim (share_or_none plan turn position t.channels) [
       | inl same ↦ same
       | inr none ↦ elim (cases_eq (share_there plan turn position) 0) [
         | inl empty ↦ none.0 ∙ sym empty
         | inr some ↦
-            absurd (claimed t plan turn position lawful (plan_for-planned t outstanding allowances idle lawful is) some none.1)
+            absurd (claimed t plan turn position lawful (plan_for-planned t outstanding allowances reserves idle lawful is) some none.1)
       ]
     ]

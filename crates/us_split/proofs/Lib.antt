@@ -4,6 +4,9 @@ pub mod PartialPlanLemmas
 pub mod TurnAtLemmas
 pub mod ShareLemmas
 pub mod PlanLawLemmas
+pub mod SecondPassLemmas
+pub mod OnePassLaws
+pub mod TwoPassLaws
 pub mod ClaimLemmas
 pub mod ChannelShareLemmas
 pub mod TurnClaimLaws
@@ -15,3 +18,5 @@ pub mod AskerCutLemmas
 pub mod ByPlaceLemmas
 pub mod TurnRowLemmas
 pub mod RowPlanLemmas
+pub mod RowPassLemmas
+pub mod RowTwoPassLemmas

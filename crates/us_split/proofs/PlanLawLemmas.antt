@@ -1,4 +1,4 @@
--- What holds of every plan: its four laws, of any ledger and any turns, and of the plan of a round.
+-- What holds of every plan of one pass, of any ledger and any turns; and the ledger of a round.
 use Rattle.std.proofs.Common.{◌≡◌, ◌≢◌, ℕ, zero, suc, ◌+◌, ◌-◌, ◌*◌, ◌==◌, ◌≤◌, cond, List, [], ◌∷◌, length, map, zip, filter, set, count_by, Option, Some, None, slice_get, option_map, refl, sym, ap, ◌∙◌, subst, inl, inr, eqb-true, eq-eqb, ne_eqb, get_or-set_same, get_or-set_other, arith}
 use Rattle.std.specs.Prelude.{sum, sum_by, slice_index, slice_index_or}
 use Rattle.std.specs.List.{AllByRecursion}
@@ -6,16 +6,14 @@ use Rattle.std.proofs.lemmas.Bool.{cases_Bool, cases_eq, cases_lt}
 use Rattle.std.proofs.lemmas.Nat.{mul-le}
 use Rattle.std.proofs.lemmas.List.{get_or_past}
 use Rattle.std.proofs.lemmas.List.Sums.{sum_by-cons}
-use Rattle.std.proofs.lemmas.Option.{get_or_from_slice_get}
 use Rattle.us_slots.specs.Times.{minislot_ticks}
 use Rattle.us_flows.specs.declared.channels.Channel.{Channel}
 use Rattle.us_flows.specs.Tables.{Tables, map_len}
-use Rattle.us_flows.specs.Clusters.{Turn, turns_of}
-use Rattle.us_flows.specs.Lawful.{AreApart, AreTables, IsChannel}
-use Rattle.us_flows.proofs.TurnLaws.{turns_of-once}
-use Rattle.us_split.specs.Plans.{IsIdle, Budget, Ledger, Planned, budget_of, at_most, shares_of, cost_on, lowered, after_turn, plan_of, ledger_of, plan_for}
-use Rattle.us_split.specs.PlanLaws.{Within, planned_bytes, AreBursts, IsLawfulPlan}
-use Rattle.us_split.proofs.ShareLemmas.{IsBudget, found_budget, shares_of-sum, shares_of-bursts, cost-within}
+use Rattle.us_flows.specs.Clusters.{Turn}
+use Rattle.us_flows.specs.Lawful.{AreApart, IsChannel}
+use Rattle.us_split.specs.Plans.{Budget, Ledger, Planned, budget_of, at_most, shares_of, cost_on, lowered, after_turn, plan_of}
+use Rattle.us_split.specs.PlanLaws.{planned_bytes, AreBursts}
+use Rattle.us_split.proofs.ShareLemmas.{IsBudget, shares_of-sum, shares_of-bursts, cost-within}
 
 -- the turns of a plan are those that it is made for
 pub plan_of-turns : (outstanding : List ℕ) (ledger : Ledger) (turns : List Turn) →
@@ -85,7 +83,7 @@ plan_of-bursts outstanding ledger (turn ∷ turns) all =
     )
 
 -- a turn gets no more than what is outstanding of its cluster,
-at_most-le : (allowance : Option ℕ) (bytes : ℕ) → at_most allowance bytes ≤ bytes
+pub at_most-le : (allowance : Option ℕ) (bytes : ℕ) → at_most allowance bytes ≤ bytes
 at_most-le None bytes = omega arith
 at_most-le (Some most) bytes = omega arith
 
@@ -95,7 +93,7 @@ shares_of-asked outstanding ledger turn =
     omega (arith, shares_of-sum outstanding ledger turn, at_most-le (slice_index_or ledger.allowances turn.place None) (slice_index outstanding turn.number))
 
 -- and than what its flow's bucket still allows
-at_most-within : (allowance : Option ℕ) (most bytes : ℕ) → allowance ≡ Some most → at_most allowance bytes ≤ most
+pub at_most-within : (allowance : Option ℕ) (most bytes : ℕ) → allowance ≡ Some most → at_most allowance bytes ≤ most
 at_most-within None most bytes is = let no : None ≡ Some most = is in cc
 at_most-within (Some limit) most bytes is =
     let found : Some limit ≡ Some most = is in let same : limit ≡ most = cc in omega arith
@@ -105,37 +103,45 @@ pub shares_of-allowed : (outstanding : List ℕ) (ledger : Ledger) (turn : Turn)
 shares_of-allowed outstanding ledger turn most is =
     omega (arith, shares_of-sum outstanding ledger turn, at_most-within (slice_index_or ledger.allowances turn.place None) most (slice_index outstanding turn.number) is)
 
--- The shares of a cluster's turns are at most so many times its outstanding bytes.
-pub plan_of-asked : (outstanding : List ℕ) (ledger : Ledger) (turns : List Turn) (n : ℕ) →
-    planned_bytes (filter (λ planned. planned.turn.number == n) (plan_of outstanding ledger turns)) ≤
-    slice_index outstanding n * count_by (λ turn. turn.number == n) turns
+-- So does each turn,
+pub plan_of-asked : (outstanding : List ℕ) (ledger : Ledger) (turns : List Turn) →
+    AllByRecursion (λ planned. sum planned.shares ≤ slice_index outstanding planned.turn.number) (plan_of outstanding ledger turns)
 unfolding plan_of
-plan_of-asked outstanding ledger [] n = omega arith
-plan_of-asked outstanding ledger (turn ∷ turns) n =
-    let planned : Planned = planned_of outstanding ledger turn in
-    let rest : List Planned = plan_of outstanding (after_turn ledger planned) turns in
+plan_of-asked outstanding ledger [] = tt
+plan_of-asked outstanding ledger (turn ∷ turns) = (
+  shares_of-asked outstanding ledger turn,
+  plan_of-asked outstanding (after_turn ledger (planned_of outstanding ledger turn)) turns,
+)
+
+-- and then the shares of a cluster's turns are at most so many times its outstanding bytes.
+pub asked_by_cluster : (outstanding : List ℕ) (plan : List Planned) (n : ℕ) →
+    AllByRecursion (λ planned. sum planned.shares ≤ slice_index outstanding planned.turn.number) plan →
+    planned_bytes (filter (λ planned. planned.turn.number == n) plan) ≤
+    slice_index outstanding n * count_by (λ turn. turn.number == n) (map (λ planned. planned.turn) plan)
+asked_by_cluster outstanding [] n all = omega arith
+asked_by_cluster outstanding (planned ∷ rest) n all =
+    let turns : List Turn = map (λ planned. planned.turn) rest in
     let own : List Planned = filter (λ planned. planned.turn.number == n) rest in
-    let more = plan_of-asked outstanding (after_turn ledger planned) turns n in
-    let count = sum_by-cons (λ (turn : Turn). cond (turn.number == n) 1 0) turn turns in
+    let more = asked_by_cluster outstanding rest n all.1 in
+    let count = sum_by-cons (λ (turn : Turn). cond (turn.number == n) 1 0) planned.turn turns in
     let within : ℕ → Type 0 = λ times. planned_bytes (filter (λ planned. planned.turn.number == n) (planned ∷ rest)) ≤
     slice_index outstanding n * times in
-    elim (cases_Bool (turn.number == n)) [
+    elim (cases_Bool (planned.turn.number == n)) [
       | inl t ↦
-          let same : turn.number ≡ n = eqb-true turn.number n t in
-          let asked = shares_of-asked outstanding ledger turn in
-          let bytes : slice_index outstanding turn.number ≡ slice_index outstanding n = ap (slice_index outstanding) same in
-          let one : count_by (λ turn. turn.number == n) (turn ∷ turns) ≡ 1 + count_by (λ turn. turn.number == n) turns =
+          let same : planned.turn.number ≡ n = eqb-true planned.turn.number n t in
+          let bytes : slice_index outstanding planned.turn.number ≡ slice_index outstanding n = ap (slice_index outstanding) same in
+          let one : count_by (λ turn. turn.number == n) (planned.turn ∷ turns) ≡ 1 + count_by (λ turn. turn.number == n) turns =
           count ∙ ap (λ b. cond b 1 0 + count_by (λ turn. turn.number == n) turns) t in
-          subst within (sym one) (rw t (omega (arith, sum_by-cons (λ (p : Planned). sum p.shares) planned own, more, asked, bytes)))
+          subst within (sym one) (rw t (omega (arith, sum_by-cons (λ (p : Planned). sum p.shares) planned own, more, all.0, bytes)))
       | inr f ↦
-          let none : count_by (λ turn. turn.number == n) (turn ∷ turns) ≡ 0 + count_by (λ turn. turn.number == n) turns =
+          let none : count_by (λ turn. turn.number == n) (planned.turn ∷ turns) ≡ 0 + count_by (λ turn. turn.number == n) turns =
           count ∙ ap (λ b. cond b 1 0 + count_by (λ turn. turn.number == n) turns) f in
           subst within (sym none) (rw f (omega (arith, more)))
     ]
 
 -- The shares of a flow's turns are at most its allowance.
 
-same_place : (allowances : List (Option ℕ)) (place most : ℕ) (left : Option ℕ) →
+pub same_place : (allowances : List (Option ℕ)) (place most : ℕ) (left : Option ℕ) →
     slice_index_or allowances place None ≡ Some most → slice_index_or (set allowances place left) place None ≡ left
 same_place allowances place most left at = elim (cases_lt place (length allowances)) [
   | inl within ↦ get_or-set_same allowances place left None within
@@ -172,10 +178,10 @@ plan_of-allowed outstanding ledger (turn ∷ turns) place most at =
 
 -- the ledger before the first turn
 
-abbrev idle_budgets : List Channel → List ℕ → List Budget
+abbrev pub idle_budgets : List Channel → List ℕ → List Budget
 idle_budgets channels idle = map (λ pair. record { channel = pair.0; slots = pair.1 }) (zip channels idle)
 
-idle-budgets : (t : Tables) (channels : List Channel) (idle : List ℕ) → t.round_ticks ≤ 4096 →
+pub idle-budgets : (t : Tables) (channels : List Channel) (idle : List ℕ) → t.round_ticks ≤ 4096 →
     AllByRecursion (IsChannel t) channels →
     ((place : ℕ) (c : Channel) → slice_get channels place ≡ Some c → slice_index idle place ≤ map_len t c) →
     AllByRecursion IsBudget (idle_budgets channels idle)
@@ -198,7 +204,7 @@ no_such id (x ∷ xs) zero c apart at =
     λ equal. apart.0 (equal ∙ sym (ap (λ c. c.id) same))
 no_such id (x ∷ xs) (suc place) c apart at = no_such id xs place c apart.1 at
 
-idle-found : (channels : List Channel) (idle : List ℕ) (place : ℕ) (c : Channel) → length idle ≡ length channels →
+pub idle-found : (channels : List Channel) (idle : List ℕ) (place : ℕ) (c : Channel) → length idle ≡ length channels →
     AreApart (map (λ c. c.id) channels) → slice_get channels place ≡ Some c →
     budget_of (idle_budgets channels idle) c.id ≡ Some (record { channel = c; slots = slice_index idle place })
 idle-found [] idle place c same apart at = let no : None ≡ Some c = at in cc
@@ -209,37 +215,3 @@ idle-found (x ∷ xs) (slots ∷ idle) zero c same apart at =
     rw (eq-eqb x.id c.id (ap (λ c. c.id) equal)) (ap (λ c. Some (record { channel = c; slots = slots })) equal)
 idle-found (x ∷ xs) (slots ∷ idle) (suc place) c same apart at =
     rw (ne_eqb x.id c.id (no_such x.id xs place c apart.0 at)) (idle-found xs idle place c (omega (arith, same)) apart.1 at)
-
--- all laws of the plan of a round
-pub plan_for-lawful : (t : Tables) (outstanding : List ℕ) (allowances : List (Option ℕ)) (idle : List ℕ) → AreTables t →
-    IsIdle t idle → IsLawfulPlan t outstanding allowances idle (plan_for t outstanding allowances idle)
-unfolding plan_for
-plan_for-lawful t outstanding allowances idle lawful is = record {
-  room = λ place c at.
-      let budget = idle-found t.channels idle place c is.one_each lawful.channels_apart at in
-      plan_of-room outstanding (ledger_of t allowances idle) (turns_of t) c
-      (record { channel = c; slots = slice_index idle place })
-      (found_budget (ledger_of t allowances idle).budgets c.id (record { channel = c; slots = slice_index idle place })
-      budgets budget) refl budget;
-  asked = λ n.
-      let count : ℕ = count_by (λ turn. turn.number == n) (turns_of t) in
-      let once : count ≤ 1 = turns_of-once t n in
-      let product : slice_index outstanding n * count ≤ slice_index outstanding n * 1 =
-      mul-le (slice_index outstanding n) count (slice_index outstanding n) 1 (omega arith) once in
-      omega (arith, plan_of-asked outstanding (ledger_of t allowances idle) (turns_of t) n, product);
-  allowed = λ place allowance at. allowed place allowance at;
-  bursts = plan_of-bursts outstanding (ledger_of t allowances idle) (turns_of t) budgets;
-}
-  where
-    budgets : AllByRecursion IsBudget (ledger_of t allowances idle).budgets
-    budgets = idle-budgets t t.channels idle lawful.round_ticks.1 lawful.channels is.within
-
-    allowed : (place : ℕ) (allowance : Option ℕ) → slice_get allowances place ≡ Some allowance →
-        Within allowance (planned_bytes (filter (λ planned. planned.turn.place == place) (plan_of outstanding (ledger_of t allowances idle) (turns_of t))))
-    allowed place None at = tt
-    allowed place (Some most) at =
-        plan_of-allowed outstanding (ledger_of t allowances idle) (turns_of t) place most
-        (get_or_from_slice_get allowances place (Some most) None at)
-
--- what the proof of `plan` rests on
-pub ruleset plan_facts = (plan_for-lawful)

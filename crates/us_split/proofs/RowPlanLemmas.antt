@@ -13,15 +13,15 @@ use Rattle.us_flows.specs.Clusters.{Turn, IsTurnIn, clusters_of, turns_of}
 use Rattle.us_flows.specs.Lawful.{AreTables, IsChannel}
 use Rattle.us_flows.proofs.TurnLaws.{turns_of-turns}
 use Rattle.us_split.specs.declared.turn_rows.Seat.{Seat}
-use Rattle.us_split.specs.Plans.{IsIdle, Planned, at_most, after_turn, plan_of, plan_for}
-use Rattle.us_split.specs.Claims.{Claim, all_claims, claim_on}
-use Rattle.us_split.specs.Asking.{AgreeOn, asking_in, claims_at, numbers_of, places_from, plan_of_askers, turns_at}
+use Rattle.us_split.specs.Plans.{IsIdle, Planned, at_most, after_turn, plan_of}
+use Rattle.us_split.specs.Claims.{Claim, claim_on}
+use Rattle.us_split.specs.Asking.{asking_in, claims_at, numbers_of, places_from, turns_at}
 use Rattle.us_split.specs.PartialPlans.{Asker, ChannelPlan, PartialPlan, idle_plan, ledger_in, planned_further, planned_in, with_turn}
 use Rattle.us_split.specs.TurnRows.{IsPlanning, IsRowWithin, TurnRow, cleared, partial_of, put_from, row_of, rows_from, shares_at, shares_in, with_row, with_row_if, with_rows}
-use Rattle.us_split.proofs.AskingLaws.{askers_claim_all, option_before}
+use Rattle.us_split.proofs.AskingLaws.{option_before}
 use Rattle.us_split.proofs.ByPlaceLemmas.{nothing_put}
 use Rattle.us_split.proofs.ClaimLemmas.{all_at}
-use Rattle.us_split.proofs.PartialPlanLemmas.{idle_budgets, ledger_after, none_divided, share-le-sum}
+use Rattle.us_split.proofs.PartialPlanLemmas.{ledger_after, none_divided, share-le-sum}
 use Rattle.us_split.proofs.TurnRowLemmas.{row_planned, row_there, rows_inside, rows_known, rows_length}
 
 -- A turn.
@@ -36,7 +36,7 @@ none_put asker position (seat ∷ seats) shares cs none =
     (nothing_put asker position seat.sid (slice_index shares position) seat.place cs
     (omega (arith, share-le-sum shares position, none)))
 
-none_spent : (allowances : List (Option ℕ)) (place bytes : ℕ) → bytes ≡ 0 →
+pub none_spent : (allowances : List (Option ℕ)) (place bytes : ℕ) → bytes ≡ 0 →
     allowances ≡ set allowances place (option_map (λ most. most - bytes) (slice_index_or allowances place None))
 none_spent allowances place bytes none =
     sym (ap (set allowances place) (same (slice_index_or allowances place None)) ∙ set-get_or allowances place None)
@@ -85,7 +85,7 @@ one_row_more rows outstanding places place bytes row old new within at asked is 
 
 -- All who ask.
 
-some_at : {X : Type 0} (xs : List X) (i : ℕ) → i < length xs → (x : X) × (slice_get xs i ≡ Some x)
+pub some_at : {X : Type 0} (xs : List X) (i : ℕ) → i < length xs → (x : X) × (slice_get xs i ≡ Some x)
 some_at [] i within = absurd (omega (arith, within))
 some_at (x ∷ xs) zero within = (x, refl)
 some_at (x ∷ xs) (suc i) within = some_at xs i (omega (arith, within))
@@ -95,7 +95,7 @@ no_claims [] = refl
 no_claims (c ∷ cs) = ap₂ (λ x xs. x ∷ xs) (sym (append-nil c.claims)) (no_claims cs)
 
 module _ (place : ℕ) (planned : Planned) (places : List ℕ) (plan : List Planned) where
-  claims_of_more : (cs : List ChannelPlan) →
+  pub claims_of_more : (cs : List ChannelPlan) →
       map (λ c. c.claims ++ claims_at c.channel places plan) (map (with_turn place planned) cs) ≡
       map (λ c. c.claims ++ claims_at c.channel (place ∷ places) (planned ∷ plan)) cs
   claims_of_more [] = refl
@@ -111,7 +111,7 @@ module _ (place : ℕ) (planned : Planned) (places : List ℕ) (plan : List Plan
   unfolding planned_further
   claims_later partial = claims_of_more partial.channels
 
-channels_of_turn : (place : ℕ) (planned : Planned) (cs : List ChannelPlan) →
+pub channels_of_turn : (place : ℕ) (planned : Planned) (cs : List ChannelPlan) →
     map (λ c. c.channel) (map (with_turn place planned) cs) ≡ map (λ c. c.channel) cs
 channels_of_turn place planned [] = refl
 channels_of_turn place planned (c ∷ cs) = ap (λ xs. c.channel ∷ xs) (channels_of_turn place planned cs)
@@ -121,7 +121,7 @@ channels_stay : (place : ℕ) (planned : Planned) (partial : PartialPlan) →
 unfolding planned_further
 channels_stay place planned partial = channels_of_turn place planned partial.channels
 
-claims_of_rows : (t : Tables) (outstanding places : List ℕ) (partial : PartialPlan) → AreTables t →
+pub claims_of_rows : (t : Tables) (outstanding places : List ℕ) (partial : PartialPlan) → AreTables t →
     map (λ c. c.channel) partial.channels ≡ t.channels → AllByRecursion (λ place. place < length (turns_of t)) places →
     map (λ c. c.claims) (with_rows (rows_from t.channels 0 (turns_of t)) outstanding places partial).channels ≡
     map (λ c. c.claims ++ claims_at c.channel places (plan_of outstanding (ledger_in partial) (turns_at (turns_of t) places)))
@@ -173,7 +173,7 @@ askers_inside t outstanding =
 
 -- Before the first turn.
 
-abbrev made : Channel × ℕ → ChannelPlan
+abbrev pub made : Channel × ℕ → ChannelPlan
 made pair = record { channel = pair.0; slots = pair.1; claims = [] }
 
 cleared_made : (cs : List ChannelPlan) (idle : List ℕ) → cleared cs idle ≡ map made (zip (map (λ c. c.channel) cs) idle)
@@ -189,7 +189,7 @@ cleared_channels (c ∷ cs) [] same = absurd (omega (arith, same))
 cleared_channels (c ∷ cs) (slots ∷ idle) same =
     ap (λ xs. c.channel ∷ xs) (cleared_channels cs idle (omega (arith, same)))
 
-cleared_is : (t : Tables) (allowances : List (Option ℕ)) (cs : List ChannelPlan) (idle : List ℕ) →
+pub cleared_is : (t : Tables) (allowances : List (Option ℕ)) (cs : List ChannelPlan) (idle : List ℕ) →
     map (λ c. c.channel) cs ≡ t.channels → partial_of (cleared cs idle) allowances ≡ idle_plan t allowances idle
 cleared_is t allowances cs idle same =
     ap (λ xs. partial_of xs allowances) (cleared_made cs idle ∙ ap (λ channels. map made (zip channels idle)) same)
@@ -224,35 +224,12 @@ idle_within t cs idle lawful is same =
 
 -- The claims of a round.
 
-idle_claims_by : (f : Channel → List Claim) (channels : List Channel) (idle : List ℕ) → length idle ≡ length channels →
+pub idle_claims_by : (f : Channel → List Claim) (channels : List Channel) (idle : List ℕ) → length idle ≡ length channels →
     map (λ (c : ChannelPlan). c.claims ++ f c.channel) (map made (zip channels idle)) ≡ map f channels
 idle_claims_by f [] idle same = refl
 idle_claims_by f (c ∷ channels) [] same = absurd (omega (arith, same))
 idle_claims_by f (c ∷ channels) (slots ∷ idle) same =
     ap (λ xs. f c ∷ xs) (idle_claims_by f channels idle (omega (arith, same)))
-
-pub claims_of_round : (t : Tables) (outstanding askers idle : List ℕ) (known left allowed : List (Option ℕ))
-    (old new : List ChannelPlan) → AreTables t → IsIdle t idle → map (λ c. c.channel) old ≡ t.channels →
-    askers ≡ asking_in t outstanding → AgreeOn (turns_at (turns_of t) askers) known allowed →
-    partial_of new left ≡
-    with_rows (rows_from t.channels 0 (turns_of t)) outstanding askers (partial_of (cleared old idle) known) →
-    map (λ c. c.claims) new ≡ all_claims t (plan_for t outstanding allowed idle)
-claims_of_round t outstanding askers idle known left allowed old new lawful is own asks agree planned =
-    let rows : List TurnRow = rows_from t.channels 0 (turns_of t) in
-    let start : PartialPlan = idle_plan t known idle in
-    let places : List ℕ = asking_in t outstanding in
-    let own_start : map (λ c. c.channel) start.channels ≡ t.channels =
-    ap (λ (p : PartialPlan). map (λ c. c.channel) p.channels) (sym (cleared_is t known old idle own)) ∙
-    cleared_channels old idle (is.one_each ∙ sym (ap length own) ∙ length-map old (λ (c : ChannelPlan). c.channel)) ∙ own in
-    ap (λ p. map (λ c. c.claims) p.channels)
-    (planned ∙ ap₂ (λ ps p. with_rows rows outstanding ps p) asks (cleared_is t known old idle own)) ∙
-    claims_of_rows t outstanding places start lawful own_start (askers_inside t outstanding) ∙
-    ap (λ bs. map (λ c. c.claims ++ claims_at c.channel places
-    (plan_of outstanding (record { budgets = bs; allowances = known }) (turns_at (turns_of t) places))) start.channels)
-    (idle_budgets t.channels idle) ∙
-    idle_claims_by (λ c. claims_at c places (plan_of_askers t outstanding known idle)) t.channels idle is.one_each ∙
-    askers_claim_all t outstanding known allowed idle
-    (subst (λ ps. AgreeOn (turns_at (turns_of t) ps) known allowed) asks agree)
 
 -- A planner's channels and rows.
 

@@ -43,7 +43,7 @@ pub record IsBudget (b : Budget) : Type 0 where
   pub ticks : b.slots * minislot_ticks b.channel.bursts.time ≤ 4096
 
 -- a share within the weight fits into a burst,
-fits_burst : (b : Budget) (header share : ℕ) → IsBudget b → share ≤ weight header (Some b) →
+pub fits_burst : (b : Budget) (header share : ℕ) → IsBudget b → share ≤ weight header (Some b) →
     (share ≡ 0) ⊎ (share + header ≤ 98304)
 fits_burst b header share is within = elim (cases_lt 0 share) [
   | inr none ↦ inl (omega arith)

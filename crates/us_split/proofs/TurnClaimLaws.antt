@@ -7,16 +7,16 @@ use Rattle.std.proofs.lemmas.List.Sums.{sum_by-append, sum_by-cons}
 use Rattle.us_slots.specs.Bursts.{grant_cost}
 use Rattle.us_flows.specs.declared.channels.Channel.{Channel}
 use Rattle.us_flows.specs.Tables.{Tables, header_bytes}
-use Rattle.us_flows.specs.Clusters.{Turn, IsTurnIn, has_sid, turns_of}
+use Rattle.us_flows.specs.Clusters.{Turn, IsTurnIn, has_sid}
 use Rattle.us_flows.specs.Lawful.{AreTables, Between}
 use Rattle.us_flows.proofs.TurnLaws.{turns_of-once, turns_of-turns}
 use Rattle.us_flows.proofs.TurnLemmas.{all-append}
-use Rattle.us_split.specs.Plans.{Ledger, Planned, ledger_of, plan_for, plan_of}
+use Rattle.us_split.specs.Plans.{Planned, plan_for}
 use Rattle.us_split.specs.Claims.{Claim, claim_at, claim_on, claimant_of, claims_from}
 use Rattle.us_split.specs.Laws.{ClaimsAreOfTurns, ClustersClaimOnce, IsOfTurn}
 use Rattle.us_split.proofs.ChannelShareLemmas.{first_place, later_place}
 use Rattle.us_split.proofs.ClaimLemmas.{all_at, flow_of}
-use Rattle.us_split.proofs.PlanLawLemmas.{plan_of-turns}
+use Rattle.us_split.proofs.TwoPassLaws.{plan_for-turns}
 
 -- what a claim has of its planned turn
 record IsMade (c : Channel) (planned : Planned) (claim : Claim) : Type 0 where
@@ -123,11 +123,9 @@ of_turns t c place (planned ∷ plan) lawful all =
     (of_turns t c (place + 1) plan lawful all.1)
 
 pub claims_are_of_turns : ClaimsAreOfTurns
-unfolding plan_for
-claims_are_of_turns t outstanding allowances idle c lawful =
-    let ledger : Ledger = ledger_of t allowances idle in
-    of_turns t c 0 (plan_of outstanding ledger (turns_of t)) lawful
-    (subst (AllByRecursion (IsTurnIn t)) (sym (plan_of-turns outstanding ledger (turns_of t))) (turns_of-turns t))
+claims_are_of_turns t outstanding allowances reserves idle c lawful =
+    of_turns t c 0 (plan_for t outstanding allowances reserves idle) lawful
+    (subst (AllByRecursion (IsTurnIn t)) (sym (plan_for-turns t outstanding allowances reserves idle)) (turns_of-turns t))
 
 -- No cluster has two.
 
@@ -163,14 +161,12 @@ claims_few c place (planned ∷ plan) number =
     )
 
 pub clusters_claim_once : ClustersClaimOnce
-unfolding plan_for
-clusters_claim_once t outstanding allowances idle c number =
-    let ledger : Ledger = ledger_of t allowances idle in
+clusters_claim_once t outstanding allowances reserves idle c number =
     let turns = ap (λ turns. count_by (λ turn. turn.number == number) turns)
-    (plan_of-turns outstanding ledger (turns_of t)) in
+    (plan_for-turns t outstanding allowances reserves idle) in
     omega (
       arith,
-      claims_few c 0 (plan_of outstanding ledger (turns_of t)) number,
+      claims_few c 0 (plan_for t outstanding allowances reserves idle) number,
       turns,
       turns_of-once t number,
     )

@@ -30,11 +30,11 @@ found_within p (x ∷ xs) any = elim (cases_Bool (p x)) [
 ]
 
 -- what stands at a place is the channel with this id
-record StandsAt (channels : List Channel) (id place : ℕ) : Type 0 where
-  within : place < length channels
-  own : (d : Channel) → (get_or channels place d).id ≡ id
+pub record StandsAt (channels : List Channel) (id place : ℕ) : Type 0 where
+  pub within : place < length channels
+  pub own : (d : Channel) → (get_or channels place d).id ≡ id
 
-stands : (channels : List Channel) (id : ℕ) → has_channel channels id ≡ true → StandsAt channels id (place_of channels id)
+pub stands : (channels : List Channel) (id : ℕ) → has_channel channels id ≡ true → StandsAt channels id (place_of channels id)
 unfolding place_of
 stands channels id known =
     let p : Channel → Bool = λ c. c.id == id in
@@ -49,7 +49,7 @@ stands channels id known =
     })
 
 -- and so it is among the plans of channels
-plan_stands : (xs : List ChannelPlan) (channels : List Channel) (id place : ℕ) → map (λ c. c.channel) xs ≡ channels →
+pub plan_stands : (xs : List ChannelPlan) (channels : List Channel) (id place : ℕ) → map (λ c. c.channel) xs ≡ channels →
     StandsAt channels id place → IsPlaceOf xs id place
 plan_stands xs channels id place same at =
     let there : StandsAt (map (λ c. c.channel) xs) id place = subst (λ cs. StandsAt cs id place) (sym same) at in
@@ -63,7 +63,7 @@ ids_are : (xs : List ChannelPlan) → map (λ c. c.id) (map (λ c. c.channel) xs
 ids_are [] = refl
 ids_are (x ∷ xs) = ap (λ ns. x.channel.id ∷ ns) (ids_are xs)
 
-ids_apart : (xs : List ChannelPlan) (channels : List Channel) → map (λ c. c.channel) xs ≡ channels →
+pub ids_apart : (xs : List ChannelPlan) (channels : List Channel) → map (λ c. c.channel) xs ≡ channels →
     AreApart (map (λ c. c.id) channels) → AreApart (ids xs)
 ids_apart xs channels same apart =
     subst AreApart (ids_are xs) (subst (λ (cs : List Channel). AreApart (map (λ c. c.id) cs)) (sym same) apart)
@@ -102,7 +102,7 @@ claimed_channels asker position id sid share [] = refl
 claimed_channels asker position id sid share (x ∷ xs) =
     ap₂ (λ c cs. c ∷ cs) (claimed_channel asker position id sid share x) (claimed_channels asker position id sid share xs)
 
-put_claimed : (channels : List Channel) (asker : Asker) (position : ℕ) (more sids shares : List ℕ) (xs : List ChannelPlan) →
+pub put_claimed : (channels : List Channel) (asker : Asker) (position : ℕ) (more sids shares : List ℕ) (xs : List ChannelPlan) →
     map (λ c. c.channel) xs ≡ channels → AreApart (map (λ c. c.id) channels) →
     AllByRecursion (λ id. has_channel channels id ≡ true) more →
     put_from asker position (seats_from channels position more sids) shares xs ≡
@@ -129,7 +129,7 @@ weight_there header id place (x ∷ xs) apart is =
     ap (λ found. weight header (option_map budget_in found)) (slice_get-get_or (x ∷ xs) place x is.within) ∙
     ap (weight header) (sym (budget_at (x ∷ xs) id place x apart is))
 
-weights_there : (channels : List Channel) (header position : ℕ) (more sids : List ℕ) (xs : List ChannelPlan) →
+pub weights_there : (channels : List Channel) (header position : ℕ) (more sids : List ℕ) (xs : List ChannelPlan) →
     map (λ c. c.channel) xs ≡ channels → AreApart (map (λ c. c.id) channels) →
     AllByRecursion (λ id. has_channel channels id ≡ true) more →
     map (λ seat. weight_at header xs seat.place) (seats_from channels position more sids) ≡

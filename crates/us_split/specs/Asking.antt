@@ -4,7 +4,7 @@ use Rattle.std.specs.List.{AllByRecursion}
 use Rattle.us_flows.specs.declared.channels.Channel.{Channel}
 use Rattle.us_flows.specs.Tables.{Tables}
 use Rattle.us_flows.specs.Clusters.{Turn, clusters_of, turns_of}
-use Rattle.us_split.specs.Plans.{Planned, ledger_of, plan_of, plan_for}
+use Rattle.us_split.specs.Plans.{Planned, ledger_of, two_passes, plan_for}
 use Rattle.us_split.specs.Claims.{Claim, claim_on, claims_on}
 
 -- Places.
@@ -109,27 +109,31 @@ settled a = record {
 abbrev pub asking_in : Tables → List ℕ → List ℕ
 asking_in t outstanding = asking outstanding (numbers_of (turns_of t))
 
-abbrev pub plan_of_askers : Tables → List ℕ → List (Option ℕ) → List ℕ → List Planned
-plan_of_askers t outstanding allowances idle =
-    plan_of outstanding (ledger_of t allowances idle) (turns_at (turns_of t) (asking_in t outstanding))
+abbrev pub plan_of_askers : Tables → List ℕ → List (Option ℕ) → List ℕ → List ℕ → List Planned
+plan_of_askers t outstanding allowances reserves idle =
+    two_passes outstanding (ledger_of t allowances idle) reserves (turns_at (turns_of t) (asking_in t outstanding))
 
 -- the claims on a channel of planned turns that have these places among all turns
 abbrev pub claims_at : Channel → List ℕ → List Planned → List Claim
 claims_at c places plan = filter_map (λ planned. claim_on c planned.0 planned.1) (zip places plan)
 
--- two lists of allowances say the same of the flows of turns
-abbrev pub AgreeOn : List Turn → List (Option ℕ) → List (Option ℕ) → Type 0
-AgreeOn turns known allowances =
-    AllByRecursion (λ turn. slice_index_or known turn.place None ≡ slice_index_or allowances turn.place None) turns
+-- two lists of allowances, and two of reserves, say the same of the flows of turns
+pub record AgreeOn (turns : List Turn) (known allowances : List (Option ℕ)) (known_reserves reserves : List ℕ) : Type 0 where
+  pub flows : length known ≡ length allowances
+  pub allowed :
+      AllByRecursion (λ turn. slice_index_or known turn.place None ≡ slice_index_or allowances turn.place None) turns
+  pub reserved : AllByRecursion (λ turn. slice_index known_reserves turn.place ≡ slice_index reserves turn.place) turns
 
 -- Laws.
 
--- Those who ask claim on a channel what is claimed there, whatever is said to be allowed of the flows of others.
+-- Those who ask claim on a channel what is claimed there, whatever is said to be allowed of the flows of others, and reserved
+-- for them.
 abbrev pub AskersClaim : Type 0
-AskersClaim = (t : Tables) (outstanding : List ℕ) (known allowances : List (Option ℕ)) (idle : List ℕ) (c : Channel) →
-    AgreeOn (turns_at (turns_of t) (asking_in t outstanding)) known allowances →
-    claims_at c (asking_in t outstanding) (plan_of_askers t outstanding known idle) ≡
-    claims_on c (plan_for t outstanding allowances idle)
+AskersClaim = (t : Tables) (outstanding : List ℕ) (known allowances : List (Option ℕ)) (known_reserves reserves idle : List ℕ)
+    (c : Channel) →
+    AgreeOn (turns_at (turns_of t) (asking_in t outstanding)) known allowances known_reserves reserves →
+    claims_at c (asking_in t outstanding) (plan_of_askers t outstanding known known_reserves idle) ≡
+    claims_on c (plan_for t outstanding allowances reserves idle)
 
 -- The turns at the places of those that pass are the turns that pass.
 abbrev pub TurnsPass : Type 0

@@ -8,14 +8,14 @@ use Rattle.us_flows.specs.declared.flows.SchedulingType.TheVariants.{BestEffort}
 use Rattle.us_flows.specs.Tables.{FlowTable, Tables}
 use Rattle.us_flows.specs.Clusters.{turns_of}
 use Rattle.us_split.specs.Divisions.{divided}
-use Rattle.us_split.specs.Plans.{weights, shares_of, cost_on, after_turn, plan_of, plan_for}
+use Rattle.us_split.specs.Plans.{weights, shares_of, cost_on, after_turn, plan_of, after_plan, more_shares, after_both, second_of, two_passes, plan_for, reserved_for}
 use Rattle.us_split.specs.Claims.{Claim, claims_from, all_claims, share_of}
 use Rattle.us_split.specs.Asking.{asking, asking_in, claims_at, places_from, plan_of_askers, pending_places}
 
 -- what these computations unfold
 unfoldable all_steps : ⊤
 unfolding coded_length burst_cost greatest_up_to capacity_of turns_of divided weights shares_of cost_on after_turn
-    plan_of plan_for claims_from
+    plan_of after_plan more_shares after_both second_of two_passes plan_for reserved_for claims_from
 all_steps = tt
 
 -- Division.
@@ -61,6 +61,7 @@ flow channels clusters = record {
   priority = 0;
   rate = 0;
   burst = 3044;
+  min_rate = 0;
   unit = 4;
   headers = true;
   start_us = 0;
@@ -80,12 +81,12 @@ bonded channels = record {
   stations = [];
 }
 
--- the shares of all turns, of so many outstanding bytes of both clusters, an allowance of their flow, and so many idle
--- minislots of both channels
+-- the shares of all turns, of so many outstanding bytes of both clusters, an allowance of their flow, no reserve, and so
+-- many idle minislots of both channels
 abbrev shares_for : List ℕ → ℕ → ℕ → Option ℕ → ℕ → ℕ → List (List ℕ)
 shares_for channels first second allowance one two =
     map (λ planned. planned.shares)
-    (plan_for (bonded channels) (first ∷ second ∷ []) (allowance ∷ []) (one ∷ two ∷ []))
+    (plan_for (bonded channels) (first ∷ second ∷ []) (allowance ∷ []) [] (one ∷ two ∷ []))
 
 -- Plans.
 
@@ -115,6 +116,45 @@ no_room :
 unfolding all_steps
 no_room = (refl, refl)
 
+-- Reserves.
+
+-- a channel with a flow of priority 7, and one of priority 0 with these clusters
+abbrev beside : List (List ℕ) → Tables
+beside clusters = record {
+  round_ticks = 320;
+  lead_ticks = 160;
+  channels = channel 1 ∷ [];
+  flows =
+      record (flow (1 ∷ []) ((291 ∷ []) ∷ [])) { priority = 7 } ∷
+      record (flow (1 ∷ []) clusters) { id = 2 } ∷ [];
+  stations = [];
+}
+
+-- the shares of all turns, the flow of priority 7 first, where so much is reserved for the other one, and 150 minislots are
+-- idle
+abbrev shares_beside : List (List ℕ) → List ℕ → ℕ → List (List ℕ)
+shares_beside clusters outstanding reserve =
+    map (λ planned. planned.shares)
+    (plan_for (beside clusters) outstanding (None ∷ None ∷ []) (0 ∷ reserve ∷ []) (150 ∷ []))
+
+-- 1,530 bytes are 49 minislots, and the 101 that are left carry 3,216: a header, and 3,208 bytes. So 49 minislots are left
+-- for the reserved bytes and 22 more. 328 bytes are 11 minislots; without a reserve nothing is left
+one_reserve :
+    (shares_beside ((292 ∷ []) ∷ []) (262140 ∷ 10000 ∷ []) 1522 ≡ (3208 ∷ []) ∷ (1544 ∷ []) ∷ []) ×
+    (shares_beside ((292 ∷ []) ∷ []) (258932 ∷ 8456 ∷ []) 320 ≡ (4424 ∷ []) ∷ (328 ∷ []) ∷ []) ×
+    (shares_beside ((292 ∷ []) ∷ []) (262140 ∷ 10000 ∷ []) 0 ≡ (4776 ∷ []) ∷ (0 ∷ []) ∷ [])
+unfolding all_steps
+one_reserve = (refl, refl, refl)
+
+-- both clusters of a flow have their bytes of its reserve
+both_reserved :
+    (shares_beside ((292 ∷ []) ∷ (293 ∷ []) ∷ []) (262140 ∷ 1000 ∷ 1000 ∷ []) 5000 ≡
+    (2728 ∷ []) ∷ (1000 ∷ []) ∷ (1000 ∷ []) ∷ []) ×
+    (reserved_for (beside ((292 ∷ []) ∷ (293 ∷ []) ∷ [])) (262140 ∷ 1000 ∷ 1000 ∷ []) (None ∷ None ∷ [])
+    (0 ∷ 5000 ∷ []) (150 ∷ []) 1 ≡ 2000)
+unfolding all_steps
+both_reserved = (refl, refl)
+
 -- Claims.
 
 -- a claim of this turn at this position, of the cluster of this number, with this SID, share, minislots and IUC
@@ -134,7 +174,7 @@ claim turn position number sid share slots iuc = record {
 abbrev claims_for : List ℕ → ℕ → ℕ → ℕ → ℕ → List (List Claim)
 claims_for channels first second one two =
     all_claims (bonded channels)
-    (plan_for (bonded channels) (first ∷ second ∷ []) (None ∷ []) (one ∷ two ∷ []))
+    (plan_for (bonded channels) (first ∷ second ∷ []) (None ∷ []) [] (one ∷ two ∷ []))
 
 -- both clusters on both channels: 4,008 bytes are 126 minislots, 752 bytes 24, all of them long data grants
 bonded_claims : claims_for (1 ∷ 2 ∷ []) 8000 2000 150 150 ≡
@@ -177,7 +217,7 @@ three_turns = (refl, refl)
 -- the second cluster alone asks, and claims as it does among all turns
 second_asks :
     map (λ c. claims_at c (asking_in (bonded (1 ∷ 2 ∷ [])) (0 ∷ 7 ∷ []))
-    (plan_of_askers (bonded (1 ∷ 2 ∷ [])) (0 ∷ 7 ∷ []) (None ∷ []) (150 ∷ 150 ∷ []))) (channel 1 ∷ channel 2 ∷ [])
+    (plan_of_askers (bonded (1 ∷ 2 ∷ [])) (0 ∷ 7 ∷ []) (None ∷ []) [] (150 ∷ 150 ∷ []))) (channel 1 ∷ channel 2 ∷ [])
     ≡ second_only
 unfolding all_steps places_from
 second_asks = refl

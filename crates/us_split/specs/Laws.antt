@@ -1,11 +1,11 @@
--- Laws of the claims of a plan: whose they are.
-use Rattle.std.specs.Prelude.{◌≡◌, ℕ, ◌≤◌, ◌==◌, true, List, count_by, Option}
+-- Laws of plans and of their claims: that one pass does where nothing is reserved, and whose claims are.
+use Rattle.std.specs.Prelude.{◌≡◌, ℕ, ◌≤◌, ◌==◌, true, List, length, count_by, Option}
 use Rattle.std.specs.List.{AllByRecursion}
 use Rattle.us_flows.specs.declared.channels.Channel.{Channel}
 use Rattle.us_flows.specs.Tables.{Tables, header_bytes}
-use Rattle.us_flows.specs.Clusters.{Turn, IsTurnIn, has_sid}
+use Rattle.us_flows.specs.Clusters.{Turn, IsTurnIn, has_sid, turns_of}
 use Rattle.us_flows.specs.Lawful.{AreTables}
-use Rattle.us_split.specs.Plans.{plan_for}
+use Rattle.us_split.specs.Plans.{ledger_of, plan_for, plan_of}
 use Rattle.us_split.specs.Claims.{Claim, claimant_of, claims_on}
 
 -- a claim on a channel that is of a turn of these tables: it names the turn's cluster, has the segment header of its flow,
@@ -19,11 +19,17 @@ pub record IsOfTurn (t : Tables) (c : Channel) (claim : Claim) : Type 0 where
 
 -- Each claim of a plan is of a turn.
 abbrev pub ClaimsAreOfTurns : Type 0
-ClaimsAreOfTurns = (t : Tables) (outstanding : List ℕ) (allowances : List (Option ℕ)) (idle : List ℕ) (c : Channel) →
-    AreTables t → AllByRecursion (IsOfTurn t c) (claims_on c (plan_for t outstanding allowances idle))
+ClaimsAreOfTurns = (t : Tables) (outstanding : List ℕ) (allowances : List (Option ℕ)) (reserves idle : List ℕ) (c : Channel) →
+    AreTables t → AllByRecursion (IsOfTurn t c) (claims_on c (plan_for t outstanding allowances reserves idle))
 
 -- On a channel no cluster has two claims.
 abbrev pub ClustersClaimOnce : Type 0
-ClustersClaimOnce = (t : Tables) (outstanding : List ℕ) (allowances : List (Option ℕ)) (idle : List ℕ) (c : Channel)
+ClustersClaimOnce = (t : Tables) (outstanding : List ℕ) (allowances : List (Option ℕ)) (reserves idle : List ℕ) (c : Channel)
     (number : ℕ) →
-    count_by (λ claim. claim.claimant.cluster == number) (claims_on c (plan_for t outstanding allowances idle)) ≤ 1
+    count_by (λ claim. claim.claimant.cluster == number) (claims_on c (plan_for t outstanding allowances reserves idle)) ≤ 1
+
+-- Where nothing is reserved, a plan is made in one pass.
+abbrev pub OnePassDoes : Type 0
+OnePassDoes = (t : Tables) (outstanding : List ℕ) (allowances : List (Option ℕ)) (reserves idle : List ℕ) →
+    length allowances ≡ length t.flows → AllByRecursion (λ reserve. reserve ≡ 0) reserves →
+    plan_for t outstanding allowances reserves idle ≡ plan_of outstanding (ledger_of t allowances idle) (turns_of t)

@@ -1,11 +1,13 @@
 -- Inside the crate: a turn by its places, and a plan in the making.
-use Rattle.std.specs.Prelude.{◌≡◌, ℕ, ◌+◌, ◌-◌, ◌^◌, ◌<◌, ◌==◌, if◌then◌else◌, List, [], ◌∷◌, ◌++◌, length, map, find, position, slice_index, slice_get, slice_index_or, zip, Option, Some, option_to_list}
+use Rattle.std.specs.Prelude.{◌≡◌, ℕ, ◌+◌, ◌-◌, ◌/◌, ◌^◌, ◌<◌, ◌==◌, min, if◌then◌else◌, List, [], ◌∷◌, ◌++◌, length, map, find, position, slice_index, slice_get, slice_index_or, zip, Option, Some, option_to_list}
 use Rattle.us_slots.specs.Bursts.{grant_cost}
+use Rattle.us_slots.specs.Times.{minislot_ticks}
 use Rattle.us_flows.specs.declared.channels.Channel.{Channel}
+use Rattle.us_flows.specs.Ranges.{max_round_ticks}
 use Rattle.us_flows.specs.Tables.{Tables, FlowTable, header_bytes}
 use Rattle.us_flows.specs.Clusters.{Turn}
 use Rattle.us_flows.specs.declared.turns.Turn as places
-use Rattle.us_split.specs.Plans.{Budget, Ledger, Planned, shares_of, cost_on, allowed_less}
+use Rattle.us_split.specs.Plans.{Budget, Ledger, Planned, shares_of, share_cost, cost_on, allowed_less}
 use Rattle.us_split.specs.Claims.{Claimant, Claim, claimant_of, claim_on}
 
 -- a turn of a flow, by its places, none of which is past 16 bits
@@ -122,8 +124,24 @@ planned_further place planned partial = record {
 abbrev pub planned_in : List ℕ → PartialPlan → Turn → Planned
 planned_in outstanding partial turn = record { turn = turn; shares = shares_of outstanding (ledger_in partial) turn }
 
--- after all turns, of which the first has this place
-unfoldable pub planned_through : List ℕ → ℕ → PartialPlan → List Turn → PartialPlan
-planned_through outstanding place partial [] = partial
-planned_through outstanding place partial (turn ∷ turns) =
-    planned_through outstanding (place + 1) (planned_further place (planned_in outstanding partial turn) partial) turns
+-- Costs without claims.
+
+-- the most minislots that a MAP of a channel can have
+abbrev pub most_slots : Channel → ℕ
+most_slots c = max_round_ticks / minislot_ticks c.bursts.time
+
+-- what a share costs is taken off,
+abbrev pub taken : ℕ → ℕ → ChannelPlan → ChannelPlan
+taken header share c = record {
+  channel = c.channel;
+  slots = c.slots - share_cost c.channel header share;
+  claims = c.claims;
+}
+
+-- and given back, up to what a MAP can have
+abbrev pub returned : ℕ → ℕ → ChannelPlan → ChannelPlan
+returned header share c = record {
+  channel = c.channel;
+  slots = min (c.slots + share_cost c.channel header share) (most_slots c.channel);
+  claims = c.claims;
+}

@@ -1,9 +1,9 @@
 -- What holds of every plan: no channel, cluster or flow gives more than it has.
-use Rattle.std.specs.Prelude.{◌≡◌, ◌⊎◌, ℕ, ◌+◌, ◌≤◌, ◌==◌, List, filter, sum, sum_by, slice_get, slice_index, Option, Some, None}
+use Rattle.std.specs.Prelude.{◌≡◌, ◌⊎◌, ℕ, ◌+◌, ◌<◌, ◌≤◌, ◌==◌, List, length, filter, sum, sum_by, slice_get, slice_index, Option, Some, None}
 use Rattle.std.specs.List.{AllByRecursion}
 use Rattle.us_flows.specs.declared.channels.Channel.{Channel}
 use Rattle.us_flows.specs.Tables.{Tables, header_bytes}
-use Rattle.us_split.specs.Plans.{Planned, cost_on, max_burst_bytes}
+use Rattle.us_split.specs.Plans.{Planned, cost_on, max_burst_bytes, reserved_for}
 
 -- at most so many bytes, where there is a limit
 abbrev pub Within : Option ℕ → ℕ → Type 0
@@ -32,3 +32,8 @@ pub record IsLawfulPlan (t : Tables) (outstanding : List ℕ) (allowances : List
       Within allowance (planned_bytes (filter (λ planned. planned.turn.place == place) plan))
   -- and each with its header is a burst
   pub bursts : AllByRecursion AreBursts plan
+
+-- and of no flow more is taken in the first pass than is reserved
+abbrev pub AreWithinReserves : Tables → List ℕ → List (Option ℕ) → List ℕ → List ℕ → Type 0
+AreWithinReserves t outstanding allowances reserves idle = (place : ℕ) → place < length allowances →
+    reserved_for t outstanding allowances reserves idle place ≤ slice_index reserves place

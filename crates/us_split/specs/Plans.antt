@@ -1,5 +1,6 @@
--- The plan of a round (ours): how many bytes each turn may send on each of its flow's channels.
-use Rattle.std.specs.Prelude.{ℕ, ◌+◌, ◌-◌, ◌≤◌, ◌≡◌, ◌==◌, min, if◌then◌else◌, List, [], ◌∷◌, map, zip, find, position, set, length, sum, slice_get, slice_index, slice_index_or, Option, Some, None, option_map}
+-- The plan of a round (ours): how many bytes each turn may send on each of its flow's channels. It is made in two passes: in
+-- the first one each flow gets what is reserved for it, and in the second one all turns get what is left.
+use Rattle.std.specs.Prelude.{ℕ, ◌+◌, ◌-◌, ◌≤◌, ◌≡◌, ◌==◌, min, if◌then◌else◌, List, [], ◌∷◌, map, zip, filter, find, position, set, length, sum, sum_by, slice_get, slice_index, slice_index_or, Option, Some, None, option_map}
 use Rattle.us_slots.specs.Bursts.{grant_cost}
 use Rattle.us_slots.specs.Capacities.{capacity_of}
 use Rattle.us_flows.specs.declared.channels.Channel.{Channel}
@@ -93,7 +94,7 @@ after_turn ledger planned = record {
   allowances = allowed_less planned ledger.allowances;
 }
 
--- The plan.
+-- One pass.
 
 -- the shares of the turns, one turn after another
 unfoldable pub plan_of : List ℕ → Ledger → List Turn → List Planned
@@ -101,6 +102,78 @@ plan_of outstanding ledger [] = []
 plan_of outstanding ledger (turn ∷ turns) =
     let planned : Planned = record { turn = turn; shares = shares_of outstanding ledger turn } in
     planned ∷ plan_of outstanding (after_turn ledger planned) turns
+
+-- what is left after a plan
+unfoldable pub after_plan : Ledger → List Planned → Ledger
+after_plan ledger [] = ledger
+after_plan ledger (planned ∷ plan) = after_plan (after_turn ledger planned) plan
+
+-- The first pass: what is reserved.
+
+-- a flow gets no more than its reserve, and than its bucket allows; no reserve is said to be 0, and need not be listed
+abbrev pub first_limits : List (Option ℕ) → List ℕ → List (Option ℕ)
+first_limits [] reserves = []
+first_limits (allowance ∷ allowances) [] = Some 0 ∷ first_limits allowances []
+first_limits (allowance ∷ allowances) (reserve ∷ reserves) =
+    Some (at_most allowance reserve) ∷ first_limits allowances reserves
+
+-- the first shares of the turns
+abbrev pub first_of : List ℕ → Ledger → List ℕ → List Turn → List Planned
+first_of outstanding ledger reserves turns =
+    plan_of outstanding (record { budgets = ledger.budgets; allowances = first_limits ledger.allowances reserves }) turns
+
+-- The second pass: what is left.
+
+-- on each channel the turn gets back what its first share cost
+abbrev pub given_back : Planned → List Budget → List Budget
+given_back first budgets =
+    map (λ b. record { channel = b.channel; slots = b.slots + cost_on b.channel first }) budgets
+
+-- numbers added and taken off, place by place
+abbrev pub plus : List ℕ → List ℕ → List ℕ
+plus [] ys = ys
+plus (x ∷ xs) [] = x ∷ xs
+plus (x ∷ xs) (y ∷ ys) = (x + y) ∷ plus xs ys
+
+abbrev pub minus : List ℕ → List ℕ → List ℕ
+minus [] ys = []
+minus (x ∷ xs) [] = x ∷ xs
+minus (x ∷ xs) (y ∷ ys) = (x - y) ∷ minus xs ys
+
+-- what a turn gets beside its first shares: of the bytes that these leave of its outstanding ones, as many as its flow's bucket
+-- still allows, divided over what its channels carry beside them
+unfoldable pub more_shares : List ℕ → Ledger → Planned → List ℕ
+more_shares outstanding ledger first =
+    divided
+    (at_most (slice_index_or ledger.allowances first.turn.place None)
+    (slice_index outstanding first.turn.number - sum first.shares))
+    (minus (weights first.turn.cluster.flow (given_back first ledger.budgets)) first.shares)
+
+-- both make up its shares
+abbrev pub with_more : Planned → List ℕ → Planned
+with_more first more = record { turn = first.turn; shares = plus first.shares more }
+
+-- each budget falls by what the whole share costs, in place of the first one; first shares are off the allowance already
+unfoldable pub after_both : Ledger → Planned → List ℕ → Ledger
+after_both ledger first more = record {
+  budgets = lowered (with_more first more) (given_back first ledger.budgets);
+  allowances = allowed_less (record { turn = first.turn; shares = more }) ledger.allowances;
+}
+
+-- all shares of the turns that have these first ones, one turn after another
+unfoldable pub second_of : List ℕ → Ledger → List Planned → List Planned
+second_of outstanding ledger [] = []
+second_of outstanding ledger (first ∷ plan) =
+    let more : List ℕ = more_shares outstanding ledger first in
+    with_more first more ∷ second_of outstanding (after_both ledger first more) plan
+
+-- The plan.
+
+-- the shares of the turns, of which the first ones were planned before all others
+unfoldable pub two_passes : List ℕ → Ledger → List ℕ → List Turn → List Planned
+two_passes outstanding ledger reserves turns =
+    let first : List Planned = first_of outstanding ledger reserves turns in
+    second_of outstanding (after_plan ledger first) first
 
 -- a number of idle minislots for each channel, no more than its MAPs have
 pub record IsIdle (t : Tables) (idle : List ℕ) : Type 0 where
@@ -115,6 +188,18 @@ ledger_of t allowances idle = record {
   allowances = allowances;
 }
 
--- the plan of a round: of the bytes outstanding of each cluster, the allowances by flow and the idle minislots by channel
-unfoldable pub plan_for : Tables → List ℕ → List (Option ℕ) → List ℕ → List Planned
-plan_for t outstanding allowances idle = plan_of outstanding (ledger_of t allowances idle) (turns_of t)
+-- the plan of a round: of the bytes outstanding of each cluster, the allowances and the reserves by flow, and the idle minislots
+-- by channel
+unfoldable pub plan_for : Tables → List ℕ → List (Option ℕ) → List ℕ → List ℕ → List Planned
+plan_for t outstanding allowances reserves idle =
+    two_passes outstanding (ledger_of t allowances idle) reserves (turns_of t)
+
+-- the bytes of all shares of the flow at a place,
+abbrev pub flow_bytes : List Planned → ℕ → ℕ
+flow_bytes plan place =
+    sum_by (λ planned. sum planned.shares) (filter (λ planned. planned.turn.place == place) plan)
+
+-- and what the plan of a round takes of the flow's reserve: its first shares
+unfoldable pub reserved_for : Tables → List ℕ → List (Option ℕ) → List ℕ → List ℕ → ℕ → ℕ
+reserved_for t outstanding allowances reserves idle place =
+    flow_bytes (first_of outstanding (ledger_of t allowances idle) reserves (turns_of t)) place

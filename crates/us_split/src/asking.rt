@@ -1,5 +1,7 @@
 ghost use Rattle.std.specs.Prelude.{◌≡◌, ◌+◌, ◌^◌, ◌<◌, ◌≤◌, length, replicate, zip, slice_index, IfOk, vec_capacity};
 ghost use Rattle.std.specs.List.{AllByRecursion};
+ghost use Rattle.us_flows.specs.Clusters.{clusters_of};
+ghost use Rattle.us_flows.specs.Lawful.{AreTables};
 ghost use Rattle.us_split.specs.Asking as spec;
 ghost use Rattle.us_split.specs.Askers.{AreAskers};
 
@@ -19,7 +21,7 @@ mod listing;
 
 use cluster_turns::{numbers_of, places_of};
 use cuts::first_in_cut;
-use listing::{drop_answered, list_turn, note_pending};
+use listing::{drop_answered, list_turn, note, note_pending};
 
 /// Who asks in a round: what is outstanding of each SID cluster, and the turns of which something is. Between rounds,
 /// and while clusters ask for more, `left` is the same as `outstanding`; credits of a round lower it alone, until the
@@ -175,6 +177,34 @@ impl Askers {
         let outstanding = self.outstanding.as_mut_slice();
         outstanding.copy_from_slice(&self.left);
     }
+}
+
+/// The places of the turns of which bytes are outstanding, in the order of turns.
+pub(crate) fn places_of_askers(
+    alloc: Global,
+    config: &Config,
+    outstanding: &[u64],
+) -> Result<Vec<u16>, NoMemory>
+    requires lawful { AreTables config.now }
+    requires clusters { length outstanding.now ≡ length (clusters_of config.now) }
+    ensures { IfOk result (λ places. places.items ≡ spec.asking_in config.now outstanding.now) }
+{
+    let numbers = numbers_of(alloc, config)?;
+    places_asking(alloc, &numbers, outstanding)
+}
+
+/// The places of those of these clusters of which bytes are outstanding.
+fn places_asking(alloc: Global, numbers: &[u16], outstanding: &[u64]) -> Result<Vec<u16>, NoMemory>
+    requires few { length numbers.now ≤ 65536 }
+    requires clusters { AllByRecursion (λ number. number < length outstanding.now) numbers.now }
+    ensures { IfOk result (λ places. places.items ≡ spec.asking outstanding.now numbers.now) }
+{
+    let mut places = Vec::with_capacity(alloc, numbers.len())?;
+    for (place, number) in numbers.iter().enumerate() {
+        let asks = outstanding[usize::from(*number)] > 0;
+        note(&mut places, place as u16, asks);
+    }
+    Ok(places)
 }
 
 /// No bytes of so many clusters.

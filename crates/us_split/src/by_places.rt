@@ -4,8 +4,8 @@ ghost use Rattle.us_slots.specs.Times.{minislot_ticks};
 ghost use Rattle.us_flows.specs.Ranges.{max_channels_of_flow, max_round_ticks};
 ghost use Rattle.us_flows.specs.Tables.{segment_header_bytes};
 ghost use Rattle.us_split.specs.Plans.{max_burst_bytes};
-ghost use Rattle.us_split.specs.PartialPlans.{with_share};
-ghost use Rattle.us_split.specs.TurnRows.{changed, cleared, put_from, weight_at};
+ghost use Rattle.us_split.specs.PartialPlans.{returned, taken, with_share};
+ghost use Rattle.us_split.specs.TurnRows.{changed, cleared, put_from, returned_at, taken_at, weight_at};
 
 use crate::channel_plans::{Asker, ChannelPlan};
 use crate::turn_rows::Seat;
@@ -85,4 +85,55 @@ pub(crate) fn put_all(
         put_one(channels, asker, i as u8, seats[i], shares[i])?;
     }
     Ok(())
+}
+
+/// Takes off what a share costs on the channel at this seat, and claims nothing.
+fn take_one(channels: &mut [ChannelPlan], header: u8, seat: Seat, share: u32)
+    requires inside { seat.place < length channels.old }
+    requires burst { share + header ≤ max_burst_bytes }
+    ensures share { channels.new ≡ changed (taken header share) channels.old seat.place }
+    ensures kept { map (λ c. c.channel) channels.new ≡ map (λ c. c.channel) channels.old }
+{
+    channels[usize::from(seat.place)].take(header, share);
+}
+
+/// Takes off what shares cost at these seats, one after another.
+pub(crate) fn take_all(channels: &mut [ChannelPlan], header: u8, seats: &[Seat], shares: &[u32])
+    requires inside { AllByRecursion (λ seat. seat.place < length channels.old) seats.now }
+    requires one_each { length shares.now ≡ length seats.now }
+    requires bursts { (k : ℕ) → slice_index shares.now k + header ≤ max_burst_bytes }
+    ensures shares { channels.new ≡ taken_at header shares.now seats.now channels.old }
+    ensures kept { map (λ c. c.channel) channels.new ≡ map (λ c. c.channel) channels.old }
+{
+    for i in 0..seats.len() {
+        take_one(channels, header, seats[i], shares[i]);
+    }
+}
+
+/// Gives back what a share cost on the channel at this seat.
+fn give_back_one(channels: &mut [ChannelPlan], header: u8, seat: Seat, share: u32)
+    requires inside { seat.place < length channels.old }
+    requires burst { share + header ≤ max_burst_bytes }
+    ensures share { channels.new ≡ changed (returned header share) channels.old seat.place }
+    ensures kept { map (λ c. c.channel) channels.new ≡ map (λ c. c.channel) channels.old }
+{
+    channels[usize::from(seat.place)].give_back(header, share);
+}
+
+/// Gives back what shares cost at these seats, one after another.
+pub(crate) fn give_back_all(
+    channels: &mut [ChannelPlan],
+    header: u8,
+    seats: &[Seat],
+    shares: &[u32],
+)
+    requires inside { AllByRecursion (λ seat. seat.place < length channels.old) seats.now }
+    requires one_each { length shares.now ≡ length seats.now }
+    requires bursts { (k : ℕ) → slice_index shares.now k + header ≤ max_burst_bytes }
+    ensures shares { channels.new ≡ returned_at header shares.now seats.now channels.old }
+    ensures kept { map (λ c. c.channel) channels.new ≡ map (λ c. c.channel) channels.old }
+{
+    for i in 0..seats.len() {
+        give_back_one(channels, header, seats[i], shares[i]);
+    }
 }

@@ -1,22 +1,21 @@
-ghost use Rattle.std.specs.Prelude.{◌≡◌, ℕ, ◌+◌, ◌*◌, ◌≤◌, [], length, map, slice_index, Some, None, MatchOption, IfOk, OnOk};
+ghost use Rattle.std.specs.Prelude.{◌≡◌, ◌+◌, ◌*◌, ◌≤◌, [], slice_index, Some, IfOk, OnOk};
 ghost use Rattle.std.specs.List.{All};
 ghost use Rattle.us_slots.specs.Times.{minislot_ticks};
-ghost use Rattle.us_flows.specs.Lawful.{AreApart};
-ghost use Rattle.us_flows.specs.Ranges.{max_channels_of_flow, max_round_ticks};
+ghost use Rattle.us_flows.specs.Ranges.{max_round_ticks};
 ghost use Rattle.us_flows.specs.Tables.{segment_header_bytes};
-ghost use Rattle.us_split.specs.Plans.{budget_of, weight, max_burst_bytes};
+ghost use Rattle.us_split.specs.Plans.{weight, share_cost, max_burst_bytes};
 ghost use Rattle.us_slots.specs.Capacities.{capacity_of};
 ghost use Rattle.us_split.specs.PartialPlans as spec;
 ghost use Rattle.us_split.specs.TurnRows.{IsTable};
 ghost use Rattle.us_split.specs.KnownCosts.{IsCost};
-ghost use Rattle.us_split.specs.PartialPlans.{budget_in, channel_of, IsPlaceOf, with_claim, with_share, claimed_at, claimed_from};
+ghost use Rattle.us_split.specs.PartialPlans.{budget_in, returned, taken, with_claim};
 
 use crate::claims::{Claim, Claimant};
 use crate::known_costs::{KnownCost, cost_of, first_costs};
 use std::alloc::Global;
 use std::marker::Model;
 use us_flows::Channel;
-use us_slots::{BurstSet, NoMemory, capacity};
+use us_slots::{BurstSet, MAX_MAP_TICKS, NoMemory, capacity};
 
 /// Who claims: a SID cluster, the place of its turn, and the bytes of its segment header.
 #[derive(Clone, Copy)]
@@ -68,20 +67,6 @@ impl Drop for ChannelPlan {
 }
 
 impl ChannelPlan {
-    /// So many minislots of a channel, which are no more than a MAP has, and no claims.
-    pub(crate) fn new(alloc: Global, channel: Channel, slots: u32) -> ChannelPlan
-        requires { slots * minislot_ticks channel.bursts.time ≤ max_round_ticks }
-        ensures { let plan : spec.ChannelPlan = record { channel = channel; slots = slots; claims = [] } in result ≡ plan }
-    {
-        ChannelPlan {
-            channel,
-            slots,
-            claims: Vec::new(alloc),
-            carries: Vec::new(alloc),
-            costs: Vec::new(alloc),
-        }
-    }
-
     /// No minislots of a channel, no claims, a table of what up to so many of its minislots carry, which are no more than
     /// a MAP has, and one of costs.
     pub(crate) fn tabled(
@@ -112,13 +97,6 @@ impl ChannelPlan {
     {
         self.claims.clear();
         self.slots = slots;
-    }
-
-    /// The id of the channel.
-    fn id(&self) -> u8
-        ensures { result ≡ self.now.channel.id }
-    {
-        self.channel.id
     }
 
     /// The claims so far.
@@ -180,6 +158,41 @@ impl ChannelPlan {
         self.slots = self.slots.saturating_sub(slots);
         Ok(())
     }
+
+    /// The minislots that a share costs behind a header; none where there is no share.
+    fn cost(&mut self, header: u8, share: u32) -> u32
+        requires { share + header ≤ max_burst_bytes }
+        ensures value { result ≡ share_cost self.old.channel header share }
+        ensures kept { self.new ≡ self.old }
+    {
+        if share == 0 {
+            return 0;
+        }
+        let bytes = share + u32::from(header);
+        let (slots, _) = cost_of(&mut self.costs, &self.channel.bursts, bytes);
+        slots
+    }
+
+    /// Takes off the minislots that a share costs, and claims nothing.
+    #[tactic(auto, using(crate::proofs::ChannelPlanLemmas::fewer_ticks))]
+    pub(crate) fn take(&mut self, header: u8, share: u32)
+        requires { share + header ≤ max_burst_bytes }
+        ensures { self.new ≡ taken header share self.old }
+    {
+        let cost = self.cost(header, share);
+        self.slots = self.slots.saturating_sub(cost);
+    }
+
+    /// Gives back the minislots that a share cost, up to what a MAP can have.
+    #[tactic(auto, using(crate::proofs::ChannelPlanLemmas::most_facts))]
+    pub(crate) fn give_back(&mut self, header: u8, share: u32)
+        requires { share + header ≤ max_burst_bytes }
+        ensures { self.new ≡ returned header share self.old }
+    {
+        let cost = self.cost(header, share);
+        let most = MAX_MAP_TICKS / self.channel.bursts.time().minislot_ticks();
+        self.slots = self.slots.saturating_add(cost).min(most);
+    }
 }
 
 /// What minislots carry in the long profile of a channel, by their number, up to so many, which are no more than a MAP has.
@@ -192,100 +205,6 @@ fn table_of(alloc: Global, bursts: &BurstSet, most: u32) -> Result<Vec<u32>, NoM
         table.push(capacity(bursts.time(), bursts.long(), slots))?;
     }
     Ok(table)
-}
-
-/// Where the channel with this id stands. Ids mostly follow one another in table order, so that place is tried first.
-fn place_of(channels: &[ChannelPlan], id: u8) -> Option<usize>
-    ensures { MatchOption result (channel_of channels.now id ≡ None) (IsPlaceOf channels.now id) }
-{
-    if let Some(first) = channels.first() {
-        let place = usize::from(id.saturating_sub(first.id()));
-        if place < channels.len() && channels[place].id() == id {
-            return Some(place);
-        }
-    }
-    searched(channels, id)
-}
-
-/// Where the channel with this id stands, looked for among all.
-fn searched(channels: &[ChannelPlan], id: u8) -> Option<usize>
-    ensures { MatchOption result (channel_of channels.now id ≡ None) (IsPlaceOf channels.now id) }
-{
-    for (place, channel) in channels.iter().enumerate() {
-        if channel.id() == id {
-            return Some(place);
-        }
-    }
-    None
-}
-
-/// The most bytes that the channel with this id can carry behind a header; 0 where there is no such channel.
-fn weight_of(channels: &[ChannelPlan], id: u8, header: u32) -> u32
-    requires apart { AreApart (map (λ c. c.channel.id) channels.now) }
-    requires header { header ≤ segment_header_bytes }
-    ensures value { result ≡ weight header (budget_of (map budget_in channels.now) id) }
-    ensures burst { result + header ≤ max_burst_bytes }
-{
-    match place_of(channels, id) {
-        Some(place) => channels[place].weight(header),
-        None => 0,
-    }
-}
-
-/// Writes the most bytes that each channel of a flow can carry behind a header.
-pub(crate) fn weigh(channels: &[ChannelPlan], ids: &[u8], header: u32, weights: &mut [u32])
-    requires apart { AreApart (map (λ c. c.channel.id) channels.now) }
-    requires same_length { length weights.old ≡ length ids.now }
-    requires header { header ≤ segment_header_bytes }
-    ensures value { weights.new ≡ map (λ id. weight header (budget_of (map budget_in channels.now) id)) ids.now }
-    ensures bursts { (k : ℕ) → slice_index weights.new k + header ≤ max_burst_bytes }
-{
-    for i in 0..ids.len() {
-        weights[i] = weight_of(channels, ids[i], header);
-    }
-}
-
-/// Claims a share on the channel with this id, if it is above 0.
-fn claim_one(
-    channels: &mut [ChannelPlan],
-    asker: Asker,
-    position: u8,
-    id: u8,
-    sid: u16,
-    share: u32,
-) -> Result<(), NoMemory>
-    requires apart { AreApart (map (λ c. c.channel.id) channels.old) }
-    requires burst { share + asker.header ≤ max_burst_bytes }
-    ensures { OnOk result (channels.new ≡ map (claimed_at asker position id sid share) channels.old) }
-{
-    if share == 0 {
-        return Ok(());
-    }
-    match place_of(channels, id) {
-        Some(place) => channels[place].claim(asker, position, sid, share),
-        None => Ok(()),
-    }
-}
-
-/// Claims shares on the channels of a flow, by their ids, one after another.
-pub(crate) fn claim_all(
-    channels: &mut [ChannelPlan],
-    asker: Asker,
-    ids: &[u8],
-    sids: &[u16],
-    shares: &[u32],
-) -> Result<(), NoMemory>
-    requires apart { AreApart (map (λ c. c.channel.id) channels.old) }
-    requires few { length ids.now ≤ max_channels_of_flow }
-    requires same_length { length shares.now ≡ length ids.now }
-    requires bursts { (k : ℕ) → slice_index shares.now k + asker.header ≤ max_burst_bytes }
-    ensures { OnOk result (channels.new ≡ map (claimed_from asker 0 ids.now sids.now shares.now) channels.old) }
-{
-    for i in 0..ids.len() {
-        let sid = sid_at(sids, i);
-        claim_one(channels, asker, i as u8, ids[i], sid, shares[i])?;
-    }
-    Ok(())
 }
 
 /// The SID at this position; 0 where there is none.

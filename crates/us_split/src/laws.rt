@@ -1,7 +1,7 @@
-//! Laws of the claims of a plan and of those who ask, each as the contract of a function that does nothing.
+//! Laws of plans, of their claims and of those who ask, each as the contract of a function that does nothing.
 
 ghost use Rattle.us_split.specs.Asking.{AskersClaim, TurnsPass};
-ghost use Rattle.us_split.specs.Laws.{ClaimsAreOfTurns, ClustersClaimOnce};
+ghost use Rattle.us_split.specs.Laws.{ClaimsAreOfTurns, ClustersClaimOnce, OnePassDoes};
 
 /// Each claim of a plan is of a turn of the tables: of its cluster, with its header, and with the cluster's SID on the
 /// channel.
@@ -22,4 +22,9 @@ pub fn askers_claim()
 /// The turns at the places of those that pass are the turns that pass.
 pub fn turns_pass()
     ensures { TurnsPass }
+{}
+
+/// Where nothing is reserved, a plan is made in one pass.
+pub fn one_pass_does()
+    ensures { OnePassDoes }
 {}

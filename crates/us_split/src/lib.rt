@@ -24,15 +24,6 @@ mod channel_plans;
 // Bytes for each channel of a flow.
 mod shares;
 
-// What is planned on all channels: while it is made,
-mod partial_plans;
-
-// and in the end.
-mod plans;
-
-// The plan of a round.
-mod planning;
-
 // Who asks in a round.
 mod asking;
 
@@ -48,15 +39,19 @@ mod row_plans;
 // and the planner that keeps them from round to round.
 mod planner;
 
-// Laws of claims and of those who ask.
+// The plan of a round by itself, and how it is made.
+mod planning;
+mod plans;
+
+// Laws of plans, of claims and of those who ask.
 mod laws;
 
 pub use asking::Askers;
 pub use claims::{Claim, Claimant};
 pub use divisions::{MAX_CHANNELS_OF_FLOW, divide};
-pub use laws::{askers_claim, claims_are_of_turns, clusters_claim_once, turns_pass};
+pub use laws::{askers_claim, claims_are_of_turns, clusters_claim_once, one_pass_does, turns_pass};
 pub use planner::Planner;
-pub use planning::{plan, plan_with};
+pub use planning::plan;
 pub use plans::Plan;
 
 #[cfg(test)]

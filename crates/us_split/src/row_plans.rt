@@ -1,10 +1,11 @@
-ghost use Rattle.std.specs.Prelude.{◌≡◌, ℕ, None, ◌<◌, ◌≤◌, ◌+◌, ◌-◌, length, map, set, option_map, slice_index, slice_index_or, OnOk};
+ghost use Rattle.std.specs.Prelude.{◌≡◌, ℕ, List, None, [], ◌∷◌, ◌++◌, ◌<◌, ◌≤◌, ◌+◌, ◌-◌, length, map, set, option_map, slice_index, slice_index_or, OnOk};
 ghost use Rattle.std.specs.List.{AllByRecursion};
 ghost use Rattle.us_flows.specs.Tables.{segment_header_bytes};
 ghost use Rattle.us_split.specs.Plans.{at_most, max_burst_bytes};
-ghost use Rattle.us_split.specs.TurnRows.{IsRowWithin, partial_of, shares_at, with_row, with_rows};
+ghost use Rattle.us_split.specs.TurnRows as spec;
+ghost use Rattle.us_split.specs.TurnRows.{AreFirsts, FitsRow, IsRowWithin, first_pass, last_pass, more_at, no_firsts, partial_of, pass_of, shares_at, with_first_row, with_firsts, with_row, with_rows, with_second_row, with_seconds};
 
-use crate::by_places::put_all;
+use crate::by_places::{give_back_all, put_all, take_all};
 use crate::channel_plans::ChannelPlan;
 use crate::shares::Shares;
 use crate::turn_rows::TurnRow;
@@ -30,6 +31,39 @@ fn spend(allowances: &mut [Option<u64>], flow: usize, bytes: u64)
     if let Some(most) = allowances[flow] {
         allowances[flow] = Some(most.saturating_sub(bytes));
     }
+}
+
+/// What is reserved for the flow at this place, 0 where nothing is listed.
+pub(crate) fn reserve_of(reserves: &[u64], flow: usize) -> u64
+    ensures { result ≡ slice_index reserves.now flow }
+{
+    match reserves.get(flow) {
+        Some(bytes) => *bytes,
+        None => 0,
+    }
+}
+
+/// Takes so many bytes off what is reserved for the flow at this place.
+fn spend_reserve(reserves: &mut [u64], flow: usize, bytes: u64)
+    ensures { reserves.new ≡ set reserves.old flow (slice_index reserves.old flow - bytes) }
+{
+    if flow < reserves.len() {
+        reserves[flow] = reserves[flow].saturating_sub(bytes);
+    }
+}
+
+/// Whether something is reserved for the flow of one of these turns.
+fn some_reserved(rows: &[TurnRow], askers: &[u16], reserves: &[u64]) -> bool
+    requires askers { AllByRecursion (λ place. place < length rows.now) askers.now }
+    ensures { result ≡ spec.some_reserved rows.now reserves.now askers.now }
+{
+    for place in askers {
+        let row = &rows[usize::from(*place)];
+        if reserve_of(reserves, row.flow()) > 0 {
+            return true;
+        }
+    }
+    false
 }
 
 /// So many bytes, divided over the channels of a turn.
@@ -68,7 +102,7 @@ fn plan_row(
 }
 
 /// Plans the turns at these places, one after another.
-pub(crate) fn plan_rows(
+fn plan_rows(
     rows: &[TurnRow],
     channels: &mut [ChannelPlan],
     askers: &[u16],
@@ -87,5 +121,182 @@ pub(crate) fn plan_rows(
         let row = &rows[usize::from(*place)];
         plan_row(row, outstanding[row.cluster()], channels, allowances)?;
     }
+    Ok(())
+}
+
+/// Plans the first shares of a turn of so many outstanding bytes: no more than is reserved for its flow. What they take is
+/// no longer there for other turns.
+fn plan_first(
+    row: &TurnRow,
+    outstanding: u64,
+    channels: &mut [ChannelPlan],
+    allowances: &mut [Option<u64>],
+    reserves: &mut [u64],
+) -> Shares
+    requires row { IsRowWithin (length allowances.old) (length channels.old) row.now }
+    ensures pass { (firsts : List (List ℕ)) →
+        pass_of channels.new allowances.new reserves.new (firsts ++ result ∷ []) ≡
+        with_first_row row.now outstanding (pass_of channels.old allowances.old reserves.old firsts) }
+    ensures fits { FitsRow row.now result }
+    ensures kept { map (λ c. c.channel) channels.new ≡ map (λ c. c.channel) channels.old }
+    ensures flows { length allowances.new ≡ length allowances.old }
+{
+    let demand = demand_of(allowances, row.flow(), outstanding).min(reserve_of(
+        reserves,
+        row.flow(),
+    ));
+    if demand == 0 {
+        return row.no_shares();
+    }
+    let shares = shares_of(row, demand, channels);
+    let total = shares.total();
+    take_all(channels, row.asker().header, row.seats(), shares.bytes());
+    spend(allowances, row.flow(), total);
+    spend_reserve(reserves, row.flow(), total);
+    shares
+}
+
+/// Plans the first shares of the turns at these places, one after another, and notes them.
+fn plan_firsts(
+    rows: &[TurnRow],
+    channels: &mut [ChannelPlan],
+    askers: &[u16],
+    outstanding: &[u64],
+    allowances: &mut [Option<u64>],
+    reserves: &mut [u64],
+    firsts: &mut Vec<Shares>,
+) -> Result<(), NoMemory>
+    requires rows { AllByRecursion (IsRowWithin (length allowances.old) (length channels.old)) rows.now }
+    requires clusters { AllByRecursion (λ row. row.asker.claimant.cluster < length outstanding.now) rows.now }
+    requires askers { AllByRecursion (λ place. place < length rows.now) askers.now }
+    ensures pass { OnOk result (pass_of channels.new allowances.new reserves.new firsts.new.items ≡
+        with_firsts rows.now outstanding.now askers.now
+        (no_firsts (partial_of channels.old allowances.old) reserves.old)) }
+    ensures fit { OnOk result (AreFirsts rows.now askers.now firsts.new.items) }
+    ensures one_each { OnOk result (length firsts.new.items ≡ length askers.now) }
+    ensures kept { map (λ c. c.channel) channels.new ≡ map (λ c. c.channel) channels.old }
+    ensures flows { length allowances.new ≡ length allowances.old }
+{
+    firsts.clear();
+    for place in askers {
+        let row = &rows[usize::from(*place)];
+        let shares = plan_first(
+            row,
+            outstanding[row.cluster()],
+            channels,
+            allowances,
+            reserves,
+        );
+        firsts.push(shares)?;
+    }
+    Ok(())
+}
+
+/// So many bytes, divided over what the channels of a turn carry beside its first shares.
+fn more_of(row: &TurnRow, first: &Shares, bytes: u64, channels: &[ChannelPlan]) -> Shares
+    requires inside { AllByRecursion (λ seat. seat.place < length channels.now) row.now.seats }
+    requires header { row.now.asker.header ≤ segment_header_bytes }
+    requires first { FitsRow row.now first.now }
+    ensures value { result ≡ more_at row.now bytes first.now channels.now }
+    ensures bursts { (k : ℕ) → slice_index first.now k + slice_index result k + row.now.asker.header ≤ max_burst_bytes }
+    ensures one_each { length result ≡ length row.now.seats }
+{
+    let weights = Shares::weights_at(channels, row.seats(), row.header());
+    let left = weights.beside(first);
+    Shares::divided(bytes, &left)
+}
+
+/// Plans a turn of so many outstanding bytes beside its first shares, once its channels have their costs back.
+fn plan_second(
+    row: &TurnRow,
+    first: &Shares,
+    outstanding: u64,
+    channels: &mut [ChannelPlan],
+    allowances: &mut [Option<u64>],
+) -> Result<(), NoMemory>
+    requires row { IsRowWithin (length allowances.old) (length channels.old) row.now }
+    requires first { FitsRow row.now first.now }
+    ensures plan { OnOk result (partial_of channels.new allowances.new ≡
+        with_second_row row.now outstanding first.now (partial_of channels.old allowances.old)) }
+    ensures kept { map (λ c. c.channel) channels.new ≡ map (λ c. c.channel) channels.old }
+    ensures flows { length allowances.new ≡ length allowances.old }
+{
+    give_back_all(channels, row.asker().header, row.seats(), first.bytes());
+    let left = outstanding.saturating_sub(first.total());
+    let demand = demand_of(allowances, row.flow(), left);
+    let more = more_of(row, first, demand, channels);
+    let both = first.with(&more);
+    put_all(channels, row.asker(), row.seats(), both.bytes())?;
+    spend(allowances, row.flow(), more.total());
+    Ok(())
+}
+
+/// Plans the turns at these places beside their first shares, one after another.
+fn plan_seconds(
+    rows: &[TurnRow],
+    firsts: &[Shares],
+    channels: &mut [ChannelPlan],
+    askers: &[u16],
+    outstanding: &[u64],
+    allowances: &mut [Option<u64>],
+) -> Result<(), NoMemory>
+    requires rows { AllByRecursion (IsRowWithin (length allowances.old) (length channels.old)) rows.now }
+    requires clusters { AllByRecursion (λ row. row.asker.claimant.cluster < length outstanding.now) rows.now }
+    requires askers { AllByRecursion (λ place. place < length rows.now) askers.now }
+    requires one_each { length firsts.now ≡ length askers.now }
+    requires firsts { AreFirsts rows.now askers.now firsts.now }
+    ensures plan { OnOk result (partial_of channels.new allowances.new ≡
+        with_seconds rows.now outstanding.now askers.now firsts.now (partial_of channels.old allowances.old)) }
+    ensures kept { map (λ c. c.channel) channels.new ≡ map (λ c. c.channel) channels.old }
+    ensures flows { length allowances.new ≡ length allowances.old }
+{
+    for i in 0..askers.len() {
+        let row = &rows[usize::from(askers[i])];
+        plan_second(
+            row,
+            &firsts[i],
+            outstanding[row.cluster()],
+            channels,
+            allowances,
+        )?;
+    }
+    Ok(())
+}
+
+/// Plans the turns at these places in two passes, of which the first one is left out where nothing is reserved for their
+/// flows. What it takes of reserves is taken off.
+pub(crate) fn plan_passes(
+    rows: &[TurnRow],
+    channels: &mut [ChannelPlan],
+    askers: &[u16],
+    outstanding: &[u64],
+    allowances: &mut [Option<u64>],
+    reserves: &mut [u64],
+    firsts: &mut Vec<Shares>,
+) -> Result<(), NoMemory>
+    requires rows { AllByRecursion (IsRowWithin (length allowances.old) (length channels.old)) rows.now }
+    requires clusters { AllByRecursion (λ row. row.asker.claimant.cluster < length outstanding.now) rows.now }
+    requires askers { AllByRecursion (λ place. place < length rows.now) askers.now }
+    ensures plan { OnOk result (partial_of channels.new allowances.new ≡
+        last_pass rows.now outstanding.now askers.now (partial_of channels.old allowances.old) reserves.old) }
+    ensures reserves { OnOk result (reserves.new ≡
+        (first_pass rows.now outstanding.now askers.now (partial_of channels.old allowances.old) reserves.old).reserves) }
+    ensures kept { map (λ c. c.channel) channels.new ≡ map (λ c. c.channel) channels.old }
+    ensures flows { length allowances.new ≡ length allowances.old }
+{
+    if !some_reserved(rows, askers, reserves) {
+        plan_rows(rows, channels, askers, outstanding, allowances)?;
+        return Ok(());
+    }
+    plan_firsts(
+        rows,
+        channels,
+        askers,
+        outstanding,
+        allowances,
+        reserves,
+        firsts,
+    )?;
+    plan_seconds(rows, firsts, channels, askers, outstanding, allowances)?;
     Ok(())
 }

@@ -1,15 +1,13 @@
-ghost use Rattle.std.specs.Prelude.{◌≡◌, ℕ, ◌+◌, ◌<◌, ◌≤◌, length, map, take, slice_index, sum, List};
+ghost use Rattle.std.specs.Prelude.{◌≡◌, ℕ, ◌+◌, ◌<◌, ◌≤◌, length, map, replicate, take, slice_index, sum, List};
 ghost use Rattle.std.specs.List.{AllByRecursion};
-ghost use Rattle.us_flows.specs.Lawful.{AreApart};
 ghost use Rattle.us_flows.specs.Ranges.{max_channels_of_flow};
 ghost use Rattle.us_flows.specs.Tables.{segment_header_bytes};
 ghost use Rattle.us_split.specs.Divisions.{divided};
-ghost use Rattle.us_split.specs.PartialPlans.{budget_in};
-ghost use Rattle.us_split.specs.Plans.{budget_of, weight, max_burst_bytes};
+ghost use Rattle.us_split.specs.Plans.{max_burst_bytes, minus, plus};
 ghost use Rattle.us_split.specs.TurnRows.{weight_at};
 
 use crate::by_places::weigh_at;
-use crate::channel_plans::{ChannelPlan, weigh};
+use crate::channel_plans::ChannelPlan;
 use crate::divisions::{MAX_CHANNELS_OF_FLOW, divide, sum_of};
 use crate::turn_rows::Seat;
 use std::marker::Model;
@@ -45,19 +43,14 @@ impl Shares {
         sum_of(self.bytes())
     }
 
-    /// The bytes that each channel can carry behind a header.
-    pub(crate) fn weights(channels: &[ChannelPlan], ids: &[u8], header: u32) -> Shares
-        requires apart { AreApart (map (λ c. c.channel.id) channels.now) }
-        requires few { length ids.now ≤ max_channels_of_flow }
-        requires header { header ≤ segment_header_bytes }
-        ensures value { result ≡ map (λ id. weight header (budget_of (map budget_in channels.now) id)) ids.now }
-        ensures bursts { (k : ℕ) → slice_index result k + header ≤ max_burst_bytes }
+    /// No bytes, for so many channels.
+    pub(crate) fn none(count: usize) -> Shares
+        requires { count ≤ max_channels_of_flow }
+        ensures { result ≡ replicate count 0 }
     {
-        let mut bytes = [0; MAX_CHANNELS_OF_FLOW];
-        weigh(channels, ids, header, &mut bytes[..ids.len()]);
         Shares {
-            bytes,
-            count: ids.len(),
+            bytes: [0; MAX_CHANNELS_OF_FLOW],
+            count,
         }
     }
 
@@ -89,5 +82,55 @@ impl Shares {
             bytes: parts,
             count: weights.len(),
         }
+    }
+
+    /// What is left of these bytes beside others, channel by channel.
+    pub(crate) fn beside(&self, others: &Shares) -> Shares
+        requires { length others.now ≡ length self.now }
+        ensures { result ≡ minus self.now others.now }
+    {
+        let mut bytes = [0; MAX_CHANNELS_OF_FLOW];
+        take_off(self.bytes(), others.bytes(), &mut bytes[..self.count]);
+        Shares {
+            bytes,
+            count: self.count,
+        }
+    }
+
+    /// These bytes and others, channel by channel.
+    pub(crate) fn with(&self, others: &Shares) -> Shares
+        requires same_length { length others.now ≡ length self.now }
+        requires few { (k : ℕ) → slice_index self.now k + slice_index others.now k ≤ max_burst_bytes }
+        ensures { result ≡ plus self.now others.now }
+    {
+        let mut bytes = [0; MAX_CHANNELS_OF_FLOW];
+        add_up(self.bytes(), others.bytes(), &mut bytes[..self.count]);
+        Shares {
+            bytes,
+            count: self.count,
+        }
+    }
+}
+
+/// Writes numbers less others, place by place.
+fn take_off(numbers: &[u32], others: &[u32], left: &mut [u32])
+    requires others { length others.now ≡ length numbers.now }
+    requires left { length left.old ≡ length numbers.now }
+    ensures { left.new ≡ minus numbers.now others.now }
+{
+    for i in 0..numbers.len() {
+        left[i] = numbers[i].saturating_sub(others[i]);
+    }
+}
+
+/// Writes numbers and others together, place by place.
+fn add_up(numbers: &[u32], others: &[u32], sums: &mut [u32])
+    requires others { length others.now ≡ length numbers.now }
+    requires sums { length sums.old ≡ length numbers.now }
+    requires few { (k : ℕ) → slice_index numbers.now k + slice_index others.now k ≤ max_burst_bytes }
+    ensures { sums.new ≡ plus numbers.now others.now }
+{
+    for i in 0..numbers.len() {
+        sums[i] = numbers[i] + others[i];
     }
 }

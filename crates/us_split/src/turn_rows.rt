@@ -1,18 +1,25 @@
-ghost use Rattle.std.specs.Prelude.{◌≡◌, ℕ, ◌==◌, ◌<◌, ◌≤◌, length, map, position, IfOk, IfSome};
+ghost use Rattle.std.specs.Prelude.{◌≡◌, ℕ, List, Some, ◌==◌, ◌<◌, ◌≤◌, length, map, position, replicate, slice_get, IfOk, IfSome};
 ghost use Rattle.us_flows.specs.Clusters;
 ghost use Rattle.us_flows.specs.Clusters.{turns_of};
 ghost use Rattle.us_flows.specs.Lawful.{AreTables};
 ghost use Rattle.us_flows.specs.Ranges.{max_channels, max_channels_of_flow};
+ghost use Rattle.us_flows.specs.Tables.{header_bytes, segment_header_bytes};
+ghost use Rattle.us_split.specs.Claims as claims_spec;
+ghost use Rattle.us_split.specs.PartialPlans as plans_spec;
 ghost use Rattle.us_split.specs.PartialPlans.{IsSmall, IsTurnOf};
 ghost use Rattle.us_split.specs.TurnRows as spec;
 
 use crate::channel_plans::{Asker, sid_at};
+use crate::claims::Claimant;
 use crate::divisions::MAX_CHANNELS_OF_FLOW;
-use crate::partial_plans::{asker_of, sids_of};
+use crate::shares::Shares;
 use std::alloc::Global;
 use std::marker::Model;
 use us_flows::{Channel, Config, Flow, Turn};
 use us_slots::NoMemory;
+
+/// The bytes of a segment header (the standard's).
+const HEADER_BYTES: u8 = 8;
 
 /// Where a cluster has a SID: the place of the channel in the table, and the SID there.
 #[derive(Clone, Copy)]
@@ -92,6 +99,13 @@ impl TurnRow {
         u32::from(self.asker.header)
     }
 
+    /// No bytes, for each of its seats.
+    pub(crate) fn no_shares(&self) -> Shares
+        ensures { result ≡ replicate (length self.now.seats) 0 }
+    {
+        Shares::none(self.seats().len())
+    }
+
     /// Its seats, in the order of the flow's channels.
     pub(crate) fn seats(&self) -> &[Seat]
         ensures value { result.now ≡ self.now.seats }
@@ -99,6 +113,49 @@ impl TurnRow {
     {
         &self.seats[..usize::from(self.count)]
     }
+}
+
+/// Who claims in a turn of this flow.
+fn asker_of(place: u16, turn: &Turn, flow: &Flow) -> Asker
+    requires { IsSmall turn.now }
+    ensures { let claimant : claims_spec.Claimant = record {
+      cluster = turn.now.cluster;
+      place = turn.now.flow;
+      flow = flow.now.id;
+      list = turn.now.list;
+    } in
+        let asker : plans_spec.Asker = record { claimant = claimant; turn = place; header = header_bytes flow.now } in
+        result ≡ asker }
+{
+    let claimant = Claimant {
+        cluster: turn.cluster as u16,
+        place: turn.flow as u16,
+        flow: flow.id(),
+        list: turn.list as u8,
+    };
+    Asker {
+        claimant,
+        turn: place,
+        header: header_of(flow),
+    }
+}
+
+/// The SIDs of the cluster at this place of a flow's list.
+fn sids_of(flow: &Flow, list: usize) -> &[u16]
+    ensures { (sids : List ℕ) → slice_get flow.now.clusters list ≡ Some sids → result.now ≡ sids }
+{
+    match flow.clusters().get(list) {
+        Some(sids) => sids,
+        None => &[],
+    }
+}
+
+/// The bytes of a flow's segment header, 0 where it has none.
+fn header_of(flow: &Flow) -> u8
+    ensures value { result ≡ header_bytes flow.now }
+    ensures few { result ≤ segment_header_bytes }
+{
+    if flow.headers() { HEADER_BYTES } else { 0 }
 }
 
 /// Where the channel with this id stands in the table.

@@ -14,6 +14,10 @@ fn lines_of_faults(rt: HostRuntime) {
         table: TableName::Top,
         index: 0,
     };
+    let flow = Place {
+        table: TableName::Flow,
+        index: 0,
+    };
     let station = Place {
         table: TableName::Station,
         index: 255,
@@ -22,6 +26,7 @@ fn lines_of_faults(rt: HostRuntime) {
     for fault in &[
         Fault::Config(ConfigFault::Range(top)),
         Fault::Config(ConfigFault::Jitter(station)),
+        Fault::Config(ConfigFault::MinRate(flow)),
         Fault::Config(ConfigFault::NoMemory),
         Fault::Run(RunFault::Trace(TraceFault::TooLarge)),
         Fault::Run(RunFault::Trace(TraceFault::NoMemory)),
@@ -46,6 +51,7 @@ fn lines_of_faults(rt: HostRuntime) {
         "\
 3 fault C3 top 0
 3 fault C10 station 255
+3 fault C14 flow 0
 5 fault memory
 3 fault TR4
 5 fault memory

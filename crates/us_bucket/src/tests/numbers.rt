@@ -1,7 +1,7 @@
 ghost use Rattle.std.specs.Prelude.{◌≤◌};
 
 use super::base::same;
-use crate::{Bucket, Event, MAX_REFILL_TICKS, OverBound, allowance};
+use crate::{Bucket, Event, MAX_REFILL_TICKS, OverBound, allowance, reserve};
 
 /// The whole bytes and the units at the start of a round, and the units left when as much as possible was spent.
 type Round = (Option<u64>, Option<u64>, Option<u64>);
@@ -150,4 +150,61 @@ fn histories(rt: HostRuntime) {
     }
     let found = allowance(0, 1_522, 320, &[Event::Credit(u64::MAX)]);
     same(&rt, &found, &Ok(None), "no limit");
+}
+
+/// Plans all that is reserved first.
+#[tactic(auto, using(crate::proofs::LevelLemmas::has_reserved))]
+fn plan_reserve(bucket: &mut Bucket) -> u64 {
+    let bytes = bucket.reserve();
+    bucket.spend(bytes);
+    bytes
+}
+
+/// What is reserved at the start of each of three rounds of so many ticks, if all of it is planned first in each.
+fn three_reserves(min_rate: u32, burst: u32, ticks: u32) -> (u64, u64, u64)
+    requires { ticks ≤ 67108864 }
+{
+    let mut bucket = Bucket::full(min_rate, burst);
+    let first = plan_reserve(&mut bucket);
+    bucket.refill(ticks);
+    let second = plan_reserve(&mut bucket);
+    bucket.refill(ticks);
+    (first, second, plan_reserve(&mut bucket))
+}
+
+/// Minimum rates, bursts, the ticks of a round, and what is reserved in the rounds. Without a minimum rate nothing is.
+static RESERVES: [(u32, u32, u32, (u64, u64, u64)); 5] = [
+    (1_280_000, 1_522, 320, (1_522, 320, 320)),
+    (1_000, 1_522, 1_279, (1_522, 0, 1)),
+    (0, 1_522, MAX_REFILL_TICKS, (0, 0, 0)),
+    (
+        1_000_000_000,
+        16_777_216,
+        4_096,
+        (16_777_216, 3_200_000, 3_200_000),
+    ),
+    (u32::MAX, 0, MAX_REFILL_TICKS, (0, 0, 0)),
+];
+
+#[test]
+fn reserves(rt: HostRuntime) {
+    for (min_rate, burst, ticks, wanted) in &RESERVES {
+        if *ticks <= MAX_REFILL_TICKS {
+            let found = three_reserves(*min_rate, *burst, *ticks);
+            same(&rt, &found, wanted, "reserves");
+        }
+    }
+}
+
+/// What is reserved behind all that was planned first in round 1, a byte more than that, and without a minimum rate.
+#[test]
+fn reserves_of_histories(rt: HostRuntime) {
+    let planned = [Event::NextRound, Event::Credit(1_522), Event::NextRound];
+    let over = [Event::NextRound, Event::Credit(1_523)];
+    let found = (
+        reserve(1_280_000, 1_522, 320, &planned),
+        reserve(1_280_000, 1_522, 320, &over),
+        reserve(0, 1_522, 320, &over),
+    );
+    same(&rt, &found, &(Ok(320), Err(OverBound), Ok(0)), "histories");
 }

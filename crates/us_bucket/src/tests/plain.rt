@@ -1,7 +1,7 @@
 ghost use Rattle.std.specs.Prelude.{◌≤◌};
 
 use super::base::same;
-use crate::{Event, MAX_REFILL_TICKS, OverBound, UNITS_PER_BYTE, allowance};
+use crate::{Event, MAX_REFILL_TICKS, OverBound, UNITS_PER_BYTE, allowance, reserve};
 use std::alloc::{AllocError, Global};
 
 /// A flow's limit.
@@ -44,6 +44,30 @@ fn span_room(limit: &Limit, credits: &[u64]) -> Result<u64, OverBound> {
         least = least.min(most - sum);
     }
     Ok(least)
+}
+
+/// What is allowed after some events, and what is reserved.
+type Answers = (Result<Option<u64>, OverBound>, Result<u64, OverBound>);
+
+/// The answers of the plain program: at a rate of 0 there is no limit, and nothing is reserved.
+fn plain_answers(limit: &Limit, credits: &[u64]) -> Answers {
+    if limit.rate == 0 {
+        return (Ok(None), Ok(0));
+    }
+    match plain_allowance(limit, credits) {
+        Ok(most) => (Ok(Some(most)), Ok(most)),
+        Err(over) => (Err(over), Err(over)),
+    }
+}
+
+/// The answers of the bucket.
+fn answers(limit: &Limit, events: &[Event]) -> Answers
+    requires { limit.now.round_ticks ≤ 67108864 }
+{
+    (
+        allowance(limit.rate, limit.burst, limit.round_ticks, events),
+        reserve(limit.rate, limit.burst, limit.round_ticks, events),
+    )
 }
 
 /// The next of a row of numbers without order.
@@ -105,20 +129,19 @@ fn first_difference(alloc: Global, limit: &Limit, seed: u64) -> Result<Option<us
     let mut history = History::new(alloc)?;
     let mut state = seed;
     for step in 0..40 {
-        let plain = plain_allowance(limit, &history.credits);
-        let found = allowance(limit.rate, limit.burst, limit.round_ticks, &history.events);
-        match plain {
-            Ok(allowed) if found == Ok(Some(allowed)) => {
-                add_event(&mut history, allowed, &mut state)?;
-            }
-            Err(OverBound) if found == Err(OverBound) => return Ok(None),
-            _ => return Ok(Some(step)),
+        let plain = plain_answers(limit, &history.credits);
+        if answers(limit, &history.events) != plain {
+            return Ok(Some(step));
+        }
+        match plain.1 {
+            Ok(most) => add_event(&mut history, most, &mut state)?,
+            Err(OverBound) => return Ok(None),
         }
     }
     Ok(None)
 }
 
-static LIMITS: [Limit; 6] = [
+static LIMITS: [Limit; 7] = [
     Limit {
         rate: 1_280_000,
         burst: 1_522,
@@ -149,9 +172,14 @@ static LIMITS: [Limit; 6] = [
         burst: 0,
         round_ticks: 400,
     },
+    Limit {
+        rate: 0,
+        burst: 1_522,
+        round_ticks: 320,
+    },
 ];
 
-/// Lists of rounds and credits under several limits.
+/// Lists of rounds and credits under several limits, and under none.
 #[test]
 fn plain_program_agrees(rt: HostRuntime) {
     for limit in &LIMITS {

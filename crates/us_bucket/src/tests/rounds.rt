@@ -60,3 +60,25 @@ fn bytes_of_three_rounds(rt: HostRuntime) {
     let found = (third, kept.bytes(), kept.as_of());
     same(&rt, &found, &(Some(960), Some(1_280), 7), "three rounds");
 }
+
+/// What is reserved in rounds 0, 3 and 7, if all of it is planned first in each; and in between, where nothing is planned.
+#[tactic(auto, using(crate::proofs::LevelLemmas::has_reserved))]
+fn reserves_of(min_rate: u32, burst: u32) -> [u64; 4] {
+    let mut kept = RoundBucket::full(min_rate, burst);
+    let first = kept.reserve();
+    kept.spend(first);
+    kept.refill_to(3, TICKS);
+    let third = kept.reserve();
+    kept.spend(third);
+    kept.refill_to(5, TICKS);
+    let fifth = kept.reserve();
+    kept.refill_to(7, TICKS);
+    [first, third, fifth, kept.reserve()]
+}
+
+#[test]
+fn reserves_of_rounds(rt: HostRuntime) {
+    let found = (reserves_of(1_280_000, 1_522), reserves_of(0, 1_522));
+    let wanted = ([1_522, 960, 640, 1_280], [0, 0, 0, 0]);
+    same(&rt, &found, &wanted, "reserves");
+}

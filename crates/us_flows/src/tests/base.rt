@@ -1,4 +1,4 @@
-use super::{lookups, turns};
+use super::{lookups, min_rates, turns};
 use crate::{Config, ConfigFault};
 use std::alloc::Global;
 use std::test::Fail;
@@ -126,6 +126,8 @@ pub enum Asked {
     Sids,
     /// The turns of a round.
     Turns,
+    /// The minimum rate of each flow.
+    MinRates,
 }
 
 /// Looks at changes of a configuration, each a line `ANSWER | OLD -> NEW`, and fails with those that are answered
@@ -220,6 +222,7 @@ fn tell_asked(answer: &mut String, asked: Asked, config: &Config) -> Result<(), 
         Asked::Fault => answer.push_str("ok")?,
         Asked::Sids => lookups::tell_sids(answer, config)?,
         Asked::Turns => turns::tell_turns(answer, config)?,
+        Asked::MinRates => min_rates::tell_min_rates(answer, config)?,
     }
     Ok(())
 }

@@ -18,7 +18,8 @@ C8 channel 1 | round_ticks = 640 -> round_ticks = 642
 C9 channel 0 | contention_minislots = 10 -> contention_minislots = 301
 C10 station 0 | jitter_us = 900 -> jitter_us = 40000
 C11 flow 1 | grant_bytes = 232 -> grant_bytes = 65535
-C12 flow 0 | headers = true -> headers = false";
+C12 flow 0 | headers = true -> headers = false
+C14 flow 2 | burst = 4000 -> burst = 4000~min_rate = 2000001";
 
 #[test]
 fn each_fault(rt: HostRuntime) -> Result<(), Fail> {

@@ -38,7 +38,7 @@ const LAST: Place = Place {
     index: 255,
 };
 
-static FAULTS: [ConfigFault; 13] = [
+static FAULTS: [ConfigFault; 14] = [
     ConfigFault::Text,
     ConfigFault::Missing(TOP),
     ConfigFault::Range(CHANNEL),
@@ -51,6 +51,7 @@ static FAULTS: [ConfigFault; 13] = [
     ConfigFault::Jitter(LAST),
     ConfigFault::GrantLongerThanMap(LAST),
     ConfigFault::Headers(FLOW),
+    ConfigFault::MinRate(FLOW),
     ConfigFault::NoMemory,
 ];
 
@@ -81,6 +82,7 @@ C9: the reserves pass the length of the MAPs of channel 0
 C10: the jitter is not below the interval in station 255
 C11: a grant passes the length of the MAPs in station 255
 C12: segment headers are wanting on several channels in flow 0
+C14: the minimum rate is above the maximum rate in flow 0
 C13: out of memory
 ",
     )

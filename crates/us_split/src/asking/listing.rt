@@ -61,8 +61,8 @@ pub(super) fn note_pending(
     }
 }
 
-/// Notes a turn if it is pending.
-fn note(pending: &mut Vec<u16>, place: u16, is_pending: bool)
+/// Notes a turn if it is one of those that are looked for.
+pub(super) fn note(pending: &mut Vec<u16>, place: u16, is_pending: bool)
     requires { vec_len pending.old < vec_capacity pending.old }
     ensures items { pending.new.items ≡ pending.old.items ++ (if is_pending then place ∷ [] else []) }
     ensures len { vec_len pending.new ≤ vec_len pending.old + 1 }

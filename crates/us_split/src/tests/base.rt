@@ -30,7 +30,10 @@ pub struct Case<'a> {
     pub flows: &'a [&'a str],
     pub outstanding: &'a [u64],
     pub allowances: &'a [Option<u64>],
+    pub reserves: &'a [u64],
     pub idle: &'a [u32],
+    /// What is taken of the reserves of the flows.
+    pub reserved: &'a [u64],
     /// The claims, as `tell` tells them.
     pub answer: &'a str,
 }
@@ -75,7 +78,14 @@ pub fn plan_of(alloc: Global, config: &Config, case: &Case<'_>) -> Option<Result
         && case.allowances.len() == config.flows().len()
         && is_idle(config, case.idle)
     {
-        Some(plan(alloc, config, case.outstanding, case.allowances, case.idle))
+        Some(plan(
+            alloc,
+            config,
+            case.outstanding,
+            case.allowances,
+            case.reserves,
+            case.idle,
+        ))
     } else {
         None
     }
@@ -131,6 +141,16 @@ fn are_found(plan: &Plan, claims: &[Claim]) -> bool {
             ..
         } = *claim;
         if plan.share(usize::from(turn), usize::from(position)) != share {
+            return false;
+        }
+    }
+    true
+}
+
+/// Whether a plan takes so much of each flow's reserve.
+pub fn is_reserved(plan: &Plan, reserved: &[u64]) -> bool {
+    for (flow, bytes) in reserved.iter().enumerate() {
+        if plan.reserved(flow) != *bytes {
             return false;
         }
     }

@@ -56,11 +56,13 @@ fn planned(
     }
     let askers = askers_of(alloc, config, round.outstanding).ok()?;
     let mut allowances = Vec::from_slice(alloc, round.allowances).ok()?;
+    let mut reserves = Vec::from_slice(alloc, round.reserves).ok()?;
     planner
         .plan(
             askers.asking(),
             askers.outstanding(),
             &mut allowances,
+            &mut reserves,
             round.idle,
         )
         .ok()?;

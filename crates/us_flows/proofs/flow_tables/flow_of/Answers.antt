@@ -22,17 +22,20 @@ u32_at-requires c = (flow_widths (table_view c.args.table.now) c.requires.whole 
 pub u32_at-requires-2 : goal.u32_at-requires-2
 u32_at-requires-2 c = (flow_widths (table_view c.args.table.now) c.requires.whole c.requires.ranged).burst
 
+pub u32_at-requires-3 : goal.u32_at-requires-3
+u32_at-requires-3 c = (flow_widths (table_view c.args.table.now) c.requires.whole c.requires.ranged).min_rate
+
 pub u8_at-requires-2 : goal.u8_at-requires-2
 u8_at-requires-2 c = (flow_widths (table_view c.args.table.now) c.requires.whole c.requires.ranged).unit
 
-pub u32_at-requires-3 : goal.u32_at-requires-3
-u32_at-requires-3 c = (flow_widths (table_view c.args.table.now) c.requires.whole c.requires.ranged).start_us
-
 pub u32_at-requires-4 : goal.u32_at-requires-4
-u32_at-requires-4 c = (flow_widths (table_view c.args.table.now) c.requires.whole c.requires.ranged).interval_us
+u32_at-requires-4 c = (flow_widths (table_view c.args.table.now) c.requires.whole c.requires.ranged).start_us
 
 pub u32_at-requires-5 : goal.u32_at-requires-5
-u32_at-requires-5 c = (flow_widths (table_view c.args.table.now) c.requires.whole c.requires.ranged).jitter_us
+u32_at-requires-5 c = (flow_widths (table_view c.args.table.now) c.requires.whole c.requires.ranged).interval_us
+
+pub u32_at-requires-6 : goal.u32_at-requires-6
+u32_at-requires-6 c = (flow_widths (table_view c.args.table.now) c.requires.whole c.requires.ranged).jitter_us
 
 pub u16_at-requires-2 : goal.u16_at-requires-2
 u16_at-requires-2 c = (flow_widths (table_view c.args.table.now) c.requires.whole c.requires.ranged).grant_bytes

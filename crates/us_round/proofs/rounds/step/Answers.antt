@@ -54,7 +54,8 @@ returns-clause-value g c =
     IfOk-weaker c.close.result
     (λ done. done ≡ done_of c.in_ok-built.built.core c.in_ok-built.built.channels.items) _
     (λ done is. stepped_as c.args.state c.args.cuts.now c.begin-begun.result.core c.in_ok-built.built.core
-    c.begin-begun.result.channels.items c.in_ok-built.built.channels.items done c.begin-begun.ensures.value
+    c.begin-begun.result.channels.items c.in_ok-built.built.channels.items done c.begin-begun.ensures.known
+    c.begin-begun.ensures.value
     (built_in_stages c.begin-begun.result.core c.in_ok-filled.filled.core c.plan.new.self.core c.in_ok-built.built.core
     c.begin-begun.result.channels.items c.in_ok-filled.filled.channels.items c.plan.new.self.channels.items
     c.in_ok-built.built.channels.items c.begin-begun.ensures.known c.in_ok-filled.ensures.core
@@ -77,7 +78,8 @@ returns-clause-few g c =
     (λ done is. few_as c.args.state c.args.cuts.now c.begin-begun.result.core c.begin-begun.result.channels.items done
     c.begin-begun.ensures.known c.begin-begun.ensures.value
     (stepped_as c.args.state c.args.cuts.now c.begin-begun.result.core c.in_ok-built.built.core
-    c.begin-begun.result.channels.items c.in_ok-built.built.channels.items done c.begin-begun.ensures.value
+    c.begin-begun.result.channels.items c.in_ok-built.built.channels.items done c.begin-begun.ensures.known
+    c.begin-begun.ensures.value
     (built_in_stages c.begin-begun.result.core c.in_ok-filled.filled.core c.plan.new.self.core c.in_ok-built.built.core
     c.begin-begun.result.channels.items c.in_ok-filled.filled.channels.items c.plan.new.self.channels.items
     c.in_ok-built.built.channels.items c.begin-begun.ensures.known c.in_ok-filled.ensures.core

@@ -1,17 +1,14 @@
-use Rattle.std.proofs.Common.{map, take, ap, ◌∙◌, arith}
+use Rattle.std.proofs.Common.{map, take, ap, ◌∙◌}
 use Rattle.std.proofs.lemmas.List.{take_all}
 use Rattle.us_flows.specs.Tables.{FlowTable}
 use Rattle.us_bucket.specs.Levels.{full}
 use Rattle.us_bucket.specs.RoundBuckets.{full_at_first}
-use Rattle.us_round.specs.Buckets.{levels_in}
+use Rattle.us_round.specs.Buckets.{at_first, levels_in}
 use Rattle.us_round.proofs.BucketLemmas.{full_before, full_levels, told}
 use Rattle.us_round.proofs.buckets.Buckets.full.Goals as goal
 
-pub invariant_of-result : goal.invariant_of-result
-invariant_of-result c = record {
-  before = rw c.loop-flow.invariant (full_before (take c.loop-flow.flow-index c.flows-flows.result.now));
-  time = omega arith;
-}
+pub at_first-requires : goal.at_first-requires
+at_first-requires c = rw c.loop-flow.invariant (full_before (take c.loop-flow.flow-index c.flows-flows.result.now))
 
 pub returns : goal.returns
 returns c =
@@ -21,5 +18,5 @@ returns c =
     let kept = c.loop-flow.invariant
     ∙ ap (map (λ (flow : FlowTable). full_at_first flow.rate flow.burst)) (take_all c.loop-flow.flow-index flows
     c.loop-flow-test.false ∙ c.flows-flows.ensures.value) in
-    ap (told ticks 0) (ap (levels_in ticks 0) kept ∙ full_levels ticks t.flows)
+    c.at_first.ensures ∙ ap (told ticks 0) (ap (levels_in ticks 0) kept ∙ full_levels ticks t.flows)
     ∙ ap (λ n. told n 0 (map (λ (flow : FlowTable). full flow.rate flow.burst) t.flows)) c.round_ticks.ensures.value

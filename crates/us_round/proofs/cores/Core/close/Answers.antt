@@ -10,15 +10,15 @@ credit_all-requires c =
     let a = c.as_mut.result.now in
     let kept = kept_too a c.self.inside.kept.value c.as_mut.ensures.value c.self.invariant in
     let told : core_in a ≡ c.args.self.now = ap core_in c.as_mut.ensures.value ∙ c.self.view_is in
-    subst (λ left. Covers left a.buckets.levels (all_grants c.args.built.now)) (sym kept.left)
+    subst (λ left. Covers left a.buckets.levels (all_grants c.args.built.now)) (sym kept.settled)
     (subst (λ s. Covers s.outstanding s.buckets (all_grants c.args.built.now)) (sym told) c.requires.covers)
 
 pub invariant_of-self : goal.invariant_of-self
 invariant_of-self c =
     let a = c.as_mut.result.now in
     let kept = kept_too a c.self.inside.kept.value c.as_mut.ensures.value c.self.invariant in
-    closed_kept a.config a.askers c.credit_all.new.askers c.settle.new.self a.buckets c.credit_all.new.buckets a.planner
-    a.allowances.items c.args.built.now kept c.credit_all.ensures.credited c.settle.ensures
+    closed_kept a.config a.askers c.credit_all.new.askers c.settle.new.self a.buckets c.credit_all.new.buckets a.reserves
+    a.planner a.allowances.items a.left.items c.args.built.now kept c.credit_all.ensures.credited c.settle.ensures
 
 pub returns-clause-value : goal.returns-clause-value
 returns-clause-value c =
@@ -26,5 +26,5 @@ returns-clause-value c =
     let kept = kept_too a c.self.inside.kept.value c.as_mut.ensures.value c.self.invariant in
     let told : core_in a ≡ c.args.self.now = ap core_in c.as_mut.ensures.value ∙ c.self.view_is in
     closed_value a.config a.round a.askers c.credit_all.new.askers c.settle.new.self a.buckets c.credit_all.new.buckets
-    a.planner a.allowances.items c.args.built.now kept c.credit_all.ensures.credited c.settle.ensures
+    a.reserves a.planner c.args.built.now kept.settled kept.numbers c.credit_all.ensures.credited c.settle.ensures
     ∙ ap (λ s. credited_core s c.args.built.now) told

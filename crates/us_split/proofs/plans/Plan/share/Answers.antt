@@ -25,7 +25,7 @@ looked_up cs all i turn position channel found is within at looked =
 pub returns-in-Some : goal.returns-in-Some
 returns-in-Some c =
     ap (λ x. x.share) c.claim.view_is ∙
-    sym (looked_up c.channel_plans-channel-items.result.now c.args.self.now c.loop-channel.channel-index c.args.turn
+    sym (looked_up c.channel_plans-channel-items.result.now c.args.self.now.claims c.loop-channel.channel-index c.args.turn
     c.args.position c.channel-item.result (Some c.in-Some.claim) (sym c.channel_plans-channel-items.ensures)
     c.loop-channel-test.true c.channel-item.is
     (sym c.in-Some.is ∙ c.found_in.ensures ∙ ap (find (is_at c.args.turn c.args.position)) c.claims.ensures)) ∙
@@ -33,7 +33,7 @@ returns-in-Some c =
 
 pub loop-channel-preserved : goal.loop-channel-preserved
 loop-channel-preserved c =
-    sym (looked_up c.channel_plans-channel-items.result.now c.args.self.now c.loop-channel.channel-index c.args.turn
+    sym (looked_up c.channel_plans-channel-items.result.now c.args.self.now.claims c.loop-channel.channel-index c.args.turn
     c.args.position c.channel-item.result None (sym c.channel_plans-channel-items.ensures) c.loop-channel-test.true
     c.channel-item.is
     (sym c.in_default.is ∙ c.found_in.ensures ∙ ap (find (is_at c.args.turn c.args.position)) c.claims.ensures)) ∙
