@@ -4,9 +4,9 @@
   bench/plain_checker.py --config F --trace F --rounds N --maps F --report F
 
 It is written from the rules alone and shares nothing with the crates; so where the two answers differ, one of them is
-wrong. What a burst costs and what a trace asks for is as bench/plain_scheduler.py has it, which knows no activity
-detection and no minimum rates. It looks at every minislot, every occurrence and every span of rounds, so the runs
-should be short. The trace and the number of rounds have to be accepted ones, and the trace without quotes; a refused
+wrong. What a burst costs and what a trace asks for is as bench/plain_scheduler.py has it. No rule asks how a round was
+planned, so minimum rates are nothing to it. It looks at every minislot, every occurrence and every span of rounds, so
+the runs should be short. The trace and the number of rounds have to be accepted ones, and the trace without quotes; a refused
 configuration is told as bench/plain_reader.py finds it.
 
 Status 0: `holds`; 1: `broken` and where; 3: a fault, on standard error.
@@ -33,7 +33,7 @@ HEAD_BYTES = 16
 MOST_ELEMENTS = 240
 MOST_BACKOFF = 15
 
-CALENDAR_WORDS = {b"ugs", b"rtp", b"nrtp", b"station"}
+CALENDAR_WORDS = {b"ugs", b"ad", b"rtp", b"nrtp", b"station"}
 ALL_WORDS = CALENDAR_WORDS | {b"req"}
 NUMBER = re.compile(rb"0|[1-9][0-9]{0,19}")
 GREATEST = 2**64 - 1
@@ -81,6 +81,13 @@ class Final(NamedTuple):
     units: int | None
 
 
+class Activity(NamedTuple):
+    """Whether a flow is active in the end: 1, or 0 where it is silent."""
+
+    flow: int
+    active: int
+
+
 class Useless(NamedTuple):
     """How many rows of the trace are no asks."""
 
@@ -116,9 +123,9 @@ def line_of(text):
         has_no_limit = fields[3] == b"-"
         numbers = numbers_of(fields[:3] if has_no_limit else fields)
         return numbers and Final(*numbers, *([None] if has_no_limit else []))
-    elif letter == b"U" and len(fields) == 3:
+    elif (letter, len(fields)) in ((b"U", 3), (b"A", 2)):
         numbers = numbers_of(fields)
-        return numbers and Useless(*numbers)
+        return numbers and (Useless if letter == b"U" else Activity)(*numbers)
     else:
         return None
     numbers = numbers_of(fields)
@@ -199,7 +206,8 @@ def maps_of(text):
 
 
 class Entry(NamedTuple):
-    """An entry of a channel's calendar; its times are in quarter microseconds."""
+    """An entry of a channel's calendar; its times are in quarter microseconds. `poll` has the minislots of a poll in an
+    interval in which its flow is silent, and is None where no flow can be."""
 
     word: str
     id: int
@@ -208,6 +216,7 @@ class Entry(NamedTuple):
     iuc: int
     slots: int
     grants: int
+    poll: int | None
     start: int
     interval: int
     jitter: int
@@ -223,31 +232,43 @@ class Run:
         self.channel_ids = [channel.id for channel in self.channels]
         self.by_id = {channel.id: channel for channel in self.channels}
         self.flows = self.tables.get("flow", [])
-        self.asking = {flow["id"]: flow for flow in self.flows if flow["type"] != 6}
+        self.asking = {flow["id"]: flow for flow in self.flows if flow["type"] not in (5, 6)}
         self.entries = {(entry.word, entry.id): entry for entry in self.all_entries()}
-        cuts, useless = plain_scheduler.requests(self.tables, trace_text, rounds)
+        cuts, marks, useless = plain_scheduler.requests(self.tables, trace_text, rounds)
         self.useless = Useless(*useless)
         self.asked = collections.Counter()
         for number, cut in cuts.items():
             for (place, cluster), count in cut.items():
                 self.asked[number, self.flows[place]["id"], cluster] += count
+        # of each flow that can be silent, whether it is active, round by round
+        self.activity = {flow["id"]: list(self.activity_of(place, marks))
+                         for place, flow in enumerate(self.flows) if flow["type"] == 5}
+
+    def activity_of(self, place, marks):
+        """Whether the flow at a place is active in each round, by its last mark."""
+        is_active = True
+        for number in range(self.rounds):
+            is_active = {0: is_active, 1: False, 2: True}[marks[number][place]]
+            yield is_active
 
     def all_entries(self):
         """What the flows and stations have in the calendars of channels."""
-        words = {6: "ugs", 4: "rtp", 3: "nrtp"}
+        words = {6: "ugs", 5: "ad", 4: "rtp", 3: "nrtp"}
         for flow in self.flows:
             if flow["type"] in words:
                 channel = self.by_id[flow["channels"][0]]
                 iuc, slots, grants = REQUEST, channel.t["request_minislots"], 1
-                if flow["type"] == 6:
+                poll = slots if flow["type"] == 5 else None
+                if flow["type"] in (5, 6):
                     iuc, slots = UNSOLICITED, channel.cost(channel.unsolicited, flow["grant_bytes"])
                     grants = flow["grants_per_interval"]
                 sid = flow["clusters"][0][0]
-                yield Entry(words[flow["type"]], flow["id"], channel.id, sid, iuc, slots, grants, *times_of(flow))
+                word = words[flow["type"]]
+                yield Entry(word, flow["id"], channel.id, sid, iuc, slots, grants, poll, *times_of(flow))
         for station in self.tables.get("station", []):
             slots = self.by_id[station["channel"]].t["station_minislots"]
             yield Entry("station", station["id"], station["channel"], station["sid"], STATION_MAINTENANCE, slots, 1,
-                        *times_of(station))
+                        None, *times_of(station))
 
     def order(self, place):
         """The order of places: by round, then channel (0, those of the table, others by number), then the third."""
@@ -286,14 +307,26 @@ class Run:
     def ideal(self, entry, i):
         return entry.start + i * entry.interval
 
+    def is_silent(self, entry, i):
+        """Whether an interval has a poll in place of its grants: its flow was silent in the round of the ideal time."""
+        return entry.poll is not None and not self.activity[entry.id][self.ideal(entry, i) // self.round_time]
+
+    def count(self, entry, i):
+        """How many occurrences an interval has."""
+        return 1 if self.is_silent(entry, i) else entry.grants
+
+    def kind(self, entry, i):
+        """The IUC and the minislots of each."""
+        return (REQUEST, entry.poll) if self.is_silent(entry, i) else (entry.iuc, entry.slots)
+
     def is_occurrence(self, entry, i, k):
-        return k < entry.grants and self.ideal(entry, i) < self.end
+        return self.ideal(entry, i) < self.end and k < self.count(entry, i)
 
     def occurrences(self, entry):
         """All (i, k) of an entry."""
         i = 0
         while self.ideal(entry, i) < self.end:
-            yield from ((i, k) for k in range(entry.grants))
+            yield from ((i, k) for k in range(self.count(entry, i)))
             i += 1
 
     def closing_round(self, entry, i):
@@ -396,7 +429,7 @@ def is_right_for(run, entry, line):
     if isinstance(line, Missed):
         return line.round == run.closing_round(entry, line.i)
     told = (line.sid, line.iuc, line.slots, line.credit)
-    return told == (entry.sid, entry.iuc, entry.slots, 0) and run.is_in_window(entry, line.i, line.round, line.start)
+    return told == (entry.sid, *run.kind(entry, line.i), 0) and run.is_in_window(entry, line.i, line.round, line.start)
 
 
 def fails_marks(run, files):
@@ -497,6 +530,13 @@ def fails_finals(run, files):
         yield Place(run.rounds, 0, final.flow)
 
 
+def fails_activity(run, files):
+    wanted = collections.Counter(Activity(id, int(rounds[-1])) for id, rounds in run.activity.items())
+    found = collections.Counter(files.of(Activity))
+    for one in (wanted - found) + (found - wanted):
+        yield Place(run.rounds, 0, one.flow)
+
+
 def fails_useless(run, files):
     if files.of(Useless) != [run.useless]:
         yield Place(run.rounds, 0, 0)
@@ -508,7 +548,7 @@ RULES = [
     ("P3", [fails_line_of_the_run, fails_spans]),
     ("P4", [fails_marks]),
     ("P5", [fails_rate]),
-    ("P6", [fails_claims, fails_finals, fails_useless]),
+    ("P6", [fails_claims, fails_finals, fails_activity, fails_useless]),
 ]
 
 

@@ -10,7 +10,8 @@ import sys
 import tomllib
 
 MOST_BYTES = 4_194_304
-TYPES = (2, 3, 4, 6)
+TYPES = (2, 3, 4, 5, 6)
+GRANTED = (5, 6)  # those that have unsolicited grants, and make no requests
 
 
 class Fault(Exception):
@@ -76,18 +77,18 @@ GRANTS = {"grant_bytes": number(1, 65_535), "grants_per_interval": number(1, 127
 
 def flow_keys(kind):
     """The keys of a flow of this type, with the kinds of their values."""
-    most_channels, most_clusters = (1, 1) if kind == 6 else (8, 2)
+    most_channels, most_clusters = (1, 1) if kind in GRANTED else (8, 2)
     keys = {
         "id": number(1, 65_535), "type": one_of(*TYPES), "channels": items(1, most_channels, number(1, 255)),
         # how many SIDs a cluster has is looked at later, beside the channels
         "clusters": items(1, most_clusters, items(0, sys.maxsize, SID)),
     }
-    return keys | (GRANTS if kind == 6 else REQUESTS) | (TIMES if kind != 2 else {})
+    return keys | (GRANTS if kind in GRANTED else REQUESTS) | (TIMES if kind != 2 else {})
 
 
 def optional_keys(kind):
     """Those that a flow of this type may have or not."""
-    return {} if kind == 6 else MIN_RATE
+    return {} if kind in GRANTED else MIN_RATE
 
 
 def lacks(keys, found):
@@ -161,12 +162,11 @@ def judge_flow(place, document, earlier, flow):
     refuse_if(len(set(sids)) < len(sids) or any(pair in taken for pair in sids), "C6", place)
     refuse_if(kind != 2 and flow["jitter_us"] >= flow["interval_us"], "C10", place)
     first = by_id[ids[0]]
-    slots = 0 if kind == 2 else first["request_minislots"]
-    if kind == 6:
-        slots = cost(first, first["unsolicited"], flow["grant_bytes"])
-    refuse_if(slots > map_len(document, first), "C11", place)
-    refuse_if(kind != 6 and not flow["headers"] and len(ids) > 1, "C12", place)
-    refuse_if(kind != 6 and 0 < flow["rate"] < flow.get("min_rate", 0), "C14", place)
+    poll = 0 if kind in (2, 6) else first["request_minislots"]
+    grant = cost(first, first["unsolicited"], flow["grant_bytes"]) if kind in GRANTED else 0
+    refuse_if(max(poll, grant) > map_len(document, first), "C11", place)
+    refuse_if(kind not in GRANTED and not flow["headers"] and len(ids) > 1, "C12", place)
+    refuse_if(kind not in GRANTED and 0 < flow["rate"] < flow.get("min_rate", 0), "C14", place)
 
 
 def judge_station(place, document, earlier, station):
