@@ -246,7 +246,7 @@ class Calendars:
     def add_call(self, crowded):
         """Adds a flow of unsolicited grants, with activity detection or without, if it fits."""
         chance = self.chance
-        kind = chance.choice([5, 5, 6])
+        kind = chance.choice([5, 5, 5, 6])
         id = chance.choice(self.ids)
         channel = self.channels[id]
         if crowded:
