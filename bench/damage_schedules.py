@@ -18,7 +18,7 @@ import tomllib
 import records
 
 UNITS_PER_BYTE = 1_280_000
-WORDS = ["ugs", "rtp", "nrtp", "station", "req"]
+WORDS = ["ugs", "ad", "rtp", "nrtp", "station", "req"]
 # places of fields in the lines of grants; those of missed occurrences end with K
 ROUND, CHANNEL, WORD, ID, I, K, SID, IUC, START, SLOTS, CREDIT = range(1, 12)
 # limits of fields, of what stands in a MAP, and of numbers in a machine
@@ -32,7 +32,7 @@ class Schedule:
     def __init__(self, tables, rounds, maps, report):
         self.plant, self.rounds = records.Plant(tables), rounds
         self.channels = {channel.id: channel for channel in self.plant.channels}
-        self.flows = {flow["id"]: flow for flow in tables.get("flow", []) if flow["type"] != 6}
+        self.flows = {flow["id"]: flow for flow in tables.get("flow", []) if flow["type"] not in (5, 6)}
         self.records = records.records_of(maps)
         self.lines = [line.split(",") for line in report.decode("ascii").splitlines()]
 
@@ -183,14 +183,14 @@ def records_swapped(chance, schedule):
 
 
 def line_removed(chance, schedule):
-    lines = schedule.of(chance.choice(["GM", "GM", "M", "F", "U"]))
+    lines = schedule.of(chance.choice(["GM", "GM", "M", "F", "A", "U"]))
     if lines:
         schedule.lines.remove(chance.choice(lines))
     return bool(lines)
 
 
 def line_doubled(chance, schedule):
-    lines = schedule.of(chance.choice(["GM", "M", "F", "U"]))
+    lines = schedule.of(chance.choice(["GM", "M", "F", "A", "U"]))
     if lines:
         schedule.lines.insert(chance.randint(0, len(schedule.lines)), list(chance.choice(lines)))
     return bool(lines)
@@ -217,7 +217,7 @@ def changed_field(chance, schedule, line):
 
 
 def line_field(chance, schedule):
-    lines = schedule.of(chance.choice(["G", "G", "M", "F", "U"]))
+    lines = schedule.of(chance.choice(["G", "G", "M", "F", "A", "U"]))
     if lines:
         changed_field(chance, schedule, chance.choice(lines))
     return bool(lines)
@@ -225,7 +225,7 @@ def line_field(chance, schedule):
 
 def line_added(chance, schedule):
     """A line that is another one but for one or two fields."""
-    lines = schedule.of(chance.choice(["GM", "M", "F", "U"]))
+    lines = schedule.of(chance.choice(["GM", "M", "F", "A", "U"]))
     if lines:
         line = list(chance.choice(lines))
         schedule.lines.insert(chance.randint(0, len(schedule.lines)), line)
