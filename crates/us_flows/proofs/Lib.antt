@@ -9,6 +9,7 @@ pub mod ApartLemmas
 pub mod JudgedLemmas
 pub mod TableLemmas
 pub mod ListedLemmas
+pub mod WordLemmas
 pub mod SidLemmas
 pub mod IndexLemmas
 pub mod RankLemmas
