@@ -34,7 +34,7 @@ option_map-or f (Some x) b = refl
 
 -- positions
 
-position-append : {X : Type 0} (passes : X → Bool) (i : ℕ) (xs ys : List X) →
+pub position-append : {X : Type 0} (passes : X → Bool) (i : ℕ) (xs ys : List X) →
     position_from passes i (xs ++ ys) ≡ option_or (position_from passes i xs) (position_from passes (i + length xs) ys)
 position-append passes i [] ys = let none : i ≡ i + 0 = omega arith in ap (λ j. position_from passes j ys) none
 position-append passes i (x ∷ xs) ys = elim (cases_Bool (passes x)) [
@@ -45,7 +45,7 @@ position-append passes i (x ∷ xs) ys = elim (cases_Bool (passes x)) [
       (λ j. option_or (position_from passes (i + 1) xs) (position_from passes j ys)) next)
 ]
 
-position-none : {X : Type 0} (passes : X → Bool) (i : ℕ) (xs : List X) → list_any passes xs ≡ false →
+pub position-none : {X : Type 0} (passes : X → Bool) (i : ℕ) (xs : List X) → list_any passes xs ≡ false →
     position_from passes i xs ≡ None
 position-none passes i [] h = refl
 position-none passes i (x ∷ xs) h =
@@ -142,7 +142,7 @@ requested-any : (channel sid : ℕ) (cs : List Cluster) →
 requested-any channel sid [] = refl
 requested-any channel sid (c ∷ cs) = ap (λ b. has_sid channel sid c || b) (requested-any channel sid cs)
 
-no_activity : (channel sid : ℕ) (cs : List Cluster) → list_any (is_activity_of channel sid) (map Requests cs) ≡ false
+pub no_activity : (channel sid : ℕ) (cs : List Cluster) → list_any (is_activity_of channel sid) (map Requests cs) ≡ false
 no_activity channel sid [] = refl
 no_activity channel sid (c ∷ cs) = no_activity channel sid cs
 

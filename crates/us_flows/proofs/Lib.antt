@@ -16,5 +16,6 @@ pub mod RankLemmas
 pub mod TurnLemmas
 pub mod KeyLaws
 pub mod TurnLaws
+pub mod WordLaws
 pub mod OrderLemmas
 pub mod CopyLemmas

@@ -9,7 +9,7 @@ use Rattle.std.proofs.lemmas.List.Recursion.{is_count_by}
 use Rattle.std.proofs.Math.Seq.{take-append_seam}
 use Rattle.us_flows.specs.Tables.{Tables, FlowTable}
 use Rattle.us_flows.specs.Clusters.{Turn, Cluster, IsTurnIn, Word, Requests, Silent, Active, is_of_cluster, clusters_from, clusters_of, goes_before, in_order, makes_requests, requesting, table_order, tells_activity, turns_for, turns_from, turns_of, words_before, words_in, words_of}
-use Rattle.us_flows.specs.Laws.{OneTurn, TurnsAreOfClusters, ActivityHasWords}
+use Rattle.us_flows.specs.Laws.{OneTurn, TurnsAreOfClusters}
 use Rattle.us_flows.specs.Lawful.{AreApart}
 use Rattle.us_flows.specs.Turns.{turn_at, in_flow}
 use Rattle.us_flows.specs.declared.turns.Turn as places
@@ -515,33 +515,3 @@ numbers_known t (u ∷ us) (turn ∷ ts) is all =
 pub config_numbers : (t : Tables) (us : List places.Turn) → map (turn_at t) us ≡ map Some (turns_of t) →
     AllByRecursion (λ u. u.cluster < length (words_of t)) us
 config_numbers t us is = numbers_known t us (turns_of t) is (turns_of-turns t)
-
--- words
-
--- those of the flow at a place stand behind those before it
-at_flow : (flows : List FlowTable) (place : ℕ) (flow : FlowTable) → slice_get flows place ≡ Some flow →
-    (later : List Word) × (flat_map words_in flows ≡ flat_map words_in (take place flows) ++ (words_in flow ++ later))
-at_flow [] place flow at = let no : None ≡ Some flow = at in cc
-at_flow (f ∷ flows) zero flow at =
-    let found : Some f ≡ Some flow = at in
-    let same : f ≡ flow = cc in
-    (flat_map words_in flows, ap (λ g. words_in g ++ flat_map words_in flows) same)
-at_flow (f ∷ flows) (suc place) flow at =
-    let rest = at_flow flows place flow at in
-    let more : List Word = words_in flow ++ rest.0 in (
-      rest.0,
-      ap (λ words. words_in f ++ words) rest.1 ∙
-          sym (append_assoc (words_in f) (flat_map words_in (take place flows)) more),
-    )
-
-pub activity_has_words : ActivityHasWords
-activity_has_words t place flow at tells =
-    let here = at_flow t.flows place flow at in
-    let before : List Word = flat_map words_in (take place t.flows) in
-    let all : words_of t ≡ before ++ Silent flow ∷ Active flow ∷ here.0 =
-    here.1 ∙ ap (λ words. before ++ (words ++ here.0)) (words-activity flow tells) in
-    let next : length (before ++ Silent flow ∷ []) ≡ length before + 1 = length-append before (Silent flow ∷ []) in (
-      ap (λ words. slice_get words (length before)) all ∙ get-behind before (Silent flow) (Active flow ∷ here.0),
-      ap₂ slice_get (all ∙ sym (append_assoc before (Silent flow ∷ []) (Active flow ∷ here.0))) (sym next) ∙
-          get-behind (before ++ Silent flow ∷ []) (Active flow) here.0,
-    )

@@ -74,6 +74,12 @@ words_of t = flat_map words_in t.flows
 abbrev pub words_before : List FlowTable → ℕ → ℕ
 words_before flows place = length (flat_map words_in (take place flows))
 
+-- the flow of a word
+abbrev pub flow_of_word : Word → FlowTable
+flow_of_word (Requests cluster) = cluster.flow
+flow_of_word (Silent flow) = flow
+flow_of_word (Active flow) = flow
+
 -- whether a word is a cluster's
 abbrev pub is_of_cluster : Word → Bool
 is_of_cluster (Requests cluster) = true

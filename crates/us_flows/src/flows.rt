@@ -227,7 +227,8 @@ impl Flow {
 
     /// When its first interval begins, in microseconds, 0 to 10,000,000; 0 for best effort.
     ///
-    /// A flow that is polled has one poll in each interval, and one with unsolicited grants has so many of them.
+    /// A flow that is polled has one poll in each interval, and one with unsolicited grants has so many of them. One that
+    /// tells its activity has either.
     pub fn start_us(&self) -> u32
         ensures value { result ≡ self.now.start_us }
     {

@@ -1,6 +1,6 @@
 //! Laws of the definitions of this crate, each as the contract of a function that does nothing.
 
-ghost use Rattle.us_flows.specs.Laws.{OneTurn, TurnsAreOfClusters, ActivityHasWords};
+ghost use Rattle.us_flows.specs.Laws.{OneTurn, TurnsAreOfClusters, ActivityHasWords, FoundHasWords};
 
 /// Two turns of the tables that have one number are one turn.
 pub fn one_turn()
@@ -15,4 +15,9 @@ pub fn turns_are_of_clusters()
 /// The words of a flow's activity stand behind those of all flows before it, silent first.
 pub fn activity_has_words()
     ensures { ActivityHasWords }
+{}
+
+/// What a SID asks for leads to words: that of the cluster which has it, or both of the flow which tells its activity.
+pub fn found_has_words()
+    ensures { FoundHasWords }
 {}
