@@ -18,7 +18,7 @@ use Rattle.us_flows.specs.declared.flows.SchedulingType.TheVariants.{BestEffort,
 use Rattle.us_flows.specs.Checks.{same_sid, repeats, is_taken}
 use Rattle.us_flows.specs.Listed.{asks, asked_from, asked_of, asked_by, Asked, AreIndexed}
 use Rattle.us_flows.proofs.ListedLemmas.{by_id-push}
-use Rattle.us_flows.proofs.WordLemmas.{words_by, length-requests, few_words}
+use Rattle.us_flows.proofs.WordLemmas.{words_by, few_words}
 use Rattle.us_flows.proofs.SidLemmas.{same_sid-equivalence, list_any-same, lookup-append, is_some-lookup, repeats-append, repeats-behind, not_again, insert-apart}
 
 -- options

@@ -8,14 +8,14 @@ use Rattle.std.proofs.lemmas.List.{length-append, map-append, length-map}
 use Rattle.std.proofs.lemmas.List.Recursion.{is_count_by}
 use Rattle.std.proofs.Math.Seq.{take-append_seam}
 use Rattle.us_flows.specs.Tables.{Tables, FlowTable}
-use Rattle.us_flows.specs.Clusters.{Turn, Cluster, IsTurnIn, Word, Requests, Silent, Active, is_of_cluster, clusters_from, clusters_of, goes_before, in_order, makes_requests, requesting, table_order, tells_activity, turns_for, turns_from, turns_of, words_before, words_in, words_of}
+use Rattle.us_flows.specs.Clusters.{Turn, Cluster, IsTurnIn, Word, Requests, is_of_cluster, clusters_from, clusters_of, goes_before, in_order, makes_requests, requesting, table_order, turns_for, turns_from, turns_of, words_before, words_in, words_of}
 use Rattle.us_flows.specs.Laws.{OneTurn, TurnsAreOfClusters}
 use Rattle.us_flows.specs.Lawful.{AreApart}
 use Rattle.us_flows.specs.Turns.{turn_at, in_flow}
 use Rattle.us_flows.specs.declared.turns.Turn as places
 use Rattle.us_flows.specs.declared.flows.SchedulingType.{SchedulingType}
 use Rattle.us_flows.specs.declared.flows.SchedulingType.TheVariants.{BestEffort, NonRealTimePolling, RealTimePolling, ActivityDetection, UnsolicitedGrant}
-use Rattle.us_flows.proofs.WordLemmas.{length-clusters_from, length-words, words-activity, words-requests, words_by}
+use Rattle.us_flows.proofs.WordLemmas.{length-words, words-requests, words_by}
 use Rattle.us_flows.proofs.KeyLaws.{place_of_key}
 use Rattle.us_flows.proofs.RankLemmas.{all_more}
 use Rattle.us_flows.proofs.TurnLemmas.{all-append, clusters_in, get-behind}

@@ -7,9 +7,8 @@ use Rattle.std.proofs.lemmas.Bool.{cases_Bool}
 use Rattle.std.proofs.lemmas.List.{length-append}
 use Rattle.std.proofs.lemmas.Iterator.Adapters.{position_from-zero}
 use Rattle.us_flows.specs.Tables.{Tables, FlowTable}
-use Rattle.us_flows.specs.Clusters.{Cluster, Word, Requests, Silent, Active, clusters_from, flow_has_sid, has_sid, is_activity_of, is_requested_by, is_unsolicited, lookup, makes_requests, tells_activity, words_before, words_in, words_of}
+use Rattle.us_flows.specs.Clusters.{Cluster, Word, Requests, Silent, Active, clusters_from, flow_has_sid, is_activity_of, is_requested_by, is_unsolicited, lookup, words_in, words_of}
 use Rattle.us_flows.specs.Laws.{ActivityHasWords, LeadsTo, FoundHasWords}
-use Rattle.us_flows.specs.declared.found.Found.{Found}
 use Rattle.us_flows.specs.declared.found.Found.TheVariants as found
 use Rattle.us_flows.specs.declared.flows.SchedulingType.{SchedulingType}
 use Rattle.us_flows.specs.declared.flows.SchedulingType.TheVariants.{BestEffort, NonRealTimePolling, RealTimePolling, ActivityDetection, UnsolicitedGrant}

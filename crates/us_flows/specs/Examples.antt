@@ -10,7 +10,7 @@ use Rattle.us_flows.specs.declared.faults.TableName.TheVariants as name
 use Rattle.us_flows.specs.declared.faults.ConfigFault.{ConfigFault}
 use Rattle.us_flows.specs.declared.faults.ConfigFault.TheVariants.{Missing, Range, UnknownChannel, DuplicateId, DuplicateSid, ClusterLength, RoundNotMultiple, ReservesTooLong, Jitter, GrantLongerThanMap, Headers, MinRate}
 use Rattle.us_flows.specs.Tables.{Tables, FlowTable, rounds_fit}
-use Rattle.us_flows.specs.Clusters.{Word, Silent, Active, lookup, table_order, turns_of, words_before, words_of}
+use Rattle.us_flows.specs.Clusters.{Silent, Active, lookup, table_order, turns_of, words_before, words_of}
 use Rattle.us_flows.specs.Turns.{turn_at}
 use Rattle.us_flows.specs.Keys.{top_keys, channel_keys, profile_keys, short_keys, all_flow_keys, station_keys}
 use Rattle.us_flows.specs.Checks.{top, channel_lacks, channel_strays, channel_fault, flow_fault, station_fault, first_fault}

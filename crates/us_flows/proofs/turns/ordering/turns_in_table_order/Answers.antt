@@ -1,4 +1,4 @@
-use Rattle.std.proofs.Common.{◌≡◌, ◌+◌, ◌≤◌, ◌++◌, length, flat_map, drop, take, ap, sym, ◌∙◌, arith}
+use Rattle.std.proofs.Common.{◌+◌, ◌++◌, length, flat_map, drop, take, ap, sym, ◌∙◌, arith}
 use Rattle.us_flows.specs.Clusters.{words_in}
 use Rattle.us_flows.specs.Ranks.{flow_turns, table_turns}
 use Rattle.us_flows.proofs.TurnLemmas.{table_turns-more}

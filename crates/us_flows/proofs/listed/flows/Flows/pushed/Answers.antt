@@ -1,4 +1,4 @@
-use Rattle.std.proofs.Common.{◌≤◌, ap, length, ◌∙◌, arith}
+use Rattle.std.proofs.Common.{ap, length, ◌∙◌, arith}
 use Rattle.std.specs.List.{list_any}
 use Rattle.us_flows.specs.Tables.{sids_of}
 use Rattle.us_flows.specs.Checks.{is_taken}
