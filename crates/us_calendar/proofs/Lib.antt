@@ -1,5 +1,6 @@
 pub mod IdealLemmas
 pub mod DueLemmas
+pub mod ComingLemmas
 pub mod TimedLemmas
 pub mod SettleLemmas
 pub mod SpotLemmas
@@ -7,6 +8,7 @@ pub mod EntryStateLemmas
 pub mod KeyLemmas
 pub mod NearLemmas
 pub mod RunLemmas
+pub mod HeardLemmas
 pub mod RunTimes
 pub mod AgendaLemmas
 pub mod NotedLemmas

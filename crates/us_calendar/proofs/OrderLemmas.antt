@@ -72,20 +72,20 @@ not_lower r i s j li lj h = elim (order_of s r) [
 
 -- of whose entries these are
 
-pub flow_made : (c : Channel) (f : FlowTable) → IfSome (entry_of_flow c f) (λ e. (e.id ≡ f.id) × (rank_of e.kind ≤ 2))
+pub flow_made : (c : Channel) (f : FlowTable) → IfSome (entry_of_flow c f) (λ e. (e.id ≡ f.id) × (rank_of e.kind ≤ 3))
 flow_made c f = by (slice_index f.channels 0 == c.id)
   where
-    of_kind : (k : SchedulingType) → IfSome (scheduled c f k) (λ e. (e.id ≡ f.id) × (rank_of e.kind ≤ 2))
+    of_kind : (k : SchedulingType) → IfSome (scheduled c f k) (λ e. (e.id ≡ f.id) × (rank_of e.kind ≤ 3))
     of_kind BestEffort = tt
     of_kind NonRealTimePolling = (refl, omega arith)
     of_kind RealTimePolling = (refl, omega arith)
     of_kind UnsolicitedGrant = (refl, omega arith)
 
-    by : (b : Bool) → IfSome (if b then scheduled c f f.kind else None) (λ e. (e.id ≡ f.id) × (rank_of e.kind ≤ 2))
+    by : (b : Bool) → IfSome (if b then scheduled c f f.kind else None) (λ e. (e.id ≡ f.id) × (rank_of e.kind ≤ 3))
     by true = of_kind f.kind
     by false = tt
 
-pub station_made : (c : Channel) (s : Station) → IfSome (entry_of_station c s) (λ e. (e.id ≡ s.id) × (rank_of e.kind ≡ 3))
+pub station_made : (c : Channel) (s : Station) → IfSome (entry_of_station c s) (λ e. (e.id ≡ s.id) × (rank_of e.kind ≡ 4))
 station_made c s = by (s.channel == c.id)
   where
     by : (b : Bool) → IfSome {T = Entry} (if b then Some (record {
@@ -97,7 +97,8 @@ station_made c s = by (s.channel == c.id)
       interval = quarters s.interval_us;
       jitter = quarters s.jitter_us;
       grants = 1;
-    }) else None) (λ e. (e.id ≡ s.id) × (rank_of e.kind ≡ 3))
+      silence = None;
+    }) else None) (λ e. (e.id ≡ s.id) × (rank_of e.kind ≡ 4))
     by true = (refl, refl)
     by false = tt
 
@@ -218,6 +219,7 @@ blank = record {
   interval = 0;
   jitter = 0;
   grants = 0;
+  silence = None;
 }
 
 in_order-is : (es now : List Entry) → AllByRecursion HasId es → IsDistinct eqb (map number es) → IsPermutation es now →
