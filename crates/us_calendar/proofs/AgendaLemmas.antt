@@ -15,19 +15,19 @@ use Rattle.us_calendar.proofs.EntryStateLemmas.{quiet_before}
 use Rattle.us_calendar.proofs.NearLemmas.{Noted, Changed, is_noted, is_changed}
 use Rattle.us_calendar.proofs.RunLemmas.{run_from, run_past, skip_to, run_step, the_some}
 
-set_same : (states : List EntryState) (p : ℕ) (state : EntryState) → p < length states → slice_get (set states p state) p ≡ Some state
+pub set_same : (states : List EntryState) (p : ℕ) (state : EntryState) → p < length states → slice_get (set states p state) p ≡ Some state
 set_same [] p state inside = absurd (omega (arith, inside))
 set_same (first ∷ states) zero state inside = refl
 set_same (first ∷ states) (suc p) state inside = set_same states p state (omega (arith, inside))
 
-set_other : (states : List EntryState) (p q : ℕ) (state : EntryState) → p ≢ q → slice_get (set states p state) q ≡ slice_get states q
+pub set_other : (states : List EntryState) (p q : ℕ) (state : EntryState) → p ≢ q → slice_get (set states p state) q ≡ slice_get states q
 set_other [] p q state other = refl
 set_other (first ∷ states) zero zero state other = absurd (other refl)
 set_other (first ∷ states) zero (suc q) state other = refl
 set_other (first ∷ states) (suc p) zero state other = refl
 set_other (first ∷ states) (suc p) (suc q) state other = set_other states p q state (λ e. other (ap suc e))
 
-set_known : (states : List EntryState) (p : ℕ) (state : EntryState) → AllByRecursion IsEntryState states → IsEntryState state →
+pub set_known : (states : List EntryState) (p : ℕ) (state : EntryState) → AllByRecursion IsEntryState states → IsEntryState state →
     AllByRecursion IsEntryState (set states p state)
 set_known [] p state all is = tt
 set_known (first ∷ states) zero state all is = (is, all.1)

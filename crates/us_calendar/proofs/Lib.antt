@@ -11,6 +11,7 @@ pub mod RunLemmas
 pub mod HeardLemmas
 pub mod RunTimes
 pub mod AgendaLemmas
+pub mod HearingLemmas
 pub mod NotedLemmas
 pub mod RunLaws
 pub mod OrderLemmas

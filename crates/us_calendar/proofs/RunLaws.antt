@@ -77,6 +77,15 @@ closed_some e (m ∷ settlements) =
 abbrev pub settled_by : List EntryState → ℕ
 settled_by states = sum_by (λ state. length state.settled) states
 
+-- hearing settles nothing
+pub settled_heard : (cut : List ℕ) (states : List EntryState) → settled_by (map (heard cut) states) ≡ settled_by states
+settled_heard cut [] = refl
+settled_heard cut (state ∷ states) =
+    let rest = settled_heard cut states in
+    let now = sum_by-cons (λ r. length r.settled) (heard cut state) (map (heard cut) states) in
+    let before = sum_by-cons (λ r. length r.settled) state states in
+    omega (arith, rest, now, before)
+
 -- of a whole round
 pub record Ended (len : ℕ) (states : List EntryState) (before : Board) (ran : Ran) : Type 0 where
   pub inside : AllByRecursion (StartsInside len) ran.settled

@@ -1,9 +1,9 @@
 -- An entry in a round, one occurrence after another.
-use Rattle.std.proofs.Common.{◌≡◌, ℕ, zero, suc, ◌+◌, ◌*◌, ◌<◌, ◌≤◌, nat_le, nat_lt, ◌&&◌, Bool, true, false, List, [], ◌∷◌, ◌++◌, length, map, flat_map, Option, Some, None, refl, ap, sym, ◌∙◌, inl, inr, subst, append_assoc, arith}
+use Rattle.std.proofs.Common.{◌≡◌, ℕ, zero, suc, ◌+◌, ◌*◌, ◌<◌, ◌≤◌, nat_le, nat_lt, ◌==◌, ◌&&◌, ◌||◌, Bool, true, false, List, [], ◌∷◌, ◌++◌, length, map, flat_map, Option, Some, None, refl, ap, sym, ◌∙◌, inl, inr, subst, append_assoc, ne_eqb, arith}
 use Rattle.std.specs.List.{range_with_len, AllByRecursion}
 use Rattle.std.proofs.lemmas.List.{map-append, append-nil}
 use Rattle.std.proofs.lemmas.Grind.{flat_map-append}
-use Rattle.std.proofs.lemmas.Bool.{cases_lt, cases_Bool, ltb-false, ltb-true}
+use Rattle.std.proofs.lemmas.Bool.{cases_lt, cases_Bool, and_right, eqb-true, ltb-false}
 use Rattle.us_slots.specs.Times.{start_of}
 use Rattle.us_holes.specs.Boards.{Board, fits, first_of}
 use Rattle.us_calendar.specs.Entries.{Entry, slots_of}
@@ -189,6 +189,15 @@ module _ (pace : Pace) (round : ℕ) (e : Entry) (speaks : ℕ → Bool) (first 
 
     pub last_told : told ≡ told_before ++ map (told_as e) (settle_from pace round e speaks first before).settlements
     last_told = sym (append-nil told) ∙ sym (ap (λ o. told ++ map (told_as e) o.settlements) last) ∙ r.same_told
+
+-- an occurrence that is ideal behind the round, behind one that isn't, is the first of its interval
+pub begins_later : (active : Bool) (at time k end : ℕ) → at < end → end ≤ time →
+    ((active && (time == at)) || (k == 0)) ≡ true → k ≡ 0
+begins_later active at time k end early late it =
+    let apart : (time == at) ≡ false = ne_eqb time at (λ same. omega (arith, same, early, late)) in
+    let out : (active && (time == at)) ≡ false = and_right active (time == at) apart in
+    let first : (k == 0) ≡ true = rw out at it in
+    eqb-true k 0 first
 
 -- where an occurrence waits, board and list stand as they stood
 module _ (pace : Pace) (round : ℕ) (e : Entry) (active : Bool) (n : ℕ) (board now : Board) (told told_now : List Settled)

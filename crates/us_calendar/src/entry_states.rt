@@ -1,7 +1,7 @@
 ghost use Rattle.std.specs.Prelude.{◌≡◌, ◌+◌, ◌++◌, is_some, length, map, max, OnOk, IfOk};
 ghost use Rattle.std.specs.List.{range_with_len};
 ghost use Rattle.us_calendar.specs.Agendas.{due_at};
-ghost use Rattle.us_calendar.specs.Occurrences.{end_of};
+ghost use Rattle.us_calendar.specs.Occurrences.{end_of, ideal};
 ghost use Rattle.us_calendar.specs.Settling as spec;
 ghost use Rattle.us_calendar.specs.Kept.{IsEntryState, IsNext, number_of, speaks_of};
 
@@ -81,14 +81,13 @@ impl EntryState {
         ensures value { self.new ≡ spec.heard cut.now self.old }
         ensures known { IsEntryState self.new }
     {
-        if let Some(silence) = &self.entry.silence {
-            self.active = hears(silence, self.active, cut);
-        }
+        self.active = hears(&self.entry, self.active, cut);
     }
 
     /// Of what kind its intervals are in this round.
     fn kinds(&self) -> Kinds
-        ensures { speaks_of result ≡ spec.speaks_in self.now }
+        ensures speaks { speaks_of result ≡ spec.speaks_in self.now }
+        ensures at { result.at ≡ ideal self.now.entry (length self.now.settled) }
     {
         Kinds {
             at: self.next.ideal,

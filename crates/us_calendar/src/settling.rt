@@ -1,4 +1,4 @@
-ghost use Rattle.std.specs.Prelude.{◌≡◌, ◌<◌, ◌++◌, [], ◌∷◌, flat_map, map, OnOk, IfOk, IfSome, IfNone, length, true, false, None};
+ghost use Rattle.std.specs.Prelude.{◌≡◌, ◌<◌, ◌≤◌, ◌⊎◌, ◌++◌, [], ◌∷◌, flat_map, map, OnOk, IfOk, IfSome, IfNone, length, true, false, None};
 ghost use Rattle.std.specs.Bool.{OnTrue, OnFalse};
 ghost use Rattle.std.specs.List.{range_with_len};
 ghost use Rattle.us_calendar.specs.Occurrences.{comes, is_over};
@@ -37,6 +37,7 @@ pub(crate) fn settle(
         (settle_from span.now.pace span.now.round entry.now (speaks_of kinds) (number_of entry.now first) board.old).settlements) }
     ensures timed { IfOk result (λ next. IsTimed entry.now next) }
     ensures comes { IfOk result (λ next. comes entry.now (speaks_of kinds) (number_of entry.now next) ≡ true) }
+    ensures begins { IfOk result (λ next. span.now.end ≤ next.ideal → (next ≡ first) ⊎ (next.k ≡ 0)) }
 {
     let mut next = first;
     while next.ideal < span.end {
