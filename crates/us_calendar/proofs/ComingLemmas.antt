@@ -145,7 +145,7 @@ coming-next e speaks end n is it early =
     (λ m low high. between e speaks n m is it (omega (arith, low)) high))
 
 -- whatever comes is no earlier one
-filter-all : (P : ℕ → Type 0) (p : ℕ → Bool) (ns : List ℕ) → AllByRecursion P ns → AllByRecursion P (filter p ns)
+pub filter-all : (P : ℕ → Type 0) (p : ℕ → Bool) (ns : List ℕ) → AllByRecursion P ns → AllByRecursion P (filter p ns)
 filter-all P p [] all = tt
 filter-all P p (n ∷ ns) all = elim (cases_Bool (p n)) [
   | inl t ↦ rw t (all.0, filter-all P p ns all.1)

@@ -17,6 +17,7 @@ pub mod RunLaws
 pub mod OrderLemmas
 pub mod FitLaws
 pub mod OnceLemmas
+pub mod ActivityLemmas
 pub mod OnceLaws
 pub mod SortedLemmas
 pub mod NameLaws

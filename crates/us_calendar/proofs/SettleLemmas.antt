@@ -24,7 +24,7 @@ then_settle pace round e active n found rest board =
     let more : SettledEntry = rest (with_spot e active found board) in
     record { board = more.board; settlements = settlement pace round e active n found ++ more.settlements }
 
-settle_each-cons : (pace : Pace) (round : ℕ) (e : Entry) (speaks : ℕ → Bool) (n : ℕ) (ns : List ℕ) (board : Board) →
+pub settle_each-cons : (pace : Pace) (round : ℕ) (e : Entry) (speaks : ℕ → Bool) (n : ℕ) (ns : List ℕ) (board : Board) →
     settle_each pace round e speaks (n ∷ ns) board ≡
     then_settle pace round e (speaks (ideal e n)) n (spot pace round e (speaks (ideal e n)) n board)
     (settle_each pace round e speaks ns) board
