@@ -23,5 +23,7 @@ pub mod Kept
 pub mod Laws
 -- the definitions at small inputs: entries,
 pub mod EntryExamples
--- and what becomes of their occurrences
+-- what becomes of their occurrences,
 pub mod Examples
+-- and what where a flow falls silent
+pub mod ActivityExamples
