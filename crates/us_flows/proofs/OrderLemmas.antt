@@ -7,7 +7,7 @@ use Rattle.std.proofs.lemmas.List.Elements.{All-from_recursion, recursion_from_A
 use Rattle.std.proofs.lemmas.List.Sorted.{All-permutation, IsPermutation-map, IsNonDecreasingBy-from_all_adjacent}
 use Rattle.us_flows.specs.Tables.{Tables, FlowTable}
 use Rattle.us_flows.specs.Clusters as clusters
-use Rattle.us_flows.specs.Clusters.{requesting, turns_from, goes_before, in_order, turns_of}
+use Rattle.us_flows.specs.Clusters.{turns_from, goes_before, in_order, turns_of}
 use Rattle.us_flows.specs.Turns.{turn_at, in_flow}
 use Rattle.us_flows.specs.Lawful.{AreApart}
 use Rattle.us_flows.specs.Ranks.{table_turns, rank_in, rank_of, IsRanked}

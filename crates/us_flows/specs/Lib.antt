@@ -6,11 +6,11 @@
 
 -- the tables of a configuration, as values
 pub mod Tables
--- SID clusters, which SID is whose, and the order of turns
+-- SID clusters, words, which SID is whose, and the order of turns
 pub mod Clusters
 -- turns as places in the tables
 pub mod Turns
--- laws of turns
+-- laws of turns and of words
 pub mod Laws
 -- the least and the greatest of what a configuration may say
 pub mod Ranges

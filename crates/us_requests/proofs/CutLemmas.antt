@@ -7,12 +7,14 @@ use Rattle.std.proofs.lemmas.Bool.{cases_eq, eq-eqb, ne_eqb}
 use Rattle.std.proofs.lemmas.List.Sums.{sum_by-cons}
 use Rattle.std.proofs.lemmas.List.Sorted.{sum_by-IsPermutation}
 use Rattle.us_flows.specs.Tables.{Tables}
-use Rattle.us_flows.specs.Clusters.{clusters_of, lookup}
+use Rattle.us_flows.specs.Clusters.{words_of, lookup}
 use Rattle.us_flows.specs.declared.found.Found.{Found}
 use Rattle.us_flows.specs.declared.found.Found.TheVariants as found
 use Rattle.us_requests.specs.declared.asks.Ask.{Ask}
+use Rattle.us_requests.specs.declared.requests.Kind.{Kind}
+use Rattle.us_requests.specs.declared.requests.Kind.TheVariants as kinds
 use Rattle.us_requests.specs.Asks.{Request, round_of_tick, unit_of, ask_of, ask_for, asks_at, is_unknown, is_not_requestable, is_late, counts_of}
-use Rattle.us_requests.specs.Cuts.{is_cluster, is_ask, cut, cut_at, asked, cut_of, OrderIsNothing}
+use Rattle.us_requests.specs.Cuts.{asks_by, bytes_by, is_ask, cut, cut_at, asked, cut_of, OrderIsNothing}
 
 -- a sum over those that pass a test is one over all, of nothing where they don't
 sum-kept : {A : Type 0} → (f : A → ℕ) (passes : Bool) (x : A) (xs : List A) →
@@ -30,18 +32,18 @@ sum-filtered f p (x ∷ xs) = omega (
   sum-filtered f p xs,
 )
 
--- what a request asks for of a cluster in a round
+-- what a request asks for by a word in a round
 abbrev bytes_at : Tables → ℕ → ℕ → ℕ → Request → ℕ
 bytes_at t rounds round cluster q =
-    if is_ask t rounds round cluster q then q.units * unit_of (slice_get (clusters_of t) cluster) else 0
+    if is_ask t rounds round cluster q then bytes_by t cluster q.kind q.units else 0
 
 cut-sum : (t : Tables) (rounds : ℕ) (requests : List Request) (round cluster : ℕ) →
     cut t rounds requests round cluster ≡ sum_by (bytes_at t rounds round cluster) requests
 unfolding cut
 cut-sum t rounds requests round cluster =
-    sum-filtered (λ q. q.units * unit_of (slice_get (clusters_of t) cluster)) (is_ask t rounds round cluster) requests
+    sum-filtered (λ q. bytes_by t cluster q.kind q.units) (is_ask t rounds round cluster) requests
 
--- the bytes of a cluster in an ask
+-- the bytes by a word in an ask
 abbrev bytes_in : ℕ → Option Ask → ℕ
 bytes_in cluster None = 0
 bytes_in cluster (Some ask) = if ask.cluster == cluster then ask.bytes else 0
@@ -53,21 +55,41 @@ asked-cons (Some ask) asks cluster =
     sum-kept (λ ask. ask.bytes) (ask.cluster == cluster) ask (filter (λ ask. ask.cluster == cluster) asks)
 
 -- a request's ask names what the request asks for
-ask-bytes : (t : Tables) (b : Bool) (units cluster : ℕ) (o : Option Found) →
-    bytes_in cluster (if b then ask_for t units o else None) ≡
-    (if is_cluster cluster o && b then units * unit_of (slice_get (clusters_of t) cluster) else 0)
-ask-bytes t true units cluster None = refl
-ask-bytes t false units cluster None = refl
-ask-bytes t true units cluster (Some found.Unsolicited) = refl
-ask-bytes t false units cluster (Some found.Unsolicited) = refl
-ask-bytes t true units cluster (Some (found.Cluster number)) = elim (cases_eq number cluster) [
-  | inl same ↦ rw (eq-eqb number cluster same) (ap (λ n. units * unit_of (slice_get (clusters_of t) n)) same)
+
+no-ask-bytes : (b : Bool) (bytes cluster : ℕ) →
+    bytes_in cluster (if b then None else None) ≡ (if false && b then bytes else 0)
+no-ask-bytes true bytes cluster = refl
+no-ask-bytes false bytes cluster = refl
+
+-- an ask by the word of a number, of bytes that depend on the word
+one-ask-bytes : (b : Bool) (bytes : ℕ → ℕ) (number cluster : ℕ) →
+    bytes_in cluster (if b then Some (record { cluster = number; bytes = bytes number }) else None) ≡
+    (if (number == cluster) && b then bytes cluster else 0)
+one-ask-bytes true bytes number cluster = elim (cases_eq number cluster) [
+  | inl same ↦ rw (eq-eqb number cluster same) (ap bytes same)
   | inr other ↦ rw (ne_eqb number cluster other) refl
 ]
-ask-bytes t false units cluster (Some (found.Cluster number)) = elim (cases_eq number cluster) [
+one-ask-bytes false bytes number cluster = elim (cases_eq number cluster) [
   | inl same ↦ rw (eq-eqb number cluster same) refl
   | inr other ↦ rw (ne_eqb number cluster other) refl
 ]
+
+ask-bytes : (t : Tables) (b : Bool) (kind : Kind) (units cluster : ℕ) (o : Option Found) →
+    bytes_in cluster (if b then ask_for t kind units o else None) ≡
+    (if asks_by cluster kind o && b then bytes_by t cluster kind units else 0)
+ask-bytes t b kinds.Request units cluster None = no-ask-bytes b (bytes_by t cluster kinds.Request units) cluster
+ask-bytes t b kinds.Request units cluster (Some found.Unsolicited) = no-ask-bytes b (bytes_by t cluster kinds.Request units) cluster
+ask-bytes t b kinds.Request units cluster (Some (found.Activity number)) = no-ask-bytes b (bytes_by t cluster kinds.Request units) cluster
+ask-bytes t b kinds.Request units cluster (Some (found.Cluster number)) =
+    one-ask-bytes b (λ n. units * unit_of (slice_get (words_of t) n)) number cluster
+ask-bytes t b kinds.Silent units cluster None = no-ask-bytes b (bytes_by t cluster kinds.Silent units) cluster
+ask-bytes t b kinds.Silent units cluster (Some found.Unsolicited) = no-ask-bytes b (bytes_by t cluster kinds.Silent units) cluster
+ask-bytes t b kinds.Silent units cluster (Some (found.Activity number)) = one-ask-bytes b (λ n. 1) number cluster
+ask-bytes t b kinds.Silent units cluster (Some (found.Cluster number)) = no-ask-bytes b (bytes_by t cluster kinds.Silent units) cluster
+ask-bytes t b kinds.Active units cluster None = no-ask-bytes b (bytes_by t cluster kinds.Active units) cluster
+ask-bytes t b kinds.Active units cluster (Some found.Unsolicited) = no-ask-bytes b (bytes_by t cluster kinds.Active units) cluster
+ask-bytes t b kinds.Active units cluster (Some (found.Activity number)) = one-ask-bytes b (λ n. 1) (number + 1) cluster
+ask-bytes t b kinds.Active units cluster (Some (found.Cluster number)) = no-ask-bytes b (bytes_by t cluster kinds.Active units) cluster
 
 asked-sum : (t : Tables) (rounds : ℕ) (requests : List Request) (round cluster : ℕ) →
     asked (asks_at t rounds requests round) cluster ≡ sum_by (bytes_at t rounds round cluster) requests
@@ -78,19 +100,19 @@ asked-sum t rounds (q ∷ rest) round cluster =
     omega (
       arith,
       asked-cons (if here then ask_of t q else None) (asks_at t rounds rest round) cluster,
-      ask-bytes t here q.units cluster (lookup t q.channel q.sid),
+      ask-bytes t here q.kind q.units cluster (lookup t q.channel q.sid),
       asked-sum t rounds rest round cluster,
       sum_by-cons (bytes_at t rounds round cluster) q rest,
     )
 
 -- the asks of a round add up to its cut
 pub sums-are-cut : (t : Tables) (rounds : ℕ) (requests : List Request) (round : ℕ) →
-    cut_of (length (clusters_of t)) (asks_at t rounds requests round) ≡ cut_at t rounds requests round
+    cut_of (length (words_of t)) (asks_at t rounds requests round) ≡ cut_at t rounds requests round
 unfolding cut_of cut_at
 sums-are-cut t rounds requests round =
     let same : asked (asks_at t rounds requests round) ≡ cut t rounds requests round =
     λ i cluster. (asked-sum t rounds requests round cluster ∙ sym (cut-sum t rounds requests round cluster)) i in
-    ap (λ f. map f (range_with_len 0 (length (clusters_of t)))) same
+    ap (λ f. map f (range_with_len 0 (length (words_of t)))) same
 
 -- requests in another order
 same-counts : (t : Tables) (rounds : ℕ) (requests others : List Request) → IsPermutation requests others →
@@ -113,7 +135,7 @@ same-cut t rounds requests others round order =
     λ i cluster. (cut-sum t rounds others round cluster ∙
     sum_by-IsPermutation (bytes_at t rounds round cluster) requests others order ∙
     sym (cut-sum t rounds requests round cluster)) i in
-    ap (λ f. map f (range_with_len 0 (length (clusters_of t)))) same
+    ap (λ f. map f (range_with_len 0 (length (words_of t)))) same
 
 pub any-order : OrderIsNothing
 any-order t rounds requests others order =

@@ -10,9 +10,9 @@ use us_slots::ReadFault;
 pub enum TraceFault {
     /// TR1: the first record isn't the header, or there is none.
     Header,
-    /// TR2: this record hasn't four fields. Records are counted from 1, with the header.
+    /// TR2: this record hasn't as many fields as the header. Records are counted from 1, with the header.
     Fields(u32),
-    /// TR3: a field of this record isn't of 1 to 10 digits, or is over its greatest value.
+    /// TR3: a field of this record isn't of 1 to 10 digits, or is over its greatest value; or it is a mark with units.
     Number(u32),
     /// TR4: a byte past 33,554,432, or record 1,000,002.
     TooLarge,
@@ -55,7 +55,7 @@ impl TraceFault {
     pub fn sentence(self) -> &'static str {
         match self {
             TraceFault::Header => "the first record is not the header",
-            TraceFault::Fields(_) => "has not four fields",
+            TraceFault::Fields(_) => "has not as many fields as the header",
             TraceFault::Number(_) => "has a field that is no number in its range",
             TraceFault::TooLarge => "the trace is too large",
             TraceFault::Read => "the source failed",

@@ -123,17 +123,14 @@ fn file_all(
     Ok(filed)
 }
 
-/// The bytes of a unit of each cluster's requests, by the number of the cluster. Clusters with unsolicited grants have
-/// neither.
+/// The bytes of a unit of the requests by each word; 0 by the words of a flow's activity.
 fn units_of(alloc: Global, config: &Config) -> Result<Vec<u8>, AllocError>
     ensures value { IfOk result (λ v. v.items ≡ units_of config.now) }
     ensures lawful { AreTables config.now }
 {
     let mut units = Vec::new(alloc);
     for flow in config.flows() {
-        if flow.kind().makes_requests() {
-            units.resize(units.len() + flow.clusters().len(), flow.unit())?;
-        }
+        units.resize(units.len() + flow.words(), flow.unit())?;
     }
     Ok(units)
 }

@@ -68,7 +68,7 @@ static RECORDS: [Case<'static>; 11] = [
             last: b"0,1,9\n0,1,9,1\n",
             ..REQUESTS
         },
-        answer: "TR2: record 1000001 has not four fields",
+        answer: "TR2: record 1000001 has not as many fields as the header",
         ..BASE
     },
     Case {
@@ -96,7 +96,7 @@ static RECORDS: [Case<'static>; 11] = [
             text: b"tick,channel,sid,units\n0,1,9\n",
             ..REQUESTS
         },
-        answer: "TR2: record 2 has not four fields",
+        answer: "TR2: record 2 has not as many fields as the header",
         ..BASE
     },
     Case {
