@@ -85,6 +85,7 @@ station_channel c s e is = eqb-true s.channel c.id (if_some (s.channel == c.id) 
   interval = quarters s.interval_us;
   jitter = quarters s.jitter_us;
   grants = 1;
+  silence = None;
 })) e is)
 
 -- flows, or stations, with entries that have their ids and stand on their channels
@@ -106,12 +107,12 @@ module _ {X : Type 0} (id channel : X → ℕ) (h : Channel → X → Option Ent
       (channels, entries)
 
 of_flow : (c : Channel) (f : FlowTable) (e : Entry) → entry_of_flow c f ≡ Some e →
-    (e.id ≡ f.id) × (rank_of e.kind ≤ 2)
-of_flow c f e is = subst (λ o. IfSome o (λ e. (e.id ≡ f.id) × (rank_of e.kind ≤ 2))) is (flow_made c f)
+    (e.id ≡ f.id) × (rank_of e.kind ≤ 3)
+of_flow c f e is = subst (λ o. IfSome o (λ e. (e.id ≡ f.id) × (rank_of e.kind ≤ 3))) is (flow_made c f)
 
 of_station : (c : Channel) (s : Station) (e : Entry) → entry_of_station c s ≡ Some e →
-    (e.id ≡ s.id) × (rank_of e.kind ≡ 3)
-of_station c s e is = subst (λ o. IfSome o (λ e. (e.id ≡ s.id) × (rank_of e.kind ≡ 3))) is (station_made c s)
+    (e.id ≡ s.id) × (rank_of e.kind ≡ 4)
+of_station c s e is = subst (λ o. IfSome o (λ e. (e.id ≡ s.id) × (rank_of e.kind ≡ 4))) is (station_made c s)
 
 other_kinds : (t : Tables) (c d : Channel) (e f : Entry) → IsMadeOf (entry_of_flow c) t.flows e →
     IsMadeOf (entry_of_station d) t.stations f → e.kind ≡ f.kind → ⊥
@@ -168,11 +169,13 @@ lawful_entry : (t : Tables) (c : Channel) (kind : Kind) (id sid iuc slots start 
       interval = quarters interval;
       jitter = quarters jitter;
       grants = grants;
+      silence = None;
     })
 lawful_entry t c kind id sid iuc slots start interval jitter grants times few usage other some room one most = record {
   entry = record {
     owner = lawful_owner sid iuc few usage other;
     slots = some;
+    poll = some;
     start = omega (arith, times.start);
     interval = omega (arith, times.interval);
     jitter = omega (arith, times.jitter);
@@ -180,6 +183,7 @@ lawful_entry t c kind id sid iuc slots start interval jitter grants times few us
     few_grants = most;
   };
   room = room;
+  poll_room = room;
 }
 
 module _ (t : Tables) (lawful : AreTables t) (c : Channel) (has : Contains t.channels c) where
@@ -237,6 +241,7 @@ module _ (t : Tables) (lawful : AreTables t) (c : Channel) (has : Contains t.cha
         interval = quarters s.interval_us;
         jitter = quarters s.jitter_us;
         grants = 1;
+        silence = None;
       }) else None) (IsLawfulEntry t c)
       by true same =
           lawful_entry t c kinds.Station s.id s.sid codes.station_maintenance c.station_minislots s.start_us s.interval_us

@@ -176,6 +176,7 @@ station_windows t c s is = by (s.channel == c.id)
       interval = quarters s.interval_us;
       jitter = quarters s.jitter_us;
       grants = 1;
+      silence = None;
     }) else None) HasWindows
     by true = record { grants = omega arith; jitter = omega (arith, is.schedule.jitter) }
     by false = tt

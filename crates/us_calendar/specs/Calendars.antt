@@ -5,8 +5,8 @@ use Rattle.us_flows.specs.declared.channels.Channel.{Channel}
 use Rattle.us_flows.specs.Tables.{Tables, map_len}
 use Rattle.us_holes.specs.Boards.{Board}
 use Rattle.us_calendar.specs.Entries.{entries}
-use Rattle.us_calendar.specs.Occurrences.{Pace}
-use Rattle.us_calendar.specs.Settling.{EntryState, SettledEntry, settle_entry, after_settling, told_as}
+use Rattle.us_calendar.specs.Occurrences.{Pace, end_of}
+use Rattle.us_calendar.specs.Settling.{EntryState, SettledEntry, opening_state, heard, settle_state, after_settling, told_as}
 use Rattle.us_calendar.specs.declared.settled.Settled.{Settled}
 use Rattle.us_calendar.specs.declared.settled.Settled.TheVariants as told
 
@@ -19,12 +19,12 @@ pub record Calendar : Type 0 where
 abbrev pub pace_of : Tables → Channel → Pace
 pace_of t c = record { time = c.bursts.time; len = map_len t c }
 
--- before round 0 nothing is settled
+-- before round 0 nothing is settled, and each flow is active
 abbrev pub opening : Tables → Channel → Calendar
 opening t c = record {
   pace = pace_of t c;
   next_round = 0;
-  states = map (λ e. record { entry = e; settled = [] }) (entries t c);
+  states = map opening_state (entries t c);
 }
 
 -- what a round comes to: the calendar and the board that it leaves, and what it settled, in the order of entries
@@ -37,27 +37,27 @@ pub record Ran : Type 0 where
 unfoldable pub run_entries : Pace → ℕ → List EntryState → Board → Ran
 run_entries pace round [] board = record { states = []; board = board; settled = [] }
 run_entries pace round (state ∷ more) board =
-    let one : SettledEntry = settle_entry pace round state board in
+    let one : SettledEntry = settle_state pace round state board in
     let rest : Ran = run_entries pace round more one.board in
     record {
-      states = after_settling state one.settlements ∷ rest.states;
+      states = after_settling (end_of pace round) state one.settlements ∷ rest.states;
       board = rest.board;
       settled = map (told_as state.entry) one.settlements ++ rest.settled;
     }
 
--- the round of a calendar on a board
-abbrev pub ran : Calendar → Board → Ran
-ran calendar board = run_entries calendar.pace calendar.next_round calendar.states board
+-- the round of a calendar with a cut, bytes by word, on a board
+abbrev pub ran : Calendar → List ℕ → Board → Ran
+ran calendar cut board = run_entries calendar.pace calendar.next_round (map (heard cut) calendar.states) board
 
 -- and the calendar then
-abbrev pub after : Calendar → Board → Calendar
-after calendar board = record {
+abbrev pub after : Calendar → List ℕ → Board → Calendar
+after calendar cut board = record {
   pace = calendar.pace;
   next_round = calendar.next_round + 1;
-  states = (ran calendar board).states;
+  states = (ran calendar cut board).states;
 }
 
--- how many occurrences are settled so far, granted or missed
+-- how many occurrences are settled so far: granted or missed, or left out in a silent interval
 abbrev pub settled_in : Calendar → ℕ
 settled_in calendar = sum_by (λ state. length state.settled) calendar.states
 

@@ -1,5 +1,5 @@
 -- What a channel's calendar has (ours, where nothing else is said): unsolicited grants, polls and station maintenance.
-use Rattle.std.specs.Prelude.{ℕ, ◌*◌, ◌<◌, ◌≤◌, ◌==◌, nat_lt, ◌&&◌, ◌||◌, Bool, if◌then◌else◌, List, [], ◌++◌, length, flat_map, filter, filter_map, count_by, slice_get, slice_index, Option, Some, None, unwrap_or}
+use Rattle.std.specs.Prelude.{ℕ, ◌*◌, ◌<◌, ◌≤◌, ◌==◌, nat_lt, ◌&&◌, ◌||◌, Bool, false, if◌then◌else◌, List, [], ◌++◌, length, flat_map, filter, filter_map, count_by, slice_get, slice_index, Option, Some, None, unwrap_or}
 use Rattle.std.specs.List.{range_with_len}
 use Rattle.us_slots.specs.Bursts.{burst_cost}
 use Rattle.us_slots.specs.UsageCodes as codes
@@ -12,6 +12,7 @@ use Rattle.us_flows.specs.Tables.{Tables, FlowTable}
 use Rattle.us_holes.specs.Boards.{Owner, IsOwner}
 use Rattle.us_calendar.specs.declared.kinds.Kind.{Kind}
 use Rattle.us_calendar.specs.declared.kinds.Kind.TheVariants as kinds
+use Rattle.us_calendar.specs.declared.silences.Silence.{Silence}
 
 -- an entry: so many grants of `slots` minislots to one owner in each interval, each to start at the ideal time or at
 -- most the jitter behind it; times are in quarter microseconds
@@ -25,14 +26,29 @@ pub record Entry : Type 0 where
   pub interval : ℕ
   pub jitter : ℕ
   pub grants : ℕ
+  -- what it has while its flow is silent, where the flow's activity is detected
+  pub silence : Option Silence
+
+-- The minislots of a grant, where its flow is active, or of a poll, where it is silent,
+abbrev pub slots_of : Entry → Bool → ℕ
+slots_of e active = if active then e.slots else polled e.silence
+  where
+    polled : Option Silence → ℕ
+    polled None = e.slots
+    polled (Some s) = s.slots
+
+-- and whom they are for: a poll is a request region of the same SID.
+abbrev pub owner_of : Entry → Bool → Owner
+owner_of e active = if active then e.owner else record { sid = e.owner.sid; iuc = codes.request }
 
 abbrev pub quarters : ℕ → ℕ
 quarters us = 4 * us
 
--- it has a minislot and a grant at least, and its windows are apart
+-- a grant and a poll of it have a minislot at least, there is a grant at least, and its windows are apart
 pub record IsEntry (e : Entry) : Type 0 where
   pub owner : IsOwner e.owner
   pub slots : 1 ≤ e.slots
+  pub poll : 1 ≤ slots_of e false
   pub start : e.start ≤ quarters max_us
   pub interval : e.interval ≤ quarters max_us
   pub jitter : e.jitter < e.interval
@@ -43,7 +59,7 @@ pub record IsEntry (e : Entry) : Type 0 where
 abbrev pub first_sid : FlowTable → ℕ
 first_sid f = slice_index (unwrap_or (slice_get f.clusters 0) []) 0
 
--- the entry of a flow with so many grants, of so many minislots, in each interval
+-- the entry of a flow with so many grants, of so many minislots, in each interval, whose activity nobody detects
 abbrev pub flow_entry : FlowTable → Kind → ℕ → ℕ → ℕ → Entry
 flow_entry f kind iuc slots grants = record {
   kind = kind;
@@ -54,6 +70,7 @@ flow_entry f kind iuc slots grants = record {
   interval = quarters f.interval_us;
   jitter = quarters f.jitter_us;
   grants = grants;
+  silence = None;
 }
 
 -- an unsolicited grant has the cost of its bytes in the unsolicited profile; a poll is a request region of one SID
@@ -80,14 +97,16 @@ entry_of_station c s = if s.channel == c.id then Some (record {
   interval = quarters s.interval_us;
   jitter = quarters s.jitter_us;
   grants = 1;
+  silence = None;
 }) else None
 
 -- which kind goes first
 abbrev pub rank_of : Kind → ℕ
 rank_of kinds.Unsolicited = 0
-rank_of kinds.RealTimePoll = 1
-rank_of kinds.NonRealTimePoll = 2
-rank_of kinds.Station = 3
+rank_of kinds.Activity = 1
+rank_of kinds.RealTimePoll = 2
+rank_of kinds.NonRealTimePoll = 3
+rank_of kinds.Station = 4
 
 -- by kind, and each kind by id
 abbrev pub goes_before : Entry → Entry → Bool

@@ -61,6 +61,7 @@ entry kind id sid iuc slots grants = record {
   interval = 40000;
   jitter = 2000;
   grants = grants;
+  silence = None;
 }
 
 -- a flow is polled on its first channel, with the SID that its first cluster has there,

@@ -1,15 +1,16 @@
 -- Laws of entries and of settling.
-use Rattle.std.specs.Prelude.{◌≡◌, ℕ, ◌<◌, ◌≤◌, List, flat_map}
+use Rattle.std.specs.Prelude.{◌≡◌, ℕ, ◌+◌, ◌<◌, ◌≤◌, ◌++◌, Bool, true, false, List, length, flat_map, if◌then◌else◌, nat_lt, Some, None}
 use Rattle.std.specs.List.{AllByRecursion, Contains, range_with_len}
 use Rattle.us_flows.specs.declared.channels.Channel.{Channel}
 use Rattle.us_flows.specs.Tables.{Tables, map_len}
 use Rattle.us_flows.specs.Lawful.{AreTables}
 use Rattle.us_holes.specs.Boards.{Board, assign_all, AllFit}
-use Rattle.us_calendar.specs.Entries.{Entry, IsEntry, entries}
-use Rattle.us_calendar.specs.Occurrences.{Pace}
-use Rattle.us_calendar.specs.Settling.{EntryState, settle_entry, after_settling}
+use Rattle.us_calendar.specs.Entries.{Entry, IsEntry, slots_of, entries}
+use Rattle.us_calendar.specs.Occurrences.{Pace, ideal, end_of, comes}
+use Rattle.us_calendar.specs.Activity.{activity, speaks_by}
+use Rattle.us_calendar.specs.Settling.{EntryState, settle_entry, closed}
 use Rattle.us_calendar.specs.Calendars.{run_entries, pace_of, opening}
-use Rattle.us_calendar.specs.Runs.{Round, assignments_of, rounds_on, IsOccurrence, IsSettledOnce}
+use Rattle.us_calendar.specs.Runs.{Round, assignments_of, rounds_on, after_rounds, end_after, window_end, IsOccurrence, IsSettledOnce}
 
 -- An entry of a kind and an id stands on one channel of the tables, and is one.
 abbrev pub EntriesAreApart : Type 0
@@ -17,10 +18,11 @@ EntriesAreApart = (t : Tables) → AreTables t → (c d : Channel) → Contains 
     (e f : Entry) → Contains (entries t c) e → Contains (entries t d) f → e.kind ≡ f.kind → e.id ≡ f.id →
     (c ≡ d) × (e ≡ f)
 
--- an entry, of which a grant has room in a MAP of a channel
+-- an entry, of which a grant has room in a MAP of a channel, and a poll
 pub record IsLawfulEntry (t : Tables) (c : Channel) (e : Entry) : Type 0 where
   pub entry : IsEntry e
   pub room : e.slots ≤ map_len t c
+  pub poll_room : slots_of e false ≤ map_len t c
 
 -- So is each entry of a channel of accepted tables: it has a lawful owner, a minislot and a grant at least, and a jitter
 -- below its interval.
@@ -28,14 +30,23 @@ abbrev pub EntriesAreLawful : Type 0
 EntriesAreLawful = (t : Tables) → AreTables t → (c : Channel) → Contains t.channels c →
     AllByRecursion (IsLawfulEntry t c) (entries t c)
 
--- Where the settled occurrences of an entry are the first ones, as many as there are, so they are after a round: what is
--- unsettled is all from one on. For an occurrence that waits leaves no minislot of its window to the others of its
--- interval, and the next interval begins behind the window.
+-- the first `more` of an entry are settled when a round ends, and no others
+pub record AreFirst (pace : Pace) (round : ℕ) (e : Entry) (speaks : ℕ → Bool) (settled : List ℕ) (more : ℕ) : Type 0 where
+  pub first : settled ≡ range_with_len 0 more
+  pub comes : comes e speaks more ≡ true
+  -- The windows of the next one's interval aren't over, so the next intervals, which begin behind them, haven't begun: of no
+  -- interval but this one has the kind to be kept.
+  pub not_over : end_of pace round ≤ window_end e more
+  pub later : (n : ℕ) → ideal e more < ideal e n → end_of pace round < ideal e n
+
+-- Where the settled occurrences of an entry are the first ones, as many as there are, up to one that comes, so they are after
+-- a round: what is unsettled is all from one on. For an occurrence that waits leaves no minislot of its window to the others
+-- of its interval, the next interval begins behind the window, and a poll settles its whole interval.
 abbrev pub FirstOnes : Type 0
-FirstOnes = (pace : Pace) (round count : ℕ) (e : Entry) (board : Board) → 1 ≤ e.grants → e.jitter < e.interval →
-    (more : ℕ) × ((after_settling (record { entry = e; settled = range_with_len 0 count })
-    (settle_entry pace round (record { entry = e; settled = range_with_len 0 count }) board).settlements).settled
-    ≡ range_with_len 0 more)
+FirstOnes = (pace : Pace) (round count : ℕ) (e : Entry) (speaks : ℕ → Bool) (board : Board) →
+    1 ≤ e.grants → e.jitter < e.interval → comes e speaks count ≡ true →
+    (more : ℕ) × (count ≤ more) × AreFirst pace round e speaks (range_with_len 0 count
+    ++ flat_map (closed e) (settle_entry pace round e speaks (range_with_len 0 count) board).settlements) more
 
 -- A round leaves the board with what it granted, each where it fitted, after those before it.
 abbrev pub GrantsFit : Type 0
@@ -44,14 +55,28 @@ GrantsFit = (pace : Pace) (round : ℕ) (states : List EntryState) (board : Boar
     assign_all board (flat_map assignments_of (run_entries pace round states board).settled))
     × AllFit board (flat_map assignments_of (run_entries pace round states board).settled)
 
--- Each occurrence of each entry of a channel whose window ends in a run is granted in its window or missed, once, and is
--- missed where it found no room.
+-- What is kept of an entry behind the rounds of these cuts is what the cuts say: whether its flow is active now, and whether
+-- it was in the round that holds the ideal time of the first unsettled occurrence, if that round has come.
+pub record IsAsHeard (pace : Pace) (cuts : List (List ℕ)) (state : EntryState) : Type 0 where
+  pub active : state.active ≡ activity state.entry.silence true cuts
+  pub waiting : state.waiting ≡ (if nat_lt (ideal state.entry (length state.settled)) (end_after pace (length cuts))
+      then Some (speaks_by pace cuts state.entry (ideal state.entry (length state.settled))) else None)
+
+-- So it is of all entries of a channel, after any number of rounds.
+abbrev pub KindsAsHeard : Type 0
+KindsAsHeard = (t : Tables) (c : Channel) (cuts : List (List ℕ)) (boards : List Board) → AreTables t →
+    length cuts ≡ length boards →
+    AllByRecursion (IsAsHeard (pace_of t c) cuts) (after_rounds (opening t c) cuts boards).states
+
+-- Each occurrence of each entry of a channel that comes and whose window ends in a run is granted in its window or missed,
+-- once, and is missed where it found no room. Which of them come, and how, the cuts of the run say.
 abbrev pub SettledOnce : Type 0
-SettledOnce = (t : Tables) (c : Channel) (boards : List Board) → AreTables t →
-    AllByRecursion (λ e. (n : ℕ) → IsSettledOnce (pace_of t c) (rounds_on (opening t c) boards) e n) (entries t c)
+SettledOnce = (t : Tables) (c : Channel) (cuts : List (List ℕ)) (boards : List Board) → AreTables t →
+    AllByRecursion (λ e. (n : ℕ) → IsSettledOnce (pace_of t c) (speaks_by (pace_of t c) cuts e)
+    (rounds_on (opening t c) cuts boards) e n) (entries t c)
 
 -- All that the rounds of a channel settle are occurrences of its entries.
 abbrev pub AreOccurrences : Type 0
-AreOccurrences = (t : Tables) (c : Channel) (boards : List Board) →
+AreOccurrences = (t : Tables) (c : Channel) (cuts : List (List ℕ)) (boards : List Board) →
     AllByRecursion (λ (round : Round). AllByRecursion (IsOccurrence (entries t c)) round.settled)
-    (rounds_on (opening t c) boards)
+    (rounds_on (opening t c) cuts boards)

@@ -1,6 +1,6 @@
 //! Laws of the definitions of the calendar, each as the contract of a function that does nothing.
 
-ghost use Rattle.us_calendar.specs.Laws.{AreOccurrences, EntriesAreApart, EntriesAreLawful, FirstOnes, GrantsFit, SettledOnce};
+ghost use Rattle.us_calendar.specs.Laws.{AreOccurrences, EntriesAreApart, EntriesAreLawful, FirstOnes, GrantsFit, KindsAsHeard, SettledOnce};
 
 /// An entry of a kind and an id stands on one channel, and is one.
 pub fn entries_are_apart()
@@ -12,7 +12,7 @@ pub fn entries_are_lawful()
     ensures { EntriesAreLawful }
 {}
 
-/// What is settled of an entry are its first occurrences, and so they are after a round.
+/// What is settled of an entry are its first occurrences, and so they are after a round, of which one interval is open at most.
 pub fn first_ones()
     ensures { FirstOnes }
 {}
@@ -22,7 +22,12 @@ pub fn grants_fit()
     ensures { GrantsFit }
 {}
 
-/// Each occurrence is granted in its window or missed, once, where its window ends in a run.
+/// What is kept of which flows are silent is what the cuts say.
+pub fn kinds_as_heard()
+    ensures { KindsAsHeard }
+{}
+
+/// Each occurrence that comes is granted in its window or missed, once, where its window ends in a run.
 pub fn settled_once()
     ensures { SettledOnce }
 {}

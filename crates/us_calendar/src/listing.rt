@@ -33,9 +33,10 @@ fn rank(entry: &Entry) -> (u8, u16)
 {
     let turn = match entry.kind {
         Kind::Unsolicited => 0,
-        Kind::RealTimePoll => 1,
-        Kind::NonRealTimePoll => 2,
-        Kind::Station => 3,
+        Kind::Activity => 1,
+        Kind::RealTimePoll => 2,
+        Kind::NonRealTimePoll => 3,
+        Kind::Station => 4,
     };
     (turn, entry.id)
 }
@@ -119,7 +120,7 @@ fn flow_entry(channel: &Channel, flow: &Flow) -> Option<Entry>
     }
 }
 
-/// The entry of a flow with so many grants, of so many minislots, in each interval.
+/// The entry of a flow with so many grants, of so many minislots, in each interval, whose activity nobody detects.
 fn entry_with(flow: &Flow, kind: Kind, iuc: Iuc, slots: u32, grants: u8) -> Entry
     requires flow { (t : Tables) × IsFlow t flow.now }
     requires schedule { IsSchedule flow.now.start_us flow.now.interval_us flow.now.jitter_us }
@@ -138,6 +139,7 @@ fn entry_with(flow: &Flow, kind: Kind, iuc: Iuc, slots: u32, grants: u8) -> Entr
         interval: QUARTERS_PER_US * flow.interval_us(),
         jitter: QUARTERS_PER_US * flow.jitter_us(),
         grants,
+        silence: None,
     }
 }
 
@@ -168,5 +170,6 @@ fn station_entry(channel: &Channel, station: &Station) -> Option<Entry>
         interval: QUARTERS_PER_US * station.interval_us,
         jitter: QUARTERS_PER_US * station.jitter_us,
         grants: 1,
+        silence: None,
     })
 }

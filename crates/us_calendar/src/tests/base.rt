@@ -100,7 +100,7 @@ pub(super) fn settled_next(
         return Ok(Vec::new(alloc));
     }
     let mut board = board_of(alloc, len)?;
-    calendar.run(alloc, round, &mut board)
+    calendar.run(alloc, round, &[], &mut board)
 }
 
 /// A board whose last 10 minislots are for contention, where it has 160.
