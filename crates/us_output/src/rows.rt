@@ -22,6 +22,8 @@ pub enum Row {
     Missed(MissedOccurrence),
     /// An F line.
     Final(FinalState),
+    /// An A line.
+    Activity(FinalActivity),
     /// The U line.
     Counts(TraceCounts),
 }
@@ -81,6 +83,15 @@ pub struct FinalState {
     pub outstanding: u64,
     /// The units of the flow's bucket; `None`, written `-`, for rate 0.
     pub units: Option<u64>,
+}
+
+/// The final activity of a flow that tells when it falls silent, as an A line tells it.
+#[derive(Clone, Copy, Debug, PartialEq, Eq)]
+pub struct FinalActivity {
+    /// The flow's id.
+    pub flow: u64,
+    /// 1 where it is active, 0 where it is silent.
+    pub active: u64,
 }
 
 /// How many rows of the trace were no requests, as the U line tells it: numbers of 64 bits, as all of a report.
