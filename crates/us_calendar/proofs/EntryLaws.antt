@@ -106,12 +106,12 @@ module _ {X : Type 0} (id channel : X → ℕ) (h : Channel → X → Option Ent
       (channels, entries)
 
 of_flow : (c : Channel) (f : FlowTable) (e : Entry) → entry_of_flow c f ≡ Some e →
-    (e.id ≡ f.id) × (rank_of e.kind ≤ 2)
-of_flow c f e is = subst (λ o. IfSome o (λ e. (e.id ≡ f.id) × (rank_of e.kind ≤ 2))) is (flow_made c f)
+    (e.id ≡ f.id) × (rank_of e.kind ≤ 3)
+of_flow c f e is = subst (λ o. IfSome o (λ e. (e.id ≡ f.id) × (rank_of e.kind ≤ 3))) is (flow_made c f)
 
 of_station : (c : Channel) (s : Station) (e : Entry) → entry_of_station c s ≡ Some e →
-    (e.id ≡ s.id) × (rank_of e.kind ≡ 3)
-of_station c s e is = subst (λ o. IfSome o (λ e. (e.id ≡ s.id) × (rank_of e.kind ≡ 3))) is (station_made c s)
+    (e.id ≡ s.id) × (rank_of e.kind ≡ 4)
+of_station c s e is = subst (λ o. IfSome o (λ e. (e.id ≡ s.id) × (rank_of e.kind ≡ 4))) is (station_made c s)
 
 other_kinds : (t : Tables) (c d : Channel) (e f : Entry) → IsMadeOf (entry_of_flow c) t.flows e →
     IsMadeOf (entry_of_station d) t.stations f → e.kind ≡ f.kind → ⊥

@@ -72,20 +72,20 @@ not_lower r i s j li lj h = elim (order_of s r) [
 
 -- of whose entries these are
 
-pub flow_made : (c : Channel) (f : FlowTable) → IfSome (entry_of_flow c f) (λ e. (e.id ≡ f.id) × (rank_of e.kind ≤ 2))
+pub flow_made : (c : Channel) (f : FlowTable) → IfSome (entry_of_flow c f) (λ e. (e.id ≡ f.id) × (rank_of e.kind ≤ 3))
 flow_made c f = by (slice_index f.channels 0 == c.id)
   where
-    of_kind : (k : SchedulingType) → IfSome (scheduled c f k) (λ e. (e.id ≡ f.id) × (rank_of e.kind ≤ 2))
+    of_kind : (k : SchedulingType) → IfSome (scheduled c f k) (λ e. (e.id ≡ f.id) × (rank_of e.kind ≤ 3))
     of_kind BestEffort = tt
     of_kind NonRealTimePolling = (refl, omega arith)
     of_kind RealTimePolling = (refl, omega arith)
     of_kind UnsolicitedGrant = (refl, omega arith)
 
-    by : (b : Bool) → IfSome (if b then scheduled c f f.kind else None) (λ e. (e.id ≡ f.id) × (rank_of e.kind ≤ 2))
+    by : (b : Bool) → IfSome (if b then scheduled c f f.kind else None) (λ e. (e.id ≡ f.id) × (rank_of e.kind ≤ 3))
     by true = of_kind f.kind
     by false = tt
 
-pub station_made : (c : Channel) (s : Station) → IfSome (entry_of_station c s) (λ e. (e.id ≡ s.id) × (rank_of e.kind ≡ 3))
+pub station_made : (c : Channel) (s : Station) → IfSome (entry_of_station c s) (λ e. (e.id ≡ s.id) × (rank_of e.kind ≡ 4))
 station_made c s = by (s.channel == c.id)
   where
     by : (b : Bool) → IfSome {T = Entry} (if b then Some (record {
@@ -97,7 +97,7 @@ station_made c s = by (s.channel == c.id)
       interval = quarters s.interval_us;
       jitter = quarters s.jitter_us;
       grants = 1;
-    }) else None) (λ e. (e.id ≡ s.id) × (rank_of e.kind ≡ 3))
+    }) else None) (λ e. (e.id ≡ s.id) × (rank_of e.kind ≡ 4))
     by true = (refl, refl)
     by false = tt
 
@@ -251,35 +251,35 @@ module _ (t : Tables) (c : Channel) (lawful : AreTables t) where
   abbrev pub stations_then : List Entry
   stations_then = filter_map (entry_of_station c) t.stations
 
-  flow_entries : AllByRecursion (λ e. HasId e × (rank_of e.kind ≤ 2)) flows_first
+  flow_entries : AllByRecursion (λ e. HasId e × (rank_of e.kind ≤ 3)) flows_first
   flow_entries =
-      all_made (λ f. f.id) (entry_of_flow c) (λ r. r ≤ 2) (flow_made c) t.flows (few_flows t t.flows lawful.flows)
+      all_made (λ f. f.id) (entry_of_flow c) (λ r. r ≤ 3) (flow_made c) t.flows (few_flows t t.flows lawful.flows)
 
-  station_entries : AllByRecursion (λ e. HasId e × (rank_of e.kind ≡ 3)) stations_then
+  station_entries : AllByRecursion (λ e. HasId e × (rank_of e.kind ≡ 4)) stations_then
   station_entries =
-      all_made (λ s. s.id) (entry_of_station c) (λ r. r ≡ 3) (station_made c) t.stations
+      all_made (λ s. s.id) (entry_of_station c) (λ r. r ≡ 4) (station_made c) t.stations
       (few_stations t t.stations lawful.stations)
 
   cross : AllByRecursion (λ x. AllByRecursion (λ y. eqb x y ≡ false) (map number stations_then)) (map number flows_first)
   cross =
       all_numbers (λ x. AllByRecursion (λ y. eqb x y ≡ false) (map number stations_then))
-      (λ e. HasId e × (rank_of e.kind ≤ 2))
-      (λ e is_e. all_numbers (λ y. eqb (number e) y ≡ false) (λ d. HasId d × (rank_of d.kind ≡ 3))
+      (λ e. HasId e × (rank_of e.kind ≤ 3))
+      (λ e is_e. all_numbers (λ y. eqb (number e) y ≡ false) (λ d. HasId d × (rank_of d.kind ≡ 4))
       (λ d is_d. ne_eqb (number e) (number d) (λ same. omega (arith, same, is_e.0, is_e.1, is_d.1))) stations_then
       station_entries) flows_first flow_entries
 
   pub all_ids : AllByRecursion HasId (flows_first ++ stations_then)
   all_ids =
       all-append HasId flows_first stations_then
-      (all_more (λ e. HasId e × (rank_of e.kind ≤ 2)) HasId (λ e is. is.0) flows_first flow_entries)
-      (all_more (λ e. HasId e × (rank_of e.kind ≡ 3)) HasId (λ e is. is.0) stations_then station_entries)
+      (all_more (λ e. HasId e × (rank_of e.kind ≤ 3)) HasId (λ e is. is.0) flows_first flow_entries)
+      (all_more (λ e. HasId e × (rank_of e.kind ≡ 4)) HasId (λ e is. is.0) stations_then station_entries)
 
   pub all_apart : IsDistinct eqb (map number (flows_first ++ stations_then))
   all_apart =
       rw (map-append number flows_first stations_then) (distinct-append (map number flows_first) (map number stations_then)
-      (distinct (λ f. f.id) (entry_of_flow c) (λ r. r ≤ 2) (flow_made c) t.flows
+      (distinct (λ f. f.id) (entry_of_flow c) (λ r. r ≤ 3) (flow_made c) t.flows
       (few_flows t t.flows lawful.flows) lawful.flows_apart)
-      (distinct (λ s. s.id) (entry_of_station c) (λ r. r ≡ 3) (station_made c) t.stations
+      (distinct (λ s. s.id) (entry_of_station c) (λ r. r ≡ 4) (station_made c) t.stations
       (few_stations t t.stations lawful.stations) lawful.stations_apart) cross)
 
   pub entries-are : (now : List Entry) → IsPermutation (flows_first ++ stations_then) now →
@@ -290,8 +290,8 @@ module _ (t : Tables) (c : Channel) (lawful : AreTables t) where
 
   pub entries-few : (now : List Entry) → IsPermutation (flows_first ++ stations_then) now → length now ≤ 1280
   entries-few now moved =
-      let flows = few_made (λ f. f.id) (entry_of_flow c) (λ r. r ≤ 2) (flow_made c) t.flows in
-      let stations = few_made (λ s. s.id) (entry_of_station c) (λ r. r ≡ 3) (station_made c) t.stations in
+      let flows = few_made (λ f. f.id) (entry_of_flow c) (λ r. r ≤ 3) (flow_made c) t.flows in
+      let stations = few_made (λ s. s.id) (entry_of_station c) (λ r. r ≡ 4) (station_made c) t.stations in
       let long = length-append flows_first stations_then in
       let same = length_permutation (flows_first ++ stations_then) now moved in
       omega (arith, flows, stations, long, same, lawful.few_flows, lawful.few_stations)

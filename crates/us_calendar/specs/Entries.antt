@@ -85,9 +85,10 @@ entry_of_station c s = if s.channel == c.id then Some (record {
 -- which kind goes first
 abbrev pub rank_of : Kind → ℕ
 rank_of kinds.Unsolicited = 0
-rank_of kinds.RealTimePoll = 1
-rank_of kinds.NonRealTimePoll = 2
-rank_of kinds.Station = 3
+rank_of kinds.Activity = 1
+rank_of kinds.RealTimePoll = 2
+rank_of kinds.NonRealTimePoll = 3
+rank_of kinds.Station = 4
 
 -- by kind, and each kind by id
 abbrev pub goes_before : Entry → Entry → Bool

@@ -33,9 +33,10 @@ fn rank(entry: &Entry) -> (u8, u16)
 {
     let turn = match entry.kind {
         Kind::Unsolicited => 0,
-        Kind::RealTimePoll => 1,
-        Kind::NonRealTimePoll => 2,
-        Kind::Station => 3,
+        Kind::Activity => 1,
+        Kind::RealTimePoll => 2,
+        Kind::NonRealTimePoll => 3,
+        Kind::Station => 4,
     };
     (turn, entry.id)
 }

@@ -42,6 +42,7 @@ fn by_calendar(alloc: Global, answer: &mut String, config: &Config) -> Result<()
 fn head_of(kind: Kind) -> &'static str {
     match kind {
         Kind::Unsolicited => "[[flow]]\ntype = 6\nchannels = [1]\n",
+        Kind::Activity => "[[flow]]\ntype = 5\nchannels = [1]\n",
         Kind::RealTimePoll => {
             "[[flow]]\ntype = 4\nchannels = [1]\npriority = 0\nrate = 0\nburst = 3044\nunit = 4\nheaders = true\n"
         }
@@ -59,7 +60,7 @@ fn write_owner(text: &mut String, wanted: &Wanted) -> Result<(), AllocError> {
     let grants = wanted.grants;
     match wanted.kind {
         Kind::Station => write!(text, "sid = {sid}\n"),
-        Kind::Unsolicited => write!(
+        Kind::Unsolicited | Kind::Activity => write!(
             text,
             "clusters = [[{sid}]]\ngrant_bytes = {bytes}\ngrants_per_interval = {grants}\n"
         ),
