@@ -52,6 +52,17 @@ polled_seldom :
 unfolding digits
 polled_seldom = refl
 
+-- the poll of a silent flow, and a second grant that an active one missed
+polled_silent : grant_text (record poll { round = 1; entry = words.Activity; i = 1; sid = 513 }) ≡
+    codes "G,1,1,ad,1,1,0,513,1,0,2,0\n"
+unfolding digits
+polled_silent = refl
+
+missed_active : missed_text (record { round = 2; channel = 1; entry = words.Activity; id = 1; i = 2; k = 1 }) ≡
+    codes "M,2,1,ad,1,2,1\n"
+unfolding digits
+missed_active = refl
+
 abbrev pub late_call : MissedOccurrence
 late_call = record { round = 5; channel = 1; entry = words.Unsolicited; id = 1; i = 1; k = 0 }
 

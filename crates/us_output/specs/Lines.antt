@@ -15,6 +15,7 @@ use Rattle.us_output.specs.declared.rows.TraceCounts.{TraceCounts}
 -- the word of an entry
 abbrev pub word_text : EntryWord → List ℕ
 word_text words.Unsolicited = codes "ugs"
+word_text words.Activity = codes "ad"
 word_text words.RealTimePoll = codes "rtp"
 word_text words.NonRealTimePoll = codes "nrtp"
 word_text words.Station = codes "station"

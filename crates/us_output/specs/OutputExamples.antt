@@ -12,7 +12,7 @@ use Rattle.us_calendar.specs.declared.kinds.Kind.TheVariants as kinds
 use Rattle.us_calendar.specs.declared.settled.Settled.TheVariants as settled
 use Rattle.us_channel.specs.Placements.{PlacedClaim}
 use Rattle.us_channel.specs.Maps.{elements_of, head_of}
-use Rattle.us_output.specs.Outputs.{pendings_on, by_start, rows_on, final_row, activity_rows}
+use Rattle.us_output.specs.Outputs.{pendings_on, by_start, settled_row, rows_on, final_row, activity_rows}
 use Rattle.us_output.specs.Leftovers.{still_asking}
 use Rattle.us_output.specs.declared.rows.Row.{Row}
 use Rattle.us_output.specs.declared.rows.Row.TheVariants as rows
@@ -147,6 +147,23 @@ lines_by_start : rows_on 4 (record {
 }) ≡ line 0 20 ∷ polled ∷ line 3 10 ∷ line 5 30 ∷ unmaintained ∷ []
 unfolding rows_on by_start
 lines_by_start = refl
+
+-- the poll of a silent flow, in its second interval
+polled_silent : settled_row 1 channel (settled.Granted kinds.Activity 9 1 0 0 2 (record { sid = 513; iuc = 1 })) ≡
+    rows.Granted (record {
+      round = 1;
+      channel = 1;
+      entry = words.Activity;
+      id = 9;
+      i = 1;
+      k = 0;
+      sid = 513;
+      iuc = 1;
+      start = 0;
+      slots = 2;
+      credit = 0;
+    })
+polled_silent = refl
 
 -- the turn of the flow's second cluster
 abbrev pub turn : Turn

@@ -56,6 +56,7 @@ by_start len lines = flat_map (λ start. filter (λ line. start_of line == start
 -- the word of a calendar's entry
 abbrev pub entry_word : Kind → EntryWord
 entry_word kinds.Unsolicited = words.Unsolicited
+entry_word kinds.Activity = words.Activity
 entry_word kinds.RealTimePoll = words.RealTimePoll
 entry_word kinds.NonRealTimePoll = words.NonRealTimePoll
 entry_word kinds.Station = words.Station

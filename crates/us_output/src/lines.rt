@@ -341,6 +341,7 @@ fn put_entry(line: &mut [u8; LINE_BYTES], end: usize, entry: EntryWord) -> usize
 {
     match entry {
         EntryWord::Unsolicited => put_text(line, end, b",ugs"),
+        EntryWord::Activity => put_text(line, end, b",ad"),
         EntryWord::RealTimePoll => put_text(line, end, b",rtp"),
         EntryWord::NonRealTimePoll => put_text(line, end, b",nrtp"),
         EntryWord::Station => put_text(line, end, b",station"),

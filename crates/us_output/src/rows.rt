@@ -3,6 +3,8 @@
 pub enum EntryWord {
     /// `ugs`: an unsolicited grant.
     Unsolicited,
+    /// `ad`: a grant of a flow whose activity is detected, or its poll while it is silent.
+    Activity,
     /// `rtp`: a real-time poll.
     RealTimePoll,
     /// `nrtp`: a non-real-time poll.
@@ -41,7 +43,8 @@ pub struct Grant {
     pub id: u64,
     /// The number of the interval; of a requested grant its SID cluster, 0 or 1.
     pub i: u64,
-    /// The place among the grants of the interval, 0 but for unsolicited grants.
+    /// The place among the grants of the interval, 0 but for unsolicited grants and those of a flow whose activity is
+    /// detected.
     pub k: u64,
     /// The SID.
     pub sid: u64,
@@ -68,7 +71,8 @@ pub struct MissedOccurrence {
     pub id: u64,
     /// The number of the interval.
     pub i: u64,
-    /// The place among the grants of the interval, 0 but for unsolicited grants.
+    /// The place among the grants of the interval, 0 but for unsolicited grants and those of a flow whose activity is
+    /// detected.
     pub k: u64,
 }
 

@@ -52,8 +52,9 @@ const ROWS: [Row; 7] = [
     }),
 ];
 
-const ENTRIES: [EntryWord; 5] = [
+const ENTRIES: [EntryWord; 6] = [
     EntryWord::Unsolicited,
+    EntryWord::Activity,
     EntryWord::RealTimePoll,
     EntryWord::NonRealTimePoll,
     EntryWord::Station,
@@ -69,6 +70,7 @@ A,2,0
 A,65535,18446744073709551615
 U,0,0,18446744073709551615
 M,9,2,ugs,3,4,5
+M,9,2,ad,3,4,5
 M,9,2,rtp,3,4,5
 M,9,2,nrtp,3,4,5
 M,9,2,station,3,4,5
