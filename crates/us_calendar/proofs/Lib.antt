@@ -14,6 +14,7 @@ pub mod AgendaLemmas
 pub mod HearingLemmas
 pub mod NotedLemmas
 pub mod RunLaws
+pub mod ListingLemmas
 pub mod OrderLemmas
 pub mod FitLaws
 pub mod OnceLemmas

@@ -1,5 +1,5 @@
 -- What a channel's calendar has (ours, where nothing else is said): unsolicited grants, polls and station maintenance.
-use Rattle.std.specs.Prelude.{ℕ, ◌*◌, ◌<◌, ◌≤◌, ◌==◌, nat_lt, ◌&&◌, ◌||◌, Bool, false, if◌then◌else◌, List, [], ◌++◌, length, flat_map, filter, filter_map, count_by, slice_get, slice_index, Option, Some, None, unwrap_or}
+use Rattle.std.specs.Prelude.{ℕ, ◌+◌, ◌*◌, ◌<◌, ◌≤◌, ◌==◌, nat_lt, ◌&&◌, ◌||◌, Bool, false, if◌then◌else◌, List, [], ◌∷◌, ◌++◌, length, flat_map, filter, filter_map, count_by, slice_get, slice_index, Option, Some, None, unwrap_or}
 use Rattle.std.specs.List.{range_with_len}
 use Rattle.us_slots.specs.Bursts.{burst_cost}
 use Rattle.us_slots.specs.UsageCodes as codes
@@ -7,8 +7,9 @@ use Rattle.us_flows.specs.Ranges.{max_grants, max_us}
 use Rattle.us_flows.specs.declared.channels.Channel.{Channel}
 use Rattle.us_flows.specs.declared.stations.Station.{Station}
 use Rattle.us_flows.specs.declared.flows.SchedulingType.{SchedulingType}
-use Rattle.us_flows.specs.declared.flows.SchedulingType.TheVariants.{BestEffort, NonRealTimePolling, RealTimePolling, UnsolicitedGrant}
+use Rattle.us_flows.specs.declared.flows.SchedulingType.TheVariants.{BestEffort, NonRealTimePolling, RealTimePolling, ActivityDetection, UnsolicitedGrant}
 use Rattle.us_flows.specs.Tables.{Tables, FlowTable}
+use Rattle.us_flows.specs.Clusters.{words_in}
 use Rattle.us_holes.specs.Boards.{Owner, IsOwner}
 use Rattle.us_calendar.specs.declared.kinds.Kind.{Kind}
 use Rattle.us_calendar.specs.declared.kinds.Kind.TheVariants as kinds
@@ -59,9 +60,20 @@ pub record IsEntry (e : Entry) : Type 0 where
 abbrev pub first_sid : FlowTable → ℕ
 first_sid f = slice_index (unwrap_or (slice_get f.clusters 0) []) 0
 
--- the entry of a flow with so many grants, of so many minislots, in each interval, whose activity nobody detects
-abbrev pub flow_entry : FlowTable → Kind → ℕ → ℕ → ℕ → Entry
-flow_entry f kind iuc slots grants = record {
+-- a flow, and the number of its first word
+pub record WordedFlow : Type 0 where
+  pub word : ℕ
+  pub flow : FlowTable
+
+-- flows in table order, of which the first one's words begin with this number
+abbrev pub with_words : ℕ → List FlowTable → List WordedFlow
+with_words word [] = []
+with_words word (flow ∷ flows) =
+    record { word = word; flow = flow } ∷ with_words (word + length (words_in flow)) flows
+
+-- the entry of a flow with so many grants, of so many minislots, in each interval
+abbrev pub flow_entry : FlowTable → Kind → ℕ → ℕ → ℕ → Option Silence → Entry
+flow_entry f kind iuc slots grants silence = record {
   kind = kind;
   id = f.id;
   owner = record { sid = first_sid f; iuc = iuc };
@@ -70,21 +82,29 @@ flow_entry f kind iuc slots grants = record {
   interval = quarters f.interval_us;
   jitter = quarters f.jitter_us;
   grants = grants;
-  silence = None;
+  silence = silence;
 }
 
--- an unsolicited grant has the cost of its bytes in the unsolicited profile; a poll is a request region of one SID
-abbrev pub scheduled : Channel → FlowTable → SchedulingType → Option Entry
-scheduled c f BestEffort = None
-scheduled c f NonRealTimePolling = Some (flow_entry f kinds.NonRealTimePoll codes.request c.request_minislots 1)
-scheduled c f RealTimePolling = Some (flow_entry f kinds.RealTimePoll codes.request c.request_minislots 1)
-scheduled c f UnsolicitedGrant =
-    Some (flow_entry f kinds.Unsolicited codes.unsolicited_grant
-    (burst_cost c.bursts.time c.bursts.unsolicited f.grant_bytes) f.grants_per_interval)
+-- an unsolicited grant has the cost of its bytes in the unsolicited profile,
+abbrev pub grant_cost : Channel → FlowTable → ℕ
+grant_cost c f = burst_cost c.bursts.time c.bursts.unsolicited f.grant_bytes
+
+-- and a poll is a request region of one SID; a flow whose activity is detected has the one while it is active, and the other
+-- while it is silent
+abbrev pub scheduled : Channel → ℕ → FlowTable → SchedulingType → Option Entry
+scheduled c word f BestEffort = None
+scheduled c word f NonRealTimePolling =
+    Some (flow_entry f kinds.NonRealTimePoll codes.request c.request_minislots 1 None)
+scheduled c word f RealTimePolling = Some (flow_entry f kinds.RealTimePoll codes.request c.request_minislots 1 None)
+scheduled c word f ActivityDetection =
+    Some (flow_entry f kinds.Activity codes.unsolicited_grant (grant_cost c f) f.grants_per_interval
+    (Some (record { word = word; slots = c.request_minislots })))
+scheduled c word f UnsolicitedGrant =
+    Some (flow_entry f kinds.Unsolicited codes.unsolicited_grant (grant_cost c f) f.grants_per_interval None)
 
 -- the entry of a flow on a channel: it stands on the flow's first channel alone
-abbrev pub entry_of_flow : Channel → FlowTable → Option Entry
-entry_of_flow c f = if slice_index f.channels 0 == c.id then scheduled c f f.kind else None
+abbrev pub entry_of_flow : Channel → WordedFlow → Option Entry
+entry_of_flow c f = if slice_index f.flow.channels 0 == c.id then scheduled c f.word f.flow f.flow.kind else None
 
 -- and that of a station: its maintenance
 abbrev pub entry_of_station : Channel → Station → Option Entry
@@ -119,4 +139,4 @@ in_order es =
 
 -- the entries of a channel
 unfoldable pub entries : Tables → Channel → List Entry
-entries t c = in_order (filter_map (entry_of_flow c) t.flows ++ filter_map (entry_of_station c) t.stations)
+entries t c = in_order (filter_map (entry_of_flow c) (with_words 0 t.flows) ++ filter_map (entry_of_station c) t.stations)

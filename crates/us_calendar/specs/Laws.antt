@@ -1,11 +1,13 @@
 -- Laws of entries and of settling.
-use Rattle.std.specs.Prelude.{◌≡◌, ℕ, ◌+◌, ◌<◌, ◌≤◌, ◌++◌, Bool, true, false, List, length, flat_map, if◌then◌else◌, nat_lt, Some, None}
+use Rattle.std.specs.Prelude.{◌≡◌, ℕ, ◌+◌, ◌<◌, ◌≤◌, ◌++◌, Bool, true, false, List, length, flat_map, if◌then◌else◌, nat_lt, Some, None, slice_get}
 use Rattle.std.specs.List.{AllByRecursion, Contains, range_with_len}
 use Rattle.us_flows.specs.declared.channels.Channel.{Channel}
-use Rattle.us_flows.specs.Tables.{Tables, map_len}
+use Rattle.us_flows.specs.Tables.{Tables, FlowTable, map_len}
+use Rattle.us_flows.specs.Clusters.{Silent, Active, words_of}
 use Rattle.us_flows.specs.Lawful.{AreTables}
 use Rattle.us_holes.specs.Boards.{Board, assign_all, AllFit}
 use Rattle.us_calendar.specs.Entries.{Entry, IsEntry, slots_of, entries}
+use Rattle.us_calendar.specs.declared.silences.Silence.{Silence}
 use Rattle.us_calendar.specs.Occurrences.{Pace, ideal, end_of, comes}
 use Rattle.us_calendar.specs.Activity.{activity, speaks_by}
 use Rattle.us_calendar.specs.Settling.{EntryState, settle_entry, closed}
@@ -29,6 +31,13 @@ pub record IsLawfulEntry (t : Tables) (c : Channel) (e : Entry) : Type 0 where
 abbrev pub EntriesAreLawful : Type 0
 EntriesAreLawful = (t : Tables) → AreTables t → (c : Channel) → Contains t.channels c →
     AllByRecursion (IsLawfulEntry t c) (entries t c)
+
+-- Where the activity of an entry's flow is detected, its words are those of a flow with the entry's id: one that marks the
+-- flow as silent, and behind it one that marks it as active.
+abbrev pub EntriesHaveWords : Type 0
+EntriesHaveWords = (t : Tables) → AreTables t → (c : Channel) (e : Entry) (s : Silence) → Contains (entries t c) e →
+    e.silence ≡ Some s → (flow : FlowTable) × (flow.id ≡ e.id) × (slice_get (words_of t) s.word ≡ Some (Silent flow))
+    × (slice_get (words_of t) (s.word + 1) ≡ Some (Active flow))
 
 -- the first `more` of an entry are settled when a round ends, and no others
 pub record AreFirst (pace : Pace) (round : ℕ) (e : Entry) (speaks : ℕ → Bool) (settled : List ℕ) (more : ℕ) : Type 0 where

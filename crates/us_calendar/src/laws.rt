@@ -1,6 +1,6 @@
 //! Laws of the definitions of the calendar, each as the contract of a function that does nothing.
 
-ghost use Rattle.us_calendar.specs.Laws.{AreOccurrences, EntriesAreApart, EntriesAreLawful, FirstOnes, GrantsFit, KindsAsHeard, SettledOnce};
+ghost use Rattle.us_calendar.specs.Laws.{AreOccurrences, EntriesAreApart, EntriesAreLawful, EntriesHaveWords, FirstOnes, GrantsFit, KindsAsHeard, SettledOnce};
 
 /// An entry of a kind and an id stands on one channel, and is one.
 pub fn entries_are_apart()
@@ -10,6 +10,11 @@ pub fn entries_are_apart()
 /// Entries of accepted tables are lawful, and their grants have room in a MAP.
 pub fn entries_are_lawful()
     ensures { EntriesAreLawful }
+{}
+
+/// An entry whose activity is detected has the words of its flow.
+pub fn entries_have_words()
+    ensures { EntriesHaveWords }
 {}
 
 /// What is settled of an entry are its first occurrences, and so they are after a round, of which one interval is open at most.
