@@ -128,6 +128,14 @@ def clusters_on(chance, channels, used):
     return clusters
 
 
+def min_rate(chance, rate):
+    """The line of a minimum rate, which is at most `rate` where that is a limit; or none."""
+    most = rate or 10**9
+    found = chance.choice([None, None, 0, 1, most, min(most, 1280000), chance.randint(0, min(most, 10**6)),
+                           chance.randint(0, min(most, 10**8)), chance.randint(0, most)])
+    return "" if found is None else f"min_rate = {found}\n"
+
+
 def flow_table(chance, id, channels, clusters, levels):
     rate = chance.choice([0, 0, chance.randint(1, 2000), chance.randint(10**5, 10**7), 1280000,
                           chance.randint(10**6, 10**9), 10**9, 1])
@@ -145,7 +153,7 @@ rate = {rate}
 burst = {burst}
 unit = {unit}
 headers = {headers}
-"""
+{min_rate(chance, rate)}"""
 
 
 def config(chance, channels=None, flows=None, logs=None, round_ticks=None, reserved=None):

@@ -29,7 +29,7 @@ LONGEST_LINE = 240
 LIMITS = [1, 2, 4, 6, 7, 15, 16, 64, 100, 127, 160, 223, 253, 255, 256, 320, 640, 1_024, 3_600, 4_096, 10_000, 15_871]
 LIMITS += [20_000, 40_000, 65_535, 65_536, 10_000_000, 16_777_216, 1_000_000_000, 2**32, 2**63]
 OTHER_KINDS = ["1.0", "'1'", "[1]", "{}", "true", "2000-01-01", "[[1]]", "[]"]
-KEYS = ["other", "priority", "start_us", "grant_bytes", "sid", "id", "max_minislots", "channel"]
+KEYS = ["other", "priority", "start_us", "grant_bytes", "sid", "id", "max_minislots", "channel", "min_rate"]
 # a key of a table and its value: a list, or a word or number
 PAIR = re.compile(r"\b(\w+) = (\[.*\]|[\w.-]+)")
 

@@ -20,6 +20,8 @@ the first six are written.
   ten_calls        1 channel, 10 unsolicited flows: one has a grant in each round, the others start after the end of the
                    run; 3,000 rounds
   thousand_calls   the same with 1,000 unsolicited flows
+  reserved         as data, and every other flow has a minimum rate, a quarter of its rate; 1,000,000 requests,
+                   50,000 rounds
   greatest_tables  16 channels, 1,024 flows of 8 channels and 2 clusters, 256 stations; 0 rounds, so mapsim reads the
                    tables and answers fault RU1
 """
@@ -153,15 +155,16 @@ class RandomPlant:
         self.tables.append(f"[[flow]]\nid = {id}\ntype = 6\nchannels = [{channel}]\nclusters = [[{sid}]]\n"
                            f"grant_bytes = {grant_bytes}\ngrants_per_interval = {calls}\n{times}")
 
-    def add_data(self, id, type, channels, clusters, rate, burst):
+    def add_data(self, id, type, channels, clusters, rate, burst, min_rate=0):
         """A flow that makes requests, with polls where it isn't of best effort."""
         sids = [[self.next_sid(channel) for channel in channels] for _ in range(clusters)]
         unit = 2 ** self.random.randint(0, 4)
         priority = self.random.randint(0, 7)
         polls = self.times(5_000, 40_000, 2_000) if type != 2 else ""
+        minimum = f"min_rate = {min_rate}\n" if min_rate > 0 else ""
         self.tables.append(f"[[flow]]\nid = {id}\ntype = {type}\nchannels = {channels}\nclusters = {sids}\n"
                            f"priority = {priority}\nrate = {rate}\nburst = {burst}\nunit = {unit}\n"
-                           f"headers = true\n{polls}")
+                           f"headers = true\n{minimum}{polls}")
         self.asking += [(channels[0], cluster[0], 3_000 // unit) for cluster in sids]
 
     def bonded(self, least, most):
@@ -277,6 +280,14 @@ def calls(count):
     return Load(TOP + PLAIN_CHANNEL.format(id=1) + "".join(flows), 3_000, 0, no_rows)
 
 
+def reserved():
+    plant = RandomPlant(16)
+    for number in range(1_000):
+        channels, rate = plant.bonded(4, 8), plant.rate()
+        plant.add_data(number + 1, 2, channels, 1, rate, plant.burst(), number % 2 * rate // 4)
+    return plant.load(50_000, 1_000_000)
+
+
 def greatest_tables():
     channels = [PLAIN_CHANNEL.format(id=id) for id in range(1, 17)]
     flows = [GREATEST_FLOW.format(id=id, clusters=[[2 * id - 1] * 8, [2 * id] * 8], priority=id % 8)
@@ -292,6 +303,7 @@ LOADS = {
     "twelve_flows": twelve_flows,
     "ten_calls": lambda: calls(10),
     "thousand_calls": lambda: calls(1_000),
+    "reserved": reserved,
     "greatest_tables": greatest_tables,
 }
 

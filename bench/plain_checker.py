@@ -5,8 +5,8 @@
 
 It is written from the rules alone and shares nothing with the crates; so where the two answers differ, one of them is
 wrong. What a burst costs and what a trace asks for is as bench/plain_scheduler.py has it, which knows no activity
-detection and no minimum rates. It looks at every minislot, every occurrence and every span of rounds, so the runs
-should be short. The trace and the number of rounds have to be accepted ones, and the trace without quotes; a refused
+detection. No rule asks how a round was planned, so minimum rates are nothing to it. It looks at every minislot, every
+occurrence and every span of rounds, so the runs should be short. The trace and the number of rounds have to be accepted ones, and the trace without quotes; a refused
 configuration is told as bench/plain_reader.py finds it.
 
 Status 0: `holds`; 1: `broken` and where; 3: a fault, on standard error.

@@ -70,6 +70,7 @@ REQUESTS = {
     "priority": number(0, 7), "rate": number(0, 1_000_000_000), "burst": number(1, 16_777_216),
     "unit": one_of(1, 2, 4, 8, 16), "headers": flag,
 }
+MIN_RATE = {"min_rate": number(0, 1_000_000_000)}
 GRANTS = {"grant_bytes": number(1, 65_535), "grants_per_interval": number(1, 127)}
 
 
@@ -82,6 +83,11 @@ def flow_keys(kind):
         "clusters": items(1, most_clusters, items(0, sys.maxsize, SID)),
     }
     return keys | (GRANTS if kind == 6 else REQUESTS) | (TIMES if kind != 2 else {})
+
+
+def optional_keys(kind):
+    """Those that a flow of this type may have or not."""
+    return {} if kind == 6 else MIN_RATE
 
 
 def lacks(keys, found):
@@ -145,7 +151,7 @@ def judge_flow(place, document, earlier, flow):
     refuse_if(not one_of(*TYPES)(flow["type"]), "C3", place)
     kind, keys = flow["type"], flow_keys(flow["type"])
     refuse_if(lacks(keys, flow), "C2", place)
-    refuse_if(strays(keys, flow), "C3", place)
+    refuse_if(strays(keys | optional_keys(kind), flow), "C3", place)
     by_id = {channel["id"]: channel for channel in document["channel"]}
     ids = flow["channels"]
     refuse_if(any(number not in by_id for number in ids), "C4", place)
@@ -160,6 +166,7 @@ def judge_flow(place, document, earlier, flow):
         slots = cost(first, first["unsolicited"], flow["grant_bytes"])
     refuse_if(slots > map_len(document, first), "C11", place)
     refuse_if(kind != 6 and not flow["headers"] and len(ids) > 1, "C12", place)
+    refuse_if(kind != 6 and 0 < flow["rate"] < flow.get("min_rate", 0), "C14", place)
 
 
 def judge_station(place, document, earlier, station):

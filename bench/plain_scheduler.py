@@ -1,5 +1,5 @@
 #!/usr/bin/env python3
-"""A second scheduler, from the rules alone, without activity detection and minimum rates.
+"""A second scheduler, from the rules alone, without activity detection.
   bench/plain_scheduler.py CONFIG TRACE ROUNDS MAPS REPORT   writes the maps file and the report, and prints the summary
 
 It shares nothing with the crates, and is compared with mapsim by bench/compare_schedulers.py."""
@@ -157,6 +157,60 @@ def divide(x, weights):
     assert sum(shares) == x
     return shares
 
+class Budgets:
+    """What may still be granted in a round: minislots by channel, bytes by flow (None without limit)."""
+    def __init__(self, by_id, boards, allowance):
+        self.by_id, self.allowance = by_id, allowance
+        self.slots = {c: boards[c].idle() for c in by_id}
+    def share(self, f, fi, demand, firsts, h):
+        """What a turn gets on each channel of its flow, beside what it has there."""
+        if self.allowance[fi] is not None:
+            demand = min(demand, self.allowance[fi])
+        weights = [max(self.by_id[c].capacity(self.slots[c]) - h - first, 0) for c, first in zip(f["channels"], firsts)]
+        more = divide(demand, weights)
+        if self.allowance[fi] is not None:
+            self.allowance[fi] -= sum(more)
+        for c, first, second in zip(f["channels"], firsts, more):
+            if first + second:
+                self.slots[c] -= self.by_id[c].grant_cost(first + second + h)[0]
+                assert self.slots[c] >= 0
+        return demand, weights, more
+
+def plan(table, r, by_id, boards, turns, outstanding, units, reserve_units, notes, seen):
+    """The shares of a round, turn by turn: first what minimum rates reserve, then all the rest. Spends the reserves."""
+    flows = table.get("flow", [])
+    budgets = Budgets(by_id, boards, [units[i] // BYTE if f.get("rate") else None for i, f in enumerate(flows)])
+    reserved = {}
+    for fi, ci in turns:
+        f = flows[fi]
+        reserved[fi, ci] = [0] * len(f["channels"])
+        if not f.get("min_rate"):
+            continue
+        h = 8 if f["headers"] else 0
+        most = min(outstanding[fi, ci], reserve_units[fi] // BYTE)
+        seen["reserves below what is outstanding"] += 0 < most < outstanding[fi, ci]
+        seen["reserves above what is outstanding"] += 0 < outstanding[fi, ci] < reserve_units[fi] // BYTE
+        _, _, reserved[fi, ci] = budgets.share(f, fi, most, reserved[fi, ci], h)
+        given = sum(reserved[fi, ci])
+        seen["first shares"] += given > 0
+        seen["first shares short of what is reserved"] += given < most
+        reserve_units[fi] -= given * BYTE
+        assert reserve_units[fi] >= 0
+    planned = []
+    for fi, ci in turns:
+        f, firsts = flows[fi], reserved[fi, ci]
+        h = 8 if f["headers"] else 0
+        for c, first in zip(f["channels"], firsts):
+            if first:
+                budgets.slots[c] += by_id[c].grant_cost(first + h)[0]
+                seen["first shares that keep their short cost alone"] += by_id[c].capacity(budgets.slots[c]) - h < first
+        demand, weights, more = budgets.share(f, fi, outstanding[fi, ci] - sum(firsts), firsts, h)
+        seen["second shares on first ones"] += any(a and b for a, b in zip(firsts, more))
+        if notes is not None and demand + sum(firsts):
+            notes.append((r, f["id"], ci, demand, weights, [a + b for a, b in zip(firsts, more)]))
+        planned += [(fi, ci, at, c, a + b) for at, (c, a, b) in enumerate(zip(f["channels"], firsts, more)) if a + b]
+    return planned
+
 def requests(table, trace_text, rounds):
     """What a trace asks for: bytes by round and turn, a flow's place and a cluster, and how many of its rows are
     unknown, not requestable and late."""
@@ -197,6 +251,7 @@ def simulate(config_text, trace_text, rounds, notes=None, seen=None):
     turns = [(fi, ci) for fi, f in enumerate(flows) if f["type"] != 6 for ci in range(len(f["clusters"]))]
     outstanding = {t: 0 for t in turns}
     units = [f["burst"] * BYTE if f["type"] != 6 else 0 for f in flows]
+    reserve_units = list(units)
     turns.sort(key=lambda t: (-flows[t[0]]["priority"], flows[t[0]]["id"], t[1]))
     cuts, (unknown, not_requestable, late) = requests(table, trace_text, rounds)
     maps, report, granted, missed = bytearray(), [], 0, 0
@@ -207,6 +262,8 @@ def simulate(config_text, trace_text, rounds, notes=None, seen=None):
             for i, f in enumerate(flows):
                 if f.get("rate"):
                     units[i] = min(units[i] + P * f["rate"], f["burst"] * BYTE)
+                if f.get("min_rate"):
+                    reserve_units[i] = min(reserve_units[i] + P * f["min_rate"], f["burst"] * BYTE)
         boards = {}
         grants, misses = defaultdict(list), defaultdict(list)
         for c in channels:
@@ -217,27 +274,7 @@ def simulate(config_text, trace_text, rounds, notes=None, seen=None):
                 board.put(c.len - c.t["contention_minislots"], c.t["contention_minislots"], 0x3fff, 1)
             for entry in calendars[c.id]:
                 settle(entry, r, c, board, grants[c.id], misses[c.id], seen)
-        # plan
-        budget = {c.id: boards[c.id].idle() for c in channels}
-        allowance = [units[i] // BYTE if f.get("rate") else None for i, f in enumerate(flows)]
-        planned = []
-        for fi, ci in turns:
-            f = flows[fi]
-            h = 8 if f["headers"] else 0
-            demand = outstanding[fi, ci]
-            if allowance[fi] is not None:
-                demand = min(demand, allowance[fi])
-            weights = [max(by_id[c].capacity(budget[c]) - h, 0) for c in f["channels"]]
-            shares = divide(demand, weights)
-            if notes is not None and demand:
-                notes.append((r, f["id"], ci, demand, weights, shares))
-            if allowance[fi] is not None:
-                allowance[fi] -= sum(shares)
-            for at, (c, share) in enumerate(zip(f["channels"], shares)):
-                if share:
-                    budget[c] -= by_id[c].grant_cost(share + h)[0]
-                    assert budget[c] >= 0
-                    planned.append((fi, ci, at, c, share))
+        planned = plan(table, r, by_id, boards, turns, outstanding, units, reserve_units, notes, seen)
         # place
         credited = defaultdict(int)
         for fi, ci, at, c, share in planned:

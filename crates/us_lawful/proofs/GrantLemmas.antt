@@ -11,7 +11,7 @@ use Rattle.us_flows.specs.Clusters.{Turn, IsTurnIn, has_sid, requesting}
 use Rattle.us_flows.specs.Lawful.{AreTables}
 use Rattle.us_flows.proofs.KeyLaws.{place_of_key}
 use Rattle.us_flows.proofs.TurnLaws.{one_turn}
-use Rattle.us_bucket.specs.Levels.{bytes_in}
+use Rattle.us_bucket.specs.Levels.{bytes_in, reserve_in}
 use Rattle.us_split.specs.Plans.{Planned}
 use Rattle.us_split.specs.Claims.{Claim, claimant_of, claims_on}
 use Rattle.us_split.specs.Laws.{IsOfTurn}
@@ -107,9 +107,11 @@ built_claims s plan f lawful same is =
     record {
       claims = claims;
       turns = subst (λ p. AllByRecursion (IsOfTurn s.tables c) (claims_on c p)) (sym same)
-          (claims_are_of_turns s.tables s.outstanding (map bytes_in s.buckets) (idle (fills_of s)) c lawful);
+          (claims_are_of_turns s.tables s.outstanding (map bytes_in s.buckets) (map reserve_in s.reserves) (idle (fills_of s))
+          c lawful);
       once = λ number. subst (λ p. count_by (λ claim. claim.claimant.cluster == number) (claims_on c p) ≤ 1) (sym same)
-          (clusters_claim_once s.tables s.outstanding (map bytes_in s.buckets) (idle (fills_of s)) c number);
+          (clusters_claim_once s.tables s.outstanding (map bytes_in s.buckets) (map reserve_in s.reserves) (idle (fills_of s))
+          c number);
       grants = grants_are_of_claims c.bursts f.board claims is.channel.bursts (claims_some c plan);
     }
 

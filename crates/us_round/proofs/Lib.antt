@@ -11,6 +11,7 @@ pub mod ReserveLemmas
 pub mod CoreLemmas
 pub mod SoundLemmas
 pub mod ScheduleLaws
+pub mod OnePassLaws
 pub mod ChannelRunLaws
 pub mod RoundLemmas
 pub mod StageLemmas

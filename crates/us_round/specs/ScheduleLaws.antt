@@ -4,15 +4,17 @@ use Rattle.std.specs.List.{AllByRecursion, range_with_len}
 use Rattle.us_codec.specs.Bodies.{IsMapBody}
 use Rattle.us_flows.specs.declared.channels.Channel.{Channel}
 use Rattle.us_flows.specs.Tables.{Tables, map_len, rounds_fit}
-use Rattle.us_flows.specs.Clusters.{clusters_of}
+use Rattle.us_flows.specs.Clusters.{clusters_of, turns_of}
 use Rattle.us_flows.specs.Lawful.{AreTables}
+use Rattle.us_bucket.specs.Levels.{bytes_in}
 use Rattle.us_holes.specs.Boards.{Board}
+use Rattle.us_split.specs.Plans.{ledger_of, plan_of}
 use Rattle.us_calendar.specs.Calendars as calendars
 use Rattle.us_calendar.specs.Runs.{rounds_on}
 use Rattle.us_calendar.specs.declared.settled.Settled.{Settled}
 use Rattle.us_channel.specs.Reserves.{reserves}
 use Rattle.us_channel.specs.Placements.{credits}
-use Rattle.us_round.specs.Rounds.{State, opening, begun, builds_of, ended, round_of, schedule, final, all_grants, is_of_cluster}
+use Rattle.us_round.specs.Rounds.{State, opening, begun, fills_of, idle, round_plan, builds_of, ended, round_of, schedule, final, all_grants, is_of_cluster}
 use Rattle.us_output.specs.Outputs.{Scheduled, built_map}
 use Rattle.us_round.specs.States.{IsState, AreSound}
 
@@ -44,6 +46,16 @@ AreCuts t cuts = AllByRecursion (λ cut. length cut ≡ length (clusters_of t)) 
 abbrev pub RoundsAreSound : Type 0
 RoundsAreSound = (t : Tables) (cuts : List (List ℕ)) → AreTables t → AreCuts t cuts →
     AllByRecursion (λ state. IsState state × AreSound state (builds_of state)) (begun_rounds (opening t) cuts)
+
+-- the plan of a round that has begun is that of one pass, in which each turn has what the turns before it left
+abbrev pub IsPlannedOnce : State → Type 0
+IsPlannedOnce s =
+    round_plan s ≡ plan_of s.outstanding (ledger_of s.tables (map bytes_in s.buckets) (idle (fills_of s))) (turns_of s.tables)
+
+-- Where no flow has a minimum rate, every round from the opening on is planned so.
+abbrev pub OnePassDoes : Type 0
+OnePassDoes = (t : Tables) (cuts : List (List ℕ)) → AllByRecursion (λ flow. flow.min_rate ≡ 0) t.flows → AreCuts t cuts →
+    AllByRecursion IsPlannedOnce (begun_rounds (opening t) cuts)
 
 -- A round's channels are those of the tables.
 abbrev pub ChannelsStay : Type 0

@@ -1,6 +1,6 @@
 //! Laws of the schedule, each as the contract of a function that does nothing.
 
-ghost use Rattle.us_round.specs.ScheduleLaws.{BytesAreKept, CalendarsRun, ChannelsStay, MapsAreLawful, RoundsAreNumbered, RoundsAreSound, ScheduleIsOfBegunRounds, TablesStay};
+ghost use Rattle.us_round.specs.ScheduleLaws.{BytesAreKept, CalendarsRun, ChannelsStay, MapsAreLawful, OnePassDoes, RoundsAreNumbered, RoundsAreSound, ScheduleIsOfBegunRounds, TablesStay};
 
 /// A schedule is what its rounds come to, each from the state that it begins with. They are numbered one after another,
 /// and are of the same tables.
@@ -13,6 +13,11 @@ pub fn rounds_follow_on()
 /// Every round from the opening on is sound.
 pub fn rounds_are_sound()
     ensures { RoundsAreSound }
+{}
+
+/// Where no flow has a minimum rate, every round from the opening on is planned in one pass.
+pub fn one_pass_does()
+    ensures { OnePassDoes }
 {}
 
 /// A round's channels are those of the tables, and the calendar of each goes over the boards of its reserves, whatever the

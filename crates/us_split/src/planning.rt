@@ -20,8 +20,9 @@ use us_slots::NoMemory;
 /// the idle minislots of each channel, in table order.
 ///
 /// First each turn asks for the outstanding bytes of its cluster, as far as its flow's reserve and allowance go, and
-/// they are divided over its channels by what these can carry in the minislots that the turns before it left. Then each
-/// asks for the rest, as far as its flow's allowance goes, and has what that and its first shares take together.
+/// they are divided over its channels by what these can carry in the minislots that the turns before it left. So a flow
+/// of which nothing is reserved, as one without a minimum rate, has no part in it. Then each asks for the rest, as far as
+/// its flow's allowance goes, and has what that and its first shares take together.
 #[tactic(auto, using(crate::proofs::TwoPassLaws::plan_facts))]
 pub fn plan(
     alloc: Global,
@@ -37,7 +38,8 @@ pub fn plan(
     ensures value { IfOk result (λ plan. plan.claims ≡
         all_claims config.now (plan_for config.now outstanding.now allowances.now reserves.now idle.now)) }
 
-    // What it takes of each flow's reserve.
+    // What it takes of each flow's reserve; it tells that of the table's flows and of no others.
+    ensures flows { IfOk result (λ plan. length plan.reserved ≡ length config.now.flows) }
     ensures reserved { IfOk result (λ plan. (flow : ℕ) → flow < length config.now.flows →
         slice_index plan.reserved flow ≡
         reserved_for config.now outstanding.now allowances.now reserves.now idle.now flow) }
@@ -76,7 +78,8 @@ fn taken_of(
     left: &[u64],
     flows: usize,
 ) -> Result<Vec<u64>, NoMemory>
-    ensures { IfOk result (λ taken. (flow : ℕ) → flow < flows →
+    ensures one_each { IfOk result (λ taken. length taken.items ≡ flows) }
+    ensures taken { IfOk result (λ taken. (flow : ℕ) → flow < flows →
         slice_index taken.items flow ≡ slice_index reserves.now flow - slice_index left.now flow) }
 {
     let mut taken = Vec::with_capacity(alloc, flows)?;

@@ -74,7 +74,7 @@ returns-clause-reserved c = λ flow within.
     omega (
       arith,
       ap (λ xs. slice_index xs flow) c.new-2.ensures.reserved,
-      c.in_ok-reserved.ensures flow (omega (arith, within, ap length c.flows-flows.ensures.value)),
+      c.in_ok-reserved.ensures.taken flow (omega (arith, within, ap length c.flows-flows.ensures.value)),
       ap (λ xs. slice_index xs flow) (c.deref-2.ensures.value ∙ with_items_is c.in_ok-left.left c.plan.new.reserves long),
       c.in_ok-plan.ensures.reserves c.args.allowances.now c.args.reserves.now agree flow,
       ap (λ xs. slice_index xs flow) held,
