@@ -32,7 +32,7 @@ pub record AreBytes (outstanding left : List ℕ) : Type 0 where
 pub record AreAskers (t : Tables) (numbers : List ℕ) (places : List (Option ℕ)) (outstanding left list : List ℕ)
     (room pending_room : ℕ) : Type 0 where
   pub words : length outstanding ≡ length (words_of t)
-  pub numbers : numbers ≡ numbers_of (turns_of t)
+  pub of_turns : numbers ≡ numbers_of (turns_of t)
   pub turns : ArePlaces (length outstanding) numbers places
   pub bytes : AreBytes outstanding left
   pub requested : requested_in (words_of t) outstanding ≡ outstanding

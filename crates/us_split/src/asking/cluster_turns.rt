@@ -2,7 +2,7 @@ ghost use Rattle.std.specs.Prelude.{◌≡◌, ℕ, ◌<◌, ◌≤◌, None, le
 ghost use Rattle.std.specs.List.{AllByRecursion};
 ghost use Rattle.us_flows.specs.Clusters.{turns_of};
 ghost use Rattle.us_split.specs.Asking as spec;
-ghost use Rattle.us_split.specs.Askers.{AreOnce, IsPlaceOf};
+ghost use Rattle.us_split.specs.Askers.{IsPlaceOf};
 
 use std::alloc::Global;
 use us_flows::Config;
@@ -20,7 +20,7 @@ pub(super) fn numbers_of(alloc: Global, config: &Config) -> Result<Vec<u16>, NoM
     Ok(numbers)
 }
 
-/// Where each of so many words stands among these numbers, of which none stands twice.
+/// Where the number of each of so many words stands among these numbers.
 pub(super) fn places_of(
     alloc: Global,
     numbers: &[u16],
@@ -28,7 +28,6 @@ pub(super) fn places_of(
 ) -> Result<Vec<Option<u16>>, NoMemory>
     requires few { length numbers.now ≤ 65536 }
     requires below { AllByRecursion (λ n. n < words) numbers.now }
-    requires once { AreOnce numbers.now }
     ensures one_each { IfOk result (λ places. length places.items ≡ words) }
     ensures found { IfOk result (λ places. (n : ℕ) → n < words →
         IsPlaceOf numbers.now n (slice_index_or places.items n None)) }
