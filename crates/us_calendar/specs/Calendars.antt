@@ -45,17 +45,32 @@ run_entries pace round (state ∷ more) board =
       settled = map (told_as state.entry) one.settlements ++ rest.settled;
     }
 
--- the round of a calendar with a cut, bytes by word, on a board
-abbrev pub ran : Calendar → List ℕ → Board → Ran
-ran calendar cut board = run_entries calendar.pace calendar.next_round (map (heard cut) calendar.states) board
+-- a calendar that has heard a round's cut, bytes by word
+abbrev pub heard_by : List ℕ → Calendar → Calendar
+heard_by cut calendar = record {
+  pace = calendar.pace;
+  next_round = calendar.next_round;
+  states = map (heard cut) calendar.states;
+}
+
+-- its round on a board
+abbrev pub settles : Calendar → Board → Ran
+settles calendar board = run_entries calendar.pace calendar.next_round calendar.states board
 
 -- and the calendar then
-abbrev pub after : Calendar → List ℕ → Board → Calendar
-after calendar cut board = record {
+abbrev pub settled_after : Calendar → Board → Calendar
+settled_after calendar board = record {
   pace = calendar.pace;
   next_round = calendar.next_round + 1;
-  states = (ran calendar cut board).states;
+  states = (settles calendar board).states;
 }
+
+-- the round of a calendar with a cut, on a board, and the calendar then
+abbrev pub ran : Calendar → List ℕ → Board → Ran
+ran calendar cut board = settles (heard_by cut calendar) board
+
+abbrev pub after : Calendar → List ℕ → Board → Calendar
+after calendar cut board = settled_after (heard_by cut calendar) board
 
 -- how many occurrences are settled so far: granted or missed, or left out in a silent interval
 abbrev pub settled_in : Calendar → ℕ

@@ -1,13 +1,12 @@
 ghost use Rattle.std.specs.Prelude.{◌≡◌, ◌+◌, ◌≤◌, ◌++◌, length, map, OnOk, IfOk};
 ghost use Rattle.std.specs.List.{AllByRecursion};
-ghost use Rattle.us_calendar.specs.Settling.{heard, opening_state};
+ghost use Rattle.us_calendar.specs.Settling.{opening_state};
 ghost use Rattle.us_calendar.specs.Calendars.{run_entries};
-ghost use Rattle.us_calendar.specs.Kept.{AreHeard, IsEntryState};
+ghost use Rattle.us_calendar.specs.Kept.{IsEntryState};
 ghost use Rattle.us_calendar.specs.Agendas.{IsAgenda};
 
 use crate::entries::Entry;
 use crate::entry_states::EntryState;
-use crate::heard_entries::{HeardPlaces, hear_all};
 use crate::near_rounds::{bring, count_of, no_lists, note, place_at};
 use crate::rising::Rising;
 use crate::settled::Settled;
@@ -42,37 +41,8 @@ pub(crate) fn noted(
     Ok((states, near, far))
 }
 
-/// Has the entries hear a round's cut, the next one's, and then settles what is due in the round.
-pub(crate) fn hear_and_settle(
-    span: &Span,
-    places: HeardPlaces,
-    cut: &[u64],
-    states: &mut [EntryState],
-    near: &mut [Rising],
-    far: &mut Rising,
-    board: &mut Board,
-    settled: &mut Vec<Settled>,
-) -> Result<(), NoMemory>
-    requires len { length board.old.cells ≡ span.now.pace.len }
-    requires heard { AreHeard states.old places.from places.to }
-    requires known { AllByRecursion IsEntryState states.old }
-    requires agenda { IsAgenda span.now.pace span.now.round 0 states.old near.old far.old 0 }
-    ensures states { OnOk result (states.new ≡
-        (run_entries span.now.pace span.now.round (map (heard cut.now) states.old) board.old).states) }
-    ensures board { OnOk result (board.new ≡
-        (run_entries span.now.pace span.now.round (map (heard cut.now) states.old) board.old).board) }
-    ensures settled { OnOk result (settled.new.items ≡ settled.old.items ++
-        (run_entries span.now.pace span.now.round (map (heard cut.now) states.old) board.old).settled) }
-    ensures agenda { OnOk result (IsAgenda span.now.pace (span.now.round + 1) 0 states.new near.new far.new 0) }
-    ensures known { OnOk result (AllByRecursion IsEntryState states.new) }
-    ensures len { length board.new.cells ≡ length board.old.cells }
-{
-    hear_all(states, places, cut);
-    settle_due(span, states, near, far, board, settled)
-}
-
 /// Settles what is due in a round, the next one, and notes when these entries are due again.
-fn settle_due(
+pub(crate) fn settle_due(
     span: &Span,
     states: &mut [EntryState],
     near: &mut [Rising],

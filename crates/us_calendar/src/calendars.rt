@@ -6,9 +6,9 @@ ghost use Rattle.us_flows.specs.Lawful.{IsChannel};
 ghost use Rattle.us_calendar.specs.Calendars as spec;
 ghost use Rattle.us_calendar.specs.Kept.{IsKept};
 
-use crate::agendas::{hear_and_settle, noted};
+use crate::agendas::{noted, settle_due};
 use crate::entry_states::EntryState;
-use crate::heard_entries::HeardPlaces;
+use crate::heard_entries::{HeardPlaces, hear_all};
 use crate::listing::entries_of;
 use crate::near_rounds::clear_all;
 use crate::paces::Pace;
@@ -156,12 +156,45 @@ impl Calendar {
         // The calendar keeps its pace, also after want of memory.
         ensures pace { self.new.pace ≡ self.old.pace }
     {
+        self.hear(cut);
+        self.settle_into(round, board, settled)
+    }
+
+    /// Takes in a round's cut before the round is settled, as [`Calendar::run`] says. Where no flow of the channel has its
+    /// activity detected, nothing is looked at.
+    pub fn hear(&mut self, cut: &[u64])
+        ensures value { self.new ≡ spec.heard_by cut.now self.old }
+
+        // It settles nothing.
+        ensures counts { spec.settled_in self.new ≡ spec.settled_in self.old }
+    {
+        hear_all(&mut self.states, self.heard, cut);
+    }
+
+    /// Settles what is due in `round`, the next one, on the channel's board, once the calendar has heard the round's cut: the
+    /// rest of what [`Calendar::run_into`] does.
+    pub fn settle_into(
+        &mut self,
+        round: u32,
+        board: &mut Board,
+        settled: &mut Vec<Settled>,
+    ) -> Result<(), NoMemory>
+        requires next { round ≡ self.old.next_round }
+        requires time { (round + 1) * (self.old.pace.len * minislot_ticks self.old.pace.time) ≤ max_run_ticks }
+        requires len { length board.old.cells ≡ self.old.pace.len }
+        ensures settled { OnOk result (settled.new.items ≡ (spec.settles self.old board.old).settled) }
+        ensures board { OnOk result (board.new ≡ (spec.settles self.old board.old).board) }
+        ensures calendar { OnOk result (self.new ≡ spec.settled_after self.old board.old) }
+        ensures len { length board.new.cells ≡ length board.old.cells }
+        ensures inside { OnOk result (AllByRecursion (spec.StartsInside (length board.old.cells)) settled.new.items) }
+        ensures granted { OnOk result (spec.granted_in settled.new.items + board.old.standing ≡ board.new.standing) }
+        ensures counts { OnOk result (length settled.new.items + spec.settled_in self.old ≤ spec.settled_in self.new) }
+        ensures pace { self.new.pace ≡ self.old.pace }
+    {
         let span = Span::new(self.pace, round);
         settled.clear();
-        match hear_and_settle(
+        match settle_due(
             &span,
-            self.heard,
-            cut,
             &mut self.states,
             &mut self.near,
             &mut self.far,
