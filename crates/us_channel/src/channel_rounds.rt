@@ -87,6 +87,14 @@ impl ChannelRound {
         Ok(ChannelRound { channel, track })
     }
 
+    /// Takes in a round's cut, in bytes by word, before the round: its calendar hears which flows are active and which are
+    /// silent. All else stays.
+    pub fn hear(&mut self, cut: &[u64])
+        ensures { self.new ≡ spec.heard cut.now self.old }
+    {
+        self.track.calendar.hear(cut);
+    }
+
     /// Puts the reserves of a round on the board, and settles what is due then; no claim is granted yet. The fault is want
     /// of memory, and nothing is said of board, calendar and lists then.
     pub fn fill(&mut self, config: &Config, round: u32) -> Result<(), NoMemory>
@@ -107,7 +115,7 @@ impl ChannelRound {
         } = self.track.as_mut();
         grants.clear();
         reserves(board, &self.channel, round);
-        calendar.run_into(round, board, settled)
+        calendar.settle_into(round, board, settled)
     }
 
     /// Places claims. What was granted before is told no more. It needs no memory.
