@@ -26,17 +26,20 @@ pub(crate) fn outcome_of(config: &Config, units: &[u8], rounds: u32, request: &R
     requires { units.now ≡ units_of config.now }
     ensures { Becomes config.now rounds request.now result }
 {
-    let ask = match (request.kind, config.lookup(request.channel, request.sid)) {
-        (_, None) => return Outcome::Unknown,
-        (Kind::Request, Some(Found::Cluster(cluster))) => Ask {
+    let found = match config.lookup(request.channel, request.sid) {
+        Some(found) => found,
+        None => return Outcome::Unknown,
+    };
+    let ask = match (request.kind, found) {
+        (Kind::Request, Found::Cluster(cluster)) => Ask {
             cluster,
             bytes: u32::from(request.units) * u32::from(units[usize::from(cluster)]),
         },
-        (Kind::Silent, Some(Found::Activity(silent))) => Ask {
+        (Kind::Silent, Found::Activity(silent)) => Ask {
             cluster: silent,
             bytes: 1,
         },
-        (Kind::Active, Some(Found::Activity(silent))) => Ask {
+        (Kind::Active, Found::Activity(silent)) => Ask {
             cluster: silent + 1,
             bytes: 1,
         },
