@@ -30,16 +30,16 @@ pub(crate) fn outcome_of(config: &Config, units: &[u8], rounds: u32, request: &R
         Some(found) => found,
         None => return Outcome::Unknown,
     };
-    let ask = match (request.kind, found) {
-        (Kind::Request, Found::Cluster(cluster)) => Ask {
+    let ask = match (found, request.kind) {
+        (Found::Cluster(cluster), Kind::Request) => Ask {
             cluster,
             bytes: u32::from(request.units) * u32::from(units[usize::from(cluster)]),
         },
-        (Kind::Silent, Found::Activity(silent)) => Ask {
+        (Found::Activity(silent), Kind::Silent) => Ask {
             cluster: silent,
             bytes: 1,
         },
-        (Kind::Active, Found::Activity(silent)) => Ask {
+        (Found::Activity(silent), Kind::Active) => Ask {
             cluster: silent + 1,
             bytes: 1,
         },
