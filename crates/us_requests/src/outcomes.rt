@@ -30,20 +30,26 @@ pub(crate) fn outcome_of(config: &Config, units: &[u8], rounds: u32, request: &R
         Some(found) => found,
         None => return Outcome::Unknown,
     };
-    let ask = match (found, request.kind) {
-        (Found::Cluster(cluster), Kind::Request) => Ask {
-            cluster,
-            bytes: u32::from(request.units) * u32::from(units[usize::from(cluster)]),
-        },
-        (Found::Activity(silent), Kind::Silent) => Ask {
-            cluster: silent,
-            bytes: 1,
-        },
-        (Found::Activity(silent), Kind::Active) => Ask {
-            cluster: silent + 1,
-            bytes: 1,
-        },
-        _ => return Outcome::NotRequestable,
+    let ask = if request.kind == Kind::Request {
+        match found {
+            Found::Cluster(cluster) => Ask {
+                cluster,
+                bytes: u32::from(request.units) * u32::from(units[usize::from(cluster)]),
+            },
+            _ => return Outcome::NotRequestable,
+        }
+    } else {
+        match (found, request.kind) {
+            (Found::Activity(silent), Kind::Active) => Ask {
+                cluster: silent + 1,
+                bytes: 1,
+            },
+            (Found::Activity(silent), _) => Ask {
+                cluster: silent,
+                bytes: 1,
+            },
+            _ => return Outcome::NotRequestable,
+        }
     };
     let round = round_of(config, request.tick);
     if round >= u64::from(rounds) {
