@@ -116,21 +116,24 @@ reserves_board t c round is =
 
 -- Calendars.
 
--- an entry has a minislot, and a lawful owner
+-- grants and polls of an entry have a minislot, and a lawful owner
+abbrev pub IsOwned : Entry → Type 0
+IsOwned e = (active : Bool) → IsOwner (owner_of e active) × (0 < slots_of e active)
+
 abbrev pub HasOwner : EntryState → Type 0
-HasOwner state = IsOwner state.entry.owner × (0 < state.entry.slots)
+HasOwner state = IsOwned state.entry
 
-told_owned : (e : Entry) (number : ℕ) (start : Option ℕ) → IsOwner e.owner × (0 < e.slots) →
-    HaveOwners (assignments_of (told_as e (record { number = number; start = start })))
-told_owned e number None is = tt
-told_owned e number (Some at) is = (is, tt)
+told_owned : (e : Entry) (number : ℕ) (active : Bool) (start : Option ℕ) → IsOwned e →
+    HaveOwners (assignments_of (told_as e (record { number = number; active = active; start = start })))
+told_owned e number active None is = tt
+told_owned e number active (Some at) is = (is active, tt)
 
-all_told_owned : (e : Entry) (ms : List Settlement) → IsOwner e.owner × (0 < e.slots) →
+all_told_owned : (e : Entry) (ms : List Settlement) → IsOwned e →
     HaveOwners (flat_map assignments_of (map (told_as e) ms))
 all_told_owned e [] is = tt
 all_told_owned e (m ∷ ms) is =
     all_append IsOwnedPart (assignments_of (told_as e m)) (flat_map assignments_of (map (told_as e) ms))
-    (told_owned e m.number m.start is) (all_told_owned e ms is)
+    (told_owned e m.number m.active m.start is) (all_told_owned e ms is)
 
 pub run_owned : (pace : Pace) (round : ℕ) (states : List EntryState) (board : Board) → AllByRecursion HasOwner states →
     AllByRecursion HasOwner (run_entries pace round states board).states
@@ -138,7 +141,7 @@ pub run_owned : (pace : Pace) (round : ℕ) (states : List EntryState) (board : 
 unfolding run_entries
 run_owned pace round [] board all = (tt, tt)
 run_owned pace round (state ∷ states) board all =
-    let one : SettledEntry = settle_entry pace round state board in
+    let one : SettledEntry = settle_state pace round state board in
     let rest : Ran = run_entries pace round states one.board in
     let others = run_owned pace round states one.board all.1 in (
       (all.0, others.0),
