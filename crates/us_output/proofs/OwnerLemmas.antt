@@ -1,5 +1,5 @@
 -- Whose minislots are: each owner on a round's boards has a SID of 14 bits, and an IUC that ends no list.
-use Rattle.std.proofs.Common.{◌≡◌, ◌≢◌, ℕ, ◌+◌, ◌-◌, ◌%◌, ◌^◌, ◌<◌, ◌≤◌, ◌==◌, nat_le, true, ◌⊎◌, List, [], ◌∷◌, ◌++◌, take, drop, replicate, map, flat_map, Option, Some, None, sym, subst, inl, inr, arith}
+use Rattle.std.proofs.Common.{◌≡◌, ◌≢◌, ℕ, ◌+◌, ◌-◌, ◌%◌, ◌^◌, ◌<◌, ◌≤◌, ◌==◌, nat_le, Bool, true, ◌⊎◌, List, [], ◌∷◌, ◌++◌, take, drop, replicate, map, flat_map, Option, Some, None, sym, subst, inl, inr, arith}
 use Rattle.std.specs.List.{AllByRecursion}
 use Rattle.std.proofs.lemmas.Bool.{cases_Bool}
 use Rattle.std.proofs.lemmas.Bool.Decides.{nat_tests}
@@ -15,9 +15,10 @@ use Rattle.us_holes.specs.Kept.{IsBoard}
 use Rattle.us_holes.specs.Runs.{Run, goes_on, lengthened, owner_of, runs_from, runs_of}
 use Rattle.us_holes.proofs.BoardLemmas.{empty_is_board}
 use Rattle.us_holes.proofs.LawLemmas.{fit_is_board}
+use Rattle.us_calendar.specs.Entries as entries
 use Rattle.us_calendar.specs.Entries.{Entry}
 use Rattle.us_calendar.specs.Occurrences.{Pace}
-use Rattle.us_calendar.specs.Settling.{EntryState, Settlement, SettledEntry, settle_entry, told_as}
+use Rattle.us_calendar.specs.Settling.{EntryState, Settlement, SettledEntry, settle_state, told_as}
 use Rattle.us_calendar.specs.Calendars.{Ran, run_entries}
 use Rattle.us_calendar.specs.Runs.{assignments_of}
 use Rattle.us_split.specs.Claims.{Claim}
@@ -117,18 +118,18 @@ reserves_board t c round is =
 -- Calendars.
 
 -- grants and polls of an entry have a minislot, and a lawful owner
-abbrev pub IsOwned : Entry → Type 0
-IsOwned e = (active : Bool) → IsOwner (owner_of e active) × (0 < slots_of e active)
+abbrev pub HasOwners : Entry → Type 0
+HasOwners e = (active : Bool) → IsOwner (entries.owner_of e active) × (0 < entries.slots_of e active)
 
 abbrev pub HasOwner : EntryState → Type 0
-HasOwner state = IsOwned state.entry
+HasOwner state = HasOwners state.entry
 
-told_owned : (e : Entry) (number : ℕ) (active : Bool) (start : Option ℕ) → IsOwned e →
+told_owned : (e : Entry) (number : ℕ) (active : Bool) (start : Option ℕ) → HasOwners e →
     HaveOwners (assignments_of (told_as e (record { number = number; active = active; start = start })))
 told_owned e number active None is = tt
 told_owned e number active (Some at) is = (is active, tt)
 
-all_told_owned : (e : Entry) (ms : List Settlement) → IsOwned e →
+all_told_owned : (e : Entry) (ms : List Settlement) → HasOwners e →
     HaveOwners (flat_map assignments_of (map (told_as e) ms))
 all_told_owned e [] is = tt
 all_told_owned e (m ∷ ms) is =
