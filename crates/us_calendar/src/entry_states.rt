@@ -1,6 +1,7 @@
 ghost use Rattle.std.specs.Prelude.{◌≡◌, ◌+◌, ◌++◌, is_some, length, map, max, OnOk, IfOk};
 ghost use Rattle.std.specs.List.{range_with_len};
 ghost use Rattle.us_calendar.specs.Agendas.{due_at};
+ghost use Rattle.us_calendar.specs.Calendars.{is_heard_as};
 ghost use Rattle.us_calendar.specs.Occurrences.{end_of, ideal};
 ghost use Rattle.us_calendar.specs.Settling as spec;
 ghost use Rattle.us_calendar.specs.Kept.{IsEntryState, IsNext, number_of, speaks_of};
@@ -74,6 +75,20 @@ impl EntryState {
         ensures { result ≡ is_some self.now.entry.silence }
     {
         self.entry.silence.is_some()
+    }
+
+    /// Whether it is of the flow with this id, and the flow's activity is detected.
+    pub(crate) fn is_heard_as(&self, id: u16) -> bool
+        ensures { result ≡ is_heard_as id self.now }
+    {
+        self.entry.silence.is_some() && self.entry.id == id
+    }
+
+    /// Whether its flow is active.
+    pub(crate) fn is_active(&self) -> bool
+        ensures { result ≡ self.now.active }
+    {
+        self.active
     }
 
     /// Hears what a round's cut, bytes by word, says of its flow.

@@ -2,7 +2,7 @@
 use Rattle.std.proofs.Common.{◌≡◌, ℕ, zero, suc, ◌+◌, ◌-◌, ◌≤◌, List, [], ◌∷◌, length, slice_index, replicate, ap, ◌∙◌, arith}
 use Rattle.std.proofs.lemmas.List.Sums.{sum_by-cons}
 use Rattle.us_flows.specs.Lawful.{AreTables}
-use Rattle.us_flows.specs.Clusters.{clusters_of}
+use Rattle.us_flows.specs.Clusters.{words_of}
 use Rattle.us_channel.specs.Placements.{PlacedClaim, credits}
 use Rattle.us_round.specs.Rounds.{State, opening, with_cut, begun, builds_of, all_grants, is_of_cluster, uncredited, round_from, round_of, schedule, final}
 use Rattle.us_output.specs.Outputs.{Scheduled}
@@ -22,7 +22,7 @@ cut_index (bytes ∷ more) (newly ∷ cut) (suc number) long = cut_index more cu
 
 -- one round
 round_kept : (s : State) (cut : List ℕ) (number : ℕ) → AreTables s.tables → IsState s →
-    length cut ≡ length (clusters_of s.tables) →
+    length cut ≡ length (words_of s.tables) →
     slice_index (round_of s cut).state.outstanding number
     + credits (is_of_cluster number) (all_grants (round_of s cut).scheduled.channels)
     ≡ slice_index s.outstanding number + slice_index cut number
@@ -37,7 +37,7 @@ round_kept s cut number lawful is long =
     ∙ ap (λ n. slice_index now.outstanding number - credits (is_of_cluster n) grants) own in
     let few : credits (is_of_cluster number) grants ≤ slice_index now.outstanding number =
     (state_sound now lawful (begun_state s cut is long)).covers.asked number in
-    omega (arith, left, few, cut_index s.outstanding cut number (omega (arith, long, is.clusters)))
+    omega (arith, left, few, cut_index s.outstanding cut number (omega (arith, long, is.words)))
 
 kept_from : (s : State) (cuts : List (List ℕ)) (number : ℕ) → AreTables s.tables → IsState s → AreCuts s.tables cuts →
     slice_index (final s cuts).outstanding number + credited_of number (schedule s cuts)
@@ -68,5 +68,5 @@ bytes_are_kept t cuts number lawful long =
     omega (
       arith,
       kept_from (opening t) cuts number lawful (opening_state t) long,
-      none_before (length (clusters_of t)) number,
+      none_before (length (words_of t)) number,
     )

@@ -11,7 +11,7 @@ use Rattle.us_calendar.specs.Calendars.{Calendar, IsCalendar, opening, pace_of, 
 use Rattle.us_calendar.specs.Entries.{Entry, entries}
 use Rattle.us_calendar.specs.Settling.{EntryState}
 use Rattle.us_bucket.specs.Levels.{full}
-use Rattle.us_flows.specs.Clusters.{clusters_of}
+use Rattle.us_flows.specs.Clusters.{words_of}
 use Rattle.us_split.specs.Plans.{Planned}
 use Rattle.us_channel.specs.Channels as channel
 use Rattle.us_channel.specs.Channels.{Filled, Built, IsBuilt, fill}
@@ -71,7 +71,7 @@ state_next core cs built known are is =
     let t : Tables = core.tables in
     let plan : List Planned = round_plan (with_calendars core cs) in
     rw is (record {
-      clusters = left-length _ 0 core.outstanding ∙ known.clusters;
+      words = left-length _ 0 core.outstanding ∙ known.words;
       flows = spent-length _ 0 core.buckets ∙ known.flows;
       reserves = known.reserves;
       paces = paces_kept t core.round plan t.channels cs (calendars_long t core.round cs are) ∙ are.paces;
@@ -177,7 +177,7 @@ none_by t (c ∷ channels) =
 
 pub opening_state : (t : Tables) → IsState (with_calendars (opening_core t) (map (opening t) t.channels))
 opening_state t = record {
-  clusters = length-replicate (length (clusters_of t)) 0;
+  words = length-replicate (length (words_of t)) 0;
   flows = length-map t.flows (λ flow. full flow.rate flow.burst);
   reserves = length-map t.flows (λ flow. full flow.min_rate flow.burst);
   paces = opening_paces t t.channels;

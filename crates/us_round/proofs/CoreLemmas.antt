@@ -4,7 +4,7 @@ use Rattle.std.specs.Prelude.{zip}
 use Rattle.std.proofs.lemmas.Bool.{cases_Bool}
 use Rattle.std.proofs.lemmas.List.{length-map, length-replicate}
 use Rattle.us_flows.specs.Tables.{Tables}
-use Rattle.us_flows.specs.Clusters.{clusters_of, turns_of}
+use Rattle.us_flows.specs.Clusters.{words_of, turns_of}
 use Rattle.us_flows.specs.Lawful.{AreTables}
 use Rattle.us_bucket.specs.Levels.{Level, bytes_in, full, refilled, reserve_in}
 use Rattle.us_split.specs.Plans.{plan_for, reserved_for}
@@ -38,7 +38,7 @@ pub opening_kept : (t : Tables) (asking : Asking) (buckets reserves : Buckets) (
 opening_kept t asking buckets reserves planner allowances left lawful long also asks fills keeps plans =
     rw (asks, fills, keeps, plans) (record {
       lawful = lawful;
-      clusters = length-replicate (length (clusters_of t)) 0;
+      words = length-replicate (length (words_of t)) 0;
       buckets = record { flows = length-map t.flows (λ flow. full flow.rate flow.burst); ticks = refl };
       reserves = record { flows = length-map t.flows (λ flow. full flow.min_rate flow.burst); ticks = refl };
       round = refl;
@@ -71,14 +71,14 @@ begun_too t round buckets are = record {
 
 pub begun_kept : (t : Tables) (round : ℕ) (cut : List ℕ) (asking next : Asking) (buckets after reserves later : Buckets)
     (planner : Planner) (allowances : List (Option ℕ)) (left : List ℕ) →
-    AreKept t asking buckets reserves planner allowances left → length cut ≡ length (clusters_of t) →
+    AreKept t asking buckets reserves planner allowances left → length cut ≡ length (words_of t) →
     next ≡ all_asked_more cut asking → after ≡ begun_buckets round buckets → later ≡ begun_buckets round reserves →
     AreKept t next after later planner allowances left
 begun_kept t round cut asking next buckets after reserves later planner allowances left are long asks begins also =
     rw (asks, begins, also) (record {
       lawful = are.lawful;
-      clusters = length-map (zip asking.outstanding cut) (λ (pair : ℕ × ℕ). pair.0 + pair.1)
-          ∙ zip_long asking.outstanding cut (omega (arith, long, are.clusters)) ∙ long;
+      words = length-map (zip asking.outstanding cut) (λ (pair : ℕ × ℕ). pair.0 + pair.1)
+          ∙ zip_long asking.outstanding cut (omega (arith, long, are.words)) ∙ long;
       buckets = begun_too t round buckets are.buckets;
       reserves = begun_too t round reserves are.reserves;
       round = refl;
@@ -142,7 +142,7 @@ pub planned_kept : (t : Tables) (asking : Asking) (buckets after reserves later 
 planned_kept t asking buckets after reserves later planner next allowances allowed left rest are same long ticks round tables
     allows leaves = rw same (record {
       lawful = are.lawful;
-      clusters = are.clusters;
+      words = are.words;
       buckets = are.buckets;
       reserves = record { flows = long ∙ are.reserves.flows; ticks = ticks ∙ are.reserves.ticks };
       round = round ∙ are.round;
@@ -171,8 +171,8 @@ pub closed_kept : (t : Tables) (asking now next : Asking) (buckets after reserve
 closed_kept t asking now next buckets after reserves planner allowances left bs are done ends =
     rw ends (record {
       lawful = are.lawful;
-      clusters = ap (λ os. length os) done.left ∙ left-length (all_grants bs) 0 asking.left ∙ ap (λ os. length os) are.settled
-          ∙ are.clusters;
+      words = ap (λ os. length os) done.left ∙ left-length (all_grants bs) 0 asking.left ∙ ap (λ os. length os) are.settled
+          ∙ are.words;
       buckets = record {
         flows = ap (λ ls. length ls) done.levels ∙ spent-length (all_grants bs) 0 buckets.levels ∙ are.buckets.flows;
         ticks = done.ticks ∙ are.buckets.ticks;

@@ -5,7 +5,7 @@ use Rattle.std.specs.List.{AllByRecursion}
 use Rattle.std.proofs.lemmas.Bool.{cases_Bool}
 use Rattle.std.proofs.lemmas.List.{length-map}
 use Rattle.us_flows.specs.Tables.{Tables}
-use Rattle.us_flows.specs.Clusters.{clusters_of}
+use Rattle.us_flows.specs.Clusters.{words_of}
 use Rattle.us_flows.specs.Lawful.{AreTables}
 use Rattle.us_bucket.specs.Levels.{Level, refilled, bytes_in, reserve_in}
 use Rattle.us_split.specs.Plans.{IsIdle}
@@ -30,10 +30,10 @@ brought-length s levels = elim (cases_Bool (s.round == 0)) [
 ]
 
 -- a round begins with a state,
-pub begun_state : (s : State) (cut : List ℕ) → IsState s → length cut ≡ length (clusters_of s.tables) → IsState (begun s cut)
+pub begun_state : (s : State) (cut : List ℕ) → IsState s → length cut ≡ length (words_of s.tables) → IsState (begun s cut)
 begun_state s cut is long = record {
-  clusters = length-map (zip s.outstanding cut) (λ (pair : ℕ × ℕ). pair.0 + pair.1)
-      ∙ zip_long s.outstanding cut (omega (arith, long, is.clusters)) ∙ long;
+  words = length-map (zip s.outstanding cut) (λ (pair : ℕ × ℕ). pair.0 + pair.1)
+      ∙ zip_long s.outstanding cut (omega (arith, long, is.words)) ∙ long;
   flows = brought-length s s.buckets ∙ is.flows;
   reserves = brought-length s s.reserves ∙ is.reserves;
   paces = is.paces;
@@ -57,9 +57,9 @@ next_state s is =
       claims = [];
     } in
     let next = state_next core s.calendars (builds_of s)
-    (record { clusters = is.clusters; flows = is.flows; reserves = is.reserves }) (calendars_in s is) refl in
+    (record { words = is.words; flows = is.flows; reserves = is.reserves }) (calendars_in s is) refl in
     record {
-      clusters = next.clusters;
+      words = next.words;
       flows = next.flows;
       reserves = unreserved-length (reserved_in s) 0 s.reserves ∙ is.reserves;
       paces = next.paces;
@@ -77,7 +77,7 @@ state_idle s lawful is =
 -- and is sound
 pub state_sound : (s : State) → AreTables s.tables → IsState s → AreSound s (builds_of s)
 state_sound s lawful is =
-    sound s lawful (calendars_in s is) is.clusters is.flows
+    sound s lawful (calendars_in s is) is.words is.flows
     (plan_for-lawful s.tables s.outstanding (map bytes_in s.buckets) (map reserve_in s.reserves) (idle (fills_of s)) lawful
     (state_idle s lawful is))
     (turns_planned s) (state_filled s lawful is)

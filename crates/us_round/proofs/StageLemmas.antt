@@ -3,7 +3,7 @@ use Rattle.std.proofs.Common.{◌≡◌, ℕ, ◌+◌, ◌*◌, ◌≤◌, List,
 use Rattle.std.specs.Prelude.{zip, filter_map, ◌-◌}
 use Rattle.std.specs.List.{AllByRecursion}
 use Rattle.us_flows.specs.Tables.{Tables, max_run_ticks}
-use Rattle.us_flows.specs.Clusters.{clusters_of, turns_of}
+use Rattle.us_flows.specs.Clusters.{words_of, turns_of}
 use Rattle.us_flows.specs.Lawful.{AreTables, IsChannel}
 use Rattle.us_bucket.specs.Levels.{bytes_in, reserve_in}
 use Rattle.us_calendar.specs.Calendars.{pace_of}
@@ -30,7 +30,7 @@ use Rattle.us_round.proofs.RoundLemmas.{left_state, run_state, run_scheduled, ru
 -- The beginning.
 
 pub begun_parts : (old : Core) (bs : List Built) (cut : List ℕ) → ArePartsOfState old bs → AreTables old.tables →
-    length cut ≡ length (clusters_of old.tables) → ArePartsOfRound (begun_core old cut) bs
+    length cut ≡ length (words_of old.tables) → ArePartsOfRound (begun_core old cut) bs
 begun_parts old bs cut are lawful long = record {
   state = begun_state (state_of old bs) cut are.state long;
   channels = are.channels;

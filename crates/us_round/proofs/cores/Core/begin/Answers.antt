@@ -1,5 +1,5 @@
 use Rattle.std.proofs.Common.{◌≡◌, length, ap, sym, ◌∙◌}
-use Rattle.us_flows.specs.Clusters.{clusters_of}
+use Rattle.us_flows.specs.Clusters.{words_of}
 use Rattle.us_round.specs.Cores.{begun_core}
 use Rattle.us_round.proofs.CoreLemmas.{core_in, kept_too, begun_kept, begun_value}
 use Rattle.us_round.proofs.cores.Core.begin.Goals as goal
@@ -11,7 +11,7 @@ invariant_of-self c =
     let told : core_in a ≡ c.args.self.now = ap core_in c.as_mut.ensures.value ∙ c.self.view_is in
     begun_kept a.config a.round c.args.cuts.now a.askers c.add_all.new.self a.buckets c.begin.new.self a.reserves
     c.begin-2.new.self a.planner a.allowances.items a.left.items kept
-    (c.requires.clusters ∙ sym (ap (λ s. length (clusters_of s.tables)) told)) c.add_all.ensures c.begin.ensures
+    (c.requires.words ∙ sym (ap (λ s. length (words_of s.tables)) told)) c.add_all.ensures c.begin.ensures
     c.begin-2.ensures
 
 pub returns-clause-value : goal.returns-clause-value
