@@ -1,11 +1,10 @@
 -- What is kept of an entry says of what kind its intervals are, as the cuts of the run do.
-use Rattle.std.proofs.Common.{◌≡◌, ℕ, zero, suc, ◌+◌, ◌-◌, ◌*◌, ◌/◌, ◌%◌, ◌<◌, ◌≤◌, ◌==◌, ◌||◌, nat_lt, Bool, true, false, if◌then◌else◌, List, [], ◌∷◌, ◌++◌, length, filter, take, Option, Some, None, unwrap_or, refl, ap, ap₂, sym, ◌∙◌, inl, inr, subst, lt-ltb, le-ltb, eq-eqb, ne_eqb, arith}
+use Rattle.std.proofs.Common.{◌≡◌, ℕ, suc, ◌+◌, ◌-◌, ◌*◌, ◌/◌, ◌%◌, ◌<◌, ◌≤◌, ◌==◌, ◌||◌, nat_lt, Bool, true, if◌then◌else◌, List, [], ◌∷◌, ◌++◌, length, filter, take, Option, Some, None, unwrap_or, refl, ap, ap₂, sym, ◌∙◌, inl, inr, lt-ltb, le-ltb, eq-eqb, ne_eqb, arith}
 use Rattle.std.specs.List.{range_with_len, AllByRecursion}
 use Rattle.std.proofs.lemmas.Bool.{cases_lt, cases_eq}
 use Rattle.std.proofs.lemmas.List.FromFn.{length-range_with_len}
 use Rattle.std.proofs.lemmas.Nat.{div-mul-add, mul-le}
 use Rattle.std.proofs.lemmas.List.{length-append}
-use Rattle.us_slots.specs.Times.{start_of}
 use Rattle.us_holes.specs.Boards.{Board}
 use Rattle.us_calendar.specs.declared.silences.Silence.{Silence}
 use Rattle.us_calendar.specs.Activity.{hears_of, activity, active_in, speaks_by}
@@ -14,7 +13,7 @@ use Rattle.us_calendar.specs.Occurrences.{Pace, ideal, end_of, comes, due, comin
 use Rattle.us_calendar.specs.Settling.{EntryState, SettledEntry, spot, settlement, with_spot, settle_each, settle_entry, kind_at, speaks_in, waiting_at}
 use Rattle.us_calendar.specs.Runs.{end_after, window_end}
 use Rattle.us_calendar.specs.Kept.{settle_from, state_from}
-use Rattle.us_calendar.proofs.IdealLemmas.{HasWindows, ideal-apart, ideal-rises}
+use Rattle.us_calendar.proofs.IdealLemmas.{HasWindows, ideal-apart}
 use Rattle.us_calendar.proofs.DueLemmas.{due-all}
 use Rattle.us_calendar.proofs.SettleLemmas.{settle_each-cons, then_settle}
 use Rattle.us_calendar.proofs.ComingLemmas.{comes_first, filter-all}

@@ -6,7 +6,7 @@ use Rattle.std.proofs.lemmas.List.{append-nil, length-drop, get_or-drop}
 use Rattle.std.proofs.lemmas.Bool.{cases_eq, cases_lt}
 use Rattle.us_holes.specs.Boards.{Board}
 use Rattle.us_calendar.specs.Occurrences.{Pace, end_of}
-use Rattle.us_calendar.specs.Settling.{EntryState, SettledEntry, settle_state, heard, after_settling, told_as}
+use Rattle.us_calendar.specs.Settling.{EntryState, SettledEntry, settle_state, after_settling, told_as}
 use Rattle.us_calendar.specs.Calendars.{Ran, run_entries}
 use Rattle.us_calendar.specs.declared.settled.Settled.{Settled}
 use Rattle.us_calendar.specs.Kept.{IsEntryState, IsQuiet}

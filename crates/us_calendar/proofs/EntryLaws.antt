@@ -22,7 +22,7 @@ use Rattle.us_holes.specs.Boards.{IsOwner}
 use Rattle.us_calendar.specs.declared.kinds.Kind.{Kind}
 use Rattle.us_calendar.specs.declared.kinds.Kind.TheVariants as kinds
 use Rattle.us_calendar.specs.declared.silences.Silence.{Silence}
-use Rattle.us_calendar.specs.Entries.{Entry, WordedFlow, with_words, quarters, first_sid, grant_cost, slots_of, rank_of, entries, scheduled, entry_of_flow, entry_of_station}
+use Rattle.us_calendar.specs.Entries.{Entry, WordedFlow, with_words, quarters, first_sid, grant_cost, rank_of, entries, scheduled, entry_of_flow, entry_of_station}
 use Rattle.us_calendar.specs.Laws.{EntriesAreApart, EntriesAreLawful, EntriesHaveWords, IsLawfulEntry}
 use Rattle.us_calendar.proofs.OrderLemmas.{flow_made, station_made, flows_first, stations_then, worded_apart}
 use Rattle.us_calendar.proofs.SortedLemmas.{entries_moved, entries_all}

@@ -1,5 +1,5 @@
 -- The state of an entry: what settling makes of it, and when it is due next.
-use Rattle.std.proofs.Common.{◌≡◌, ℕ, ◌+◌, ◌-◌, ◌*◌, ◌/◌, ◌%◌, ◌<◌, ◌≤◌, ◌⊎◌, ◌==◌, ◌||◌, nat_lt, Bool, true, false, if◌then◌else◌, List, [], ◌++◌, flat_map, Option, Some, None, unwrap_or, max, length, refl, ap, ap₂, sym, ◌∙◌, inl, inr, lt-ltb, le-ltb, eq-eqb, arith}
+use Rattle.std.proofs.Common.{◌≡◌, ℕ, ◌+◌, ◌-◌, ◌*◌, ◌/◌, ◌%◌, ◌<◌, ◌≤◌, ◌⊎◌, ◌==◌, ◌||◌, nat_lt, Bool, true, false, if◌then◌else◌, List, ◌++◌, flat_map, Option, Some, None, unwrap_or, max, length, refl, ap, ap₂, sym, ◌∙◌, inl, inr, lt-ltb, le-ltb, eq-eqb, arith}
 use Rattle.std.specs.List.{range_with_len}
 use Rattle.std.proofs.lemmas.Bool.{cases_lt}
 use Rattle.std.proofs.lemmas.List.FromFn.{length-range_with_len}

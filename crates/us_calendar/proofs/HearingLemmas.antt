@@ -4,7 +4,7 @@ use Rattle.std.specs.List.{AllByRecursion}
 use Rattle.std.proofs.Math.ListN.{set, length-set}
 use Rattle.std.proofs.lemmas.List.{length-map}
 use Rattle.std.proofs.lemmas.Bool.{cases_lt, cases_eq, cases_Bool}
-use Rattle.us_calendar.specs.Activity.{hears, hears_of, is_marked}
+use Rattle.us_calendar.specs.Activity.{hears_of, is_marked}
 use Rattle.us_calendar.specs.Occurrences.{Pace}
 use Rattle.us_calendar.specs.Settling.{EntryState, heard}
 use Rattle.us_calendar.specs.declared.silences.Silence.{Silence}

@@ -4,12 +4,11 @@ use Rattle.us_holes.specs.Boards.{Owner, Board, empty_board, assign, first_of}
 use Rattle.us_calendar.specs.Entries.{Entry}
 use Rattle.us_calendar.specs.Activity.{active_in}
 use Rattle.us_calendar.specs.Occurrences.{Pace, due, coming}
-use Rattle.us_calendar.specs.Settling.{EntryState, opening_state, settle_each, settle_entry}
+use Rattle.us_calendar.specs.Settling.{opening_state, settle_each, settle_entry}
 use Rattle.us_calendar.specs.Calendars.{Calendar, run_entries}
 use Rattle.us_calendar.specs.Runs.{Round, rounds_on, after_rounds}
 use Rattle.us_calendar.specs.declared.settled.Settled.{Settled}
 use Rattle.us_calendar.specs.declared.settled.Settled.TheVariants as told
-use Rattle.us_calendar.specs.declared.kinds.Kind.{Kind}
 use Rattle.us_calendar.specs.declared.kinds.Kind.TheVariants as kinds
 
 -- MAPs of 4 minislots of a tick, so that minislots start at 0, 25, 50 and 75, and a round lasts 100

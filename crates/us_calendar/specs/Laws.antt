@@ -43,8 +43,8 @@ EntriesHaveWords = (t : Tables) → AreTables t → (c : Channel) (e : Entry) (s
 pub record AreFirst (pace : Pace) (round : ℕ) (e : Entry) (speaks : ℕ → Bool) (settled : List ℕ) (more : ℕ) : Type 0 where
   pub first : settled ≡ range_with_len 0 more
   pub comes : comes e speaks more ≡ true
-  -- The windows of the next one's interval aren't over, so the next intervals, which begin behind them, haven't begun: of no
-  -- interval but this one has the kind to be kept.
+  -- The windows of the next one's interval aren't over. So other unsettled intervals, which begin behind these windows, begin
+  -- in later rounds: of this interval alone the kind has to be kept.
   pub not_over : end_of pace round ≤ window_end e more
   pub later : (n : ℕ) → ideal e more < ideal e n → end_of pace round < ideal e n
 

@@ -141,14 +141,7 @@ fn grant_entry(channel: &Channel, flow: &Flow, kind: Kind, silence: Option<Silen
         u32::from(flow.grant_bytes()),
     );
     let grants = flow.grants_per_interval();
-    entry_with(
-        flow,
-        kind,
-        Iuc::unsolicited_grant(),
-        slots,
-        grants,
-        silence,
-    )
+    entry_with(flow, kind, Iuc::unsolicited_grant(), slots, grants, silence)
 }
 
 /// The entry of a flow with so many grants, of so many minislots, in each interval.

@@ -331,7 +331,8 @@ fn put_units(line: &mut [u8; LINE_BYTES], units: Option<u64>) -> usize
     }
 }
 
-/// Puts a comma and the word of an entry before what stands from `end` on.
+/// Puts a comma and the word of an entry before what stands from `end` on. Inlined, as each line of a round has a word.
+#[inline(always)]
 fn put_entry(line: &mut [u8; LINE_BYTES], end: usize, entry: EntryWord) -> usize
     requires room { 8 ≤ end }
     requires end { end ≤ LINE_BYTES }

@@ -25,12 +25,8 @@ field-past (field ∷ fields) zero past = absurd (omega (arith, past))
 field-past (field ∷ fields) (suc place) past = field-past fields place (omega (arith, past))
 
 -- four fields tell a request
-pub four-fields : (fields : Record) (units : ℕ) → length fields ≡ 4 →
-    Some kinds.Request ≡
-    (if length fields == 4 || is_kind units (field_in fields 4) then Some (kind_of (number_of (field_in fields 4))) else None)
+pub kind-of-four : (fields : Record) → length fields ≡ 4 → kind_of (number_of (field_in fields 4)) ≡ kinds.Request
 unfolding number_from
-four-fields fields units four =
-    let none = field-past fields 4 (omega (arith, four)) in
-    rw (eq-eqb (length fields) 4 four) (ap (λ field. Some (kind_of (number_of field))) (sym none))
+kind-of-four fields four = ap (λ field. kind_of (number_of field)) (field-past fields 4 (omega (arith, four)))
 
-pub ruleset kinded = (four-fields)
+pub ruleset kinded = (kind-of-four)

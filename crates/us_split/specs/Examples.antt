@@ -157,7 +157,7 @@ both_reserved = (refl, refl)
 
 -- Claims.
 
--- a claim of this turn at this position, of the cluster of this number, with this SID, share, minislots and IUC
+-- a claim of this turn at this position, of the cluster whose word has this number, with this SID, share, minislots and IUC
 abbrev claim : ℕ → ℕ → ℕ → ℕ → ℕ → ℕ → ℕ → Claim
 claim turn position number sid share slots iuc = record {
   claimant = record { cluster = number; place = 0; flow = 1; list = number };

@@ -1,4 +1,4 @@
-use Rattle.std.proofs.Common.{◌≡◌, ◌∙◌, ◌<◌, ◌≤◌, ◌==◌, ◌||◌, inr, ap, ap₂, sym, subst, arith}
+use Rattle.std.proofs.Common.{◌∙◌, ◌<◌, ◌==◌, ◌||◌, inr, ap, ap₂, sym, subst, arith}
 use Rattle.us_calendar.specs.Occurrences.{ideal, end_of}
 use Rattle.us_calendar.specs.Kept.{number_of, speaks_of}
 use Rattle.us_calendar.proofs.IdealLemmas.{windows}

@@ -2,7 +2,7 @@ use Rattle.std.proofs.Common.{◌≡◌, ◌∙◌, ◌++◌, ◌==◌, ◌||◌
 use Rattle.std.specs.List.{range_with_len}
 use Rattle.us_calendar.specs.Occurrences.{ideal, comes}
 use Rattle.us_calendar.specs.Settling.{closed, speaks_in, settle_entry, settle_state}
-use Rattle.us_calendar.specs.Kept.{IsEntryState, number_of, speaks_of, state_from, waits_active}
+use Rattle.us_calendar.specs.Kept.{IsEntryState, number_of, state_from, waits_active}
 use Rattle.us_calendar.proofs.EntryStateLemmas.{state_is, kinds_are, next_comes, next_ideal, begins_then, state_then}
 use Rattle.us_calendar.proofs.entry_states.EntryState.settle.Goals as goal
 
