@@ -41,14 +41,14 @@ cuts = (0 ∷ 0 ∷ 0 ∷ 0 ∷ 0 ∷ []) ∷ (1 ∷ 0 ∷ 0 ∷ 0 ∷ 0 ∷ [])
 
 -- By id the second call goes first. In round 1 the first one has a poll of 2 minislots, and none but the cluster asks.
 rounds : elements cuts ≡
-    ((0x0808c000 ∷ 0x0806c001 ∷ 0xfffc4002 ∷ 0xfffc400e ∷ 0x0001c010 ∷ []) ∷ []) ∷
-    ((0x0808c000 ∷ 0x08044001 ∷ 0xfffc4003 ∷ 0xfffc400e ∷ 0x0001c010 ∷ []) ∷ []) ∷
-    ((0x0808c000 ∷ 0x08044001 ∷ 0x048e4003 ∷ 0xfffc4005 ∷ 0xfffc400e ∷ 0x0001c010 ∷ []) ∷ []) ∷ []
+    ((0x080ac000 ∷ 0x0806c001 ∷ 0xfffc4002 ∷ 0xfffc400e ∷ 0x0001c010 ∷ []) ∷ []) ∷
+    ((0x080ac000 ∷ 0x08044001 ∷ 0xfffc4003 ∷ 0xfffc400e ∷ 0x0001c010 ∷ []) ∷ []) ∷
+    ((0x080ac000 ∷ 0x08044001 ∷ 0x048e4003 ∷ 0xfffc4006 ∷ 0xfffc400e ∷ 0x0001c010 ∷ []) ∷ []) ∷ []
 unfolding round_steps coming due settle_each settle_entry
 rounds = refl
 
 -- Marks ask for nothing, whatever they have; only what the cluster asks for is outstanding.
-outstanding : (last_of ((9 ∷ 0 ∷ 1000 ∷ 0 ∷ 9 ∷ []) ∷ [])).outstanding ≡ 0 ∷ 0 ∷ 704 ∷ 0 ∷ 0 ∷ []
+outstanding : (last_of ((9 ∷ 0 ∷ 1000 ∷ 0 ∷ 9 ∷ []) ∷ [])).outstanding ≡ 0 ∷ 0 ∷ 672 ∷ 0 ∷ 0 ∷ []
 unfolding round_steps coming due settle_each settle_entry
 outstanding = refl
 
