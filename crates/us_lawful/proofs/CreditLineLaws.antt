@@ -72,7 +72,7 @@ none_fails q (x ∷ xs) none =
     ]
 
 -- one that passes is counted
-counted_there : {X : Type 0} (p : X → Bool) (xs : List X) (place : ℕ) (x : X) → slice_get xs place ≡ Some x → p x ≡ true →
+pub counted_there : {X : Type 0} (p : X → Bool) (xs : List X) (place : ℕ) (x : X) → slice_get xs place ≡ Some x → p x ≡ true →
     1 ≤ count_by p xs
 counted_there p [] place x at is = absurd (cc at)
 counted_there p (y ∷ xs) zero x at is =
