@@ -6,7 +6,7 @@ use Rattle.std.proofs.lemmas.Nat.{mul-le}
 use Rattle.std.proofs.lemmas.List.{map-append}
 use Rattle.std.proofs.lemmas.List.Sums.{sum_by-cons}
 use Rattle.us_flows.specs.Tables.{Tables, max_run_ticks, rounds_fit}
-use Rattle.us_flows.specs.Clusters.{clusters_of}
+use Rattle.us_flows.specs.Clusters.{words_of}
 use Rattle.us_intake.specs.Tallies.{added}
 use Rattle.us_intake.proofs.TallyLemmas.{index-added, index-empty, index_le_sum}
 use Rattle.us_channel.specs.Placements.{PlacedClaim}
@@ -109,7 +109,7 @@ outstanding-logged t log state is cluster =
       arith,
       ap (λ s. slice_index s.outstanding cluster) is,
       final-outstanding (opening t) log cluster,
-      index-empty (length (clusters_of t)) cluster,
+      index-empty (length (words_of t)) cluster,
     )
 
 -- Conditions of a round.

@@ -1,7 +1,7 @@
 -- The scheduler that callers' threads feed, as its caller knows it (ours).
 use Rattle.std.specs.Prelude.{◌≡◌, ℕ, ◌≤◌, true, List, [], ◌∷◌, ◌++◌, length, map, sum_by, slice_index, Option, Some, None, IsSomeAnd}
 use Rattle.us_flows.specs.Tables.{Tables}
-use Rattle.us_flows.specs.Clusters.{clusters_of}
+use Rattle.us_flows.specs.Clusters.{words_of}
 use Rattle.us_intake.specs.Seats.{Intake, Seat, IsWhole, seat_after_cut}
 use Rattle.us_round.specs.Rounds.{opening, schedule}
 use Rattle.us_output.specs.Outputs.{RoundOut, out_of}
@@ -17,7 +17,7 @@ pub record Live : Type 0 where
 
 -- before the first round
 abbrev pub first_live : Tables → ℕ → Live
-first_live t rounds = record { clusters = length (clusters_of t); rounds = rounds; log = []; tables = Some t }
+first_live t rounds = record { clusters = length (words_of t); rounds = rounds; log = []; tables = Some t }
 
 -- a round of this cut was made
 abbrev pub with_entry : Live → List ℕ → Live

@@ -1,7 +1,7 @@
 ghost use Rattle.std.specs.Prelude.{◌≡◌, ◌↔◌, ◌⊎◌, ℕ, ◌<◌, ◌≤◌, true, false, length, option_map, Err, IfOk, OnOk, IfErr};
 ghost use Rattle.std.specs.List.{AllByRecursion};
 ghost use Rattle.us_flows.specs.Tables;
-ghost use Rattle.us_flows.specs.Clusters.{clusters_of};
+ghost use Rattle.us_flows.specs.Clusters.{words_of};
 ghost use Rattle.us_flows.specs.Lawful.{AreTables};
 ghost use Rattle.us_slots.specs.Devices.{TookAtMost};
 ghost use Rattle.us_requests.specs.Readings.{max_bytes};
@@ -139,7 +139,7 @@ fn run_with<'a, H: Threads + Sync, W1: Sink, W2: Sink, G: Gate + Sync>(
 ) -> Result<Summary, RunFault>
     requires trace { IsTraceFor config.now trace.now }
     requires workers { 1 ≤ workers }
-    requires open { AreOpen (length (clusters_of config.now)) (option_map (λ i. i.now) intake) seat }
+    requires open { AreOpen (length (words_of config.now)) (option_map (λ i. i.now) intake) seat }
     requires maps_ready { W1.failed maps.old ≡ false }
     requires report_ready { W2.failed report.old ≡ false }
     ensures ends { EndsAs config.now trace.now (grown (W1.contents maps.old) (W1.contents maps.new))
@@ -181,7 +181,7 @@ fn run_kept<'a, H: Threads + Sync, W1: Sink, W2: Sink, G: Gate + Sync>(
 ) -> Result<Summary, RunFault>
     requires lawful { AreTables config.now }
     requires trace { IsTraceFor config.now trace.now }
-    requires opening { progress ≡ opening_progress (length (clusters_of config.now)) }
+    requires opening { progress ≡ opening_progress (length (words_of config.now)) }
     requires maps_ready { W1.failed maps.old ≡ false }
     requires report_ready { W2.failed report.old ≡ false }
     ensures ends { EndsAs config.now trace.now (grown (W1.contents maps.old) (W1.contents maps.new))
@@ -218,7 +218,7 @@ fn run_by<'a, D: Doers<'a>, W1: Sink, W2: Sink>(
     report: &mut W2,
 ) -> Result<Summary, RunFault>
     requires trace { IsTraceFor config.now trace.now }
-    requires opening { progress.old ≡ opening_progress (length (clusters_of config.now)) }
+    requires opening { progress.old ≡ opening_progress (length (words_of config.now)) }
     requires doers { D.knows doers.old config.now }
     requires maps_ready { W1.failed maps.old ≡ false }
     requires report_ready { W2.failed report.old ≡ false }

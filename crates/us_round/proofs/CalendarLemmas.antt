@@ -9,6 +9,7 @@ use Rattle.us_flows.specs.Tables.{Tables}
 use Rattle.us_flows.specs.Lawful.{AreTables}
 use Rattle.us_calendar.specs.Calendars.{Calendar, IsCalendar, opening, pace_of, settled_in, max_settled}
 use Rattle.us_calendar.specs.Entries.{Entry, entries}
+use Rattle.us_calendar.specs.Settling as calendar
 use Rattle.us_calendar.specs.Settling.{EntryState}
 use Rattle.us_bucket.specs.Levels.{full}
 use Rattle.us_flows.specs.Clusters.{words_of}
@@ -136,7 +137,7 @@ then_kept plan (f ∷ fs) =
     )
 
 pub counted : (plan : List Planned) (fs : List Filled) (cs : List Calendar) →
-    settled_now fs + sum_by settled_in cs ≡ settled_then fs → AreCounted cs (map (build_planned plan) fs)
+    settled_now fs + sum_by settled_in cs ≤ settled_then fs → AreCounted cs (map (build_planned plan) fs)
 counted plan fs cs counts = omega (arith, counts, now_kept plan fs, then_kept plan fs)
 
 -- Before round 0.
@@ -161,7 +162,7 @@ opening_rounds t [] = tt
 opening_rounds t (c ∷ channels) = (refl, opening_rounds t channels)
 
 none_settled : (es : List Entry) →
-    sum_by (λ (state : EntryState). length state.settled) (map (λ e. record { entry = e; settled = [] }) es) ≡ 0
+    sum_by (λ (state : EntryState). length state.settled) (map calendar.opening_state es) ≡ 0
 none_settled [] = refl
 none_settled (e ∷ es) = none_settled es
 

@@ -1,6 +1,5 @@
 -- The rounds of a schedule, one after another: each begins with a state, and is sound.
 use Rattle.std.proofs.Common.{◌≡◌, ℕ, ◌+◌, ◌<◌, ◌==◌, List, [], ◌∷◌, length, map, refl, ap, sym, subst, ◌∙◌, inl, inr, arith}
-use Rattle.std.specs.Prelude.{zip}
 use Rattle.std.specs.List.{AllByRecursion}
 use Rattle.std.proofs.lemmas.Bool.{cases_Bool}
 use Rattle.std.proofs.lemmas.List.{length-map}
@@ -16,7 +15,8 @@ use Rattle.us_round.specs.States.{IsState, AreSound}
 use Rattle.us_round.specs.ScheduleLaws.{begun_rounds, AreCuts, ScheduleIsOfBegunRounds, RoundsAreNumbered, TablesStay, RoundsAreSound}
 use Rattle.us_output.proofs.PartLemmas.{all_weaker}
 use Rattle.us_round.proofs.FillLemmas.{filled_idle}
-use Rattle.us_round.proofs.PhaseLemmas.{filled_sound, zip_long}
+use Rattle.us_round.proofs.CutLemmas.{asked_long, paces_heard, rounds_heard}
+use Rattle.us_round.proofs.PhaseLemmas.{filled_sound}
 use Rattle.us_round.proofs.CalendarLemmas.{state_next, opening_state}
 use Rattle.us_round.proofs.ReserveLemmas.{unreserved-length}
 use Rattle.us_round.proofs.SoundLemmas.{sound, turns_planned}
@@ -32,12 +32,11 @@ brought-length s levels = elim (cases_Bool (s.round == 0)) [
 -- a round begins with a state,
 pub begun_state : (s : State) (cut : List ℕ) → IsState s → length cut ≡ length (words_of s.tables) → IsState (begun s cut)
 begun_state s cut is long = record {
-  words = length-map (zip s.outstanding cut) (λ (pair : ℕ × ℕ). pair.0 + pair.1)
-      ∙ zip_long s.outstanding cut (omega (arith, long, is.words)) ∙ long;
+  words = asked_long s.tables s.outstanding cut is.words long;
   flows = brought-length s s.buckets ∙ is.flows;
   reserves = brought-length s s.reserves ∙ is.reserves;
-  paces = is.paces;
-  rounds = is.rounds;
+  paces = paces_heard cut s.calendars ∙ is.paces;
+  rounds = rounds_heard cut s.round s.calendars is.rounds;
 }
 
 pub calendars_in : (s : State) → IsState s → AreCalendars s.tables s.round s.calendars

@@ -144,7 +144,7 @@ pub record AreKept (t : Tables) (asks : Asking) (kept least : Buckets) (plans : 
   pub buckets : AreBuckets t kept
   pub reserves : AreBuckets t least
   pub round : least.round ≡ kept.round
-  pub asks : asks.tables ≡ t
+  pub tables : asks.tables ≡ t
   pub settled : asks.left ≡ asks.outstanding
   pub planner : plans.tables ≡ t
   pub allowances : length most ≡ length t.flows

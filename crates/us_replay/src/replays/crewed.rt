@@ -23,7 +23,7 @@ pub(super) struct WithCrew<'a, 'm, 'r, D, W1, W2> {
 impl<'a, 'm, 'r, D: Doers<'a> + Drop, W1: Sink, W2: Sink> Meanwhile
     for WithCrew<'a, 'm, 'r, D, W1, W2> {
     ghost use Rattle.std.specs.Prelude.{◌≡◌, false, length};
-    ghost use Rattle.us_flows.specs.Clusters.{clusters_of};
+    ghost use Rattle.us_flows.specs.Clusters.{words_of};
     ghost use Rattle.us_replay.specs.Endings.{blames_maps, blames_report};
     ghost use Rattle.us_replay.specs.Progress.{EndsAs, IsTraceFor, grown, opening_progress};
 
@@ -31,7 +31,7 @@ impl<'a, 'm, 'r, D: Doers<'a> + Drop, W1: Sink, W2: Sink> Meanwhile
     type Output = (Result<Summary, RunFault>, &'m mut W1, &'r mut W2);
 
     ghost can_run = { λ t. IsTraceFor t.config.now t.trace.now × D.knows t.doers t.config.now
-        × (t.progress ≡ opening_progress (length (clusters_of t.config.now)))
+        × (t.progress ≡ opening_progress (length (words_of t.config.now)))
         × (W1.failed t.maps.now ≡ false) × (W2.failed t.report.now ≡ false) };
 
     ghost gives = { λ t r. (r.1.ghost_name ≡ t.maps.ghost_name) × (r.2.ghost_name ≡ t.report.ghost_name)

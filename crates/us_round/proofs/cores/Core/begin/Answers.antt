@@ -20,5 +20,5 @@ returns-clause-value c =
     let kept = kept_too a c.self.inside.kept.value c.as_mut.ensures.value c.self.invariant in
     let told : core_in a ≡ c.args.self.now = ap core_in c.as_mut.ensures.value ∙ c.self.view_is in
     begun_value a.config a.round c.args.cuts.now a.askers c.add_all.new.self a.buckets c.begin.new.self a.reserves
-    c.begin-2.new.self a.planner kept.buckets.ticks kept.reserves.ticks c.add_all.ensures c.begin.ensures c.begin-2.ensures
+    c.begin-2.new.self a.planner kept.tables kept.buckets.ticks kept.reserves.ticks c.add_all.ensures c.begin.ensures c.begin-2.ensures
     ∙ ap (λ s. begun_core s c.args.cuts.now) told
