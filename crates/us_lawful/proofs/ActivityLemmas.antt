@@ -1,5 +1,5 @@
 -- What the calendars of a schedule know of the activity of flows: what its cuts say.
-use Rattle.std.proofs.Common.{◌≡◌, ℕ, zero, suc, ◌<◌, ◌==◌, eq-eqb, eqb-true, Bool, true, false, List, [], ◌∷◌, ◌++◌, length, map, Contains, IsPermutation, Option, Some, None, IfSome, refl, sym, ap, ap₂, subst, ◌∙◌, arith, inl, inr}
+use Rattle.std.proofs.Common.{◌≡◌, ℕ, zero, suc, ◌==◌, eq-eqb, eqb-true, Bool, true, false, List, [], ◌∷◌, ◌++◌, length, map, Contains, IsPermutation, Option, Some, None, IfSome, refl, sym, ap, ap₂, ◌∙◌, arith, inl, inr}
 use Rattle.std.specs.Prelude.{◌&&◌, if◌then◌else◌, find, filter_map, is_some, option_and_then, option_map, slice_get, slice_index, zip}
 use Rattle.std.specs.List.{AllByRecursion, cons_option, list_any}
 use Rattle.std.proofs.lemmas.Bool.{cases_Bool, false≢true}
