@@ -1,11 +1,11 @@
 -- What the calendars of a schedule know of the activity of flows: what its cuts say.
-use Rattle.std.proofs.Common.{◌≡◌, ℕ, zero, suc, ◌<◌, ◌==◌, eq-eqb, eqb-true, Bool, true, false, List, [], ◌∷◌, ◌++◌, length, map, Contains, IsPermutation, Option, Some, None, IfSome, refl, sym, ap, ap₂, subst, ◌∙◌, arith, inl, inr}
-use Rattle.std.specs.Prelude.{◌&&◌, if◌then◌else◌, find, filter_map, is_some, option_and_then, option_map, slice_get, slice_index, zip}
-use Rattle.std.specs.List.{AllByRecursion, cons_option, list_any}
+use Rattle.std.proofs.Common.{◌≡◌, ℕ, zero, suc, ◌==◌, eq-eqb, eqb-true, Bool, true, false, List, [], ◌∷◌, ◌++◌, length, map, Contains, Option, Some, None, IfSome, refl, sym, ap, ap₂, ◌∙◌, arith, inl, inr}
+use Rattle.std.specs.Prelude.{◌&&◌, if◌then◌else◌, find, is_some, option_and_then, option_map, slice_get, slice_index, zip}
+use Rattle.std.specs.List.{AllByRecursion}
 use Rattle.std.proofs.lemmas.Bool.{cases_Bool, false≢true}
 use Rattle.std.proofs.lemmas.List.{length-map}
 use Rattle.std.proofs.lemmas.List.Elements.{Contains-append_left}
-use Rattle.std.proofs.lemmas.List.Sorted.{Contains-permutation, IsPermutation-sym}
+use Rattle.std.proofs.lemmas.List.Sorted.{Contains-permutation}
 use Rattle.std.proofs.lemmas.Option.{slice_get-map, slice_get-get_or}
 use Rattle.std.proofs.lemmas.Simd.{map-map}
 use Rattle.us_flows.specs.declared.channels.Channel.{Channel}
@@ -31,11 +31,11 @@ use Rattle.us_channel.specs.Channels.{Built, fill}
 use Rattle.us_channel.specs.Reserves.{reserves}
 use Rattle.us_round.specs.Rounds.{State, opening, begun, round_plan, build_planned, builds_of, round_from, round_of, final}
 use Rattle.us_round.specs.States as states
-use Rattle.us_output.proofs.PartLemmas.{all_append, all_contained, all_found}
+use Rattle.us_output.proofs.PartLemmas.{all_append, all_found}
 use Rattle.us_lawful.specs.Finals.{active_after}
 use Rattle.us_lawful.proofs.RoundLemmas.{final_tables, found_made}
-use Rattle.us_lawful.proofs.ItemLemmas.{any_placed}
-use Rattle.us_lawful.proofs.CalendarLineLemmas.{all_among, all_by_places}
+use Rattle.us_lawful.proofs.ItemLemmas.{all_made, any_placed, find_some, made_there, moved_all}
+use Rattle.us_lawful.proofs.CalendarLineLemmas.{all_by_places}
 
 -- Round by round.
 
@@ -239,48 +239,6 @@ station_by_word cuts c f s = elim (cases_Bool (s.channel == c.id)) [
   | inr out ↦ rw out tt
 ]
 
--- what holds of all that is made holds of all that there is
-with_made : {Y : Type 0} (P : Y → Type 0) (one : Option Y) (more : List Y) → IfSome one P → AllByRecursion P more →
-    AllByRecursion P (cons_option one more)
-with_made P None more is all = all
-with_made P (Some y) more is all = (is, all)
-
-all_made : {X Y : Type 0} (P : Y → Type 0) (h : X → Option Y) (xs : List X) → AllByRecursion (λ x. IfSome (h x) P) xs →
-    AllByRecursion P (filter_map h xs)
-all_made P h [] each = tt
-all_made P h (x ∷ xs) each = with_made P (h x) (filter_map h xs) each.0 (all_made P h xs each.1)
-
-still_there : {Y : Type 0} (one : Option Y) (more : List Y) (y : Y) → Contains more y → Contains (cons_option one more) y
-still_there None more y has = has
-still_there (Some first) more y has = (suc has.0, omega (arith, has.1), has.2)
-
-made_there : {X Y : Type 0} (h : X → Option Y) (xs : List X) (place : ℕ) (x : X) (y : Y) → slice_get xs place ≡ Some x →
-    h x ≡ Some y → Contains (filter_map h xs) y
-made_there h [] place x y at is = absurd (cc at)
-made_there h (z ∷ xs) zero x y at is =
-    let same : z ≡ x = cc in
-    let first : h z ≡ Some y = ap h same ∙ is in
-    rw first (0, omega arith, refl)
-made_there h (z ∷ xs) (suc place) x y at is =
-    still_there (h z) (filter_map h xs) y (made_there h xs place x y at is)
-
--- what is found passes, and what holds of all holds of it
-record IsFound {X : Type 0} (p : X → Bool) (P : X → Type 0) (xs : List X) : Type 0 where
-  pub item : X
-  pub found : find p xs ≡ Some item
-  pub passes : p item ≡ true
-  pub holds : P item
-
-find_some : {X : Type 0} (p : X → Bool) (P : X → Type 0) (xs : List X) → AllByRecursion P xs → list_any p xs ≡ true →
-    IsFound p P xs
-find_some p P [] all some = absurd (false≢true some)
-find_some p P (x ∷ xs) all some = elim (cases_Bool (p x)) [
-  | inl is ↦ record { item = x; found = rw is refl; passes = is; holds = all.0 }
-  | inr out ↦
-      let more = find_some p P xs all.1 (rw out at some) in
-      record { item = more.item; found = rw out (more.found); passes = more.passes; holds = more.holds }
-]
-
 -- a flow whose activity is detected has an entry on its first channel
 record HasEntry (c : Channel) (f : WordedFlow) : Type 0 where
   pub entry : Entry
@@ -300,12 +258,6 @@ own_entry c f first tells =
     by RealTimePolling never = absurd (false≢true never)
     by ActivityDetection is = (_, refl, eq-eqb f.flow.id f.flow.id refl)
     by UnsolicitedGrant never = absurd (false≢true never)
-
-moved_all : {X : Type 0} (P : X → Type 0) (xs ys : List X) → IsPermutation xs ys → AllByRecursion P xs →
-    AllByRecursion P ys
-moved_all P xs ys moved all =
-    all_contained P ys
-    (λ x has. all_among P xs x all (Contains-permutation ys xs x (IsPermutation-sym xs ys moved) has))
 
 -- so of the entries of that channel the first one that is heard for it is told by its word
 entry_told : (t : Tables) (cuts : List (List ℕ)) (c : Channel) (i : ℕ) (f : WordedFlow) → AreTables t →

@@ -103,10 +103,7 @@ fn activities(rt: HostRuntime) {
             active: u64::MAX,
         }),
     ];
-    match report_rows(
-        rt.alloc(),
-        b"A,1,1\nA,65535,0\nA,0,18446744073709551615\n",
-    ) {
+    match report_rows(rt.alloc(), b"A,1,1\nA,65535,0\nA,0,18446744073709551615\n") {
         Ok(rows) => same(&rt, &rows.as_slice(), &wanted.as_slice(), "rows"),
         Err(fault) => same(&rt, &Some(fault), &None, "rows"),
     }
