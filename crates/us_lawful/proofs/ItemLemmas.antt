@@ -19,6 +19,11 @@ pub sum_zero : {X : Type 0} (f : X → ℕ) (xs : List X) → ((x : X) → f x �
 sum_zero f [] none = refl
 sum_zero f (x ∷ xs) none = omega (arith, sum_by-cons f x xs, none x, sum_zero f xs none)
 
+-- and no more where each adds no more
+pub sum_most : {X : Type 0} (f g : X → ℕ) (xs : List X) → ((x : X) → f x ≤ g x) → sum_by f xs ≤ sum_by g xs
+sum_most f g [] few = omega arith
+sum_most f g (x ∷ xs) few = omega (arith, sum_by-cons f x xs, sum_by-cons g x xs, few x, sum_most f g xs few)
+
 -- two functions that agree at each make the same of a list
 pub map_same : {X Y : Type 0} (f g : X → Y) (xs : List X) → AllByRecursion (λ x. f x ≡ g x) xs → map f xs ≡ map g xs
 map_same f g [] same = refl
