@@ -77,9 +77,10 @@ pub are_marks : (t : Tables) (v : TraceAsks) (marks : List Mark) → IsPermutati
     AreMarksOf t v marks
 unfolding cuts_told
 are_marks t v marks moved = record {
-  told = λ flow word slots round at.
+  told = λ flow silence round at.
+      let word : ℕ = silence.word in
       let noted = are_noted t flow word at in
-      same (length (words_of t)) v marks word slots noted.within (record {
+      same (length (words_of t)) v marks word silence.slots noted.within (record {
         inside = λ r active early.
             sym (list_any-IsPermutation (is_mark word r active) (marks_in (silent_words t) v) marks moved)
             ∙ said_inside (silent_words t) word noted.silent_is noted.active_is v r active early;
@@ -93,7 +94,8 @@ are_marks t v marks moved = record {
 pub none_marks : (t : Tables) (v : TraceAsks) →
     ((k : ℕ) (d : Bool) → k < length (silent_words t) → get_or (silent_words t) k d ≡ false) → AreMarksOf t v []
 none_marks t v none = record {
-  told = λ flow word slots round at.
+  told = λ flow silence round at.
+      let word : ℕ = silence.word in
       let noted = are_noted t flow word at in
       let inside : word < length (silent_words t) =
       omega (arith, noted.within, length-map (words_of t) is_silent) in

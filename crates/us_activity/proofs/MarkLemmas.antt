@@ -86,9 +86,12 @@ module _ (silent : List Bool) (word : ℕ) (silent_is : silent_at silent word �
     | inl same ↦
         rw (eq-eqb cluster word same, eq-eqb round round refl, ne_eqb cluster (word + 1) (λ is. omega (arith, same, is))) refl
     | inr other ↦
-        rw (ne_eqb cluster word other, ne_eqb cluster (word + 1) (λ is.
-        let never : true ≡ false = sym s ∙ ap (silent_at silent) is ∙ active_is in
-        absurd cc)) refl
+        rw (
+          ne_eqb cluster word other,
+          ne_eqb cluster (word + 1) (λ is.
+              let never : true ≡ false = sym s ∙ ap (silent_at silent) is ∙ active_is in
+              absurd cc),
+        ) refl
   ]
   by_silent cluster round false s = elim (cases_eq cluster word) [
     | inl same ↦ rw (eq-eqb cluster word same, eq-eqb round round refl) refl
@@ -105,9 +108,13 @@ module _ (silent : List Bool) (word : ℕ) (silent_is : silent_at silent word �
         rw (ne_eqb (cluster - 1) word other, ne_eqb cluster (word + 1) (λ is. other (omega (arith, is)))) refl
   ]
   by_active cluster round false s some =
-      rw (eq-eqb round round refl, and_false (cluster - 1 == word), ne_eqb cluster word (λ is.
-      let never : false ≡ true = sym s ∙ ap (silent_at silent) is ∙ silent_is in
-      absurd cc)) refl
+      rw (
+        eq-eqb round round refl,
+        and_false (cluster - 1 == word),
+        ne_eqb cluster word (λ is.
+            let never : false ≡ true = sym s ∙ ap (silent_at silent) is ∙ silent_is in
+            absurd cc),
+      ) refl
 
   -- and by no other
   by_none : (cluster : ℕ) (active : Bool) → silent_at silent cluster ≡ false →

@@ -43,7 +43,7 @@ pub word_more : (flow : FlowTable) (before now : List Bool) (place : ℕ) (d : W
 word_more flow before now place d inside is =
     let words : List Word = words_in flow in
     let more : map is_silent (take (place + 1) words) ≡
-        map is_silent (take place words) ++ (tells_activity flow.kind && (place == 0)) ∷ [] =
+    map is_silent (take place words) ++ (tells_activity flow.kind && (place == 0)) ∷ [] =
     ap (map is_silent) (take_more words place d inside)
     ∙ map-append is_silent (take place words) (get_or words place d ∷ [])
     ∙ ap (λ b. map is_silent (take place words) ++ b ∷ []) (first_silent flow place d inside) in

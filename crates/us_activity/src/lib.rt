@@ -22,5 +22,5 @@ mod activities;
 
 pub use activities::Activities;
 
-
-
+#[cfg(test)]
+mod tests;
