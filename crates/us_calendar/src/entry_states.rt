@@ -1,4 +1,4 @@
-ghost use Rattle.std.specs.Prelude.{◌≡◌, ◌+◌, ◌++◌, is_some, length, map, max, OnOk, IfOk};
+ghost use Rattle.std.specs.Prelude.{◌≡◌, ◌+◌, ◌++◌, is_some, true, length, map, max, OnOk, IfOk};
 ghost use Rattle.std.specs.List.{range_with_len};
 ghost use Rattle.us_calendar.specs.Agendas.{due_at};
 ghost use Rattle.us_calendar.specs.Calendars.{is_heard_as};
@@ -25,7 +25,7 @@ pub(crate) struct EntryState {
     // whether its flow is active, as of the last round's cut
     active: bool,
 
-    // whether it was when the next occurrence's interval began, where that has begun
+    // where its activity is detected, whether it was when the next occurrence's interval began, if that has begun
     waiting: Option<bool>,
 }
 
@@ -99,8 +99,9 @@ impl EntryState {
         self.active = hears(&self.entry, self.active, cut);
     }
 
-    /// Of what kind its intervals are in this round.
+    /// Of what kind its intervals are in this round, where its activity is detected.
     fn kinds(&self) -> Kinds
+        requires { is_some self.now.entry.silence ≡ true }
         ensures speaks { speaks_of result ≡ spec.speaks_in self.now }
         ensures at { result.at ≡ ideal self.now.entry (length self.now.settled) }
     {
@@ -129,6 +130,11 @@ impl EntryState {
             (spec.settle_state span.now.pace span.now.round self.old board.old).settlements) }
         ensures known { IsEntryState self.new }
     {
+        // mostly it isn't detected, and nothing is kept
+        if !self.is_heard() {
+            self.next = settle(&self.entry, span, Kinds::always(), self.next, board, settled)?;
+            return Ok(());
+        }
         let kinds = self.kinds();
         let next = settle(&self.entry, span, kinds, self.next, board, settled)?;
         self.waiting = kinds.waiting_at(self.waiting, span.end, next.ideal);

@@ -1,7 +1,7 @@
 -- Each line of a request is right: it is the line of a grant, which is of a turn of the tables.
-use Rattle.std.proofs.Common.{◌≡◌, ℕ, zero, suc, ◌+◌, ◌<◌, ◌≤◌, ◌==◌, eq-eqb, eqb-true, lt-ltb, Bool, true, false, List, [], ◌∷◌, length, map, cond, Some, option_map, refl, sym, ap, ap₂, ◌∙◌, arith, inl, inr}
+use Rattle.std.proofs.Common.{◌≡◌, ℕ, zero, suc, ◌+◌, ◌≤◌, ◌==◌, eq-eqb, eqb-true, lt-ltb, Bool, true, false, List, [], ◌∷◌, length, map, cond, Some, option_map, refl, sym, ap, ap₂, ◌∙◌, arith, inl, inr}
 use Rattle.std.specs.Prelude.{◌&&◌, ◌||◌, not, nat_lt, count_by, sum_by, slice_get}
-use Rattle.std.specs.List.{AllByRecursion, list_all, list_any, range_with_len}
+use Rattle.std.specs.List.{AllByRecursion, list_all, list_any}
 use Rattle.std.proofs.lemmas.Bool.{cases_Bool, and_from, or_left, or_right}
 use Rattle.std.proofs.lemmas.List.Sums.{sum_by-cons}
 use Rattle.std.proofs.lemmas.Option.{slice_get-map}
@@ -24,19 +24,19 @@ use Rattle.us_output.specs.declared.rows.EntryWord.TheVariants as words
 use Rattle.us_output.specs.declared.rows.Grant.{Grant}
 use Rattle.us_output.specs.declared.rows.Row.{Row}
 use Rattle.us_output.specs.declared.rows.Row.TheVariants as rows
-use Rattle.us_round.specs.Rounds.{State, opening, builds_of, final}
-use Rattle.us_output.specs.Outputs.{entry_word, settled_row, grant_row, final_row}
-use Rattle.us_round.specs.States.{final_rows}
+use Rattle.us_round.specs.Rounds.{State, builds_of}
+use Rattle.us_output.specs.Outputs.{entry_word, settled_row, grant_row}
 use Rattle.us_round.specs.ScheduleLaws.{AreCuts}
 use Rattle.us_output.proofs.PartLemmas.{all_found, all_weaker}
 use Rattle.us_round.proofs.ChannelRunLaws.{channels_stay}
 use Rattle.us_lawful.specs.declared.place.Place.{Place}
 use Rattle.us_lawful.specs.Runs.{Run, as_grant, is_requested, grants_in, requested_in}
-use Rattle.us_lawful.specs.Output.{counts_row, output_of, judged_of, run_of}
+use Rattle.us_lawful.specs.Output.{output_of, judged_of, run_of}
 use Rattle.us_lawful.specs.Places.{is_told_at}
 use Rattle.us_lawful.specs.Credits.{is_of, has_cost, is_like, is_right_for, is_right_credit, is_credit_at, credit_lines_hold}
 use Rattle.us_lawful.proofs.SameLemmas.{worth, sum_append, sum_filter, sum_filter_map, sum_flat_map, sum_map}
 use Rattle.us_lawful.proofs.SumLemmas.{sum_none, sum_same}
+use Rattle.us_lawful.proofs.ItemLemmas.{some_counted}
 use Rattle.us_lawful.proofs.RoundLemmas.{IsRoundOf, last_all, last_rows, round_at, round_rows, rounds_are, rounds_of, rows_in, sum_at, sum_lines}
 use Rattle.us_lawful.proofs.GrantLemmas.{HasClaims, IsTurnGrant, builds_claimed, grants_of_turns, grants_once, same_cluster}
 
@@ -72,7 +72,7 @@ none_fails q (x ∷ xs) none =
     ]
 
 -- one that passes is counted
-counted_there : {X : Type 0} (p : X → Bool) (xs : List X) (place : ℕ) (x : X) → slice_get xs place ≡ Some x → p x ≡ true →
+pub counted_there : {X : Type 0} (p : X → Bool) (xs : List X) (place : ℕ) (x : X) → slice_get xs place ≡ Some x → p x ≡ true →
     1 ≤ count_by p xs
 counted_there p [] place x at is = absurd (cc at)
 counted_there p (y ∷ xs) zero x at is =
@@ -85,20 +85,6 @@ counted_there p (y ∷ xs) (suc place) x at is =
     omega (arith, all, counted_there p xs place x at is)
 
 -- Turns.
-
--- one that is counted stands at a place
-some_counted : {X : Type 0} (p : X → Bool) (xs : List X) → 1 ≤ count_by p xs →
-    (place : ℕ) × (x : X) × (slice_get xs place ≡ Some x) × (p x ≡ true)
-some_counted p [] some = absurd (omega (arith, some))
-some_counted p (x ∷ xs) some =
-    let all : count_by p (x ∷ xs) ≡ cond {A = ℕ} (p x) 1 0 + count_by p xs = sum_by-cons (λ x. cond (p x) 1 0) x xs in
-    elim (cases_Bool (p x)) [
-      | inl is ↦ (0, x, refl, is)
-      | inr out ↦
-          let none : cond {A = ℕ} (p x) 1 0 ≡ 0 = rw out refl in
-          let more = some_counted p xs (omega (arith, some, all, none)) in
-          (suc more.0, more.1, more.2, more.3)
-    ]
 
 -- a turn of the tables stands in table order: its word has one turn
 pub turn_listed : (t : Tables) (turn : Turn) → IsTurnIn t turn →

@@ -20,7 +20,7 @@ use Rattle.us_output.specs.declared.rows.FinalActivity.{FinalActivity}
 use Rattle.us_output.specs.declared.rows.FinalState.{FinalState}
 use Rattle.us_output.specs.declared.rows.Row.{Row}
 use Rattle.us_output.specs.declared.rows.Row.TheVariants as rows
-use Rattle.us_round.specs.Rounds.{State, opening, builds_of, ended, schedule, final}
+use Rattle.us_round.specs.Rounds.{State, opening, builds_of, ended, round_from, round_of, schedule, final}
 use Rattle.us_output.specs.Outputs.{Scheduled, RoundOut, is_granted, settled_row, grant_row, by_start, granted_rows, missed_rows, rows_on, activity_rows, final_row, out_of}
 use Rattle.us_round.specs.States.{activity_of, final_rows, IsState, AreSound}
 use Rattle.us_output.specs.Leftovers.{AreInside}
@@ -68,6 +68,12 @@ rounds_long t cuts =
     range_long : (from n : ℕ) → length (range_with_len from n) ≡ n
     range_long from zero = refl
     range_long from (suc n) = ap suc (range_long (from + 1) n)
+
+-- a schedule keeps its tables
+pub final_tables : (s : State) (cuts : List (List ℕ)) → (final s cuts).tables ≡ s.tables
+unfolding final round_of round_from
+final_tables s [] = refl
+final_tables s (cut ∷ cuts) = final_tables (round_of s cut).state cuts
 
 -- an item that is there, of a list of what others are made into
 pub found_made : {X Y : Type 0} (f : X → Y) (xs : List X) (place : ℕ) (y : Y) → slice_get (map f xs) place ≡ Some y →

@@ -1,29 +1,22 @@
 -- How often the lines of a run name an occurrence: as often as the calendar of its channel settles it.
-use Rattle.std.proofs.Common.{◌≡◌, ℕ, ◌+◌, ◌||◌, cond, List, [], ◌∷◌, ◌++◌, length, map, sum_by, count_by, flat_map, slice_get, option_map, Some, refl, sym, ap, subst, ◌∙◌, arith}
-use Rattle.std.specs.Prelude.{slice_index, option_and_then}
-use Rattle.std.specs.List.{AllByRecursion}
+use Rattle.std.proofs.Common.{◌≡◌, ℕ, ◌+◌, ◌||◌, cond, List, [], ◌++◌, length, map, sum_by, count_by, flat_map, slice_get, option_map, Some, refl, sym, ap, subst, ◌∙◌, arith}
 use Rattle.std.proofs.lemmas.Option.{slice_get-map, get_or_from_slice_get}
 use Rattle.us_flows.specs.declared.channels.Channel.{Channel}
 use Rattle.us_flows.specs.Tables.{Tables}
-use Rattle.us_flows.specs.Clusters.{Turn, table_order}
 use Rattle.us_flows.specs.Lawful.{AreTables}
-use Rattle.us_bucket.specs.Levels.{Level, units_in}
 use Rattle.us_requests.specs.declared.asks.Counts.{Counts}
 use Rattle.us_calendar.specs.Entries.{Entry}
 use Rattle.us_calendar.specs.Runs as runs
 use Rattle.us_calendar.specs.Runs.{Round, grants, misses}
 use Rattle.us_channel.specs.Channels.{Built}
-use Rattle.us_output.specs.declared.rows.FinalState.{FinalState}
 use Rattle.us_output.specs.declared.rows.Row.{Row}
-use Rattle.us_output.specs.declared.rows.Row.TheVariants as rows
-use Rattle.us_round.specs.Rounds.{State, opening, builds_of, ended, final}
-use Rattle.us_output.specs.Outputs.{Scheduled, final_row}
-use Rattle.us_round.specs.States.{final_rows}
+use Rattle.us_round.specs.Rounds.{State, opening, builds_of, ended}
+use Rattle.us_output.specs.Outputs.{Scheduled}
 use Rattle.us_round.specs.ScheduleLaws.{AreCuts, settled_at}
-use Rattle.us_output.proofs.PartLemmas.{all_append, all_found}
+use Rattle.us_output.proofs.PartLemmas.{all_found}
 use Rattle.us_round.proofs.ChannelRunLaws.{calendars_run, channels_stay}
 use Rattle.us_round.proofs.ScheduleLaws.{schedule_is_of_begun_rounds}
-use Rattle.us_lawful.specs.Output.{counts_row, output_of, judged_of}
+use Rattle.us_lawful.specs.Output.{output_of, judged_of}
 use Rattle.us_lawful.specs.CalendarLines.{names, times}
 use Rattle.us_lawful.proofs.SameLemmas.{Same, sum_append, sum_flat_map}
 use Rattle.us_lawful.proofs.SumLemmas.{sum_none}

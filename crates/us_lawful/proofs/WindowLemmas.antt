@@ -1,8 +1,7 @@
 -- When windows close: what becomes of an occurrence in the rounds of a run, told by the run's quarters.
-use Rattle.std.proofs.Common.{◌≡◌, ℕ, zero, suc, ◌+◌, ◌-◌, ◌*◌, ◌/◌, ◌<◌, ◌≤◌, nat_lt, ◌||◌, Bool, true, false, cond, List, [], ◌∷◌, length, sum_by, count_by, slice_get, Some, refl, sym, ap, subst, ◌∙◌, arith, inl, inr, lt-ltb, ltb-true, ltb-false}
+use Rattle.std.proofs.Common.{◌≡◌, ℕ, suc, ◌+◌, ◌-◌, ◌*◌, ◌/◌, ◌<◌, ◌≤◌, nat_lt, ◌||◌, Bool, true, false, cond, List, [], ◌∷◌, length, sum_by, count_by, slice_get, Some, refl, sym, ap, subst, ◌∙◌, arith, inl, inr, lt-ltb, ltb-true, ltb-false}
 use Rattle.std.specs.List.{AllByRecursion}
 use Rattle.std.proofs.lemmas.Bool.{cases_Bool, false≢true}
-use Rattle.std.proofs.lemmas.List.Sums.{sum_by-cons}
 use Rattle.std.proofs.lemmas.List.FromFn.{length-map-range_with_len}
 use Rattle.std.proofs.lemmas.Nat.{div-mul-add, mul-le}
 use Rattle.us_slots.specs.Times.{minislot_ticks}
@@ -22,6 +21,7 @@ use Rattle.us_round.specs.ScheduleLaws.{boards_of}
 use Rattle.us_lawful.specs.CalendarLines.{round_quarters}
 use Rattle.us_output.proofs.PartLemmas.{all_weaker}
 use Rattle.us_lawful.proofs.SumLemmas.{sum_same, sum_both}
+use Rattle.us_lawful.proofs.ItemLemmas.{none_passing, of_each, part_of_none}
 
 -- Ends of rounds.
 
@@ -143,32 +143,6 @@ open_once t c cuts speaks e n is once opens =
     omega (arith, waits.0, waits.1)
 
 -- What a round settles is of occurrences that come.
-
-of_each : {X : Type 0} (P : X → Type 0) (xs : List X) → ((x : X) → P x) → AllByRecursion P xs
-of_each P [] each = tt
-of_each P (x ∷ xs) each = (each x, of_each P xs each)
-
--- where none is counted, none passes
-none_passing : {X : Type 0} (p : X → Bool) (xs : List X) → count_by p xs ≡ 0 → AllByRecursion (λ x. p x ≡ false) xs
-none_passing p [] none = tt
-none_passing p (x ∷ xs) none =
-    let all : count_by p (x ∷ xs) ≡ cond {A = ℕ} (p x) 1 0 + count_by p xs = sum_by-cons (λ x. cond (p x) 1 0) x xs in
-    elim (cases_Bool (p x)) [
-      | inl is ↦
-          let one : cond {A = ℕ} (p x) 1 0 ≡ 1 = rw is refl in
-          absurd (omega (arith, all, one, none))
-      | inr out ↦ (out, none_passing p xs (omega (arith, all, none)))
-    ]
-
--- of a sum of nothing each part is nothing
-part_of_none : {X : Type 0} (f : X → ℕ) (xs : List X) (place : ℕ) (x : X) → sum_by f xs ≡ 0 →
-    slice_get xs place ≡ Some x → f x ≡ 0
-part_of_none f [] place x none at = absurd (cc at)
-part_of_none f (y ∷ xs) zero x none at =
-    let same : y ≡ x = cc in
-    omega (arith, none, sum_by-cons f y xs, ap f same)
-part_of_none f (y ∷ xs) (suc place) x none at =
-    part_of_none f xs place x (omega (arith, none, sum_by-cons f y xs)) at
 
 pub settled_come : (pace : Pace) (speaks : ℕ → Bool) (rounds : List Round) (e : Entry) (n r : ℕ) (round : Round) →
     IsSettledOnce pace speaks rounds e n → slice_get rounds r ≡ Some round →

@@ -152,7 +152,7 @@ all_known s (cut ∷ cuts) known =
     let heard : AllByRecursion AreKnown now.calendars = heard_known cut s.calendars known in (
       heard,
       all_known (round_of s cut).state cuts
-      (calendars_known s.tables s.round (round_plan now) s.tables.channels now.calendars heard),
+          (calendars_known s.tables s.round (round_plan now) s.tables.channels now.calendars heard),
     )
 
 -- the MAPs of a round

@@ -108,12 +108,7 @@ fn push_flow(text: &mut String, id: u16, two_clusters: bool) -> Result<(), Alloc
 }
 
 /// The cut of a round.
-fn cut_of(
-    alloc: Global,
-    case: &Case<'_>,
-    number: u32,
-    words: usize,
-) -> Result<Vec<u64>, NoMemory> {
+fn cut_of(alloc: Global, case: &Case<'_>, number: u32, words: usize) -> Result<Vec<u64>, NoMemory> {
     let (first, others) = match number {
         1 => case.asks,
         2 => case.asks_next,

@@ -3,7 +3,6 @@ use Rattle.std.specs.Vec.{with_items}
 use Rattle.std.proofs.lemmas.List.{places, with_items_is}
 use Rattle.us_flows.specs.Clusters.{words_of}
 use Rattle.us_channel.specs.Channels.{heard}
-use Rattle.us_round.specs.Cores.{begun_core}
 use Rattle.us_round.specs.Parts.{ArePartsOfRound, state_of}
 use Rattle.us_round.specs.Rounds.{begun}
 use Rattle.us_round.proofs.StageLemmas.{begun_as, begun_parts}

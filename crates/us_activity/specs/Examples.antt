@@ -1,0 +1,1 @@
+-- Small inputs, computed by the definitions alone.
