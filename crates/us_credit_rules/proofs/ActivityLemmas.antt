@@ -39,7 +39,7 @@ asked_alone p q none (x ∷ xs) = elim (cases_Bool (p x)) [
   | inr out ↦ rw (out, none x out) (asked_alone p q none xs)
 ]
 
-pub told_once : (told : List FinalActivity) (a : FinalActivity) →
+told_once : (told : List FinalActivity) (a : FinalActivity) →
     is_told_once told a
     ≡ ((length (filter (λ other. other.flow == a.flow) told) == 1)
     && list_any (is_same_activity a) (filter (λ other. other.flow == a.flow) told))
@@ -49,7 +49,7 @@ told_once told a =
     (λ other out. and_left (a.flow == other.flow) (a.active == other.active) (turned a.flow other.flow ∙ out)) told)
 
 -- of one alone
-pub only_one : (own : List FinalActivity) (d a : FinalActivity) → length own ≡ 1 →
+only_one : (own : List FinalActivity) (d a : FinalActivity) → length own ≡ 1 →
     list_any (is_same_activity a) own ≡ is_same_activity a (get_or own 0 d)
 only_one [] d a long = absurd (omega (arith, long))
 only_one (x ∷ []) d a long = or_nothing (is_same_activity a x)
@@ -58,6 +58,24 @@ only_one (x ∷ []) d a long = or_nothing (is_same_activity a x)
     or_nothing true = refl
     or_nothing false = refl
 only_one (x ∷ y ∷ own) d a long = absurd (omega (arith, long))
+
+-- as it is told by those of its flow
+pub told_alone : (told own : List FinalActivity) (d a : FinalActivity) → own ≡ filter (λ other. other.flow == a.flow) told →
+    length own ≡ 1 →
+    is_told_once told a ≡ (((get_or own 0 d).flow == a.flow) && ((get_or own 0 d).active == a.active))
+told_alone told own d a is long =
+    told_once told a
+    ∙ ap (λ these. (length these == 1) && list_any (is_same_activity a) these) (sym is)
+    ∙ ap (λ b. b && list_any (is_same_activity a) own) (eq-eqb (length own) 1 long)
+    ∙ only_one own d a long
+    ∙ ap₂ (λ b c. b && c) (turned a.flow (get_or own 0 d).flow) (turned a.active (get_or own 0 d).active)
+
+pub not_alone : (told own : List FinalActivity) (a : FinalActivity) → own ≡ filter (λ other. other.flow == a.flow) told →
+    (length own ≡ 1 → ⊥) → is_told_once told a ≡ false
+not_alone told own a is long =
+    told_once told a
+    ∙ ap (λ these. (length these == 1) && list_any (is_same_activity a) these) (sym is)
+    ∙ ap (λ b. b && list_any (is_same_activity a) own) (ne_eqb (length own) 1 long)
 
 -- The rule.
 

@@ -92,15 +92,7 @@ talkers_there t talkers rounds is long =
     rw (is, long)
     (all_mapped (λ (talker : Talker). talker.word + 1 < length (words_of t)) talker_of (talking t) (talking_there t))
 
--- without one there are no lines
-pub none_wanted : (t : Tables) (v : TraceAsks) → map talker_of (talking t) ≡ [] → [] ≡ wanted (run_in t v)
-none_wanted t v none = of (talking t) none
-  where
-    of : (fs : List WordedFlow) → map talker_of fs ≡ [] → [] ≡ map (activity_of (run_in t v)) fs
-    of [] none = refl
-    of (f ∷ fs) none = absurd (cc none)
-
--- and else they are these
+-- the A lines that they lead to
 pub wanted_is : (t : Tables) (v : TraceAsks) (rounds : List ℕ) (talkers : List Talker) →
     rounds ≡ map (λ word. up_to_mark v word v.rounds) (range_with_len 0 (length (words_of t))) →
     talkers ≡ map talker_of (talking t) → map (line_of rounds) talkers ≡ wanted (run_in t v)

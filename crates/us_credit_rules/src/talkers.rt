@@ -32,7 +32,8 @@ pub(crate) fn wanted(
         return Ok(Vec::new(alloc));
     }
     let rounds = up_to_marks(alloc, config.clusters(), trace)?;
-    lines_of(alloc, &rounds, &talkers)
+    let lines = lines_of(alloc, &rounds, &talkers)?;
+    Ok(lines)
 }
 
 /// The flows that tell their activity, in table order.
