@@ -1,16 +1,15 @@
 -- Flows that tell their activity, as they are listed, and the A lines that a run should end with.
-use Rattle.std.proofs.Common.{◌≡◌, ℕ, ◌+◌, ◌<◌, Bool, true, false, cond, List, [], ◌∷◌, ◌++◌, length, map, get_or, drop, refl, sym, ap, ap₂, ◌∙◌, inl, inr, append_assoc, arith}
+use Rattle.std.proofs.Common.{◌≡◌, ℕ, ◌+◌, ◌<◌, Bool, true, false, List, [], ◌∷◌, ◌++◌, length, map, get_or, drop, refl, sym, ap, ap₂, ◌∙◌, inl, inr, append_assoc, arith}
 use Rattle.std.specs.Prelude.{if◌then◌else◌, nat_le, filter, flat_map, slice_index}
 use Rattle.std.specs.List.{AllByRecursion, range_with_len}
 use Rattle.std.proofs.lemmas.Bool.{cases_Bool}
 use Rattle.std.proofs.lemmas.List.{drop_more, length-append}
-use Rattle.std.proofs.lemmas.List.FromFn.{get_or-map-range_with_len, length-map-range_with_len}
+use Rattle.std.proofs.lemmas.List.FromFn.{get_or-map-range_with_len}
 use Rattle.us_flows.specs.Tables.{Tables, FlowTable}
 use Rattle.us_flows.specs.Clusters.{tells_activity, words_in, words_of}
 use Rattle.us_flows.proofs.WordLemmas.{words-activity}
 use Rattle.us_requests.specs.Traces.{TraceAsks}
 use Rattle.us_calendar.specs.Entries.{WordedFlow, with_words}
-use Rattle.us_output.specs.declared.rows.FinalActivity.{FinalActivity}
 use Rattle.us_output.proofs.PartLemmas.{all_mapped, all_weaker}
 use Rattle.us_lawful.specs.Runs.{run_in}
 use Rattle.us_lawful.specs.Finals.{activity_of, talking}
@@ -74,11 +73,14 @@ words_there word (flow ∷ flows) =
 
     there : (tells : Bool) → tells_activity flow.kind ≡ tells → (fs : List WordedFlow) → AllByRecursion Inside fs →
         AllByRecursion Inside (if tells then record { word = word; flow = flow } ∷ fs else fs)
-    there true tells fs rest = (omega (
-      arith,
-      length-append (words_in flow) (flat_map words_in flows),
-      ap length (words-activity flow tells),
-    ), rest)
+    there true tells fs rest = (
+      omega (
+        arith,
+        length-append (words_in flow) (flat_map words_in flows),
+        ap length (words-activity flow tells),
+      ),
+      rest,
+    )
     there false none fs rest = rest
 
 talking_there : (t : Tables) → AllByRecursion (λ f. f.word + 1 < length (words_of t)) (talking t)

@@ -1,5 +1,5 @@
 -- F lines, as they are judged: each names a cluster, and each cluster has one.
-use Rattle.std.specs.Prelude.{ℕ, ◌-◌, ◌==◌, ◌&&◌, nat_eq, Bool, false, List, [], ◌∷◌, filter, Option, Some, None}
+use Rattle.std.specs.Prelude.{ℕ, ◌-◌, ◌==◌, ◌&&◌, nat_eq, Bool, false, List, [], ◌∷◌, filter, Option}
 use Rattle.std.specs.Option.{is_some, option_eq}
 use Rattle.us_flows.specs.Tables.{FlowTable}
 use Rattle.us_flows.specs.Clusters.{Turn}

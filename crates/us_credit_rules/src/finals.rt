@@ -151,7 +151,13 @@ fn first_wrong(
     let told = told_of(alloc, moves.seats(), finals)?;
     let mut first = None;
     for (place, seat) in moves.seats().all().iter().enumerate() {
-        let right = is_right(seat, time, moves.of_flows(), moves.of_clusters(), told[place]);
+        let right = is_right(
+            seat,
+            time,
+            moves.of_flows(),
+            moves.of_clusters(),
+            told[place],
+        );
         let wrong = unless(right, time.rounds, u64::from(seat.flow().id()));
         first = earlier(config.channels(), first, wrong);
     }

@@ -7,7 +7,11 @@ use std::alloc::{AllocError, Global};
 use us_requests::{Ask, Trace};
 
 /// Of each of so many words, how many rounds of a trace there are up to the last that marks it: 0 where none does.
-pub(crate) fn up_to_marks(alloc: Global, words: usize, trace: &Trace) -> Result<Vec<u32>, AllocError>
+pub(crate) fn up_to_marks(
+    alloc: Global,
+    words: usize,
+    trace: &Trace,
+) -> Result<Vec<u32>, AllocError>
     ensures { IfOk result (λ rounds. rounds.items ≡
         map (λ word. spec.up_to_mark trace.now word trace.now.rounds) (range_with_len 0 words)) }
 {

@@ -1,6 +1,4 @@
-use crate::{
-    Moves, activities_breach, counts_breach, credits_breach, finals_breach, rates_breach,
-};
+use crate::{Moves, activities_breach, counts_breach, credits_breach, finals_breach, rates_breach};
 use std::alloc::Global;
 use std::process::Abort;
 use us_flows::Config;

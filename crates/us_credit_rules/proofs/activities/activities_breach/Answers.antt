@@ -1,4 +1,4 @@
-use Rattle.std.proofs.Common.{IsPermutation, subst, ◌∙◌}
+use Rattle.std.proofs.Common.{IsPermutation}
 use Rattle.us_lawful.specs.Runs.{run_in, activities_in}
 use Rattle.us_credit_rules.specs.Activities.{wanted}
 use Rattle.us_credit_rules.proofs.ActivityLemmas.{activities_first}

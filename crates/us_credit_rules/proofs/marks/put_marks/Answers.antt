@@ -1,7 +1,6 @@
-use Rattle.std.proofs.Common.{◌≡◌, get_or, sym, subst, inl, inr, arith}
+use Rattle.std.proofs.Common.{◌≡◌, get_or, inl, inr, arith}
 use Rattle.us_requests.specs.declared.asks.Ask.{Ask}
-use Rattle.std.proofs.Common.{take, ◌+◌}
-use Rattle.us_credit_rules.proofs.MarkLemmas.{AreMarked, marked_kept, marked_set}
+use Rattle.us_credit_rules.proofs.MarkLemmas.{marked_kept, marked_set}
 use Rattle.us_credit_rules.proofs.marks.put_marks.Goals as goal
 use Rattle.us_credit_rules.proofs.marks.put_marks.Goals.{then-word-rounds+then-ask-gt0, else-word-rounds, else-word-rounds-via-then-word-rounds+else-ask-gt0, else-word-rounds-via-else-word-rounds}
 
