@@ -10,7 +10,7 @@ use Rattle.us_calendar.specs.declared.silences.Silence.{Silence}
 use Rattle.us_calendar.specs.Activity.{hears_of, activity, active_in, speaks_by}
 use Rattle.us_calendar.specs.Entries.{Entry}
 use Rattle.us_calendar.specs.Occurrences.{Pace, ideal, end_of, comes, due, coming}
-use Rattle.us_calendar.specs.Settling.{EntryState, SettledEntry, spot, settlement, with_spot, settle_each, settle_entry, kind_at, speaks_in, waiting_at}
+use Rattle.us_calendar.specs.Settling.{EntryState, SettledEntry, spot, settlement, with_spot, settle_each, settle_entry, kind_at, if_detected, speaks_in, waiting_at}
 use Rattle.us_calendar.specs.Runs.{end_after, window_end}
 use Rattle.us_calendar.specs.Kept.{settle_from, state_from}
 use Rattle.us_calendar.proofs.IdealLemmas.{HasWindows, ideal-apart}
@@ -25,6 +25,12 @@ activity-more : (silence : Option Silence) (was : Bool) (cuts : List (List ℕ))
     activity silence was (cuts ++ cut ∷ []) ≡ hears_of silence (activity silence was cuts) cut
 activity-more silence was [] cut = refl
 activity-more silence was (first ∷ cuts) cut = activity-more silence (hears_of silence was first) cuts cut
+
+-- where it isn't detected, it stays
+steady : (silence : Option Silence) (was : Bool) (cuts : List (List ℕ)) → silence ≡ None → activity silence was cuts ≡ was
+steady silence was [] none = refl
+steady silence was (cut ∷ cuts) none =
+    steady silence (hears_of silence was cut) cuts none ∙ ap (λ o. hears_of o was cut) none
 
 take-before : (before rest : List (List ℕ)) (cut : List ℕ) → take (length before + 1) (before ++ cut ∷ rest) ≡ before ++ cut ∷ []
 take-before [] rest cut = refl
@@ -98,7 +104,7 @@ module _ (pace : Pace) (cuts : List (List ℕ)) (e : Entry) where
 
   pub record Held (before : List (List ℕ)) (active : Bool) (waiting : Option Bool) (first : ℕ) : Type 0 where
     pub active_is : active ≡ activity e.silence true before
-    pub waiting_is : waiting ≡
+    pub waiting_is : (s : Silence) → e.silence ≡ Some s → waiting ≡
         (if nat_lt (ideal e first) (end_after pace (length before)) then Some (speaks (ideal e first)) else None)
     pub comes : comes e speaks first ≡ true
     pub not_over : end_after pace (length before) ≤ window_end e first
@@ -108,7 +114,7 @@ module _ (pace : Pace) (cuts : List (List ℕ)) (e : Entry) where
       let begin : end_after pace (length {A = List ℕ} []) ≡ 0 = grind arith in
       record {
         active_is = refl;
-        waiting_is = sym (rw (le-ltb (ideal e 0) (end_after pace (length {A = List ℕ} [])) (omega (arith, begin))) refl);
+        waiting_is = λ _ _. sym (rw (le-ltb (ideal e 0) (end_after pace (length {A = List ℕ} [])) (omega (arith, begin))) refl);
         comes = comes_first e speaks 0 (omega (arith, windows.grants));
         not_over = omega (arith, begin);
       }
@@ -137,35 +143,53 @@ module _ (pace : Pace) (cuts : List (List ℕ)) (e : Entry) where
     first_ideal : ideal e (length (range_with_len 0 first)) ≡ ideal e first
     first_ideal = ap (ideal e) (length-range_with_len 0 first)
 
-    speaks_is : (time : ℕ) → speaks_in state time ≡ kind_at (ideal e first) (unwrap_or waiting now) now time
-    speaks_is time = ap (λ at. kind_at at (unwrap_or waiting now) now time) first_ideal
+    agree_steady : (time : ℕ) → e.silence ≡ None → speaks_in state time ≡ speaks time
+    agree_steady time none =
+        ap (λ silence. if_detected silence (kind_at (ideal e (length (range_with_len 0 first)))
+        (unwrap_or waiting now) now time) true) none ∙
+        sym (steady e.silence true (take (time / end_of pace 0 + 1) cuts) none)
 
-    kept_begun : ideal e first < end_after pace r → waiting ≡ Some (speaks (ideal e first))
-    kept_begun begun =
-        held.waiting_is ∙ rw (lt-ltb (ideal e first) (end_after pace (length before)) (omega (arith, begun, begins))) refl
+    module _ (silence : Silence) (detected : e.silence ≡ Some silence) where
+      speaks_is : (time : ℕ) → speaks_in state time ≡ kind_at (ideal e first) (unwrap_or waiting now) now time
+      speaks_is time =
+          ap (λ o. if_detected o (kind_at (ideal e (length (range_with_len 0 first))) (unwrap_or waiting now) now time) true)
+          detected ∙ ap (λ at. kind_at at (unwrap_or waiting now) now time) first_ideal
 
-    kept_none : end_after pace r ≤ ideal e first → waiting ≡ None
-    kept_none later =
-        held.waiting_is ∙ rw (le-ltb (ideal e first) (end_after pace (length before)) (omega (arith, later, begins))) refl
+      kept_begun : ideal e first < end_after pace r → waiting ≡ Some (speaks (ideal e first))
+      kept_begun begun =
+          held.waiting_is silence detected ∙
+          rw (lt-ltb (ideal e first) (end_after pace (length before)) (omega (arith, begun, begins))) refl
 
-    kept_first : ideal e first < end_of pace r → unwrap_or waiting now ≡ speaks (ideal e first)
-    kept_first early = elim (cases_lt (ideal e first) (end_after pace r)) [
-      | inl begun ↦ ap (λ w. unwrap_or w now) (kept_begun begun)
-      | inr later ↦ ap (λ w. unwrap_or w now) (kept_none later) ∙ sym (speaks_now (ideal e first) later early)
-    ]
+      kept_none : end_after pace r ≤ ideal e first → waiting ≡ None
+      kept_none later =
+          held.waiting_is silence detected ∙
+          rw (le-ltb (ideal e first) (end_after pace (length before)) (omega (arith, later, begins))) refl
+
+      kept_first : ideal e first < end_of pace r → unwrap_or waiting now ≡ speaks (ideal e first)
+      kept_first early = elim (cases_lt (ideal e first) (end_after pace r)) [
+        | inl begun ↦ ap (λ w. unwrap_or w now) (kept_begun begun)
+        | inr later ↦ ap (λ w. unwrap_or w now) (kept_none later) ∙ sym (speaks_now (ideal e first) later early)
+      ]
+
+      agree_kept : (m : ℕ) → first ≤ m → ideal e m < end_of pace r → speaks_in state (ideal e m) ≡ speaks (ideal e m)
+      agree_kept m low due = speaks_is (ideal e m) ∙ elim (cases_eq (ideal e m) (ideal e first)) [
+        | inl same ↦
+            let early : ideal e first < end_of pace r = omega (arith, same, due) in
+            rw (eq-eqb (ideal e m) (ideal e first) same) (kept_first early ∙ ap speaks (sym same))
+        | inr other ↦
+            let apart : end_after pace r ≤ ideal e m = elim (ideal-apart e first m windows low) [
+              | inl same ↦ absurd (other same)
+              | inr later ↦ omega (arith, later, held.not_over, begins, windows.jitter)
+            ] in
+            rw (ne_eqb (ideal e m) (ideal e first) other) (sym (speaks_now (ideal e m) apart due))
+      ]
 
     pub agree : (m : ℕ) → first ≤ m → ideal e m < end_of pace r → speaks_in state (ideal e m) ≡ speaks (ideal e m)
-    agree m low due = speaks_is (ideal e m) ∙ elim (cases_eq (ideal e m) (ideal e first)) [
-      | inl same ↦
-          let early : ideal e first < end_of pace r = omega (arith, same, due) in
-          rw (eq-eqb (ideal e m) (ideal e first) same) (kept_first early ∙ ap speaks (sym same))
-      | inr other ↦
-          let apart : end_after pace r ≤ ideal e m = elim (ideal-apart e first m windows low) [
-            | inl same ↦ absurd (other same)
-            | inr later ↦ omega (arith, later, held.not_over, begins, windows.jitter)
-          ] in
-          rw (ne_eqb (ideal e m) (ideal e first) other) (sym (speaks_now (ideal e m) apart due))
-    ]
+    agree m low due = by e.silence refl
+      where
+        by : (silence : Option Silence) → e.silence ≡ silence → speaks_in state (ideal e m) ≡ speaks (ideal e m)
+        by None none = agree_steady (ideal e m) none
+        by (Some silence) detected = agree_kept silence detected m low due
 
     -- and behind it
     pub held_next : (next : ℕ) → first ≤ next → comes e speaks next ≡ true → end_of pace r ≤ window_end e next →
@@ -173,13 +197,13 @@ module _ (pace : Pace) (cuts : List (List ℕ)) (e : Entry) where
     held_next next low it late =
         record {
           active_is = ap (λ was. hears_of e.silence was cut) held.active_is ∙ sym (activity-more e.silence true before cut);
-          waiting_is = elim (cases_lt (ideal e next) (end_of pace r)) [
+          waiting_is = λ silence detected. if_kept silence detected ∙ elim (cases_lt (ideal e next) (end_of pace r)) [
             | inl begun ↦
                 rw (lt-ltb (ideal e next) (end_of pace r) begun, lt-ltb (ideal e next) (end_after pace (length (before ++ cut ∷ []))) (omega (arith, begun, ends)))
                 (ap Some (agree next low begun))
             | inr later ↦
                 rw (le-ltb (ideal e next) (end_of pace r) later, le-ltb (ideal e next) (end_after pace (length (before ++ cut ∷ []))) (omega (arith, later, ends)))
-                (none_kept next later)
+                (none_kept silence detected next later)
           ];
           comes = it;
           not_over = omega (arith, late, ends);
@@ -188,13 +212,20 @@ module _ (pace : Pace) (cuts : List (List ℕ)) (e : Entry) where
         ends : end_after pace (length (before ++ cut ∷ [])) ≡ end_of pace r
         ends = ap (end_after pace) (length-append before (cut ∷ []) ∙ ap (λ k. k + 1) long)
 
-        none_kept : (next : ℕ) → end_of pace r ≤ ideal e next →
+        if_kept : (silence : Silence) → e.silence ≡ Some silence → waiting_at (end_of pace r) state (ideal e next) ≡
+            (if nat_lt (ideal e next) (end_of pace r) then Some (speaks_in state (ideal e next)) else
+            if ideal e next == ideal e (length (range_with_len 0 first)) then waiting else None)
+        if_kept silence detected = ap (λ o. if_detected o
+            (if nat_lt (ideal e next) (end_of pace r) then Some (speaks_in state (ideal e next)) else
+            if ideal e next == ideal e (length (range_with_len 0 first)) then waiting else None) waiting) detected
+
+        none_kept : (silence : Silence) → e.silence ≡ Some silence → (next : ℕ) → end_of pace r ≤ ideal e next →
             (if ideal e next == ideal e (length (range_with_len 0 first)) then waiting else None) ≡ None
-        none_kept next later = elim (cases_eq (ideal e next) (ideal e (length (range_with_len 0 first)))) [
+        none_kept silence detected next later = elim (cases_eq (ideal e next) (ideal e (length (range_with_len 0 first)))) [
           | inr other ↦ rw (ne_eqb (ideal e next) (ideal e (length (range_with_len 0 first))) other) refl
           | inl same ↦
               let rises : end_after pace r ≤ end_of pace r =
               later_start pace.time (r * pace.len) ((r + 1) * pace.len) (mul-le r pace.len (r + 1) pace.len (omega arith) (omega arith)) in
               rw (eq-eqb (ideal e next) (ideal e (length (range_with_len 0 first))) same)
-              (kept_none (omega (arith, later, same, first_ideal, rises)))
+              (kept_none silence detected (omega (arith, later, same, first_ideal, rises)))
         ]

@@ -1,12 +1,23 @@
 -- Which entries hear, and what hearing changes.
-use Rattle.std.proofs.Common.{◌≡◌, ℕ, zero, suc, List, [], ◌∷◌, length, map, Some, None, slice_get, refl, ap, sym, ◌∙◌, subst, arith}
+use Rattle.std.proofs.Common.{◌≡◌, ℕ, zero, suc, List, [], ◌∷◌, length, map, Option, Some, None, slice_get, refl, ap, sym, ◌∙◌, subst, arith, is_some, true, false}
 use Rattle.std.proofs.lemmas.List.{length-map}
 use Rattle.us_holes.specs.Boards.{Board}
+use Rattle.us_calendar.specs.declared.silences.Silence.{Silence}
 use Rattle.us_calendar.specs.Entries.{Entry}
 use Rattle.us_calendar.specs.Occurrences.{Pace}
 use Rattle.us_calendar.specs.Settling.{EntryState, heard, settle_state}
 use Rattle.us_calendar.specs.Calendars.{run_entries}
 use Rattle.us_calendar.specs.Kept.{AreHeard}
+
+-- whether the activity of a flow is detected
+
+pub some_of : (o : Option Silence) → is_some o ≡ true → (s : Silence) × (o ≡ Some s)
+some_of None h = let never : false ≡ true = h in absurd cc
+some_of (Some s) h = (s, refl)
+
+pub none_of : (o : Option Silence) → is_some o ≡ false → o ≡ None
+none_of None h = refl
+none_of (Some s) h = let never : true ≡ false = h in absurd cc
 
 abbrev pub entries_of : List EntryState → List Entry
 entries_of states = map (λ state. state.entry) states

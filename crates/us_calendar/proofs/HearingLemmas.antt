@@ -10,14 +10,11 @@ use Rattle.us_calendar.specs.Settling.{EntryState, heard}
 use Rattle.us_calendar.specs.declared.silences.Silence.{Silence}
 use Rattle.us_calendar.specs.Agendas.{IsAgenda, IsToday, IsLater, due_at}
 use Rattle.us_calendar.specs.Kept.{AreHeard, IsEntryState}
+use Rattle.us_calendar.proofs.HeardLemmas.{none_of}
 use Rattle.us_calendar.proofs.AgendaLemmas.{within, set_same, set_other, set_known}
 use Rattle.us_calendar.proofs.RunLemmas.{the_some}
 
 -- who hears
-
-none_if : (silence : Option Silence) → is_some silence ≡ false → silence ≡ None
-none_if None h = refl
-none_if (Some s) h = let never : true ≡ false = h in absurd cc
 
 -- nobody among the states whose places pass
 abbrev pub NoneHear : List EntryState → (ℕ → Type 0) → Type 0
@@ -28,7 +25,7 @@ pub none_before : (states : List EntryState) (from : ℕ) (state : EntryState) �
 none_before states from state before at quiet p other is low = elim (cases_eq p from) [
   | inl here ↦
       let same = the_some state other (sym at ∙ ap (slice_get states) (sym here) ∙ is) in
-      subst (λ s. s.entry.silence ≡ None) same (none_if state.entry.silence quiet)
+      subst (λ s. s.entry.silence ≡ None) same (none_of state.entry.silence quiet)
   | inr apart ↦ before p other is (omega (arith, low, apart))
 ]
 
@@ -37,7 +34,7 @@ pub none_behind : (states : List EntryState) (to : ℕ) (state : EntryState) →
 none_behind states to state behind at quiet p other is low = elim (cases_eq p to) [
   | inl here ↦
       let same = the_some state other (sym at ∙ ap (slice_get states) (sym here) ∙ is) in
-      subst (λ s. s.entry.silence ≡ None) same (none_if state.entry.silence quiet)
+      subst (λ s. s.entry.silence ≡ None) same (none_of state.entry.silence quiet)
   | inr apart ↦ behind p other is (omega (arith, low, apart))
 ]
 

@@ -628,7 +628,7 @@ as_heard pace cuts e active waiting first held =
     let number : length (range_with_len 0 first) ≡ first = length-range_with_len 0 first in
     record {
       active = held.active_is;
-      waiting = held.waiting_is ∙ ap (λ k. if nat_lt (ideal e k) (end_after pace (length cuts))
+      waiting = λ silence detected. held.waiting_is silence detected ∙ ap (λ k. if nat_lt (ideal e k) (end_after pace (length cuts))
           then Some (speaks_by pace cuts e (ideal e k)) else None) (sym number);
     }
 

@@ -3,9 +3,10 @@ use Rattle.std.proofs.Common.{◌≡◌, ℕ, zero, suc, ◌+◌, ◌<◌, ◌�
 use Rattle.std.proofs.Math.ListN.{set}
 use Rattle.std.proofs.lemmas.List.{append-nil}
 use Rattle.us_holes.specs.Boards.{Board}
+use Rattle.us_calendar.specs.declared.silences.Silence.{Silence}
 use Rattle.us_calendar.specs.Entries.{Entry}
 use Rattle.us_calendar.specs.Occurrences.{Pace, ideal, end_of}
-use Rattle.us_calendar.specs.Settling.{EntryState, SettledEntry, settle_entry, settle_state, speaks_in, waiting_at, after_settling, told_as}
+use Rattle.us_calendar.specs.Settling.{EntryState, SettledEntry, settle_entry, settle_state, if_detected, speaks_in, waiting_at, after_settling, told_as}
 use Rattle.us_calendar.specs.Calendars.{Ran, run_entries}
 use Rattle.us_calendar.specs.Kept.{IsQuiet}
 use Rattle.us_calendar.proofs.IdealLemmas.{windows}
@@ -23,9 +24,10 @@ quiet_state pace round state board quiet =
     settle-none pace round e (speaks_in state) (length state.settled) board (windows e quiet.entry) quiet.later
 
 -- and the state stays as it is
-quiet_waiting : (end time : ℕ) (kept : Bool) (waiting : Option Bool) → end ≤ time →
-    (if nat_lt time end then Some kept else if time == time then waiting else None) ≡ waiting
-quiet_waiting end time kept waiting later = rw (le-ltb time end later, eq-eqb time time refl) refl
+quiet_waiting : (silence : Option Silence) (end time : ℕ) (kept : Bool) (waiting : Option Bool) → end ≤ time →
+    if_detected silence (if nat_lt time end then Some kept else if time == time then waiting else None) waiting ≡ waiting
+quiet_waiting None end time kept waiting later = refl
+quiet_waiting (Some s) end time kept waiting later = rw (le-ltb time end later, eq-eqb time time refl) refl
 
 quiet_after : (pace : Pace) (round : ℕ) (state : EntryState) → IsQuiet pace round state →
     after_settling (end_of pace round) state [] ≡ state
@@ -42,7 +44,7 @@ quiet_after pace round state quiet =
       settled = state.settled;
       active = state.active;
       waiting = waiting;
-    }) (quiet_waiting end time (speaks_in state time) state.waiting quiet.later)
+    }) (quiet_waiting state.entry.silence end time (speaks_in state time) state.waiting quiet.later)
 
 module _ (pace : Pace) (round : ℕ) where
   -- an entry before those that have their turn stays

@@ -1,5 +1,6 @@
 -- The calendar of a channel, from round to round.
-use Rattle.std.specs.Prelude.{ℕ, ◌+◌, ◌*◌, ◌<◌, ◌≤◌, ◌^◌, ⊤, List, [], ◌∷◌, ◌++◌, length, map, sum_by, Option, Some, None}
+use Rattle.std.specs.Prelude.{ℕ, ◌+◌, ◌*◌, ◌<◌, ◌≤◌, ◌^◌, ◌==◌, ◌&&◌, Bool, ⊤, List, [], ◌∷◌, ◌++◌, length, map, sum_by, Option, Some, None, is_some, option_map}
+use Rattle.std.specs.List.{find}
 use Rattle.us_slots.specs.Times.{minislot_ticks}
 use Rattle.us_flows.specs.declared.channels.Channel.{Channel}
 use Rattle.us_flows.specs.Tables.{Tables, map_len}
@@ -71,6 +72,14 @@ ran calendar cut board = settles (heard_by cut calendar) board
 
 abbrev pub after : Calendar → List ℕ → Board → Calendar
 after calendar cut board = settled_after (heard_by cut calendar) board
+
+-- the entry of the flow with this id, if its activity is detected,
+abbrev pub is_heard_as : ℕ → EntryState → Bool
+is_heard_as id state = is_some state.entry.silence && (state.entry.id == id)
+
+-- and whether that flow is active
+abbrev pub activity_in : ℕ → Calendar → Option Bool
+activity_in id calendar = option_map (λ state. state.active) (find (is_heard_as id) calendar.states)
 
 -- how many occurrences are settled so far: granted or missed, or left out in a silent interval
 abbrev pub settled_in : Calendar → ℕ

@@ -6,10 +6,11 @@ use Rattle.us_slots.specs.Times.{minislot_ticks, IsTiming}
 use Rattle.us_holes.specs.Boards.{Board}
 use Rattle.us_calendar.specs.Entries.{Entry, IsEntry}
 use Rattle.us_calendar.specs.Occurrences.{Pace, ideal, end_of}
-use Rattle.us_calendar.specs.Settling.{EntryState, Settlement, SettledEntry, kind_at, left_out, settle_entry}
+use Rattle.us_calendar.specs.Settling.{EntryState, Settlement, SettledEntry, kind_at, if_detected, left_out, settle_entry}
 use Rattle.us_calendar.specs.Calendars.{Calendar, IsCalendar}
 use Rattle.us_calendar.specs.Agendas.{IsAgenda}
 use Rattle.us_calendar.specs.declared.interval_kinds.Kinds.{Kinds}
+use Rattle.us_calendar.specs.declared.silences.Silence.{Silence}
 use Rattle.us_calendar.specs.declared.occurrences.Occurrence.{Occurrence}
 
 -- a MAP has a minislot at least, and at most 4,096 ticks
@@ -50,21 +51,25 @@ abbrev pub kept_at : Kinds → Option Bool → ℕ → ℕ → Option Bool
 kept_at kinds waiting end time =
     if nat_lt time end then Some (speaks_of kinds time) else if time == kinds.at then waiting else None
 
--- where an interval of an entry waits, and its flow was active when it began; else no interval has begun to be settled
-abbrev pub waits_active : Option Bool → Bool
-waits_active waiting = unwrap_or waiting false
+-- of an entry whose activity isn't detected
+abbrev pub always_active : Kinds
+always_active = record { at = 0; kept = true; active = true }
+
+-- the next occurrence may be any of its interval, where the flow was active when that began; else it is the first one
+abbrev pub waits_active : Option Silence → Option Bool → Bool
+waits_active silence waiting = if_detected silence (unwrap_or waiting false) true
 
 -- what is settled of an entry are its first occurrences, and the next one comes
 pub record IsEntryState (state : EntryState) : Type 0 where
   pub entry : IsEntry state.entry
   pub settled : state.settled ≡ range_with_len 0 (length state.settled)
   pub few : length state.settled ≤ max_number
-  pub next : (waits_active state.waiting || (length state.settled % state.entry.grants == 0)) ≡ true
+  pub next : (waits_active state.entry.silence state.waiting || (length state.settled % state.entry.grants == 0)) ≡ true
 
 -- the same by interval and place
 pub record IsNext (e : Entry) (next : Occurrence) (waiting : Option Bool) : Type 0 where
   pub timed : IsTimed e next
-  pub begins : (waits_active waiting || (next.k == 0)) ≡ true
+  pub begins : (waits_active e.silence waiting || (next.k == 0)) ≡ true
 
 -- the state of an entry of which so many occurrences are settled
 abbrev pub state_from : Entry → Bool → Option Bool → ℕ → EntryState

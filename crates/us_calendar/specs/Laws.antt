@@ -64,11 +64,12 @@ GrantsFit = (pace : Pace) (round : ℕ) (states : List EntryState) (board : Boar
     assign_all board (flat_map assignments_of (run_entries pace round states board).settled))
     × AllFit board (flat_map assignments_of (run_entries pace round states board).settled)
 
--- What is kept of an entry behind the rounds of these cuts is what the cuts say: whether its flow is active now, and whether
--- it was in the round that holds the ideal time of the first unsettled occurrence, if that round has come.
+-- What is kept of an entry behind the rounds of these cuts is what the cuts say: whether its flow is active now, and, where
+-- its activity is detected, whether it was in the round that holds the ideal time of the first unsettled occurrence, if
+-- that round has come.
 pub record IsAsHeard (pace : Pace) (cuts : List (List ℕ)) (state : EntryState) : Type 0 where
   pub active : state.active ≡ activity state.entry.silence true cuts
-  pub waiting : state.waiting ≡ (if nat_lt (ideal state.entry (length state.settled)) (end_after pace (length cuts))
+  pub waiting : (s : Silence) → state.entry.silence ≡ Some s → state.waiting ≡ (if nat_lt (ideal state.entry (length state.settled)) (end_after pace (length cuts))
       then Some (speaks_by pace cuts state.entry (ideal state.entry (length state.settled))) else None)
 
 -- So it is of all entries of a channel, after any number of rounds.

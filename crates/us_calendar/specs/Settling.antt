@@ -5,6 +5,7 @@ use Rattle.us_holes.specs.Boards.{Board, assign, fits, first_of}
 use Rattle.us_calendar.specs.Entries.{Entry, slots_of, owner_of}
 use Rattle.us_calendar.specs.Occurrences.{Pace, ideal, starts_within, end_of, is_over, coming}
 use Rattle.us_calendar.specs.Activity.{hears_of}
+use Rattle.us_calendar.specs.declared.silences.Silence.{Silence}
 use Rattle.us_calendar.specs.declared.settled.Settled.{Settled}
 use Rattle.us_calendar.specs.declared.settled.Settled.TheVariants as told
 
@@ -57,8 +58,8 @@ left_out e active = if active then 0 else e.grants - 1
 abbrev pub closed : Entry → Settlement → List ℕ
 closed e m = m.number ∷ range_with_len (m.number + 1) (left_out e m.active)
 
--- An entry, with the numbers of its occurrences that are settled; whether its flow is active; and whether it was when the
--- interval of the first unsettled one began, where that has begun.
+-- An entry, with the numbers of its occurrences that are settled; whether its flow is active; and, where its activity is
+-- detected, whether it was when the interval of the first unsettled one began, if that has begun.
 pub record EntryState : Type 0 where
   pub entry : Entry
   pub settled : List ℕ
@@ -82,17 +83,23 @@ heard cut state = record {
 abbrev pub kind_at : ℕ → Bool → Bool → ℕ → Bool
 kind_at at kept active time = if time == at then kept else active
 
+-- where an entry's activity is detected, and where it isn't
+abbrev pub if_detected : {A : Type 0} → Option Silence → A → A → A
+if_detected (Some s) it other = it
+if_detected None it other = other
+
 -- The flow as it is in this round, by what is kept. One interval of an entry at most began before a round and has something
 -- unsettled, since the next one begins behind its windows: that of the first unsettled occurrence.
 abbrev pub speaks_in : EntryState → ℕ → Bool
-speaks_in state =
-    kind_at (ideal state.entry (length state.settled)) (unwrap_or state.waiting state.active) state.active
+speaks_in state time =
+    if_detected state.entry.silence (kind_at (ideal state.entry (length state.settled))
+    (unwrap_or state.waiting state.active) state.active time) true
 
 -- what is kept for the interval that begins at a time, where the round ends then: nothing before it has begun
 abbrev pub waiting_at : ℕ → EntryState → ℕ → Option Bool
 waiting_at end state time =
-    if nat_lt time end then Some (speaks_in state time) else
-    if time == ideal state.entry (length state.settled) then state.waiting else None
+    if_detected state.entry.silence (if nat_lt time end then Some (speaks_in state time) else
+    if time == ideal state.entry (length state.settled) then state.waiting else None) state.waiting
 
 -- an entry in a round, by what is kept,
 abbrev pub settle_state : Pace → ℕ → EntryState → Board → SettledEntry

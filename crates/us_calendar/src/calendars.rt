@@ -8,7 +8,7 @@ ghost use Rattle.us_calendar.specs.Kept.{IsKept};
 
 use crate::agendas::{noted, settle_due};
 use crate::entry_states::EntryState;
-use crate::heard_entries::{HeardPlaces, hear_all};
+use crate::heard_entries::{HeardPlaces, activity_among, hear_all};
 use crate::listing::entries_of;
 use crate::near_rounds::clear_all;
 use crate::paces::Pace;
@@ -213,6 +213,14 @@ impl Calendar {
                 Err(refused)
             }
         }
+    }
+
+    /// Whether the flow with this id is active, as of the last cut that the calendar heard. `None` where it has no entry of a
+    /// flow with this id, or where nobody detects the flow's activity.
+    pub fn activity(&self, id: u16) -> Option<bool>
+        ensures { result ≡ spec.activity_in id self.now }
+    {
+        activity_among(&self.states, id)
     }
 
     /// The round that is to be run next.

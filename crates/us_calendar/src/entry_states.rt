@@ -1,6 +1,7 @@
-ghost use Rattle.std.specs.Prelude.{◌≡◌, ◌+◌, ◌++◌, is_some, length, map, max, OnOk, IfOk};
+ghost use Rattle.std.specs.Prelude.{◌≡◌, ◌+◌, ◌++◌, is_some, true, length, map, max, OnOk, IfOk};
 ghost use Rattle.std.specs.List.{range_with_len};
 ghost use Rattle.us_calendar.specs.Agendas.{due_at};
+ghost use Rattle.us_calendar.specs.Calendars.{is_heard_as};
 ghost use Rattle.us_calendar.specs.Occurrences.{end_of, ideal};
 ghost use Rattle.us_calendar.specs.Settling as spec;
 ghost use Rattle.us_calendar.specs.Kept.{IsEntryState, IsNext, number_of, speaks_of};
@@ -24,7 +25,7 @@ pub(crate) struct EntryState {
     // whether its flow is active, as of the last round's cut
     active: bool,
 
-    // whether it was when the next occurrence's interval began, where that has begun
+    // where its activity is detected, whether it was when the next occurrence's interval began, if that has begun
     waiting: Option<bool>,
 }
 
@@ -76,6 +77,20 @@ impl EntryState {
         self.entry.silence.is_some()
     }
 
+    /// Whether it is of the flow with this id, and the flow's activity is detected.
+    pub(crate) fn is_heard_as(&self, id: u16) -> bool
+        ensures { result ≡ is_heard_as id self.now }
+    {
+        self.entry.silence.is_some() && self.entry.id == id
+    }
+
+    /// Whether its flow is active.
+    pub(crate) fn is_active(&self) -> bool
+        ensures { result ≡ self.now.active }
+    {
+        self.active
+    }
+
     /// Hears what a round's cut, bytes by word, says of its flow.
     pub(crate) fn hear(&mut self, cut: &[u64])
         ensures value { self.new ≡ spec.heard cut.now self.old }
@@ -84,8 +99,9 @@ impl EntryState {
         self.active = hears(&self.entry, self.active, cut);
     }
 
-    /// Of what kind its intervals are in this round.
+    /// Of what kind its intervals are in this round, where its activity is detected.
     fn kinds(&self) -> Kinds
+        requires { is_some self.now.entry.silence ≡ true }
         ensures speaks { speaks_of result ≡ spec.speaks_in self.now }
         ensures at { result.at ≡ ideal self.now.entry (length self.now.settled) }
     {
@@ -114,6 +130,11 @@ impl EntryState {
             (spec.settle_state span.now.pace span.now.round self.old board.old).settlements) }
         ensures known { IsEntryState self.new }
     {
+        // mostly it isn't detected, and nothing is kept
+        if !self.is_heard() {
+            self.next = settle(&self.entry, span, Kinds::always(), self.next, board, settled)?;
+            return Ok(());
+        }
         let kinds = self.kinds();
         let next = settle(&self.entry, span, kinds, self.next, board, settled)?;
         self.waiting = kinds.waiting_at(self.waiting, span.end, next.ideal);

@@ -1,5 +1,6 @@
-ghost use Rattle.std.specs.Prelude.{◌≡◌, ℕ, ◌<◌, ◌≤◌, None, Some, length, map, slice_get};
-ghost use Rattle.std.specs.List.{AllByRecursion};
+ghost use Rattle.std.specs.Prelude.{◌≡◌, ℕ, ◌<◌, ◌≤◌, None, Some, length, map, option_map, slice_get};
+ghost use Rattle.std.specs.List.{AllByRecursion, find};
+ghost use Rattle.us_calendar.specs.Calendars.{is_heard_as};
 ghost use Rattle.us_calendar.specs.Settling as spec;
 ghost use Rattle.us_calendar.specs.Kept.{AreHeard, IsEntryState};
 
@@ -54,6 +55,18 @@ fn behind_heard(states: &[EntryState]) -> usize
         to -= 1;
     }
     to
+}
+
+/// Whether the flow with this id is active, if one of these entries is of it and its activity is detected.
+pub(crate) fn activity_among(states: &[EntryState], id: u16) -> Option<bool>
+    ensures { result ≡ option_map (λ state. state.active) (find (is_heard_as id) states.now) }
+{
+    for state in states {
+        if state.is_heard_as(id) {
+            return Some(state.is_active());
+        }
+    }
+    None
 }
 
 /// Has all that hear take a round's cut, bytes by word.

@@ -1,5 +1,5 @@
 ghost use Rattle.std.specs.Prelude.{◌≡◌};
-ghost use Rattle.us_calendar.specs.Kept.{kept_at, speaks_of};
+ghost use Rattle.us_calendar.specs.Kept.{always_active, kept_at, speaks_of};
 
 /// Of what kind the intervals of an entry are in a round: of the one that begins at `at` it is kept whether the flow was
 /// active when it began, and all others are of the kind that the flow is.
@@ -12,6 +12,17 @@ pub(crate) struct Kinds {
 }
 
 impl Kinds {
+    /// Those of an entry whose activity isn't detected: all are active.
+    pub(crate) fn always() -> Kinds
+        ensures { result ≡ always_active }
+    {
+        Kinds {
+            at: 0,
+            kept: true,
+            active: true,
+        }
+    }
+
     /// Whether an interval that begins at this time is an active one.
     pub(crate) fn speaks(self, time: u32) -> bool
         ensures { result ≡ speaks_of self time }

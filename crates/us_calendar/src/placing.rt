@@ -11,6 +11,7 @@ use us_holes::{Board, Placed};
 /// Grants an occurrence the first minislot of its window in this round's MAP where it fits, as a grant of an active flow or
 /// as a poll: the offset, if there is one.
 #[tactic(auto, using(crate::proofs::SpotLemmas::spot_facts))]
+#[inline(always)]
 pub(crate) fn place(
     entry: &Entry,
     span: &Span,

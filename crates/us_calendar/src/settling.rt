@@ -15,7 +15,9 @@ use us_holes::Board;
 use us_slots::NoMemory;
 
 /// Settles what is due of an entry from its occurrence `first` on and comes, by the kinds of its intervals, and tells the
-/// first that isn't settled then.
+/// first that isn't settled then. It stands for itself wherever it is called, so that entries whose activity isn't detected
+/// pay for no kinds.
+#[inline(always)]
 pub(crate) fn settle(
     entry: &Entry,
     span: &Span,
@@ -51,6 +53,7 @@ pub(crate) fn settle(
 }
 
 /// Settles one occurrence of an entry, as a grant or as a poll, unless it waits: whether it is settled.
+#[inline(always)]
 fn settle_one(
     entry: &Entry,
     span: &Span,
@@ -89,6 +92,7 @@ fn settle_one(
 
 /// How an occurrence is told that is granted at this offset, or nowhere. `None` where it waits.
 #[tactic(auto, using(crate::proofs::TimedLemmas::told_facts))]
+#[inline(always)]
 fn told(
     entry: &Entry,
     span: &Span,

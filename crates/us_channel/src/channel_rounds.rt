@@ -2,7 +2,7 @@ ghost use Rattle.std.specs.Prelude.{◌≡◌, ◌+◌, ◌*◌, ◌<◌, ◌≤
 ghost use Rattle.std.specs.List.{AllByRecursion};
 ghost use Rattle.us_flows.specs.Lawful.{IsChannel};
 ghost use Rattle.us_flows.specs.Tables.{map_len, max_run_ticks};
-ghost use Rattle.us_calendar.specs.Calendars.{pace_of};
+ghost use Rattle.us_calendar.specs.Calendars.{activity_in, pace_of};
 ghost use Rattle.us_holes.specs.Boards.{free_count};
 ghost use Rattle.us_split.specs.Claims.{IsClaimOn};
 ghost use Rattle.us_channel.specs.Channels as spec;
@@ -157,6 +157,14 @@ impl ChannelRound {
         ensures { result.now ≡ self.now.board }
     {
         &self.track.board
+    }
+
+    /// Whether the flow with this id is active, as its calendar heard last. `None` where the channel's calendar has no entry of
+    /// a flow with this id, or where nobody detects the flow's activity.
+    pub fn activity(&self, id: u16) -> Option<bool>
+        ensures { result ≡ activity_in id self.now.calendar }
+    {
+        self.track.calendar.activity(id)
     }
 
     /// What its calendar settled, granted or missed, in the order of the calendar.

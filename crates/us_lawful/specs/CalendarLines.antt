@@ -11,8 +11,8 @@ use Rattle.us_calendar.specs.Entries.{Entry, entries, owner_of, slots_of}
 use Rattle.us_calendar.specs.Occurrences.{comes, ideal, starts_within}
 use Rattle.us_calendar.specs.Runs.{window_end}
 use Rattle.us_output.specs.declared.rows.EntryWord.{EntryWord}
-use Rattle.us_output.specs.declared.rows.Grant.{Grant}
 use Rattle.us_output.specs.declared.rows.EntryWord.TheVariants as words
+use Rattle.us_output.specs.declared.rows.Grant.{Grant}
 use Rattle.us_output.specs.declared.rows.Row.{Row}
 use Rattle.us_output.specs.declared.rows.Row.TheVariants as rows
 use Rattle.us_lawful.specs.declared.place.Place.{Place}

@@ -4,9 +4,7 @@ ghost use Rattle.std.specs.Prelude.{◌≡◌, option_map};
 ghost use Rattle.us_lawful.specs.ReportReaders as spec;
 
 use crate::report_fields::{after, field, units, word};
-use us_round::{
-    EntryWord, FinalActivity, FinalState, Grant, MissedOccurrence, Row, TraceCounts,
-};
+use us_round::{EntryWord, FinalActivity, FinalState, Grant, MissedOccurrence, Row, TraceCounts};
 
 /// A line.
 #[tactic(auto, unfolding(crate::specs::ReportReaders::row_at, crate::specs::ReportReaders::told_by))]

@@ -1,5 +1,5 @@
 -- Whose minislots are: each owner on a round's boards has a SID of 14 bits, and an IUC that ends no list.
-use Rattle.std.proofs.Common.{◌≡◌, ◌≢◌, ℕ, ◌+◌, ◌-◌, ◌%◌, ◌^◌, ◌<◌, ◌≤◌, ◌==◌, nat_le, Bool, true, ◌⊎◌, List, [], ◌∷◌, ◌++◌, take, drop, replicate, map, flat_map, Option, Some, None, sym, subst, inl, inr, arith}
+use Rattle.std.proofs.Common.{◌≡◌, ◌≢◌, ℕ, ◌+◌, ◌-◌, ◌%◌, ◌^◌, ◌<◌, ◌≤◌, ◌==◌, nat_le, Bool, true, false, ◌⊎◌, List, [], ◌∷◌, ◌++◌, take, drop, replicate, map, flat_map, Option, Some, None, sym, subst, inl, inr, arith}
 use Rattle.std.specs.List.{AllByRecursion}
 use Rattle.std.proofs.lemmas.Bool.{cases_Bool}
 use Rattle.std.proofs.lemmas.Bool.Decides.{nat_tests}
@@ -24,6 +24,7 @@ use Rattle.us_calendar.specs.Runs.{assignments_of}
 use Rattle.us_split.specs.Claims.{Claim}
 use Rattle.us_channel.specs.Reserves.{reserved, maintenance, reserves}
 use Rattle.us_channel.specs.Placements.{PlacedClaim, assignments}
+use Rattle.us_channel.specs.Laws.{HasMinislots}
 use Rattle.us_channel.specs.Maps.{gap, element_by, run_element}
 use Rattle.us_channel.proofs.ReserveLemmas.{empty_fits, maintained_fits}
 use Rattle.us_channel.proofs.GrantLaws.{Granted}
@@ -117,19 +118,21 @@ reserves_board t c round is =
 
 -- Calendars.
 
--- grants and polls of an entry have a minislot, and a lawful owner
-abbrev pub HasOwners : Entry → Type 0
-HasOwners e = (active : Bool) → IsOwner (entries.owner_of e active) × (0 < entries.slots_of e active)
-
+-- an entry has a lawful owner, and its grants and polls have a minislot
 abbrev pub HasOwner : EntryState → Type 0
-HasOwner state = HasOwners state.entry
+HasOwner state = IsOwner state.entry.owner × HasMinislots state.entry
 
-told_owned : (e : Entry) (number : ℕ) (active : Bool) (start : Option ℕ) → HasOwners e →
+-- whom a poll is for is lawful too
+polled_owned : (e : Entry) (active : Bool) → IsOwner e.owner → IsOwner (entries.owner_of e active)
+polled_owned e true is = is
+polled_owned e false is = record { sid = is.sid; usage = omega arith; other = λ no. omega (arith, no) }
+
+told_owned : (e : Entry) (number : ℕ) (active : Bool) (start : Option ℕ) → IsOwner e.owner × HasMinislots e →
     HaveOwners (assignments_of (told_as e (record { number = number; active = active; start = start })))
 told_owned e number active None is = tt
-told_owned e number active (Some at) is = (is active, tt)
+told_owned e number active (Some at) is = ((polled_owned e active is.0, omega (arith, is.1 active)), tt)
 
-all_told_owned : (e : Entry) (ms : List Settlement) → HasOwners e →
+all_told_owned : (e : Entry) (ms : List Settlement) → IsOwner e.owner × HasMinislots e →
     HaveOwners (flat_map assignments_of (map (told_as e) ms))
 all_told_owned e [] is = tt
 all_told_owned e (m ∷ ms) is =

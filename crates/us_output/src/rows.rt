@@ -89,12 +89,13 @@ pub struct FinalState {
     pub units: Option<u64>,
 }
 
-/// The final activity of a flow that tells when it falls silent, as an A line tells it.
+/// Whether a flow whose activity is detected is active at the end, as an A line tells it: a number of 64 bits, as all of a
+/// report.
 #[derive(Clone, Copy, Debug, PartialEq, Eq)]
 pub struct FinalActivity {
     /// The flow's id.
     pub flow: u64,
-    /// 1 where it is active, 0 where it is silent.
+    /// 1 where it is active, 0 where it is silent. No schedule tells another number.
     pub active: u64,
 }
 

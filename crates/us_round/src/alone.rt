@@ -1,7 +1,7 @@
 ghost use Rattle.std.specs.Prelude.{◌≡◌, ◌+◌, ◌*◌, ◌^◌, ◌<◌, ◌≤◌, ⊤, length, zip, IfErr, IfOk};
 ghost use Rattle.std.specs.List.{AllByRecursion};
 ghost use Rattle.us_flows.specs.Tables.{Tables, max_run_ticks};
-ghost use Rattle.us_flows.specs.Clusters.{clusters_of};
+ghost use Rattle.us_flows.specs.Clusters.{words_of};
 ghost use Rattle.us_crew.specs.Items.{AreAccepted};
 ghost use Rattle.us_crew.specs.Values.{values_of};
 ghost use Rattle.us_round.specs.Hands.{CanFill, CanBuild, filled_at, built_at};
@@ -61,7 +61,7 @@ pub fn round_alone(
     state: State,
     cuts: &[u64],
 ) -> Result<(State, RoundOut), RoundFault>
-    requires clusters { length cuts.now ≡ length (clusters_of state.tables) }
+    requires words { length cuts.now ≡ length (words_of state.tables) }
     requires room { AllByRecursion (λ pair. pair.0 + pair.1 < 2 ^ 62) (zip state.outstanding cuts.now) }
     requires time { (state.round + 1) * state.tables.round_ticks ≤ max_run_ticks }
     ensures state { IfOk result (λ done. done.0 ≡ (spec.round_of state cuts.now).state) }

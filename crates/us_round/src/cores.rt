@@ -1,7 +1,7 @@
 ghost use Rattle.std.specs.Prelude.{◌≡◌, ◌+◌, ◌-◌, ◌*◌, ◌^◌, ◌<◌, ◌≤◌, filter_map, length, zip, IfOk, OnOk};
 ghost use Rattle.std.specs.List.{AllByRecursion};
 ghost use Rattle.us_flows.specs.Tables.{max_run_ticks};
-ghost use Rattle.us_flows.specs.Clusters.{clusters_of};
+ghost use Rattle.us_flows.specs.Clusters.{words_of};
 ghost use Rattle.us_flows.specs.Lawful.{AreTables};
 ghost use Rattle.us_split.specs.Plans.{IsIdle};
 ghost use Rattle.us_channel.specs.Channels.{IsBuilt};
@@ -67,8 +67,8 @@ impl Drop for Kept {
     }
 }
 
-/// All that a round starts from but the channels: the configuration, the number of the round, what is outstanding of each
-/// SID cluster, and of each flow its bucket and that of its minimum rate; and the planner, which has the claims of the round.
+/// All that a round starts from but the channels: the configuration, the number of the round, what is outstanding by word, and
+/// of each flow its bucket and that of its minimum rate; and the planner, which has the claims of the round.
 pub(crate) struct Core {
     kept: Box<Kept>,
 }
@@ -134,7 +134,7 @@ impl Core {
         self.kept.round
     }
 
-    /// What is outstanding of each cluster.
+    /// What is outstanding, by word.
     pub(crate) fn outstanding(&self) -> &[u64]
         ensures { result.now ≡ self.now.outstanding }
     {
@@ -155,9 +155,10 @@ impl Core {
         &self.kept.planner
     }
 
-    /// Begins the round: each cluster asks for the bytes of its cut, and in every round but the first the buckets grow.
+    /// Begins the round: each cluster asks for the bytes that the cut has of its word, and in every round but the first the
+    /// buckets grow.
     pub(crate) fn begin(&mut self, cuts: &[u64])
-        requires clusters { length cuts.now ≡ length (clusters_of self.old.tables) }
+        requires words { length cuts.now ≡ length (words_of self.old.tables) }
         requires room { AllByRecursion (λ pair. pair.0 + pair.1 < 2 ^ 62) (zip self.old.outstanding cuts.now) }
         requires told { self.old.told ≡ self.old.round - 1 }
         requires time { (self.old.round + 1) * self.old.tables.round_ticks ≤ max_run_ticks }

@@ -30,6 +30,9 @@ mod cores;
 // both parts,
 mod parts;
 
+// which flows are active,
+mod activities;
+
 // the state, and what a round leaves of it.
 mod done;
 mod states;
@@ -50,12 +53,13 @@ pub use hands::{Answered, Building, Filling, Hands};
 pub use placing_laws::turns_are_placed_in_order;
 pub use rounds::{round, step};
 pub use schedule_laws::{
-    bytes_are_kept, calendars_run, maps_are_lawful, one_pass_does, rounds_are_sound, rounds_follow_on,
+    bytes_are_kept, calendars_run, maps_are_lawful, one_pass_does, rounds_are_sound,
+    rounds_follow_on,
 };
 pub use states::State;
 pub use us_output::{
-    EntryWord, FinalState, Grant, LineTally, MissedOccurrence, RoundOut, Row, Scratch, TraceCounts,
-    lines_are_of_grants, lines_bear_round,
+    EntryWord, FinalActivity, FinalState, Grant, LineTally, MissedOccurrence, RoundOut, Row,
+    Scratch, TraceCounts, lines_are_of_grants, lines_bear_round,
 };
 
 #[cfg(test)]
