@@ -43,7 +43,8 @@ module _ (words : ℕ) (v : TraceAsks) (marks : List Mark) (word slots : ℕ) (w
   abbrev silence : Option Silence
   silence = Some (record { word = word; slots = slots })
 
-  marked : (round by : ℕ) → by < words → is_marked (cut_of words (asks_in v round)) by ≡ nat_lt 0 (asked (asks_in v round) by)
+  marked : (round by : ℕ) → by < words →
+      is_marked (cut_of words (asks_in v round)) by ≡ nat_lt 0 (asked (asks_in v round) by)
   unfolding cut_of
   marked round by inside =
       ap (nat_lt 0) (get_or-map-range_with_len (asked (asks_in v round)) 0 words by by 0 inside (omega arith))

@@ -205,10 +205,14 @@ module _ (silent : List Bool) (word : ℕ) (silent_is : silent_at silent word �
         (flat_map (round_marks silent v) (range_with_len (from + 1) n))
         ∙ elim (cases_eq from round) [
           | inl same ↦
-              rw (outside (from + 1) n round active (inl (omega (arith, same))), or_false (list_any (is_mark word round active) (round_marks silent v from)))
+              rw (
+                outside (from + 1) n round active (inl (omega (arith, same))),
+                or_false (list_any (is_mark word round active) (round_marks silent v from)),
+              )
               (ap (λ r. list_any (is_mark word round active) (round_marks silent v r)) same ∙ said_in round active)
           | inr other ↦
-              rw (none_in round from active other) (inside (from + 1) n round active (omega (arith, late, other)) (omega (arith, early)))
+              rw (none_in round from active other)
+              (inside (from + 1) n round active (omega (arith, late, other)) (omega (arith, early)))
         ]
 
     pub said_inside : (round : ℕ) (active : Bool) → round < v.rounds →

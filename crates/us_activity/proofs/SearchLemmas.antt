@@ -120,12 +120,14 @@ parted marks word round are i j d order inside is =
 
 -- where a mark of this flow up to the round stands
 module _ (marks : List Mark) (word round count : ℕ) (point : IsPartedAt marks word round count) where
-  early_place : (k : ℕ) (m : Mark) → k < length marks → get_or marks k m ≡ m → m.word ≡ word → m.round ≤ round → k < count
+  early_place : (k : ℕ) (m : Mark) → k < length marks → get_or marks k m ≡ m → m.word ≡ word → m.round ≤ round →
+      k < count
   early_place k m inside at same early = elim (cases_lt k count) [
     | inl before ↦ before
     | inr late ↦
         let out : is_up_to word round (get_or marks k m) ≡ false = point.1 k m late inside in
-        let is : is_up_to word round (get_or marks k m) ≡ true = ap (is_up_to word round) at ∙ up_to word round m same early in
+        let is : is_up_to word round (get_or marks k m) ≡ true =
+        ap (is_up_to word round) at ∙ up_to word round m same early in
         let no : true ≡ false = sym is ∙ out in
         cc
   ]
