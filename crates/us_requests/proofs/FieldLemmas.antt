@@ -1,12 +1,9 @@
 -- Fields: the one at a place, as `csv` finds it, and none behind the last.
-use Rattle.std.proofs.Common.{◌≡◌, ℕ, zero, suc, ◌≤◌, List, [], ◌∷◌, length, Option, Some, None, true, if◌then◌else◌, ap, sym, ◌∙◌, refl, arith}
-use Rattle.std.specs.Prelude.{◌==◌, ◌||◌}
-use Rattle.std.proofs.lemmas.Bool.{eq-eqb}
+use Rattle.std.proofs.Common.{◌≡◌, ℕ, zero, suc, ◌≤◌, List, [], ◌∷◌, length, Option, Some, None, ap, refl, arith}
 use Rattle.csv.specs.Records.{field_at}
 use Rattle.us_requests.specs.Records.{Record}
-use Rattle.us_requests.specs.declared.requests.Kind.{Kind}
 use Rattle.us_requests.specs.declared.requests.Kind.TheVariants as kinds
-use Rattle.us_requests.specs.Texts.{field_in, is_kind, kind_of, number_of, number_from}
+use Rattle.us_requests.specs.Texts.{field_in, kind_of, number_of, number_from}
 
 abbrev pub or_nothing : Option (List ℕ) → List ℕ
 or_nothing None = []
@@ -26,12 +23,8 @@ field-past (field ∷ fields) zero past = absurd (omega (arith, past))
 field-past (field ∷ fields) (suc place) past = field-past fields place (omega (arith, past))
 
 -- four fields tell a request
-pub four-fields : (fields : Record) (units : ℕ) → length fields ≡ 4 →
-    Some kinds.Request ≡
-    (if length fields == 4 || is_kind units (field_in fields 4) then Some (kind_of (number_of (field_in fields 4))) else None)
+pub kind-of-four : (fields : Record) → length fields ≡ 4 → kind_of (number_of (field_in fields 4)) ≡ kinds.Request
 unfolding number_from
-four-fields fields units four =
-    let none = field-past fields 4 (omega (arith, four)) in
-    rw (eq-eqb (length fields) 4 four) (ap (λ field. Some (kind_of (number_of field))) (sym none))
+kind-of-four fields four = ap (λ field. kind_of (number_of field)) (field-past fields 4 (omega (arith, four)))
 
-pub ruleset kinded = (four-fields)
+pub ruleset kinded = (kind-of-four)

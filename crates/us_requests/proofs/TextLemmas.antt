@@ -1,5 +1,5 @@
 -- The text of a trace, record by record: what is left gives what all of it gives.
-use Rattle.std.proofs.Common.{◌≡◌, ℕ, ◌+◌, ◌≤◌, Bool, true, false, List, [], ◌∷◌, ◌++◌, length, map, drop, Option, Some, None, Vec, Global, refl, ap, sym, ◌∙◌, append_assoc, append-nil, arith}
+use Rattle.std.proofs.Common.{◌≡◌, ℕ, ◌+◌, ◌≤◌, Bool, true, false, List, [], ◌∷◌, ◌++◌, length, map, Option, Some, None, Vec, Global, refl, ap, sym, ◌∙◌, append_assoc, append-nil, arith}
 use Rattle.std.specs.Prelude.{Result, Ok, Err, IsErrAnd, nat_lt, not, ◌==◌, if◌then◌else◌}
 use Rattle.std.specs.List.{AllByRecursion}
 use Rattle.std.proofs.lemmas.List.{length-append}
@@ -7,7 +7,7 @@ use Rattle.us_requests.specs.declared.faults.TraceFault.{TraceFault}
 use Rattle.us_requests.specs.declared.faults.TraceFault.TheVariants as fault
 use Rattle.us_requests.specs.Asks.{Request}
 use Rattle.us_requests.specs.Records.{Record, TakesRecord}
-use Rattle.us_requests.specs.Texts.{max_records, is_header, are_numbers, request_of, record_checks, first_of, or_else, fault_from, records_fault}
+use Rattle.us_requests.specs.Texts.{max_records, are_numbers, request_of, record_checks, first_of, or_else, fault_from}
 use Rattle.us_requests.specs.Readings.{AreRequests, Tells, IsFirst}
 
 -- of these records behind a header of so many columns, such requests were read and these records are left, the first of

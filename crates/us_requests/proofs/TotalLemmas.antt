@@ -7,7 +7,7 @@ use Rattle.std.proofs.lemmas.List.Sums.{sum_by-cons, sum_by-le-sum_by}
 use Rattle.std.proofs.lemmas.Nat.{mul-le}
 use Rattle.std.proofs.Math.Nat.{mul-suc}
 use Rattle.us_flows.specs.Tables.{Tables, FlowTable}
-use Rattle.us_flows.specs.Clusters.{Cluster, Word, Requests, clusters_from, flow_of_word, lookup, words_in, words_of}
+use Rattle.us_flows.specs.Clusters.{Word, Requests, clusters_from, flow_of_word, lookup, words_in, words_of}
 use Rattle.us_flows.specs.declared.flows.SchedulingType.{SchedulingType}
 use Rattle.us_flows.specs.declared.flows.SchedulingType.TheVariants.{BestEffort, NonRealTimePolling, RealTimePolling, ActivityDetection, UnsolicitedGrant}
 use Rattle.us_flows.proofs.WordLemmas.{words_by}

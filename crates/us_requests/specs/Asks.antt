@@ -1,5 +1,5 @@
 -- Requests, and marks of activity: in which round one is served, and what it asks for.
-use Rattle.std.specs.Prelude.{ℕ, ◌+◌, ◌*◌, ◌<◌, ◌≤◌, ◌↔◌, List, filter_map, count_by, Bool, true, false, not, ◌==◌, nat_lt, ◌&&◌, if◌then◌else◌, Option, Some, None, slice_get, is_none}
+use Rattle.std.specs.Prelude.{ℕ, ◌+◌, ◌*◌, ◌<◌, ◌≤◌, ◌↔◌, List, filter_map, count_by, Bool, not, ◌==◌, nat_lt, ◌&&◌, if◌then◌else◌, Option, Some, None, slice_get, is_none}
 use Rattle.std.specs.Int.{div_ceil}
 use Rattle.us_flows.specs.Tables.{Tables}
 use Rattle.us_flows.specs.Clusters.{Word, flow_of_word, words_of, lookup}
@@ -34,7 +34,7 @@ unit_of None = 0
 unit_of (Some word) = (flow_of_word word).unit
 
 -- what is asked for, by what was found of the SID: by a request so many units of a cluster, by a mark one byte of the word
--- that stands for it; nothing, if requests and SID don't go together
+-- that stands for it; nothing, where its kind and its SID don't go together
 abbrev pub ask_for : Tables → Kind → ℕ → Option Found → Option Ask
 ask_for t kinds.Request units (Some (found.Cluster number)) =
     Some (record { cluster = number; bytes = units * unit_of (slice_get (words_of t) number) })

@@ -1,6 +1,6 @@
 -- Cuts: how many bytes are asked for in a round by each word. A cut is a sum over the requests of the trace, in whatever
 -- order they stand.
-use Rattle.std.specs.Prelude.{◌≡◌, ℕ, ◌+◌, ◌*◌, List, map, filter, sum_by, Bool, false, ◌==◌, ◌&&◌, nat_lt, Option, Some, None, slice_get, length}
+use Rattle.std.specs.Prelude.{◌≡◌, ℕ, ◌+◌, ◌*◌, List, map, filter, sum_by, Bool, false, ◌==◌, ◌&&◌, nat_lt, Option, Some, slice_get, length}
 use Rattle.std.specs.List.{range_with_len}
 use Rattle.std.specs.List.Sorted.{IsPermutation}
 use Rattle.us_flows.specs.Tables.{Tables}

@@ -12,7 +12,7 @@ use Rattle.us_requests.specs.declared.faults.TraceFault.TheVariants.{Header, Fie
 use Rattle.us_requests.specs.Asks.{Request, round_of_tick, asks_at, counts_of}
 use Rattle.us_requests.specs.Cuts.{cut, cut_at, cut_of}
 use Rattle.us_requests.specs.Records.{Record}
-use Rattle.us_requests.specs.Texts.{is_header, number_from, are_numbers, record_checks, first_of, fault_from, records_fault, trace_fault, requests_of}
+use Rattle.us_requests.specs.Texts.{is_header, number_from, are_four_numbers, record_checks, first_of, fault_from, records_fault, trace_fault, requests_of}
 
 -- one cluster with a unit of 4 bytes, and two of a flow of two channels with a unit of 16
 abbrev narrow : FlowTable
@@ -242,7 +242,7 @@ record_faults :
     None ∷ Some (Number 2) ∷ Some (Number 3) ∷ Some (Number 2) ∷ Some (Number 2) ∷ Some (Number 2) ∷ Some (Fields 4) ∷
     Some (Fields 2) ∷ Some (Number 2) ∷ Some (Number 2) ∷ Some (Number 2) ∷
     None ∷ Some TooLarge ∷ []
-unfolding are_numbers number_from
+unfolding are_four_numbers number_from
 record_faults = refl
 
 -- behind five columns: kinds 0, 1 and 2, a kind with a leading zero, a kind that is none, a mark with units, no kind, and
@@ -263,7 +263,7 @@ kind_faults :
     first_of (record_checks 4 2 (of_kind (codes "0") (codes "0"))) ∷ []) ≡
     None ∷ None ∷ None ∷ None ∷ Some (Number 2) ∷ Some (Number 2) ∷ Some (Number 2) ∷ Some (Number 2) ∷
     Some (Fields 2) ∷ Some (Fields 2) ∷ []
-unfolding are_numbers number_from
+unfolding are_four_numbers number_from
 kind_faults = refl
 
 -- the first faulty record decides
@@ -271,7 +271,7 @@ first_faults :
     (records_fault [] ∷ records_fault (header ∷ []) ∷ records_fault ((codes "x" ∷ []) ∷ fields_of [] [] ∷ []) ∷
     records_fault (header ∷ fields_of (codes "1") (codes "1") ∷ fields_of [] [] ∷ (codes "x" ∷ []) ∷ []) ∷ []) ≡
     Some Header ∷ None ∷ Some Header ∷ Some (Number 3) ∷ []
-unfolding fault_from is_header are_numbers number_from
+unfolding fault_from is_header are_four_numbers number_from
 first_faults = refl
 
 -- texts
@@ -279,7 +279,7 @@ abbrev sound : List ℕ
 sound = codes "tick,channel,sid,units\r\n\r\n161,1,291,3\n0,1,\"00291\",10"
 
 no_fault : trace_fault sound ≡ None
-unfolding trace_fault strip_bom records_from next_record fault_from is_header are_numbers number_from
+unfolding trace_fault strip_bom records_from next_record fault_from is_header are_four_numbers number_from
 no_fault = refl
 
 told : requests_of sound ≡ asks_for 161 1 291 3 ∷ asks_for 0 1 291 10 ∷ []
@@ -291,7 +291,7 @@ abbrev marked : List ℕ
 marked = codes "tick,channel,sid,units,kind\n0,1,291,10,0\n0,1,700,0,1\n400,1,700,0,02\n"
 
 no_fault_of_kinds : trace_fault marked ≡ None
-unfolding trace_fault strip_bom records_from next_record fault_from is_header are_numbers number_from
+unfolding trace_fault strip_bom records_from next_record fault_from is_header are_four_numbers number_from
 no_fault_of_kinds = refl
 
 told_with_kinds : requests_of marked ≡ asks_for 0 1 291 10 ∷ marks 0 1 700 kinds.Silent ∷ marks 400 1 700 kinds.Active ∷ []
@@ -305,5 +305,5 @@ text_faults :
     trace_fault (codes "tick,channel,sid,units\n0,1,291") ∷
     trace_fault (codes "tick,channel,sid,units\n0,1,291,1\n0,1,291,65536\n") ∷ []) ≡
     Some Header ∷ Some Header ∷ None ∷ Some (Fields 2) ∷ Some (Number 2) ∷ Some (Fields 2) ∷ Some (Number 3) ∷ []
-unfolding trace_fault strip_bom records_from next_record fault_from is_header are_numbers number_from
+unfolding trace_fault strip_bom records_from next_record fault_from is_header are_four_numbers number_from
 text_faults = refl

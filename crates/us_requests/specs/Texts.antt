@@ -47,11 +47,14 @@ is_kind units field = is_number 2 field && (number_of field == 0 || units == 0)
 abbrev pub kind_of : ℕ → Kind
 kind_of number = if number == 1 then kinds.Silent else if number == 2 then kinds.Active else kinds.Request
 
--- the four fields of a request, and its kind where there are more
-unfoldable pub are_numbers : Record → Bool
-are_numbers fields = is_number 4294967295 (field_in fields 0) && (is_number 255 (field_in fields 1)
-    && (is_number 16383 (field_in fields 2) && (is_number 65535 (field_in fields 3)
-    && (length fields == 4 || is_kind (number_of (field_in fields 3)) (field_in fields 4)))))
+-- the first four fields of a request, and its kind where there are more
+unfoldable pub are_four_numbers : Record → Bool
+are_four_numbers fields = is_number 4294967295 (field_in fields 0) && (is_number 255 (field_in fields 1)
+    && (is_number 16383 (field_in fields 2) && is_number 65535 (field_in fields 3)))
+
+abbrev pub are_numbers : Record → Bool
+are_numbers fields = are_four_numbers fields
+    && (length fields == 4 || is_kind (number_of (field_in fields 3)) (field_in fields 4))
 
 -- without a fifth field its kind is 0
 abbrev pub request_of : Record → Request

@@ -1,8 +1,9 @@
-ghost use Rattle.std.specs.Prelude.{◌≡◌, ◌≤◌, ◌==◌, ◌||◌, true, length, Some, None, if◌then◌else◌, IfOk, IfErr, IfSome};
+ghost use Rattle.std.specs.Prelude.{◌≡◌, ◌≤◌, true, length, Some, None, if◌then◌else◌, IfOk, IfErr, IfSome};
 ghost use Rattle.std.specs.List.{list_all};
 ghost use Rattle.csv.specs.Records.{fields_of};
+ghost use Rattle.us_requests.specs.declared.requests.Kind.TheVariants as kinds;
 ghost use Rattle.us_requests.specs.Texts;
-ghost use Rattle.us_requests.specs.Texts.{max_records, field_in, is_digit, number_of, is_number, is_kind, are_numbers, request_of, record_checks, first_of};
+ghost use Rattle.us_requests.specs.Texts.{max_records, field_in, is_digit, number_of, is_number, is_kind, are_four_numbers, are_numbers, request_of, record_checks, first_of};
 
 use crate::faults::TraceFault;
 use crate::requests::{Kind, Request};
@@ -45,47 +46,51 @@ pub(crate) fn request_in(
     if fields.len() != columns {
         return Err(TraceFault::Fields(number));
     }
-    match request_of(fields) {
+    match request_of(fields, columns) {
         Some(request) => Ok(request),
         None => Err(TraceFault::Number(number)),
     }
 }
 
-/// The request that fields tell, if each is a number in its range.
-#[tactic(auto, unfolding(crate::specs::Texts::are_numbers))]
-fn request_of(fields: &ByteRecord) -> Option<Request>
+/// The request that so many fields tell, if each is a number in its range. Only behind more than four columns it has a
+/// kind to be read.
+#[tactic(auto, using(crate::proofs::FieldLemmas::kinded))]
+fn request_of(fields: &ByteRecord, columns: usize) -> Option<Request>
+    requires { length (fields_of fields.now) ≡ columns }
     ensures value { result ≡
         if are_numbers (fields_of fields.now) then Some (request_of (fields_of fields.now)) else None }
+    ensures small { IfSome result (λ request. request.units ≤ 65535) }
+{
+    let request = four_numbers(fields)?;
+    if columns == COLUMNS {
+        return Some(request);
+    }
+    let kind = kind_in(field(fields, 4), request.units)?;
+    Some(Request { kind, ..request })
+}
+
+/// The request that the first four fields tell, if each is a number in its range.
+#[tactic(auto, unfolding(crate::specs::Texts::are_four_numbers))]
+fn four_numbers(fields: &ByteRecord) -> Option<Request>
+    ensures value { result ≡ if are_four_numbers (fields_of fields.now)
+        then Some (record (request_of (fields_of fields.now)) { kind = kinds.Request }) else None }
     ensures small { IfSome result (λ request. request.units ≤ 65535) }
 {
     let tick = number_in(field(fields, 0), u32::MAX)?;
     let channel = number_in(field(fields, 1), 255)?;
     let sid = number_in(field(fields, 2), 16_383)?;
     let units = number_in(field(fields, 3), 65_535)?;
-    let kind = kind_of(fields, units)?;
     Some(Request {
         tick,
         channel: channel as u8,
         sid: sid as u16,
         units: units as u16,
-        kind,
+        kind: Kind::Request,
     })
 }
 
-/// The kind of a request of so many units, if its fields tell one. Four fields tell that of a request.
-#[tactic(auto, using(crate::proofs::FieldLemmas::kinded))]
-fn kind_of(fields: &ByteRecord, units: u32) -> Option<Kind>
-    ensures { result ≡ if length (fields_of fields.now) == 4 || is_kind units (field_in (fields_of fields.now) 4)
-        then Some (Texts.kind_of (number_of (field_in (fields_of fields.now) 4))) else None }
-{
-    if fields.len() == COLUMNS {
-        return Some(Kind::Request);
-    }
-    kind_in(field(fields, 4), units)
-}
-
 /// The kind that a field tells of a request of so many units: a mark has none.
-fn kind_in(field: &[u8], units: u32) -> Option<Kind>
+fn kind_in(field: &[u8], units: u16) -> Option<Kind>
     ensures { result ≡ if is_kind units field.now then Some (Texts.kind_of (number_of field.now)) else None }
 {
     match number_in(field, 2)? {

@@ -26,21 +26,31 @@ pub(crate) fn outcome_of(config: &Config, units: &[u8], rounds: u32, request: &R
     requires { units.now ≡ units_of config.now }
     ensures { Becomes config.now rounds request.now result }
 {
-    let ask = match (request.kind, config.lookup(request.channel, request.sid)) {
-        (_, None) => return Outcome::Unknown,
-        (Kind::Request, Some(Found::Cluster(cluster))) => Ask {
-            cluster,
-            bytes: u32::from(request.units) * u32::from(units[usize::from(cluster)]),
-        },
-        (Kind::Silent, Some(Found::Activity(silent))) => Ask {
-            cluster: silent,
-            bytes: 1,
-        },
-        (Kind::Active, Some(Found::Activity(silent))) => Ask {
-            cluster: silent + 1,
-            bytes: 1,
-        },
-        _ => return Outcome::NotRequestable,
+    let found = match config.lookup(request.channel, request.sid) {
+        Some(found) => found,
+        None => return Outcome::Unknown,
+    };
+    // Most are no marks: so these cost little beside what they do in a trace without kinds.
+    let ask = if request.kind == Kind::Request {
+        match found {
+            Found::Cluster(cluster) => Ask {
+                cluster,
+                bytes: u32::from(request.units) * u32::from(units[usize::from(cluster)]),
+            },
+            _ => return Outcome::NotRequestable,
+        }
+    } else {
+        match (found, request.kind) {
+            (Found::Activity(silent), Kind::Active) => Ask {
+                cluster: silent + 1,
+                bytes: 1,
+            },
+            (Found::Activity(silent), _) => Ask {
+                cluster: silent,
+                bytes: 1,
+            },
+            _ => return Outcome::NotRequestable,
+        }
     };
     let round = round_of(config, request.tick);
     if round >= u64::from(rounds) {

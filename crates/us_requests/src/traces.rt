@@ -22,7 +22,7 @@ use us_slots::{Source, read_all};
 /// The most bytes of a trace.
 const MAX_BYTES: usize = 33_554_432;
 
-/// The requests of a trace as what clusters ask for, by round, and how many of its requests are no asks.
+/// The requests of a trace as what they ask for, by round, and how many of its requests are no asks.
 #[derive(Debug, Drop)]
 pub struct Trace {
     rounds: u32,

@@ -1,4 +1,4 @@
-use Rattle.std.proofs.Common.{◌≡◌, ◌<◌, length, vec_len, arith}
+use Rattle.std.proofs.Common.{◌≡◌, length, vec_len, arith}
 use Rattle.us_requests.specs.Outcomes.{units_of}
 use Rattle.us_requests.proofs.AskLemmas.{few-more, units-more}
 use Rattle.us_requests.proofs.traces.units_of.Goals as goal
