@@ -1,9 +1,9 @@
 -- Where no flow has a minimum rate, nothing is reserved in any round, and so one pass does.
-use Rattle.std.proofs.Common.{◌≡◌, ℕ, ◌+◌, ◌==◌, List, [], ◌∷◌, length, map, refl, ap, sym, subst, ◌∙◌, inl, inr, eq-eqb}
+use Rattle.std.proofs.Common.{◌≡◌, ℕ, ◌+◌, ◌==◌, List, [], ◌∷◌, map, refl, ◌∙◌, inl, inr, eq-eqb}
 use Rattle.std.specs.List.{AllByRecursion}
 use Rattle.std.proofs.lemmas.Bool.{cases_Bool}
 use Rattle.std.proofs.lemmas.List.{length-map}
-use Rattle.us_flows.specs.Tables.{Tables, FlowTable}
+use Rattle.us_flows.specs.Tables.{FlowTable}
 use Rattle.us_bucket.specs.Levels.{Level, full, refilled, spent, bytes_in, reserve_in}
 use Rattle.us_split.proofs.OnePassLaws as plans
 use Rattle.us_round.specs.Rounds.{State, opening, brought, begun, fills_of, idle, unreserved, reserved_in, round_from, round_of}
@@ -58,7 +58,7 @@ all_once s (cut ∷ cuts) is none long =
     let left : NoRates (begun s cut).reserves = none_brought s s.reserves none in (
       once (begun s cut) now left,
       all_once (round_of s cut).state cuts (next_state (begun s cut) now)
-      (none_left (reserved_in (begun s cut)) 0 (begun s cut).reserves left) long.1,
+          (none_left (reserved_in (begun s cut)) 0 (begun s cut).reserves left) long.1,
     )
 
 pub one_pass_does : OnePassDoes

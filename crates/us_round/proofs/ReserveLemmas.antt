@@ -1,5 +1,5 @@
 -- What a plan takes of reserves leaves the buckets turn by turn: of each flow once, and of those whose turns don't ask nothing.
-use Rattle.std.proofs.Common.{◌≡◌, ◌≢◌, ◌⊎◌, ℕ, zero, suc, ◌+◌, ◌-◌, ◌<◌, ◌≤◌, ◌==◌, eqb, List, [], ◌∷◌, length, map, set, get_or, take, filter, Option, Some, None, slice_get, slice_index, slice_index_or, slice_set, refl, ap, ap₂, sym, subst, ◌∙◌, inl, inr, eq-eqb, ne_eqb, get_or-set_same, get_or-set_other, arith}
+use Rattle.std.proofs.Common.{◌≡◌, ◌≢◌, ◌⊎◌, ℕ, suc, ◌+◌, ◌-◌, ◌<◌, ◌≤◌, ◌==◌, eqb, List, [], ◌∷◌, length, map, set, get_or, take, filter, Option, Some, None, slice_get, slice_index, slice_index_or, slice_set, refl, ap, ap₂, sym, subst, ◌∙◌, inl, inr, eq-eqb, ne_eqb, get_or-set_same, get_or-set_other, arith}
 use Rattle.std.specs.List.{AllByRecursion, cons_option}
 use Rattle.std.proofs.lemmas.Bool.{cases_Bool, cases_eq, ltb-false}
 use Rattle.std.proofs.lemmas.List.{get_or-map, length-map, length-set, take_more}

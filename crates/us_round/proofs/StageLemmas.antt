@@ -14,7 +14,7 @@ use Rattle.us_split.proofs.ClaimLemmas.{plan_for-claims}
 use Rattle.us_channel.specs.Channels.{Filled, Built, IsBuilt, fill, ungranted}
 use Rattle.us_output.specs.Outputs.{RoundOut, Scheduled, out_of, AreWithinLimits}
 use Rattle.us_output.specs.Leftovers.{still_asking, told}
-use Rattle.us_round.specs.Rounds.{State, RoundResult, begun, fills_of, idle, round_plan, builds_of, credited, round_from, round_of}
+use Rattle.us_round.specs.Rounds.{State, RoundResult, begun, fills_of, idle, round_plan, builds_of, round_from, round_of}
 use Rattle.us_round.specs.States.{IsState, AreSound, settled_by}
 use Rattle.us_round.specs.Cores.{Core, IsReady, begun_core, credited_core, first_sid_at, idle_of, plan_over, planned_core}
 use Rattle.us_round.specs.Parts.{ArePartsDone, ArePartsOfRound, ArePartsOfState, AreBuilt, AreClaimsOn, built_by, done_by, done_of, filled_by, state_of}

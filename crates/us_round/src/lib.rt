@@ -50,7 +50,8 @@ pub use hands::{Answered, Building, Filling, Hands};
 pub use placing_laws::turns_are_placed_in_order;
 pub use rounds::{round, step};
 pub use schedule_laws::{
-    bytes_are_kept, calendars_run, maps_are_lawful, one_pass_does, rounds_are_sound, rounds_follow_on,
+    bytes_are_kept, calendars_run, maps_are_lawful, one_pass_does, rounds_are_sound,
+    rounds_follow_on,
 };
 pub use states::State;
 pub use us_output::{

@@ -1,5 +1,4 @@
 use Rattle.std.proofs.Common.{length, ap, sym, subst, ◌∙◌}
-use Rattle.us_round.specs.declared.cores.Kept.{Kept}
 use Rattle.us_round.proofs.CoreLemmas.{IsKept, core_in, opening_kept, opening_value}
 use Rattle.us_round.proofs.cores.Core.new.Goals as goal
 
