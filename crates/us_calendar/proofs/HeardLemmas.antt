@@ -1,5 +1,6 @@
 -- Which entries hear, and what hearing changes.
-use Rattle.std.proofs.Common.{◌≡◌, ℕ, zero, suc, List, [], ◌∷◌, length, map, Option, Some, None, slice_get, refl, ap, sym, ◌∙◌, subst, arith, is_some, true, false}
+use Rattle.std.proofs.Common.{◌≡◌, ℕ, zero, suc, ◌+◌, ◌<◌, Bool, drop, get_or, List, [], ◌∷◌, length, map, Option, Some, None, slice_get, refl, ap, sym, ◌∙◌, subst, arith, is_some, true, false}
+use Rattle.std.specs.List.{find}
 use Rattle.std.proofs.lemmas.List.{length-map}
 use Rattle.us_holes.specs.Boards.{Board}
 use Rattle.us_calendar.specs.declared.silences.Silence.{Silence}
@@ -8,6 +9,7 @@ use Rattle.us_calendar.specs.Occurrences.{Pace}
 use Rattle.us_calendar.specs.Settling.{EntryState, heard, settle_state}
 use Rattle.us_calendar.specs.Calendars.{run_entries}
 use Rattle.us_calendar.specs.Kept.{AreHeard}
+use Rattle.us_calendar.proofs.ListingLemmas.{next_of}
 
 -- whether the activity of a flow is detected
 
@@ -83,3 +85,13 @@ pub heard_then : (pace : Pace) (round : ℕ) (states : List EntryState) (board :
     AreHeard states from to → AreHeard (run_entries pace round states board).states from to
 heard_then pace round states board from to are =
     same_heard states (run_entries pace round states board).states from to (entries_stay pace round states board) are
+
+-- the first state that passes, where none before a place does
+
+module _ (p : EntryState → Bool) (states : List EntryState) (i : ℕ) (state : EntryState) (inside : i < length states)
+    (is : state ≡ get_or states i state) (before : find p states ≡ find p (drop i states)) where
+  pub find_here : p state ≡ true → find p states ≡ Some state
+  find_here passes = before ∙ ap (find p) (next_of states i state inside is) ∙ rw passes refl
+
+  pub find_on : p state ≡ false → find p states ≡ find p (drop (i + 1) states)
+  find_on isnt = before ∙ ap (find p) (next_of states i state inside is) ∙ rw isnt refl

@@ -16,7 +16,7 @@ put : (es : List Entry) (o : Option Entry) (rest : List Entry) → (es ++ option
 put es None rest = append_assoc es [] rest
 put es (Some e) rest = append_assoc es (e ∷ []) rest
 
-next_of : {X : Type 0} (xs : List X) (i : ℕ) (x : X) → i < length xs → x ≡ get_or xs i x → drop i xs ≡ x ∷ drop (i + 1) xs
+pub next_of : {X : Type 0} (xs : List X) (i : ℕ) (x : X) → i < length xs → x ≡ get_or xs i x → drop i xs ≡ x ∷ drop (i + 1) xs
 next_of xs i x inside is =
     let next : drop i xs ≡ get_or xs i x ∷ drop (i + 1) xs = rw add-one (drop-cons xs i x inside) in
     next ∙ ap (λ y. y ∷ drop (i + 1) xs) (sym is)

@@ -1,5 +1,5 @@
 -- The calendar of a channel, from round to round.
-use Rattle.std.specs.Prelude.{ℕ, ◌+◌, ◌*◌, ◌<◌, ◌≤◌, ◌^◌, ⊤, List, [], ◌∷◌, ◌++◌, length, map, sum_by, Option, Some, None}
+use Rattle.std.specs.Prelude.{ℕ, ◌+◌, ◌*◌, ◌<◌, ◌≤◌, ◌^◌, ◌==◌, ◌&&◌, Bool, ⊤, List, [], ◌∷◌, ◌++◌, length, map, sum_by, Option, Some, None, is_some, option_map, find}
 use Rattle.us_slots.specs.Times.{minislot_ticks}
 use Rattle.us_flows.specs.declared.channels.Channel.{Channel}
 use Rattle.us_flows.specs.Tables.{Tables, map_len}
@@ -56,6 +56,13 @@ after calendar cut board = record {
   next_round = calendar.next_round + 1;
   states = (ran calendar cut board).states;
 }
+
+-- whether the flow with an id is active, as of the last round's cut, where its activity is detected and its entry stands here
+abbrev pub tells_of : ℕ → EntryState → Bool
+tells_of id state = is_some state.entry.silence && (state.entry.id == id)
+
+abbrev pub activity_of : Calendar → ℕ → Option Bool
+activity_of calendar id = option_map (λ state. state.active) (find (tells_of id) calendar.states)
 
 -- how many occurrences are settled so far: granted or missed, or left out in a silent interval
 abbrev pub settled_in : Calendar → ℕ

@@ -8,7 +8,7 @@ ghost use Rattle.us_calendar.specs.Kept.{IsKept};
 
 use crate::agendas::{hear_and_settle, noted};
 use crate::entry_states::EntryState;
-use crate::heard_entries::HeardPlaces;
+use crate::heard_entries::{HeardPlaces, activity_among};
 use crate::listing::entries_of;
 use crate::near_rounds::clear_all;
 use crate::paces::Pace;
@@ -180,6 +180,14 @@ impl Calendar {
                 Err(refused)
             }
         }
+    }
+
+    /// Whether the flow with this id is active, as of the last round's cut. `None` where its activity isn't detected, or its
+    /// entry stands on another channel.
+    pub fn activity_of(&self, id: u16) -> Option<bool>
+        ensures { result ≡ spec.activity_of self.now id }
+    {
+        activity_among(&self.states, id)
     }
 
     /// The round that is to be run next.

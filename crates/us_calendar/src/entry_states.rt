@@ -2,6 +2,7 @@ ghost use Rattle.std.specs.Prelude.{◌≡◌, ◌+◌, ◌++◌, is_some, true,
 ghost use Rattle.std.specs.List.{range_with_len};
 ghost use Rattle.us_calendar.specs.Agendas.{due_at};
 ghost use Rattle.us_calendar.specs.Occurrences.{end_of, ideal};
+ghost use Rattle.us_calendar.specs.Calendars.{tells_of};
 ghost use Rattle.us_calendar.specs.Settling as spec;
 ghost use Rattle.us_calendar.specs.Kept.{IsEntryState, IsNext, number_of, speaks_of};
 
@@ -74,6 +75,20 @@ impl EntryState {
         ensures { result ≡ is_some self.now.entry.silence }
     {
         self.entry.silence.is_some()
+    }
+
+    /// Whether it is of the flow with this id, and the activity of that is detected.
+    pub(crate) fn tells_of(&self, id: u16) -> bool
+        ensures { result ≡ tells_of id self.now }
+    {
+        self.is_heard() && self.entry.id == id
+    }
+
+    /// Whether its flow is active, as of the last round's cut.
+    pub(crate) fn is_active(&self) -> bool
+        ensures { result ≡ self.now.active }
+    {
+        self.active
     }
 
     /// Hears what a round's cut, bytes by word, says of its flow.

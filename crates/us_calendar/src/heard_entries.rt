@@ -1,5 +1,6 @@
-ghost use Rattle.std.specs.Prelude.{◌≡◌, ℕ, ◌<◌, ◌≤◌, None, Some, length, map, slice_get};
+ghost use Rattle.std.specs.Prelude.{◌≡◌, ℕ, ◌<◌, ◌≤◌, None, Some, find, length, map, option_map, slice_get};
 ghost use Rattle.std.specs.List.{AllByRecursion};
+ghost use Rattle.us_calendar.specs.Calendars.{tells_of};
 ghost use Rattle.us_calendar.specs.Settling as spec;
 ghost use Rattle.us_calendar.specs.Kept.{AreHeard, IsEntryState};
 
@@ -54,6 +55,18 @@ fn behind_heard(states: &[EntryState]) -> usize
         to -= 1;
     }
     to
+}
+
+/// Whether the flow with this id is active, where its activity is detected and its entry is among these.
+pub(crate) fn activity_among(states: &[EntryState], id: u16) -> Option<bool>
+    ensures { result ≡ option_map (λ state. state.active) (find (tells_of id) states.now) }
+{
+    for state in states {
+        if state.tells_of(id) {
+            return Some(state.is_active());
+        }
+    }
+    None
 }
 
 /// Has all that hear take a round's cut, bytes by word.
