@@ -11,7 +11,7 @@ use us_requests::Trace;
 use us_slots::QUARTERS_PER_TICK;
 
 /// The run that is judged: its tables, its trace, and who is active in which of its rounds.
-#[derive(Clone, Copy)]
+#[derive(Drop)]
 pub(crate) struct JudgedRun<'a> {
     pub(crate) config: &'a Config,
     pub(crate) trace: &'a Trace,
