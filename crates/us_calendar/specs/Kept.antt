@@ -46,7 +46,7 @@ settled_at e active occurrence start = record { number = number_of e occurrence;
 abbrev pub speaks_of : Kinds → ℕ → Bool
 speaks_of kinds = kind_at kinds.at kinds.kept kinds.active
 
--- and what is kept then for the interval that begins there, where the round ends at a time
+-- and what is kept behind the round of the interval that begins there
 abbrev pub kept_at : Kinds → Option Bool → ℕ → ℕ → Option Bool
 kept_at kinds waiting end time =
     if nat_lt time end then Some (speaks_of kinds time) else if time == kinds.at then waiting else None

@@ -95,7 +95,8 @@ speaks_in state time =
     if_detected state.entry.silence (kind_at (ideal state.entry (length state.settled))
     (unwrap_or state.waiting state.active) state.active time) true
 
--- what is kept for the interval that begins at a time, where the round ends then: nothing before it has begun
+-- what is kept behind a round of the interval that begins at a time: of what kind it is, if it begins before the round's end;
+-- else nothing, unless nothing was settled
 abbrev pub waiting_at : ℕ → EntryState → ℕ → Option Bool
 waiting_at end state time =
     if_detected state.entry.silence (if nat_lt time end then Some (speaks_in state time) else
