@@ -7,8 +7,7 @@ use Rattle.us_requests.specs.Cuts.{cut_of}
 use Rattle.us_requests.specs.Traces.{TraceAsks, asks_in}
 use Rattle.us_calendar.specs.declared.silences.Silence.{Silence}
 use Rattle.us_calendar.specs.Activity.{active_in}
-use Rattle.us_activity.specs.declared.marks.Mark.{Mark}
-use Rattle.us_activity.specs.Marks.{is_active}
+use Rattle.us_activity.specs.Marks.{Marks, is_active}
 
 -- the cuts of all rounds of a trace that was read: what its asks add up to, in bytes by word
 unfoldable pub cuts_told : Tables → TraceAsks → List (List ℕ)
@@ -16,7 +15,7 @@ cuts_told t v = map (λ round. cut_of (length (words_of t)) (asks_in v round)) (
 
 -- Marks tell of each flow that has a word for its silence in which rounds it is active, as these cuts do. Behind the last
 -- round it is as in that one. How many minislots its polls have is nothing to it.
-pub record AreMarksOf (t : Tables) (v : TraceAsks) (marks : List Mark) : Type 0 where
+pub record AreMarksOf (t : Tables) (v : TraceAsks) (marks : Marks) : Type 0 where
   pub told : (flow : FlowTable) (silence : Silence) (round : ℕ) →
       slice_get (words_of t) silence.word ≡ Some (Silent flow) →
       is_active marks silence.word round ≡ active_in (Some silence) (cuts_told t v) round

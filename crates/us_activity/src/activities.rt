@@ -1,5 +1,4 @@
-ghost use Rattle.std.specs.Prelude.{◌≡◌, List, IfOk};
-ghost use Rattle.us_activity.specs.declared.marks.Mark.{Mark};
+ghost use Rattle.std.specs.Prelude.{◌≡◌, IfOk};
 ghost use Rattle.us_activity.specs.Marks as spec;
 ghost use Rattle.us_activity.specs.Activities.{AreMarksOf};
 ghost use Rattle.us_activity.specs.Kept.{AreInOrder};
@@ -20,7 +19,7 @@ pub struct Activities {
 }
 
 impl Model for Activities {
-    ghost Value = { List Mark };
+    ghost Value = { spec.Marks };
 
     ghost view = { λ a. a.marks.items };
 
