@@ -12,7 +12,7 @@ use Rattle.us_flows.specs.Tables.{Tables, FlowTable}
 use Rattle.us_flows.specs.Lawful.{AreTables, IsFlow}
 use Rattle.us_flows.specs.Clusters.{Cluster, Turn, IsTurnIn, clusters_from, makes_requests, requesting, table_order, turns_for, turns_from, words_in}
 use Rattle.us_flows.proofs.TurnLaws.{one_number, one_turn, table_order-length, table_order-once, table_order-turns}
-use Rattle.us_lawful.proofs.CreditLineLaws.{turn_listed}
+use Rattle.us_lawful.proofs.CreditLineLaws.{counted_there, turn_listed}
 use Rattle.std.proofs.lemmas.Option.{slice_get_read}
 use Rattle.us_output.proofs.PartLemmas.{all_both, all_found, all_weaker}
 use Rattle.us_credit_rules.specs.Seats.{AreSeats, code_of, is_number, names, number_from, place_of}
@@ -289,22 +289,15 @@ are_seats t lawful = record {
           clusters_few flows most.1,
         )
 
--- the place and the word of the cluster that a line names
+-- What a line names.
 
+-- an item that passes is counted, and so are those behind it
 counted_first : {X : Type 0} (p : X → Bool) (x : X) (xs : List X) → p x ≡ true → count_by p (x ∷ xs) ≡ 1 + count_by p xs
 counted_first p x xs is =
     sum_by-cons (λ x. cond (p x) 1 0) x xs ∙ ap (λ b. cond {A = ℕ} b 1 0 + count_by p xs) is
 
-counted_fewer : {X : Type 0} (p : X → Bool) (x : X) (xs : List X) → count_by p xs ≤ count_by p (x ∷ xs)
-counted_fewer p x xs = omega (arith, sum_by-cons (λ x. cond (p x) 1 0) x xs)
-
-counted_some : {X : Type 0} (p : X → Bool) (xs : List X) (i : ℕ) (x : X) → slice_get xs i ≡ Some x → p x ≡ true →
-    1 ≤ count_by p xs
-counted_some p [] i x at is = absurd (cc at)
-counted_some p (y ∷ xs) zero x at is =
-    let same : y ≡ x = cc at in
-    omega (arith, counted_first p y xs (ap p same ∙ is))
-counted_some p (y ∷ xs) (suc i) x at is = omega (arith, counted_some p xs i x at is, counted_fewer p y xs)
+counted_behind : {X : Type 0} (p : X → Bool) (x : X) (xs : List X) → count_by p xs ≤ count_by p (x ∷ xs)
+counted_behind p x xs = omega (arith, sum_by-cons (λ x. cond (p x) 1 0) x xs)
 
 -- what is counted once stands at one place
 one_place : {X : Type 0} (p : X → Bool) (xs : List X) (i j : ℕ) (x y : X) → count_by p xs ≤ 1 →
@@ -313,12 +306,12 @@ one_place p [] i j x y once at there is too = absurd (cc at)
 one_place p (z ∷ xs) zero zero x y once at there is too = refl
 one_place p (z ∷ xs) zero (suc j) x y once at there is too =
     let same : z ≡ x = cc at in
-    absurd (omega (arith, once, counted_first p z xs (ap p same ∙ is), counted_some p xs j y there too))
+    absurd (omega (arith, once, counted_first p z xs (ap p same ∙ is), counted_there p xs j y there too))
 one_place p (z ∷ xs) (suc i) zero x y once at there is too =
     let same : z ≡ y = cc there in
-    absurd (omega (arith, once, counted_first p z xs (ap p same ∙ too), counted_some p xs i x at is))
+    absurd (omega (arith, once, counted_first p z xs (ap p same ∙ too), counted_there p xs i x at is))
 one_place p (z ∷ xs) (suc i) (suc j) x y once at there is too =
-    ap (λ n. suc n) (one_place p xs i j x y (omega (arith, once, counted_fewer p z xs)) at there is too)
+    ap (λ n. suc n) (one_place p xs i j x y (omega (arith, once, counted_behind p z xs)) at there is too)
 
 -- the turns of tables that a line names are one turn
 pub one_named : (t : Tables) (a b : Turn) (id list : ℕ) → AreTables t → IsTurnIn t a → IsTurnIn t b →
