@@ -1,13 +1,13 @@
 -- The marks of a trace tell what its cuts tell.
 use Rattle.std.proofs.Common.{◌≡◌, ℕ, zero, suc, ◌+◌, ◌<◌, ◌≤◌, Bool, true, false, if◌then◌else◌, List, [], ◌∷◌, ◌++◌, length, map, take, get_or, Option, Some, refl, sym, ap, ◌∙◌, inl, inr, arith, IsPermutation}
-use Rattle.std.specs.Prelude.{nat_lt, slice_get}
-use Rattle.std.specs.List.{list_any, range_with_len}
+use Rattle.std.specs.Prelude.{nat_lt}
+use Rattle.std.specs.List.{range_with_len}
 use Rattle.std.proofs.lemmas.Bool.{cases_lt}
 use Rattle.std.proofs.lemmas.List.{length-map, take_all, take_more}
 use Rattle.std.proofs.lemmas.List.FromFn.{get_or-map-range_with_len, length-map-range_with_len}
 use Rattle.std.proofs.lemmas.List.Sorted.{list_any-IsPermutation}
-use Rattle.us_flows.specs.Tables.{Tables, FlowTable}
-use Rattle.us_flows.specs.Clusters.{Silent, words_of}
+use Rattle.us_flows.specs.Tables.{Tables}
+use Rattle.us_flows.specs.Clusters.{words_of}
 use Rattle.us_requests.specs.Cuts.{asked, cut_of}
 use Rattle.us_requests.specs.Traces.{TraceAsks, asks_in}
 use Rattle.us_calendar.specs.declared.silences.Silence.{Silence}
@@ -43,7 +43,8 @@ module _ (words : ℕ) (v : TraceAsks) (marks : List Mark) (word slots : ℕ) (w
   abbrev silence : Option Silence
   silence = Some (record { word = word; slots = slots })
 
-  marked : (round by : ℕ) → by < words → is_marked (cut_of words (asks_in v round)) by ≡ nat_lt 0 (asked (asks_in v round) by)
+  marked : (round by : ℕ) → by < words →
+      is_marked (cut_of words (asks_in v round)) by ≡ nat_lt 0 (asked (asks_in v round) by)
   unfolding cut_of
   marked round by inside =
       ap (nat_lt 0) (get_or-map-range_with_len (asked (asks_in v round)) 0 words by by 0 inside (omega arith))

@@ -1,8 +1,8 @@
 -- The marks that the asks of a trace are.
-use Rattle.std.proofs.Common.{◌≡◌, ℕ, zero, suc, ◌+◌, ◌-◌, ◌<◌, ◌≤◌, ◌==◌, ◌⊎◌, Bool, true, false, not, if◌then◌else◌, List, [], ◌∷◌, ◌++◌, append_assoc, filter, flat_map, filter_map, Option, Some, None, refl, sym, ap, ◌∙◌, inl, inr, arith, eq-eqb, ne_eqb, lt-ltb, le-ltb, ltb-true}
+use Rattle.std.proofs.Common.{◌≡◌, ℕ, zero, suc, ◌+◌, ◌-◌, ◌<◌, ◌≤◌, ◌==◌, ◌⊎◌, Bool, true, false, if◌then◌else◌, List, [], ◌∷◌, ◌++◌, append_assoc, filter, flat_map, filter_map, Option, Some, None, refl, sym, ap, ◌∙◌, inl, inr, arith, eq-eqb, ne_eqb, lt-ltb, le-ltb, ltb-true}
 use Rattle.std.specs.Prelude.{◌&&◌, ◌||◌, nat_lt}
 use Rattle.std.specs.List.{cons_option, list_any, range_with_len}
-use Rattle.std.proofs.lemmas.Bool.{cases_Bool, cases_lt, cases_eq, and_parts}
+use Rattle.std.proofs.lemmas.Bool.{cases_Bool, cases_eq, and_parts}
 use Rattle.std.proofs.lemmas.List.{append-nil}
 use Rattle.std.proofs.lemmas.List.Folds.{list_any-append}
 use Rattle.std.proofs.lemmas.List.Sums.{sum_by-cons}
@@ -205,10 +205,14 @@ module _ (silent : List Bool) (word : ℕ) (silent_is : silent_at silent word �
         (flat_map (round_marks silent v) (range_with_len (from + 1) n))
         ∙ elim (cases_eq from round) [
           | inl same ↦
-              rw (outside (from + 1) n round active (inl (omega (arith, same))), or_false (list_any (is_mark word round active) (round_marks silent v from)))
+              rw (
+                outside (from + 1) n round active (inl (omega (arith, same))),
+                or_false (list_any (is_mark word round active) (round_marks silent v from)),
+              )
               (ap (λ r. list_any (is_mark word round active) (round_marks silent v r)) same ∙ said_in round active)
           | inr other ↦
-              rw (none_in round from active other) (inside (from + 1) n round active (omega (arith, late, other)) (omega (arith, early)))
+              rw (none_in round from active other)
+              (inside (from + 1) n round active (omega (arith, late, other)) (omega (arith, early)))
         ]
 
     pub said_inside : (round : ℕ) (active : Bool) → round < v.rounds →

@@ -1,9 +1,8 @@
 -- The last mark up to a round, of marks in order.
 use Rattle.std.proofs.Common.{◌≡◌, ℕ, zero, suc, ◌+◌, ◌-◌, ◌*◌, ◌<◌, ◌≤◌, ◌==◌, ◌⊎◌, Bool, true, false, not, if◌then◌else◌, List, length, get_or, refl, sym, ap, ap₂, subst, ◌∙◌, inl, inr, arith, eqb-true, eq-eqb, ltb-true, leb-true, le-leb, lt-ltb}
-use Rattle.std.specs.Prelude.{◌&&◌, ◌||◌, nat_lt, nat_le}
-use Rattle.std.specs.List.{Any, list_any}
+use Rattle.std.specs.Prelude.{◌&&◌, nat_lt, nat_le}
 use Rattle.std.specs.List.Sorted.{IsPartitionedBy}
-use Rattle.std.proofs.lemmas.Bool.{cases_Bool, cases_lt, cases_eq, and_parts}
+use Rattle.std.proofs.lemmas.Bool.{cases_Bool, cases_lt, and_parts}
 use Rattle.std.proofs.lemmas.List.Folds.{Any-from_list_any, list_any_at}
 use Rattle.std.proofs.lemmas.List.{get_or_default}
 use Rattle.us_activity.specs.declared.marks.Mark.{Mark}
@@ -120,13 +119,15 @@ parted marks word round are i j d order inside is =
         up_to word round a (same.0 ∙ own.0) (round_before a b round same.1 own.1)
 
 -- where a mark of this flow up to the round stands
-module _ (marks : List Mark) (word round behind : ℕ) (point : IsPartedAt marks word round behind) where
-  early_place : (k : ℕ) (m : Mark) → k < length marks → get_or marks k m ≡ m → m.word ≡ word → m.round ≤ round → k < behind
-  early_place k m inside at same early = elim (cases_lt k behind) [
+module _ (marks : List Mark) (word round count : ℕ) (point : IsPartedAt marks word round count) where
+  early_place : (k : ℕ) (m : Mark) → k < length marks → get_or marks k m ≡ m → m.word ≡ word → m.round ≤ round →
+      k < count
+  early_place k m inside at same early = elim (cases_lt k count) [
     | inl before ↦ before
     | inr late ↦
         let out : is_up_to word round (get_or marks k m) ≡ false = point.1 k m late inside in
-        let is : is_up_to word round (get_or marks k m) ≡ true = ap (is_up_to word round) at ∙ up_to word round m same early in
+        let is : is_up_to word round (get_or marks k m) ≡ true =
+        ap (is_up_to word round) at ∙ up_to word round m same early in
         let no : true ≡ false = sym is ∙ out in
         cc
   ]
@@ -136,7 +137,7 @@ module _ (marks : List Mark) (word round behind : ℕ) (point : IsPartedAt marks
     pub place : ℕ
     pub mark : Mark
     pub at : get_or marks place mark ≡ mark
-    pub early : place < behind
+    pub early : place < count
     pub so : Says mark word r active
 
   found : (r : ℕ) (active : Bool) → r ≤ round → says marks word r active ≡ true → Found r active
@@ -154,30 +155,30 @@ module _ (marks : List Mark) (word round behind : ℕ) (point : IsPartedAt marks
   next : round + 1 ≡ suc round
   next = omega arith
 
-  pub none_behind : behind ≡ 0 → is_active marks word round ≡ true
-  none_behind first =
+  pub active_without : count ≡ 0 → is_active marks word round ≡ true
+  active_without first =
       ap (active_before marks word) next ∙ none_said marks word (suc round) (λ r active early.
       fails (says marks word r active) (λ is.
       let here = found r active (omega (arith, early)) is in
       omega (arith, here.early, first)))
 
   -- the last mark up to the round
-  module _ (last : Mark) (are : AreInOrder marks) (some : 0 < behind) (bound : behind ≤ length marks)
-      (is_last : get_or marks (behind - 1) last ≡ last) where
+  module _ (last : Mark) (are : AreInOrder marks) (some : 0 < count) (bound : count ≤ length marks)
+      (is_last : get_or marks (count - 1) last ≡ last) where
     up_to_last : is_up_to word round last ≡ true
-    up_to_last = ap (is_up_to word round) (sym is_last) ∙ point.0 (behind - 1) last (omega arith) (omega (arith, some))
+    up_to_last = ap (is_up_to word round) (sym is_last) ∙ point.0 (count - 1) last (omega arith) (omega (arith, some))
 
     -- none of its flow up to the round is later
     not_later : (r : ℕ) (active : Bool) (here : Found r active) → IsNotLater here.mark last
     not_later r active here =
         let m : Mark = here.mark in
-        let order = are.ordered here.place (behind - 1) m (omega (arith, here.early)) (omega (arith, some, bound)) in
-        let there : get_or marks (behind - 1) m ≡ last =
-        get_or_default marks (behind - 1) m last (omega (arith, some, bound)) ∙ is_last in
+        let order = are.ordered here.place (count - 1) m (omega (arith, here.early)) (omega (arith, some, bound)) in
+        let there : get_or marks (count - 1) m ≡ last =
+        get_or_default marks (count - 1) m last (omega (arith, some, bound)) ∙ is_last in
         subst (λ a. IsNotLater a last) here.at (subst (IsNotLater (get_or marks here.place m)) there order)
 
-    pub other_behind : (last.word ≡ word → ⊥) → is_active marks word round ≡ true
-    other_behind other =
+    pub active_by_another : (last.word ≡ word → ⊥) → is_active marks word round ≡ true
+    active_by_another other =
         ap (active_before marks word) next ∙ none_said marks word (suc round) (λ r active early.
         fails (says marks word r active) (λ is.
         let here = found r active (omega (arith, early)) is in
@@ -203,8 +204,8 @@ module _ (marks : List Mark) (word round behind : ℕ) (point : IsPartedAt marks
             subst (λ a. a ≤ time_of last)
             (ap₂ (λ (q : ℕ) (b : Bool). q * 2 + (if b then 1 else 0)) so.round_is so.active_is) same.1
 
-    pub own_behind : last.word ≡ word → is_active marks word round ≡ last.active
-    own_behind own =
+    pub active_by_last : last.word ≡ word → is_active marks word round ≡ last.active
+    active_by_last own =
         ap (active_before marks word) next ∙
         said_last marks word (suc round) last.round (omega (arith, early)) (λ r active late soon.
         fails (says marks word r active) (λ is. later_none r active last.active late
@@ -224,7 +225,7 @@ module _ (marks : List Mark) (word round behind : ℕ) (point : IsPartedAt marks
 
         here : (b : Bool) → last.active ≡ b → says marks word last.round b ≡ true
         here b is =
-            list_any_at (is_mark word last.round b) marks (behind - 1) last (omega (arith, some, bound))
+            list_any_at (is_mark word last.round b) marks (count - 1) last (omega (arith, some, bound))
             (ap (is_mark word last.round b) is_last ∙ so_says last word last.round b own refl is)
 
         by : (b : Bool) → last.active ≡ b → active_before marks word (suc last.round) ≡ b

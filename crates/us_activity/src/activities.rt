@@ -5,7 +5,7 @@ ghost use Rattle.us_activity.specs.Activities.{AreMarksOf};
 ghost use Rattle.us_activity.specs.Kept.{AreInOrder};
 
 use crate::marks::{Mark, marks_in};
-use crate::orders::{behind, ordered};
+use crate::orders::{count_up_to, ordered};
 use crate::silent_words::silent_words;
 use std::alloc::Global;
 use std::marker::Model;
@@ -48,11 +48,11 @@ impl Activities {
     pub fn is_active(&self, word: u16, round: u128) -> bool
         ensures { result ≡ spec.is_active self.now word round }
     {
-        let behind = behind(&self.marks, word, round);
-        if behind == 0 {
+        let count = count_up_to(&self.marks, word, round);
+        if count == 0 {
             return true;
         }
-        let last = self.marks[behind - 1];
+        let last = self.marks[count - 1];
         last.word != word || last.active
     }
 }

@@ -72,7 +72,7 @@ impl Model for Entry {
 
 impl Entry {
     /// The minislots of a grant, where the flow is active, or of a poll, where it is silent.
-    pub(crate) fn slots_of(&self, active: bool) -> u32
+    pub fn slots_of(&self, active: bool) -> u32
         ensures value { result ≡ spec.slots_of self.now active }
         ensures some { 1 ≤ result }
     {
@@ -86,7 +86,7 @@ impl Entry {
     }
 
     /// Whom these are for.
-    pub(crate) fn owner_of(&self, active: bool) -> Owner
+    pub fn owner_of(&self, active: bool) -> Owner
         ensures { result ≡ spec.owner_of self.now active }
     {
         if active {

@@ -1,11 +1,9 @@
 -- Fields: the one at a place, as `csv` finds it, and none behind the last.
-use Rattle.std.proofs.Common.{◌≡◌, ℕ, zero, suc, ◌≤◌, List, [], ◌∷◌, length, Option, Some, None, if◌then◌else◌, ap, sym, refl, arith}
-use Rattle.std.specs.Prelude.{◌==◌, ◌||◌}
-use Rattle.std.proofs.lemmas.Bool.{eq-eqb}
+use Rattle.std.proofs.Common.{◌≡◌, ℕ, zero, suc, ◌≤◌, List, [], ◌∷◌, length, Option, Some, None, ap, refl, arith}
 use Rattle.csv.specs.Records.{field_at}
 use Rattle.us_requests.specs.Records.{Record}
 use Rattle.us_requests.specs.declared.requests.Kind.TheVariants as kinds
-use Rattle.us_requests.specs.Texts.{field_in, is_kind, kind_of, number_of, number_from}
+use Rattle.us_requests.specs.Texts.{field_in, kind_of, number_of, number_from}
 
 abbrev pub or_nothing : Option (List ℕ) → List ℕ
 or_nothing None = []

@@ -1,5 +1,5 @@
 -- The word of each cluster has one turn in a round, and other words have none.
-use Rattle.std.proofs.Common.{◌≡◌, ◌≢◌, ℕ, zero, suc, ◌+◌, ◌==◌, ◌<◌, ◌≤◌, true, cond, if◌then◌else◌, List, [], ◌∷◌, length, count_by, Some, None, slice_get, refl, sym, ap, ◌∙◌, inl, inr, eq-eqb, ne_eqb, arith}
+use Rattle.std.proofs.Common.{◌≡◌, ◌≢◌, ℕ, zero, suc, ◌+◌, ◌==◌, ◌<◌, ◌≤◌, cond, if◌then◌else◌, List, [], ◌∷◌, length, count_by, Some, None, slice_get, refl, sym, ap, ◌∙◌, inl, inr, eq-eqb, ne_eqb, arith}
 use Rattle.std.specs.List.{AllByRecursion}
 use Rattle.std.specs.Option.{option_map_or}
 use Rattle.std.proofs.lemmas.Bool.{cases_Bool, cases_eq}

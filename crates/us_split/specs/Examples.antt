@@ -227,8 +227,8 @@ with_activity = record {
   stations = [];
 }
 
--- words 1 and 2 are of activity. What a cut has of them isn't outstanding, nor is what they have alone; the turns are of words 3
--- and 0, and both ask
+-- words 1 and 2 are of activity. What a cut has of them isn't outstanding, nor is what is added to one of them; the turns are
+-- of words 3 and 0, and both ask
 activity_between :
     (with_cut with_activity (5 ∷ 0 ∷ 0 ∷ 7 ∷ []) (1 ∷ 1 ∷ 2 ∷ 4 ∷ []) ≡ 6 ∷ 0 ∷ 0 ∷ 11 ∷ []) ×
     ((asked_more 2 9 (nobody_asks with_activity)).outstanding ≡ 0 ∷ 0 ∷ 0 ∷ 0 ∷ []) ×

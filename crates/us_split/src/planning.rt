@@ -15,9 +15,9 @@ use us_slots::NoMemory;
 
 /// Plans a round: how many bytes each turn may send on each of its flow's channels.
 ///
-/// `outstanding` has the bytes of each SID cluster at the number of its word; `allowances` what the bucket of each flow allows, in
-/// table order, `None` where it has no limit; `reserves` what is reserved for each flow, 0 where nothing is listed; `idle`
-/// the idle minislots of each channel, in table order.
+/// `outstanding` has the bytes of each SID cluster, at the number of its word; `allowances` what the bucket of each flow
+/// allows, in table order, `None` where it has no limit; `reserves` what is reserved for each flow, 0 where nothing is
+/// listed; `idle` the idle minislots of each channel, in table order.
 ///
 /// First each turn asks for the outstanding bytes of its cluster, as far as its flow's reserve and allowance go, and
 /// they are divided over its channels by what these can carry in the minislots that the turns before it left. So a flow

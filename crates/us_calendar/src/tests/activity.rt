@@ -21,7 +21,7 @@ const THREE_ROUNDS: Case<'static> = Case {
     rounds: 3,
     marks: ".sa",
     answer: "0: Activity 1 0.0 0+1 iuc 11, Activity 1 0.1 1+1 iuc 11, 1: Activity 1 1.0 0+2 iuc 1, \
-        2: Activity 1 2.0 0+1 iuc 11, Activity 1 2.1 1+1 iuc 11, ",
+        2: Activity 1 2.0 0+1 iuc 11, Activity 1 2.1 1+1 iuc 11, active true",
 };
 
 /// Who tells both in one round is active.
@@ -30,7 +30,8 @@ const BOTH_MARKS: Case<'static> = Case {
     tables: EACH_ROUND,
     rounds: 2,
     marks: "sb",
-    answer: "0: Activity 1 0.0 0+2 iuc 1, 1: Activity 1 1.0 0+1 iuc 11, Activity 1 1.1 1+1 iuc 11, ",
+    answer: "0: Activity 1 0.0 0+2 iuc 1, 1: Activity 1 1.0 0+1 iuc 11, Activity 1 1.1 1+1 iuc 11, \
+        active true",
 };
 
 /// An interval that begins in the reserve at the end of round 0, and goes on in round 1.
@@ -52,7 +53,8 @@ const KEEPS_GRANTS: Case<'static> = Case {
     tables: GOES_ON,
     rounds: 4,
     marks: ".s",
-    answer: "1: Activity 1 0.0 0+1 iuc 11, Activity 1 0.1 1+1 iuc 11, 3: Activity 1 1.0 0+2 iuc 1, ",
+    answer: "1: Activity 1 0.0 0+1 iuc 11, Activity 1 0.1 1+1 iuc 11, 3: Activity 1 1.0 0+2 iuc 1, \
+        active false",
 };
 
 /// And it keeps its poll.
@@ -61,7 +63,8 @@ const KEEPS_POLL: Case<'static> = Case {
     tables: GOES_ON,
     rounds: 4,
     marks: "sa",
-    answer: "1: Activity 1 0.0 0+2 iuc 1, 3: Activity 1 1.0 0+1 iuc 11, Activity 1 1.1 1+1 iuc 11, ",
+    answer: "1: Activity 1 0.0 0+2 iuc 1, 3: Activity 1 1.0 0+1 iuc 11, Activity 1 1.1 1+1 iuc 11, \
+        active true",
 };
 
 /// Silence lasts until the flow is active again: polls 15 rounds apart.
@@ -82,7 +85,7 @@ grants_per_interval = 3
     marks: ".s...s..........................a.s.........a",
     answer: "0: Activity 1 0.0 0+1 iuc 11, Activity 1 0.1 1+1 iuc 11, Activity 1 0.2 2+1 iuc 11, \
         15: Activity 1 1.0 0+2 iuc 1, 30: Activity 1 2.0 0+2 iuc 1, 45: Activity 1 3.0 0+1 iuc 11, \
-        Activity 1 3.1 1+1 iuc 11, Activity 1 3.2 2+1 iuc 11, ",
+        Activity 1 3.1 1+1 iuc 11, Activity 1 3.2 2+1 iuc 11, active true",
 };
 
 /// It stands behind flows with unsolicited grants at all times, and before polls.

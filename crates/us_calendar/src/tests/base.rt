@@ -36,7 +36,8 @@ pub(super) fn compare(rt: &impl Abort, alloc: Global, cases: &[Case<'_>]) {
     }
 }
 
-/// What is settled, for each round in which something is; none where the tables are refused, or memory is.
+/// What is settled, for each round in which something is, and then whether flow 1 is active, if its activity is detected.
+/// None where the tables are refused, or memory is.
 pub(super) fn answer_of(alloc: Global, case: &Case<'_>) -> Option<String> {
     let mut answer = String::new(alloc);
     let config = config_of(alloc, case.tables)?;
@@ -70,6 +71,9 @@ fn run(
     for round in 0..case.rounds {
         let cut = cut_of(case.marks, round);
         next(alloc, answer, &mut calendar, &cut, len)?;
+    }
+    if let Some(active) = calendar.activity(1) {
+        write!(answer, "active {active}")?;
     }
     Ok(())
 }

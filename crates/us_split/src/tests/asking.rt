@@ -69,8 +69,14 @@ const STEPS: &[(Step, &str)] = &[
 const STEPS_WITH_ACTIVITY: &[(Step, &str)] = &[
     (Step::Cut(&[0, 0, 1, 2, 0]), "ask pending of 0 0 0 0 0"),
     (Step::Ask(3, 5), "ask pending of 0 0 0 0 0"),
-    (Step::Cut(&[0, 70, 1, 0, 9]), "ask 0 2 pending of 0 70 0 0 9"),
-    (Step::Cut(&[4, 1, 0, 3, 1]), "ask 0 1 2 pending of 4 71 0 0 10"),
+    (
+        Step::Cut(&[0, 70, 1, 0, 9]),
+        "ask 0 2 pending of 0 70 0 0 9",
+    ),
+    (
+        Step::Cut(&[4, 1, 0, 3, 1]),
+        "ask 0 1 2 pending of 4 71 0 0 10",
+    ),
     (Step::Credit(4, 10), "ask 0 1 2 pending of 4 71 0 0 10"),
     (Step::Settle, "ask 1 2 pending 1 2 of 4 71 0 0 0"),
     (Step::Ask(4, 8), "ask 0 1 2 pending 1 2 of 4 71 0 0 8"),

@@ -1,6 +1,6 @@
-use Rattle.std.proofs.Common.{◌≡◌, ◌==◌, ◌<◌, ◌++◌, [], ◌∷◌, length, sym, ap, subst, ◌∙◌}
+use Rattle.std.proofs.Common.{◌≡◌, ◌==◌, ◌<◌, ◌++◌, [], ◌∷◌, sym, ap, subst, ◌∙◌}
 use Rattle.std.specs.Prelude.{◌&&◌}
-use Rattle.us_flows.specs.Clusters.{tells_activity, words_in, Silent}
+use Rattle.us_flows.specs.Clusters.{tells_activity, Silent}
 use Rattle.us_activity.proofs.WordLemmas.{word_more}
 use Rattle.us_activity.proofs.silent_words.push_flow.Goals as goal
 use Rattle.us_activity.proofs.silent_words.push_flow.Goals.{then-tells, else-tells}

@@ -1,8 +1,7 @@
 use Rattle.std.proofs.Common.{◌≡◌, ℕ, ◌<◌, Bool, true, false, List, IsPermutation, get_or, length, refl, sym, ap, subst, ◌∙◌, arith}
 use Rattle.std.specs.Bool.{beq}
-use Rattle.us_activity.specs.declared.marks.Mark.{Mark}
 use Rattle.us_activity.specs.Activities.{AreMarksOf}
-use Rattle.us_activity.specs.Kept.{marks_in, silent_words}
+use Rattle.us_activity.specs.Kept.{marks_in}
 use Rattle.us_activity.proofs.ActivityLemmas.{are_marks, none_marks}
 use Rattle.us_activity.proofs.activities.Activities.of.Goals as goal
 

@@ -1,4 +1,4 @@
-use Rattle.std.proofs.Common.{None, length, ap, sym, ◌∙◌, subst, arith}
+use Rattle.std.proofs.Common.{None, length, ap, ◌∙◌, subst, arith}
 use Rattle.std.specs.Prelude.{slice_index_or}
 use Rattle.us_split.specs.Askers.{IsPlaceOf}
 use Rattle.us_split.proofs.AskerStepLemmas.{askers-new}

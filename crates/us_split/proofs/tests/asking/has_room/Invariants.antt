@@ -1,4 +1,4 @@
-use Rattle.std.proofs.Common.{◌≡◌, ℕ, ◌+◌, ◌^◌, ◌<◌, length}
+use Rattle.std.proofs.Common.{ℕ, ◌+◌, ◌^◌, ◌<◌}
 use Rattle.std.specs.Prelude.{slice_index}
 use Rattle.us_split.proofs.tests.asking.has_room.Given as goal
 
