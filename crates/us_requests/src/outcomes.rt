@@ -30,7 +30,7 @@ pub(crate) fn outcome_of(config: &Config, units: &[u8], rounds: u32, request: &R
         Some(found) => found,
         None => return Outcome::Unknown,
     };
-    // Most are no marks: so these cost little beside what they do in a trace without kinds.
+    // Marks come last, so that a request costs little more than where there are none.
     let ask = if request.kind == Kind::Request {
         match found {
             Found::Cluster(cluster) => Ask {
