@@ -8,6 +8,7 @@ pub mod BucketLemmas
 pub mod AskingLemmas
 pub mod CreditingLemmas
 pub mod ReserveLemmas
+pub mod NoRateLemmas
 pub mod CoreLemmas
 pub mod SoundLemmas
 pub mod ScheduleLaws
