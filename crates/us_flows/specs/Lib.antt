@@ -33,6 +33,8 @@ pub mod Examples
 -- the code of a fault, and the table that it names
 pub mod Codes
 pub mod Places
+-- what faults are told as
+pub mod Texts
 -- inside the crate, and of no use to a reader of the promise: what an index of SIDs holds, and what turns are sorted by
 pub mod Listed
 pub mod Ranks

@@ -8,6 +8,8 @@
 pub mod Lives
 -- what it leaves where no round was made
 pub mod Leaves
+-- what its faults are told as
+pub mod Faults
 -- laws of the log
 pub mod Laws
 -- the definitions at small inputs

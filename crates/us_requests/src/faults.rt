@@ -24,7 +24,7 @@ pub enum TraceFault {
 
 impl TraceFault {
     ghost use Rattle.std.specs.Prelude.{◌≡◌};
-    ghost use Rattle.us_requests.specs.Codes.{code_of, record_of};
+    ghost use Rattle.us_requests.specs.Codes.{code_of, record_of, sentence_of};
 
     /// Its code, TR1 to TR6.
     pub fn code(self) -> &'static str
@@ -52,7 +52,9 @@ impl TraceFault {
     }
 
     /// What it says, behind its code and the record that it names.
-    pub fn sentence(self) -> &'static str {
+    pub fn sentence(self) -> &'static str
+        ensures { result.now ≡ sentence_of self }
+    {
         match self {
             TraceFault::Header => "the first record is not the header",
             TraceFault::Fields(_) => "has not as many fields as the header",
@@ -66,6 +68,11 @@ impl TraceFault {
 
 /// Writes a fault as its code and a sentence.
 impl fmt::Display for TraceFault {
+    ghost use Rattle.std.specs.Prelude.{Some};
+    ghost use Rattle.us_requests.specs.Codes.{fault_text};
+
+    ghost output = { λ fault. Some (fault_text fault) };
+
     fn fmt<W: fmt::Write>(&self, f: &mut fmt::Formatter<W>) -> fmt::Result {
         let (code, sentence) = (self.code(), self.sentence());
         match self.record() {
