@@ -15,7 +15,7 @@ pub record Part : Type 0 where
   pub takes : Bool
   pub submitted : List ℕ
   pub taken : List ℕ
-  -- in how many additions it submitted, and the words that it swapped, in their order
+  -- in how many additions it submitted, and the words that it swapped to take, in their order
   pub additions : ℕ
   pub swapped : List ℕ
   -- whether it was joined, and no load has looked at it since

@@ -11,13 +11,14 @@ pub record Intake : Type 0 where
   pub quota : ℕ
 
 -- a seat: the bytes that it may submit in all, whether it takes, and what it and the seats joined into it submitted and
--- took; in how many additions they submitted, and the words that were swapped to take, in their order
+-- took
 pub record Seat : Type 0 where
   pub intake : Intake
   pub quota : ℕ
   pub takes : Bool
   pub submitted : List ℕ
   pub taken : List ℕ
+  -- in how many additions they submitted, and the words that they swapped to take, in their order
   pub additions : ℕ
   pub swapped : List ℕ
 

@@ -38,7 +38,7 @@ pub record CanGather (intake : Intake) (seat : Seat) (asks : List Ask) : Type 0 
   pub room : spent seat + chunk_quota asks < seat.quota
   pub asks_are : AreAsks intake.clusters asks
 
--- the seat that submitted these asks
+-- the seat that submitted these asks, by one addition each
 abbrev pub seat_after_asks : Seat → List Ask → Seat
 seat_after_asks seat asks = record {
   intake = seat.intake;
@@ -46,6 +46,8 @@ seat_after_asks seat asks = record {
   takes = seat.takes;
   submitted = added seat.submitted (cut_of seat.intake.clusters asks);
   taken = seat.taken;
+  additions = seat.additions + length asks;
+  swapped = seat.swapped;
 }
 
 -- a seat and others made one
