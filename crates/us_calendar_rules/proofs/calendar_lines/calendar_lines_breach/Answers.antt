@@ -18,7 +18,7 @@ returns c =
     let marks = c.in_ok-marks.marks.items in
     let listed = c.in_ok-entries.ensures in
     let few : c.args.trace.now.rounds < 2 ^ 32 = omega (arith, c.rounds.ensures.value) in
-    let are : AreMarks es judged.lines marks =
+    let are : AreMarks run es judged.lines marks =
     rw (← c.deref.ensures.value, ← c.lines-lines.ensures) c.in_ok-marks.ensures in
     let told : IsFirstFailure channels (Any (LineFails run es marks) judged.lines) c.told_breach-told.result =
     rw (← c.deref-2.ensures.value, ← c.deref-3.ensures.value, ← c.lines-lines.ensures) c.told_breach-told.ensures in

@@ -1,6 +1,5 @@
 use Rattle.std.proofs.Common.{refl, arith}
 use Rattle.us_breaches.proofs.BreachLemmas.{one_more, all_done}
-use Rattle.us_lawful.specs.Runs.{run_in}
 use Rattle.us_calendar_rules.specs.Failures.{LineFails}
 use Rattle.us_calendar_rules.proofs.told.told_breach.Goals as goal
 
@@ -8,12 +7,12 @@ pub loop-line-preserved : goal.loop-line-preserved
 loop-line-preserved c =
     rw c.earlier-first.ensures (
     rw c.channels.ensures.value (
-    one_more c.args.config.now.channels
-    (LineFails (run_in c.args.config.now c.args.trace.now) c.args.entries.now c.args.marks.now) c.args.lines.now
+    one_more c.args.run.now.tables.channels
+    (LineFails c.args.run.now c.args.entries.now c.args.marks.now) c.args.lines.now
     c.loop-line.line-index _ _ _ _ (omega arith) refl c.loop-line.invariant c.line_breach-breach.ensures))
 
 pub returns : goal.returns
 returns c =
-    all_done c.args.config.now.channels
-    (LineFails (run_in c.args.config.now c.args.trace.now) c.args.entries.now c.args.marks.now) c.args.lines.now
+    all_done c.args.run.now.tables.channels
+    (LineFails c.args.run.now c.args.entries.now c.args.marks.now) c.args.lines.now
     c.loop-line.line-index c.loop-line.first (omega arith) c.loop-line.invariant
