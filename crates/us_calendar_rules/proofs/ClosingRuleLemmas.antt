@@ -151,11 +151,13 @@ module _ (run : Run) (es : List ChannelEntry) (listed : AreListed run.tables es)
       let some : 0 < l.entry.grants = omega (arith, lawful.grants) in
       let whole : i * l.entry.grants + k ≡ n = div-add-mod' n l.entry.grants in
       let parts = or_parts (speaks_in run l.entry (ideal l.entry n)) (k == 0) out in
-      let later : 0 < k = positive k parts.1 in
-      (i * l.entry.grants, omega (arith, whole, later),
-      ap (marked marks l) (sym whole)
-      ∙ alike_marked run es listed l i k has parts.0 (mod-lt n some) (subst (λ m. m < numbers) (sym whole) few)
-      judged.lines marks are)
+      let later : 0 < k = positive k parts.1 in (
+        i * l.entry.grants,
+        omega (arith, whole, later),
+        ap (marked marks l) (sym whole)
+            ∙ alike_marked run es listed l i k has parts.0 (mod-lt n some) (subst (λ m. m < numbers) (sym whole) few)
+            judged.lines marks are,
+      )
 
   -- all are
   pub all_alike : All (IsAlike run marks) es
