@@ -59,8 +59,8 @@ is_closed false round told is = absurd (cc is)
 module _ (channels : List Channel) (run : Run) (marks : List ℕ) (l : ChannelEntry) (number : ℕ)
     (first : IsFirstUnmarked marks l number) where
   -- The first that isn't marked once is there: else an earlier one would be marked as often.
-  first_there : number < numbers → IsAlike run marks l → is_there run l.entry number ≡ true
-  first_there few alike = elim (cases_Bool (is_there run l.entry number)) [
+  unmarked_there : number < numbers → IsAlike run marks l → is_there run l.entry number ≡ true
+  unmarked_there few alike = elim (cases_Bool (is_there run l.entry number)) [
     | inl there ↦ there
     | inr out ↦
         let other = alike number few out in
@@ -85,7 +85,7 @@ module _ (channels : List Channel) (run : Run) (marks : List ℕ) (l : ChannelEn
   first_closes at few alike closed is = (
     record {
       number = number;
-      there = first_there few alike;
+      there = unmarked_there few alike;
       closes = closed;
       place = is;
       wrong = first.wrong;

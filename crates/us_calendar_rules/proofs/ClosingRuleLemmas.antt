@@ -117,13 +117,36 @@ module _ (run : Run) (lines : List Row) (e : Entry) (p : Place) where
       (omega (arith, within, length-range_with_len 0 (end * e.grants)))
       (subst (λ m. (closes_there m ≡ true) × (once m ≡ false)) (sym here) (there, wrong))))
 
--- Closings.
+-- Occurrences that aren't there.
 
 positive : (k : ℕ) → (k == 0) ≡ false → 0 < k
 positive k apart = elim (cases_lt 0 k) [
   | inl some ↦ some
   | inr none ↦ absurd (false≢true (sym apart ∙ eq-eqb k 0 (omega (arith, none))))
 ]
+
+module _ (run : Run) (es : List ChannelEntry) (listed : AreListed run.tables es) (lines : List Row) (marks : List ℕ)
+    (are : AreMarks run es lines marks) where
+  -- each is marked as often as the first of its interval
+  marked_alike : (l : ChannelEntry) → Contains es l → IsAlike run marks l
+  marked_alike l has n few out =
+      let i : ℕ = n / l.entry.grants in
+      let k : ℕ = n % l.entry.grants in
+      let some : 0 < l.entry.grants = omega (arith, (entry_lawful run.tables es listed l has).grants) in
+      let whole : i * l.entry.grants + k ≡ n = div-add-mod' n l.entry.grants in
+      let parts = or_parts (speaks_in run l.entry (ideal l.entry n)) (k == 0) out in
+      let later : 0 < k = positive k parts.1 in (
+        i * l.entry.grants,
+        omega (arith, whole, later),
+        ap (marked marks l) (sym whole)
+            ∙ alike_marked run es listed l i k has parts.0 (mod-lt n some) (subst (λ m. m < numbers) (sym whole) few)
+            lines marks are,
+      )
+
+  pub all_alike : All (IsAlike run marks) es
+  all_alike i d inside = marked_alike (get_or es i d) (Contains-get_or es i d inside)
+
+-- Closings.
 
 module _ (run : Run) (es : List ChannelEntry) (listed : AreListed run.tables es) (few : run.rounds < 2 ^ 32)
     (judged : Judged) (marks : List ℕ) (are : AreMarks run es judged.lines marks) where
@@ -141,27 +164,6 @@ module _ (run : Run) (es : List ChannelEntry) (listed : AreListed run.tables es)
       (number_few run.tables l.entry n run.rounds listed.tables (entry_lawful run.tables es listed l has) few
       (ltb-true (window_end l.entry n) (run.rounds * round_quarters run.tables) closed))
       judged.lines marks are
-
-  -- and one that isn't there is marked as often as the first of its interval
-  marked_alike : (l : ChannelEntry) → Contains es l → IsAlike run marks l
-  marked_alike l has n few out =
-      let i : ℕ = n / l.entry.grants in
-      let k : ℕ = n % l.entry.grants in
-      let lawful = entry_lawful run.tables es listed l has in
-      let some : 0 < l.entry.grants = omega (arith, lawful.grants) in
-      let whole : i * l.entry.grants + k ≡ n = div-add-mod' n l.entry.grants in
-      let parts = or_parts (speaks_in run l.entry (ideal l.entry n)) (k == 0) out in
-      let later : 0 < k = positive k parts.1 in (
-        i * l.entry.grants,
-        omega (arith, whole, later),
-        ap (marked marks l) (sym whole)
-            ∙ alike_marked run es listed l i k has parts.0 (mod-lt n some) (subst (λ m. m < numbers) (sym whole) few)
-            judged.lines marks are,
-      )
-
-  -- all are
-  pub all_alike : All (IsAlike run marks) es
-  all_alike i d inside = marked_alike (get_or es i d) (Contains-get_or es i d inside)
 
   -- so an entry fails by its test just where it does by marks
   entry_fails : (l : ChannelEntry) (p : Place) → Contains es l → holds_for l p ≡ false → ClosingFails run marks l p
