@@ -281,9 +281,10 @@ module _ (run : Run) (es : List ChannelEntry) (listed : AreListed run.tables es)
         AllByRecursion (λ row. times_in (mark_at l (i * l.entry.grants + k)) (marks_in run es row)
         ≡ times_in (mark_at l (i * l.entry.grants)) (marks_in run es row)) lines
     rows_alike [] i k silent within below intervals = tt
-    rows_alike (row ∷ lines) i k silent within below intervals =
-        (row_alike i k silent within below (calendar_line row) intervals.0,
-        rows_alike lines i k silent within below intervals.1)
+    rows_alike (row ∷ lines) i k silent within below intervals = (
+      row_alike i k silent within below (calendar_line row) intervals.0,
+      rows_alike lines i k silent within below intervals.1,
+    )
 
 -- Lines name an occurrence that is there as often as it is marked.
 pub times_marked : (run : Run) (es : List ChannelEntry) (listed : AreListed run.tables es) (l : ChannelEntry) (n : ℕ)
