@@ -1,5 +1,5 @@
 -- How often a number stands in a list, by the places at which it stands.
-use Rattle.std.proofs.Common.{◌≡◌, ℕ, zero, suc, ◌+◌, ◌-◌, ◌<◌, ◌≤◌, ◌==◌, nat_le, Bool, true, false, cond, List, [], ◌∷◌, length, get_or, count_by, sum_by, flat_map, refl, ap, ap₂, sym, ◌∙◌, inl, inr, arith, eq-eqb, ne_eqb, le-leb}
+use Rattle.std.proofs.Common.{◌≡◌, ℕ, zero, suc, ◌+◌, ◌-◌, ◌<◌, ◌≤◌, ◌==◌, nat_le, Bool, true, false, cond, List, [], ◌∷◌, length, get_or, count_by, flat_map, refl, ap, ap₂, sym, ◌∙◌, inl, inr, arith, eq-eqb, ne_eqb, le-leb}
 use Rattle.std.specs.List.{AllByRecursion, range_with_len}
 use Rattle.std.specs.List.Sorted.{IsNonDecreasing}
 use Rattle.std.proofs.lemmas.Bool.{cases_eq, cases_lt, lt-leb}

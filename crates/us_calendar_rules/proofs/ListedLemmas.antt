@@ -67,7 +67,7 @@ pub word_of : (t : Tables) (l : ChannelEntry) (s : Silence) → AreTables t → 
     l.entry.silence ≡ Some s → (flow : FlowTable) × (slice_get (words_of t) s.word ≡ Some (Silent flow))
 word_of t l s tables has is =
     let on = on_channel t l has in
-    let words = entries_have_words t tables l.channel l.entry s on.channel on.entry is in
+    let words = entries_have_words t tables l.channel l.entry s on.entry is in
     (words.0, words.2)
 
 module _ (t : Tables) (es : List ChannelEntry) (listed : AreListed t es) where

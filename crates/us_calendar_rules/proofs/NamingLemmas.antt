@@ -1,5 +1,5 @@
 -- What a line names: the number of an occurrence of the entry that it calls.
-use Rattle.std.proofs.Common.{◌≡◌, ℕ, ◌+◌, ◌*◌, ◌/◌, ◌%◌, ◌^◌, ◌<◌, ◌≤◌, ◌==◌, nat_lt, ◌&&◌, ◌||◌, Bool, true, false, List, Option, Some, None, Contains, refl, ap, ap₂, sym, subst, ◌∙◌, inl, inr, arith, ltb-true, eq-eqb, eqb-true}
+use Rattle.std.proofs.Common.{◌≡◌, ℕ, ◌+◌, ◌*◌, ◌%◌, ◌^◌, ◌<◌, ◌≤◌, ◌==◌, nat_lt, ◌&&◌, Bool, true, false, List, Option, Some, None, Contains, refl, ap, sym, subst, ◌∙◌, inl, inr, arith, ltb-true, eq-eqb, eqb-true}
 use Rattle.std.specs.Prelude.{if◌then◌else◌, option_and_then}
 use Rattle.std.specs.List.{find}
 use Rattle.std.proofs.lemmas.Bool.{false≢true, or_cases, or_left, or_right}
