@@ -1,5 +1,5 @@
 -- Items that are made of channels one after another: those that are made, and the channels that are left.
-use Rattle.std.proofs.Common.{◌≡◌, ℕ, zero, suc, ◌+◌, List, [], ◌∷◌, ◌++◌, length, drop, Option, Some, slice_get, append_assoc, length-append, append-nil, refl, sym, ap, subst, ◌∙◌, Result, Ok, Err, arith}
+use Rattle.std.proofs.Common.{◌≡◌, ℕ, zero, suc, ◌+◌, List, [], ◌∷◌, ◌++◌, length, drop, Some, slice_get, append_assoc, length-append, append-nil, refl, sym, ap, subst, ◌∙◌, Result, Ok, Err, arith}
 use Rattle.std.specs.Prelude.{IfOk}
 use Rattle.us_crew.specs.Values.{values_from, values_of}
 use Rattle.us_crew.specs.Parts.{EachFrom}
