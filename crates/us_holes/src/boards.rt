@@ -163,7 +163,7 @@ impl Board {
         ensures differ { runs.Differ (runs.runs_of self.now.cells) }
         ensures few { length (runs.runs_of self.now.cells) ≤ 2 * self.now.standing + 1 }
 
-        // That many find room, and no more.
+        // The list has room for so many, and no more.
         ensures room { IfOk result (λ found. vec_capacity found ≡ 2 * self.now.standing + 1) }
     {
         let mut found = Vec::new(alloc);
@@ -181,7 +181,7 @@ impl Board {
         ensures differ { runs.Differ (runs.runs_of self.now.cells) }
         ensures few { length (runs.runs_of self.now.cells) ≤ 2 * self.now.standing + 1 }
 
-        // That many find room in the list: where it has so much left no memory is taken, and else no more is.
+        // The list gets room for so many, where it hasn't, and no more. Where it has, no memory is wanted.
         ensures room { OnOk result (vec_capacity found.new ≡
             max (vec_capacity found.old) (vec_len found.old + (2 * self.now.standing + 1))) }
         ensures spared { vec_len found.old + (2 * self.now.standing + 1) ≤ vec_capacity found.old → IsOk result }

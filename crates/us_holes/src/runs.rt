@@ -75,8 +75,8 @@ fn push_idle(found: &mut Vec<Run>, from: u32, to: u32)
     }
 }
 
-/// Adds the runs of a board of `len` minislots with these assignments. Room for all that there may be is taken before
-/// the first, so nothing is added for want of memory.
+/// Adds the runs of a board of `len` minislots with these assignments. Room for as many as there may be is taken before the
+/// first is added.
 #[tactic(auto, unfolding(crate::specs::Runs::runs_between))]
 pub(crate) fn push_runs(
     found: &mut Vec<Run>,
