@@ -57,8 +57,8 @@ FirstOnes = (pace : Pace) (round count : ℕ) (e : Entry) (speaks : ℕ → Bool
     (more : ℕ) × (count ≤ more) × AreFirst (end_of pace round) e speaks (range_with_len 0 count
     ++ flat_map (closed e) (settle_entry pace round e speaks (range_with_len 0 count) board).settlements) more
 
--- So it is of all rows of a channel's calendar, which are the states of its entries, after any number of rounds on any boards:
--- an occurrence, one grant of one interval, parts what is settled of an entry from what isn't.
+-- So it is of each row of a channel's calendar, which is the state of an entry, after any number of rounds: all grants before
+-- one grant of one interval are settled, and from that one on none is.
 abbrev pub RowsStandFirst : Type 0
 RowsStandFirst = (t : Tables) (c : Channel) (cuts : List (List ℕ)) (boards : List Board) → AreTables t →
     length cuts ≡ length boards →

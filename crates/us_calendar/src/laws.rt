@@ -22,7 +22,7 @@ pub fn first_ones()
     ensures { FirstOnes }
 {}
 
-/// So are those of all entries of a channel after any number of rounds: an occurrence parts them from all that are unsettled.
+/// After any number of rounds the first occurrences of each entry of a channel are settled, and no others.
 pub fn rows_stand_first()
     ensures { RowsStandFirst }
 {}
