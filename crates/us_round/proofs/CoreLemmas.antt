@@ -12,10 +12,11 @@ use Rattle.us_split.specs.Planners.{Planner, before_planning}
 use Rattle.us_channel.specs.Channels.{Built}
 use Rattle.us_round.specs.Buckets.{Buckets, begun_buckets, full_buckets, full_reserves}
 use Rattle.us_round.specs.declared.cores.Kept.{Kept}
-use Rattle.us_round.specs.Cores.{AreBuckets, AreCredited, AreKept, Core, begun_core, core_of, credited_core, idle_of, opening_core, planned_core, plan_over, reserved_over}
+use Rattle.us_round.specs.Cores.{AreBuckets, AreCredited, AreKept, Core, IsRoom, begun_core, core_of, credited_core, idle_of, opening_core, planned_core, plan_over, reserved_over}
 use Rattle.us_split.specs.Claims.{Claim, all_claims}
 use Rattle.us_round.specs.Rounds.{all_grants, uncredited, unreserved}
 use Rattle.us_round.proofs.CutLemmas.{asked_long}
+use Rattle.us_round.proofs.NoRateLemmas.{begun_room}
 use Rattle.us_round.proofs.StateLemmas.{left-length, spent-length}
 
 -- what a core has in memory, in its box
@@ -32,9 +33,9 @@ kept_too k boxed same are = subst IsKept (sym same) are
 
 pub opening_kept : (t : Tables) (asking : Asking) (buckets reserves : Buckets) (planner : Planner)
     (allowances : List (Option ℕ)) (left : List ℕ) → AreTables t → length allowances ≡ length t.flows →
-    length left ≡ length t.flows → asking ≡ nobody_asks t → buckets ≡ full_buckets t → reserves ≡ full_reserves t →
+    IsRoom (full_reserves t).levels left → asking ≡ nobody_asks t → buckets ≡ full_buckets t → reserves ≡ full_reserves t →
     planner ≡ before_planning t → AreKept t asking buckets reserves planner allowances left
-opening_kept t asking buckets reserves planner allowances left lawful long also asks fills keeps plans =
+opening_kept t asking buckets reserves planner allowances left lawful long room asks fills keeps plans =
     rw (asks, fills, keeps, plans) (record {
       lawful = lawful;
       words = length-replicate (length (words_of t)) 0;
@@ -45,7 +46,7 @@ opening_kept t asking buckets reserves planner allowances left lawful long also 
       settled = refl;
       planner = refl;
       allowances = long;
-      left = also;
+      left = room;
     })
 
 pub opening_value : (t : Tables) (asking : Asking) (buckets reserves : Buckets) (planner : Planner) →
@@ -85,7 +86,7 @@ begun_kept t round cut asking next buckets after reserves later planner allowanc
       settled = ap (λ os. with_cut asking.tables os cut) are.settled;
       planner = are.planner;
       allowances = are.allowances;
-      left = are.left;
+      left = begun_room round reserves.ticks reserves.levels left are.left;
     })
 
 -- buckets as they have grown
@@ -139,9 +140,9 @@ pub planned_kept : (t : Tables) (asking : Asking) (buckets after reserves later 
     (allowances allowed : List (Option ℕ)) (left rest : List ℕ) → AreKept t asking buckets reserves planner allowances left →
     after ≡ buckets → length later.levels ≡ length reserves.levels → later.ticks ≡ reserves.ticks →
     later.round ≡ reserves.round → next.tables ≡ planner.tables → length allowed ≡ length allowances →
-    length rest ≡ length left → AreKept t asking after later next allowed rest
+    IsRoom later.levels rest → AreKept t asking after later next allowed rest
 planned_kept t asking buckets after reserves later planner next allowances allowed left rest are same long ticks round tables
-    allows leaves = rw same (record {
+    allows room = rw same (record {
       lawful = are.lawful;
       words = are.words;
       buckets = are.buckets;
@@ -151,7 +152,7 @@ planned_kept t asking buckets after reserves later planner next allowances allow
       settled = are.settled;
       planner = tables ∙ are.planner;
       allowances = allows ∙ are.allowances;
-      left = leaves ∙ are.left;
+      left = room;
     })
 
 pub planned_value : (t : Tables) (round : ℕ) (asking : Asking) (buckets after reserves later : Buckets)

@@ -1,6 +1,6 @@
 -- Inside the crate, and of no use to a reader of the promise: a state without its calendars, which go from round to round
 -- with their channels; and what is known of the channels of a round on the way.
-use Rattle.std.specs.Prelude.{◌≡◌, ℕ, ◌+◌, ◌-◌, ◌*◌, ◌≤◌, List, [], ◌∷◌, length, map, replicate, slice_get, slice_index, slice_index_or, slice_set, sum_by, Option, Some, None, option_and_then}
+use Rattle.std.specs.Prelude.{◌≡◌, ℕ, ◌+◌, ◌-◌, ◌*◌, ◌<◌, ◌≤◌, List, [], ◌∷◌, length, map, replicate, slice_get, slice_index, slice_index_or, slice_set, sum_by, Option, Some, None, option_and_then}
 use Rattle.std.specs.List.{AllByRecursion}
 use Rattle.us_flows.specs.Tables.{Tables, map_len, max_run_ticks}
 use Rattle.us_flows.specs.Lawful.{AreTables, IsChannel}
@@ -136,6 +136,15 @@ pub record AreBuckets (t : Tables) (kept : Buckets) : Type 0 where
   pub flows : length kept.levels ≡ length t.flows
   pub ticks : kept.ticks ≡ t.round_ticks
 
+-- no bucket of a minimum rate has one
+abbrev pub NoRates : List Level → Type 0
+NoRates levels = AllByRecursion (λ (l : Level). l.rate ≡ 0) levels
+
+-- room for what such buckets reserve, flow by flow; there is none where no flow has a minimum rate
+pub record IsRoom (levels : List Level) (noted : List ℕ) : Type 0 where
+  pub none : length noted ≡ 0 → NoRates levels
+  pub long : 0 < length noted → length noted ≡ length levels
+
 -- its parts are of the same tables and the same round; and nothing is credited that isn't settled
 pub record AreKept (t : Tables) (asks : Asking) (kept least : Buckets) (plans : Planner) (most : List (Option ℕ))
     (noted : List ℕ) : Type 0 where
@@ -148,7 +157,7 @@ pub record AreKept (t : Tables) (asks : Asking) (kept least : Buckets) (plans : 
   pub settled : asks.left ≡ asks.outstanding
   pub planner : plans.tables ≡ t
   pub allowances : length most ≡ length t.flows
-  pub left : length noted ≡ length t.flows
+  pub left : IsRoom least.levels noted
 
 -- the allowance of the flow of the turn at this place is what the bucket allows
 abbrev pub IsAllowed : List places.Turn → List Level → List (Option ℕ) → ℕ → Type 0

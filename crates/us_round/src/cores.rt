@@ -5,6 +5,7 @@ ghost use Rattle.us_flows.specs.Clusters.{words_of};
 ghost use Rattle.us_flows.specs.Lawful.{AreTables};
 ghost use Rattle.us_split.specs.Plans.{IsIdle};
 ghost use Rattle.us_channel.specs.Channels.{IsBuilt};
+ghost use Rattle.us_round.specs.Buckets.{full_reserves};
 ghost use Rattle.us_round.specs.Rounds.{all_grants};
 ghost use Rattle.us_round.specs.Cores as spec;
 ghost use Rattle.us_round.specs.States.{Covers};
@@ -44,7 +45,8 @@ pub(crate) struct Kept {
     reserves: Buckets,
     planner: Planner,
 
-    // room for what a plan is made of: allowances and what is reserved, by flow, and idle minislots by channel
+    // room for what a plan is made of: allowances and what is reserved, by flow, and idle minislots by channel; none for what
+    // is reserved where no flow has a minimum rate
     allowances: Vec<Option<u64>>,
     left: Vec<u64>,
     idle: Vec<u32>,
@@ -101,7 +103,7 @@ impl Core {
         let planner = Planner::new(alloc, &config)?;
         let flows = config.flows().len();
         let allowances = no_limits(alloc, flows)?;
-        let left = nothing_left(alloc, flows)?;
+        let left = nothing_left(alloc, &config)?;
         let kept = Box::new(
             alloc,
             Kept {
@@ -239,9 +241,16 @@ fn no_limits(alloc: Global, flows: usize) -> Result<Vec<Option<u64>>, NoMemory>
     Ok(vec![in alloc; None; flows]?)
 }
 
-/// Nothing left of what is reserved, for so many flows.
-fn nothing_left(alloc: Global, flows: usize) -> Result<Vec<u64>, NoMemory>
-    ensures { IfOk result (λ all. length all.items ≡ flows) }
+/// Nothing left of what is reserved, flow by flow; an empty list where no flow has a minimum rate, so that a round has nothing
+/// to look at.
+fn nothing_left(alloc: Global, config: &Config) -> Result<Vec<u64>, NoMemory>
+    ensures { IfOk result (λ all. spec.IsRoom (full_reserves config.now).levels all.items) }
 {
-    Ok(vec![in alloc; 0; flows]?)
+    let flows = config.flows();
+    for flow in flows {
+        if flow.min_rate() > 0 {
+            return Ok(vec![in alloc; 0; flows.len()]?);
+        }
+    }
+    Ok(Vec::new(alloc))
 }

@@ -1,10 +1,10 @@
 -- Two passes by rows, step by step: what a turn does to a pass, and one turn more.
-use Rattle.std.proofs.Common.{◌≡◌, ℕ, zero, suc, ◌+◌, ◌-◌, ◌<◌, ◌||◌, Bool, nat_lt, min, List, [], ◌∷◌, ◌++◌, length, map, set, drop, replicate, get_or, Option, Some, None, option_map, slice_get, refl, sym, ap, ap₂, ◌∙◌, subst, inl, inr, arith}
+use Rattle.std.proofs.Common.{◌≡◌, ℕ, zero, suc, ◌+◌, ◌-◌, ◌<◌, ◌||◌, Bool, false, nat_lt, min, List, [], ◌∷◌, ◌++◌, length, map, set, drop, replicate, get_or, Option, Some, None, option_map, slice_get, refl, sym, ap, ap₂, ◌∙◌, subst, inl, inr, arith}
 use Rattle.std.specs.Prelude.{sum, slice_index, slice_index_or}
 use Rattle.std.proofs.Math.Seq.{get_or-append_seam}
 use Rattle.std.proofs.lemmas.Bool.{cases_lt}
 use Rattle.std.specs.List.{AllByRecursion}
-use Rattle.std.proofs.lemmas.List.{drop_more, get_or_append_left, length-append, length-map, set-get_or}
+use Rattle.std.proofs.lemmas.List.{drop_more, get_or_append_left, get_or_past, length-append, length-map, set-get_or}
 use Rattle.std.proofs.lemmas.List.Elements.{All-from_recursion}
 use Rattle.std.proofs.lemmas.Option.{slice_get_read}
 use Rattle.us_split.specs.declared.turn_rows.Seat.{Seat}
@@ -110,6 +110,19 @@ firsts_more rows places firsts items shares place i row all long here within at 
     ]
 
 -- whether something is reserved for the turn at a place, or for those after it
+none_at : (reserves : List ℕ) (found : Option TurnRow) → length reserves ≡ 0 → is_reserved found reserves ≡ false
+none_at reserves None none = refl
+none_at reserves (Some row) none =
+    ap (λ n. nat_lt 0 n) (get_or_past reserves row.asker.claimant.place 0 (omega (arith, none)))
+
+-- where no reserve is listed, nothing is reserved
+pub none_listed : (rows : List TurnRow) (reserves places : List ℕ) → length reserves ≡ 0 →
+    some_reserved rows reserves places ≡ false
+none_listed rows reserves [] none = refl
+none_listed rows reserves (place ∷ places) none =
+    ap (λ b. b || some_reserved rows reserves places) (none_at reserves (slice_get rows place) none)
+    ∙ none_listed rows reserves places none
+
 pub reserved_at : (rows : List TurnRow) (reserves places : List ℕ) (i place flow bytes : ℕ) (row : TurnRow) →
     AllByRecursion (λ place. place < length rows) places → i < length places → place ≡ get_or places i 0 →
     row ≡ get_or rows place row → flow ≡ row.asker.claimant.place → bytes ≡ slice_index reserves flow →

@@ -73,7 +73,7 @@ impl Planner {
     /// are told no more.
     ///
     /// `allowances` has what the bucket of each flow allows, in table order, and `reserves` what is reserved for it, 0
-    /// where nothing is listed. What the plan takes of reserves, in first shares, is taken off. What both lists have of
+    /// where nothing is listed; an empty list spares a look at each turn. What the plan takes of reserves, in first shares, is taken off. What both lists have of
     /// other flows than those of the turns isn't read, and nothing is said of allowances afterwards. After want of memory
     /// nothing is said of reserves and claims either.
     pub fn plan(

@@ -52,11 +52,14 @@ fn spend_reserve(reserves: &mut [u64], flow: usize, bytes: u64)
     }
 }
 
-/// Whether something is reserved for the flow of one of these turns.
+/// Whether something is reserved for the flow of one of these turns. Where no reserve is listed, no turn is looked at.
 fn some_reserved(rows: &[TurnRow], askers: &[u16], reserves: &[u64]) -> bool
     requires askers { AllByRecursion (λ place. place < length rows.now) askers.now }
     ensures { result ≡ spec.some_reserved rows.now reserves.now askers.now }
 {
+    if reserves.is_empty() {
+        return false;
+    }
     for place in askers {
         let row = &rows[usize::from(*place)];
         if reserve_of(reserves, row.flow()) > 0 {

@@ -1,7 +1,12 @@
-use Rattle.std.proofs.Common.{ℕ, ◌+◌, ◌||◌, Bool, drop, ap, ◌∙◌, sym, lt-ltb, le-ltb}
+use Rattle.std.proofs.Common.{ℕ, ◌+◌, ◌||◌, Bool, drop, ap, ◌∙◌, sym, eqb-true, length, lt-ltb, le-ltb}
 use Rattle.us_split.specs.TurnRows.{some_reserved}
-use Rattle.us_split.proofs.RowPassLemmas.{reserved_at}
+use Rattle.us_split.proofs.RowPassLemmas.{none_listed, reserved_at}
 use Rattle.us_split.proofs.row_plans.some_reserved.Goals as goal
+
+pub returns-then-is_empty : goal.returns-then-is_empty
+returns-then-is_empty c =
+    sym (none_listed c.args.rows.now c.args.reserves.now c.args.askers.now
+    (eqb-true (length c.args.reserves.now) 0 (sym c.is_empty.ensures ∙ c.if-is_empty.true)))
 
 pub returns-then-reserve_of-gt0 : goal.returns-then-reserve_of-gt0
 returns-then-reserve_of-gt0 c =

@@ -7,7 +7,7 @@ invariant_of-result c =
     subst IsKept (sym c.in_ok-kept.ensures.ok)
     (opening_kept c.args.config c.in_ok-askers.askers c.in_ok-buckets.buckets c.in_ok-reserves.reserves c.in_ok-planner.planner
     c.in_ok-allowances.allowances.items c.in_ok-left.left.items c.flows-flows.ensures.lawful
-    (c.in_ok-allowances.ensures ∙ ap length c.flows-flows.ensures.value) (c.in_ok-left.ensures ∙ ap length c.flows-flows.ensures.value)
+    (c.in_ok-allowances.ensures ∙ ap length c.flows-flows.ensures.value) c.in_ok-left.ensures
     c.in_ok-askers.ensures c.in_ok-buckets.ensures c.in_ok-reserves.ensures c.in_ok-planner.ensures)
 
 pub returns : goal.returns

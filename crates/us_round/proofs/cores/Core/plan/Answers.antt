@@ -6,9 +6,10 @@ use Rattle.us_flows.specs.Clusters.{turns_of}
 use Rattle.us_flows.specs.Turns.{turn_at}
 use Rattle.us_bucket.specs.Levels.{bytes_in, reserve_in}
 use Rattle.us_split.specs.Asking.{AgreeOn, asking_in, numbers_of, turns_at}
-use Rattle.us_round.specs.Cores.{planned_core}
+use Rattle.us_round.specs.Cores.{IsRoom, planned_core}
 use Rattle.us_round.proofs.AskingLemmas.{askers_inside, flows_inside}
 use Rattle.us_round.proofs.CoreLemmas.{core_in, kept_too, claims_over, planned_kept, planned_value, reserves_over}
+use Rattle.us_round.proofs.NoRateLemmas.{as_long, left_room}
 use Rattle.us_round.proofs.ReserveLemmas.{agree, left-is, left-length}
 use Rattle.us_round.proofs.cores.Core.plan.Goals as goal
 
@@ -39,6 +40,20 @@ reserve-requires-clause-flows c =
     let kept = kept_too a c.self.inside.kept.value c.as_mut.ensures.value c.self.invariant in
     subst (λ n. AllByRecursion (λ turn. turn.flow < n) c.turns-turns.result.now) (sym kept.reserves.flows)
     (flows_inside a.config c.turns-turns.result.now (turns_of a.config) c.turns-turns.ensures.value)
+
+pub reserve-requires-clause-room : goal.reserve-requires-clause-room
+reserve-requires-clause-room c =
+    let a = c.as_mut.result.now in
+    let kept = kept_too a c.self.inside.kept.value c.as_mut.ensures.value c.self.invariant in
+    as_long a.reserves.levels a.left.items c.as_mut_slice-left.result.now
+    (ap length c.as_mut_slice-left.ensures.value) kept.left
+
+pub leave-requires-clause-room : goal.leave-requires-clause-room
+leave-requires-clause-room c =
+    let a = c.as_mut.result.now in
+    let kept = kept_too a c.self.inside.kept.value c.as_mut.ensures.value c.self.invariant in
+    as_long a.reserves.levels a.left.items c.plan.new.reserves
+    (c.plan.auto.reserves ∙ c.reserve.auto.reserves ∙ ap length c.as_mut_slice-left.ensures.value) kept.left
 
 pub leave-requires-clause-places : goal.leave-requires-clause-places
 leave-requires-clause-places c =
@@ -71,7 +86,12 @@ invariant_of-self-2 c =
     ∙ left-length c.turns-turns.result.now c.plan.new.reserves c.asking-asking.result.now a.reserves.levels)
     c.leave.ensures.ticks c.leave.ensures.round c.plan.ensures.tables
     (omega (arith, ap length allows, c.plan.ensures.flows, c.allow.ensures.long, ap length c.as_mut_slice-allowances.ensures.value))
+    (subst (λ ls. IsRoom ls (with_items a.left c.plan.new.reserves).items) (sym c.leave.ensures.levels)
+    (left_room c.turns-turns.result.now c.plan.new.reserves c.asking-asking.result.now a.reserves.levels a.left.items
+    (with_items a.left c.plan.new.reserves).items
+    (left-length c.turns-turns.result.now c.plan.new.reserves c.asking-asking.result.now a.reserves.levels)
     (omega (arith, ap length leaves, c.plan.auto.reserves, c.reserve.auto.reserves, ap length c.as_mut_slice-left.ensures.value))
+    kept.left))
 
 pub returns : goal.returns
 returns c =

@@ -17,5 +17,5 @@ loop-place-preserved c =
     all_at (λ (turn : places.Turn). turn.flow < length levels) turns c.from.result
     (record { flow = 0; list = 0; cluster = 0 }) c.requires.flows inside in
     noted_more turns levels c.loop-place.reserves c.args.places.now at c.from.result c.reserve.result
-    (c.loop-place.auto.reserves ∙ c.requires.long) c.loop-place-test.true c.from.ensures known c.reserve.ensures
+    (c.loop-place.auto.reserves ∙ c.requires.room.long (omega (arith, c.if-is_empty.false))) c.loop-place-test.true c.from.ensures known c.reserve.ensures
     c.loop-place.invariant
