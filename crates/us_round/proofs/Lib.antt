@@ -10,6 +10,7 @@ pub mod BucketLemmas
 pub mod AskingLemmas
 pub mod CreditingLemmas
 pub mod ReserveLemmas
+pub mod NoRateLemmas
 pub mod CoreLemmas
 pub mod SoundLemmas
 pub mod ScheduleLaws

@@ -1,14 +1,13 @@
 -- Buckets of minimum rates of which none has one: they reserve nothing, and nothing leaves them.
-use Rattle.std.proofs.Common.{◌≡◌, ℕ, suc, ◌+◌, ◌-◌, ◌<◌, ◌==◌, if◌then◌else◌, List, [], ◌∷◌, length, map, set, get_or, take, refl, ap, sym, subst, ◌∙◌, inl, inr, arith, eq-eqb}
+use Rattle.std.proofs.Common.{◌≡◌, ℕ, zero, suc, ◌+◌, ◌-◌, ◌==◌, if◌then◌else◌, List, [], ◌∷◌, length, map, set, refl, ap, sym, subst, ◌∙◌, inl, inr, arith, eq-eqb}
 use Rattle.std.specs.Prelude.{slice_index, slice_index_or}
 use Rattle.std.specs.List.{AllByRecursion}
 use Rattle.std.proofs.lemmas.Bool.{cases_Bool}
-use Rattle.std.proofs.lemmas.List.{get_or_past, length-map, set-get_or, take_more}
+use Rattle.std.proofs.lemmas.List.{get_or_past, length-map, set-get_or}
 use Rattle.us_flows.specs.Tables.{FlowTable}
 use Rattle.us_flows.specs.declared.turns.Turn as places
 use Rattle.us_bucket.specs.Levels.{Level, bytes_in, full, refilled, reserve_in, spent}
-use Rattle.us_output.proofs.PartLemmas.{all_append}
-use Rattle.us_round.specs.Cores.{AreReserved, IsRoom, NoRates, flow_at, left_at, left_in}
+use Rattle.us_round.specs.Cores.{AreReserved, IsRoom, NoRates, flow_at, left_at}
 use Rattle.us_round.specs.Rounds.{unreserved}
 
 pub none_full : (flows : List FlowTable) → AllByRecursion (λ (flow : FlowTable). flow.min_rate ≡ 0) flows →
@@ -37,7 +36,7 @@ none_reserved (l ∷ levels) none = (rw (eq-eqb l.rate 0 none.0) refl, none_rese
 
 none_at : (reserves : List ℕ) (flow : ℕ) → AllByRecursion (λ reserve. reserve ≡ 0) reserves → slice_index reserves flow ≡ 0
 none_at [] flow none = refl
-none_at (reserve ∷ reserves) 0 none = none.0
+none_at (reserve ∷ reserves) zero none = none.0
 none_at (reserve ∷ reserves) (suc flow) none = none_at reserves flow none.1
 
 -- nothing is noted of any flow, and that is right,
@@ -52,7 +51,7 @@ none_noted turns levels reserves (place ∷ these) room empty = (
 
 rate_at : (levels : List Level) (flow : ℕ) → NoRates levels → (slice_index_or levels flow (full 0 0)).rate ≡ 0
 rate_at [] flow none = refl
-rate_at (l ∷ levels) 0 none = none.0
+rate_at (l ∷ levels) zero none = none.0
 rate_at (l ∷ levels) (suc flow) none = rate_at levels flow none.1
 
 nothing_spent : (bytes : ℕ) (l : Level) → l.rate ≡ 0 → spent bytes l ≡ l
@@ -99,13 +98,3 @@ as_long levels noted rest same room = record {
   none = λ empty. room.none (omega (arith, same, empty));
   long = λ some. same ∙ room.long (omega (arith, same, some));
 }
-
--- Room at the opening: flows up to one have no minimum rate.
-
-pub none_more : (flows : List FlowTable) (i : ℕ) (flow : FlowTable) → i < length flows → flow ≡ get_or flows i flow →
-    flow.min_rate ≡ 0 → AllByRecursion (λ (flow : FlowTable). flow.min_rate ≡ 0) (take i flows) →
-    AllByRecursion (λ (flow : FlowTable). flow.min_rate ≡ 0) (take (i + 1) flows)
-none_more flows i flow inside is none are =
-    subst (AllByRecursion (λ (flow : FlowTable). flow.min_rate ≡ 0)) (sym (take_more flows i flow inside))
-    (all_append (λ (flow : FlowTable). flow.min_rate ≡ 0) (take i flows) (get_or flows i flow ∷ []) are
-    (subst (λ (f : FlowTable). f.min_rate ≡ 0) is none, tt))

@@ -1,8 +1,9 @@
-use Rattle.std.proofs.Common.{◌<◌, ◌+◌, ◌∷◌, drop, length, ap, sym, subst, ◌∙◌, arith}
+use Rattle.std.proofs.Common.{◌<◌, ◌+◌, ◌∷◌, drop, length, ap, sym, subst, ◌∙◌, arith, eqb-true}
 use Rattle.std.proofs.lemmas.List.{drop_all, drop_more, length-set}
 use Rattle.us_flows.specs.declared.turns.Turn as places
 use Rattle.us_output.proofs.PartLemmas.{all_at}
 use Rattle.us_round.specs.Cores.{flow_at, left_at}
+use Rattle.us_round.proofs.NoRateLemmas.{none_leaves}
 use Rattle.us_round.proofs.cores.reserving.leave.Goals as goal
 
 pub leave-requires : goal.leave-requires
@@ -16,6 +17,11 @@ leave-requires c =
     all_at (λ (turn : places.Turn). turn.flow < length levels) turns c.from.result
     (record { flow = 0; list = 0; cluster = 0 }) c.requires.flows inside in
     omega (arith, known, c.loop-place.invariant.1)
+
+pub returns-then-is_empty-clause-levels : goal.returns-then-is_empty-clause-levels
+returns-then-is_empty-clause-levels c =
+    sym (none_leaves c.args.turns.now c.args.left.now c.args.places.now c.args.buckets.now.levels
+    (c.requires.room.none (eqb-true (length c.args.left.now) 0 (sym c.is_empty.ensures ∙ c.if-is_empty.true))))
 
 pub loop-place-preserved : goal.loop-place-preserved
 loop-place-preserved c =
