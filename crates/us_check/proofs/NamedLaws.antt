@@ -139,9 +139,12 @@ first_broken run judged breach (inr (headings, inr (places, inr (regions, inr (l
 first_broken run judged breach (inr (headings, inr (places, inr (regions, inr (lines, inr (rates, inl is)))))) =
     let inside : breach.place.round < run.rounds = credits_inside run judged breach.place places is.1.0 in
     broken_part run judged breach Credits is.0 is.1
-    (lower_parts run judged 6 (λ _. headings) (λ _. (places, regions)) (λ _. lines) (λ _. rates) (omega arith))
-    (is.1.1, finals_early run judged breach.place inside, λ _. activities_early run judged breach.place inside, λ _.
-    counts_early run judged breach.place inside)
+    (lower_parts run judged 6 (λ _. headings) (λ _. (places, regions)) (λ _. lines) (λ _. rates) (omega arith)) (
+      is.1.1,
+      finals_early run judged breach.place inside,
+      λ _.
+          (activities_early run judged breach.place inside, λ _. counts_early run judged breach.place inside),
+    )
 first_broken run judged breach
     (inr (headings, inr (places, inr (regions, inr (lines, inr (rates, inr (credits, inl is))))))) =
     broken_part run judged breach Finals is.0 is.1
@@ -151,12 +154,12 @@ first_broken run judged breach
     (inr (headings, inr (places, inr (regions, inr (lines, inr (rates, inr (credits, inr (finals, inl is)))))))) =
     broken_part run judged breach Activities is.0 is.1
     (lower_parts run judged 6 (λ _. headings) (λ _. (places, regions)) (λ _. lines) (λ _. rates) (omega arith))
-    (λ p _. credits p, λ p _. finals p, λ _. is.1.1, λ all. absurd (is.1.0 (all breach.place)))
+    (λ p _. credits p, λ p _. finals p, λ _. (is.1.1, λ all. absurd (is.1.0 (all breach.place))))
 first_broken run judged breach
     (inr (headings, inr (places, inr (regions, inr (lines, inr (rates, inr (credits, inr (finals, inr (activities, inl is))))))))) =
     broken_part run judged breach Counts is.0 is.1
     (lower_parts run judged 6 (λ _. headings) (λ _. (places, regions)) (λ _. lines) (λ _. rates) (omega arith))
-    (λ p _. credits p, λ p _. finals p, λ _. (λ p _. activities p), λ _. is.1.1)
+    (λ p _. credits p, λ p _. finals p, λ _. (λ p _. activities p, λ _. is.1.1))
 first_broken run judged breach
     (inr (headings, inr (places, inr (regions, inr (lines, inr (rates, inr (credits, inr (finals, inr (activities, inr last))))))))) =
     absurd last.1
