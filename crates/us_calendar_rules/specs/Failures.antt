@@ -8,7 +8,7 @@ use Rattle.us_breaches.specs.Breaches.{At}
 use Rattle.us_calendar_rules.specs.declared.naming.CalendarLine.{CalendarLine}
 use Rattle.us_calendar_rules.specs.declared.naming.Occurrence.{Occurrence}
 use Rattle.us_calendar_rules.specs.Naming.{calendar_line, occurrence_named}
-use Rattle.us_calendar_rules.specs.Marks.{marked}
+use Rattle.us_calendar_rules.specs.Marks.{marked, numbers}
 
 -- A line is right for the occurrence that it names, and while that is open no other line names it.
 abbrev pub is_told_right : Run → List ℕ → Row → Occurrence → Bool
@@ -39,3 +39,8 @@ pub record ClosingFails (run : Run) (marks : List ℕ) (l : ChannelEntry) (p : P
 pub record IsFirstUnmarked (marks : List ℕ) (l : ChannelEntry) (number : ℕ) : Type 0 where
   pub wrong : marked marks l number ≡ 1 → ⊥
   pub before : (m : ℕ) → m < number → marked marks l m ≡ 1
+
+-- An occurrence of an entry that isn't there is marked as often as an earlier one: the first of its interval.
+abbrev pub IsAlike : Run → List ℕ → ChannelEntry → Type 0
+IsAlike run marks l = (n : ℕ) → n < numbers → is_there run l.entry n ≡ false →
+    (m : ℕ) × (m < n) × (marked marks l n ≡ marked marks l m)

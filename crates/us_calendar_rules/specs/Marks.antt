@@ -1,5 +1,5 @@
 -- Marks: the occurrences that lines name, each as a number, by which it is counted how often it is named.
-use Rattle.std.specs.Prelude.{ℕ, ◌+◌, ◌*◌, ◌^◌, ◌<◌, ◌≤◌, ◌==◌, List, All, length, slice_index, count_by, flat_map, if◌then◌else◌, Option, IfSome, option_and_then}
+use Rattle.std.specs.Prelude.{ℕ, ◌+◌, ◌*◌, ◌^◌, ◌<◌, ◌≤◌, ◌==◌, List, [], All, length, slice_index, count_by, flat_map, if◌then◌else◌, Option, IfSome, option_and_then, option_map, unwrap_or}
 use Rattle.std.specs.List.{range_with_len}
 use Rattle.std.specs.List.Sorted.{IsNonDecreasing, IsPermutation}
 use Rattle.us_output.specs.declared.rows.Row.{Row}
@@ -26,7 +26,7 @@ abbrev pub named_in : Run → List ChannelEntry → Row → Option Occurrence
 named_in run es row = option_and_then (occurrence_named run es) (calendar_line row)
 
 abbrev pub marks_in : Run → List ChannelEntry → Row → List ℕ
-marks_in run es row = flat_map marks_of (option_list (named_in run es row))
+marks_in run es row = unwrap_or (option_map marks_of (named_in run es row)) []
 
 -- the interval that a line tells has 64 bits
 abbrev pub HasInterval : Row → Type 0

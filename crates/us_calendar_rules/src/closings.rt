@@ -1,3 +1,4 @@
+ghost use Rattle.std.specs.Prelude.{All};
 ghost use Rattle.std.specs.List.Sorted.{IsNonDecreasing};
 ghost use Rattle.us_breaches.specs.Breaches.{Any, IsFirstFailure};
 ghost use Rattle.us_calendar_rules.specs.Failures as spec;
@@ -15,7 +16,8 @@ pub(crate) fn closing_breach(
     entries: &[ChannelEntry],
     marks: &[u128],
 ) -> Option<Place>
-    requires { IsNonDecreasing marks.now }
+    requires rising { IsNonDecreasing marks.now }
+    requires alike { All (spec.IsAlike run.now marks.now) entries.now }
     ensures { IsFirstFailure run.now.tables.channels
         (Any (spec.ClosingFails run.now marks.now) entries.now) result }
 {
@@ -27,10 +29,12 @@ pub(crate) fn closing_breach(
     first
 }
 
-/// Where the first occurrence of an entry closes that isn't named exactly once. The windows of an entry close one after
-/// another, so that no later one closes in an earlier round.
+/// Where the first occurrence of an entry closes that isn't named exactly once. The first number that isn't marked once is
+/// that of an occurrence, and the windows of an entry close one after another, so that no later one closes in an earlier
+/// round.
 fn entry_breach(run: &JudgedRun<'_>, marks: &[u128], entry: &ChannelEntry) -> Option<Place>
-    requires { IsNonDecreasing marks.now }
+    requires rising { IsNonDecreasing marks.now }
+    requires alike { spec.IsAlike run.now marks.now entry.now }
     ensures { IsFirstFailure run.now.tables.channels
         (spec.ClosingFails run.now marks.now entry.now) result }
 {

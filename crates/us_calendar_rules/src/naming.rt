@@ -1,6 +1,4 @@
 ghost use Rattle.std.specs.Prelude.{◌≡◌, ◌<◌, ◌^◌, IfSome};
-ghost use Rattle.us_lawful.specs.CalendarLines.{channel_entries, is_there, speaks_in};
-ghost use Rattle.us_calendar.specs.Occurrences.{ideal};
 ghost use Rattle.us_calendar_rules.specs.Listed.{AreListed};
 ghost use Rattle.us_calendar_rules.specs.Naming as spec;
 ghost use Rattle.us_calendar_rules.specs.Marks.{numbers};

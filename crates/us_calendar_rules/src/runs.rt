@@ -1,4 +1,5 @@
 ghost use Rattle.std.specs.Prelude.{◌≡◌, Contains};
+ghost use Rattle.us_flows.specs.Lawful.{AreTables};
 ghost use Rattle.us_lawful.specs.Runs.{Run, run_in};
 ghost use Rattle.us_lawful.specs.CalendarLines as lawful;
 ghost use Rattle.us_activity.specs.Activities.{AreMarksOf};
@@ -29,7 +30,8 @@ impl<'a> Model for JudgedRun<'a> {
 impl<'a> JudgedRun<'a> {
     /// The quarter microseconds of a round.
     pub(crate) fn round_quarters(&self) -> u64
-        ensures { result ≡ lawful.round_quarters self.now.tables }
+        ensures value { result ≡ lawful.round_quarters self.now.tables }
+        ensures lawful { AreTables self.now.tables }
     {
         QUARTERS_PER_TICK * u64::from(self.config.round_ticks())
     }

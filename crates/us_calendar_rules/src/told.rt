@@ -56,12 +56,7 @@ fn line_breach(
 }
 
 /// Whether a line is right for the occurrence that it names, and no other line names that while it is open.
-fn is_told_right(
-    run: &JudgedRun<'_>,
-    marks: &[u128],
-    occurrence: &Occurrence,
-    row: &Row,
-) -> bool
+fn is_told_right(run: &JudgedRun<'_>, marks: &[u128], occurrence: &Occurrence, row: &Row) -> bool
     requires entry { Contains (channel_entries run.now.tables) occurrence.now.of }
     requires active { occurrence.now.active ≡ speaks_of run.now occurrence.now }
     requires number { occurrence.now.number < numbers }
@@ -69,5 +64,6 @@ fn is_told_right(
     ensures { result ≡ spec.is_told_right run.now marks.now row.now occurrence.now }
 {
     is_right(run, occurrence, row)
-        && (closing(run, &occurrence.of, occurrence.number).is_some() || at_most_once(marks, occurrence))
+        && (closing(run, &occurrence.of, occurrence.number).is_some()
+            || at_most_once(marks, occurrence))
 }

@@ -1,4 +1,4 @@
-ghost use Rattle.std.specs.Prelude.{◌≡◌, ◌+◌, ◌*◌, ◌<◌, Contains, if◌then◌else◌};
+ghost use Rattle.std.specs.Prelude.{◌≡◌, ◌+◌, ◌*◌, ◌^◌, ◌<◌, Contains, if◌then◌else◌};
 ghost use Rattle.us_flows.specs.Tables.{map_len};
 ghost use Rattle.us_calendar.specs.Occurrences as calendar;
 ghost use Rattle.us_calendar.specs.Runs.{window_end as spec_window_end};
@@ -64,11 +64,7 @@ fn is_right_grant(run: &JudgedRun<'_>, occurrence: &Occurrence, grant: &Grant) -
 
 /// Whether an occurrence is missed where a line tells it: on the entry's channel, in the round in which its window
 /// closes.
-fn is_right_missed(
-    run: &JudgedRun<'_>,
-    occurrence: &Occurrence,
-    missed: &MissedOccurrence,
-) -> bool
+fn is_right_missed(run: &JudgedRun<'_>, occurrence: &Occurrence, missed: &MissedOccurrence) -> bool
     requires { occurrence.now.number < numbers }
     ensures { result ≡ lawful.is_right_line run.now occurrence.now.of occurrence.now.number (rows.Missed missed.now) }
 {
@@ -87,6 +83,8 @@ fn starts_within(run: &JudgedRun<'_>, occurrence: &Occurrence, grant: &Grant) ->
     let of = occurrence.of;
     let channel = of.channel;
     let entry = of.entry;
+    // Asked for what it tells of the tables: that their channels are lawful.
+    let _ = run.config.round_ticks();
     let len = u128::from(run.config.map_len(&channel));
     let minislot = u128::from(grant.round) * len + u128::from(grant.start);
     let ticks = u128::from(channel.bursts.time().minislot_ticks());
@@ -107,6 +105,7 @@ fn window_end(entry: &Entry, number: u128) -> u128
 fn ideal(entry: &Entry, number: u128) -> u128
     requires { number < numbers }
     ensures value { result ≡ calendar.ideal entry.now number }
+    ensures few { result < 2 ^ 127 }
 {
     let interval = number / u128::from(entry.grants);
     u128::from(entry.start) + interval * u128::from(entry.interval)
