@@ -344,7 +344,7 @@ def marked(chance, rows, silent, round_ticks, lead, rounds):
 
 
 def trace(chance, round_ticks, lead, asks, silent, ids, rounds, count=None):
-    """Rows of requests, some of them for SIDs that nobody has; most traces have marks too, where a flow falls silent."""
+    """Rows of requests, some of them for SIDs that nobody has. Most traces have marks, where a flow falls silent."""
     rows = []
     count = chance.choice([0, 3, 20, 100, 300, 1500]) if count is None else count
     hot = chance.sample(asks, min(len(asks), chance.choice([1, 3, 100]))) if asks else []

@@ -114,8 +114,8 @@ def report_lines(tests):
                  "U,0,0,0\r", "F,1,0,0", "F,1,0,-,-", "F,1,0,0,--", "F,1,0,0,01", "G,1", "M,0,1,req,1,0,0",
                  "M,0,1,ugs,1,0", "M,0,1,UGS,1,0,0", "M,0,1,ugs,1,0,0,0", "G,0,1,ugs,1,0,0,513,11,0,1",
                  "G,0,1,ugs,1,0,0,513,11,0,1,-", f"U,0,0,{MOST + 1}", "U,0,0," + "9" * 5_000, "\u0661,0,0,0",
-                 "G,0,1,AD,1,0,0,513,11,0,1,0", "G,0,1,ad,1,0,0,513,11,0,1", "A,1", "A,1,1,0", "A,1,01", "A,1,-", "a,1,1",
-                 f"A,1,{MOST + 1}", "B,1,1"):
+                 "G,0,1,AD,1,0,0,513,11,0,1,0", "G,0,1,ad,1,0,0,513,11,0,1", "A,1", "A,1,1,0", "A,1,01", "A,1,-",
+                 "a,1,1", f"A,1,{MOST + 1}", "B,1,1"):
         text = STORED_REPORT + line.encode() + b"\n" + STORED_REPORT
         tests.stored(f"a line {line[:40]}", "fault CK1 4", report=text)
     tests.stored("two bad lines, the second cut", "fault CK1 2", report=b"U,0,0,0\nU\nU,0")
@@ -426,7 +426,8 @@ def activity(tests):
         assert SILENT_REPORT.count(old) == 1
         tests.judges(name, wanted, SILENT_CALL, SILENT_ONCE, 3, SILENT_MAPS, SILENT_REPORT.replace(old, new))
     both = SILENT_ONCE + "0,1,513,0,2\n"
-    for name, rows, rounds in (("a call that falls silent once", SILENT_ONCE, 3), ("marks of a round together", both, 3),
+    for name, rows, rounds in (("a call that falls silent once", SILENT_ONCE, 3),
+                               ("marks of a round together", both, 3),
                                ("a call that stays silent", MARKS_HEADER + "0,1,513,0,1\n", 9)):
         tests.made(name, SILENT_CALL, rows, rounds)
     tests.stored("activity of a flow that tells none", "broken P6 2 0 1", report=STORED_REPORT + b"A,1,1\n")
