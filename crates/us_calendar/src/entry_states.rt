@@ -132,7 +132,14 @@ impl EntryState {
     {
         // mostly it isn't detected, and nothing is kept
         if !self.is_heard() {
-            self.next = settle(&self.entry, span, Kinds::always(), self.next, board, settled)?;
+            self.next = settle(
+                &self.entry,
+                span,
+                Kinds::always(),
+                self.next,
+                board,
+                settled,
+            )?;
             return Ok(());
         }
         let kinds = self.kinds();

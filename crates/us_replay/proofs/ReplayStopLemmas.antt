@@ -190,14 +190,15 @@ sent-stops out counts k a b c d e f maps report (StoppedBy Maps done) so_far par
     ap (take n) part.maps_is ∙ take-append-le n maps part.maps_behind (omega (arith, below)) in
     let same : flat_map round_lines (take k out.given) ++ [] ≡ flat_map round_lines (take done out.given) =
     append-nil (flat_map round_lines (take k out.given)) ∙ ap (λ j. flat_map round_lines (take j out.given)) (sym is) in (
-    inl (subst (Appends d f) same (appends_join d e f (flat_map round_lines (take k out.given)) [] so_far.report kept)),
-    subst (Stopped out (grown a c) (grown d f)) (sym is) (stopped out k n 0 (grown a c) (grown d f) (record {
-      rounds = so_far.rounds;
-      maps = subst (Appends a c) (sym (ap (λ bs. before ++ bs) taken)) (appends_join a b c before (take n maps) so_far.maps front);
-      maps_short = omega (arith, below, ap length part.maps_is, length-append maps part.maps_behind);
-      report = appends_join d e f (flat_map round_lines (take k out.given)) [] so_far.report kept;
-      report_short = omega arith;
-    }) (part.short_maps n below)))
+      inl (subst (Appends d f) same (appends_join d e f (flat_map round_lines (take k out.given)) [] so_far.report kept)),
+      subst (Stopped out (grown a c) (grown d f)) (sym is) (stopped out k n 0 (grown a c) (grown d f) (record {
+        rounds = so_far.rounds;
+        maps = subst (Appends a c) (sym (ap (λ bs. before ++ bs) taken)) (appends_join a b c before (take n maps) so_far.maps front);
+        maps_short = omega (arith, below, ap length part.maps_is, length-append maps part.maps_behind);
+        report = appends_join d e f (flat_map round_lines (take k out.given)) [] so_far.report kept;
+        report_short = omega arith;
+      }) (part.short_maps n below)),
+    )
 sent-stops out counts k a b c d e f maps report (StoppedBy Report done) so_far part (is, wrote, (n, below, front)) =
     let before : List ℕ = flat_map round_lines (take k out.given) in
     let whole : take (length maps) (flat_map records (drop k out.given)) ≡ maps =
@@ -206,15 +207,16 @@ sent-stops out counts k a b c d e f maps report (StoppedBy Report done) so_far p
     ap (take n) part.report_is ∙ take-append-le n report part.report_behind (omega (arith, below)) in
     let records_of : flat_map records (take k out.given) ++ maps ≡ flat_map records (take (done + 1) out.given) =
     sym part.maps_whole ∙ ap (λ j. flat_map records (take (j + 1) out.given)) (sym is) in (
-    subst (Appends a c) records_of (appends_join a b c (flat_map records (take k out.given)) maps so_far.maps wrote),
-    subst (Stopped out (grown a c) (grown d f)) (sym is) (stopped out k (length maps) n (grown a c) (grown d f) (record {
-      rounds = so_far.rounds;
-      maps = subst (Appends a c) (sym (ap (λ bs. flat_map records (take k out.given) ++ bs) whole))
-          (appends_join a b c (flat_map records (take k out.given)) maps so_far.maps wrote);
-      maps_short = omega (arith, ap length part.maps_is, length-append maps part.maps_behind);
-      report = subst (Appends d f) (sym (ap (λ bs. before ++ bs) taken)) (appends_join d e f before (take n report) so_far.report front);
-      report_short = omega (arith, below, ap length part.report_is, length-append report part.report_behind);
-    }) (part.short_report n below)))
+      subst (Appends a c) records_of (appends_join a b c (flat_map records (take k out.given)) maps so_far.maps wrote),
+      subst (Stopped out (grown a c) (grown d f)) (sym is) (stopped out k (length maps) n (grown a c) (grown d f) (record {
+        rounds = so_far.rounds;
+        maps = subst (Appends a c) (sym (ap (λ bs. flat_map records (take k out.given) ++ bs) whole))
+            (appends_join a b c (flat_map records (take k out.given)) maps so_far.maps wrote);
+        maps_short = omega (arith, ap length part.maps_is, length-append maps part.maps_behind);
+        report = subst (Appends d f) (sym (ap (λ bs. before ++ bs) taken)) (appends_join d e f before (take n report) so_far.report front);
+        report_short = omega (arith, below, ap length part.report_is, length-append report part.report_behind);
+      }) (part.short_report n below)),
+    )
 sent-stops out counts k a b c d e f maps report (StoppedBy Memory done) so_far part never = absurd never
 sent-stops out counts k a b c d e f maps report (Refused why) so_far part never = absurd never
 
