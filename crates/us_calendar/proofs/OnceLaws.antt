@@ -20,10 +20,10 @@ use Rattle.us_calendar.specs.Runs.{Round, rounds_on, after_rounds, grants, misse
 use Rattle.us_calendar.specs.declared.settled.Settled.{Settled}
 use Rattle.us_calendar.specs.declared.settled.Settled.TheVariants as told
 use Rattle.us_calendar.specs.Kept.{settle_from, state_from}
-use Rattle.us_calendar.specs.Laws.{IsAsHeard}
+use Rattle.us_calendar.specs.Laws.{IsAsHeard, AreFirst}
 use Rattle.us_calendar.proofs.IdealLemmas.{HasWindows, ideal-rises}
 use Rattle.us_calendar.proofs.HeardLemmas.{entries_of, entries_heard, entries_stay}
-use Rattle.us_calendar.proofs.SettleLemmas.{numbers_of}
+use Rattle.us_calendar.proofs.SettleLemmas.{numbers_of, first_of_all}
 use Rattle.us_calendar.proofs.ActivityLemmas.{Held, held_first, held_next, agree, settle_same}
 use Rattle.us_calendar.proofs.SpotLemmas.{later_start}
 use Rattle.us_calendar.proofs.RunLemmas.{the_some}
@@ -632,27 +632,57 @@ as_heard pace cuts e active waiting first held =
           then Some (speaks_by pace cuts e (ideal e k)) else None) (sym number);
     }
 
-stands_as_heard : (pace : Pace) (cuts : List (List ℕ)) (e : Entry) (windows : HasWindows e) (p : ℕ)
-    (states : List EntryState) (state : EntryState) → Stands pace cuts e windows cuts p states →
-    slice_get states p ≡ Some state → IsAsHeard pace cuts state
-stands_as_heard pace cuts e windows p states state s at =
+-- what is settled are the first ones
+
+abbrev IsFirst : Pace → List (List ℕ) → EntryState → Type 0
+IsFirst pace cuts row =
+    AreFirst (end_after pace (length cuts)) row.entry (speaks_by pace cuts row.entry) row.settled (length row.settled)
+
+as_first : (pace : Pace) (cuts : List (List ℕ)) (e : Entry) (active : Bool) (waiting : Option Bool) (first : ℕ) →
+    HasWindows e → Held pace cuts e cuts active waiting first → IsFirst pace cuts (state_from e active waiting first)
+as_first pace cuts e active waiting first windows held =
+    let settled : List ℕ = range_with_len 0 first in
+    let number : length settled ≡ first = length-range_with_len 0 first in
+    subst (AreFirst (end_after pace (length cuts)) e (speaks_by pace cuts e) settled) (sym number)
+    (first_of_all (end_after pace (length cuts)) e (speaks_by pace cuts e) first windows held.comes held.not_over settled refl)
+
+stands_so : (P : EntryState → Type 0) (pace : Pace) (cuts : List (List ℕ)) (e : Entry) (windows : HasWindows e) (p : ℕ)
+    (states : List EntryState) (state : EntryState) →
+    ((active : Bool) (waiting : Option Bool) (first : ℕ) → Held pace cuts e cuts active waiting first →
+    P (state_from e active waiting first)) → Stands pace cuts e windows cuts p states → slice_get states p ≡ Some state → P state
+stands_so P pace cuts e windows p states state so s at =
     let is : EntryState = state_from e s.active s.waiting s.first in
     let same : Some is ≡ Some state = sym s.there ∙ at in
-    subst (IsAsHeard pace cuts) (the_some is state same) (as_heard pace cuts e s.active s.waiting s.first s.held)
+    subst P (the_some is state same) (so s.active s.waiting s.first s.held)
 
-pub kinds_as_heard : (pace : Pace) (es : List Entry) (cuts : List (List ℕ)) (boards : List Board) → IsOrdered es →
-    AllByRecursion HasWindows es → length cuts ≡ length boards → AllByRecursion (IsAsHeard pace cuts)
-    (after_rounds (record { pace = pace; next_round = 0; states = map opening_state es }) cuts boards).states
-kinds_as_heard pace es cuts boards ordered windows many = all_places (IsAsHeard pace cuts) last (λ p state at.
+-- what is so of each that is kept so is so of all of them
+after_all : (P : EntryState → Type 0) (pace : Pace) (es : List Entry) (cuts : List (List ℕ)) (boards : List Board) →
+    ((e : Entry) (active : Bool) (waiting : Option Bool) (first : ℕ) → HasWindows e →
+    Held pace cuts e cuts active waiting first → P (state_from e active waiting first)) → IsOrdered es →
+    AllByRecursion HasWindows es → length cuts ≡ length boards →
+    AllByRecursion P (after_rounds (record { pace = pace; next_round = 0; states = map opening_state es }) cuts boards).states
+after_all P pace es cuts boards so ordered windows many = all_places P last (λ p state at.
     let e : Entry = state.entry in
     let place : slice_get es p ≡ Some e = subst (λ ds. slice_get ds p ≡ Some e)
     (entries_after opening cuts boards ∙ entries_again es) (mapped_at (λ s. s.entry) last p state at) in
     let has = at_place HasWindows es p e windows place in
-    stands_as_heard pace cuts e has p last state (through pace cuts e has cuts boards [] 0 p (map opening_state es) refl
-    refl many (subst IsOrdered (sym (entries_again es)) ordered) (opening_stands pace cuts es p e has place)) at)
+    stands_so P pace cuts e has p last state (λ active waiting first held. so e active waiting first has held)
+    (through pace cuts e has cuts boards [] 0 p (map opening_state es) refl refl many
+    (subst IsOrdered (sym (entries_again es)) ordered) (opening_stands pace cuts es p e has place)) at)
   where
     opening : Calendar
     opening = record { pace = pace; next_round = 0; states = map opening_state es }
 
     last : List EntryState
     last = (after_rounds opening cuts boards).states
+
+pub kinds_as_heard : (pace : Pace) (es : List Entry) (cuts : List (List ℕ)) (boards : List Board) → IsOrdered es →
+    AllByRecursion HasWindows es → length cuts ≡ length boards → AllByRecursion (IsAsHeard pace cuts)
+    (after_rounds (record { pace = pace; next_round = 0; states = map opening_state es }) cuts boards).states
+kinds_as_heard pace es cuts boards =
+    after_all (IsAsHeard pace cuts) pace es cuts boards (λ e active waiting first _. as_heard pace cuts e active waiting first)
+
+pub rows_stand_first : (pace : Pace) (es : List Entry) (cuts : List (List ℕ)) (boards : List Board) → IsOrdered es →
+    AllByRecursion HasWindows es → length cuts ≡ length boards → AllByRecursion (IsFirst pace cuts)
+    (after_rounds (record { pace = pace; next_round = 0; states = map opening_state es }) cuts boards).states
+rows_stand_first pace es cuts boards = after_all (IsFirst pace cuts) pace es cuts boards (as_first pace cuts)

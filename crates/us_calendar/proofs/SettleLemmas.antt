@@ -236,11 +236,10 @@ pub stop_here : (pace : Pace) (round : ℕ) (e : Entry) (speaks : ℕ → Bool) 
 stop_here pace round e speaks n board last =
     ap (λ o. range_with_len 0 n ++ numbers_of e o.settlements) last ∙ append-nil (range_with_len 0 n)
 
--- the windows of the next one aren't over, so other intervals begin behind the round
-first_of_all : (pace : Pace) (round : ℕ) (e : Entry) (speaks : ℕ → Bool) (n : ℕ) → HasWindows e →
-    comes e speaks n ≡ true → end_of pace round ≤ ideal e n + e.jitter → (settled : List ℕ) →
-    settled ≡ range_with_len 0 n → AreFirst pace round e speaks settled n
-first_of_all pace round e speaks n is it late settled first = record {
+-- the windows of the next one aren't over, so other intervals begin later
+pub first_of_all : (time : ℕ) (e : Entry) (speaks : ℕ → Bool) (n : ℕ) → HasWindows e → comes e speaks n ≡ true →
+    time ≤ ideal e n + e.jitter → (settled : List ℕ) → settled ≡ range_with_len 0 n → AreFirst time e speaks settled n
+first_of_all time e speaks n is it late settled first = record {
   first = first;
   comes = it;
   not_over = late;
@@ -255,7 +254,7 @@ first_of_all pace round e speaks n is it late settled first = record {
 
 abbrev Ones : Pace → ℕ → Entry → (ℕ → Bool) → ℕ → Board → Type 0
 Ones pace round e speaks n board =
-    (more : ℕ) × (n ≤ more) × AreFirst pace round e speaks
+    (more : ℕ) × (n ≤ more) × AreFirst (end_of pace round) e speaks
     (range_with_len 0 n ++ numbers_of e (settle_from pace round e speaks n board).settlements) more
 
 ones_stop : (pace : Pace) (round : ℕ) (e : Entry) (speaks : ℕ → Bool) (n : ℕ) (board : Board) → HasWindows e →
@@ -264,7 +263,7 @@ ones_stop : (pace : Pace) (round : ℕ) (e : Entry) (speaks : ℕ → Bool) (n :
 ones_stop pace round e speaks n board is it late last = (
   n,
   omega arith,
-  first_of_all pace round e speaks n is it late
+  first_of_all (end_of pace round) e speaks n is it late
       (range_with_len 0 n ++ numbers_of e (settle_from pace round e speaks n board).settlements)
       (stop_here pace round e speaks n board last),
 )
@@ -292,7 +291,7 @@ first_ones pace round e speaks (suc left) n board is it all = elim (cases_lt (id
     on due found found_is one more = (
       more.0,
       (let low = more.1 in omega (arith, low)),
-      subst (λ ns. AreFirst pace round e speaks ns more.0)
+      subst (λ ns. AreFirst (end_of pace round) e speaks ns more.0)
           (sym (numbers_on pace round e speaks n board found is it due found_is one)) more.2,
     )
 

@@ -1,11 +1,11 @@
 -- Small calendars, computed by the definitions alone.
-use Rattle.std.specs.Prelude.{◌≡◌, ℕ, [], ◌∷◌, true, Some, None, refl}
+use Rattle.std.specs.Prelude.{◌≡◌, ℕ, ◌+◌, List, [], ◌∷◌, true, Some, None, refl}
 use Rattle.us_holes.specs.Boards.{Owner, Board, empty_board, assign, first_of}
 use Rattle.us_calendar.specs.Entries.{Entry, in_order}
-use Rattle.us_calendar.specs.Occurrences.{Pace, due, coming}
+use Rattle.us_calendar.specs.Occurrences.{Pace, ideal, due, coming}
 use Rattle.us_calendar.specs.Settling.{EntryState, Settlement, opening_state, settle_each, settle_entry, settle_state}
 use Rattle.us_calendar.specs.Calendars.{Calendar, run_entries}
-use Rattle.us_calendar.specs.Runs.{rounds_on, times, grants, misses}
+use Rattle.us_calendar.specs.Runs.{rounds_on, after_rounds, end_after, window_end, times, grants, misses}
 use Rattle.us_calendar.specs.declared.kinds.Kind.{Kind}
 use Rattle.us_calendar.specs.declared.kinds.Kind.TheVariants as kinds
 
@@ -81,6 +81,28 @@ once = refl
 never : times (misses (entry 90 20 1) 0) (rounds_on calendar ([] ∷ [] ∷ []) (idle ∷ idle ∷ [])) ≡ 0
 unfolding run_entries settle_entry settle_each coming due first_of
 never = refl
+
+-- Three grants of an interval of which two find a minislot before the round ends. What is settled then are the first two: the
+-- third one waits, since its window ends behind the round, and the next interval begins behind that window.
+abbrev rows_after : List (List ℕ) → List Board → List EntryState
+rows_after cuts boards = (after_rounds (record { pace = pace; next_round = 0; states = state 50 75 3 ∷ [] }) cuts boards).states
+
+two_of_three : rows_after ([] ∷ []) (idle ∷ []) ≡
+    record { entry = entry 50 75 3; settled = 0 ∷ 1 ∷ []; active = true; waiting = None } ∷ []
+unfolding run_entries settle_entry settle_each coming due first_of
+two_of_three = refl
+
+ends_behind : window_end (entry 50 75 3) 2 ≡ end_after pace 1 + 25
+ends_behind = refl
+
+begins_behind : ideal (entry 50 75 3) 3 ≡ window_end (entry 50 75 3) 2 + 925
+begins_behind = refl
+
+-- a round on, all of the interval is settled
+all_three : rows_after ([] ∷ [] ∷ []) (idle ∷ idle ∷ []) ≡
+    record { entry = entry 50 75 3; settled = 0 ∷ 1 ∷ 2 ∷ []; active = true; waiting = None } ∷ []
+unfolding run_entries settle_entry settle_each coming due first_of
+all_three = refl
 
 -- three grants of an interval for which there are two minislots
 some_missed : (settle_state pace 0 (state 0 75 3) (assign idle 0 2 grant)).settlements ≡

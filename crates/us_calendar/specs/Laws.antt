@@ -39,14 +39,14 @@ EntriesHaveWords = (t : Tables) → AreTables t → (c : Channel) (e : Entry) (s
     e.silence ≡ Some s → (flow : FlowTable) × (flow.id ≡ e.id) × (slice_get (words_of t) s.word ≡ Some (Silent flow))
     × (slice_get (words_of t) (s.word + 1) ≡ Some (Active flow))
 
--- the first `more` of an entry are settled when a round ends, and no others
-pub record AreFirst (pace : Pace) (round : ℕ) (e : Entry) (speaks : ℕ → Bool) (settled : List ℕ) (more : ℕ) : Type 0 where
+-- the first `more` of an entry are settled at a time, and no others
+pub record AreFirst (time : ℕ) (e : Entry) (speaks : ℕ → Bool) (settled : List ℕ) (more : ℕ) : Type 0 where
   pub first : settled ≡ range_with_len 0 more
   pub comes : comes e speaks more ≡ true
   -- The windows of the next one's interval aren't over. So other unsettled intervals, which begin behind these windows, begin
-  -- in later rounds: of this interval alone the kind has to be kept.
-  pub not_over : end_of pace round ≤ window_end e more
-  pub later : (n : ℕ) → ideal e more < ideal e n → end_of pace round < ideal e n
+  -- later: of this interval alone the kind has to be kept.
+  pub not_over : time ≤ window_end e more
+  pub later : (n : ℕ) → ideal e more < ideal e n → time < ideal e n
 
 -- Where the settled occurrences of an entry are the first ones, as many as there are, up to one that comes, so they are after
 -- a round: what is unsettled is all from one on. For an occurrence that waits leaves no minislot of its window to the others
@@ -54,8 +54,17 @@ pub record AreFirst (pace : Pace) (round : ℕ) (e : Entry) (speaks : ℕ → Bo
 abbrev pub FirstOnes : Type 0
 FirstOnes = (pace : Pace) (round count : ℕ) (e : Entry) (speaks : ℕ → Bool) (board : Board) →
     1 ≤ e.grants → e.jitter < e.interval → comes e speaks count ≡ true →
-    (more : ℕ) × (count ≤ more) × AreFirst pace round e speaks (range_with_len 0 count
+    (more : ℕ) × (count ≤ more) × AreFirst (end_of pace round) e speaks (range_with_len 0 count
     ++ flat_map (closed e) (settle_entry pace round e speaks (range_with_len 0 count) board).settlements) more
+
+-- So it is of each row of a channel's calendar, which is the state of an entry, after any number of rounds: all grants before
+-- one grant of one interval are settled, and from that one on none is.
+abbrev pub RowsStandFirst : Type 0
+RowsStandFirst = (t : Tables) (c : Channel) (cuts : List (List ℕ)) (boards : List Board) → AreTables t →
+    length cuts ≡ length boards →
+    AllByRecursion (λ row. AreFirst (end_after (pace_of t c) (length cuts)) row.entry
+    (speaks_by (pace_of t c) cuts row.entry) row.settled (length row.settled))
+    (after_rounds (opening t c) cuts boards).states
 
 -- A round leaves the board with what it granted, each where it fitted, after those before it.
 abbrev pub GrantsFit : Type 0

@@ -1,6 +1,6 @@
 //! Laws of the definitions of the calendar, each as the contract of a function that does nothing.
 
-ghost use Rattle.us_calendar.specs.Laws.{AreOccurrences, EntriesAreApart, EntriesAreLawful, EntriesHaveWords, FirstOnes, GrantsFit, KindsAsHeard, SettledOnce};
+ghost use Rattle.us_calendar.specs.Laws.{AreOccurrences, EntriesAreApart, EntriesAreLawful, EntriesHaveWords, FirstOnes, GrantsFit, KindsAsHeard, RowsStandFirst, SettledOnce};
 
 /// An entry of a kind and an id stands on one channel, and is one.
 pub fn entries_are_apart()
@@ -20,6 +20,11 @@ pub fn entries_have_words()
 /// What is settled of an entry are its first occurrences, and so they are after a round, of which one interval is open at most.
 pub fn first_ones()
     ensures { FirstOnes }
+{}
+
+/// After any number of rounds the first occurrences of each entry of a channel are settled, and no others.
+pub fn rows_stand_first()
+    ensures { RowsStandFirst }
 {}
 
 /// A round leaves the board with what it granted, each where it fitted.

@@ -73,7 +73,7 @@ pub use entries::Entry;
 pub use kinds::Kind;
 pub use laws::{
     all_are_occurrences, entries_are_apart, entries_are_lawful, entries_have_words, first_ones,
-    grants_fit, kinds_as_heard, settled_once,
+    grants_fit, kinds_as_heard, rows_stand_first, settled_once,
 };
 pub use listing::entries_of;
 pub use settled::Settled;

@@ -70,6 +70,7 @@ pub fn replay<H: Threads + Sync, R: Source, W1: Sink, W2: Sink, G: Gate + Sync>(
         TookAtMost max_bytes (R.remaining trace.old) (R.remaining trace.new) }
     ensures maps_failed { W1.failed maps.new ≡ blames_maps result }
     ensures report_failed { W2.failed report.new ≡ blames_report result }
+    ensures flushed { OnOk result ((W1.flushed maps.new ≡ true) × (W2.flushed report.new ≡ true)) }
 {
     check_run(config, rounds, workers)?;
     let trace = Trace::read(alloc, trace, config, rounds)?;
@@ -114,6 +115,7 @@ fn run<H: Threads + Sync, W1: Sink, W2: Sink, G: Gate + Sync>(
     ensures lawful { OnOk result (IsLawfulOutput config.now trace.now) }
     ensures maps_failed { W1.failed maps.new ≡ blames_maps result }
     ensures report_failed { W2.failed report.new ≡ blames_report result }
+    ensures flushed { OnOk result ((W1.flushed maps.new ≡ true) × (W2.flushed report.new ≡ true)) }
 {
     let Ok((intake, seat)) = open_intake(alloc, config.clusters()) else {
         return Err(RunFault::NoMemory(0));
@@ -146,6 +148,7 @@ fn run_with<'a, H: Threads + Sync, W1: Sink, W2: Sink, G: Gate + Sync>(
         (grown (W2.contents report.old) (W2.contents report.new)) result }
     ensures maps_failed { W1.failed maps.new ≡ blames_maps result }
     ensures report_failed { W2.failed report.new ≡ blames_report result }
+    ensures flushed { OnOk result ((W1.flushed maps.new ≡ true) × (W2.flushed report.new ≡ true)) }
 {
     let Ok(mut progress) = Progress::opening(alloc, config.clusters(), intake, seat) else {
         return Err(RunFault::NoMemory(0));
@@ -188,6 +191,7 @@ fn run_kept<'a, H: Threads + Sync, W1: Sink, W2: Sink, G: Gate + Sync>(
         (grown (W2.contents report.old) (W2.contents report.new)) result }
     ensures maps_failed { W1.failed maps.new ≡ blames_maps result }
     ensures report_failed { W2.failed report.new ≡ blames_report result }
+    ensures flushed { OnOk result ((W1.flushed maps.new ≡ true) × (W2.flushed report.new ≡ true)) }
 {
     let Ok((kept, posts)) = open_crew(alloc, config, gate, workers) else {
         return Err(RunFault::NoMemory(0));
@@ -226,6 +230,7 @@ fn run_by<'a, D: Doers<'a>, W1: Sink, W2: Sink>(
         (grown (W2.contents report.old) (W2.contents report.new)) result }
     ensures maps_failed { W1.failed maps.new ≡ blames_maps result }
     ensures report_failed { W2.failed report.new ≡ blames_report result }
+    ensures flushed { OnOk result ((W1.flushed maps.new ≡ true) × (W2.flushed report.new ≡ true)) }
 {
     let Ok(state) = opened(alloc, config) else {
         return Err(RunFault::NoMemory(0));
@@ -267,6 +272,7 @@ fn run_on<'a, D: Doers<'a>, W1: Sink, W2: Sink>(
         (grown (W2.contents report.old) (W2.contents report.new)) result }
     ensures maps_failed { W1.failed maps.new ≡ blames_maps result }
     ensures report_failed { W2.failed report.new ≡ blames_report result }
+    ensures flushed { OnOk result ((W1.flushed maps.new ≡ true) × (W2.flushed report.new ≡ true)) }
 {
     let mut state = state;
     let rounds = trace.rounds();

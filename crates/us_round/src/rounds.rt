@@ -3,6 +3,7 @@ ghost use Rattle.std.specs.List.{AllByRecursion};
 ghost use Rattle.us_flows.specs.Tables.{Tables, max_run_ticks};
 ghost use Rattle.us_flows.specs.Clusters.{words_of};
 ghost use Rattle.us_holes.specs.Boards.{max_assignments};
+ghost use Rattle.us_crew.specs.declared.gates.Phase.TheVariants as phase;
 ghost use Rattle.us_crew.specs.Items.{AreAccepted};
 ghost use Rattle.us_crew.specs.Values.{values_of};
 ghost use Rattle.us_channel.specs.Channels.{heard};
@@ -64,11 +65,11 @@ pub fn round<H: Threads + Sync, G: Gate + Sync>(
         return Err(RoundFault::Workers);
     }
     let fill = |work: &Filling<'_>, channels: Vec<ChannelWithText>| -> Answered
-        requires { AreAccepted (λ _. ⊤) (CanFill work.now) channels.items }
+        requires { AreAccepted (G.entered gate.now phase.Fill) (CanFill work.now) channels.items }
         ensures { IfOk result (λ all. all.items ≡ values_of (filled_at work.now) channels.items) }
     { answers(map_owned(threads, alloc, work, Phase::Fill, channels, workers, gate)) };
     let build = |work: &Building<'_>, channels: Vec<ChannelWithText>| -> Answered
-        requires { AreAccepted (λ _. ⊤) (CanBuild work.now) channels.items }
+        requires { AreAccepted (G.entered gate.now phase.Build) (CanBuild work.now) channels.items }
         ensures { IfOk result (λ all. all.items ≡ values_of (built_at work.now) channels.items) }
     { answers(map_owned(threads, alloc, work, Phase::Build, channels, workers, gate)) };
     let done = step(state, cuts, &mut ByEach { fill, build })?;

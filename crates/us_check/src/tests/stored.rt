@@ -11,7 +11,7 @@ fn stored_run_holds(rt: HostRuntime) {
 }
 
 /// Reports with one thing changed, and which rule that breaks where.
-static REPORTS: [(&str, Rule, u64, u64, u64); 6] = [
+static REPORTS: [(&str, Rule, u64, u64, u64); 9] = [
     ("F,1,0,0,-\nU,0,0,0\n", Rule::Minislots, 1, 1, 0),
     (
         "M,0,1,station,7,0,0\nG,1,1,req,1,0,0,291,10,0,32,1000\nF,1,0,0,-\nU,0,0,0\n",
@@ -47,6 +47,28 @@ static REPORTS: [(&str, Rule, u64, u64, u64); 6] = [
         2,
         0,
         0,
+    ),
+    // an A line of a flow that makes requests, one that goes before the U line, which lacks, and one behind an F line that lacks
+    (
+        "G,1,1,req,1,0,0,291,10,0,32,1000\nF,1,0,0,-\nA,1,1\nU,0,0,0\n",
+        Rule::Credits,
+        2,
+        0,
+        1,
+    ),
+    (
+        "G,1,1,req,1,0,0,291,10,0,32,1000\nF,1,0,0,-\nA,7,0\n",
+        Rule::Credits,
+        2,
+        0,
+        7,
+    ),
+    (
+        "G,1,1,req,1,0,0,291,10,0,32,1000\nA,0,1\nU,0,0,0\n",
+        Rule::Credits,
+        2,
+        0,
+        1,
     ),
 ];
 

@@ -1,4 +1,4 @@
-use Rattle.std.proofs.Common.{◌≡◌, ◌∙◌, map, ap, sym}
+use Rattle.std.proofs.Common.{◌∙◌, map, ap}
 use Rattle.us_calendar.specs.Settling.{heard}
 use Rattle.us_calendar.proofs.RunLaws.{hear_kept}
 use Rattle.us_calendar.proofs.calendars.Calendar.hear.Goals as goal
