@@ -113,9 +113,8 @@ def report_lines(tests):
     for line in ("", "U,0,0", "U,0,0,0,0", "U,00,0,0", "U,0,0,", "U,0,0,+1", "U,0,0,-", "u,0,0,0", "U,0,0, 0",
                  "U,0,0,0\r", "F,1,0,0", "F,1,0,-,-", "F,1,0,0,--", "F,1,0,0,01", "G,1", "M,0,1,req,1,0,0",
                  "M,0,1,ugs,1,0", "M,0,1,UGS,1,0,0", "M,0,1,ugs,1,0,0,0", "G,0,1,ugs,1,0,0,513,11,0,1",
-                 "G,0,1,ugs,1,0,0,513,11,0,1,-", f"U,0,0,{MOST + 1}", "U,0,0," + "9" * 5_000, "\u0661,0,0,0",
-                 "G,0,1,AD,1,0,0,513,11,0,1,0", "G,0,1,ad,1,0,0,513,11,0,1", "A,1", "A,1,1,0", "A,1,01", "A,1,-",
-                 "a,1,1", f"A,1,{MOST + 1}", "B,1,1"):
+                 "G,0,1,AD,1,0,0,513,11,0,1,0", "A,1", "A,1,-", "A,1,1,1",
+                 "G,0,1,ugs,1,0,0,513,11,0,1,-", f"U,0,0,{MOST + 1}", "U,0,0," + "9" * 5_000, "\u0661,0,0,0"):
         text = STORED_REPORT + line.encode() + b"\n" + STORED_REPORT
         tests.stored(f"a line {line[:40]}", "fault CK1 4", report=text)
     tests.stored("two bad lines, the second cut", "fault CK1 2", report=b"U,0,0,0\nU\nU,0")
@@ -431,6 +430,8 @@ def activity(tests):
                                ("a call that stays silent", MARKS_HEADER + "0,1,513,0,1\n", 9)):
         tests.made(name, SILENT_CALL, rows, rounds)
     tests.stored("activity of a flow that tells none", "broken P6 2 0 1", report=STORED_REPORT + b"A,1,1\n")
+    for line in ("A,1,01", f"A,1,{MOST + 1}", "a,1,1", "B,1,1", "G,0,1,ad,1,0,0,513,11,0,1"):
+        tests.stored(f"a line {line}", "fault CK1 4", report=STORED_REPORT + f"{line}\n".encode())
     # grants of an interval that wait for the next round, in which the flow falls silent
     waiting = (IDLE.replace("maintenance_minislots = 0", "maintenance_minislots = 159").replace(
         "maintenance_every = 1", "maintenance_every = 2") + call(500, 1_999, 2_000, 2).replace("type = 6", "type = 5"))
