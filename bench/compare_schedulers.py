@@ -243,10 +243,10 @@ class Calendars:
             done.append(part)
         self.text = "\n[[flow]]\n".join(done)
 
-    def add_call(self, crowded):
+    def add_call(self, crowded, kinds=(5, 5, 5, 6)):
         """Adds a flow of unsolicited grants, with activity detection or without, if it fits."""
         chance = self.chance
-        kind = chance.choice([5, 5, 5, 6])
+        kind = chance.choice(kinds)
         id = chance.choice(self.ids)
         channel = self.channels[id]
         if crowded:
@@ -303,6 +303,11 @@ def with_calendar(chance, text, round_ticks, asks, ids, crowded):
     made.poll()
     for _ in range(chance.choice([0, 1, 2, 2, 6, 20] if not crowded else [20, 60, 110])):
         made.add_call(crowded)
+    # most have a flow that falls silent; where grants and polls are longer than a MAP, none fits
+    tries = 5 if chance.random() < .95 else 0
+    while not made.silent and tries > 0:
+        made.add_call(crowded, kinds=(5,))
+        tries -= 1
     numbers = list(range(1, 256))
     chance.shuffle(numbers)
     for number in numbers[:chance.choice([0, 0, 1, 3, 10] if not crowded else [0, 30, 120])]:
@@ -330,7 +335,7 @@ def marked(chance, rows, silent, round_ticks, lead, rounds):
     another type."""
     rows = [row + (0,) if chance.random() < .97 else row[:3] + (0, chance.choice([SILENT, ACTIVE])) for row in rows]
     hot = chance.sample(silent, min(len(silent), chance.choice([1, 3, 100])))
-    for _ in range(chance.choice([0, 3, 20, 100, 300]) if hot else 0):
+    for _ in range(chance.choice([1, 3, 20, 100, 300]) if hot else 0):
         channel, sid = chance.choice(hot)
         kind = chance.choice([SILENT, SILENT, ACTIVE]) if chance.random() < .97 else 0
         row = (tick(chance, round_ticks, lead, rounds), channel, sid, 0 if kind else chance.randint(0, 9), kind)
@@ -339,7 +344,7 @@ def marked(chance, rows, silent, round_ticks, lead, rounds):
 
 
 def trace(chance, round_ticks, lead, asks, silent, ids, rounds, count=None):
-    """Rows of requests, some of them for SIDs that nobody has; every other trace has marks too."""
+    """Rows of requests, some of them for SIDs that nobody has. Most traces have marks, where a flow falls silent."""
     rows = []
     count = chance.choice([0, 3, 20, 100, 300, 1500]) if count is None else count
     hot = chance.sample(asks, min(len(asks), chance.choice([1, 3, 100]))) if asks else []
@@ -355,7 +360,7 @@ def trace(chance, round_ticks, lead, asks, silent, ids, rounds, count=None):
                 channel, sid = chance.choice(hot)
                 rows.append((at, channel, sid, units(chance, size)))
     rows = rows[:count]
-    has_marks = chance.random() < .5
+    has_marks = chance.random() < (.85 if silent else .25)
     if has_marks:
         rows = marked(chance, rows, silent, round_ticks, lead, rounds)
     if chance.random() < .5:
@@ -402,6 +407,7 @@ def compare(text, requests, rounds, name, counts):
     counts["runs"] += 1
     counts["runs with activity detection"] += "type = 5" in text
     counts["traces with marks"] += requests.startswith(HEADER + ",kind")
+    counts["both"] += "type = 5" in text and requests.startswith(HEADER + ",kind")
     counts["rounds"] += rounds
     counts["grants"] += report.count(b"G,")
     counts["same" if is_same else "DIFFER"] += 1

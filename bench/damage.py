@@ -1,6 +1,6 @@
 #!/usr/bin/env python3
 """Prints damaged configurations as stored cases of mapsim, crates/mapsim/cases/config_damage.toml: each is the changes
-of the configuration all_types of those cases, and the answer of the plain reader.
+of the configuration four_types of those cases, and the answer of the plain reader.
 
 Damage is a number near some limit or from another place, a value of another kind, a key dropped, added or doubled,
 a list with an item more or less, two values swapped, or a table copied; up to four of these at once. No damage is a
@@ -17,13 +17,13 @@ from pathlib import Path
 
 from plain_reader import answer
 
-CONFIG = Path(__file__).parent.parent / "crates/mapsim/cases/configs/all_types.toml"
+CONFIG = Path(__file__).parent.parent / "crates/mapsim/cases/configs/four_types.toml"
 HEAD = """\
 # What a plain second reader, written apart from the program, answers to random damage.
 # Of a run of no rounds, which is refused behind the configuration: an accepted one gives RU1.
 
 case = [
-    # of configs/all_types.toml"""
+    # of configs/four_types.toml"""
 LONGEST_LINE = 240
 # numbers near which something is accepted no more: limits of keys, reserves, grants, jitter, and of whole numbers
 LIMITS = [1, 2, 4, 6, 7, 15, 16, 64, 100, 127, 160, 223, 253, 255, 256, 320, 640, 1_024, 3_600, 4_096, 10_000, 15_871]
@@ -156,7 +156,7 @@ def case(number, found, changes):
     error = f"error = {json.dumps(f'fault {fault}' + chr(10))}"
     return (
         f"    {{ name = {json.dumps(f'{number}: {last}')}, words = [\"pipe\", \"--rounds\", \"0\"], "
-        f'config = "all_types", '
+        f'config = "four_types", '
         f'change = {json.dumps(alone)}, trace = "", {error}, status = 3 }},'
     )
 

@@ -9,7 +9,7 @@ the first six are written.
 
   voice            16 channels, 1,000 unsolicited flows, 256 stations, no request; 30,000 rounds
   data             16 channels, 1,000 best-effort flows with rates, over 4 to 8 each; 1,000,000 requests, 50,000 rounds
-  mixed            16 channels, 1,024 flows of all types, 256 stations; 1,000,000 requests, 50,000 rounds
+  mixed            16 channels, 1,024 flows of types 2, 3, 4 and 6, 256 stations; 1,000,000 requests, 50,000 rounds
   full             16 channels, some 60 grants each a round: 960 calls, 64 data flows; 200,000 requests, 10,000 rounds
   sparse           4 channels, 16 flows, 16 stations: hardly a round has work; 2,000 requests, 200,000 rounds
   single           1 channel, 1 best-effort flow without a limit; 1,000,000 requests, 200,000 rounds

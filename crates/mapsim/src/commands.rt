@@ -112,7 +112,7 @@ const TRACE: CommandOption = CommandOption {
     name: "trace",
     value: Value::Path,
     default: None,
-    help: "The trace, CSV: a row `tick,channel,sid,units` for each request",
+    help: "The trace, CSV: a row for each request, and for each mark of a flow that falls silent or is active again",
 };
 
 const ROUNDS: CommandOption = CommandOption {
@@ -141,9 +141,7 @@ const WORKERS: CommandOption = CommandOption {
 /// The program as clap is told of it.
 pub fn command<'a>(alloc: Global, helps: &'a Helps) -> Result<Command<'a>, AllocError> {
     Command::new(alloc, "mapsim")
-        .about(
-            "Replays the requests of a trace, writes the MAPs of each round, and judges such files",
-        )
+        .about("Replays a trace, writes the MAPs of each round, and judges such files")
         .after_help(PROGRAM)
         .subcommand_required(true)
         .subcommand(subcommand_of(alloc, &REPLAY, helps.replay.as_str())?)?

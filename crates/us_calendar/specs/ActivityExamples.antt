@@ -104,6 +104,12 @@ waits_active : settled_on (entry 90 200 40) (none ∷ silent ∷ []) (idle ∷ i
 unfolding run_entries settle_entry settle_each coming due first_of
 waits_active = refl
 
+-- also where one of them was granted before,
+waits_partly : settled_on (entry 75 200 40) (none ∷ silent ∷ []) (idle ∷ idle ∷ []) ≡
+    (told.Granted kinds.Activity 1 0 0 3 1 grant ∷ []) ∷ (told.Granted kinds.Activity 1 0 1 0 1 grant ∷ []) ∷ []
+unfolding run_entries settle_entry settle_each coming due first_of
+waits_partly = refl
+
 -- or its poll,
 waits_silent : settled_on (entry 90 200 40) (silent ∷ active ∷ []) (idle ∷ idle ∷ []) ≡ [] ∷ polled 0 ∷ []
 unfolding run_entries settle_entry settle_each coming due first_of

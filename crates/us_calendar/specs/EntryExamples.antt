@@ -11,7 +11,8 @@ use Rattle.us_calendar.specs.Entries.{Entry, WordedFlow, entry_of_flow, entry_of
 use Rattle.us_calendar.specs.declared.kinds.Kind.{Kind}
 use Rattle.us_calendar.specs.declared.kinds.Kind.TheVariants as kinds
 
--- the base channel with this id: minislots of 64 symbols, of which a poll has 2 and a station 4
+-- The base channel with this id, but with polls of 3 minislots, so that no grant here is as long as one. Minislots have 64
+-- symbols, and a station has 4.
 abbrev channel : ℕ → Channel
 channel id = record {
   id = id;
@@ -19,7 +20,7 @@ channel id = record {
   ucd_count = 0;
   ranging_backoff = 2 ∷ 6 ∷ [];
   data_backoff = 3 ∷ 8 ∷ [];
-  request_minislots = 2;
+  request_minislots = 3;
   contention_minislots = 10;
   maintenance_minislots = 0;
   maintenance_every = 1;
@@ -69,7 +70,7 @@ entry kind id sid iuc slots grants = record {
 }
 
 -- a flow is polled on its first channel, with the SID that its first cluster has there,
-poll : entry_of_flow (channel 2) (worded 5 7 RealTimePolling) ≡ Some (entry kinds.RealTimePoll 7 292 1 2 1)
+poll : entry_of_flow (channel 2) (worded 5 7 RealTimePolling) ≡ Some (entry kinds.RealTimePoll 7 292 1 3 1)
 poll = refl
 
 -- and on no other one
@@ -87,7 +88,7 @@ unsolicited = refl
 
 -- a flow whose activity is detected has the same grants, and the number of its first word with the minislots of a poll
 activity : entry_of_flow (channel 2) (worded 5 7 ActivityDetection) ≡
-    Some (record (entry kinds.Activity 7 292 11 2 3) { silence = Some (record { word = 5; slots = 2 }) })
+    Some (record (entry kinds.Activity 7 292 11 2 3) { silence = Some (record { word = 5; slots = 3 }) })
 unfolding burst_cost coded_length
 activity = refl
 
@@ -111,10 +112,10 @@ tables = record {
 
 all_entries : entries tables (channel 2) ≡
     entry kinds.Unsolicited 8 292 11 2 3 ∷ entry kinds.Unsolicited 9 292 11 2 3
-    ∷ record (entry kinds.Activity 5 292 11 2 3) { silence = Some (record { word = 6; slots = 2 }) }
-    ∷ record (entry kinds.Activity 6 292 11 2 3) { silence = Some (record { word = 2; slots = 2 }) }
-    ∷ entry kinds.RealTimePoll 3 292 1 2 1
-    ∷ entry kinds.NonRealTimePoll 4 292 1 2 1 ∷ entry kinds.Station 5 300 4 4 1 ∷ []
+    ∷ record (entry kinds.Activity 5 292 11 2 3) { silence = Some (record { word = 6; slots = 3 }) }
+    ∷ record (entry kinds.Activity 6 292 11 2 3) { silence = Some (record { word = 2; slots = 3 }) }
+    ∷ entry kinds.RealTimePoll 3 292 1 3 1
+    ∷ entry kinds.NonRealTimePoll 4 292 1 3 1 ∷ entry kinds.Station 5 300 4 4 1 ∷ []
 unfolding entries burst_cost coded_length
 all_entries = refl
 

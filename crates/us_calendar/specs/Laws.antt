@@ -78,7 +78,8 @@ GrantsFit = (pace : Pace) (round : ℕ) (states : List EntryState) (board : Boar
 -- that round has come.
 pub record IsAsHeard (pace : Pace) (cuts : List (List ℕ)) (state : EntryState) : Type 0 where
   pub active : state.active ≡ activity state.entry.silence true cuts
-  pub waiting : (s : Silence) → state.entry.silence ≡ Some s → state.waiting ≡ (if nat_lt (ideal state.entry (length state.settled)) (end_after pace (length cuts))
+  pub waiting : (s : Silence) → state.entry.silence ≡ Some s → state.waiting ≡
+      (if nat_lt (ideal state.entry (length state.settled)) (end_after pace (length cuts))
       then Some (speaks_by pace cuts state.entry (ideal state.entry (length state.settled))) else None)
 
 -- So it is of all entries of a channel, after any number of rounds.

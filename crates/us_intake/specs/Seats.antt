@@ -4,7 +4,7 @@ use Rattle.std.specs.List.{range_with_len}
 use Rattle.atomic_table.specs.Seated.{TableId}
 use Rattle.us_intake.specs.Tallies.{empty_tally, raised, added}
 
--- an intake: which one it is, how many SID clusters it has a word for, and the bytes that may be submitted in all
+-- an intake: which one it is, how many words it has, each called a cluster, and the bytes that may be submitted in all
 pub record Intake : Type 0 where
   pub id : TableId
   pub clusters : ℕ

@@ -5,7 +5,7 @@ use Rattle.us_live.specs.declared.faults.LiveFault.TheVariants as fault
 
 abbrev pub fault_text : LiveFault → List ℕ
 fault_text fault.Rounds = codes "LV1: no rounds, or more than a run has ticks for"
-fault_text fault.NoCluster = codes "LV2: no cluster makes requests"
+fault_text fault.NoCluster = codes "LV2: no flow makes requests or tells its activity"
 fault_text fault.Quota = codes "LV3: the quota is none that can be given"
 fault_text fault.Failed = codes "LV4: an earlier round was out of memory"
 fault_text fault.Done = codes "LV5: all rounds were answered"

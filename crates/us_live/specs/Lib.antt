@@ -1,7 +1,7 @@
 -- Read in this order: what a Live is, and what a round makes of it; what a fault leaves; the laws; then small inputs
 -- computed. `Insides` is of no public contract.
 -- In a definition `≡` is equals, `×` and, `⊎` or, `→` implies, `(x : A) ×` for some x, `++` one list behind another, and
--- ℕ has the whole numbers from 0. `slice_index tally cluster` is a cluster's number of bytes, 0 behind the last; `sum_by
+-- ℕ has the whole numbers from 0. `slice_index tally cluster` is a word's number of bytes, 0 behind the last; `sum_by
 -- f` adds up what `f` gives of each item of a list; an `Option` is `Some` of a value, or `None`.
 
 -- what a Live is, and the seat that it cuts by

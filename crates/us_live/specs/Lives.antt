@@ -7,10 +7,10 @@ use Rattle.us_round.specs.Rounds.{opening, schedule}
 use Rattle.us_output.specs.Outputs.{RoundOut, out_of}
 
 pub record Live : Type 0 where
-  -- how many SID clusters make requests, and how many rounds there are in all
+  -- how many words the configuration has, and how many rounds there are in all
   pub clusters : ℕ
   pub rounds : ℕ
-  -- the cut of each round so far: the bytes of each cluster
+  -- the cut of each round so far: the bytes of each word
   pub log : List (List ℕ)
   -- of what the rounds are made: none any more, once memory was wanting in a round
   pub tables : Option Tables
@@ -32,11 +32,11 @@ failed_live live = record { clusters = live.clusters; rounds = live.rounds; log 
 abbrev pub rounds_of : Tables → List (List ℕ) → List RoundOut
 rounds_of t log = map (out_of t) (schedule (opening t) log)
 
--- the bytes of a cluster in all entries of a log
+-- the bytes of a word in all entries of a log
 abbrev pub logged : List (List ℕ) → ℕ → ℕ
 logged log cluster = sum_by (λ cut. slice_index cut cluster) log
 
--- an intake with a word for each cluster, and a seat of it that takes and took at least what is in the log
+-- an intake with these words, and a seat of it that takes and took at least what is in the log
 pub record Feeds (live : Live) (intake : Intake) (seat : Seat) : Type 0 where
   pub clusters : intake.clusters ≡ live.clusters
   pub own : seat.intake ≡ intake

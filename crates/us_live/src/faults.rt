@@ -7,7 +7,7 @@ use us_slots::NoMemory;
 pub enum LiveFault {
     /// LV1: no rounds, or together over 67,108,864 ticks.
     Rounds,
-    /// LV2: no flow of the configuration makes requests.
+    /// LV2: the configuration has no word, since no flow makes requests or tells its activity.
     NoCluster,
     /// LV3: the quota is 0, or 2^62 or more.
     Quota,
@@ -31,7 +31,7 @@ impl fmt::Display for LiveFault {
     fn fmt<W: fmt::Write>(&self, f: &mut fmt::Formatter<W>) -> fmt::Result {
         f.write_str(match self {
             LiveFault::Rounds => "LV1: no rounds, or more than a run has ticks for",
-            LiveFault::NoCluster => "LV2: no cluster makes requests",
+            LiveFault::NoCluster => "LV2: no flow makes requests or tells its activity",
             LiveFault::Quota => "LV3: the quota is none that can be given",
             LiveFault::Failed => "LV4: an earlier round was out of memory",
             LiveFault::Done => "LV5: all rounds were answered",

@@ -40,10 +40,10 @@ impl Model for Live {
 }
 
 impl Live {
-    /// Opens a scheduler of `rounds` rounds, and an intake with a word for each SID cluster of the configuration, in
-    /// which seats submit at most `quota` bytes in all; with the intake's first seat, which has them all and takes.
-    /// LV1: the rounds don't fit into a run; LV2: no flow makes requests; LV3: the quota is 0, or 2^62 or more; LV7:
-    /// want of memory. The first of these is answered, and the configuration is given up then.
+    /// Opens a scheduler of `rounds` rounds, and an intake with the words of the configuration, in which seats submit at
+    /// most `quota` bytes in all; with the intake's first seat, which has them all and takes. LV1: the rounds don't fit
+    /// into a run; LV2: there is no word, since no flow makes requests or tells its activity; LV3: the quota is 0, or
+    /// 2^62 or more; LV7: want of memory. The first of these is answered, and the configuration is given up then.
     pub fn open(
         alloc: Global,
         config: Config,
@@ -162,8 +162,8 @@ impl Live {
         Ok(())
     }
 
-    /// The cuts of the rounds so far: of each the bytes of each cluster, in the order of the clusters' numbers. It needs
-    /// no memory.
+    /// The cuts of the rounds so far: of each the bytes of each word, in the order of the words' numbers. It needs no
+    /// memory.
     pub fn cut_log(&self) -> &[Vec<u64>]
         ensures { map (λ cut. cut.items) result.now ≡ self.now.log }
     {

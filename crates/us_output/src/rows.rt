@@ -99,13 +99,14 @@ pub struct FinalActivity {
     pub active: u64,
 }
 
-/// How many rows of the trace were no requests, as the U line tells it: numbers of 64 bits, as all of a report.
+/// How many rows of the trace, requests and marks, count for nothing, as the U line tells it: numbers of 64 bits, as all of
+/// a report.
 #[derive(Clone, Copy, Debug, PartialEq, Eq)]
 pub struct TraceCounts {
     /// No flow has the SID on the channel.
     pub unknown: u64,
-    /// The flow makes no requests.
+    /// It is a request, and the flow makes none; or a mark, and the flow doesn't tell its activity.
     pub not_requestable: u64,
-    /// The round of the request isn't below the number of rounds.
+    /// Its round isn't below the number of rounds.
     pub late: u64,
 }

@@ -61,7 +61,7 @@ pub record EndsAs (t : Tables) (v : TraceAsks) (to_maps to_report : Growth) (res
 -- Progress.
 
 pub record Progress : Type 0 where
-  -- what each cluster newly asks for
+  -- what is newly told by each word
   pub cut : List ℕ
   -- the bytes that were collected so far
   pub collected : ℕ
@@ -72,7 +72,7 @@ pub record Progress : Type 0 where
   pub granted : ℕ
   pub missed : ℕ
 
--- before round 0 of so many clusters
+-- before round 0 of so many words
 abbrev pub opening_progress : ℕ → Progress
 opening_progress clusters =
     record { cut = replicate clusters 0; collected = 0; to_maps = []; to_report = []; granted = 0; missed = 0 }

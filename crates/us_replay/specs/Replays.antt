@@ -20,7 +20,7 @@ use Rattle.us_replay.specs.Endings.{Refusal, Rounds, Workers, Trace, Maps, Repor
 
 -- What a run gives.
 
--- the cuts of all rounds: what each cluster asks for by the rows of the trace
+-- the cuts of all rounds: what is told by each word in the rows of the trace
 unfoldable pub cuts_of : Tables → ℕ → List Request → List (List ℕ)
 cuts_of t rounds requests = map (cut_at t rounds requests) (range_with_len 0 rounds)
 

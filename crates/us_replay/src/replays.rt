@@ -37,9 +37,9 @@ mod sending;
 /// there are, and which comes when, changes nothing of what is written.
 ///
 /// The number of rounds is looked at first (RU1), then that of workers (RU2), and then the trace is read to its end
-/// (RU3). Each round writes its records and then its lines, the channels in table order; after the last one the F lines
-/// and the U line are written, and both writers are flushed, the maps file's first. The first fault ends the replay
-/// (RU4, RU5, RU6).
+/// (RU3). Each round writes its records and then its lines, the channels in table order; after the last one the F lines,
+/// the A lines and the U line are written, and both writers are flushed, the maps file's first. The first fault ends the
+/// replay (RU4, RU5, RU6).
 pub fn replay<H: Threads + Sync, R: Source, W1: Sink, W2: Sink, G: Gate + Sync>(
     threads: &H,
     alloc: Global,

@@ -52,7 +52,7 @@ abbrev pub raised : List ℕ → Option Ask → List ℕ
 raised words None = words
 raised words (Some ask) = slice_set words ask.cluster (slice_index words ask.cluster + ask.bytes)
 
--- a seat that adds a row adds its bytes to its cluster's word
+-- a seat that adds a row adds its bytes to its word
 abbrev pub having_added : Seats → ℕ → Option Ask → Seats
 having_added seats by row = record {
   added = λ seat word. if seat == by then seats.added seat word + bytes_in word row else seats.added seat word;

@@ -3,8 +3,8 @@ use crate::{Config, ConfigFault};
 use std::alloc::Global;
 use std::test::Fail;
 
-/// A configuration of two channels, a flow of each type and two stations. No line but a header is there twice, so that
-/// a change names its place by the line. The MAPs of the channels have 320 and 160 minislots.
+/// A configuration of two channels, a flow of each of types 2, 3, 4 and 6, and two stations. No line but a header is there
+/// twice, so that a change names its place by the line. The MAPs of the channels have 320 and 160 minislots.
 const BIG: &str = r#"round_ticks = 640
 lead_ticks = 300
 

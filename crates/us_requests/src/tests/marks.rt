@@ -83,7 +83,7 @@ static FAULTS: [Case<'static>; 11] = [
             last: b"0,1,700,0,1\n0,1,700,1,1",
             ..HEADER_WITH_KIND
         },
-        answer: "TR3: record 3 has a field that is no number in its range",
+        answer: "TR3: record 3 has a field that is no number in its range, or is a mark with units",
         ..TALKING
     },
     Case {
@@ -182,7 +182,8 @@ const TR1: &str = "TR1: the first record is not the header";
 
 const TR2: &str = "TR2: record 2 has not as many fields as the header";
 
-const TR3: &str = "TR3: record 2 has a field that is no number in its range";
+const TR3: &str =
+    "TR3: record 2 has a field that is no number in its range, or is a mark with units";
 
 const TALKING: Case<'static> = Case {
     tables: TALKING_FLOWS,
