@@ -110,8 +110,8 @@ def report_lines(tests):
     for line in ("", "U,0,0", "U,0,0,0,0", "U,00,0,0", "U,0,0,", "U,0,0,+1", "U,0,0,-", "u,0,0,0", "U,0,0, 0",
                  "U,0,0,0\r", "F,1,0,0", "F,1,0,-,-", "F,1,0,0,--", "F,1,0,0,01", "G,1", "M,0,1,req,1,0,0",
                  "M,0,1,ugs,1,0", "M,0,1,UGS,1,0,0", "M,0,1,ugs,1,0,0,0", "G,0,1,ugs,1,0,0,513,11,0,1",
-                 "G,0,1,ad,1,0,0,513,11,0,1,0",
-                 "G,0,1,ugs,1,0,0,513,11,0,1,-", f"U,0,0,{MOST + 1}", "U,0,0," + "9" * 5_000, "A,1,1", "\u0661,0,0,0"):
+                 "G,0,1,AD,1,0,0,513,11,0,1,0", "A,1", "A,1,-", "A,1,1,1",
+                 "G,0,1,ugs,1,0,0,513,11,0,1,-", f"U,0,0,{MOST + 1}", "U,0,0," + "9" * 5_000, "\u0661,0,0,0"):
         text = STORED_REPORT + line.encode() + b"\n" + STORED_REPORT
         tests.stored(f"a line {line[:40]}", "fault CK1 4", report=text)
     tests.stored("two bad lines, the second cut", "fault CK1 2", report=b"U,0,0,0\nU\nU,0")
