@@ -10,9 +10,9 @@ maps files, reports and whole runs, in status, both streams and files.
   --without-activity   passes over all that has to do with flows of type 5, for a program that doesn't know them
 
 An input is made of its number alone, whatever else is asked for but a kind. Where the two answers differ, a line names
-the number, and what was run is left in a folder `programs-NUMBER` of the system's folder for temporary files. The
-last lines count the answers of the second program by kind: `ok`, what `check` prints, or the code of a fault; and behind
-them inputs, differences and inputs passed over. Status 0: no answers differed; 1: some did.
+the number, and what was run is left in a folder `programs-NUMBER` of the system's folder for temporary files. The last
+lines count the answers of the second program by kind: `ok`, what `check` prints, or the code of a fault; and behind them
+inputs, differences and inputs passed over. Status 0: no answers differed; 1: some did.
 """
 import argparse
 import collections
@@ -51,6 +51,7 @@ MOST_CONFIG_BYTES = 4_000
 MOST_OCCURRENCES = 300
 MOST_ROWS = 40
 TOO_MANY_ROUNDS = [plain_program.MOST_RUN_TICKS + 1, plain_program.GREATEST_WORD]
+MARKS = 4 * [b"%%\n"] + [b"%%\r\n", b"%%", b"%%\n%%\n", b" %%\n", b"%% \n", b"%\n", b"", b"\n%%\n", b"%%%\n", b"# %%\n"]
 SECONDS = 120
 # inputs that a process makes before it tells of them
 CHUNK = 250
@@ -94,7 +95,7 @@ def with_trace(chance, config):
     asks, silent = sids_of(tables)
     rounds, ids = chance.choice([1, 2, 2, 3, 3, 4, 6]), [table["id"] for table in tables["channel"]]
     trace = compare_schedulers.trace(chance, tables["round_ticks"], tables["lead_ticks"], asks, silent, ids, rounds,
-                                     chance.choice([0, 1, 3, 8, 20]))
+                                     chance.choice([0, 1, 3, 8, 20, 40]))
     return Base(config, "".join(trace.splitlines(keepends=True)[:MOST_ROWS]).encode(), rounds)
 
 
@@ -125,7 +126,7 @@ def base(number):
 def numbers(chance, one):
     """How many rounds and workers a run has; a few have too many or none."""
     rounds = chance.choice([0, *TOO_MANY_ROUNDS]) if chance.random() < 0.02 else one.rounds
-    workers = chance.choice([0, 65, plain_program.GREATEST_WORD, 64]) if chance.random() < 0.01 else chance.choice([1, 1, 1, 1, 2, 3])
+    workers = chance.choice([0, 65, plain_program.GREATEST_WORD, 64] if chance.random() < 0.01 else [1, 1, 1, 1, 2, 3])
     return rounds, workers
 
 
@@ -157,7 +158,10 @@ def with_damaged_tables(chance, text):
 
 def damaged_config(chance, text):
     way = chance.random()
-    if way < 0.5:
+    if way < 0.2:
+        for _ in range(chance.choice([1, 1, 2, 3])):
+            text = damage_configs.aimed(chance, text)
+    if 0.15 < way < 0.5:
         text = with_damaged_tables(chance, text)
     if 0.45 < way < 0.75:
         text = damage_documents.written_otherwise(chance, text)
@@ -180,8 +184,7 @@ def of_trace(chance, one):
 
 def of_input(chance, one):
     """Standard input as a whole, and above all the mark in it."""
-    mark = chance.choice([b"%%\n", b"%%\r\n", b"%%", b"%%\n%%\n", b" %%\n", b"%% \n", b"%\n", b"", b"\n%%\n", b"%%%\n", b"# %%\n"])
-    text = one.config.encode() + mark + one.trace
+    text = one.config.encode() + chance.choice(MARKS) + one.trace
     if chance.random() < 0.7:
         text = damage_bytes.damaged(chance, text)
     return piped(text, *numbers(chance, one))
@@ -252,7 +255,7 @@ def input_of(number, kind=None):
 
 def has_activity(one):
     """Whether a program that doesn't know flows of type 5 may tell otherwise of an input."""
-    signs = {"input": (b"type = 5", b"units,kind"), "config": (b"type = 5",), "trace": (b"kind",), "report": (b"ad,", b"A,")}
+    signs = {"input": (b"type = 5", b"kind"), "config": (b"type = 5",), "trace": (b"kind",), "report": (b"ad,", b"A,")}
     return any(sign in text for name, text in one.files.items() for sign in signs.get(name, ()))
 
 
@@ -304,7 +307,13 @@ def compare(first, last, given, folder):
     """Compares inputs: the counts, and a line for each that differs."""
     counts, lines = collections.Counter(), []
     for number in range(first, last):
-        kind, one = input_of(number, given.kind)
+        try:
+            kind, one = input_of(number, given.kind)
+        # no input may stop the second program
+        except Exception as fault:
+            counts["DIFFER", ""] += 1
+            lines.append(f"ERROR {number} {fault!r}")
+            continue
         if given.without_activity and has_activity(one):
             counts["passed over", ""] += 1
             continue

@@ -3,10 +3,10 @@ import string
 
 BYTE_ORDER_MARK = b"\xef\xbb\xbf"
 # what texts of one of our formats have of their own, or may not have at all
-PIECES = [b"", b"\0", b"\xff", b"\xc3\x28", b"\xed\xa0\x80", b"\x7f", BYTE_ORDER_MARK, b" ", b"\t", b"\r", b"\n", b"\r\n",
-          b"%%\n", b"%%", b"%%\r\n", b"\n%%\n", b'"', b'""', b'"""', b"'", b"'''", b"#", b",", b".", b"=", b"[", b"]", b"{",
-          b"}", b"[[", b"]]", b"-", b"+", b"_", b"0", b"9", b"1e5", b"0x", b"\\", b"\\e", b"\\x41", b"\\u0041", b"inf",
-          b"true", "\u00b2".encode(), "\u0663".encode(), b"99999999999999999999", b"#\n", b",\n"]
+PIECES = [b"", b"\0", b"\xff", b"\xc3\x28", b"\xed\xa0\x80", b"\x7f", BYTE_ORDER_MARK, b" ", b"\t", b"\r", b"\n",
+          b"\r\n", b"%%\n", b"%%", b"%%\r\n", b"\n%%\n", b'"', b'""', b'"""', b"'", b"'''", b"#", b",", b".", b"=",
+          b"[", b"]", b"{", b"}", b"[[", b"]]", b"-", b"+", b"_", b"0", b"9", b"1e5", b"0x", b"\\", b"\\e", b"\\x41",
+          b"\\u0041", b"inf", b"true", "\u00b2".encode(), "\u0663".encode(), b"99999999999999999999", b"#\n", b",\n"]
 
 
 def byte_changed(chance, text):
@@ -86,7 +86,8 @@ def emptied(_chance, _text):
     return b""
 
 
-DAMAGES = 3 * [byte_changed, byte_changed, cut, slice_dropped, slice_doubled, piece_added, piece_added, piece_written_over]
+DAMAGES = 3 * [byte_changed, byte_changed, cut, slice_dropped, slice_doubled, piece_added, piece_added,
+               piece_written_over]
 DAMAGES += 2 * [line_doubled, line_dropped, lines_swapped, other_line_ends] + [beheaded, emptied]
 
 

@@ -4,9 +4,10 @@ of the configuration all_types of those cases, and the answer of the plain reade
 
 Damage is a number near some limit or from another place, a value of another kind, a key dropped, added or doubled,
 a list with an item more or less, two values swapped, or a table copied; up to four of these at once. No damage is a
-document that is read in one version of TOML alone. Answers come in like shares, as far as there are such lines.
+document that is read in one version of TOML alone; bench/damage_documents.py has such. Answers come in like shares, as
+far as there are such lines.
 
-usage: bench/damage.py SEED COUNT
+usage: bench/damage_configs.py SEED COUNT
 """
 import json
 import random
@@ -30,6 +31,25 @@ LIMITS = [1, 2, 4, 6, 7, 15, 16, 64, 100, 127, 160, 223, 253, 255, 256, 320, 640
 LIMITS += [20_000, 40_000, 65_535, 65_536, 10_000_000, 16_777_216, 1_000_000_000, 2**32, 2**63]
 OTHER_KINDS = ["1.0", "'1'", "[1]", "{}", "true", "2000-01-01", "[[1]]", "[]"]
 KEYS = ["other", "priority", "start_us", "grant_bytes", "sid", "id", "max_minislots", "channel", "min_rate"]
+# keys of rules that look at more than one, and values that may break one
+AIMS = {
+    "id": [1, 2],
+    "channel": [1, 2, 10, 20],
+    "channels": ["[1]", "[2]", "[1, 2]", "[2, 1]", "[1, 1]", "[10, 20]", "[9]", "[]"],
+    "clusters": ["[[1]]", "[[291]]", "[[1, 2]]", "[[1], [1]]", "[[1], [2]]", "[[1, 2], [2, 1]]", "[[1], []]", "[[]]", "[]"],
+    "round_ticks": [1, 2, 4, 128, 319, 321, 4_096],
+    "minislot_log2": [0, 6, 7],
+    "contention_minislots": [1, 160, 320, 4_096],
+    "maintenance_minislots": [1, 160, 320, 4_096],
+    "request_minislots": [1, 63, 64],
+    "station_minislots": [1, 63, 64],
+    "grant_bytes": [1, 1_000, 10_000, 65_535],
+    "jitter_us": [99, 100, 101, 999_999, 10_000_000],
+    "interval_us": [100, 101, 1_000, 20_000],
+    "rate": [0, 1, 2, 1_280_000],
+    "min_rate": [1, 2, 1_280_001, 1_000_000_000],
+    "headers": ["false"],
+}
 # a key of a table and its value: a list, or a word or number
 PAIR = re.compile(r"\b(\w+) = (\[.*\]|[\w.-]+)")
 
@@ -115,6 +135,16 @@ def copied(chance, text):
     header, table = text[start:].split("\n\n", 1)[0].rstrip("\n").split("\n", 1)
     table = re.sub(r"\d+", chance.choice(["77", r"\g<0>"]), table, count=1)
     return [change(text, start, start + len(header), f"{header}\n{table}\n{header}")]
+
+
+def aimed(chance, text):
+    """A text with a key of a rule that looks at more than one at another value."""
+    pairs = [pair for pair in PAIR.finditer(text) if pair.group(1) in AIMS]
+    if not pairs:
+        return text
+    key = chance.choice(sorted({pair.group(1) for pair in pairs}))
+    pair = chance.choice([pair for pair in pairs if pair.group(1) == key])
+    return text[: pair.start(2)] + str(chance.choice(AIMS[pair.group(1)])) + text[pair.end(2) :]
 
 
 # numbers are damaged as often as all else

@@ -1,25 +1,31 @@
-"""Writes a document of TOML otherwise: the same one in another spelling, or one that is none by a little. Numbers in other
-bases and past their bits, keys in quotes and in parts, tables in braces over lines, headers, much inside one another."""
+"""Writes a document of TOML otherwise: the same one in another spelling, or one that is none by a little.
+
+Numbers in other bases and past their bits, keys in quotes and in parts, tables in braces over lines, headers, and much
+inside one another.
+"""
 import re
 
 # a key of a table and its value, where the value is a list, a word or a number
 PAIR = re.compile(r"\b(\w+) = (\[.*\]|[\w.-]+)")
 NUMBER = re.compile(r"\b[0-9]+\b")
 TABLE = re.compile(r"\{.*\}")
+HEADER = re.compile(r"\[\[(\w+)\]\]")
 DEPTHS = [1, 2, 10, 77, 78, 79, 80, 81, 82, 83, 100, 400, 3_000]
 GREAT_NUMBERS = ["9223372036854775807", "9223372036854775808", "-9223372036854775808", "-9223372036854775809",
-                 "18446744073709551616", "0x7fffffffffffffff", "0x8000000000000000", "1e308", "1e309", "-1e400", "1e-400",
-                 "9" * 40, "9" * 5_000, "inf", "-nan", "+inf", "0o777777777777777777777", "0b" + "1" * 64]
+                 "18446744073709551616", "0x7fffffffffffffff", "0x8000000000000000", "1e308", "1e309", "-1e400",
+                 "1e-400", "9" * 40, "9" * 5_000, "inf", "-nan", "+inf", "0o777777777777777777777", "0b" + "1" * 64]
 VALUES = ["2000-01-01", "2000-02-30", "2000-01-01T12:30:00Z", "2000-01-01 12:30", "2000-01-01T12:30+01:00", "12:30",
-          "12:30:00", "12:30.5", "12:60", "12:30:60", "24:00", "0000-01-01", '"text"', "'text'", '"""a\nb"""', "'''a\nb'''",
-          '"\\x41\\e"', '"\\x4"', '"\\u0041"', '"\\ud800"', '"\\U00110000"', '"\\q"', '""', "[1, 2,]", "[,]", "[1,,2]",
-          "{ a = 1, }", "{ , }", "{ a = 1,, b = 2 }", "{\n a = 1 }", "{ a\n = 1 }", "{ a = 1\n, # it\n b = 2,\n}", "{ a.b = 1 }",
-          "{ a = 1, a = 2 }", "{ a.b = 1, a = 2 }", "{ a = { b = 1 }, a.c = 2 }", "[{ a = 1 }, { a = 2 }]", "True", "",
-          "[1 2]", "1 2", "_1", "1_", "1__2", "01", "+01", "1.", ".5", "1.5", "1e5", "1_0.0_1", "0X1", "0xg", "0b2", "+0x1"]
-LINES = ["[channel]", "[flow]", "[[channel]]", "[[flow]]", "[[station]]", "[channel.long]", "[[channel.long]]", "[flow.a]",
-         "[[flow.a]]", "[a]", "[a.b]", "[[a]]", "[ a . b ]", "[a", "[]", "[[]]", "[a]]", "[[a] ]", "a.b = 1", "a = 1", "a.b.c = 1",
-         "a", "= 1", '"" = 1', "'a b' = 1", '"a\\tb" = 1', '"""a""" = 1', "a b = 1", "a . b = 1", "a..b = 1", "\u00e9 = 1",
-         "# a comment", "#", "# \u00e9", "# \x01", "\t", "id = 1", "long.bits = 4", "flow = []", "station = [{}]", "channel.id = 1"]
+          "12:30:00", "12:30.5", "12:60", "12:30:60", "24:00", "0000-01-01", '"text"', "'text'", '"""a\nb"""',
+          "'''a\nb'''", '"\\x41\\e"', '"\\x4"', '"\\u0041"', '"\\ud800"', '"\\U00110000"', '"\\q"', '""', "[1, 2,]",
+          "[,]", "[1,,2]", "{ a = 1, }", "{ , }", "{ a = 1,, b = 2 }", "{\n a = 1 }", "{ a\n = 1 }",
+          "{ a = 1\n, # it\n b = 2,\n}", "{ a.b = 1 }", "{ a = 1, a = 2 }", "{ a.b = 1, a = 2 }",
+          "{ a = { b = 1 }, a.c = 2 }", "[{ a = 1 }, { a = 2 }]", "True", "", "[1 2]", "1 2", "_1", "1_", "1__2", "01",
+          "+01", "1.", ".5", "1.5", "1e5", "1_0.0_1", "0X1", "0xg", "0b2", "+0x1"]
+LINES = ["[channel]", "[flow]", "[[channel]]", "[[flow]]", "[[station]]", "[channel.long]", "[[channel.long]]",
+         "[flow.a]", "[[flow.a]]", "[a]", "[a.b]", "[[a]]", "[ a . b ]", "[a", "[]", "[[]]", "[a]]", "[[a] ]",
+         "a.b = 1", "a = 1", "a.b.c = 1", "a", "= 1", '"" = 1', "'a b' = 1", '"a\\tb" = 1', '"""a""" = 1', "a b = 1",
+         "a . b = 1", "a..b = 1", "\u00e9 = 1", "# a comment", "#", "# \u00e9", "# \x01", "\t", "id = 1",
+         "long.bits = 4", "flow = []", "station = [{}]", "channel.id = 1"]
 
 
 def with_match(chance, text, pattern, change):
@@ -34,8 +40,9 @@ def with_match(chance, text, pattern, change):
 def other_base(chance, text):
     def change(found):
         number = int(found.group())
-        forms = [f"{number:#x}", f"{number:#X}", f"{number:#o}", f"{number:#b}", f"{number:_}", f"+{number}", f"-{number}",
-                 f"0{number}", f"{number}.0", f"{number}e0", f"0x{number:08x}", f"0x{number:x}_0", f"0x_{number:x}", f"{number}_"]
+        forms = [f"{number:#x}", f"{number:#X}", f"{number:#o}", f"{number:#b}", f"{number:_}", f"+{number}",
+                 f"-{number}", f"0{number}", f"{number}.0", f"{number}e0", f"0x{number:08x}", f"0x{number:x}_0",
+                 f"0x_{number:x}", f"{number}_"]
         return chance.choice(forms)
 
     return with_match(chance, text, NUMBER, change)
@@ -69,7 +76,8 @@ def table_over_lines(chance, text):
             if chance.random() < (0.8 if old == ", " else 0.1):
                 inside = inside.replace(old, chance.choice(new), chance.choice([1, -1]))
         end = chance.choice(["", ",", ",\n", "\n", ", # it\n", ",,", " ,\n ", " # \x01\n", "\r"])
-        return chance.choice(["{ ", "{\n", "{", "{ # it\n", "{,"]) + inside + end + chance.choice(["}", "}", "}", " }", ""])
+        start = chance.choice(["{ ", "{\n", "{", "{ # it\n", "{,"])
+        return start + inside + end + chance.choice(["}", "}", "}", " }", ""])
 
     return with_match(chance, text, TABLE, change)
 
@@ -115,10 +123,12 @@ def table_moved(chance, text):
 
 
 def header_changed(chance, text):
-    headers = re.compile(r"\[\[(\w+)\]\]")
-    return with_match(chance, text, headers, lambda found: chance.choice(
-        [f"[{found.group(1)}]", f"[[ {found.group(1)} ]]", f"[['{found.group(1)}']]", f"[[{found.group(1)}.a]]",
-         f"[[{found.group(1)}]", f"[ [{found.group(1)}]]", f"{found.group()} # it", f"{found.group()} 1", f"{found.group(1)} = []"]))
+    def change(found):
+        name = found.group(1)
+        return chance.choice([f"[{name}]", f"[[ {name} ]]", f"[['{name}']]", f"[[{name}.a]]", f"[[{name}]", f"[ [{name}]]",
+                              f"[[{name}]] # it", f"[[{name}]] 1", f"{name} = []"])
+
+    return with_match(chance, text, HEADER, change)
 
 
 WAYS = [other_base, other_base, great_number, other_value, other_value, other_key, table_over_lines, table_over_lines,

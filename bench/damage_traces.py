@@ -3,10 +3,11 @@ too few, quotes, blank lines, headers of another version."""
 import damage_bytes
 
 HEADERS = [b"tick,channel,sid,units", b"tick,channel,sid,units,kind"]
-LIMITS = [0, 1, 2, 3, 9, 10, 160, 254, 255, 256, 319, 320, 321, 640, 15_871, 16_383, 16_384, 65_535, 65_536, 999_999_999]
+LIMITS = [0, 1, 2, 3, 9, 10, 160, 254, 255, 256, 319, 320, 321, 640, 15_871, 16_383, 16_384, 65_535, 65_536,
+          999_999_999]
 LIMITS += [2**31, 4_294_967_295, 4_294_967_296, 9_999_999_999, 10_000_000_000, 2**63, 2**64, 10**30]
-BAD_FIELDS = [b"", b" ", b"x", b"-1", b"+1", b"1.0", b"0x1", b"1e3", b"1_0", b"\xff", b"\xc3\xa9", "\u0661".encode(), b"\0",
-              b"1 ", b" 1", b"1\t", b"#", b"''"]
+BAD_FIELDS = [b"", b" ", b"x", b"-1", b"+1", b"1.0", b"0x1", b"1e3", b"1_0", b"\xff", b"\xc3\xa9", "\u0661".encode(),
+              b"\0", b"1 ", b" 1", b"1\t", b"#", b"''"]
 BAD_HEADERS = [b"tick,channel,sid", b"tick,channel,sid,unit", b"Tick,channel,sid,units", b"tick,channel,sid,units,",
                b"tick,channel,sid,units,kinds", b"tick, channel,sid,units", b"tick;channel;sid;units", b"",
                b"sid,channel,tick,units", b"tick,channel,sid,units,kind,kind", b"\xef\xbb\xbftick,channel,sid,units"]
@@ -87,7 +88,8 @@ def field_quoted(chance, rows):
 
 def end_changed(chance, rows):
     at = rows.place(chance)
-    rows.ends[at] = chance.choice([b"\r\n", b"\r", b"\n\n", b"\r\n\r\n", b"\n\r", b"\n \n", b'\n""\n', b"\n,\n", b"", b" \n"])
+    rows.ends[at] = chance.choice([b"\r\n", b"\r", b"\n\n", b"\r\n\r\n", b"\n\r", b"\n \n", b'\n""\n', b"\n,\n", b"",
+                                   b" \n"])
 
 
 def all_ends_changed(chance, rows):

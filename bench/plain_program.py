@@ -4,9 +4,9 @@ plain_checker.py: the same words, and the same lines, files and statuses.
 
   bench/plain_program.py [replay|check|dump|pipe] [OPTION..]
 
-Help, and what is said of words that are none, are Python's, and no fault of a full device is told. Else
-`tools/run-cases --program bench/plain_program.py` finds that it does what the stored cases say. bench/compare_programs.py
-compares it with mapsim.
+Help, and what is said of words that are none, are Python's, and no fault of a full device is told. But for these
+`tools/run-cases --program bench/plain_program.py` finds that it does what the stored cases say, in some ten minutes.
+bench/compare_programs.py compares it with mapsim.
 """
 import argparse
 import os

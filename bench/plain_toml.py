@@ -1,8 +1,8 @@
 """Documents of TOML 1.1, by Python's reader of TOML 1.0.
 
-What only 1.1 allows is first written as 1.0 has it: inside the braces of a table line feeds, comments and a last comma;
-the escapes \\e and \\xHH; times without seconds. So are a leap second and the year 0, of which Python has none. Beyond the
-grammar a number has limits, and so has what stands inside one another.
+What only 1.1 allows is first written as 1.0 has it: inside the braces of a table line feeds, comments and a last
+comma; the escapes \\e and \\xHH; times without seconds. So are a leap second and the year 0, of which Python has none.
+Beyond the grammar a number has limits, and so has what stands inside one another.
 """
 import math
 import re
@@ -89,7 +89,7 @@ def older(text):
 
 
 def is_too_deep(text):
-    """Whether too much stands inside one another in a document, or a key has too many parts."""
+    """Whether too much stands inside one another in a text, or a key has too many parts, if it is a document."""
     if text.count("[") + text.count("{") <= MOST_DEPTH and text.count(".") < MOST_PARTS:
         return False
     depth = deepest = dots = most_dots = 0
@@ -132,9 +132,10 @@ def loads(text):
 def document_of(text):
     """The document that a text spells, or None."""
     text = text.replace("\r\n", "\n")
+    # before it is read, as Python takes long for much inside one another
+    if is_too_deep(text):
+        return None
     document = loads(text)
     if document is None and NEWER.search(text):
         document = loads(older(text))
-    if document is None or is_too_deep(text) or has_long_number(document):
-        return None
-    return document
+    return None if document is None or has_long_number(document) else document

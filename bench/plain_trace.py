@@ -1,4 +1,4 @@
-"""A plain second reader of traces, from the rules alone (docs/FORMATS.md). The fields are as Python's `csv` splits them."""
+"""A plain second reader of traces, from the rules alone (docs/FORMATS.md). Python's `csv` splits records into fields."""
 import csv
 import io
 import re
