@@ -11,8 +11,8 @@ maps files, reports and whole runs, in status, both streams and files.
 
 An input is made of its number alone, whatever else is asked for but a kind. Where the two answers differ, a line names
 the number, and what was run is left in a folder `programs-NUMBER` of the system's folder for temporary files. The last
-lines count the answers of the second program by kind: `ok`, what `check` prints, or the code of a fault; and behind them
-inputs, differences and inputs passed over. Status 0: no answers differed; 1: some did.
+lines count the answers of the second program by kind: `ok`, what `check` prints, or the code of a fault; and behind
+them inputs, differences and inputs passed over. Status 0: no answers differed; 1: some did.
 """
 import argparse
 import collections
@@ -22,6 +22,7 @@ import multiprocessing
 import os
 import pathlib
 import random
+import re
 import signal
 import sys
 import tempfile
@@ -51,7 +52,13 @@ MOST_CONFIG_BYTES = 4_000
 MOST_OCCURRENCES = 300
 MOST_ROWS = 40
 TOO_MANY_ROUNDS = [plain_program.MOST_RUN_TICKS + 1, plain_program.GREATEST_WORD]
+FILES = ["config", "trace", "maps", "report"]
 MARKS = 4 * [b"%%\n"] + [b"%%\r\n", b"%%", b"%%\n%%\n", b" %%\n", b"%% \n", b"%\n", b"", b"\n%%\n", b"%%%\n", b"# %%\n"]
+OF_TYPE_5 = rb"type\W*\w*(5|101)"
+OF_ACTIVITY = {
+    "input": re.compile(OF_TYPE_5 + rb"|kind"), "config": re.compile(OF_TYPE_5), "trace": re.compile(rb"kind"),
+    "report": re.compile(rb"ad,|A,"),
+}
 SECONDS = 120
 # inputs that a process makes before it tells of them
 CHUNK = 250
@@ -255,16 +262,15 @@ def input_of(number, kind=None):
 
 def has_activity(one):
     """Whether a program that doesn't know flows of type 5 may tell otherwise of an input."""
-    signs = {"input": (b"type = 5", b"kind"), "config": (b"type = 5",), "trace": (b"kind",), "report": (b"ad,", b"A,")}
-    return any(sign in text for name, text in one.files.items() for sign in signs.get(name, ()))
+    return any(OF_ACTIVITY[name].search(text) for name, text in one.files.items() if name in OF_ACTIVITY)
 
 
 # The program
 
 
 def found_of(one, program, folder):
-    """What the program does with an input in a folder."""
-    for name in "maps", "report":
+    """What the program does with an input in a folder: its status, both streams, and the files that stand afterwards."""
+    for name in FILES:
         (folder / name).unlink(missing_ok=True)
     for name, text in {"input": b"", **one.files}.items():
         (folder / name).write_bytes(text)
@@ -278,8 +284,13 @@ def found_of(one, program, folder):
     status = os.waitstatus_to_exitcode(os.waitpid(started, 0)[1])
     signal.alarm(0)
     output, error = ((folder / name).read_bytes() for name in ("output", "error"))
-    written = [name for name in ("maps", "report") if name not in one.files and (folder / name).exists()]
-    return status, output, error, {name: (folder / name).read_bytes() for name in written}
+    return status, output, error, {name: (folder / name).read_bytes() for name in FILES if (folder / name).exists()}
+
+
+def wanted_of(one):
+    """The same of the second program. What it doesn't write stays as it was."""
+    files = {name: text for name, text in one.files.items() if name in FILES}
+    return one.answer.status, one.answer.output.encode(), one.answer.error.encode(), files | one.answer.files
 
 
 def word_of(answer):
@@ -297,10 +308,9 @@ def keep(number, one, found, folder):
     (kept / "words").write_text(" ".join(one.words) + "\n")
     for name, text in one.files.items():
         (kept / name).write_bytes(text)
-    wanted = (one.answer.status, one.answer.output.encode(), one.answer.error.encode(), one.answer.files)
-    parts = [f"{name} {str(mine)[:SHOWN]} plain {str(other)[:SHOWN]}" for name, mine, other in
-             zip(("status", "output", "error", "files"), found, wanted) if mine != other]
-    return " | ".join(parts)
+    both = zip(("status", "output", "error", "files"), found, wanted_of(one))
+    return " | ".join(f"{name} {str(mine)[:SHOWN]} plain {str(other)[:SHOWN]}" for name, mine, other in both
+                      if mine != other)
 
 
 def compare(first, last, given, folder):
@@ -319,8 +329,7 @@ def compare(first, last, given, folder):
             continue
         found = found_of(one, given.program, folder)
         counts[kind, word_of(one.answer)] += 1
-        answer = one.answer
-        if found != (answer.status, answer.output.encode(), answer.error.encode(), answer.files):
+        if found != wanted_of(one):
             counts["DIFFER", ""] += 1
             lines.append(f"DIFFER {number} {kind} {keep(number, one, found, folder)}")
     return counts, lines

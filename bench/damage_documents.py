@@ -125,8 +125,8 @@ def table_moved(chance, text):
 def header_changed(chance, text):
     def change(found):
         name = found.group(1)
-        return chance.choice([f"[{name}]", f"[[ {name} ]]", f"[['{name}']]", f"[[{name}.a]]", f"[[{name}]", f"[ [{name}]]",
-                              f"[[{name}]] # it", f"[[{name}]] 1", f"{name} = []"])
+        return chance.choice([f"[{name}]", f"[[ {name} ]]", f"[['{name}']]", f"[[{name}.a]]", f"[[{name}]",
+                              f"[ [{name}]]", f"[[{name}]] # it", f"[[{name}]] 1", f"{name} = []"])
 
     return with_match(chance, text, HEADER, change)
 

@@ -216,8 +216,8 @@ def plan(table, r, by_id, boards, turns, outstanding, units, reserve_units, seen
     return planned
 
 def requests(table, rows, rounds):
-    """What the rows of a trace ask for: bytes by round and turn, a flow's place and a cluster; marks by round and flow, which are
-    1 for silent and 2 for active; and how many of its rows are unknown, not requestable and late."""
+    """What the rows of a trace ask for: bytes by round and turn, a flow's place and a cluster; marks by round and flow,
+    which are 1 for silent and 2 for active; and how many rows are unknown, not requestable and late."""
     P, L = table["round_ticks"], table["lead_ticks"]
     flows = table.get("flow", [])
     sids = {}  # a flow and a cluster

@@ -1,4 +1,4 @@
-"""A plain second reader of traces, from the rules alone (docs/FORMATS.md). Python's `csv` splits records into fields."""
+"""A plain second reader of traces, from the rules alone (docs/FORMATS.md). Python's `csv` splits records."""
 import csv
 import io
 import re
