@@ -269,7 +269,7 @@ def has_activity(one):
 
 
 def found_of(one, program, folder):
-    """What the program does with an input in a folder: its status, both streams, and the files that stand afterwards."""
+    """What the program does with an input in a folder: its status, both streams, and the files that stand then."""
     for name in FILES:
         (folder / name).unlink(missing_ok=True)
     for name, text in {"input": b"", **one.files}.items():
