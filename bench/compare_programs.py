@@ -17,7 +17,6 @@ them inputs, differences and inputs passed over. Status 0: no answers differed; 
 import argparse
 import collections
 import functools
-import itertools
 import multiprocessing
 import os
 import pathlib

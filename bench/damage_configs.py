@@ -31,24 +31,28 @@ LIMITS = [1, 2, 4, 6, 7, 15, 16, 64, 100, 127, 160, 223, 253, 255, 256, 320, 640
 LIMITS += [20_000, 40_000, 65_535, 65_536, 10_000_000, 16_777_216, 1_000_000_000, 2**32, 2**63]
 OTHER_KINDS = ["1.0", "'1'", "[1]", "{}", "true", "2000-01-01", "[[1]]", "[]"]
 KEYS = ["other", "priority", "start_us", "grant_bytes", "sid", "id", "max_minislots", "channel", "min_rate"]
-# keys of rules that look at more than one, and values that may break one
+# values at which a rule of a key, or of several, holds last or first fails
 AIMS = {
-    "id": [1, 2],
-    "channel": [1, 2, 10, 20],
-    "channels": ["[1]", "[2]", "[1, 2]", "[2, 1]", "[1, 1]", "[10, 20]", "[9]", "[]"],
-    "clusters": ["[[1]]", "[[291]]", "[[1, 2]]", "[[1], [1]]", "[[1], [2]]", "[[1, 2], [2, 1]]", "[[1], []]", "[]"],
-    "round_ticks": [1, 2, 4, 128, 319, 321, 4_096],
-    "minislot_log2": [0, 6, 7],
-    "contention_minislots": [1, 160, 320, 4_096],
-    "maintenance_minislots": [1, 160, 320, 4_096],
-    "request_minislots": [1, 63, 64],
-    "station_minislots": [1, 63, 64],
-    "grant_bytes": [1, 1_000, 10_000, 65_535],
-    "jitter_us": [99, 100, 101, 999_999, 10_000_000],
-    "interval_us": [100, 101, 1_000, 20_000],
-    "rate": [0, 1, 2, 1_280_000],
-    "min_rate": [1, 2, 1_280_001, 1_000_000_000],
-    "headers": ["false"],
+    "round_ticks": [0, 1, 2, 4, 128, 319, 321, 4_096, 4_097], "lead_ticks": [0, 1, 65_536, 65_537],
+    "id": [0, 1, 2, 255, 256, 65_535, 65_536], "type": [1, 2, 3, 4, 5, 6, 7], "priority": [-1, 0, 7, 8],
+    "minislot_log2": [-1, 0, 6, 7, 8], "rate_log2": [-1, 0, 5, 6], "ucd_count": [-1, 0, 255, 256],
+    "ranging_backoff": ["[0, 15]", "[15, 0]", "[16, 0]", "[0, 16]", "[-1, 0]", "[0]", "[0, 0, 0]"],
+    "data_backoff": ["[0, 15]", "[15, 0]", "[16, 0]", "[0, 16]", "[0, -1]", "[]", "[0, 0, 0]"],
+    "request_minislots": [0, 1, 63, 64, 65], "station_minislots": [0, 1, 63, 64, 65],
+    "contention_minislots": [-1, 0, 160, 161, 320, 321, 4_096, 4_097],
+    "maintenance_minislots": [-1, 0, 160, 161, 320, 321, 4_096, 4_097], "maintenance_every": [0, 1, 65_536, 65_537],
+    "bits": [1, 2, 6, 7], "preamble": [-1, 0, 1_024, 1_025], "guard": [-1, 0, 255, 256], "fec_t": [-1, 0, 1, 16, 17],
+    "fec_k": [15, 16, 223, 224, 253, 254], "max_minislots": [0, 1, 255, 256], "shortened": ["true", "false"],
+    "channel": [0, 1, 2, 10, 20, 255, 256], "sid": [0, 1, 15_871, 15_872],
+    "channels": ["[1]", "[2]", "[1, 2]", "[2, 1]", "[1, 1]", "[10, 20]", "[9]", "[0]", "[255]", "[256]", "[]"],
+    "clusters": ["[[0]]", "[[1]]", "[[291]]", "[[15871]]", "[[15872]]", "[[1, 2]]", "[[1], [1]]", "[[1], [2]]",
+                 "[[1, 2], [2, 1]]", "[[1, 2], [1, 3]]", "[[1], []]", "[[1], [2], [3]]", "[]"],
+    "rate": [-1, 0, 1, 2, 1_280_000, 1_000_000_000, 1_000_000_001], "burst": [0, 1, 16_777_216, 16_777_217],
+    "min_rate": [-1, 0, 1, 2, 1_280_001, 1_000_000_000, 1_000_000_001], "unit": [0, 1, 2, 3, 4, 8, 16, 32],
+    "headers": ["true", "false", "false"], "start_us": [-1, 0, 10_000_000, 10_000_001],
+    "interval_us": [99, 100, 101, 1_000, 20_000, 10_000_000, 10_000_001],
+    "jitter_us": [-1, 0, 99, 100, 101, 999, 1_000, 9_999_999, 10_000_000, 10_000_001],
+    "grant_bytes": [0, 1, 1_000, 10_000, 65_535, 65_536], "grants_per_interval": [0, 1, 127, 128],
 }
 # a key of a table and its value: a list, or a word or number
 PAIR = re.compile(r"\b(\w+) = (\[.*\]|[\w.-]+)")
@@ -138,7 +142,7 @@ def copied(chance, text):
 
 
 def aimed(chance, text):
-    """A text with a key of a rule that looks at more than one at another value."""
+    """A text with a key at a value at which some rule holds last, or first fails."""
     pairs = [pair for pair in PAIR.finditer(text) if pair.group(1) in AIMS]
     if not pairs:
         return text
