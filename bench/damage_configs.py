@@ -142,13 +142,17 @@ def copied(chance, text):
 
 
 def aimed(chance, text):
-    """A text with a key at a value at which some rule holds last, or first fails."""
+    """A text with a key at a value at which some rule holds last, or first fails. That may be another of its table."""
     pairs = [pair for pair in PAIR.finditer(text) if pair.group(1) in AIMS]
     if not pairs:
         return text
     key = chance.choice(sorted({pair.group(1) for pair in pairs}))
     pair = chance.choice([pair for pair in pairs if pair.group(1) == key])
-    return text[: pair.start(2)] + str(chance.choice(AIMS[pair.group(1)])) + text[pair.end(2) :]
+    value = chance.choice(AIMS[key])
+    if pair.group(2).isdigit() and chance.random() < 0.3:
+        table = text[text.rfind("[[", 0, pair.start()) + 1 :].split("[[", 1)[0]
+        value = int(chance.choice(re.findall(r"\b\d+\b", table))) + chance.choice([-1, 0, 0, 1])
+    return text[: pair.start(2)] + str(value) + text[pair.end(2) :]
 
 
 # numbers are damaged as often as all else

@@ -93,12 +93,10 @@ def list_over_lines(chance, text):
 def much_inside(chance, text):
     """Lists, tables or parts of a key inside one another, near how many are read and far past it."""
     depth = chance.choice(DEPTHS)
-    ways = {
-        "[": "[" * depth + chance.choice(["", "1"]) + "]" * depth, "{": "{a=" * depth + "1" + "}" * depth,
-        "[{": "[{a=" * (depth // 2) + "[]" + "}]" * (depth // 2), "open": "[" * depth, "openBraces": "{a=" * depth,
-    }
+    values = ["[" * depth + "]" * depth, "[" * depth + "1" + "]" * depth, "{a=" * depth + "1" + "}" * depth,
+              "[{a=" * (depth // 2) + "[]" + "}]" * (depth // 2), "[" * depth, "{a=" * depth]
     if chance.random() < 0.6:
-        value = chance.choice(list(ways.values()))
+        value = chance.choice(values)
         return with_match(chance, text, PAIR, lambda found: f"{found.group(1)} = {value}")
     key = ".".join(["a"] * depth)
     return line_put(chance, text, chance.choice([f"{key} = 1", f"[{key}]", f"[[{key}]]", f"b = {{ {key} = 1 }}"]))
