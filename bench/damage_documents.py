@@ -5,8 +5,8 @@ inside one another.
 """
 import re
 
-# a key of a table and its value, where the value is a list, a word or a number
-PAIR = re.compile(r"\b(\w+) = (\[.*\]|[\w.-]+)")
+from damage_configs import PAIR
+
 NUMBER = re.compile(r"\b[0-9]+\b")
 TABLE = re.compile(r"\{.*\}")
 HEADER = re.compile(r"\[\[(\w+)\]\]")
