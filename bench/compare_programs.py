@@ -45,7 +45,9 @@ DIFFER, PASSED_OVER = "differences", "passed over"
 
 def has_activity(one):
     """Whether a program that doesn't know flows of type 5 may tell otherwise of an input."""
-    return any(OF_ACTIVITY[name].search(text) for name, text in one.files.items() if name in OF_ACTIVITY)
+    # quotes may stand inside a name
+    texts = [(name, text.replace(b'"', b"")) for name, text in one.files.items() if name in OF_ACTIVITY]
+    return any(OF_ACTIVITY[name].search(text) for name, text in texts)
 
 
 def found_of(one, program, folder):

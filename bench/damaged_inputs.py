@@ -166,7 +166,7 @@ def of_maps(chance, one):
 
 
 def of_schedule(chance, one):
-    rounds = numbers(chance, one)[0]
+    rounds = one.rounds + chance.choice([-1, 1]) if chance.random() < 0.03 else numbers(chance, one)[0]
     maps, report, _names = damage_schedules.damaged(chance, one.config, one.rounds, *one.run)
     return checked(one.config.encode(), one.trace, rounds, maps, report)
 
