@@ -7,7 +7,8 @@ writes FOLDER/maps and FOLDER/report, and prints the names of the changes. bench
 judge such files.
 
 Some changes are of bytes, elements, records or lines alone. Others change a line and its MAP together, or a claim and
-the final line of its cluster, so that a later rule is the first to fail, or none.
+the final line of its cluster, so that a later rule is the first to fail, or none. A maps file alone is damaged so that
+it is none as often as not.
 """
 import argparse
 import pathlib

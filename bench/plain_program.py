@@ -108,7 +108,7 @@ def pipe(text, rounds, workers):
 # The program. What is made and read stands in the order that the faults of files have.
 
 
-def of(name, act, *words):
+def tried(name, act, *words):
     """What is done with a file, or the fault of its name."""
     try:
         return act(*words)
@@ -117,11 +117,11 @@ def of(name, act, *words):
 
 
 def opened(path, name, flags=os.O_RDONLY):
-    return of(name, os.open, path, flags, 0o666)
+    return tried(name, os.open, path, flags, 0o666)
 
 
 def bytes_from(descriptor, name):
-    pieces = iter(lambda: of(name, os.read, descriptor, PIECE_BYTES), b"")
+    pieces = iter(lambda: tried(name, os.read, descriptor, PIECE_BYTES), b"")
     return b"".join(pieces)
 
 
