@@ -12,7 +12,8 @@ maps files, reports and whole runs, in status, both streams and files.
 An input is made of its number alone, whatever else is asked for but a kind. Where the two answers differ, a line names
 the number, and what was run is left in a folder `programs-NUMBER` of the system's folder for temporary files. The last
 lines count the answers of the second program by kind: `ok`, what `check` prints, or the code of a fault; and behind
-them inputs, differences and inputs passed over. Status 0: no answers differed; 1: some did.
+them inputs, differences and inputs passed over. Stopped by hand, it counts what it has compared. Status 0: no answers
+differed; 1: some did.
 """
 import argparse
 import collections
@@ -124,7 +125,27 @@ def compare_chunk(job):
 
 
 def start(folders):
+    # the first process alone is stopped by hand
+    signal.signal(signal.SIGINT, signal.SIG_IGN)
     os.chdir(folders.get())
+
+
+def counted(jobs, processes):
+    """Compares the inputs of all jobs, or as many as come before it is stopped by hand, and prints what differs."""
+    counts, folders = collections.Counter(), multiprocessing.Queue()
+    with tempfile.TemporaryDirectory(prefix="programs-", dir=MEMORY if MEMORY.is_dir() else None) as folder:
+        for number in range(processes):
+            (pathlib.Path(folder) / str(number)).mkdir()
+            folders.put(f"{folder}/{number}")
+        with multiprocessing.Pool(processes, start, [folders]) as pool:
+            try:
+                for found, lines in pool.imap_unordered(compare_chunk, jobs):
+                    counts += found
+                    for line in lines:
+                        print(line, flush=True)
+            except KeyboardInterrupt:
+                print("stopped", flush=True)
+    return counts
 
 
 def told(counts):
@@ -149,18 +170,9 @@ def main():
     words.add_argument("--without-activity", action="store_true")
     given = words.parse_args()
     given.program = given.program.resolve(strict=True)
-    counts, began = collections.Counter(), time.monotonic()
+    began = time.monotonic()
     jobs = [(first, min(first + CHUNK, given.last), given) for first in range(given.first, given.last, CHUNK)]
-    with tempfile.TemporaryDirectory(prefix="programs-", dir=MEMORY if MEMORY.is_dir() else None) as folder:
-        folders = multiprocessing.Queue()
-        for number in range(given.processes):
-            (pathlib.Path(folder) / str(number)).mkdir()
-            folders.put(f"{folder}/{number}")
-        with multiprocessing.Pool(given.processes, start, [folders]) as pool:
-            for found, lines in pool.imap_unordered(compare_chunk, jobs):
-                counts += found
-                for line in lines:
-                    print(line, flush=True)
+    counts = counted(jobs, given.processes)
     print(*told(counts), f"seconds {time.monotonic() - began:.0f}", sep="\n")
     return 1 if counts[DIFFER] else 0
 
