@@ -7,7 +7,7 @@ import re
 
 from damage_configs import PAIR
 
-NUMBER = re.compile(r"\b[0-9]+\b")
+NUMBER = re.compile(r"\b[0-9]{1,40}\b")
 TABLE = re.compile(r"\{.*\}")
 HEADER = re.compile(r"\[\[(\w+)\]\]")
 DEPTHS = [1, 2, 10, 77, 78, 79, 80, 81, 82, 83, 100, 400, 3_000]

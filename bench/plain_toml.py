@@ -132,8 +132,8 @@ def loads(text):
 def document_of(text):
     """The document that a text spells, or None."""
     text = text.replace("\r\n", "\n")
-    # before it is read, as Python takes long for much inside one another
-    if is_too_deep(text):
+    # a carriage return is nothing but a part of a line's end. Python takes long for much inside one another
+    if "\r" in text or is_too_deep(text):
         return None
     document = loads(text)
     if document is None and NEWER.search(text):
