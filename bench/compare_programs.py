@@ -144,6 +144,8 @@ def counted(jobs, processes):
                     for line in lines:
                         print(line, flush=True)
             except KeyboardInterrupt:
+                # so that a second stop doesn't lose the counts
+                signal.signal(signal.SIGINT, signal.SIG_IGN)
                 print("stopped", flush=True)
     return counts
 
