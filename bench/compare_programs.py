@@ -138,15 +138,15 @@ def counted(jobs, processes):
             (pathlib.Path(folder) / str(number)).mkdir()
             folders.put(f"{folder}/{number}")
         with multiprocessing.Pool(processes, start, [folders]) as pool:
-            try:
-                for found, lines in pool.imap_unordered(compare_chunk, jobs):
-                    counts += found
-                    for line in lines:
-                        print(line, flush=True)
-            except KeyboardInterrupt:
-                # so that a second stop doesn't lose the counts
-                signal.signal(signal.SIGINT, signal.SIG_IGN)
-                print("stopped", flush=True)
+            stops = []
+            signal.signal(signal.SIGINT, lambda *_: stops.append(True))
+            for found, lines in pool.imap_unordered(compare_chunk, jobs):
+                counts += found
+                for line in lines:
+                    print(line, flush=True)
+                if stops:
+                    print("stopped", flush=True)
+                    break
     return counts
 
 
