@@ -1,26 +1,18 @@
-#!/usr/bin/env python3
-"""A plain, slow second checker of schedules: it prints what `mapsim check` prints of a maps file and a report.
-
-  bench/plain_checker.py --config F --trace F --rounds N --maps F --report F
+"""A plain, slow second checker of schedules: it tells what `mapsim check` prints of a maps file and a report.
 
 It is written from the rules alone and shares nothing with the crates; so where the two answers differ, one of them is
 wrong. What a burst costs and what a trace asks for is as bench/plain_scheduler.py has it. No rule asks how a round was
 planned, so minimum rates are nothing to it. It looks at every minislot, every occurrence and every span of rounds, so
-the runs should be short. The trace and the number of rounds have to be accepted ones, and the trace without quotes; a refused
-configuration is told as bench/plain_reader.py finds it.
-
-Status 0: `holds`; 1: `broken` and where; 3: a fault, on standard error.
+the runs should be short. bench/plain_program.py is a program of it.
 """
-import argparse
 import collections
-import pathlib
 import re
-import sys
 import tomllib
 from typing import NamedTuple
 
-import plain_reader
+import plain_maps
 import plain_scheduler
+import plain_trace
 
 # In quarter microseconds, as all times are here that come of the configuration's microseconds.
 TICK = 25
@@ -28,10 +20,7 @@ UNITS_PER_BYTE = 1_280_000
 SEGMENT_HEADER = 8
 BROADCAST = 0x3FFF
 NOBODY = 0
-REQUEST, INITIAL_MAINTENANCE, STATION_MAINTENANCE, NULL, UNSOLICITED = 1, 3, 4, 7, 11
-HEAD_BYTES = 16
-MOST_ELEMENTS = 240
-MOST_BACKOFF = 15
+REQUEST, INITIAL_MAINTENANCE, STATION_MAINTENANCE, UNSOLICITED = 1, 3, 4, 11
 
 CALENDAR_WORDS = {b"ugs", b"ad", b"rtp", b"nrtp", b"station"}
 ALL_WORDS = CALENDAR_WORDS | {b"req"}
@@ -169,37 +158,19 @@ class Map(NamedTuple):
 
 
 def map_of(round_number, body):
-    """The MAP that a body spells, or None where it isn't in the grammar."""
-    if len(body) < HEAD_BYTES or len(body) != HEAD_BYTES + 4 * body[2] or body[3] != 0 or body[2] > MOST_ELEMENTS:
+    """The MAP that a body spells, or None where it isn't in the grammar, as where it is cut."""
+    if body is None or plain_maps.fault_of(body):
         return None
-    backoffs = list(body[12:16])
-    if max(backoffs) > MOST_BACKOFF:
-        return None
-    words = [int.from_bytes(body[at : at + 4], "big") for at in range(HEAD_BYTES, len(body), 4)]
-    elements = [(word >> 18, word >> 14 & 0xF, word & 0x3FFF) for word in words]
-    nulls = [at for at, (_sid, iuc, _offset) in enumerate(elements) if iuc == NULL]
-    if len(nulls) != 1 or elements[nulls[0]][0] != NOBODY:
-        return None
-    null = nulls[0]
-    offsets = [offset for _sid, _iuc, offset in elements]
-    length = offsets[null]
-    rise = all(before < after for before, after in zip(offsets[:null], offsets[1 : null + 1]))
-    if offsets[0] != 0 or not rise or any(offset != length for offset in offsets[null:]):
-        return None
-    spans = [Span(offset, end, sid, iuc) for (sid, iuc, offset), end in zip(elements[:null], offsets[1:])]
+    elements = plain_maps.elements_of(body)
+    null = plain_maps.null_of(elements)
+    spans = [Span(one.offset, behind.offset, one.sid, one.iuc) for one, behind in zip(elements[:null], elements[1:])]
     alloc_start, ack = (int.from_bytes(body[at : at + 4], "big") for at in (4, 8))
-    return Map(round_number, body[0], body[1], alloc_start, ack, backoffs, spans, length)
+    return Map(round_number, body[0], body[1], alloc_start, ack, list(body[12:16]), spans, elements[null].offset)
 
 
 def maps_of(text):
     """The MAPs of a maps file, with None for each record that is cut or has a body that isn't in the grammar."""
-    maps, at = [], 0
-    while at < len(text):
-        end = at + 6 + int.from_bytes(text[at + 4 : at + 6], "big")
-        is_cut = len(text) < end
-        maps.append(None if is_cut else map_of(int.from_bytes(text[at : at + 4], "big"), text[at + 6 : end]))
-        at = end
-    return maps
+    return [map_of(round_number, body) for round_number, body in plain_maps.pieces_of(text)]
 
 
 # What is asked of a run
@@ -223,10 +194,10 @@ class Entry(NamedTuple):
 
 
 class Run:
-    """A configuration, a trace and a number of rounds, and what they ask of a schedule."""
+    """A configuration, the rows of a trace and a number of rounds, and what they ask of a schedule."""
 
-    def __init__(self, config_text, trace_text, rounds):
-        self.tables, self.rounds = tomllib.loads(config_text), rounds
+    def __init__(self, tables, rows, rounds):
+        self.tables, self.rounds = tables, rounds
         self.round_ticks, self.lead_ticks = self.tables["round_ticks"], self.tables["lead_ticks"]
         self.channels = [plain_scheduler.Channel(table, self.round_ticks) for table in self.tables["channel"]]
         self.channel_ids = [channel.id for channel in self.channels]
@@ -234,7 +205,7 @@ class Run:
         self.flows = self.tables.get("flow", [])
         self.asking = {flow["id"]: flow for flow in self.flows if flow["type"] not in (5, 6)}
         self.entries = {(entry.word, entry.id): entry for entry in self.all_entries()}
-        cuts, marks, useless = plain_scheduler.requests(self.tables, trace_text, rounds)
+        cuts, marks, useless = plain_scheduler.requests(tables, rows, rounds)
         self.useless = Useless(*useless)
         self.asked = collections.Counter()
         for number, cut in cuts.items():
@@ -552,13 +523,9 @@ RULES = [
 ]
 
 
-def judge(config_text, trace_text, rounds, maps_bytes, report_bytes):
-    """What is answered of these files: `holds`, `broken P3 1 1 150` or `fault CK1 4`."""
-    try:
-        lines = lines_of(report_bytes)
-    except BadLine as bad:
-        return f"fault CK1 {bad}"
-    run, files = Run(config_text, trace_text, rounds), Files(maps_of(maps_bytes), lines)
+def verdict(tables, rows, rounds, maps, lines):
+    """What the rules say of a maps file and the lines of a report: `holds`, or `broken P3 1 1 150`."""
+    run, files = Run(tables, rows, rounds), Files(maps_of(maps), lines)
     for code, parts in RULES:
         for fails in parts:
             first = min(fails(run, files), key=run.order, default=None)
@@ -567,30 +534,20 @@ def judge(config_text, trace_text, rounds, maps_bytes, report_bytes):
     return "holds"
 
 
+def judge(config_text, trace_text, rounds, maps_bytes, report_bytes):
+    """What is answered of these files, of which the configuration and the trace have no fault: `holds`,
+    `broken P3 1 1 150` or `fault CK1 4`."""
+    try:
+        lines = lines_of(report_bytes)
+    except BadLine as bad:
+        return f"fault CK1 {bad}"
+    rows = plain_trace.rows_of(trace_text.encode())
+    return verdict(tomllib.loads(config_text), rows, rounds, maps_bytes, lines)
+
+
 STATUSES = {"holds": 0, "broken": 1, "fault": 3}
 
 
 def status_of(line):
     """The status that goes with an answer."""
     return STATUSES[line.split(" ")[0]]
-
-
-def main():
-    words = argparse.ArgumentParser(description=__doc__, formatter_class=argparse.RawDescriptionHelpFormatter)
-    for name in ("config", "trace", "maps", "report"):
-        words.add_argument(f"--{name}", type=pathlib.Path, required=True, metavar="F")
-    words.add_argument("--rounds", type=int, required=True, metavar="N")
-    given = words.parse_args()
-    config = given.config.read_bytes()
-    refusal = plain_reader.answer(config)
-    if refusal != "ok":
-        line = f"fault {refusal}"
-    else:
-        line = judge(config.decode("utf-8-sig"), given.trace.read_text("ascii"), given.rounds, given.maps.read_bytes(),
-                     given.report.read_bytes())
-    print(line, file=sys.stderr if line.startswith("fault") else sys.stdout)
-    return status_of(line)
-
-
-if __name__ == "__main__":
-    sys.exit(main())

@@ -2,12 +2,13 @@
 """A plain, slow second reader of configurations: it prints `ok`, or the first fault as `C8 channel 0`.
 
 It is written from the rules alone (docs/FORMATS.md), in their order, and shares nothing with the crates; so where the
-two answers differ, one of them is wrong. Python's TOML is version 1.0, so documents that only 1.1 allows are C1 here.
+two answers differ, one of them is wrong.
 
 usage: bench/plain_reader.py < FILE
 """
 import sys
-import tomllib
+
+import plain_toml
 
 MOST_BYTES = 4_194_304
 TYPES = (2, 3, 4, 5, 6)
@@ -15,7 +16,7 @@ GRANTED = (5, 6)  # those that have unsolicited grants, and make no requests
 
 
 class Fault(Exception):
-    """Why a text is no configuration: a code, and the table that it names."""
+    """Why something is refused: a code, and the place that it names."""
 
 
 def refuse_if(is_wrong, code, place):
@@ -190,31 +191,28 @@ def judge(document):
             judge_one(f"{key} {index}", document, tables[:index], found)
 
 
-def has_long_number(value):
-    """Whether a whole number of 65 bits or more stands in a value: no document has one, but Python reads it."""
-    if type(value) is int:
-        return not -(2**63) <= value < 2**63
-    inner = value.values() if table(value) else value if type(value) is list else []
-    return any(map(has_long_number, inner))
-
-
 def document_of(text):
     """The document that the bytes spell."""
-    if len(text) > MOST_BYTES:
-        raise Fault("C1")
     try:
-        document = tomllib.loads(text.decode("utf-8-sig"))
-    except (UnicodeDecodeError, tomllib.TOMLDecodeError):
-        raise Fault("C1") from None
-    if has_long_number(document):
+        document = plain_toml.document_of(text.decode("utf-8-sig")) if len(text) <= MOST_BYTES else None
+    except UnicodeDecodeError:
+        document = None
+    if document is None:
         raise Fault("C1")
+    return document
+
+
+def tables_of(text):
+    """The configuration that the bytes spell, as it stands in the document."""
+    document = document_of(text)
+    judge(document)
     return document
 
 
 def answer(text):
     """What these bytes are answered with: `ok`, or their first fault."""
     try:
-        judge(document_of(text))
+        tables_of(text)
     except Fault as fault:
         return str(fault)
     return "ok"

@@ -1,12 +1,10 @@
-#!/usr/bin/env python3
-"""A second scheduler, from the rules alone.
-  bench/plain_scheduler.py CONFIG TRACE ROUNDS MAPS REPORT   writes the maps file and the report, and prints the summary
-
-It shares nothing with the crates, and is compared with mapsim by bench/compare_schedulers.py."""
+"""A second scheduler, from the rules alone. It shares nothing with the crates, and is compared with mapsim by
+bench/compare_schedulers.py and bench/compare_programs.py."""
 import struct
-import sys
 import tomllib
 from collections import defaultdict
+
+import plain_trace
 
 BYTE = 1280000  # bucket units in a byte
 TICK = 25  # quarter microseconds in a tick
@@ -182,9 +180,9 @@ class Budgets:
             if first + second:
                 self.slots[c] -= self.by_id[c].grant_cost(first + second + h)[0]
                 assert self.slots[c] >= 0
-        return demand, weights, more
+        return more
 
-def plan(table, r, by_id, boards, turns, outstanding, units, reserve_units, notes, seen):
+def plan(table, r, by_id, boards, turns, outstanding, units, reserve_units, seen):
     """The shares of a round, turn by turn: first what minimum rates reserve, then all the rest. Spends the reserves."""
     flows = table.get("flow", [])
     budgets = Budgets(by_id, boards, [units[i] // BYTE if f.get("rate") else None for i, f in enumerate(flows)])
@@ -198,7 +196,7 @@ def plan(table, r, by_id, boards, turns, outstanding, units, reserve_units, note
         most = min(outstanding[fi, ci], reserve_units[fi] // BYTE)
         seen["reserves below what is outstanding"] += 0 < most < outstanding[fi, ci]
         seen["reserves above what is outstanding"] += 0 < outstanding[fi, ci] < reserve_units[fi] // BYTE
-        _, _, reserved[fi, ci] = budgets.share(f, fi, most, reserved[fi, ci], h)
+        reserved[fi, ci] = budgets.share(f, fi, most, reserved[fi, ci], h)
         given = sum(reserved[fi, ci])
         seen["first shares"] += given > 0
         seen["first shares short of what is reserved"] += given < most
@@ -212,16 +210,14 @@ def plan(table, r, by_id, boards, turns, outstanding, units, reserve_units, note
             if first:
                 budgets.slots[c] += by_id[c].grant_cost(first + h)[0]
                 seen["first shares that keep their short cost alone"] += by_id[c].capacity(budgets.slots[c]) - h < first
-        demand, weights, more = budgets.share(f, fi, outstanding[fi, ci] - sum(firsts), firsts, h)
+        more = budgets.share(f, fi, outstanding[fi, ci] - sum(firsts), firsts, h)
         seen["second shares on first ones"] += any(a and b for a, b in zip(firsts, more))
-        if notes is not None and demand + sum(firsts):
-            notes.append((r, f["id"], ci, demand, weights, [a + b for a, b in zip(firsts, more)]))
         planned += [(fi, ci, at, c, a + b) for at, (c, a, b) in enumerate(zip(f["channels"], firsts, more)) if a + b]
     return planned
 
-def requests(table, trace_text, rounds):
-    """What a trace asks for: bytes by round and turn, a flow's place and a cluster; marks by round and flow, which are
-    1 for silent and 2 for active; and how many of its rows are unknown, not requestable and late."""
+def requests(table, rows, rounds):
+    """What the rows of a trace ask for: bytes by round and turn, a flow's place and a cluster; marks by round and flow,
+    which are 1 for silent and 2 for active; and how many rows are unknown, not requestable and late."""
     P, L = table["round_ticks"], table["lead_ticks"]
     flows = table.get("flow", [])
     sids = {}  # a flow and a cluster
@@ -233,10 +229,7 @@ def requests(table, trace_text, rounds):
     cuts = defaultdict(lambda: defaultdict(int))
     marks = defaultdict(lambda: defaultdict(int))
     unknown = not_requestable = late = 0
-    header, *rows = trace_text.splitlines()
-    has_kinds = header == "tick,channel,sid,units,kind"
-    for line in rows:
-        tick, channel, sid, n, kind = map(int, line.split(",") if has_kinds else line.split(",") + [0])
+    for tick, channel, sid, n, kind in rows:
         if (channel, sid) not in sids:
             unknown += 1
             continue
@@ -253,9 +246,13 @@ def requests(table, trace_text, rounds):
             cuts[r][fi, ci] += n * flows[fi]["unit"]
     return cuts, marks, (unknown, not_requestable, late)
 
-def simulate(config_text, trace_text, rounds, notes=None, seen=None):
+def simulate(config_text, trace_text, rounds, seen=None):
+    """The maps file, the report and the summary of a run, of texts that have no fault."""
+    return schedule(tomllib.loads(config_text), plain_trace.rows_of(trace_text.encode()), rounds, seen)
+
+def schedule(table, rows, rounds, seen=None):
+    """The same of the tables of the configuration and the rows of the trace."""
     seen = defaultdict(int) if seen is None else seen
-    table = tomllib.loads(config_text)
     P, L = table["round_ticks"], table["lead_ticks"]
     channels = [Channel(c, P) for c in table["channel"]]
     by_id = {c.id: c for c in channels}
@@ -267,7 +264,7 @@ def simulate(config_text, trace_text, rounds, notes=None, seen=None):
     units = [f["burst"] * BYTE if asks[fi] else 0 for fi, f in enumerate(flows)]
     reserve_units = list(units)
     turns.sort(key=lambda t: (-flows[t[0]]["priority"], flows[t[0]]["id"], t[1]))
-    cuts, marks, (unknown, not_requestable, late) = requests(table, trace_text, rounds)
+    cuts, marks, (unknown, not_requestable, late) = requests(table, rows, rounds)
     is_active = [True] * len(flows)
     listeners = {fi: next(e for e in calendars[f["channels"][0]] if (e.word, e.id) == ("ad", f["id"]))
                  for fi, f in enumerate(flows) if f["type"] == 5}
@@ -296,7 +293,7 @@ def simulate(config_text, trace_text, rounds, notes=None, seen=None):
                 board.put(c.len - c.t["contention_minislots"], c.t["contention_minislots"], 0x3fff, 1)
             for entry in calendars[c.id]:
                 settle(entry, r, c, board, grants[c.id], misses[c.id], seen)
-        planned = plan(table, r, by_id, boards, turns, outstanding, units, reserve_units, notes, seen)
+        planned = plan(table, r, by_id, boards, turns, outstanding, units, reserve_units, seen)
         # place
         credited = defaultdict(int)
         for fi, ci, at, c, share in planned:
@@ -365,27 +362,3 @@ def simulate(config_text, trace_text, rounds, notes=None, seen=None):
     said = (f"rounds {rounds} granted {granted} missed {missed} unknown {unknown} "
             f"not_requestable {not_requestable} late {late}\n")
     return bytes(maps), "".join(report).encode(), said
-
-def dump(maps):
-    out, at = [], 0
-    while at < len(maps):
-        r, n = struct.unpack_from(">IH", maps, at)
-        body = maps[at + 6:at + 6 + n]
-        at += 6 + n
-        elements = [struct.unpack_from(">I", body, 16 + 4 * i)[0] for i in range(body[2])]
-        null = next(i for i, e in enumerate(elements) if e >> 14 & 15 == 7)
-        for i, e in enumerate(elements):
-            length = (elements[i + 1] & 0x3fff) - (e & 0x3fff) if i < null else 0
-            out.append(f"{r} {body[0]} {e & 0x3fff} {length} {e >> 18} {e >> 14 & 15}\n")
-    return "".join(out)
-
-def pipe(config, trace, rounds):
-    maps, report, _ = simulate(config, trace, rounds)
-    return dump(maps) + report.decode()
-
-if __name__ == "__main__":
-    config, trace, rounds, maps, report = sys.argv[1:]
-    a, b, said = simulate(open(config).read(), open(trace).read(), int(rounds))
-    open(maps, "wb").write(a)
-    open(report, "wb").write(b)
-    print(said, end="")

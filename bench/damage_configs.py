@@ -4,9 +4,10 @@ of the configuration four_types of those cases, and the answer of the plain read
 
 Damage is a number near some limit or from another place, a value of another kind, a key dropped, added or doubled,
 a list with an item more or less, two values swapped, or a table copied; up to four of these at once. No damage is a
-document that is read in one version of TOML alone. Answers come in like shares, as far as there are such lines.
+document that is read in one version of TOML alone; bench/damage_documents.py has such. Answers come in like shares, as
+far as there are such lines.
 
-usage: bench/damage.py SEED COUNT
+usage: bench/damage_configs.py SEED COUNT
 """
 import json
 import random
@@ -30,6 +31,29 @@ LIMITS = [1, 2, 4, 6, 7, 15, 16, 64, 100, 127, 160, 223, 253, 255, 256, 320, 640
 LIMITS += [20_000, 40_000, 65_535, 65_536, 10_000_000, 16_777_216, 1_000_000_000, 2**32, 2**63]
 OTHER_KINDS = ["1.0", "'1'", "[1]", "{}", "true", "2000-01-01", "[[1]]", "[]"]
 KEYS = ["other", "priority", "start_us", "grant_bytes", "sid", "id", "max_minislots", "channel", "min_rate"]
+# values at which a rule of a key, or of several, holds last or first fails
+AIMS = {
+    "round_ticks": [0, 1, 2, 4, 128, 319, 321, 4_096, 4_097], "lead_ticks": [0, 1, 65_536, 65_537],
+    "id": [0, 1, 2, 255, 256, 65_535, 65_536], "type": [1, 2, 3, 4, 5, 6, 7], "priority": [-1, 0, 7, 8],
+    "minislot_log2": [-1, 0, 6, 7, 8], "rate_log2": [-1, 0, 5, 6], "ucd_count": [-1, 0, 255, 256],
+    "ranging_backoff": ["[0, 15]", "[15, 0]", "[16, 0]", "[0, 16]", "[-1, 0]", "[0]", "[0, 0, 0]"],
+    "data_backoff": ["[0, 15]", "[15, 0]", "[16, 0]", "[0, 16]", "[0, -1]", "[]", "[0, 0, 0]"],
+    "request_minislots": [0, 1, 63, 64, 65], "station_minislots": [0, 1, 63, 64, 65],
+    "contention_minislots": [-1, 0, 160, 161, 320, 321, 4_096, 4_097],
+    "maintenance_minislots": [-1, 0, 160, 161, 320, 321, 4_096, 4_097], "maintenance_every": [0, 1, 65_536, 65_537],
+    "bits": [1, 2, 6, 7], "preamble": [-1, 0, 1_024, 1_025], "guard": [-1, 0, 255, 256], "fec_t": [-1, 0, 1, 16, 17],
+    "fec_k": [15, 16, 223, 224, 253, 254], "max_minislots": [0, 1, 255, 256], "shortened": ["true", "false"],
+    "channel": [0, 1, 2, 10, 20, 255, 256], "sid": [0, 1, 15_871, 15_872],
+    "channels": ["[1]", "[2]", "[1, 2]", "[2, 1]", "[1, 1]", "[10, 20]", "[9]", "[0]", "[255]", "[256]", "[]"],
+    "clusters": ["[[0]]", "[[1]]", "[[291]]", "[[15871]]", "[[15872]]", "[[1, 2]]", "[[1], [1]]", "[[1], [2]]",
+                 "[[1, 2], [2, 1]]", "[[1, 2], [1, 3]]", "[[1], []]", "[[1], [2], [3]]", "[]"],
+    "rate": [-1, 0, 1, 2, 1_280_000, 1_000_000_000, 1_000_000_001], "burst": [0, 1, 16_777_216, 16_777_217],
+    "min_rate": [-1, 0, 1, 2, 1_280_001, 1_000_000_000, 1_000_000_001], "unit": [0, 1, 2, 3, 4, 8, 16, 32],
+    "headers": ["true", "false", "false"], "start_us": [-1, 0, 10_000_000, 10_000_001],
+    "interval_us": [99, 100, 101, 1_000, 20_000, 10_000_000, 10_000_001],
+    "jitter_us": [-1, 0, 99, 100, 101, 999, 1_000, 9_999_999, 10_000_000, 10_000_001],
+    "grant_bytes": [0, 1, 1_000, 10_000, 65_535, 65_536], "grants_per_interval": [0, 1, 127, 128],
+}
 # a key of a table and its value: a list, or a word or number
 PAIR = re.compile(r"\b(\w+) = (\[.*\]|[\w.-]+)")
 
@@ -115,6 +139,20 @@ def copied(chance, text):
     header, table = text[start:].split("\n\n", 1)[0].rstrip("\n").split("\n", 1)
     table = re.sub(r"\d+", chance.choice(["77", r"\g<0>"]), table, count=1)
     return [change(text, start, start + len(header), f"{header}\n{table}\n{header}")]
+
+
+def aimed(chance, text):
+    """A text with a key at a value at which some rule holds last, or first fails. That may be another of its table."""
+    pairs = [pair for pair in PAIR.finditer(text) if pair.group(1) in AIMS]
+    if not pairs:
+        return text
+    key = chance.choice(sorted({pair.group(1) for pair in pairs}))
+    pair = chance.choice([pair for pair in pairs if pair.group(1) == key])
+    value = chance.choice(AIMS[key])
+    if pair.group(2).isdigit() and chance.random() < 0.3:
+        table = text[text.rfind("[[", 0, pair.start()) + 1 :].split("[[", 1)[0]
+        value = int(chance.choice(re.findall(r"\b\d+\b", table))) + chance.choice([-1, 0, 0, 1])
+    return text[: pair.start(2)] + str(value) + text[pair.end(2) :]
 
 
 # numbers are damaged as often as all else
