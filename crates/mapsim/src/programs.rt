@@ -77,7 +77,30 @@ where
 {
     let helps = Helps::new(rt.alloc())?;
     let order = order_of(rt.alloc(), words, &helps)?;
-    let status = carry_out(rt, &order, input, output)?;
+    obey_order(rt, &order, input, output)
+}
+
+/// Does what is asked for, flushes standard output, and answers how the program ends.
+#[tactic(auto, using(crate::proofs::OrderLemmas::does_kept))]
+fn obey_order<R, I, O>(
+    rt: &R,
+    order: &Order<'_>,
+    input: &mut I,
+    output: &mut O,
+) -> Result<Status, Fault>
+where
+    R: Files + AllocGlobal + Threads + Sync,
+    I: Source,
+    O: Sink,
+    requires input_ready { I.failed input.old ≡ false }
+    requires output_ready { O.failed output.old ≡ false }
+    ensures done { IfOk result
+        (Does order.now (I.remaining input.old) (O.contents output.old) (O.contents output.new)) }
+    ensures stopped { IfErr result (MayEnd order.now (I.remaining input.old)) }
+    ensures input_failed { I.failed input.new ≡ true → result ≡ Err (fault.Device stream.Input) }
+    ensures output_failed { (O.failed output.new ≡ true) ↔ (result ≡ Err (fault.Device stream.Output)) }
+{
+    let status = carry_out(rt, order, input, output)?;
     match output.flush() {
         Ok(()) => Ok(status),
         Err(_) => Err(Fault::Device(Stream::Output)),
