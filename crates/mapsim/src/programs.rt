@@ -1,4 +1,4 @@
-ghost use Rattle.std.specs.Prelude.{◌≡◌, ◌↔◌, ◌<◌, length, true, false, Ok, Err, IfOk, OnOk, IfErr};
+ghost use Rattle.std.specs.Prelude.{◌≡◌, ◌↔◌, ◌⊎◌, ◌<◌, length, true, false, Ok, Err, IfOk, OnOk, IfErr};
 ghost use Rattle.mapsim.specs.Statuses.{status_of};
 ghost use Rattle.mapsim.specs.Printouts.{Prints, Stops};
 ghost use Rattle.mapsim.specs.Orders.{Does, MayEnd, PrintsBroken};
@@ -39,6 +39,8 @@ where
     ensures broken { result ≡ Status.Broken → PrintsBroken (O.contents output.old) (O.contents output.new) }
     ensures input_failed { I.failed input.new ≡ true → result ≡ Status.DeviceFailed }
     ensures output_failed { O.failed output.new ≡ true → result ≡ Status.DeviceFailed }
+    // Where it ends as done or as broken, standard output was flushed.
+    ensures flushed { (result ≡ Status.Done) ⊎ (result ≡ Status.Broken) → O.flushed output.new ≡ true }
 {
     match obey(rt, words, input, output) {
         Ok(status) => status,
@@ -74,6 +76,7 @@ where
         PrintsBroken (O.contents output.old) (O.contents output.new) }
     ensures input_failed { I.failed input.new ≡ true → result ≡ Err (fault.Device stream.Input) }
     ensures output_failed { (O.failed output.new ≡ true) ↔ (result ≡ Err (fault.Device stream.Output)) }
+    ensures flushed { OnOk result (O.flushed output.new ≡ true) }
 {
     let helps = Helps::new(rt.alloc())?;
     let order = order_of(rt.alloc(), words, &helps)?;
@@ -99,6 +102,7 @@ where
     ensures stopped { IfErr result (MayEnd order.now (I.remaining input.old)) }
     ensures input_failed { I.failed input.new ≡ true → result ≡ Err (fault.Device stream.Input) }
     ensures output_failed { (O.failed output.new ≡ true) ↔ (result ≡ Err (fault.Device stream.Output)) }
+    ensures flushed { OnOk result (O.flushed output.new ≡ true) }
 {
     let status = carry_out(rt, order, input, output)?;
     match output.flush() {
