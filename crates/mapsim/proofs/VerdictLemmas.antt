@@ -1,5 +1,5 @@
 -- The verdict on files, from what each of them told.
-use Rattle.std.proofs.Common.{◌≡◌, ℕ, true, List, Option, None, Some, Result, Ok, Err, IfOk, IfSome, refl, ap, sym, subst, ◌∙◌}
+use Rattle.std.proofs.Common.{◌≡◌, ℕ, true, List, Option, None, Some, Result, Ok, Err, IfOk, IfSome, ap, sym, subst, ◌∙◌}
 use Rattle.us_flows.specs.Tables.{Tables, rounds_fit}
 use Rattle.us_requests.specs.Asks.{Request}
 use Rattle.us_requests.specs.Texts.{requests_of}
