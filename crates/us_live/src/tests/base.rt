@@ -17,10 +17,10 @@ pub(super) fn same(rt: &impl Abort, name: &str, found: &str, wanted: &str) {
     assert_eq!(rt; found, wanted, "{name}");
 }
 
-/// One flow, of one channel or of two.
+/// One flow, of one channel, or of two of the 16 that there may be.
 pub(super) const ONE: &str = "channels = [1]\nclusters = [[291]]";
 
-pub(super) const TWO: &str = "channels = [1, 2]\nclusters = [[291, 292]]";
+pub(super) const SIXTEEN: &str = "channels = [1, 16]\nclusters = [[291, 292]]";
 
 pub(super) const NONE: &str = "";
 
@@ -29,7 +29,7 @@ pub(super) const CALL: &str =
     "[[flow]]\nid = 1\ntype = 5\nchannels = [1]\nclusters = [[513]]\nstart_us = 0\n\
     interval_us = 2000\njitter_us = 1000\ngrant_bytes = 16\ngrants_per_interval = 2\n";
 
-/// A scheduler of two channels, with the flow of these channels and clusters, or with the call.
+/// A scheduler of a channel or of 16, with the flow of these channels and clusters, or with the call.
 pub(super) fn open(
     alloc: Global,
     flow: &str,
@@ -50,7 +50,7 @@ pub(super) fn open(
 
 fn text_of(alloc: Global, flow: &str) -> Result<String, AllocError> {
     let mut text = String::new(alloc);
-    let channels = if flow == TWO { 2 } else { 1 };
+    let channels = if flow == SIXTEEN { 16 } else { 1 };
     for id in 1..=channels {
         put_channel(&mut text, id)?;
     }
