@@ -7,7 +7,8 @@ use std::alloc::Global;
 use std::process::Abort;
 use std::thread::Threads;
 use us_crew::OpenGate;
-use us_requests::TraceFault;
+use us_requests::{Trace, TraceFault};
+use us_slots::FromRead;
 
 /// What the bonded run comes to where it ends with this fault, and its trace was called so often at its end: records and
 /// lines of the rounds that are done, and no flush. None: this is no want of memory.
@@ -60,4 +61,39 @@ fn refused_memory_of_two_workers(rt: HostRuntime) {
 #[test]
 fn refused_memory_of_sixteen_workers(rt: HostRuntime) {
     expect(&rt, rt.alloc(), 16);
+}
+
+/// Fails where memory is refused to the reading of the trace, as `tools/refuse-memory` does.
+#[test]
+fn trace_alone(rt: HostRuntime) {
+    if let Ok(config) = bonded(rt.alloc()) {
+        let mut trace = FromRead::new(reader(BONDED_TRACE, false));
+        if config.rounds_fit(2) {
+            let found = Trace::read(rt.alloc(), &mut trace, &config, 2);
+            same(&rt, &found.err(), &None, "a trace");
+        }
+    }
+}
+
+/// Fails where want of memory is told of the trace, which has to be where `trace_alone` fails: what a replay is refused
+/// behind the trace is told as want of memory behind no round.
+#[test]
+fn trace_of_a_replay(rt: HostRuntime) {
+    if let Ok(config) = bonded(rt.alloc()) {
+        let trace = reader(BONDED_TRACE, false);
+        let (maps, report) = (writer(BONDED_MAPS, 100), writer(BONDED_REPORT, 100));
+        let found = outcome(
+            &rt,
+            rt.alloc(),
+            &config,
+            2,
+            1,
+            &OpenGate,
+            trace,
+            maps,
+            report,
+        );
+        let of_trace = matches!(found.0, Err(RunFault::Trace(_)));
+        same(&rt, &of_trace, &false, "a replay");
+    }
 }
