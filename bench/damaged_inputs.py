@@ -18,7 +18,7 @@ import plain_trace
 from plain_program import Answer
 
 CONFIGS = pathlib.Path(__file__).resolve().parent.parent / "crates/mapsim/cases/configs"
-STORED = ["base", "all_types", "two_channels", "unsolicited", "reserved", "reserved_channels", "short_maps", "no_flows",
+STORED = ["base", "four_types", "two_channels", "unsolicited", "reserved", "reserved_channels", "short_maps", "no_flows",
           "other_form", "activity"]
 # from which inputs are made; those up to half of them are of stored configurations
 BASES = 600
