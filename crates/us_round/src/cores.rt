@@ -103,7 +103,7 @@ impl Core {
         let planner = Planner::new(alloc, &config)?;
         let flows = config.flows().len();
         let allowances = no_limits(alloc, flows)?;
-        let left = nothing_left(alloc, &config)?;
+        let left = room_for_reserves(alloc, &config)?;
         let kept = Box::new(
             alloc,
             Kept {
@@ -241,9 +241,9 @@ fn no_limits(alloc: Global, flows: usize) -> Result<Vec<Option<u64>>, NoMemory>
     Ok(vec![in alloc; None; flows]?)
 }
 
-/// Nothing left of what is reserved, flow by flow; an empty list where no flow has a minimum rate, so that a round has nothing
-/// to look at.
-fn nothing_left(alloc: Global, config: &Config) -> Result<Vec<u64>, NoMemory>
+/// Room for what is reserved, flow by flow; an empty list where no flow has a minimum rate, so that a round has nothing to look
+/// at.
+fn room_for_reserves(alloc: Global, config: &Config) -> Result<Vec<u64>, NoMemory>
     ensures { IfOk result (λ all. spec.IsRoom (full_reserves config.now).levels all.items) }
 {
     let flows = config.flows();

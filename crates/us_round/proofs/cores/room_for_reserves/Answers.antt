@@ -3,7 +3,7 @@ use Rattle.std.specs.List.{AllByRecursion}
 use Rattle.std.proofs.lemmas.List.{take_all}
 use Rattle.us_flows.specs.Tables.{FlowTable}
 use Rattle.us_round.proofs.NoRateLemmas.{none_full}
-use Rattle.us_round.proofs.cores.nothing_left.Goals as goal
+use Rattle.us_round.proofs.cores.room_for_reserves.Goals as goal
 
 pub returns : goal.returns
 returns c =

@@ -1,6 +1,6 @@
 use Rattle.std.proofs.Common.{◌≡◌, take}
 use Rattle.std.specs.List.{AllByRecursion}
-use Rattle.us_round.proofs.cores.nothing_left.Given as goal
+use Rattle.us_round.proofs.cores.room_for_reserves.Given as goal
 
 -- the flows before have no minimum rate
 abbrev pub invariant-loop-flow : goal.invariant-loop-flow
