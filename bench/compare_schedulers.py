@@ -21,7 +21,8 @@ sys.path.insert(0, str(HERE))
 import plain_scheduler
 
 PROGRAM = sys.argv[3] if len(sys.argv) > 3 else str(HERE.parent / "crates/mapsim/out/mapsim")
-HEADER = "tick,channel,sid,units\n"
+HEADER = "tick,channel,sid,units"
+SILENT, ACTIVE = 1, 2
 MAX_TICK = 4_294_967_295
 MAX_SID = 15_871
 MAX_RUN_TICKS = 67_108_864
@@ -217,7 +218,8 @@ class Calendars:
         tables = tomllib.loads(text)
         self.channels = {table["id"]: plain_scheduler.Channel(table, round_ticks) for table in tables["channel"]}
         self.flows = tables.get("flow", [])
-        self.text, self.asks, self.more = text, asks, []
+        # what may be asked for with SIDs of calls, and the channels and SIDs of those that fall silent
+        self.text, self.asks, self.more, self.silent = text, asks, [], []
         self.used, self.flow_ids = set(asks), {flow["id"] for flow in self.flows}
         # occurrences of a round at most
         self.pace = 0.
@@ -241,9 +243,10 @@ class Calendars:
             done.append(part)
         self.text = "\n[[flow]]\n".join(done)
 
-    def add_call(self, crowded):
-        """Adds a flow of unsolicited grants, if it fits."""
+    def add_call(self, crowded, kinds=(5, 5, 5, 6)):
+        """Adds a flow of unsolicited grants, with activity detection or without, if it fits."""
         chance = self.chance
+        kind = chance.choice(kinds)
         id = chance.choice(self.ids)
         channel = self.channels[id]
         if crowded:
@@ -251,6 +254,8 @@ class Calendars:
         else:
             size = chance.choice([1, 16, 66, 200, chance.randint(1, 3000), chance.randint(1, 65535)])
         if channel.cost(channel.unsolicited, size) > channel.len:
+            return
+        if kind == 5 and channel.t["request_minislots"] > channel.len:
             return
         sid = next(sid for sid in iter(lambda: chance.randint(1, MAX_SID), 0) if (id, sid) not in self.used)
         ids = iter(lambda: chance.randint(1, chance.choice([2 * len(self.flow_ids) + 4, 65535])), 0)
@@ -262,10 +267,12 @@ class Calendars:
         self.pace += pace * grants
         if chance.random() < .3:
             self.more.append((id, sid))
+        if kind == 5:
+            self.silent.append((id, sid))
         self.text += f"""
 [[flow]]
 id = {flow_id}
-type = 6
+type = {kind}
 channels = [{id}]
 clusters = [[{sid}]]
 {keys}grant_bytes = {size}
@@ -291,16 +298,21 @@ sid = {self.chance.choice([self.chance.randint(1, MAX_SID), *shared])}
 
 def with_calendar(chance, text, round_ticks, asks, ids, crowded):
     """Makes some flows polled ones, and adds flows of unsolicited grants and stations: the text, what may be asked for
-    with SIDs of these, and the occurrences of a round at most."""
+    with SIDs of these, what may be marked, and the occurrences of a round at most."""
     made = Calendars(chance, text, round_ticks, asks, ids)
     made.poll()
-    for _ in range(chance.choice([0, 1, 2, 6, 20] if not crowded else [20, 60, 110])):
+    for _ in range(chance.choice([0, 1, 2, 2, 6, 20] if not crowded else [20, 60, 110])):
         made.add_call(crowded)
+    # most have a flow that falls silent; where grants and polls are longer than a MAP, none fits
+    tries = 5 if chance.random() < .95 else 0
+    while not made.silent and tries > 0:
+        made.add_call(crowded, kinds=(5,))
+        tries -= 1
     numbers = list(range(1, 256))
     chance.shuffle(numbers)
     for number in numbers[:chance.choice([0, 0, 1, 3, 10] if not crowded else [0, 30, 120])]:
         made.add_station(number)
-    return made.text, asks + made.more, made.pace
+    return made.text, asks + made.more, made.silent, made.pace
 
 
 def units(chance, size):
@@ -318,8 +330,21 @@ def tick(chance, round_ticks, lead, rounds):
     return min(found, MAX_TICK)
 
 
-def trace(chance, round_ticks, lead, asks, ids, rounds, count=None):
-    """Rows of requests, some of them for SIDs that nobody has."""
+def marked(chance, rows, silent, round_ticks, lead, rounds):
+    """Rows of version 2: requests, and marks of flows that fall silent and speak again. Some of both are of flows of
+    another type."""
+    rows = [row + (0,) if chance.random() < .97 else row[:3] + (0, chance.choice([SILENT, ACTIVE])) for row in rows]
+    hot = chance.sample(silent, min(len(silent), chance.choice([1, 3, 100])))
+    for _ in range(chance.choice([1, 3, 20, 100, 300]) if hot else 0):
+        channel, sid = chance.choice(hot)
+        kind = chance.choice([SILENT, SILENT, ACTIVE]) if chance.random() < .97 else 0
+        row = (tick(chance, round_ticks, lead, rounds), channel, sid, 0 if kind else chance.randint(0, 9), kind)
+        rows.insert(chance.randint(0, len(rows)), row)
+    return rows
+
+
+def trace(chance, round_ticks, lead, asks, silent, ids, rounds, count=None):
+    """Rows of requests, some of them for SIDs that nobody has. Most traces have marks, where a flow falls silent."""
     rows = []
     count = chance.choice([0, 3, 20, 100, 300, 1500]) if count is None else count
     hot = chance.sample(asks, min(len(asks), chance.choice([1, 3, 100]))) if asks else []
@@ -335,9 +360,13 @@ def trace(chance, round_ticks, lead, asks, ids, rounds, count=None):
                 channel, sid = chance.choice(hot)
                 rows.append((at, channel, sid, units(chance, size)))
     rows = rows[:count]
+    has_marks = chance.random() < (.85 if silent else .25)
+    if has_marks:
+        rows = marked(chance, rows, silent, round_ticks, lead, rounds)
     if chance.random() < .5:
         rows.sort()
-    return HEADER + "".join(",".join(map(str, row)) + "\n" for row in rows)
+    header = HEADER + (",kind\n" if has_marks else "\n")
+    return header + "".join(",".join(map(str, row)) + "\n" for row in rows)
 
 
 def run(text, requests, rounds):
@@ -376,6 +405,9 @@ def compare(text, requests, rounds, name, counts):
     found = run(text, requests, rounds)
     is_same = found == (0, said.encode(), b"", maps, report)
     counts["runs"] += 1
+    counts["runs with activity detection"] += "type = 5" in text
+    counts["traces with marks"] += requests.startswith(HEADER + ",kind")
+    counts["both"] += "type = 5" in text and requests.startswith(HEADER + ",kind")
     counts["rounds"] += rounds
     counts["grants"] += report.count(b"G,")
     counts["same" if is_same else "DIFFER"] += 1
@@ -415,16 +447,16 @@ def inputs(seed, most_rounds=MAX_RUN_TICKS):
     chance = random.Random(seed)
     kind = seed % 20
     text, round_ticks, lead, asks, ids = config(chance, **shape(chance, kind))
-    pace = 0
-    # two of three seeds have a calendar, and some of these are crowded
-    if seed % 3:
-        text, asks, pace = with_calendar(chance, text, round_ticks, asks, ids, chance.random() < .15)
+    silent, pace = [], 0
+    # four of five seeds have a calendar, and some of these are crowded
+    if seed % 5:
+        text, asks, silent, pace = with_calendar(chance, text, round_ticks, asks, ids, chance.random() < .15)
     rounds = chance.choice([1, 2, 3, 8, 20, 60, 200, 1500 if kind < 12 else 30])
     rounds = min(rounds, int(MOST_OCCURRENCES / max(pace, 1)) + 1)
     rounds = min(rounds, MAX_RUN_TICKS // round_ticks, most_rounds)
     if kind == 19:
         rounds = min(rounds, 30)
-    requests = trace(chance, round_ticks, lead, asks, ids, rounds, count=1500 if kind in (17, 19) else None)
+    requests = trace(chance, round_ticks, lead, asks, silent, ids, rounds, count=1500 if kind in (17, 19) else None)
     return text, requests, rounds
 
 

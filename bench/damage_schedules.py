@@ -7,18 +7,22 @@ writes FOLDER/maps and FOLDER/report, and prints the names of the changes. bench
 judge such files.
 
 Some changes are of bytes, elements, records or lines alone. Others change a line and its MAP together, or a claim and
-the final line of its cluster, so that a later rule is the first to fail, or none.
+the final line of its cluster, so that a later rule is the first to fail, or none. A maps file alone is damaged so that
+it is none as often as not.
 """
 import argparse
 import pathlib
 import random
+import struct
 import sys
-import tomllib
 
+import damage_bytes
+import plain_maps
+import plain_reader
 import records
 
 UNITS_PER_BYTE = 1_280_000
-WORDS = ["ugs", "rtp", "nrtp", "station", "req"]
+WORDS = ["ugs", "ad", "rtp", "nrtp", "station", "req"]
 # places of fields in the lines of grants; those of missed occurrences end with K
 ROUND, CHANNEL, WORD, ID, I, K, SID, IUC, START, SLOTS, CREDIT = range(1, 12)
 # limits of fields, of what stands in a MAP, and of numbers in a machine
@@ -32,7 +36,7 @@ class Schedule:
     def __init__(self, tables, rounds, maps, report):
         self.plant, self.rounds = records.Plant(tables), rounds
         self.channels = {channel.id: channel for channel in self.plant.channels}
-        self.flows = {flow["id"]: flow for flow in tables.get("flow", []) if flow["type"] != 6}
+        self.flows = {flow["id"]: flow for flow in tables.get("flow", []) if flow["type"] not in (5, 6)}
         self.records = records.records_of(maps)
         self.lines = [line.split(",") for line in report.decode("ascii").splitlines()]
 
@@ -160,6 +164,36 @@ def head_byte(chance, schedule):
     return True
 
 
+def null_changed(chance, schedule):
+    """Another SID of the Null, another IUC, or a second one."""
+    record, at = any_element(chance, schedule)
+    if at is None:
+        return False
+    null = record.elements[min(record.null(), len(record.elements) - 1)]
+    change = chance.choice([(null, 0, 1), (null, 1, chance.randrange(16)), (record.elements[at], 1, records.NULL)])
+    element, field, value = change
+    element[field] = value
+    return True
+
+
+def all_offsets_moved(chance, schedule):
+    """So that the first isn't 0, but all else is in order."""
+    record = chance.choice(schedule.records)
+    for element in record.elements:
+        element[2] += 1
+    return bool(record.elements)
+
+
+def elements_without_end(chance, schedule):
+    """As many elements as a MAP may have, and some more, in order."""
+    record = chance.choice(schedule.records)
+    count = chance.choice([239, 240, 241, 242, 255])
+    pendings = chance.choice([0, 38])
+    record.elements = [[at, 10, at] for at in range(count - pendings - 1)]
+    record.elements += [[records.NOBODY, records.NULL, count]] + [[1, 10, count]] * pendings
+    return True
+
+
 def record_round(chance, schedule):
     record = chance.choice(schedule.records)
     record.round = other_number(chance, record.round, [other.round for other in schedule.records])
@@ -183,14 +217,14 @@ def records_swapped(chance, schedule):
 
 
 def line_removed(chance, schedule):
-    lines = schedule.of(chance.choice(["GM", "GM", "M", "F", "U"]))
+    lines = schedule.of(chance.choice(["GM", "GM", "M", "F", "A", "U"]))
     if lines:
         schedule.lines.remove(chance.choice(lines))
     return bool(lines)
 
 
 def line_doubled(chance, schedule):
-    lines = schedule.of(chance.choice(["GM", "M", "F", "U"]))
+    lines = schedule.of(chance.choice(["GM", "M", "F", "A", "U"]))
     if lines:
         schedule.lines.insert(chance.randint(0, len(schedule.lines)), list(chance.choice(lines)))
     return bool(lines)
@@ -217,7 +251,7 @@ def changed_field(chance, schedule, line):
 
 
 def line_field(chance, schedule):
-    lines = schedule.of(chance.choice(["G", "G", "M", "F", "U"]))
+    lines = schedule.of(chance.choice(["G", "G", "M", "F", "A", "U"]))
     if lines:
         changed_field(chance, schedule, chance.choice(lines))
     return bool(lines)
@@ -225,7 +259,7 @@ def line_field(chance, schedule):
 
 def line_added(chance, schedule):
     """A line that is another one but for one or two fields."""
-    lines = schedule.of(chance.choice(["GM", "M", "F", "U"]))
+    lines = schedule.of(chance.choice(["GM", "M", "F", "A", "U"]))
     if lines:
         line = list(chance.choice(lines))
         schedule.lines.insert(chance.randint(0, len(schedule.lines)), line)
@@ -367,23 +401,12 @@ def claim_added(chance, schedule):
     return True
 
 
-def some_bytes(chance, text):
-    """Bytes of a text changed, or the text cut or made longer. An empty text is made longer."""
-    if not text or chance.random() < 0.1:
-        return text + bytes(chance.randrange(256) for _ in range(chance.randint(1, 7)))
-    if chance.random() < 0.1:
-        return text[: chance.randrange(len(text))]
-    at = chance.randrange(len(text))
-    byte = chance.choice([0, 255, text[at] ^ 1 << chance.randrange(8), (text[at] + 1) % 256, chance.choice(text)])
-    return text[:at] + bytes([byte]) + text[at + 1 :]
-
-
 def maps_bytes(chance, maps, report):
-    return some_bytes(chance, maps), report
+    return damage_bytes.damaged(chance, maps), report
 
 
 def report_bytes(chance, maps, report):
-    return maps, some_bytes(chance, report)
+    return maps, damage_bytes.damaged(chance, report)
 
 
 def line_form(chance, maps, report):
@@ -402,12 +425,39 @@ def line_form(chance, maps, report):
     return maps, b"\n".join(lines)
 
 
+class Maps:
+    """A maps file alone, taken apart."""
+
+    def __init__(self, text):
+        self.records = records.records_of(text)
+
+
+def body_spoiled(chance, body):
+    """A body cut, made longer, or with another byte of its head."""
+    at = chance.randrange(records.HEAD_BYTES)
+    return chance.choice([
+        body[: chance.randrange(len(body))], body[:at], body[:-1], body[:-4], body + bytes(chance.choice([1, 4, 400])),
+        body[:2] + bytes([chance.randrange(256)]) + body[3:],
+        body[:at] + bytes([chance.choice([0, 1, 15, 16, 255])]) + body[at + 1 :],
+    ])
+
+
+def with_body_spoiled(chance, text):
+    """A maps file of which one body is none, most likely, and has its length told rightly."""
+    pieces = list(plain_maps.pieces_of(text))
+    at = chance.randrange(len(pieces))
+    pieces[at] = pieces[at][0], body_spoiled(chance, pieces[at][1])
+    return b"".join(struct.pack(">IH", number, len(body)) + body for number, body in pieces)
+
+
 ELEMENTS = [element_field, element_field, element_added, element_removed, pending_changed]
 HEADS = [head_byte, record_round, record_removed, record_doubled, records_swapped]
 LINES = [line_removed, line_doubled, lines_moved, line_added, line_field, line_field, line_field, line_field]
 GRANTS = [grant_field, grant_field, grant_moved, grant_moved, grant_moved, grant_to_another_round, grant_removed,
           grant_to_another_channel, grant_missed, missed_granted, missed_granted]
 CLAIMS = [credited_otherwise, credited_otherwise, claim_added]
+# those that a maps file alone can have
+OF_MAPS = [*ELEMENTS, *HEADS, null_changed, null_changed, all_offsets_moved, elements_without_end, elements_without_end]
 # these come behind the others, which need lines and records that are some
 BYTES = [maps_bytes, maps_bytes, report_bytes, line_form, line_form]
 # so that each rule fails about as often as the others
@@ -416,7 +466,7 @@ KINDS = [ELEMENTS, HEADS, LINES, LINES, LINES, GRANTS, GRANTS, GRANTS, CLAIMS, C
 
 def changed(chance, config_text, rounds, maps, report):
     """A maps file and a report with one to three changes, some of which may leave all as it was, and their names."""
-    schedule = Schedule(tomllib.loads(config_text), rounds, maps, report)
+    schedule = Schedule(plain_reader.tables_of(config_text.encode()), rounds, maps, report)
     names, last, wanted = [], [], chance.choice([1, 1, 1, 2, 3])
     while len(names) < wanted:
         change = chance.choice(chance.choice(KINDS))
@@ -430,6 +480,20 @@ def changed(chance, config_text, rounds, maps, report):
     for change in last:
         maps, report = change(chance, maps, report)
     return maps, report, names
+
+
+def damaged_maps(chance, text):
+    """A maps file with some damage, by its records, by a body or by its bytes."""
+    way = chance.random()
+    if way < 0.5:
+        maps = Maps(text)
+        for _ in range(chance.choice([1, 1, 1, 2, 4])):
+            if maps.records:
+                chance.choice(OF_MAPS)(chance, maps)
+        text = b"".join(record.text() for record in maps.records)
+    elif way < 0.7:
+        text = with_body_spoiled(chance, text)
+    return damage_bytes.damaged(chance, text) if way > 0.7 or way < 0.05 else text
 
 
 def damaged(chance, config_text, rounds, maps, report):

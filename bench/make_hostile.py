@@ -16,6 +16,7 @@ print. All are written where none is named.
   lines_of_no_entry         1,024 calls, and misses of flows that aren't there, by falling id
   one_line_many_times       the last occurrence is told by half of the lines
   open_told_often           each line grants the one occurrence, whose window is open at the end; up to 4,999 rounds
+  lines_of_missed_polls     a silent call of 127 grants, polled 20 times a round: a line stands for all 127; it holds
   calls_of_the_last_flow    1,024 calls, of which the last alone is granted: it holds; up to 4,999 rounds
   span_of_all_rounds        a bucket's law is broken by the span of all rounds with a claim, and by no shorter one
   huge_credits              credits of 2^64 - 1, of flows without a limit
@@ -94,6 +95,7 @@ class Case:
     maps: bytes
     lines: list
     rows: list = ()
+    header: str = make_loads.HEADER
     # what the report is where it isn't its lines
     text: bytes | None = None
     answer: str = "holds"
@@ -102,7 +104,7 @@ class Case:
         return self.text if self.text is not None else "".join(f"{line}\n" for line in self.lines).encode("ascii")
 
     def trace(self):
-        return make_loads.HEADER + "".join(f"{row}\n" for row in self.rows)
+        return self.header + "".join(f"{row}\n" for row in self.rows)
 
     def size(self):
         return len(self.maps) + len(self.report())
@@ -176,6 +178,14 @@ def misses(rounds):
     config = config_of([call(1, interval=100, jitter=0, grants=127)])
     lines = [f"M,{i // 20},1,ugs,1,{i},{k}" for i in range(20 * rounds) for k in range(127)]
     return Case(config, rounds, maps_of(config, rounds), [*lines, NO_USELESS_ROW])
+
+
+def missed_polls(rounds):
+    """The same of a call that is silent from round 1 on, where it starts: it has one poll each time."""
+    config = config_of([call(1, 2_000, 100, 0, 127).replace("type = 6", "type = 5")])
+    lines = [f"M,{number},1,ad,1,{20 * (number - 1) + i},0" for number in range(1, rounds) for i in range(20)]
+    case = Case(config, rounds, maps_of(config, rounds), [*lines, "A,1,0", NO_USELESS_ROW], ["160,1,1,0,1"])
+    return dataclasses.replace(case, header=make_loads.HEADER_WITH_KINDS)
 
 
 def finals(config, spent, ids):
@@ -269,6 +279,10 @@ def open_told_often(size):
     config = config_of([call(1, 0, LATEST, LATEST - 1, 1)])
     lines = [granted(number, 1, 0, 0, k) for number in range(lawful.rounds) for k in range(GRANTS)]
     return lawful.but("broken P4 0 1 1", config=config, lines=[*lines, NO_USELESS_ROW]), lawful
+
+
+def lines_of_missed_polls(size):
+    return of_size(size, missed_polls), of_size(size, misses)
 
 
 def calls_of_the_last_flow(size):
@@ -426,10 +440,10 @@ def no_records(_size):
 
 
 KINDS = [lines_over_each_other, empty_intervals, every_map_broken, no_line, lines_of_no_entry, one_line_many_times,
-         open_told_often, calls_of_the_last_flow, span_of_all_rounds, huge_credits, huge_rated_credits,
-         claims_of_one_cluster, claims_of_the_last_flow, many_final_lines, rounds_that_lack, channels_that_lack,
-         lines_turned_round, one_long_number, line_feeds, no_last_line_feed, null_records, empty_records,
-         turned_channels, no_records]
+         open_told_often, lines_of_missed_polls, calls_of_the_last_flow, span_of_all_rounds, huge_credits,
+         huge_rated_credits, claims_of_one_cluster, claims_of_the_last_flow, many_final_lines, rounds_that_lack,
+         channels_that_lack, lines_turned_round, one_long_number, line_feeds, no_last_line_feed, null_records,
+         empty_records, turned_channels, no_records]
 BY_NAME = {kind.__name__: kind for kind in KINDS}
 
 

@@ -9,7 +9,7 @@ the first six are written.
 
   voice            16 channels, 1,000 unsolicited flows, 256 stations, no request; 30,000 rounds
   data             16 channels, 1,000 best-effort flows with rates, over 4 to 8 each; 1,000,000 requests, 50,000 rounds
-  mixed            16 channels, 1,024 flows of all types, 256 stations; 1,000,000 requests, 50,000 rounds
+  mixed            16 channels, 1,024 flows of types 2, 3, 4 and 6, 256 stations; 1,000,000 requests, 50,000 rounds
   full             16 channels, some 60 grants each a round: 960 calls, 64 data flows; 200,000 requests, 10,000 rounds
   sparse           4 channels, 16 flows, 16 stations: hardly a round has work; 2,000 requests, 200,000 rounds
   single           1 channel, 1 best-effort flow without a limit; 1,000,000 requests, 200,000 rounds
@@ -21,6 +21,8 @@ the first six are written.
                    run; 3,000 rounds
   thousand_calls   the same with 1,000 unsolicited flows
   reserved         as data, and every other flow has a minimum rate, a quarter of its rate; 1,000,000 requests,
+                   50,000 rounds
+  talking          16 channels, 1,024 flows with activity detection, which fall silent and speak again; 1,000,000 marks,
                    50,000 rounds
   greatest_tables  16 channels, 1,024 flows of 8 channels and 2 clusters, 256 stations; 0 rounds, so mapsim reads the
                    tables and answers fault RU1
@@ -34,6 +36,7 @@ import random
 EXAMPLES = pathlib.Path(__file__).resolve().parent.parent / "examples"
 ROUND_TICKS = 320
 HEADER = "tick,channel,sid,units\n"
+HEADER_WITH_KINDS = "tick,channel,sid,units,kind\n"
 TOP = f"round_ticks = {ROUND_TICKS}\nlead_ticks = 160\n"
 
 CHANNEL_OF_LOADS = """[[channel]]
@@ -121,6 +124,7 @@ class Load:
     rounds: int
     requests: int
     rows: collections.abc.Callable
+    header: str = HEADER
 
 
 class RandomPlant:
@@ -146,13 +150,13 @@ class RandomPlant:
         jitter = self.random.randint(0, min(jitter, interval - 1))
         return f"start_us = {start}\ninterval_us = {interval}\njitter_us = {jitter}\n"
 
-    def add_call(self, id, channel, least=10_000, most=20_000, jitter=800, sizes=(60, 220)):
+    def add_call(self, id, channel, least=10_000, most=20_000, jitter=800, sizes=(60, 220), type=6):
         """A flow with unsolicited grants; now and then it has two calls."""
         sid = self.next_sid(channel)
         grant_bytes = self.random.randint(*sizes)
         calls = 2 if self.random.randint(0, 15) == 0 else 1
         times = self.times(least, most, jitter)
-        self.tables.append(f"[[flow]]\nid = {id}\ntype = 6\nchannels = [{channel}]\nclusters = [[{sid}]]\n"
+        self.tables.append(f"[[flow]]\nid = {id}\ntype = {type}\nchannels = [{channel}]\nclusters = [[{sid}]]\n"
                            f"grant_bytes = {grant_bytes}\ngrants_per_interval = {calls}\n{times}")
 
     def add_data(self, id, type, channels, clusters, rate, burst, min_rate=0):
@@ -191,6 +195,14 @@ class RandomPlant:
             channel, sid, most = self.random.choice(self.asking)
             tick = max(number * last // requests - self.random.randint(0, 200), 0)
             yield f"{tick},{channel},{sid},{self.random.randint(1, most)}\n"
+
+    def marks(self, count, rounds):
+        """Rows of marks, as many of which say that a flow is silent as that it is active."""
+        last = max(rounds * ROUND_TICKS - 700, 0)
+        for number in range(count):
+            channel = self.random.randint(1, self.channels)
+            sid = self.random.randint(1, self.last_sids[channel])
+            yield f"{number * last // count},{channel},{sid},0,{self.random.randint(1, 2)}\n"
 
     def load(self, rounds, requests):
         return Load("\n".join(self.tables), rounds, requests, self.rows)
@@ -288,6 +300,13 @@ def reserved():
     return plant.load(50_000, 1_000_000)
 
 
+def talking():
+    plant = RandomPlant(16)
+    for number in range(1_024):
+        plant.add_call(number + 1, 1 + number % 16, type=5)
+    return Load("\n".join(plant.tables), 50_000, 1_000_000, plant.marks, HEADER_WITH_KINDS)
+
+
 def greatest_tables():
     channels = [PLAIN_CHANNEL.format(id=id) for id in range(1, 17)]
     flows = [GREATEST_FLOW.format(id=id, clusters=[[2 * id - 1] * 8, [2 * id] * 8], priority=id % 8)
@@ -304,6 +323,7 @@ LOADS = {
     "ten_calls": lambda: calls(10),
     "thousand_calls": lambda: calls(1_000),
     "reserved": reserved,
+    "talking": talking,
     "greatest_tables": greatest_tables,
 }
 
@@ -314,7 +334,7 @@ def make(folder, name, part=1):
     rounds, requests = load.rounds // part, load.requests // part
     (folder / f"{name}.toml").write_text(load.config, encoding="ascii")
     with open(folder / f"{name}.csv", "w", encoding="ascii") as trace:
-        trace.write(HEADER)
+        trace.write(load.header)
         trace.writelines(load.rows(requests, rounds))
     return rounds, requests
 

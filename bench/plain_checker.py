@@ -1,26 +1,18 @@
-#!/usr/bin/env python3
-"""A plain, slow second checker of schedules: it prints what `mapsim check` prints of a maps file and a report.
-
-  bench/plain_checker.py --config F --trace F --rounds N --maps F --report F
+"""A plain, slow second checker of schedules: it tells what `mapsim check` prints of a maps file and a report.
 
 It is written from the rules alone and shares nothing with the crates; so where the two answers differ, one of them is
-wrong. What a burst costs and what a trace asks for is as bench/plain_scheduler.py has it, which knows no activity
-detection. No rule asks how a round was planned, so minimum rates are nothing to it. It looks at every minislot, every
-occurrence and every span of rounds, so the runs should be short. The trace and the number of rounds have to be accepted ones, and the trace without quotes; a refused
-configuration is told as bench/plain_reader.py finds it.
-
-Status 0: `holds`; 1: `broken` and where; 3: a fault, on standard error.
+wrong. What a burst costs and what a trace asks for is as bench/plain_scheduler.py has it. No rule asks how a round was
+planned, so minimum rates are nothing to it. It looks at every minislot, every occurrence and every span of rounds, so
+the runs should be short. bench/plain_program.py is a program of it.
 """
-import argparse
 import collections
-import pathlib
 import re
-import sys
 import tomllib
 from typing import NamedTuple
 
-import plain_reader
+import plain_maps
 import plain_scheduler
+import plain_trace
 
 # In quarter microseconds, as all times are here that come of the configuration's microseconds.
 TICK = 25
@@ -28,12 +20,9 @@ UNITS_PER_BYTE = 1_280_000
 SEGMENT_HEADER = 8
 BROADCAST = 0x3FFF
 NOBODY = 0
-REQUEST, INITIAL_MAINTENANCE, STATION_MAINTENANCE, NULL, UNSOLICITED = 1, 3, 4, 7, 11
-HEAD_BYTES = 16
-MOST_ELEMENTS = 240
-MOST_BACKOFF = 15
+REQUEST, INITIAL_MAINTENANCE, STATION_MAINTENANCE, UNSOLICITED = 1, 3, 4, 11
 
-CALENDAR_WORDS = {b"ugs", b"rtp", b"nrtp", b"station"}
+CALENDAR_WORDS = {b"ugs", b"ad", b"rtp", b"nrtp", b"station"}
 ALL_WORDS = CALENDAR_WORDS | {b"req"}
 NUMBER = re.compile(rb"0|[1-9][0-9]{0,19}")
 GREATEST = 2**64 - 1
@@ -81,6 +70,13 @@ class Final(NamedTuple):
     units: int | None
 
 
+class Activity(NamedTuple):
+    """Whether a flow is active in the end: 1, or 0 where it is silent."""
+
+    flow: int
+    active: int
+
+
 class Useless(NamedTuple):
     """How many rows of the trace are no asks."""
 
@@ -116,9 +112,9 @@ def line_of(text):
         has_no_limit = fields[3] == b"-"
         numbers = numbers_of(fields[:3] if has_no_limit else fields)
         return numbers and Final(*numbers, *([None] if has_no_limit else []))
-    elif letter == b"U" and len(fields) == 3:
+    elif (letter, len(fields)) in ((b"U", 3), (b"A", 2)):
         numbers = numbers_of(fields)
-        return numbers and Useless(*numbers)
+        return numbers and (Useless if letter == b"U" else Activity)(*numbers)
     else:
         return None
     numbers = numbers_of(fields)
@@ -162,44 +158,27 @@ class Map(NamedTuple):
 
 
 def map_of(round_number, body):
-    """The MAP that a body spells, or None where it isn't in the grammar."""
-    if len(body) < HEAD_BYTES or len(body) != HEAD_BYTES + 4 * body[2] or body[3] != 0 or body[2] > MOST_ELEMENTS:
+    """The MAP that a body spells, or None where it isn't in the grammar, as where it is cut."""
+    if body is None or plain_maps.fault_of(body):
         return None
-    backoffs = list(body[12:16])
-    if max(backoffs) > MOST_BACKOFF:
-        return None
-    words = [int.from_bytes(body[at : at + 4], "big") for at in range(HEAD_BYTES, len(body), 4)]
-    elements = [(word >> 18, word >> 14 & 0xF, word & 0x3FFF) for word in words]
-    nulls = [at for at, (_sid, iuc, _offset) in enumerate(elements) if iuc == NULL]
-    if len(nulls) != 1 or elements[nulls[0]][0] != NOBODY:
-        return None
-    null = nulls[0]
-    offsets = [offset for _sid, _iuc, offset in elements]
-    length = offsets[null]
-    rise = all(before < after for before, after in zip(offsets[:null], offsets[1 : null + 1]))
-    if offsets[0] != 0 or not rise or any(offset != length for offset in offsets[null:]):
-        return None
-    spans = [Span(offset, end, sid, iuc) for (sid, iuc, offset), end in zip(elements[:null], offsets[1:])]
+    elements = plain_maps.elements_of(body)
+    null = plain_maps.null_of(elements)
+    spans = [Span(one.offset, behind.offset, one.sid, one.iuc) for one, behind in zip(elements[:null], elements[1:])]
     alloc_start, ack = (int.from_bytes(body[at : at + 4], "big") for at in (4, 8))
-    return Map(round_number, body[0], body[1], alloc_start, ack, backoffs, spans, length)
+    return Map(round_number, body[0], body[1], alloc_start, ack, list(body[12:16]), spans, elements[null].offset)
 
 
 def maps_of(text):
     """The MAPs of a maps file, with None for each record that is cut or has a body that isn't in the grammar."""
-    maps, at = [], 0
-    while at < len(text):
-        end = at + 6 + int.from_bytes(text[at + 4 : at + 6], "big")
-        is_cut = len(text) < end
-        maps.append(None if is_cut else map_of(int.from_bytes(text[at : at + 4], "big"), text[at + 6 : end]))
-        at = end
-    return maps
+    return [map_of(round_number, body) for round_number, body in plain_maps.pieces_of(text)]
 
 
 # What is asked of a run
 
 
 class Entry(NamedTuple):
-    """An entry of a channel's calendar; its times are in quarter microseconds."""
+    """An entry of a channel's calendar; its times are in quarter microseconds. `poll` has the minislots of a poll in an
+    interval in which its flow is silent, and is None where no flow can be."""
 
     word: str
     id: int
@@ -208,46 +187,59 @@ class Entry(NamedTuple):
     iuc: int
     slots: int
     grants: int
+    poll: int | None
     start: int
     interval: int
     jitter: int
 
 
 class Run:
-    """A configuration, a trace and a number of rounds, and what they ask of a schedule."""
+    """A configuration, the rows of a trace and a number of rounds, and what they ask of a schedule."""
 
-    def __init__(self, config_text, trace_text, rounds):
-        self.tables, self.rounds = tomllib.loads(config_text), rounds
+    def __init__(self, tables, rows, rounds):
+        self.tables, self.rounds = tables, rounds
         self.round_ticks, self.lead_ticks = self.tables["round_ticks"], self.tables["lead_ticks"]
         self.channels = [plain_scheduler.Channel(table, self.round_ticks) for table in self.tables["channel"]]
         self.channel_ids = [channel.id for channel in self.channels]
         self.by_id = {channel.id: channel for channel in self.channels}
         self.flows = self.tables.get("flow", [])
-        self.asking = {flow["id"]: flow for flow in self.flows if flow["type"] != 6}
+        self.asking = {flow["id"]: flow for flow in self.flows if flow["type"] not in (5, 6)}
         self.entries = {(entry.word, entry.id): entry for entry in self.all_entries()}
-        cuts, useless = plain_scheduler.requests(self.tables, trace_text, rounds)
+        cuts, marks, useless = plain_scheduler.requests(tables, rows, rounds)
         self.useless = Useless(*useless)
         self.asked = collections.Counter()
         for number, cut in cuts.items():
             for (place, cluster), count in cut.items():
                 self.asked[number, self.flows[place]["id"], cluster] += count
+        # of each flow that can be silent, whether it is active, round by round
+        self.activity = {flow["id"]: list(self.activity_of(place, marks))
+                         for place, flow in enumerate(self.flows) if flow["type"] == 5}
+
+    def activity_of(self, place, marks):
+        """Whether the flow at a place is active in each round, by its last mark."""
+        is_active = True
+        for number in range(self.rounds):
+            is_active = {0: is_active, 1: False, 2: True}[marks[number][place]]
+            yield is_active
 
     def all_entries(self):
         """What the flows and stations have in the calendars of channels."""
-        words = {6: "ugs", 4: "rtp", 3: "nrtp"}
+        words = {6: "ugs", 5: "ad", 4: "rtp", 3: "nrtp"}
         for flow in self.flows:
             if flow["type"] in words:
                 channel = self.by_id[flow["channels"][0]]
                 iuc, slots, grants = REQUEST, channel.t["request_minislots"], 1
-                if flow["type"] == 6:
+                poll = slots if flow["type"] == 5 else None
+                if flow["type"] in (5, 6):
                     iuc, slots = UNSOLICITED, channel.cost(channel.unsolicited, flow["grant_bytes"])
                     grants = flow["grants_per_interval"]
                 sid = flow["clusters"][0][0]
-                yield Entry(words[flow["type"]], flow["id"], channel.id, sid, iuc, slots, grants, *times_of(flow))
+                word = words[flow["type"]]
+                yield Entry(word, flow["id"], channel.id, sid, iuc, slots, grants, poll, *times_of(flow))
         for station in self.tables.get("station", []):
             slots = self.by_id[station["channel"]].t["station_minislots"]
             yield Entry("station", station["id"], station["channel"], station["sid"], STATION_MAINTENANCE, slots, 1,
-                        *times_of(station))
+                        None, *times_of(station))
 
     def order(self, place):
         """The order of places: by round, then channel (0, those of the table, others by number), then the third."""
@@ -286,14 +278,26 @@ class Run:
     def ideal(self, entry, i):
         return entry.start + i * entry.interval
 
+    def is_silent(self, entry, i):
+        """Whether an interval has a poll in place of its grants: its flow was silent in the round of the ideal time."""
+        return entry.poll is not None and not self.activity[entry.id][self.ideal(entry, i) // self.round_time]
+
+    def count(self, entry, i):
+        """How many occurrences an interval has."""
+        return 1 if self.is_silent(entry, i) else entry.grants
+
+    def kind(self, entry, i):
+        """The IUC and the minislots of each."""
+        return (REQUEST, entry.poll) if self.is_silent(entry, i) else (entry.iuc, entry.slots)
+
     def is_occurrence(self, entry, i, k):
-        return k < entry.grants and self.ideal(entry, i) < self.end
+        return self.ideal(entry, i) < self.end and k < self.count(entry, i)
 
     def occurrences(self, entry):
         """All (i, k) of an entry."""
         i = 0
         while self.ideal(entry, i) < self.end:
-            yield from ((i, k) for k in range(entry.grants))
+            yield from ((i, k) for k in range(self.count(entry, i)))
             i += 1
 
     def closing_round(self, entry, i):
@@ -396,7 +400,7 @@ def is_right_for(run, entry, line):
     if isinstance(line, Missed):
         return line.round == run.closing_round(entry, line.i)
     told = (line.sid, line.iuc, line.slots, line.credit)
-    return told == (entry.sid, entry.iuc, entry.slots, 0) and run.is_in_window(entry, line.i, line.round, line.start)
+    return told == (entry.sid, *run.kind(entry, line.i), 0) and run.is_in_window(entry, line.i, line.round, line.start)
 
 
 def fails_marks(run, files):
@@ -497,6 +501,13 @@ def fails_finals(run, files):
         yield Place(run.rounds, 0, final.flow)
 
 
+def fails_activity(run, files):
+    wanted = collections.Counter(Activity(id, int(rounds[-1])) for id, rounds in run.activity.items())
+    found = collections.Counter(files.of(Activity))
+    for one in (wanted - found) + (found - wanted):
+        yield Place(run.rounds, 0, one.flow)
+
+
 def fails_useless(run, files):
     if files.of(Useless) != [run.useless]:
         yield Place(run.rounds, 0, 0)
@@ -508,17 +519,13 @@ RULES = [
     ("P3", [fails_line_of_the_run, fails_spans]),
     ("P4", [fails_marks]),
     ("P5", [fails_rate]),
-    ("P6", [fails_claims, fails_finals, fails_useless]),
+    ("P6", [fails_claims, fails_finals, fails_activity, fails_useless]),
 ]
 
 
-def judge(config_text, trace_text, rounds, maps_bytes, report_bytes):
-    """What is answered of these files: `holds`, `broken P3 1 1 150` or `fault CK1 4`."""
-    try:
-        lines = lines_of(report_bytes)
-    except BadLine as bad:
-        return f"fault CK1 {bad}"
-    run, files = Run(config_text, trace_text, rounds), Files(maps_of(maps_bytes), lines)
+def verdict(tables, rows, rounds, maps, lines):
+    """What the rules say of a maps file and the lines of a report: `holds`, or `broken P3 1 1 150`."""
+    run, files = Run(tables, rows, rounds), Files(maps_of(maps), lines)
     for code, parts in RULES:
         for fails in parts:
             first = min(fails(run, files), key=run.order, default=None)
@@ -527,30 +534,20 @@ def judge(config_text, trace_text, rounds, maps_bytes, report_bytes):
     return "holds"
 
 
+def judge(config_text, trace_text, rounds, maps_bytes, report_bytes):
+    """What is answered of these files, of which the configuration and the trace have no fault: `holds`,
+    `broken P3 1 1 150` or `fault CK1 4`."""
+    try:
+        lines = lines_of(report_bytes)
+    except BadLine as bad:
+        return f"fault CK1 {bad}"
+    rows = plain_trace.rows_of(trace_text.encode())
+    return verdict(tomllib.loads(config_text), rows, rounds, maps_bytes, lines)
+
+
 STATUSES = {"holds": 0, "broken": 1, "fault": 3}
 
 
 def status_of(line):
     """The status that goes with an answer."""
     return STATUSES[line.split(" ")[0]]
-
-
-def main():
-    words = argparse.ArgumentParser(description=__doc__, formatter_class=argparse.RawDescriptionHelpFormatter)
-    for name in ("config", "trace", "maps", "report"):
-        words.add_argument(f"--{name}", type=pathlib.Path, required=True, metavar="F")
-    words.add_argument("--rounds", type=int, required=True, metavar="N")
-    given = words.parse_args()
-    config = given.config.read_bytes()
-    refusal = plain_reader.answer(config)
-    if refusal != "ok":
-        line = f"fault {refusal}"
-    else:
-        line = judge(config.decode("utf-8-sig"), given.trace.read_text("ascii"), given.rounds, given.maps.read_bytes(),
-                     given.report.read_bytes())
-    print(line, file=sys.stderr if line.startswith("fault") else sys.stdout)
-    return status_of(line)
-
-
-if __name__ == "__main__":
-    sys.exit(main())

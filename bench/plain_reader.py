@@ -2,19 +2,21 @@
 """A plain, slow second reader of configurations: it prints `ok`, or the first fault as `C8 channel 0`.
 
 It is written from the rules alone (docs/FORMATS.md), in their order, and shares nothing with the crates; so where the
-two answers differ, one of them is wrong. Python's TOML is version 1.0, so documents that only 1.1 allows are C1 here.
+two answers differ, one of them is wrong.
 
 usage: bench/plain_reader.py < FILE
 """
 import sys
-import tomllib
+
+import plain_toml
 
 MOST_BYTES = 4_194_304
-TYPES = (2, 3, 4, 6)
+TYPES = (2, 3, 4, 5, 6)
+GRANTED = (5, 6)  # those that have unsolicited grants, and make no requests
 
 
 class Fault(Exception):
-    """Why a text is no configuration: a code, and the table that it names."""
+    """Why something is refused: a code, and the place that it names."""
 
 
 def refuse_if(is_wrong, code, place):
@@ -76,18 +78,18 @@ GRANTS = {"grant_bytes": number(1, 65_535), "grants_per_interval": number(1, 127
 
 def flow_keys(kind):
     """The keys of a flow of this type, with the kinds of their values."""
-    most_channels, most_clusters = (1, 1) if kind == 6 else (8, 2)
+    most_channels, most_clusters = (1, 1) if kind in GRANTED else (8, 2)
     keys = {
         "id": number(1, 65_535), "type": one_of(*TYPES), "channels": items(1, most_channels, number(1, 255)),
         # how many SIDs a cluster has is looked at later, beside the channels
         "clusters": items(1, most_clusters, items(0, sys.maxsize, SID)),
     }
-    return keys | (GRANTS if kind == 6 else REQUESTS) | (TIMES if kind != 2 else {})
+    return keys | (GRANTS if kind in GRANTED else REQUESTS) | (TIMES if kind != 2 else {})
 
 
 def optional_keys(kind):
     """Those that a flow of this type may have or not."""
-    return {} if kind == 6 else MIN_RATE
+    return {} if kind in GRANTED else MIN_RATE
 
 
 def lacks(keys, found):
@@ -161,12 +163,11 @@ def judge_flow(place, document, earlier, flow):
     refuse_if(len(set(sids)) < len(sids) or any(pair in taken for pair in sids), "C6", place)
     refuse_if(kind != 2 and flow["jitter_us"] >= flow["interval_us"], "C10", place)
     first = by_id[ids[0]]
-    slots = 0 if kind == 2 else first["request_minislots"]
-    if kind == 6:
-        slots = cost(first, first["unsolicited"], flow["grant_bytes"])
-    refuse_if(slots > map_len(document, first), "C11", place)
-    refuse_if(kind != 6 and not flow["headers"] and len(ids) > 1, "C12", place)
-    refuse_if(kind != 6 and 0 < flow["rate"] < flow.get("min_rate", 0), "C14", place)
+    poll = 0 if kind in (2, 6) else first["request_minislots"]
+    grant = cost(first, first["unsolicited"], flow["grant_bytes"]) if kind in GRANTED else 0
+    refuse_if(max(poll, grant) > map_len(document, first), "C11", place)
+    refuse_if(kind not in GRANTED and not flow["headers"] and len(ids) > 1, "C12", place)
+    refuse_if(kind not in GRANTED and 0 < flow["rate"] < flow.get("min_rate", 0), "C14", place)
 
 
 def judge_station(place, document, earlier, station):
@@ -190,31 +191,28 @@ def judge(document):
             judge_one(f"{key} {index}", document, tables[:index], found)
 
 
-def has_long_number(value):
-    """Whether a whole number of 65 bits or more stands in a value: no document has one, but Python reads it."""
-    if type(value) is int:
-        return not -(2**63) <= value < 2**63
-    inner = value.values() if table(value) else value if type(value) is list else []
-    return any(map(has_long_number, inner))
-
-
 def document_of(text):
     """The document that the bytes spell."""
-    if len(text) > MOST_BYTES:
-        raise Fault("C1")
     try:
-        document = tomllib.loads(text.decode("utf-8-sig"))
-    except (UnicodeDecodeError, tomllib.TOMLDecodeError):
-        raise Fault("C1") from None
-    if has_long_number(document):
+        document = plain_toml.document_of(text.decode("utf-8-sig")) if len(text) <= MOST_BYTES else None
+    except UnicodeDecodeError:
+        document = None
+    if document is None:
         raise Fault("C1")
+    return document
+
+
+def tables_of(text):
+    """The configuration that the bytes spell, as it stands in the document."""
+    document = document_of(text)
+    judge(document)
     return document
 
 
 def answer(text):
     """What these bytes are answered with: `ok`, or their first fault."""
     try:
-        judge(document_of(text))
+        tables_of(text)
     except Fault as fault:
         return str(fault)
     return "ok"

@@ -1,12 +1,10 @@
-#!/usr/bin/env python3
-"""A second scheduler, from the rules alone, without activity detection.
-  bench/plain_scheduler.py CONFIG TRACE ROUNDS MAPS REPORT   writes the maps file and the report, and prints the summary
-
-It shares nothing with the crates, and is compared with mapsim by bench/compare_schedulers.py."""
+"""A second scheduler, from the rules alone. It shares nothing with the crates, and is compared with mapsim by
+bench/compare_schedulers.py and bench/compare_programs.py."""
 import struct
-import sys
 import tomllib
 from collections import defaultdict
+
+import plain_trace
 
 BYTE = 1280000  # bucket units in a byte
 TICK = 25  # quarter microseconds in a tick
@@ -78,16 +76,21 @@ class Board:
         self.taken.sort()
 
 class Entry:
-    """What a channel's calendar has of a flow or a station; times are in quarter microseconds."""
-    def __init__(self, word, table, sid, iuc, n, grants):
+    """What a channel's calendar has of a flow or a station; times are in quarter microseconds. A flow with activity
+    detection has grants while it is active, and while it is silent a poll of `poll` minislots in each interval."""
+    def __init__(self, word, table, sid, iuc, n, grants, poll=None):
         self.word, self.id, self.sid, self.iuc, self.n, self.grants = word, table["id"], sid, iuc, n, grants
+        self.poll, self.is_active = poll, True
         self.start, self.interval, self.jitter = (4 * table[key] for key in ("start_us", "interval_us", "jitter_us"))
         self.next = 0      # the first interval that wasn't looked at
-        self.waiting = []  # occurrences (i, k) that are not settled, in order
+        self.waiting = []  # occurrences (i, k) that are not settled, in order, with their IUC and minislots
     def due(self, end):
-        """All that is ideal before a time and isn't settled."""
+        """All that is ideal before a time, which is the end of the round, and isn't settled."""
         while self.start + self.next * self.interval < end:
-            self.waiting += [(self.next, k) for k in range(self.grants)]
+            if self.is_active:
+                self.waiting += [(self.next, k, self.iuc, self.n) for k in range(self.grants)]
+            else:
+                self.waiting.append((self.next, 0, 1, self.poll))
             self.next += 1
         return self.waiting
 
@@ -95,14 +98,15 @@ def calendar_of(channel, flows, stations):
     """The entries of a channel in order."""
     here = [f for f in flows if f["type"] != 2 and f["channels"][0] == channel.id]
     entries = []
-    for kind, word in (6, "ugs"), (4, "rtp"), (3, "nrtp"):
+    poll = channel.t["request_minislots"]
+    for kind, word in (6, "ugs"), (5, "ad"), (4, "rtp"), (3, "nrtp"):
         for f in sorted((f for f in here if f["type"] == kind), key=lambda f: f["id"]):
             sid = f["clusters"][0][0]
-            if kind == 6:
+            if kind in (5, 6):
                 n = channel.cost(channel.unsolicited, f["grant_bytes"])
-                entries.append(Entry(word, f, sid, 11, n, f["grants_per_interval"]))
+                entries.append(Entry(word, f, sid, 11, n, f["grants_per_interval"], poll if kind == 5 else None))
             else:
-                entries.append(Entry(word, f, sid, 1, channel.t["request_minislots"], 1))
+                entries.append(Entry(word, f, sid, 1, poll, 1))
     for s in sorted((s for s in stations if s["channel"] == channel.id), key=lambda s: s["id"]):
         entries.append(Entry("station", s, s["sid"], 4, channel.t["station_minislots"], 1))
     return entries
@@ -122,16 +126,18 @@ def settle(entry, r, channel, board, granted, missed, seen):
     begin = r * channel.len
     end = (begin + channel.len) * minislot
     left = []
-    for i, k in entry.due(end):
+    for i, k, iuc, n in entry.due(end):
         ideal = entry.start + i * entry.interval
         first = max(ceil_div(ideal, minislot) - begin, 0)
         last = min((ideal + entry.jitter) // minislot - begin, channel.len - 1)
-        at = earliest(board, entry.n, first, last)
+        at = earliest(board, n, first, last)
         if at is not None:
-            board.put(at, entry.n, entry.sid, entry.iuc)
+            board.put(at, n, entry.sid, iuc)
             granted.append((at, f"G,{r},{channel.id},{entry.word},{entry.id},{i},{k},"
-                                f"{entry.sid},{entry.iuc},{at},{entry.n},0\n"))
+                                f"{entry.sid},{iuc},{at},{n},0\n"))
             seen["waited, then granted"] += ideal < begin * minislot
+            seen["polled while silent"] += entry.poll is not None and iuc == 1
+            seen["settled as another kind than the flow's"] += entry.poll is not None and (iuc == 1) == entry.is_active
             seen["granted " + entry.word] += 1
         elif ideal + entry.jitter < end:
             missed.append(f"M,{r},{channel.id},{entry.word},{entry.id},{i},{k}\n")
@@ -140,7 +146,7 @@ def settle(entry, r, channel, board, granted, missed, seen):
             seen["waited, then missed"] += ideal < begin * minislot
             seen["missed " + entry.word] += 1
         else:
-            left.append((i, k))
+            left.append((i, k, iuc, n))
             seen["waits to a round's very end"] += ideal + entry.jitter == end
     entry.waiting = left
 
@@ -174,9 +180,9 @@ class Budgets:
             if first + second:
                 self.slots[c] -= self.by_id[c].grant_cost(first + second + h)[0]
                 assert self.slots[c] >= 0
-        return demand, weights, more
+        return more
 
-def plan(table, r, by_id, boards, turns, outstanding, units, reserve_units, notes, seen):
+def plan(table, r, by_id, boards, turns, outstanding, units, reserve_units, seen):
     """The shares of a round, turn by turn: first what minimum rates reserve, then all the rest. Spends the reserves."""
     flows = table.get("flow", [])
     budgets = Budgets(by_id, boards, [units[i] // BYTE if f.get("rate") else None for i, f in enumerate(flows)])
@@ -190,7 +196,7 @@ def plan(table, r, by_id, boards, turns, outstanding, units, reserve_units, note
         most = min(outstanding[fi, ci], reserve_units[fi] // BYTE)
         seen["reserves below what is outstanding"] += 0 < most < outstanding[fi, ci]
         seen["reserves above what is outstanding"] += 0 < outstanding[fi, ci] < reserve_units[fi] // BYTE
-        _, _, reserved[fi, ci] = budgets.share(f, fi, most, reserved[fi, ci], h)
+        reserved[fi, ci] = budgets.share(f, fi, most, reserved[fi, ci], h)
         given = sum(reserved[fi, ci])
         seen["first shares"] += given > 0
         seen["first shares short of what is reserved"] += given < most
@@ -204,60 +210,73 @@ def plan(table, r, by_id, boards, turns, outstanding, units, reserve_units, note
             if first:
                 budgets.slots[c] += by_id[c].grant_cost(first + h)[0]
                 seen["first shares that keep their short cost alone"] += by_id[c].capacity(budgets.slots[c]) - h < first
-        demand, weights, more = budgets.share(f, fi, outstanding[fi, ci] - sum(firsts), firsts, h)
+        more = budgets.share(f, fi, outstanding[fi, ci] - sum(firsts), firsts, h)
         seen["second shares on first ones"] += any(a and b for a, b in zip(firsts, more))
-        if notes is not None and demand + sum(firsts):
-            notes.append((r, f["id"], ci, demand, weights, [a + b for a, b in zip(firsts, more)]))
         planned += [(fi, ci, at, c, a + b) for at, (c, a, b) in enumerate(zip(f["channels"], firsts, more)) if a + b]
     return planned
 
-def requests(table, trace_text, rounds):
-    """What a trace asks for: bytes by round and turn, a flow's place and a cluster, and how many of its rows are
-    unknown, not requestable and late."""
+def requests(table, rows, rounds):
+    """What the rows of a trace ask for: bytes by round and turn, a flow's place and a cluster; marks by round and flow,
+    which are 1 for silent and 2 for active; and how many rows are unknown, not requestable and late."""
     P, L = table["round_ticks"], table["lead_ticks"]
     flows = table.get("flow", [])
-    sids = {}  # a turn, or None for unsolicited grants
+    sids = {}  # a flow and a cluster
     for fi, f in enumerate(flows):
         for ci, cluster in enumerate(f["clusters"]):
             for c, s in zip(f["channels"], cluster, strict=True):
                 assert (c, s) not in sids
-                sids[c, s] = (fi, ci) if f["type"] != 6 else None
+                sids[c, s] = fi, ci
     cuts = defaultdict(lambda: defaultdict(int))
+    marks = defaultdict(lambda: defaultdict(int))
     unknown = not_requestable = late = 0
-    for line in trace_text.splitlines()[1:]:
-        tick, channel, sid, n = map(int, line.split(","))
+    for tick, channel, sid, n, kind in rows:
         if (channel, sid) not in sids:
             unknown += 1
             continue
-        if sids[channel, sid] is None:
+        fi, ci = sids[channel, sid]
+        if flows[fi]["type"] == 6 or (kind != 0) != (flows[fi]["type"] == 5):
             not_requestable += 1
             continue
         r = ceil_div(tick + L, P)
         if r >= rounds:
             late += 1
-            continue
-        t = sids[channel, sid]
-        cuts[r][t] += n * flows[t[0]]["unit"]
-    return cuts, (unknown, not_requestable, late)
+        elif kind:
+            marks[r][fi] = max(kind, marks[r][fi])
+        else:
+            cuts[r][fi, ci] += n * flows[fi]["unit"]
+    return cuts, marks, (unknown, not_requestable, late)
 
-def simulate(config_text, trace_text, rounds, notes=None, seen=None):
+def simulate(config_text, trace_text, rounds, seen=None):
+    """The maps file, the report and the summary of a run, of texts that have no fault."""
+    return schedule(tomllib.loads(config_text), plain_trace.rows_of(trace_text.encode()), rounds, seen)
+
+def schedule(table, rows, rounds, seen=None):
+    """The same of the tables of the configuration and the rows of the trace."""
     seen = defaultdict(int) if seen is None else seen
-    table = tomllib.loads(config_text)
     P, L = table["round_ticks"], table["lead_ticks"]
     channels = [Channel(c, P) for c in table["channel"]]
     by_id = {c.id: c for c in channels}
     flows, stations = table.get("flow", []), table.get("station", [])
     calendars = {c.id: calendar_of(c, flows, stations) for c in channels}
-    turns = [(fi, ci) for fi, f in enumerate(flows) if f["type"] != 6 for ci in range(len(f["clusters"]))]
+    asks = [f["type"] not in (5, 6) for f in flows]
+    turns = [(fi, ci) for fi, f in enumerate(flows) if asks[fi] for ci in range(len(f["clusters"]))]
     outstanding = {t: 0 for t in turns}
-    units = [f["burst"] * BYTE if f["type"] != 6 else 0 for f in flows]
+    units = [f["burst"] * BYTE if asks[fi] else 0 for fi, f in enumerate(flows)]
     reserve_units = list(units)
     turns.sort(key=lambda t: (-flows[t[0]]["priority"], flows[t[0]]["id"], t[1]))
-    cuts, (unknown, not_requestable, late) = requests(table, trace_text, rounds)
+    cuts, marks, (unknown, not_requestable, late) = requests(table, rows, rounds)
+    is_active = [True] * len(flows)
+    listeners = {fi: next(e for e in calendars[f["channels"][0]] if (e.word, e.id) == ("ad", f["id"]))
+                 for fi, f in enumerate(flows) if f["type"] == 5}
     maps, report, granted, missed = bytearray(), [], 0, 0
     for r in range(rounds):
         for t, n in cuts[r].items() if r in cuts else ():
             outstanding[t] += n
+        for fi, kind in marks[r].items() if r in marks else ():
+            seen["falls silent"] += is_active[fi] and kind == 1
+            seen["speaks again"] += not is_active[fi] and kind == 2
+            is_active[fi] = kind == 2
+            listeners[fi].is_active = is_active[fi]
         if r > 0:
             for i, f in enumerate(flows):
                 if f.get("rate"):
@@ -274,7 +293,7 @@ def simulate(config_text, trace_text, rounds, notes=None, seen=None):
                 board.put(c.len - c.t["contention_minislots"], c.t["contention_minislots"], 0x3fff, 1)
             for entry in calendars[c.id]:
                 settle(entry, r, c, board, grants[c.id], misses[c.id], seen)
-        planned = plan(table, r, by_id, boards, turns, outstanding, units, reserve_units, notes, seen)
+        planned = plan(table, r, by_id, boards, turns, outstanding, units, reserve_units, seen)
         # place
         credited = defaultdict(int)
         for fi, ci, at, c, share in planned:
@@ -335,34 +354,11 @@ def simulate(config_text, trace_text, rounds, notes=None, seen=None):
             granted += len(grants[c.id])
             missed += len(misses[c.id])
     for fi, f in enumerate(flows):
-        for ci in range(len(f["clusters"]) if f["type"] != 6 else 0):
+        for ci in range(len(f["clusters"]) if asks[fi] else 0):
             report.append(f"F,{f['id']},{ci},{outstanding[fi, ci]},{units[fi] if f['rate'] else '-'}\n")
+    report += [f"A,{f['id']},{int(is_active[fi])}\n" for fi, f in enumerate(flows) if f["type"] == 5]
     seen["open at the end"] += sum(len(e.waiting) for entries in calendars.values() for e in entries)
     report.append(f"U,{unknown},{not_requestable},{late}\n")
     said = (f"rounds {rounds} granted {granted} missed {missed} unknown {unknown} "
             f"not_requestable {not_requestable} late {late}\n")
     return bytes(maps), "".join(report).encode(), said
-
-def dump(maps):
-    out, at = [], 0
-    while at < len(maps):
-        r, n = struct.unpack_from(">IH", maps, at)
-        body = maps[at + 6:at + 6 + n]
-        at += 6 + n
-        elements = [struct.unpack_from(">I", body, 16 + 4 * i)[0] for i in range(body[2])]
-        null = next(i for i, e in enumerate(elements) if e >> 14 & 15 == 7)
-        for i, e in enumerate(elements):
-            length = (elements[i + 1] & 0x3fff) - (e & 0x3fff) if i < null else 0
-            out.append(f"{r} {body[0]} {e & 0x3fff} {length} {e >> 18} {e >> 14 & 15}\n")
-    return "".join(out)
-
-def pipe(config, trace, rounds):
-    maps, report, _ = simulate(config, trace, rounds)
-    return dump(maps) + report.decode()
-
-if __name__ == "__main__":
-    config, trace, rounds, maps, report = sys.argv[1:]
-    a, b, said = simulate(open(config).read(), open(trace).read(), int(rounds))
-    open(maps, "wb").write(a)
-    open(report, "wb").write(b)
-    print(said, end="")

@@ -18,6 +18,7 @@ import records
 EXAMPLES = pathlib.Path(__file__).resolve().parent.parent / "examples"
 BASE = (EXAMPLES / "base.toml").read_text("ascii")
 HEADER = "tick,channel,sid,units\n"
+MARKS_HEADER = "tick,channel,sid,units,kind\n"
 ONE_REQUEST = HEADER + "0,1,291,250\n"
 FLOW = BASE[BASE.index("[[flow]]"):]
 CHANNEL = BASE[BASE.index("[[channel]]") : BASE.index("[[flow]]")]
@@ -55,7 +56,9 @@ class Tests:
         self.passed = self.failed = 0
 
     def judges(self, name, wanted, config, trace, rounds, maps, report):
-        found = plain_checker.judge(config, trace, rounds, maps, report)
+        self.same(name, plain_checker.judge(config, trace, rounds, maps, report), wanted)
+
+    def same(self, name, found, wanted):
         if found == wanted:
             self.passed += 1
         else:
@@ -110,8 +113,8 @@ def report_lines(tests):
     for line in ("", "U,0,0", "U,0,0,0,0", "U,00,0,0", "U,0,0,", "U,0,0,+1", "U,0,0,-", "u,0,0,0", "U,0,0, 0",
                  "U,0,0,0\r", "F,1,0,0", "F,1,0,-,-", "F,1,0,0,--", "F,1,0,0,01", "G,1", "M,0,1,req,1,0,0",
                  "M,0,1,ugs,1,0", "M,0,1,UGS,1,0,0", "M,0,1,ugs,1,0,0,0", "G,0,1,ugs,1,0,0,513,11,0,1",
-                 "G,0,1,ad,1,0,0,513,11,0,1,0",
-                 "G,0,1,ugs,1,0,0,513,11,0,1,-", f"U,0,0,{MOST + 1}", "U,0,0," + "9" * 5_000, "A,1,1", "\u0661,0,0,0"):
+                 "G,0,1,AD,1,0,0,513,11,0,1,0", "A,1", "A,1,-", "A,1,1,1",
+                 "G,0,1,ugs,1,0,0,513,11,0,1,-", f"U,0,0,{MOST + 1}", "U,0,0," + "9" * 5_000, "\u0661,0,0,0"):
         text = STORED_REPORT + line.encode() + b"\n" + STORED_REPORT
         tests.stored(f"a line {line[:40]}", "fault CK1 4", report=text)
     tests.stored("two bad lines, the second cut", "fault CK1 2", report=b"U,0,0,0\nU\nU,0")
@@ -373,9 +376,77 @@ def claims(tests):
                trace=useless)
 
 
+# A call of two grants in each round, which is silent in round 1.
+SILENT_CALL = NO_FLOWS + call(0, 1_000, 2_000, 2).replace("type = 6", "type = 5")
+SILENT_ONCE = MARKS_HEADER + "0,1,513,0,1\n400,1,513,0,2\n"
+SILENT_MAPS = bytes.fromhex(
+    "00000000 0024 01000500 00000000 00000000 02060308 0806c000 0806c001 fffc4002 fffc4096 0001c0a0"
+    "00000001 0020 01000400 000000a0 00000050 02060308 08044000 fffc4002 fffc4096 0001c0a0"
+    "00000002 0024 01000500 00000140 000000f0 02060308 0806c000 0806c001 fffc4002 fffc4096 0001c0a0")
+SILENT_REPORT = b"""G,0,1,ad,1,0,0,513,11,0,1,0
+G,0,1,ad,1,0,1,513,11,1,1,0
+G,1,1,ad,1,1,0,513,1,0,2,0
+G,2,1,ad,1,2,0,513,11,0,1,0
+G,2,1,ad,1,2,1,513,11,1,1,0
+A,1,1
+U,0,0,0
+"""
+
+
+def activity(tests):
+    """Flows that fall silent: what a round's marks make of their grants, and the lines of their activity."""
+    for name, rows, wanted in (
+        ("both marks of the call", SILENT_ONCE, "holds"),
+        ("marks in another order", MARKS_HEADER + "400,1,513,0,2\n0,1,513,0,1\n", "holds"),
+        ("a mark that is told twice", SILENT_ONCE + "300,1,513,0,1\n", "holds"),
+        ("both marks in round 2", SILENT_ONCE + "400,1,513,0,1\n", "holds"),
+        ("no mark as silent", MARKS_HEADER + "400,1,513,0,2\n", "broken P4 1 1 1"),
+        ("no marks, in version 1", HEADER, "broken P4 1 1 1"),
+        ("no mark as active", MARKS_HEADER + "0,1,513,0,1\n", "broken P4 2 1 1"),
+        ("both marks in round 1", SILENT_ONCE + "0,1,513,0,2\n", "broken P4 1 1 1"),
+        ("a mark of nobody", SILENT_ONCE + "0,1,514,0,1\n", "broken P6 3 0 0"),
+        ("a request of the call", SILENT_ONCE + "0,1,513,1,0\n", "broken P6 3 0 0"),
+    ):
+        tests.judges(name, wanted, SILENT_CALL, rows, 3, SILENT_MAPS, SILENT_REPORT)
+    for name, old, new, wanted in (
+        ("another activity", b"A,1,1\n", b"A,1,0\n", "broken P6 3 0 1"),
+        ("an activity of 2", b"A,1,1\n", b"A,1,2\n", "broken P6 3 0 1"),
+        ("the greatest activity", b"A,1,1\n", f"A,1,{MOST}\n".encode(), "broken P6 3 0 1"),
+        ("no activity", b"A,1,1\n", b"", "broken P6 3 0 1"),
+        ("activity twice", b"A,1,1\n", b"A,1,1\nA,1,1\n", "broken P6 3 0 1"),
+        ("activity of nobody", b"A,1,1\n", b"A,9,1\nA,1,1\n", "broken P6 3 0 9"),
+        ("activity behind counts", b"A,1,1\nU,0,0,0\n", b"U,0,0,0\nA,1,1\n", "holds"),
+        ("activity before counts", b"A,1,1\nU,0,0,0\n", b"U,1,0,0\nA,1,0\n", "broken P6 3 0 1"),
+        ("counts", b"U,0,0,0\n", b"U,0,1,0\n", "broken P6 3 0 0"),
+        ("a poll with the word of unsolicited grants", b"ad,1,1,0", b"ugs,1,1,0", "broken P4 1 1 1"),
+        ("a poll of a k that isn't there", b"ad,1,1,0", b"ad,1,1,1", "broken P4 1 1 1"),
+        ("a poll told as a grant", b"513,1,0,2,0", b"513,11,0,2,0", "broken P3 1 1 0"),
+    ):
+        assert SILENT_REPORT.count(old) == 1
+        tests.judges(name, wanted, SILENT_CALL, SILENT_ONCE, 3, SILENT_MAPS, SILENT_REPORT.replace(old, new))
+    both = SILENT_ONCE + "0,1,513,0,2\n"
+    for name, rows, rounds in (("a call that falls silent once", SILENT_ONCE, 3),
+                               ("marks of a round together", both, 3),
+                               ("a call that stays silent", MARKS_HEADER + "0,1,513,0,1\n", 9)):
+        tests.made(name, SILENT_CALL, rows, rounds)
+    tests.stored("activity of a flow that tells none", "broken P6 2 0 1", report=STORED_REPORT + b"A,1,1\n")
+    for line in ("A,1,01", f"A,1,{MOST + 1}", "a,1,1", "B,1,1", "G,0,1,ad,1,0,0,513,11,0,1"):
+        tests.stored(f"a line {line}", "fault CK1 4", report=STORED_REPORT + f"{line}\n".encode())
+    # grants of an interval that wait for the next round, in which the flow falls silent
+    waiting = (IDLE.replace("maintenance_minislots = 0", "maintenance_minislots = 159").replace(
+        "maintenance_every = 1", "maintenance_every = 2") + call(500, 1_999, 2_000, 2).replace("type = 6", "type = 5"))
+    _maps, report = tests.made("a mark while a grant waits", waiting, MARKS_HEADER + "0,1,513,0,1\n", 3)
+    tests.same("what waits is granted", report.splitlines()[:3],
+               [b"G,0,1,ad,1,0,0,513,11,159,1,0", b"G,1,1,ad,1,0,1,513,11,0,1,0", b"G,1,1,ad,1,1,0,513,1,40,2,0"])
+    rows = MARKS_HEADER + "0,1,291,0,1\n0,1,291,5,0\n0,1,513,5,0\n0,1,999,0,2\n1000000,1,513,0,1\n"
+    _maps, report = tests.made("marks of another type", BASE + call(0, 100).replace("type = 6", "type = 5").replace(
+        "id = 1\n", "id = 2\n"), rows, 2)
+    tests.same("counts of them", report.splitlines()[-2:], [b"A,2,1", b"U,1,2,1"])
+
+
 def made_ones(tests, seeds):
     """What the second scheduler makes of the examples and of random configurations holds."""
-    for name, rounds in ("plant", 4), ("bonded", 6), ("voice", 12):
+    for name, rounds in ("plant", 4), ("bonded", 6), ("voice", 12), ("silence", 25):
         config, trace = ((EXAMPLES / f"{name}.{kind}").read_text("ascii") for kind in ("toml", "csv"))
         tests.made(name, config, trace, rounds)
     for seed in range(seeds):
@@ -391,7 +462,7 @@ def hostile_ones(tests):
 
 def main():
     tests = Tests()
-    for test in (stored_run, prefixes, report_lines, bodies, headings, spans, marks, claims, hostile_ones):
+    for test in (stored_run, prefixes, report_lines, bodies, headings, spans, marks, claims, activity, hostile_ones):
         test(tests)
     made_ones(tests, int(sys.argv[1]) if len(sys.argv) > 1 else 100)
     print(f"{tests.passed} passed, {tests.failed} failed")

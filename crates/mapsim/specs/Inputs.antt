@@ -26,6 +26,13 @@ IsInputFault (fault.Device stream.Input) = ⊤
 IsInputFault fault.NoMemory = ⊤
 IsInputFault _ = ⊥
 
+-- a fault of the files that are judged, behind the rounds
+abbrev pub IsJudgeFault : Fault → Type 0
+IsJudgeFault (fault.Run run.Rounds) = ⊥
+IsJudgeFault (fault.Device stream.Input) = ⊥
+IsJudgeFault (fault.Device stream.Output) = ⊥
+IsJudgeFault _ = ⊤
+
 -- a fault of the lines of MAPs
 abbrev pub IsPrintFault : Fault → Type 0
 IsPrintFault (fault.Map f index) = ⊤

@@ -1,29 +1,28 @@
-ghost use Rattle.std.specs.Prelude.{◌≡◌, ◌≢◌, ◌↔◌, ℕ, List, [], ◌∷◌, ◌++◌, true, false, Ok, Err, IfOk, IfErr, OnOk};
+ghost use Rattle.std.specs.Prelude.{◌≡◌, ◌≢◌, ◌↔◌, ℕ, List, [], ◌∷◌, ◌++◌, true, false, None, Some, Err, IfOk, IfErr, OnOk};
 ghost use Rattle.std.specs.Io.KnownBytes.{Appends};
 ghost use Rattle.us_flows.specs.Tables.{rounds_fit};
 ghost use Rattle.us_lawful.specs.Runs.{run_in};
-ghost use Rattle.us_check.specs.Verdicts.{Answers, verdict_text};
+ghost use Rattle.us_check.specs.Verdicts.{verdict_text};
 ghost use Rattle.us_replay.specs.declared.faults.RunFault.TheVariants as run;
-ghost use Rattle.mapsim.specs.Inputs.{IsPrintFault};
+ghost use Rattle.mapsim.specs.Inputs.{IsJudgeFault, IsPrintFault};
 ghost use Rattle.mapsim.specs.Statuses as statuses;
-ghost use Rattle.mapsim.specs.VerdictLines.{IsTraceFor, IsVerdict, IsVerdictOf};
+ghost use Rattle.mapsim.specs.VerdictLines.{IsJudged, IsVerdict, IsVerdictOf};
 ghost use Rattle.mapsim.specs.declared.faults.Fault.TheVariants as fault;
 ghost use Rattle.mapsim.specs.declared.faults.Stream.TheVariants as stream;
 
 use crate::faults::{Fault, Stream};
-use crate::files::{opened, read_config, read_file};
+use crate::files::{bytes_from, read_config};
+use crate::opening::{FileAt, open_at};
 use crate::orders::FileCheck;
 use crate::printing::print;
 use crate::statuses::Status;
-use crate::texts::Texts;
 use std::alloc::Global;
-use std::fs;
 use std::rt::Files;
 use us_check::{Verdict, check};
 use us_flows::Config;
 use us_replay::RunFault;
 use us_requests::Trace;
-use us_slots::{FromRead, Sink};
+use us_slots::{Sink, Source};
 
 /// Judges the maps file and the report in files, and prints the verdict. The status is that of the verdict.
 pub fn check_files<R: Files, O: Sink>(
@@ -44,56 +43,82 @@ pub fn check_files<R: Files, O: Sink>(
     Ok(verdict_status(verdict))
 }
 
-/// The verdict on the maps file and the report in files. The trace is read first, then the maps file, then the report.
+/// The verdict on the files of an order. RU1 is answered before the trace is opened.
 fn judge_files<R: Files>(
     rt: &R,
     alloc: Global,
     config: &Config,
     order: &FileCheck<'_>,
 ) -> Result<Verdict, Fault>
-    ensures verdict { IfOk result (IsVerdict config.now order.now.rounds) }
-    ensures fault { IfErr result (λ f. (f ≢ fault.Device stream.Input) × (f ≢ fault.Device stream.Output)) }
-{
-    let trace = read_trace(rt, alloc, config, order)?;
-    let texts = read_texts(rt, alloc, order)?;
-    judge(alloc, config, &trace, &texts)
-}
-
-/// The trace in a file. RU1 is answered before the file is opened.
-fn read_trace<R: Files>(
-    rt: &R,
-    alloc: Global,
-    config: &Config,
-    order: &FileCheck<'_>,
-) -> Result<Trace, Fault>
-    ensures trace { IfOk result (IsTraceFor config.now order.now.rounds) }
+    ensures verdict { IfOk result (IsVerdict config.now order.now.rounds None None None) }
     ensures rounds { (result ≡ Err (fault.Run run.Rounds)) ↔ (rounds_fit config.now order.now.rounds ≡ false) }
     ensures fault { IfErr result (λ f. (f ≢ fault.Device stream.Input) × (f ≢ fault.Device stream.Output)) }
 {
     if !config.rounds_fit(order.rounds) {
         return Err(Fault::Run(RunFault::Rounds));
     }
-    let mut file = FromRead::new(opened(fs::open(rt, order.trace), Stream::Trace)?);
-    Ok(Trace::read(alloc, &mut file, config, order.rounds)?)
+    let mut trace = open_at(rt, order.trace, Stream::Trace)?;
+    judge_trace(rt, alloc, config, order, &mut trace)
 }
 
-/// The maps file and the report in files.
-fn read_texts<R: Files>(rt: &R, alloc: Global, order: &FileCheck<'_>) -> Result<Texts, Fault>
-    ensures { IfErr result (λ f. (f ≢ fault.Device stream.Input) × (f ≢ fault.Device stream.Output)) }
+/// Reads the order's trace to its end, and goes on with its maps file.
+fn judge_trace<R: Files, S: Source>(
+    rt: &R,
+    alloc: Global,
+    config: &Config,
+    order: &FileCheck<'_>,
+    trace: &mut FileAt<'_, S>,
+) -> Result<Verdict, Fault>
+    requires fits { rounds_fit config.now order.now.rounds ≡ true }
+    requires at { trace.old.path.now ≡ order.now.trace.now }
+    requires ready { S.failed trace.old.device ≡ false }
+    ensures verdict { IfOk result
+        (IsVerdict config.now order.now.rounds (S.remaining trace.old.device) None None) }
+    ensures fault { IfErr result IsJudgeFault }
 {
-    let maps = read_file(rt, alloc, order.maps, Stream::Maps)?;
-    let report = read_file(rt, alloc, order.report, Stream::Report)?;
-    Ok(Texts { maps, report })
+    let trace = Trace::read(alloc, &mut trace.device, config, order.rounds)?;
+    let mut maps = open_at(rt, order.maps, Stream::Maps)?;
+    judge_maps(rt, alloc, config, order, &trace, &mut maps)
 }
 
-/// The verdict on a maps file and a report.
-fn judge(alloc: Global, config: &Config, trace: &Trace, texts: &Texts) -> Result<Verdict, Fault>
+/// Reads the order's maps file, and goes on with its report.
+fn judge_maps<R: Files, S: Source>(
+    rt: &R,
+    alloc: Global,
+    config: &Config,
+    order: &FileCheck<'_>,
+    trace: &Trace,
+    maps: &mut FileAt<'_, S>,
+) -> Result<Verdict, Fault>
     requires fits { rounds_fit config.now trace.now.rounds ≡ true }
-    ensures verdict { IfOk result (λ verdict.
-        Answers (run_in config.now trace.now) texts.now.maps.items texts.now.report.items (Ok verdict)) }
-    ensures fault { IfErr result (λ f. (f ≢ fault.Device stream.Input) × (f ≢ fault.Device stream.Output)) }
+    requires at { maps.old.path.now ≡ order.now.maps.now }
+    requires ready { S.failed maps.old.device ≡ false }
+    ensures verdict { IfOk result (IsJudged (run_in config.now trace.now) (S.remaining maps.old.device) None) }
+    ensures fault { IfErr result IsJudgeFault }
 {
-    Ok(check(alloc, config, trace, &texts.maps, &texts.report)?)
+    let text = bytes_from(alloc, &mut maps.device, Stream::Maps)?;
+    let mut report = open_at(rt, order.report, Stream::Report)?;
+    judge_report(alloc, config, order, trace, &text, &mut report)
+}
+
+/// Reads the order's report, and judges it and the maps file that was read before.
+fn judge_report<S: Source>(
+    alloc: Global,
+    config: &Config,
+    order: &FileCheck<'_>,
+    trace: &Trace,
+    maps: &[u8],
+    report: &mut FileAt<'_, S>,
+) -> Result<Verdict, Fault>
+    requires fits { rounds_fit config.now trace.now.rounds ≡ true }
+    requires at { report.old.path.now ≡ order.now.report.now }
+    requires ready { S.failed report.old.device ≡ false }
+    ensures verdict { IfOk result
+        (IsJudged (run_in config.now trace.now) (Some maps.now) (S.remaining report.old.device)) }
+    ensures fault { IfErr result IsJudgeFault }
+{
+    let text = bytes_from(alloc, &mut report.device, Stream::Report)?;
+    Ok(check(alloc, config, trace, maps, &text)?)
 }
 
 /// Prints a verdict, as a line.

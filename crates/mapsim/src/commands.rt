@@ -1,3 +1,5 @@
+ghost use Rattle.std.specs.Prelude.{◌≡◌, decimal};
+
 use crate::helps::{Helps, PROGRAM};
 use clap::builder::ValueParser;
 use clap::{Arg, ArgAction, Command, value_parser};
@@ -6,14 +8,8 @@ use std::alloc::{AllocError, Global};
 /// The rounds of `pipe` where none are given.
 pub const DEFAULT_ROUNDS: u32 = 2;
 
-/// The same as a word.
-const DEFAULT_ROUNDS_WORD: &str = "2";
-
 /// The workers where none are given.
 pub const DEFAULT_WORKERS: usize = 1;
-
-/// The same as a word.
-const DEFAULT_WORKERS_WORD: &str = "1";
 
 /// A subcommand.
 #[derive(Clone, Copy)]
@@ -29,7 +25,7 @@ struct CommandOption {
     name: &'static str,
     value: Value,
     /// What stands for it where it isn't given. It is required where there is none.
-    default: Option<&'static str>,
+    default: Option<Fallback>,
     help: &'static str,
 }
 
@@ -38,6 +34,13 @@ struct CommandOption {
 enum Value {
     Path,
     Number,
+}
+
+/// What stands for an option that isn't given.
+#[derive(Clone, Copy)]
+enum Fallback {
+    Rounds,
+    Workers,
 }
 
 const REPLAY: Subcommand = Subcommand {
@@ -94,7 +97,7 @@ const PIPE: Subcommand = Subcommand {
     about: "Replays standard input: the configuration, a line `%%`, the trace",
     options: &[
         CommandOption {
-            default: Some(DEFAULT_ROUNDS_WORD),
+            default: Some(Fallback::Rounds),
             ..ROUNDS
         },
         WORKERS,
@@ -112,7 +115,7 @@ const TRACE: CommandOption = CommandOption {
     name: "trace",
     value: Value::Path,
     default: None,
-    help: "The trace, CSV: a row `tick,channel,sid,units` for each request",
+    help: "The trace, CSV: a row for each request, and for each mark of a flow that falls silent or is active again",
 };
 
 const ROUNDS: CommandOption = CommandOption {
@@ -133,7 +136,7 @@ const MAPS: CommandOption = CommandOption {
 const WORKERS: CommandOption = CommandOption {
     name: "workers",
     value: Value::Number,
-    default: Some(DEFAULT_WORKERS_WORD),
+    default: Some(Fallback::Workers),
     help: "How many workers share the channels of a round, 1 to 64. More workers pay where each channel has much to do in \
         a round, some 10 grants and more; short rounds take a little longer with them",
 };
@@ -141,9 +144,7 @@ const WORKERS: CommandOption = CommandOption {
 /// The program as clap is told of it.
 pub fn command<'a>(alloc: Global, helps: &'a Helps) -> Result<Command<'a>, AllocError> {
     Command::new(alloc, "mapsim")
-        .about(
-            "Replays the requests of a trace, writes the MAPs of each round, and judges such files",
-        )
+        .about("Replays a trace, writes the MAPs of each round, and judges such files")
         .after_help(PROGRAM)
         .subcommand_required(true)
         .subcommand(subcommand_of(alloc, &REPLAY, helps.replay.as_str())?)?
@@ -179,7 +180,22 @@ fn arg_of<'a>(alloc: Global, option: &CommandOption) -> Arg<'a> {
         .help(option.help)
         .action(ArgAction::Set);
     match option.default {
-        Some(value) => arg.default_value(value),
+        Some(Fallback::Rounds) => arg.default_value(rounds_word()),
+        Some(Fallback::Workers) => arg.default_value(workers_word()),
         None => arg.required(true),
     }
+}
+
+/// The rounds where none are given, as a word.
+fn rounds_word() -> &'static str
+    ensures { result.now ≡ decimal DEFAULT_ROUNDS }
+{
+    "2"
+}
+
+/// The workers where none are given, as a word.
+fn workers_word() -> &'static str
+    ensures { result.now ≡ decimal DEFAULT_WORKERS }
+{
+    "1"
 }

@@ -1,37 +1,26 @@
-ghost use Rattle.std.specs.Prelude.{◌≡◌, ◌⊎◌, IfErr};
+ghost use Rattle.std.specs.Prelude.{◌≡◌, ◌⊎◌, ◌↔◌, ◌<◌, length, true, false, Err, IfOk, IfErr, IfSome};
+ghost use Rattle.us_flows.specs.declared.faults.ConfigFault.TheVariants as config;
 ghost use Rattle.mapsim.specs.Inputs.{IsConfigFault};
 ghost use Rattle.mapsim.specs.declared.faults.Fault.TheVariants as fault;
+ghost use Rattle.mapsim.specs.declared.faults.Stream.TheVariants as stream;
 
 use crate::faults::{Fault, Stream};
+use crate::opening::open_at;
 use std::alloc::Global;
-use std::fs;
-use std::io::{self, ErrorKind};
 use std::rt::Files;
 use us_flows::{Config, ConfigFault, MAX_CONFIG_BYTES};
-use us_slots::{FromRead, ReadFault, read_all};
+use us_slots::{ReadFault, Source, read_all};
 
 /// The configuration in a file.
 pub fn read_config<R: Files>(rt: &R, alloc: Global, path: &str) -> Result<Config, Fault>
     ensures { IfErr result IsConfigFault }
 {
-    let text = config_text(rt, alloc, path)?;
+    let mut file = open_at(rt, path, Stream::Config)?;
+    let text = text_from(alloc, &mut file.device)?;
     Ok(Config::read(alloc, &text)?)
 }
 
-/// The text of a configuration in a file.
-fn config_text<R: Files>(rt: &R, alloc: Global, path: &str) -> Result<Vec<u8>, Fault>
-    ensures { IfErr result IsConfigFault }
-{
-    let mut file = FromRead::new(opened(fs::open(rt, path), Stream::Config)?);
-    match read_all(alloc, &mut file, MAX_CONFIG_BYTES) {
-        Ok(text) => Ok(text),
-        Err(ReadFault::TooLarge) => Err(Fault::Config(ConfigFault::Text)),
-        Err(ReadFault::Failed) => Err(Fault::Device(Stream::Config)),
-        Err(ReadFault::NoMemory) => Err(Fault::NoMemory),
-    }
-}
-
-/// All bytes of a file, which is the program's file of this kind. What memory can't hold is want of it.
+/// All bytes of a file, which is the program's file of this kind.
 pub fn read_file<R: Files>(
     rt: &R,
     alloc: Global,
@@ -40,21 +29,41 @@ pub fn read_file<R: Files>(
 ) -> Result<Vec<u8>, Fault>
     ensures { IfErr result (λ f. (f ≡ fault.Device stream) ⊎ (f ≡ fault.NoMemory)) }
 {
-    let mut file = FromRead::new(opened(fs::open(rt, path), stream)?);
-    match read_all(alloc, &mut file, usize::MAX) {
-        Ok(bytes) => Ok(bytes),
-        Err(ReadFault::Failed) => Err(Fault::Device(stream)),
-        Err(ReadFault::TooLarge | ReadFault::NoMemory) => Err(Fault::NoMemory),
+    let mut file = open_at(rt, path, stream)?;
+    bytes_from(alloc, &mut file.device, stream)
+}
+
+/// The text of a configuration, from the device that has it.
+fn text_from<S: Source>(alloc: Global, source: &mut S) -> Result<Vec<u8>, Fault>
+    requires { S.failed source.old ≡ false }
+    ensures value { IfOk result (λ v. IfSome (S.remaining source.old) (λ text. v.items ≡ text)) }
+    ensures large { result ≡ Err (fault.Config config.Text) → IfSome (S.remaining source.old) (λ text.
+        MAX_CONFIG_BYTES < length text) }
+    ensures failed { (S.failed source.new ≡ true) ↔ (result ≡ Err (fault.Device stream.Config)) }
+    ensures fault { IfErr result IsConfigFault }
+{
+    match read_all(alloc, source, MAX_CONFIG_BYTES) {
+        Ok(text) => Ok(text),
+        Err(ReadFault::TooLarge) => Err(Fault::Config(ConfigFault::Text)),
+        Err(ReadFault::Failed) => Err(Fault::Device(Stream::Config)),
+        Err(ReadFault::NoMemory) => Err(Fault::NoMemory),
     }
 }
 
-/// A file that was opened or made, or the fault that says why not.
-pub fn opened<F>(answer: io::Result<F>, stream: Stream) -> Result<F, Fault>
-    ensures { IfErr result (λ f. (f ≡ fault.Device stream) ⊎ (f ≡ fault.NoMemory)) }
+/// All bytes of the program's file of this kind, from its device. What memory can't hold is want of it.
+pub fn bytes_from<S: Source>(
+    alloc: Global,
+    source: &mut S,
+    stream: Stream,
+) -> Result<Vec<u8>, Fault>
+    requires { S.failed source.old ≡ false }
+    ensures value { IfOk result (λ v. IfSome (S.remaining source.old) (λ bytes. v.items ≡ bytes)) }
+    ensures failed { (S.failed source.new ≡ true) ↔ (result ≡ Err (fault.Device stream)) }
+    ensures fault { IfErr result (λ f. (f ≡ fault.Device stream) ⊎ (f ≡ fault.NoMemory)) }
 {
-    match answer {
-        Ok(file) => Ok(file),
-        Err(error) if error.kind() == ErrorKind::OutOfMemory => Err(Fault::NoMemory),
-        Err(_) => Err(Fault::Device(stream)),
+    match read_all(alloc, source, usize::MAX) {
+        Ok(bytes) => Ok(bytes),
+        Err(ReadFault::Failed) => Err(Fault::Device(stream)),
+        Err(ReadFault::TooLarge | ReadFault::NoMemory) => Err(Fault::NoMemory),
     }
 }

@@ -77,6 +77,7 @@ The maps file has for each round, and there for each channel: the round (4 bytes
 length of the MAP body in bytes (2 bytes, big-endian), and the body.
 ",
     ),
+    Part::Text(TRACE),
     Part::Text(REPORT),
     Part::Text(UNITS),
     Part::Text(FAULTS),
@@ -117,19 +118,21 @@ The rules, in the order in which they are looked at, each with its three numbers
       round, channel, first minislot where this fails; a line of a round or channel that the run has
       not comes first: its round, its channel, 0
   P4  Each unsolicited grant, poll and station maintenance is granted once in its window, or missed
-      once in the round in which the window ends, and the report has no other line of these.
+      once in the round in which the window ends, and the report has no other line of these. Of an
+      interval that begins while its flow is silent this is one poll, and no grant.
       round, channel, id of the flow or station
   P5  No flow is credited more than its rate and its burst allow, in any span of rounds.
       last round of the span, 0, id of the flow
-  P6  Each credit was asked for by that SID cluster and is what its grant carries, and the F and U
-      lines tell what is left.
-      round, channel or 0 for all of them together, id of the flow; for F and U lines the number of
-      rounds, 0, and the id of the flow or 0
+  P6  Each credit was asked for by that SID cluster and is what its grant carries, and the F, A and U
+      lines tell how the run ends.
+      round, channel or 0 for all of them together, id of the flow; for F, A and U lines the number
+      of rounds, 0, and the id of the flow or 0
 
 Indices, minislots and rounds are counted from 0. The rules know nothing of how a schedule is made:
 the files may come from any scheduler.
 ",
     ),
+    Part::Text(TRACE),
     Part::Text(REPORT),
     Part::Text(UNITS),
     Part::Text(FAULTS),
@@ -177,6 +180,7 @@ It prints a line for each element of each MAP, with offset and length in minislo
   round channel offset length sid iuc
 ",
     ),
+    Part::Text(TRACE),
     Part::Text(REPORT),
     Part::Text(UNITS),
     Part::Text(FAULTS),
@@ -189,17 +193,31 @@ It prints a line for each element of each MAP, with offset and length in minislo
     Part::Text(MEMORY),
 ];
 
+/// The trace.
+const TRACE: &str = "
+The trace, by its header:
+  tick,channel,sid,units
+                    each row is a request
+  tick,channel,sid,units,kind
+                    kind 0 is a request; 1 marks that a flow of type 5 falls silent, 2 that it is
+                    active again, and units are 0
+";
+
 /// The report.
 const REPORT: &str = "
 The report:
   G,round,channel,entry,id,i,k,sid,iuc,start,slots,credit
-                    a grant or a poll
+                    a grant or a poll. entry: ugs is a grant of type 6, ad one of type 5 or its poll,
+                    rtp and nrtp are polls of types 4 and 3, station is a station's maintenance, and
+                    req a grant that was asked for
   M,round,channel,entry,id,i,k
                     a grant or a poll that was missed
   F,flow,cluster,outstanding,units
                     what a SID cluster still asks for, and what its flow's bucket holds
+  A,flow,active
+                    whether a flow of type 5 is active at the end: 1 active, 0 silent
   U,unknown,not_requestable,late
-                    how many rows of the trace are no requests, by reason
+                    how many rows of the trace, requests and marks, count for nothing, by reason
 ";
 
 /// The units of configuration, trace and report.

@@ -40,6 +40,9 @@ mod dumps;
 // A maps file and a report in memory.
 mod texts;
 
+// Files with their paths.
+mod opening;
+
 // Files that are read whole.
 mod files;
 

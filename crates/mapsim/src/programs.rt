@@ -1,4 +1,4 @@
-ghost use Rattle.std.specs.Prelude.{◌≡◌, ◌↔◌, ◌<◌, length, true, false, Ok, Err, IfOk, OnOk, IfErr};
+ghost use Rattle.std.specs.Prelude.{◌≡◌, ◌↔◌, ◌⊎◌, ◌<◌, length, true, false, Ok, Err, IfOk, OnOk, IfErr};
 ghost use Rattle.mapsim.specs.Statuses.{status_of};
 ghost use Rattle.mapsim.specs.Printouts.{Prints, Stops};
 ghost use Rattle.mapsim.specs.Orders.{Does, MayEnd, PrintsBroken};
@@ -39,6 +39,8 @@ where
     ensures broken { result ≡ Status.Broken → PrintsBroken (O.contents output.old) (O.contents output.new) }
     ensures input_failed { I.failed input.new ≡ true → result ≡ Status.DeviceFailed }
     ensures output_failed { O.failed output.new ≡ true → result ≡ Status.DeviceFailed }
+    // Where it ends as done or as broken, standard output was flushed.
+    ensures flushed { (result ≡ Status.Done) ⊎ (result ≡ Status.Broken) → O.flushed output.new ≡ true }
 {
     match obey(rt, words, input, output) {
         Ok(status) => status,
@@ -74,10 +76,35 @@ where
         PrintsBroken (O.contents output.old) (O.contents output.new) }
     ensures input_failed { I.failed input.new ≡ true → result ≡ Err (fault.Device stream.Input) }
     ensures output_failed { (O.failed output.new ≡ true) ↔ (result ≡ Err (fault.Device stream.Output)) }
+    ensures flushed { OnOk result (O.flushed output.new ≡ true) }
 {
     let helps = Helps::new(rt.alloc())?;
     let order = order_of(rt.alloc(), words, &helps)?;
-    let status = carry_out(rt, &order, input, output)?;
+    obey_order(rt, &order, input, output)
+}
+
+/// Does what is asked for, flushes standard output, and answers how the program ends.
+#[tactic(auto, using(crate::proofs::OrderLemmas::does_kept))]
+fn obey_order<R, I, O>(
+    rt: &R,
+    order: &Order<'_>,
+    input: &mut I,
+    output: &mut O,
+) -> Result<Status, Fault>
+where
+    R: Files + AllocGlobal + Threads + Sync,
+    I: Source,
+    O: Sink,
+    requires input_ready { I.failed input.old ≡ false }
+    requires output_ready { O.failed output.old ≡ false }
+    ensures done { IfOk result
+        (Does order.now (I.remaining input.old) (O.contents output.old) (O.contents output.new)) }
+    ensures stopped { IfErr result (MayEnd order.now (I.remaining input.old)) }
+    ensures input_failed { I.failed input.new ≡ true → result ≡ Err (fault.Device stream.Input) }
+    ensures output_failed { (O.failed output.new ≡ true) ↔ (result ≡ Err (fault.Device stream.Output)) }
+    ensures flushed { OnOk result (O.flushed output.new ≡ true) }
+{
+    let status = carry_out(rt, order, input, output)?;
     match output.flush() {
         Ok(()) => Ok(status),
         Err(_) => Err(Fault::Device(Stream::Output)),

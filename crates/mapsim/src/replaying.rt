@@ -1,22 +1,24 @@
 ghost use Rattle.std.specs.Prelude.{◌≡◌, ◌≢◌, ◌↔◌, ◌≤◌, ℕ, List, [], ◌∷◌, ◌++◌, true, false, Err, IfOk, IfErr, OnOk};
 ghost use Rattle.std.specs.Io.KnownBytes.{Appends};
+ghost use Rattle.us_replay.specs.Replays.{Growth, Replayed};
 ghost use Rattle.mapsim.specs.Inputs.{IsPrintFault};
 ghost use Rattle.mapsim.specs.SummaryLines.{IsSummaryOf, summary_line};
 ghost use Rattle.mapsim.specs.declared.faults.Fault.TheVariants as fault;
 ghost use Rattle.mapsim.specs.declared.faults.Stream.TheVariants as stream;
 
 use crate::faults::{Fault, Stream};
-use crate::files::{opened, read_config};
+use crate::files::read_config;
+use crate::opening::{FileAt, create_at, open_at};
 use crate::orders::FileReplay;
 use crate::printing::print;
 use std::alloc::Global;
+use std::fmt;
 use std::rt::Files;
 use std::thread::Threads;
-use std::{fmt, fs};
 use us_crew::OpenGate;
 use us_flows::Config;
-use us_replay::{Summary, check_run, replay};
-use us_slots::{FromRead, FromWrite, Sink};
+use us_replay::{RunFault, Summary, check_run, replay};
+use us_slots::{Sink, Source};
 
 /// Replays a trace from files into files, and prints what it did.
 pub fn replay_files<R: Files + Threads + Sync, O: Sink>(
@@ -49,21 +51,46 @@ fn replay_trace<R: Files + Threads + Sync>(
     ensures fault { IfErr result (λ f. (f ≢ fault.Device stream.Input) × (f ≢ fault.Device stream.Output)) }
 {
     check_run(config, order.rounds, order.workers)?;
-    let mut trace = FromRead::new(opened(fs::open(rt, order.trace), Stream::Trace)?);
-    let mut maps = FromWrite::new(opened(fs::create(rt, order.maps), Stream::Maps)?);
-    let mut report = FromWrite::new(opened(fs::create(rt, order.report), Stream::Report)?);
-    let summary = replay(
-        rt,
+    let mut trace = open_at(rt, order.trace, Stream::Trace)?;
+    let mut maps = create_at(rt, order.maps, Stream::Maps)?;
+    let mut report = create_at(rt, order.report, Stream::Report)?;
+    let summary = replay_at(rt, alloc, config, order, &mut trace, &mut maps, &mut report)?;
+    Ok(summary)
+}
+
+/// Replays the trace from the order's file of it into the order's files: its maps file takes the MAPs, and its report the
+/// lines.
+fn replay_at<H: Threads + Sync, S: Source, W1: Sink, W2: Sink>(
+    threads: &H,
+    alloc: Global,
+    config: &Config,
+    order: &FileReplay<'_>,
+    trace: &mut FileAt<'_, S>,
+    maps: &mut FileAt<'_, W1>,
+    report: &mut FileAt<'_, W2>,
+) -> Result<Summary, RunFault>
+    requires trace_at { trace.old.path.now ≡ order.now.trace.now }
+    requires maps_at { maps.old.path.now ≡ order.now.maps.now }
+    requires report_at { report.old.path.now ≡ order.now.report.now }
+    requires trace_ready { S.failed trace.old.device ≡ false }
+    requires maps_ready { W1.failed maps.old.device ≡ false }
+    requires report_ready { W2.failed report.old.device ≡ false }
+    ensures { let to_maps : Growth = record { before = W1.contents maps.old.device; after = W1.contents maps.new.device } in
+        let to_report : Growth =
+        record { before = W2.contents report.old.device; after = W2.contents report.new.device } in
+        Replayed config.now order.now.rounds (S.remaining trace.old.device) to_maps to_report result }
+{
+    replay(
+        threads,
         alloc,
         config,
-        &mut trace,
+        &mut trace.device,
         order.rounds,
         order.workers,
         &OpenGate,
-        &mut maps,
-        &mut report,
-    )?;
-    Ok(summary)
+        &mut maps.device,
+        &mut report.device,
+    )
 }
 
 /// Prints what a replay did.

@@ -1,5 +1,8 @@
-ghost use Rattle.std.specs.Prelude.{◌≡◌, ◌<◌, length, Ok, IfErr};
+ghost use Rattle.std.specs.Prelude.{◌≡◌, ◌≢◌, ◌⊎◌, ◌<◌, length, Ok, OnOk, IfErr};
+ghost use Rattle.clap.specs.Words.{kind_of};
+ghost use Rattle.clap.specs.declared.error.kind.ErrorKind.TheVariants as kind;
 ghost use Rattle.mapsim.specs.Inputs.{IsWordsFault};
+ghost use Rattle.mapsim.specs.declared.faults.Fault.TheVariants as fault;
 ghost use Rattle.mapsim.specs.declared.orders.Order.TheVariants as order;
 
 use crate::commands::{DEFAULT_ROUNDS, DEFAULT_WORKERS, command};
@@ -45,7 +48,10 @@ fn given_order<'a>(alloc: Global, given: &ArgMatches<'a>) -> Result<Order<'a>, F
 
 /// What clap says in place of matches: help, or why the words are refused.
 fn answer<'a>(alloc: Global, error: &Error) -> Result<Order<'a>, Fault>
-    ensures { IfErr result IsWordsFault }
+    ensures shown { OnOk result ((kind_of error.now ≡ kind.DisplayHelp) ⊎ (kind_of error.now ≡ kind.DisplayVersion)) }
+    ensures refused { IfErr result (λ f. (f ≡ fault.NoMemory) ⊎
+        (kind_of error.now ≢ kind.DisplayHelp) × (kind_of error.now ≢ kind.DisplayVersion)) }
+    ensures fault { IfErr result IsWordsFault }
 {
     if error.kind() == ErrorKind::OutOfMemory {
         return Err(Fault::NoMemory);

@@ -5,8 +5,8 @@ use Rattle.std.proofs.Math.ListN.{set, length-set}
 use Rattle.std.proofs.lemmas.List.{append-nil, length-drop, get_or-drop}
 use Rattle.std.proofs.lemmas.Bool.{cases_eq, cases_lt}
 use Rattle.us_holes.specs.Boards.{Board}
-use Rattle.us_calendar.specs.Occurrences.{Pace}
-use Rattle.us_calendar.specs.Settling.{EntryState, SettledEntry, settle_entry, after_settling, told_as}
+use Rattle.us_calendar.specs.Occurrences.{Pace, end_of}
+use Rattle.us_calendar.specs.Settling.{EntryState, SettledEntry, settle_state, after_settling, told_as}
 use Rattle.us_calendar.specs.Calendars.{Ran, run_entries}
 use Rattle.us_calendar.specs.declared.settled.Settled.{Settled}
 use Rattle.us_calendar.specs.Kept.{IsEntryState, IsQuiet}
@@ -15,19 +15,19 @@ use Rattle.us_calendar.proofs.EntryStateLemmas.{quiet_before}
 use Rattle.us_calendar.proofs.NearLemmas.{Noted, Changed, is_noted, is_changed}
 use Rattle.us_calendar.proofs.RunLemmas.{run_from, run_past, skip_to, run_step, the_some}
 
-set_same : (states : List EntryState) (p : ℕ) (state : EntryState) → p < length states → slice_get (set states p state) p ≡ Some state
+pub set_same : (states : List EntryState) (p : ℕ) (state : EntryState) → p < length states → slice_get (set states p state) p ≡ Some state
 set_same [] p state inside = absurd (omega (arith, inside))
 set_same (first ∷ states) zero state inside = refl
 set_same (first ∷ states) (suc p) state inside = set_same states p state (omega (arith, inside))
 
-set_other : (states : List EntryState) (p q : ℕ) (state : EntryState) → p ≢ q → slice_get (set states p state) q ≡ slice_get states q
+pub set_other : (states : List EntryState) (p q : ℕ) (state : EntryState) → p ≢ q → slice_get (set states p state) q ≡ slice_get states q
 set_other [] p q state other = refl
 set_other (first ∷ states) zero zero state other = absurd (other refl)
 set_other (first ∷ states) zero (suc q) state other = refl
 set_other (first ∷ states) (suc p) zero state other = refl
 set_other (first ∷ states) (suc p) (suc q) state other = set_other states p q state (λ e. other (ap suc e))
 
-set_known : (states : List EntryState) (p : ℕ) (state : EntryState) → AllByRecursion IsEntryState states → IsEntryState state →
+pub set_known : (states : List EntryState) (p : ℕ) (state : EntryState) → AllByRecursion IsEntryState states → IsEntryState state →
     AllByRecursion IsEntryState (set states p state)
 set_known [] p state all is = tt
 set_known (first ∷ states) zero state all is = (is, all.1)
@@ -288,14 +288,14 @@ module _ (pace : Pace) (round : ℕ) (old_states : List EntryState) (old_board :
 
     module _ (state state_now : EntryState) (now : Board) (told_now : List Settled) (at : ℕ) (new_near : List (List ℕ))
         (new_far : List ℕ) (state_is : slice_get states place ≡ Some state)
-        (state_now_is : state_now ≡ after_settling state (settle_entry pace round state board).settlements)
-        (now_is : now ≡ (settle_entry pace round state board).board)
-        (told_is : told_now ≡ told ++ map (told_as state.entry) (settle_entry pace round state board).settlements)
+        (state_now_is : state_now ≡ after_settling (end_of pace round) state (settle_state pace round state board).settlements)
+        (now_is : now ≡ (settle_state pace round state board).board)
+        (told_is : told_now ≡ told ++ map (told_as state.entry) (settle_state pace round state board).settlements)
         (at_is : at ≡ max (round + 1) (due_at pace state_now))
         (put : IsPut near far round at place new_near new_far) where
       step : run_from pace round g.from states board ≡
-          (let one : SettledEntry = settle_entry pace round state board in
-          let rest : Ran = run_from pace round (suc place) (set states place (after_settling state one.settlements)) one.board in
+          (let one : SettledEntry = settle_state pace round state board in
+          let rest : Ran = run_from pace round (suc place) (set states place (after_settling (end_of pace round) state one.settlements)) one.board in
           record {
             states = rest.states;
             board = rest.board;
@@ -309,8 +309,8 @@ module _ (pace : Pace) (round : ℕ) (old_states : List EntryState) (old_board :
           ap (λ p. run_from pace round p states board) there ∙ run_step pace round place states state board state_is
 
       same : run_from pace round (suc place) (set states place state_now) now ≡
-          run_from pace round (suc place) (set states place (after_settling state (settle_entry pace round state board).settlements))
-          (settle_entry pace round state board).board
+          run_from pace round (suc place) (set states place (after_settling (end_of pace round) state (settle_state pace round state board).settlements))
+          (settle_state pace round state board).board
       same = ap₂ (λ r b. run_from pace round (suc place) (set states place r) b) state_now_is now_is
 
       -- and what is noted then
@@ -407,10 +407,10 @@ module _ (pace : Pace) (round : ℕ) (old_states : List EntryState) (old_board :
       pub going-step : length now.cells ≡ length board.cells → IsEntryState state_now →
           Going pace round old_states old_board old_told (set states place state_now) now told_now new_near new_far (passed + 1) count
       going-step len is_state =
-          let settlements = map (told_as state.entry) (settle_entry pace round state board).settlements in
+          let settlements = map (told_as state.entry) (settle_state pace round state board).settlements in
           let rest : Ran =
-          run_from pace round (suc place) (set states place (after_settling state (settle_entry pace round state board).settlements))
-          (settle_entry pace round state board).board in
+          run_from pace round (suc place) (set states place (after_settling (end_of pace round) state (settle_state pace round state board).settlements))
+          (settle_state pace round state board).board in
           record {
             from = suc place;
             same_states = ap (λ ran. ran.states) same ∙ sym (ap (λ ran. ran.states) step) ∙ g.same_states;

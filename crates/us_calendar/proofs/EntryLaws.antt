@@ -1,5 +1,5 @@
 -- The entries of lawful tables: each is of one flow or one station and stands on its channel alone, and each is lawful.
-use Rattle.std.proofs.Common.{◌≡◌, ◌≢◌, ℕ, zero, suc, ◌<◌, ◌≤◌, ◌⊎◌, ◌==◌, Bool, true, false, List, [], ◌∷◌, ◌++◌, length, map, filter_map, get_or, Option, Some, None, IfSome, slice_get, slice_index, unwrap_or, option_and_then, if◌then◌else◌, refl, sym, ap, ap₂, ◌∙◌, inl, inr, subst, arith}
+use Rattle.std.proofs.Common.{◌≡◌, ◌≢◌, ℕ, zero, suc, ◌+◌, ◌<◌, ◌≤◌, ◌⊎◌, ◌==◌, Bool, true, false, List, [], ◌∷◌, ◌++◌, length, map, flat_map, take, filter_map, get_or, Option, Some, None, IfSome, slice_get, slice_index, unwrap_or, option_and_then, if◌then◌else◌, refl, sym, ap, ap₂, ◌∙◌, inl, inr, subst, arith}
 use Rattle.std.specs.List.{AllByRecursion, Contains, cons_option}
 use Rattle.std.proofs.lemmas.Bool.{eqb-true}
 use Rattle.std.proofs.lemmas.List.Elements.{All-contains, All-from_recursion, Contains-append_cases}
@@ -13,14 +13,18 @@ use Rattle.us_flows.specs.Lawful.{AreApart, AreTables, Between, Fits, IsChannel,
 use Rattle.us_flows.specs.declared.channels.Channel.{Channel}
 use Rattle.us_flows.specs.declared.stations.Station.{Station}
 use Rattle.us_flows.specs.declared.flows.SchedulingType.{SchedulingType}
-use Rattle.us_flows.specs.declared.flows.SchedulingType.TheVariants.{BestEffort, NonRealTimePolling, RealTimePolling, UnsolicitedGrant}
+use Rattle.us_flows.specs.declared.flows.SchedulingType.TheVariants.{BestEffort, NonRealTimePolling, RealTimePolling, ActivityDetection, UnsolicitedGrant}
+use Rattle.us_flows.specs.Clusters.{Silent, Active, tells_activity, words_before, words_in, words_of}
 use Rattle.us_flows.proofs.KeyLaws.{item_of_key, channel_found}
+use Rattle.us_flows.proofs.WordLaws.{activity_has_words}
+use Rattle.std.proofs.lemmas.List.{length-append}
 use Rattle.us_holes.specs.Boards.{IsOwner}
 use Rattle.us_calendar.specs.declared.kinds.Kind.{Kind}
 use Rattle.us_calendar.specs.declared.kinds.Kind.TheVariants as kinds
-use Rattle.us_calendar.specs.Entries.{Entry, quarters, first_sid, rank_of, entries, scheduled, entry_of_flow, entry_of_station}
-use Rattle.us_calendar.specs.Laws.{EntriesAreApart, EntriesAreLawful, IsLawfulEntry}
-use Rattle.us_calendar.proofs.OrderLemmas.{flow_made, station_made, flows_first, stations_then}
+use Rattle.us_calendar.specs.declared.silences.Silence.{Silence}
+use Rattle.us_calendar.specs.Entries.{Entry, WordedFlow, with_words, quarters, first_sid, grant_cost, rank_of, entries, scheduled, entry_of_flow, entry_of_station}
+use Rattle.us_calendar.specs.Laws.{EntriesAreApart, EntriesAreLawful, EntriesHaveWords, IsLawfulEntry}
+use Rattle.us_calendar.proofs.OrderLemmas.{flow_made, station_made, flows_first, stations_then, worded_apart}
 use Rattle.us_calendar.proofs.SortedLemmas.{entries_moved, entries_all}
 
 -- of which flow or station an entry is
@@ -52,7 +56,7 @@ module _ {X : Type 0} (h : X → Option Entry) where
   made_of xs e has = made_at xs e has.0 (found_at (filter_map h xs) has.0 e has.1 has.2)
 
 abbrev IsOf : Tables → Channel → Entry → Type 0
-IsOf t c e = IsMadeOf (entry_of_flow c) t.flows e ⊎ IsMadeOf (entry_of_station c) t.stations e
+IsOf t c e = IsMadeOf (entry_of_flow c) (with_words 0 t.flows) e ⊎ IsMadeOf (entry_of_station c) t.stations e
 
 all_of : (t : Tables) → AreTables t → (c : Channel) (e : Entry) → Contains (entries t c) e → IsOf t c e
 all_of t lawful c e has =
@@ -61,7 +65,7 @@ all_of t lawful c e has =
     let listed = Contains-permutation (entries t c) (flows ++ stations) e
     (IsPermutation-sym (flows ++ stations) (entries t c) (entries_moved t c lawful)) has in
     elim (Contains-append_cases flows stations e listed) [
-      | inl own ↦ inl (made_of (entry_of_flow c) t.flows e own)
+      | inl own ↦ inl (made_of (entry_of_flow c) (with_words 0 t.flows) e own)
       | inr own ↦ inr (made_of (entry_of_station c) t.stations e own)
     ]
 
@@ -71,9 +75,11 @@ if_some : (b : Bool) (o : Option Entry) (e : Entry) → (if b then o else None) 
 if_some true o e is = refl
 if_some false o e is = let never : None ≡ Some e = is in absurd cc
 
-flow_channel : (c : Channel) (f : FlowTable) (e : Entry) → entry_of_flow c f ≡ Some e → slice_index f.channels 0 ≡ c.id
+flow_channel : (c : Channel) (f : WordedFlow) (e : Entry) → entry_of_flow c f ≡ Some e →
+    slice_index f.flow.channels 0 ≡ c.id
 flow_channel c f e is =
-    eqb-true (slice_index f.channels 0) c.id (if_some (slice_index f.channels 0 == c.id) (scheduled c f f.kind) e is)
+    eqb-true (slice_index f.flow.channels 0) c.id
+    (if_some (slice_index f.flow.channels 0 == c.id) (scheduled c f.word f.flow f.flow.kind) e is)
 
 station_channel : (c : Channel) (s : Station) (e : Entry) → entry_of_station c s ≡ Some e → s.channel ≡ c.id
 station_channel c s e is = eqb-true s.channel c.id (if_some (s.channel == c.id) (Some (record {
@@ -85,6 +91,7 @@ station_channel c s e is = eqb-true s.channel c.id (if_some (s.channel == c.id) 
   interval = quarters s.interval_us;
   jitter = quarters s.jitter_us;
   grants = 1;
+  silence = None;
 })) e is)
 
 -- flows, or stations, with entries that have their ids and stand on their channels
@@ -105,15 +112,15 @@ module _ {X : Type 0} (id channel : X → ℕ) (h : Channel → X → Option Ent
       let entries : e ≡ f = cc in
       (channels, entries)
 
-of_flow : (c : Channel) (f : FlowTable) (e : Entry) → entry_of_flow c f ≡ Some e →
-    (e.id ≡ f.id) × (rank_of e.kind ≤ 2)
-of_flow c f e is = subst (λ o. IfSome o (λ e. (e.id ≡ f.id) × (rank_of e.kind ≤ 2))) is (flow_made c f)
+of_flow : (c : Channel) (f : WordedFlow) (e : Entry) → entry_of_flow c f ≡ Some e →
+    (e.id ≡ f.flow.id) × (rank_of e.kind ≤ 3)
+of_flow c f e is = subst (λ o. IfSome o (λ e. (e.id ≡ f.flow.id) × (rank_of e.kind ≤ 3))) is (flow_made c f)
 
 of_station : (c : Channel) (s : Station) (e : Entry) → entry_of_station c s ≡ Some e →
-    (e.id ≡ s.id) × (rank_of e.kind ≡ 3)
-of_station c s e is = subst (λ o. IfSome o (λ e. (e.id ≡ s.id) × (rank_of e.kind ≡ 3))) is (station_made c s)
+    (e.id ≡ s.id) × (rank_of e.kind ≡ 4)
+of_station c s e is = subst (λ o. IfSome o (λ e. (e.id ≡ s.id) × (rank_of e.kind ≡ 4))) is (station_made c s)
 
-other_kinds : (t : Tables) (c d : Channel) (e f : Entry) → IsMadeOf (entry_of_flow c) t.flows e →
+other_kinds : (t : Tables) (c d : Channel) (e f : Entry) → IsMadeOf (entry_of_flow c) (with_words 0 t.flows) e →
     IsMadeOf (entry_of_station d) t.stations f → e.kind ≡ f.kind → ⊥
 other_kinds t c d e f one other same =
     let flow = of_flow c one.1 e one.3 in
@@ -125,9 +132,9 @@ pub entries_are_apart : EntriesAreApart
 entries_are_apart t lawful c d has_c has_d e f of_c of_d same ids = elim (all_of t lawful c e of_c) [
   | inl flow ↦ elim (all_of t lawful d f of_d) [
     | inl other ↦
-        one_made (λ f. f.id) (λ f. slice_index f.channels 0) entry_of_flow
-        (λ c f e is. ((of_flow c f e is).0, flow_channel c f e is)) t lawful t.flows lawful.flows_apart c d has_c has_d
-        e f flow other ids
+        one_made (λ (f : WordedFlow). f.flow.id) (λ (f : WordedFlow). slice_index f.flow.channels 0) entry_of_flow
+        (λ c f e is. ((of_flow c f e is).0, flow_channel c f e is)) t lawful (with_words 0 t.flows)
+        (worded_apart t c lawful) c d has_c has_d e f flow other ids
     | inr other ↦ absurd (other_kinds t c d e f flow other same)
   ]
   | inr station ↦ elim (all_of t lawful d f of_d) [
@@ -157,9 +164,10 @@ lawful_owner : (sid iuc : ℕ) → sid ≤ max_unicast_sid → iuc < 16 → iuc 
 lawful_owner sid iuc few usage other = record { sid = omega (arith, few); usage = usage; other = other }
 
 -- an entry of such times
-lawful_entry : (t : Tables) (c : Channel) (kind : Kind) (id sid iuc slots start interval jitter grants : ℕ) →
-    IsSchedule start interval jitter → sid ≤ max_unicast_sid → iuc < 16 → iuc ≢ codes.null → 1 ≤ slots →
-    slots ≤ map_len t c → 1 ≤ grants → grants ≤ 127 → IsLawfulEntry t c (record {
+lawful_entry : (t : Tables) (c : Channel) (kind : Kind) (id sid iuc slots start interval jitter grants : ℕ)
+    (silence : Option Silence) → IsSchedule start interval jitter → sid ≤ max_unicast_sid → iuc < 16 →
+    iuc ≢ codes.null → 1 ≤ slots → slots ≤ map_len t c → 1 ≤ grants → grants ≤ 127 →
+    IfSome silence (λ s. (1 ≤ s.slots) × (s.slots ≤ map_len t c)) → IsLawfulEntry t c (record {
       kind = kind;
       id = id;
       owner = record { sid = sid; iuc = iuc };
@@ -168,19 +176,38 @@ lawful_entry : (t : Tables) (c : Channel) (kind : Kind) (id sid iuc slots start 
       interval = quarters interval;
       jitter = quarters jitter;
       grants = grants;
+      silence = silence;
     })
-lawful_entry t c kind id sid iuc slots start interval jitter grants times few usage other some room one most = record {
-  entry = record {
-    owner = lawful_owner sid iuc few usage other;
-    slots = some;
-    start = omega (arith, times.start);
-    interval = omega (arith, times.interval);
-    jitter = omega (arith, times.jitter);
-    grants = one;
-    few_grants = most;
-  };
-  room = room;
-}
+lawful_entry t c kind id sid iuc slots start interval jitter grants None times few usage other some room one most poll =
+    record {
+      entry = record {
+        owner = lawful_owner sid iuc few usage other;
+        slots = some;
+        poll = some;
+        start = omega (arith, times.start);
+        interval = omega (arith, times.interval);
+        jitter = omega (arith, times.jitter);
+        grants = one;
+        few_grants = most;
+      };
+      room = room;
+      poll_room = room;
+    }
+lawful_entry t c kind id sid iuc slots start interval jitter grants (Some s) times few usage other some room one most poll =
+    record {
+      entry = record {
+        owner = lawful_owner sid iuc few usage other;
+        slots = some;
+        poll = poll.0;
+        start = omega (arith, times.start);
+        interval = omega (arith, times.interval);
+        jitter = omega (arith, times.jitter);
+        grants = one;
+        few_grants = most;
+      };
+      room = room;
+      poll_room = poll.1;
+    }
 
 module _ (t : Tables) (lawful : AreTables t) (c : Channel) (has : Contains t.channels c) where
   channel_is : channel_with t.channels c.id ≡ Some c
@@ -189,8 +216,9 @@ module _ (t : Tables) (lawful : AreTables t) (c : Channel) (has : Contains t.cha
   own_channel : IsChannel t c
   own_channel = All-contains (IsChannel t) t.channels c (All-from_recursion (IsChannel t) t.channels lawful.channels) has
 
-  flow_lawful : (f : FlowTable) → IsFlow t f → IfSome (entry_of_flow c f) (IsLawfulEntry t c)
-  flow_lawful f is =
+  flow_lawful : (word : ℕ) (f : FlowTable) → IsFlow t f →
+      IfSome (entry_of_flow c (record { word = word; flow = f })) (IsLawfulEntry t c)
+  flow_lawful word f is =
       by (slice_index f.channels 0 == c.id) (eqb-true (slice_index f.channels 0) c.id)
     where
       sid : first_sid f ≤ max_unicast_sid
@@ -202,26 +230,37 @@ module _ (t : Tables) (lawful : AreTables t) (c : Channel) (has : Contains t.cha
           channel_is
 
       of_kind : slice_index f.channels 0 ≡ c.id → (k : SchedulingType) → IsScheduled t f k →
-          IfSome (scheduled c f k) (IsLawfulEntry t c)
+          IfSome (scheduled c word f k) (IsLawfulEntry t c)
       of_kind same BestEffort of = tt
       of_kind same NonRealTimePolling of =
           lawful_entry t c kinds.NonRealTimePoll f.id (first_sid f) codes.request c.request_minislots f.start_us
-          f.interval_us f.jitter_us 1 of.1.schedule sid (omega arith) (λ e. omega (arith, e)) own_channel.request_minislots.0
-          (subst (Fits t (λ channel. channel.request_minislots)) (first same) of.1.poll) (omega arith) (omega arith)
+          f.interval_us f.jitter_us 1 None of.1.schedule sid (omega arith) (λ e. omega (arith, e)) own_channel.request_minislots.0
+          (subst (Fits t (λ channel. channel.request_minislots)) (first same) of.1.poll) (omega arith) (omega arith) tt
       of_kind same RealTimePolling of =
           lawful_entry t c kinds.RealTimePoll f.id (first_sid f) codes.request c.request_minislots f.start_us
-          f.interval_us f.jitter_us 1 of.1.schedule sid (omega arith) (λ e. omega (arith, e)) own_channel.request_minislots.0
-          (subst (Fits t (λ channel. channel.request_minislots)) (first same) of.1.poll) (omega arith) (omega arith)
+          f.interval_us f.jitter_us 1 None of.1.schedule sid (omega arith) (λ e. omega (arith, e)) own_channel.request_minislots.0
+          (subst (Fits t (λ channel. channel.request_minislots)) (first same) of.1.poll) (omega arith) (omega arith) tt
+      of_kind same ActivityDetection of =
+          lawful_entry t c kinds.Activity f.id (first_sid f) codes.unsolicited_grant (grant_cost c f) f.start_us
+          f.interval_us f.jitter_us f.grants_per_interval
+          (Some (record { word = word; slots = c.request_minislots })) of.0.schedule sid (omega arith)
+          (λ e. omega (arith, e))
+          (burst_cost-some c.bursts.time c.bursts.unsolicited f.grant_bytes own_channel.bursts.unsolicited of.0.grant_bytes)
+          (subst (Fits t (λ channel. burst_cost channel.bursts.time channel.bursts.unsolicited f.grant_bytes)) (first same)
+          of.0.grant) of.0.grants is.grants (
+            own_channel.request_minislots.0,
+            subst (Fits t (λ channel. channel.request_minislots)) (first same) of.1.poll,
+          )
       of_kind same UnsolicitedGrant of =
           lawful_entry t c kinds.Unsolicited f.id (first_sid f) codes.unsolicited_grant
           (burst_cost c.bursts.time c.bursts.unsolicited f.grant_bytes) f.start_us f.interval_us f.jitter_us
-          f.grants_per_interval of.schedule sid (omega arith) (λ e. omega (arith, e))
+          f.grants_per_interval None of.schedule sid (omega arith) (λ e. omega (arith, e))
           (burst_cost-some c.bursts.time c.bursts.unsolicited f.grant_bytes own_channel.bursts.unsolicited of.grant_bytes)
           (subst (Fits t (λ channel. burst_cost channel.bursts.time channel.bursts.unsolicited f.grant_bytes)) (first same)
-          of.grant) of.grants is.grants
+          of.grant) of.grants is.grants tt
 
       by : (b : Bool) → (b ≡ true → slice_index f.channels 0 ≡ c.id) →
-          IfSome (if b then scheduled c f f.kind else None) (IsLawfulEntry t c)
+          IfSome (if b then scheduled c word f f.kind else None) (IsLawfulEntry t c)
       by true same = of_kind (same refl) f.kind is.scheduled
       by false same = tt
 
@@ -237,14 +276,86 @@ module _ (t : Tables) (lawful : AreTables t) (c : Channel) (has : Contains t.cha
         interval = quarters s.interval_us;
         jitter = quarters s.jitter_us;
         grants = 1;
+        silence = None;
       }) else None) (IsLawfulEntry t c)
       by true same =
           lawful_entry t c kinds.Station s.id s.sid codes.station_maintenance c.station_minislots s.start_us s.interval_us
-          s.jitter_us 1 is.schedule is.sid.1 (omega arith) (λ e. omega (arith, e)) own_channel.station_minislots.0
+          s.jitter_us 1 None is.schedule is.sid.1 (omega arith) (λ e. omega (arith, e)) own_channel.station_minislots.0
           (subst (Fits t (λ channel. channel.station_minislots))
-          (ap (channel_with t.channels) (same refl) ∙ channel_is) is.maintenance) (omega arith) (omega arith)
+          (ap (channel_with t.channels) (same refl) ∙ channel_is) is.maintenance) (omega arith) (omega arith) tt
       by false same = tt
 
 pub entries_are_lawful : EntriesAreLawful
 entries_are_lawful t lawful c has =
-    entries_all t c lawful (IsLawfulEntry t c) (flow_lawful t lawful c has) (station_lawful t lawful c has)
+    entries_all t c lawful (IsLawfulEntry t c) (λ x. flow_lawful t lawful c has x.word x.flow) (station_lawful t lawful c has)
+
+-- the words of a flow whose activity is detected
+
+flow_silence : (c : Channel) (x : WordedFlow) → IfSome (entry_of_flow c x)
+    (λ e. IfSome e.silence (λ s. (tells_activity x.flow.kind ≡ true) × (s.word ≡ x.word)))
+flow_silence c x = by (slice_index x.flow.channels 0 == c.id)
+  where
+    of_kind : (k : SchedulingType) → IfSome (scheduled c x.word x.flow k)
+        (λ e. IfSome e.silence (λ s. (tells_activity k ≡ true) × (s.word ≡ x.word)))
+    of_kind BestEffort = tt
+    of_kind NonRealTimePolling = tt
+    of_kind RealTimePolling = tt
+    of_kind ActivityDetection = (refl, refl)
+    of_kind UnsolicitedGrant = tt
+
+    by : (b : Bool) → IfSome (if b then scheduled c x.word x.flow x.flow.kind else None)
+        (λ e. IfSome e.silence (λ s. (tells_activity x.flow.kind ≡ true) × (s.word ≡ x.word)))
+    by true = of_kind x.flow.kind
+    by false = tt
+
+station_silence : (c : Channel) (s : Station) → IfSome (entry_of_station c s) (λ e. e.silence ≡ None)
+station_silence c s = by (s.channel == c.id)
+  where
+    by : (b : Bool) → IfSome {T = Entry} (if b then Some (record {
+      kind = kinds.Station;
+      id = s.id;
+      owner = record { sid = s.sid; iuc = codes.station_maintenance };
+      slots = c.station_minislots;
+      start = quarters s.start_us;
+      interval = quarters s.interval_us;
+      jitter = quarters s.jitter_us;
+      grants = 1;
+      silence = None;
+    }) else None) (λ e. e.silence ≡ None)
+    by true = refl
+    by false = tt
+
+worded_at : (word : ℕ) (flows : List FlowTable) (i : ℕ) (x : WordedFlow) →
+    slice_get (with_words word flows) i ≡ Some x →
+    (slice_get flows i ≡ Some x.flow) × (x.word ≡ word + words_before flows i)
+worded_at word [] i x at = let never : None ≡ Some x = at in cc
+worded_at word (flow ∷ flows) zero x at =
+    let first : WordedFlow = record { word = word; flow = flow } in
+    let same : Some first ≡ Some x = at in
+    let equal : first ≡ x = cc in
+    let none : word ≡ word + 0 = omega arith in
+    (ap (λ y. Some y.flow) equal, sym (ap (λ y. y.word) equal) ∙ none)
+worded_at word (flow ∷ flows) (suc i) x at =
+    let rest = worded_at (word + length (words_in flow)) flows i x at in
+    let long = length-append (words_in flow) (flat_map words_in (take i flows)) in
+    (rest.0, omega (arith, rest.1, long))
+
+pub entries_have_words : EntriesHaveWords
+entries_have_words t lawful c e s has is = elim (all_of t lawful c e has) [
+  | inl flow ↦
+      let x : WordedFlow = flow.1 in
+      let own = subst (λ o. IfSome o (λ e. IfSome e.silence (λ s. (tells_activity x.flow.kind ≡ true) × (s.word ≡ x.word))))
+      flow.3 (flow_silence c x) in
+      let words = subst (λ o. IfSome o (λ s. (tells_activity x.flow.kind ≡ true) × (s.word ≡ x.word))) is own in
+      let at = worded_at 0 t.flows flow.0 x flow.2 in
+      let activity = activity_has_words t flow.0 x.flow at.0 words.0 in
+      let word : words_before t.flows flow.0 ≡ s.word = omega (arith, words.1, at.1) in (
+        x.flow,
+        sym (of_flow c x e flow.3).0,
+        subst (λ n. slice_get (words_of t) n ≡ Some (Silent x.flow)) word activity.0,
+        subst (λ n. slice_get (words_of t) (n + 1) ≡ Some (Active x.flow)) word activity.1,
+      )
+  | inr station ↦
+      let none = subst (λ o. IfSome o (λ e. e.silence ≡ None)) station.3 (station_silence c station.1) in
+      let never : None ≡ Some s = sym none ∙ is in absurd cc
+]

@@ -1,5 +1,6 @@
 pub mod IdealLemmas
 pub mod DueLemmas
+pub mod ComingLemmas
 pub mod TimedLemmas
 pub mod SettleLemmas
 pub mod SpotLemmas
@@ -7,13 +8,17 @@ pub mod EntryStateLemmas
 pub mod KeyLemmas
 pub mod NearLemmas
 pub mod RunLemmas
+pub mod HeardLemmas
 pub mod RunTimes
 pub mod AgendaLemmas
+pub mod HearingLemmas
 pub mod NotedLemmas
 pub mod RunLaws
+pub mod ListingLemmas
 pub mod OrderLemmas
 pub mod FitLaws
 pub mod OnceLemmas
+pub mod ActivityLemmas
 pub mod OnceLaws
 pub mod SortedLemmas
 pub mod NameLaws

@@ -1,5 +1,5 @@
 -- Entries that are sorted by kind and id stand in order.
-use Rattle.std.proofs.Common.{◌≡◌, ◌≢◌, ℕ, zero, suc, ◌+◌, ◌*◌, ◌<◌, ◌≤◌, ◌⊎◌, ◌==◌, ◌||◌, ◌&&◌, nat_lt, Bool, true, false, List, [], ◌∷◌, ◌++◌, length, map, filter_map, get_or, Option, Some, None, IfSome, slice_index, if◌then◌else◌, ltb, eqb, nat_cmp, Less, Equal, Greater, is_lt, IsPermutation, refl, sym, ◌∙◌, inl, inr, le-ltb, lt-ltb, eq-eqb, ne_eqb, arith}
+use Rattle.std.proofs.Common.{◌≡◌, ◌≢◌, ℕ, zero, suc, ◌+◌, ◌*◌, ◌<◌, ◌≤◌, ◌⊎◌, ◌==◌, ◌||◌, ◌&&◌, nat_lt, Bool, true, false, List, [], ◌∷◌, ◌++◌, length, map, filter_map, get_or, Option, Some, None, IfSome, slice_index, if◌then◌else◌, ltb, eqb, nat_cmp, Less, Equal, Greater, is_lt, IsPermutation, refl, sym, ap, ◌∙◌, inl, inr, subst, le-ltb, lt-ltb, eq-eqb, ne_eqb, arith}
 use Rattle.std.specs.Ordering.{ordering_then}
 use Rattle.std.specs.List.{AllByRecursion, IsDistinct, cons_option}
 use Rattle.std.specs.List.Sorted.{IsNonDecreasing, IsNonDecreasingBy}
@@ -9,16 +9,17 @@ use Rattle.std.proofs.lemmas.List.Elements.{All-from_recursion}
 use Rattle.std.proofs.lemmas.List.Sorted.{All-permutation, length_permutation, IsNonDecreasingBy-from_all_adjacent}
 use Rattle.std.proofs.lemmas.Map.Keys.{IsDistinct-cons, IsDistinct-head, IsDistinct-tail}
 use Rattle.us_flows.specs.Tables.{Tables, FlowTable}
+use Rattle.us_flows.specs.Clusters.{words_in}
 use Rattle.us_flows.specs.Lawful.{AreTables, AreApart, IsFlow, IsStation}
 use Rattle.us_flows.specs.declared.channels.Channel.{Channel}
 use Rattle.us_flows.specs.declared.stations.Station.{Station}
 use Rattle.us_flows.specs.declared.flows.SchedulingType.{SchedulingType}
-use Rattle.us_flows.specs.declared.flows.SchedulingType.TheVariants.{BestEffort, NonRealTimePolling, RealTimePolling, UnsolicitedGrant}
+use Rattle.us_flows.specs.declared.flows.SchedulingType.TheVariants.{BestEffort, NonRealTimePolling, RealTimePolling, ActivityDetection, UnsolicitedGrant}
 use Rattle.us_flows.proofs.RankLemmas.{all_more, sorted-in_place}
 use Rattle.us_flows.proofs.TurnLemmas.{all-append}
 use Rattle.us_slots.specs.UsageCodes as codes
 use Rattle.us_calendar.specs.declared.kinds.Kind.TheVariants as kinds
-use Rattle.us_calendar.specs.Entries.{Entry, quarters, rank_of, goes_before, in_order, entries, scheduled, entry_of_flow, entry_of_station}
+use Rattle.us_calendar.specs.Entries.{Entry, WordedFlow, with_words, quarters, rank_of, goes_before, in_order, entries, scheduled, entry_of_flow, entry_of_station}
 
 -- what entries are sorted by, as one number
 abbrev pub number : Entry → ℕ
@@ -72,20 +73,24 @@ not_lower r i s j li lj h = elim (order_of s r) [
 
 -- of whose entries these are
 
-pub flow_made : (c : Channel) (f : FlowTable) → IfSome (entry_of_flow c f) (λ e. (e.id ≡ f.id) × (rank_of e.kind ≤ 2))
-flow_made c f = by (slice_index f.channels 0 == c.id)
+pub flow_made : (c : Channel) (f : WordedFlow) →
+    IfSome (entry_of_flow c f) (λ e. (e.id ≡ f.flow.id) × (rank_of e.kind ≤ 3))
+flow_made c f = by (slice_index f.flow.channels 0 == c.id)
   where
-    of_kind : (k : SchedulingType) → IfSome (scheduled c f k) (λ e. (e.id ≡ f.id) × (rank_of e.kind ≤ 2))
+    of_kind : (k : SchedulingType) →
+        IfSome (scheduled c f.word f.flow k) (λ e. (e.id ≡ f.flow.id) × (rank_of e.kind ≤ 3))
     of_kind BestEffort = tt
     of_kind NonRealTimePolling = (refl, omega arith)
     of_kind RealTimePolling = (refl, omega arith)
+    of_kind ActivityDetection = (refl, omega arith)
     of_kind UnsolicitedGrant = (refl, omega arith)
 
-    by : (b : Bool) → IfSome (if b then scheduled c f f.kind else None) (λ e. (e.id ≡ f.id) × (rank_of e.kind ≤ 2))
-    by true = of_kind f.kind
+    by : (b : Bool) → IfSome (if b then scheduled c f.word f.flow f.flow.kind else None)
+        (λ e. (e.id ≡ f.flow.id) × (rank_of e.kind ≤ 3))
+    by true = of_kind f.flow.kind
     by false = tt
 
-pub station_made : (c : Channel) (s : Station) → IfSome (entry_of_station c s) (λ e. (e.id ≡ s.id) × (rank_of e.kind ≡ 3))
+pub station_made : (c : Channel) (s : Station) → IfSome (entry_of_station c s) (λ e. (e.id ≡ s.id) × (rank_of e.kind ≡ 4))
 station_made c s = by (s.channel == c.id)
   where
     by : (b : Bool) → IfSome {T = Entry} (if b then Some (record {
@@ -97,7 +102,8 @@ station_made c s = by (s.channel == c.id)
       interval = quarters s.interval_us;
       jitter = quarters s.jitter_us;
       grants = 1;
-    }) else None) (λ e. (e.id ≡ s.id) × (rank_of e.kind ≡ 3))
+      silence = None;
+    }) else None) (λ e. (e.id ≡ s.id) × (rank_of e.kind ≡ 4))
     by true = (refl, refl)
     by false = tt
 
@@ -218,6 +224,7 @@ blank = record {
   interval = 0;
   jitter = 0;
   grants = 0;
+  silence = None;
 }
 
 in_order-is : (es now : List Entry) → AllByRecursion HasId es → IsDistinct eqb (map number es) → IsPermutation es now →
@@ -235,6 +242,22 @@ in_order-is es now ids apart moved sorted =
     (λ y is_y. before_number (rank_of y.kind) y.id (rank_of x.kind) x.id is_y is_x) es ids) es ids in
     sym (sorted-in_place goes_before number es now same apart moved (rises-mapped number now blank rises))
 
+-- flows with their words are those flows
+
+pub worded_all : (P : FlowTable → Type 0) (word : ℕ) (fs : List FlowTable) → AllByRecursion P fs →
+    AllByRecursion (λ (f : WordedFlow). P f.flow) (with_words word fs)
+worded_all P word [] all = tt
+worded_all P word (f ∷ fs) all = (all.0, worded_all P (word + length (words_in f)) fs all.1)
+
+pub worded_ids : (word : ℕ) (fs : List FlowTable) →
+    map (λ (f : WordedFlow). f.flow.id) (with_words word fs) ≡ map (λ f. f.id) fs
+worded_ids word [] = refl
+worded_ids word (f ∷ fs) = ap (λ ids. f.id ∷ ids) (worded_ids (word + length (words_in f)) fs)
+
+worded_many : (word : ℕ) (fs : List FlowTable) → length (with_words word fs) ≡ length fs
+worded_many word [] = refl
+worded_many word (f ∷ fs) = ap suc (worded_many (word + length (words_in f)) fs)
+
 -- the entries of tables
 
 few_flows : (t : Tables) (fs : List FlowTable) → AllByRecursion (IsFlow t) fs → AllByRecursion (λ f. f.id ≤ 65535) fs
@@ -245,41 +268,50 @@ few_stations : (t : Tables) (ss : List Station) → AllByRecursion (IsStation t)
 few_stations t ss all = all_more (IsStation t) (λ s. s.id ≤ 65535) (λ s is. is.id.1) ss all
 
 module _ (t : Tables) (c : Channel) (lawful : AreTables t) where
+  abbrev pub worded : List WordedFlow
+  worded = with_words 0 t.flows
+
+  flow_ids : AllByRecursion (λ (f : WordedFlow). f.flow.id ≤ 65535) worded
+  flow_ids = worded_all (λ f. f.id ≤ 65535) 0 t.flows (few_flows t t.flows lawful.flows)
+
+  pub worded_apart : AreApart (map (λ (f : WordedFlow). f.flow.id) worded)
+  worded_apart = subst AreApart (sym (worded_ids 0 t.flows)) lawful.flows_apart
+
   abbrev pub flows_first : List Entry
-  flows_first = filter_map (entry_of_flow c) t.flows
+  flows_first = filter_map (entry_of_flow c) worded
 
   abbrev pub stations_then : List Entry
   stations_then = filter_map (entry_of_station c) t.stations
 
-  flow_entries : AllByRecursion (λ e. HasId e × (rank_of e.kind ≤ 2)) flows_first
+  flow_entries : AllByRecursion (λ e. HasId e × (rank_of e.kind ≤ 3)) flows_first
   flow_entries =
-      all_made (λ f. f.id) (entry_of_flow c) (λ r. r ≤ 2) (flow_made c) t.flows (few_flows t t.flows lawful.flows)
+      all_made (λ (f : WordedFlow). f.flow.id) (entry_of_flow c) (λ r. r ≤ 3) (flow_made c) worded flow_ids
 
-  station_entries : AllByRecursion (λ e. HasId e × (rank_of e.kind ≡ 3)) stations_then
+  station_entries : AllByRecursion (λ e. HasId e × (rank_of e.kind ≡ 4)) stations_then
   station_entries =
-      all_made (λ s. s.id) (entry_of_station c) (λ r. r ≡ 3) (station_made c) t.stations
+      all_made (λ s. s.id) (entry_of_station c) (λ r. r ≡ 4) (station_made c) t.stations
       (few_stations t t.stations lawful.stations)
 
   cross : AllByRecursion (λ x. AllByRecursion (λ y. eqb x y ≡ false) (map number stations_then)) (map number flows_first)
   cross =
       all_numbers (λ x. AllByRecursion (λ y. eqb x y ≡ false) (map number stations_then))
-      (λ e. HasId e × (rank_of e.kind ≤ 2))
-      (λ e is_e. all_numbers (λ y. eqb (number e) y ≡ false) (λ d. HasId d × (rank_of d.kind ≡ 3))
+      (λ e. HasId e × (rank_of e.kind ≤ 3))
+      (λ e is_e. all_numbers (λ y. eqb (number e) y ≡ false) (λ d. HasId d × (rank_of d.kind ≡ 4))
       (λ d is_d. ne_eqb (number e) (number d) (λ same. omega (arith, same, is_e.0, is_e.1, is_d.1))) stations_then
       station_entries) flows_first flow_entries
 
   pub all_ids : AllByRecursion HasId (flows_first ++ stations_then)
   all_ids =
       all-append HasId flows_first stations_then
-      (all_more (λ e. HasId e × (rank_of e.kind ≤ 2)) HasId (λ e is. is.0) flows_first flow_entries)
-      (all_more (λ e. HasId e × (rank_of e.kind ≡ 3)) HasId (λ e is. is.0) stations_then station_entries)
+      (all_more (λ e. HasId e × (rank_of e.kind ≤ 3)) HasId (λ e is. is.0) flows_first flow_entries)
+      (all_more (λ e. HasId e × (rank_of e.kind ≡ 4)) HasId (λ e is. is.0) stations_then station_entries)
 
   pub all_apart : IsDistinct eqb (map number (flows_first ++ stations_then))
   all_apart =
       rw (map-append number flows_first stations_then) (distinct-append (map number flows_first) (map number stations_then)
-      (distinct (λ f. f.id) (entry_of_flow c) (λ r. r ≤ 2) (flow_made c) t.flows
-      (few_flows t t.flows lawful.flows) lawful.flows_apart)
-      (distinct (λ s. s.id) (entry_of_station c) (λ r. r ≡ 3) (station_made c) t.stations
+      (distinct (λ (f : WordedFlow). f.flow.id) (entry_of_flow c) (λ r. r ≤ 3) (flow_made c) worded flow_ids
+      worded_apart)
+      (distinct (λ s. s.id) (entry_of_station c) (λ r. r ≡ 4) (station_made c) t.stations
       (few_stations t t.stations lawful.stations) lawful.stations_apart) cross)
 
   pub entries-are : (now : List Entry) → IsPermutation (flows_first ++ stations_then) now →
@@ -290,8 +322,9 @@ module _ (t : Tables) (c : Channel) (lawful : AreTables t) where
 
   pub entries-few : (now : List Entry) → IsPermutation (flows_first ++ stations_then) now → length now ≤ 1280
   entries-few now moved =
-      let flows = few_made (λ f. f.id) (entry_of_flow c) (λ r. r ≤ 2) (flow_made c) t.flows in
-      let stations = few_made (λ s. s.id) (entry_of_station c) (λ r. r ≡ 3) (station_made c) t.stations in
+      let flows = few_made (λ (f : WordedFlow). f.flow.id) (entry_of_flow c) (λ r. r ≤ 3) (flow_made c) worded in
+      let count = worded_many 0 t.flows in
+      let stations = few_made (λ s. s.id) (entry_of_station c) (λ r. r ≡ 4) (station_made c) t.stations in
       let long = length-append flows_first stations_then in
       let same = length_permutation (flows_first ++ stations_then) now moved in
-      omega (arith, flows, stations, long, same, lawful.few_flows, lawful.few_stations)
+      omega (arith, flows, count, stations, long, same, lawful.few_flows, lawful.few_stations)

@@ -1,22 +1,50 @@
 -- A round from some entry on: those before it have had their turn.
-use Rattle.std.proofs.Common.{◌≡◌, ℕ, zero, suc, ◌+◌, ◌<◌, ◌≤◌, List, [], ◌∷◌, ◌++◌, length, map, Some, None, slice_get, refl, ap, ◌∙◌, arith}
+use Rattle.std.proofs.Common.{◌≡◌, ℕ, zero, suc, ◌+◌, ◌<◌, ◌≤◌, List, [], ◌∷◌, ◌++◌, length, map, Some, None, slice_get, nat_lt, ◌==◌, Bool, Option, if◌then◌else◌, refl, ap, ◌∙◌, le-ltb, eq-eqb, arith}
 use Rattle.std.proofs.Math.ListN.{set}
 use Rattle.std.proofs.lemmas.List.{append-nil}
 use Rattle.us_holes.specs.Boards.{Board}
-use Rattle.us_calendar.specs.Occurrences.{Pace}
-use Rattle.us_calendar.specs.Settling.{EntryState, SettledEntry, settle_each, settle_entry, after_settling, told_as}
+use Rattle.us_calendar.specs.declared.silences.Silence.{Silence}
+use Rattle.us_calendar.specs.Entries.{Entry}
+use Rattle.us_calendar.specs.Occurrences.{Pace, ideal, end_of}
+use Rattle.us_calendar.specs.Settling.{EntryState, SettledEntry, settle_entry, settle_state, if_detected, speaks_in, waiting_at, after_settling, told_as}
 use Rattle.us_calendar.specs.Calendars.{Ran, run_entries}
 use Rattle.us_calendar.specs.Kept.{IsQuiet}
-use Rattle.us_calendar.proofs.SettleLemmas.{nothing}
+use Rattle.us_calendar.proofs.IdealLemmas.{windows}
+use Rattle.us_calendar.proofs.SettleLemmas.{nothing, settle-none}
 
 pub the_some : (one other : EntryState) → Some one ≡ Some other → one ≡ other
 the_some one other e = cc
 
 -- where nothing is due, nothing happens
 quiet_state : (pace : Pace) (round : ℕ) (state : EntryState) (board : Board) → IsQuiet pace round state →
-    settle_entry pace round state board ≡ nothing board
-unfolding settle_entry settle_each
-quiet_state pace round state board quiet = ap (λ ns. settle_each pace round state.entry ns board) quiet
+    settle_state pace round state board ≡ nothing board
+quiet_state pace round state board quiet =
+    let e : Entry = state.entry in
+    ap (λ settled. settle_entry pace round e (speaks_in state) settled board) quiet.settled ∙
+    settle-none pace round e (speaks_in state) (length state.settled) board (windows e quiet.entry) quiet.later
+
+-- and the state stays as it is
+quiet_waiting : (silence : Option Silence) (end time : ℕ) (kept : Bool) (waiting : Option Bool) → end ≤ time →
+    if_detected silence (if nat_lt time end then Some kept else if time == time then waiting else None) waiting ≡ waiting
+quiet_waiting None end time kept waiting later = refl
+quiet_waiting (Some s) end time kept waiting later = rw (le-ltb time end later, eq-eqb time time refl) refl
+
+quiet_after : (pace : Pace) (round : ℕ) (state : EntryState) → IsQuiet pace round state →
+    after_settling (end_of pace round) state [] ≡ state
+quiet_after pace round state quiet =
+    let end : ℕ = end_of pace round in
+    let time : ℕ = ideal state.entry (length state.settled) in
+    ap (λ settled. record {
+      entry = state.entry;
+      settled = settled;
+      active = state.active;
+      waiting = waiting_at end state (ideal state.entry (length settled));
+    }) (append-nil state.settled) ∙ ap (λ waiting. record {
+      entry = state.entry;
+      settled = state.settled;
+      active = state.active;
+      waiting = waiting;
+    }) (quiet_waiting state.entry.silence end time (speaks_in state time) state.waiting quiet.later)
 
 module _ (pace : Pace) (round : ℕ) where
   -- an entry before those that have their turn stays
@@ -33,13 +61,14 @@ module _ (pace : Pace) (round : ℕ) where
   then_run state one rest =
       let ran : Ran = rest one.board in
       record {
-        states = after_settling state one.settlements ∷ ran.states;
+        states = after_settling (end_of pace round) state one.settlements ∷ ran.states;
         board = ran.board;
         settled = map (told_as state.entry) one.settlements ++ ran.settled;
       }
 
   run_entries-cons : (state : EntryState) (states : List EntryState) (board : Board) →
-      run_entries pace round (state ∷ states) board ≡ then_run state (settle_entry pace round state board) (run_entries pace round states)
+      run_entries pace round (state ∷ states) board ≡ then_run state (settle_state pace round state board)
+      (run_entries pace round states)
   unfolding run_entries
   run_entries-cons state states board = refl
 
@@ -47,9 +76,8 @@ module _ (pace : Pace) (round : ℕ) where
       run_entries pace round (state ∷ states) board ≡ before_states state (run_entries pace round states board)
   skip_state state states board quiet =
       run_entries-cons state states board ∙ ap (λ one. then_run state one (run_entries pace round states))
-      (quiet_state pace round state board quiet) ∙ ap
-      (λ settled. before_states (record { entry = state.entry; settled = settled }) (run_entries pace round states board))
-      (append-nil state.settled)
+      (quiet_state pace round state board quiet) ∙
+      ap (λ now. before_states now (run_entries pace round states board)) (quiet_after pace round state quiet)
 
   skip_one : (p : ℕ) (states : List EntryState) (state : EntryState) (board : Board) → slice_get states p ≡ Some state →
       IsQuiet pace round state → run_from p states board ≡ run_from (suc p) states board
@@ -93,8 +121,8 @@ module _ (pace : Pace) (round : ℕ) where
   -- and the next one has its turn
   pub run_step : (p : ℕ) (states : List EntryState) (state : EntryState) (board : Board) → slice_get states p ≡ Some state →
       run_from p states board ≡
-      (let one : SettledEntry = settle_entry pace round state board in
-      let rest : Ran = run_from (suc p) (set states p (after_settling state one.settlements)) one.board in
+      (let one : SettledEntry = settle_state pace round state board in
+      let rest : Ran = run_from (suc p) (set states p (after_settling (end_of pace round) state one.settlements)) one.board in
       record {
         states = rest.states;
         board = rest.board;

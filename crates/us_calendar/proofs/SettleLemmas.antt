@@ -1,235 +1,309 @@
 -- An entry in a round, one occurrence after another.
-use Rattle.std.proofs.Common.{◌≡◌, ℕ, zero, suc, ◌+◌, ◌*◌, ◌^◌, ◌<◌, ◌≤◌, nat_le, nat_lt, ◌&&◌, false, List, [], ◌∷◌, ◌++◌, length, map, Option, Some, None, refl, ap, sym, ◌∙◌, inl, inr, subst, append_assoc, add-one, arith}
+use Rattle.std.proofs.Common.{◌≡◌, ℕ, zero, suc, ◌+◌, ◌*◌, ◌<◌, ◌≤◌, nat_le, nat_lt, ◌==◌, ◌&&◌, ◌||◌, Bool, true, false, List, [], ◌∷◌, ◌++◌, length, map, flat_map, Option, Some, None, refl, ap, sym, ◌∙◌, inl, inr, subst, append_assoc, ne_eqb, arith}
 use Rattle.std.specs.List.{range_with_len, AllByRecursion}
 use Rattle.std.proofs.lemmas.List.{map-append, append-nil}
-use Rattle.std.proofs.lemmas.Bool.{cases_lt, cases_Bool, ltb-false}
+use Rattle.std.proofs.lemmas.Bool.{cases_lt, cases_Bool, and_right, eqb-true, ltb-false}
 use Rattle.us_slots.specs.Times.{start_of}
 use Rattle.us_holes.specs.Boards.{Board, fits, first_of}
-use Rattle.us_calendar.specs.Entries.{Entry}
-use Rattle.us_calendar.specs.Occurrences.{Pace, ideal, end_of, is_over, due}
-use Rattle.us_calendar.specs.Settling.{Settlement, SettledEntry, spot, settlement, with_spot, settle_each, settle_entry, told_as}
+use Rattle.us_calendar.specs.Entries.{Entry, slots_of}
+use Rattle.us_calendar.specs.Occurrences.{Pace, ideal, end_of, is_over, comes, coming}
+use Rattle.us_calendar.specs.Settling.{Settlement, SettledEntry, spot, settlement, with_spot, settle_each, settle_entry, closed, told_as}
 use Rattle.us_calendar.specs.declared.settled.Settled.{Settled}
-use Rattle.us_calendar.specs.Kept.{settle_from}
-use Rattle.us_calendar.proofs.IdealLemmas.{HasWindows, ideal-apart, number-below}
-use Rattle.us_calendar.proofs.DueLemmas.{due-none, due-next, due-all}
+use Rattle.us_calendar.specs.Laws.{AreFirst}
+use Rattle.us_calendar.specs.Kept.{behind, settle_from}
+use Rattle.us_calendar.proofs.IdealLemmas.{HasWindows, ideal-apart, ideal-rises, number-below}
+use Rattle.us_calendar.proofs.ComingLemmas.{coming-none, coming-next, coming-all, comes_behind, range-closed}
 
-abbrev pub numbers_of : List Settlement → List ℕ
-numbers_of settlements = map (λ m. m.number) settlements
+abbrev pub numbers_of : Entry → List Settlement → List ℕ
+numbers_of e settlements = flat_map (closed e) settlements
 
 -- what one occurrence and those behind it come to
-abbrev pub then_settle : Pace → ℕ → Entry → ℕ → Option ℕ → (Board → SettledEntry) → Board → SettledEntry
-then_settle pace round e n found rest board =
-    let more : SettledEntry = rest (with_spot e found board) in
-    record { board = more.board; settlements = settlement pace round e n found ++ more.settlements }
+abbrev pub then_settle : Pace → ℕ → Entry → Bool → ℕ → Option ℕ → (Board → SettledEntry) → Board → SettledEntry
+then_settle pace round e active n found rest board =
+    let more : SettledEntry = rest (with_spot e active found board) in
+    record { board = more.board; settlements = settlement pace round e active n found ++ more.settlements }
 
-settle_each-cons : (pace : Pace) (round : ℕ) (e : Entry) (n : ℕ) (ns : List ℕ) (board : Board) →
-    settle_each pace round e (n ∷ ns) board ≡
-    then_settle pace round e n (spot pace round e n board) (settle_each pace round e ns) board
+pub settle_each-cons : (pace : Pace) (round : ℕ) (e : Entry) (speaks : ℕ → Bool) (n : ℕ) (ns : List ℕ) (board : Board) →
+    settle_each pace round e speaks (n ∷ ns) board ≡
+    then_settle pace round e (speaks (ideal e n)) n (spot pace round e (speaks (ideal e n)) n board)
+    (settle_each pace round e speaks ns) board
 unfolding settle_each
-settle_each-cons pace round e n ns board = refl
+settle_each-cons pace round e speaks n ns board = refl
 
 abbrev pub nothing : Board → SettledEntry
 nothing board = record { board = board; settlements = [] }
 
 -- an occurrence that waits changes nothing
-abbrev pub Waits : Pace → ℕ → Entry → Board → ℕ → Type 0
-Waits pace round e board n = (spot pace round e n board ≡ None) × (is_over pace round e n ≡ false)
+abbrev pub Waits : Pace → ℕ → Entry → Bool → Board → ℕ → Type 0
+Waits pace round e active board n =
+    (spot pace round e active n board ≡ None) × (is_over pace round e n ≡ false)
 
-settlements_waiting : (pace : Pace) (round : ℕ) (e : Entry) (n : ℕ) → is_over pace round e n ≡ false →
-    settlement pace round e n None ≡ []
-settlements_waiting pace round e n over = rw over refl
+settlements_waiting : (pace : Pace) (round : ℕ) (e : Entry) (active : Bool) (n : ℕ) → is_over pace round e n ≡ false →
+    settlement pace round e active n None ≡ []
+settlements_waiting pace round e active n over = rw over refl
 
-settle-idle : (pace : Pace) (round : ℕ) (e : Entry) (ns : List ℕ) (board : Board) →
-    AllByRecursion (Waits pace round e board) ns → settle_each pace round e ns board ≡ nothing board
+settle-idle : (pace : Pace) (round : ℕ) (e : Entry) (speaks : ℕ → Bool) (ns : List ℕ) (board : Board) →
+    AllByRecursion (λ m. Waits pace round e (speaks (ideal e m)) board m) ns →
+    settle_each pace round e speaks ns board ≡ nothing board
 unfolding settle_each
-settle-idle pace round e [] board all = refl
-settle-idle pace round e (n ∷ ns) board all =
-    settle_each-cons pace round e n ns board ∙ ap
-    (λ found. then_settle pace round e n found (settle_each pace round e ns) board) all.0.0 ∙ ap
-    (λ (rest : SettledEntry). record { board = rest.board; settlements = settlement pace round e n None ++ rest.settlements })
-    (settle-idle pace round e ns board all.1) ∙ ap (λ settlements. record { board = board; settlements = settlements ++ [] })
-    (settlements_waiting pace round e n all.0.1)
+settle-idle pace round e speaks [] board all = refl
+settle-idle pace round e speaks (n ∷ ns) board all =
+    let active : Bool = speaks (ideal e n) in
+    settle_each-cons pace round e speaks n ns board ∙ ap
+    (λ found. then_settle pace round e active n found (settle_each pace round e speaks ns) board) all.0.0 ∙ ap
+    (λ (rest : SettledEntry). record { board = rest.board; settlements = settlement pace round e active n None ++ rest.settlements })
+    (settle-idle pace round e speaks ns board all.1) ∙ ap
+    (λ settlements. record { board = board; settlements = settlements ++ [] })
+    (settlements_waiting pace round e active n all.0.1)
 
 -- The next occurrence is settled first,
-pub settle-next : (pace : Pace) (round : ℕ) (e : Entry) (n : ℕ) (board : Board) → HasWindows e →
-    ideal e n < end_of pace round →
-    settle_from pace round e n board ≡
-    then_settle pace round e n (spot pace round e n board) (settle_from pace round e (n + 1)) board
+pub settle-next : (pace : Pace) (round : ℕ) (e : Entry) (speaks : ℕ → Bool) (n : ℕ) (board : Board) → HasWindows e →
+    comes e speaks n ≡ true → ideal e n < end_of pace round →
+    settle_from pace round e speaks n board ≡
+    then_settle pace round e (speaks (ideal e n)) n (spot pace round e (speaks (ideal e n)) n board)
+    (settle_from pace round e speaks (behind e (speaks (ideal e n)) n)) board
 unfolding settle_entry
-settle-next pace round e n board is h =
-    ap (λ ns. settle_each pace round e ns board) (due-next e (end_of pace round) n is h) ∙
-    settle_each-cons pace round e n (due e (end_of pace round) (range_with_len 0 (n + 1))) board
+settle-next pace round e speaks n board is it h =
+    ap (λ ns. settle_each pace round e speaks ns board) (coming-next e speaks (end_of pace round) n is it h) ∙
+    settle_each-cons pace round e speaks n
+    (coming e speaks (end_of pace round) (range_with_len 0 (behind e (speaks (ideal e n)) n))) board
 
 -- where it is due at all,
-pub settle-none : (pace : Pace) (round : ℕ) (e : Entry) (n : ℕ) (board : Board) → HasWindows e →
-    end_of pace round ≤ ideal e n → settle_from pace round e n board ≡ nothing board
+pub settle-none : (pace : Pace) (round : ℕ) (e : Entry) (speaks : ℕ → Bool) (n : ℕ) (board : Board) → HasWindows e →
+    end_of pace round ≤ ideal e n → settle_from pace round e speaks n board ≡ nothing board
 unfolding settle_entry settle_each
-settle-none pace round e n board is h =
-    ap (λ ns. settle_each pace round e ns board) (due-none e (end_of pace round) n is h)
+settle-none pace round e speaks n board is h =
+    ap (λ ns. settle_each pace round e speaks ns board) (coming-none e speaks (end_of pace round) n is h)
 
--- and if it waits, so do all behind it: those of its interval have its window, and others are due later.
-abbrev WaitsFrom : Pace → ℕ → Entry → Board → ℕ → Type 0
-WaitsFrom pace round e board at =
+-- and if it waits, so do all behind it: those of its interval have its window and are of its kind, and others are due later.
+abbrev WaitsFrom : Pace → ℕ → Entry → (ℕ → Bool) → Board → ℕ → Type 0
+WaitsFrom pace round e speaks board at =
     (first_of (λ i. (nat_le at (start_of pace.time (round * pace.len + i))
-    && nat_le (start_of pace.time (round * pace.len + i)) (at + e.jitter)) && fits board e.slots i) 0 pace.len ≡ None)
+    && nat_le (start_of pace.time (round * pace.len + i)) (at + e.jitter)) && fits board (slots_of e (speaks at)) i) 0
+    pace.len ≡ None)
     × (nat_lt (at + e.jitter) (end_of pace round) ≡ false)
 
-pub wait_too : (pace : Pace) (round : ℕ) (e : Entry) (n m : ℕ) (board : Board) → HasWindows e → Waits pace round e board n →
-    n ≤ m → ideal e m < end_of pace round → Waits pace round e board m
-wait_too pace round e n m board is waits after before = elim (ideal-apart e n m is after) [
-  | inl same ↦ subst (WaitsFrom pace round e board) (sym same) waits
+pub wait_too : (pace : Pace) (round : ℕ) (e : Entry) (speaks : ℕ → Bool) (n m : ℕ) (board : Board) → HasWindows e →
+    Waits pace round e (speaks (ideal e n)) board n → n ≤ m → ideal e m < end_of pace round →
+    Waits pace round e (speaks (ideal e m)) board m
+wait_too pace round e speaks n m board is waits after before = elim (ideal-apart e n m is after) [
+  | inl same ↦ subst (WaitsFrom pace round e speaks board) (sym same) waits
   | inr later ↦
       let ends = ltb-false (ideal e n + e.jitter) (end_of pace round) waits.1 in
       absurd (omega (arith, later, before, is.jitter, ends))
 ]
 
-all_wait : (pace : Pace) (round : ℕ) (e : Entry) (n : ℕ) (board : Board) (ns : List ℕ) → HasWindows e →
-    Waits pace round e board n → AllByRecursion (λ m. (n ≤ m) × (ideal e m < end_of pace round)) ns →
-    AllByRecursion (Waits pace round e board) ns
-all_wait pace round e n board [] is waits all = tt
-all_wait pace round e n board (m ∷ ns) is waits all =
-    (wait_too pace round e n m board is waits all.0.0 all.0.1, all_wait pace round e n board ns is waits all.1)
+all_wait : (pace : Pace) (round : ℕ) (e : Entry) (speaks : ℕ → Bool) (n : ℕ) (board : Board) (ns : List ℕ) →
+    HasWindows e → Waits pace round e (speaks (ideal e n)) board n →
+    AllByRecursion (λ m. (n ≤ m) × (ideal e m < end_of pace round)) ns →
+    AllByRecursion (λ m. Waits pace round e (speaks (ideal e m)) board m) ns
+all_wait pace round e speaks n board [] is waits all = tt
+all_wait pace round e speaks n board (m ∷ ns) is waits all = (
+  wait_too pace round e speaks n m board is waits all.0.0 all.0.1,
+  all_wait pace round e speaks n board ns is waits all.1,
+)
 
-pub settle-waits : (pace : Pace) (round : ℕ) (e : Entry) (n : ℕ) (board : Board) → HasWindows e →
-    spot pace round e n board ≡ None → is_over pace round e n ≡ false →
-    settle_from pace round e n board ≡ nothing board
+pub settle-waits : (pace : Pace) (round : ℕ) (e : Entry) (speaks : ℕ → Bool) (n : ℕ) (board : Board) → HasWindows e →
+    Waits pace round e (speaks (ideal e n)) board n → settle_from pace round e speaks n board ≡ nothing board
 unfolding settle_entry
-settle-waits pace round e n board is no_spot not_over =
-    settle-idle pace round e (due e (end_of pace round) (range_with_len 0 n)) board
-    (all_wait pace round e n board (due e (end_of pace round) (range_with_len 0 n)) is (no_spot, not_over)
-    (due-all e (end_of pace round) n))
+settle-waits pace round e speaks n board is waits =
+    settle-idle pace round e speaks (coming e speaks (end_of pace round) (range_with_len 0 n)) board
+    (all_wait pace round e speaks n board (coming e speaks (end_of pace round) (range_with_len 0 n)) is waits
+    (coming-all e speaks (end_of pace round) n))
+
+-- where one occurrence is settled, its numbers follow those before it
+settled_then : (e : Entry) (n : ℕ) (active : Bool) (found : Option ℕ) (ms more : List Settlement) →
+    ms ≡ record { number = n; active = active; start = found } ∷ [] →
+    range_with_len 0 n ++ numbers_of e (ms ++ more) ≡ range_with_len 0 (behind e active n) ++ numbers_of e more
+settled_then e n active found ms more one =
+    let m : Settlement = record { number = n; active = active; start = found } in
+    ap (λ all. range_with_len 0 n ++ numbers_of e (all ++ more)) one ∙
+    sym (append_assoc (range_with_len 0 n) (closed e m) (numbers_of e more)) ∙
+    ap (λ ns. ns ++ numbers_of e more) (range-closed e m n refl)
 
 -- Settling in a loop.
 
-one_more : (from n : ℕ) → range_with_len from (suc n) ≡ range_with_len from n ++ (from + n) ∷ []
-one_more from zero = ap (λ m. m ∷ []) (omega arith)
-one_more from (suc n) =
-    ap (λ more. from ∷ more) (one_more (from + 1) n ∙ ap (λ m. range_with_len (from + 1) n ++ m ∷ []) (omega arith))
-
-range-more : (n : ℕ) → range_with_len 0 (n + 1) ≡ range_with_len 0 n ++ n ∷ []
-range-more n = rw add-one (one_more 0 n ∙ ap (λ m. range_with_len 0 n ++ m ∷ []) (omega arith))
-
 -- what is settled up to occurrence `n`, and what is left to settle from there, lead to what settling from the first
 -- one on comes to
-pub record Reached (pace : Pace) (round : ℕ) (e : Entry) (first : ℕ) (before : Board) (told_before : List Settled)
-    (n : ℕ) (board : Board) (told : List Settled) : Type 0 where
-  pub few : n ≤ 2 ^ 38
+pub record Reached (pace : Pace) (round : ℕ) (e : Entry) (speaks : ℕ → Bool) (first : ℕ) (before : Board)
+    (told_before : List Settled) (n : ℕ) (board : Board) (told : List Settled) : Type 0 where
   pub len : length board.cells ≡ length before.cells
-  pub same_board : (settle_from pace round e n board).board ≡ (settle_from pace round e first before).board
+  pub comes : comes e speaks n ≡ true
+  pub same_board :
+      (settle_from pace round e speaks n board).board ≡ (settle_from pace round e speaks first before).board
   pub numbers :
-      range_with_len 0 n ++ numbers_of (settle_from pace round e n board).settlements ≡
-      range_with_len 0 first ++ numbers_of (settle_from pace round e first before).settlements
+      range_with_len 0 n ++ numbers_of e (settle_from pace round e speaks n board).settlements ≡
+      range_with_len 0 first ++ numbers_of e (settle_from pace round e speaks first before).settlements
   pub same_told :
-      told ++ map (told_as e) (settle_from pace round e n board).settlements ≡
-      told_before ++ map (told_as e) (settle_from pace round e first before).settlements
+      told ++ map (told_as e) (settle_from pace round e speaks n board).settlements ≡
+      told_before ++ map (told_as e) (settle_from pace round e speaks first before).settlements
 
-module _ (pace : Pace) (round : ℕ) (e : Entry) (first : ℕ) (before : Board) (told_before : List Settled)
-    (n : ℕ) (board : Board) (told : List Settled) where
-  pub reached-next : (now : Board) (told_now : List Settled) → Reached pace round e first before told_before n board told →
-      HasWindows e → n < 2 ^ 38 → ideal e n < end_of pace round → now ≡ with_spot e (spot pace round e n board) board →
-      length now.cells ≡ length board.cells → numbers_of (settlement pace round e n (spot pace round e n board)) ≡ n ∷ [] →
-      told_now ≡ told ++ map (told_as e) (settlement pace round e n (spot pace round e n board)) →
-      Reached pace round e first before told_before (n + 1) now told_now
-  reached-next now told_now r is below due now_is len number told_is =
-      let found : Option ℕ = spot pace round e n board in
-      let rest : SettledEntry = settle_from pace round e (n + 1) (with_spot e found board) in
-      let same : settle_from pace round e (n + 1) now ≡ rest = ap (settle_from pace round e (n + 1)) now_is in
-      let step : settle_from pace round e n board ≡ record {
-        board = rest.board;
-        settlements = settlement pace round e n found ++ rest.settlements;
-      } = settle-next pace round e n board is due in
+module _ (pace : Pace) (round : ℕ) (e : Entry) (speaks : ℕ → Bool) (first : ℕ) (before : Board)
+    (told_before : List Settled) (n : ℕ) (board : Board) (told : List Settled) where
+  pub reached-next : (active : Bool) (now : Board) (told_now : List Settled) →
+      Reached pace round e speaks first before told_before n board told → HasWindows e → active ≡ speaks (ideal e n) →
+      ideal e n < end_of pace round → now ≡ with_spot e active (spot pace round e active n board) board →
+      length now.cells ≡ length board.cells → settlement pace round e active n (spot pace round e active n board) ≡
+      record { number = n; active = active; start = spot pace round e active n board } ∷ [] →
+      told_now ≡ told ++ map (told_as e) (settlement pace round e active n (spot pace round e active n board)) →
+      Reached pace round e speaks first before told_before (behind e active n) now told_now
+  reached-next active now told_now r is active_is due now_is len one told_is =
+      let found : Option ℕ = spot pace round e active n board in
+      let then : ℕ = behind e active n in
+      let rest : SettledEntry = settle_from pace round e speaks then (with_spot e active found board) in
+      let same : settle_from pace round e speaks then now ≡ rest = ap (settle_from pace round e speaks then) now_is in
+      let step : settle_from pace round e speaks n board ≡
+      then_settle pace round e active n found (settle_from pace round e speaks then) board =
+      settle-next pace round e speaks n board is r.comes due ∙ ap
+      (λ b. then_settle pace round e b n (spot pace round e b n board) (settle_from pace round e speaks (behind e b n)) board)
+      (sym active_is) in
       record {
-        few = omega arith;
         len = len ∙ r.len;
+        comes = ap (λ b. comes e speaks (behind e b n)) active_is ∙ comes_behind e speaks n is r.comes;
         same_board = ap (λ o. o.board) same ∙ sym (ap (λ o. o.board) step) ∙ r.same_board;
         numbers =
-            ap (λ o. range_with_len 0 (n + 1) ++ numbers_of o.settlements) same ∙
-            ap (λ ns. ns ++ numbers_of rest.settlements) (range-more n) ∙
-            append_assoc (range_with_len 0 n) (n ∷ []) (numbers_of rest.settlements) ∙
-            ap (λ ns. range_with_len 0 n ++ (ns ++ numbers_of rest.settlements)) (sym number) ∙
-            ap (λ ns. range_with_len 0 n ++ ns) (sym (map-append (λ m. m.number) (settlement pace round e n found) rest.settlements)) ∙
-            ap (λ o. range_with_len 0 n ++ numbers_of o.settlements) (sym step) ∙ r.numbers;
+            ap (λ o. range_with_len 0 then ++ numbers_of e o.settlements) same ∙
+            sym (settled_then e n active found (settlement pace round e active n found) rest.settlements one) ∙
+            ap (λ o. range_with_len 0 n ++ numbers_of e o.settlements) (sym step) ∙ r.numbers;
         same_told =
             ap (λ o. told_now ++ map (told_as e) o.settlements) same ∙
             ap (λ ts. ts ++ map (told_as e) rest.settlements) told_is ∙
-            append_assoc told (map (told_as e) (settlement pace round e n found)) (map (told_as e) rest.settlements) ∙
-            ap (λ ts. told ++ ts) (sym (map-append (told_as e) (settlement pace round e n found) rest.settlements)) ∙
+            append_assoc told (map (told_as e) (settlement pace round e active n found))
+            (map (told_as e) rest.settlements) ∙
+            ap (λ ts. told ++ ts) (sym (map-append (told_as e) (settlement pace round e active n found) rest.settlements)) ∙
             ap (λ o. told ++ map (told_as e) o.settlements) (sym step) ∙ r.same_told;
       }
 
-  module _ (r : Reached pace round e first before told_before n board told)
-      (last : settle_from pace round e n board ≡ nothing board) where
-    pub last_board : board ≡ (settle_from pace round e first before).board
+  module _ (r : Reached pace round e speaks first before told_before n board told)
+      (last : settle_from pace round e speaks n board ≡ nothing board) where
+    pub last_board : board ≡ (settle_from pace round e speaks first before).board
     last_board = sym (ap (λ o. o.board) last) ∙ r.same_board
 
     pub last_numbers :
-        range_with_len 0 n ≡ range_with_len 0 first ++ numbers_of (settle_from pace round e first before).settlements
+        range_with_len 0 n ≡
+        range_with_len 0 first ++ numbers_of e (settle_from pace round e speaks first before).settlements
     last_numbers =
         sym (append-nil (range_with_len 0 n)) ∙
-        sym (ap (λ o. range_with_len 0 n ++ numbers_of o.settlements) last) ∙ r.numbers
+        sym (ap (λ o. range_with_len 0 n ++ numbers_of e o.settlements) last) ∙ r.numbers
 
-    pub last_told : told ≡ told_before ++ map (told_as e) (settle_from pace round e first before).settlements
+    pub last_told : told ≡ told_before ++ map (told_as e) (settle_from pace round e speaks first before).settlements
     last_told = sym (append-nil told) ∙ sym (ap (λ o. told ++ map (told_as e) o.settlements) last) ∙ r.same_told
 
+-- an occurrence that is ideal behind the round, behind one that isn't, is the first of its interval
+pub begins_later : (active : Bool) (at time k end : ℕ) → at < end → end ≤ time →
+    ((active && (time == at)) || (k == 0)) ≡ true → k ≡ 0
+begins_later active at time k end early late it =
+    let apart : (time == at) ≡ false = ne_eqb time at (λ same. omega (arith, same, early, late)) in
+    let out : (active && (time == at)) ≡ false = and_right active (time == at) apart in
+    let first : (k == 0) ≡ true = rw out at it in
+    eqb-true k 0 first
+
 -- where an occurrence waits, board and list stand as they stood
-module _ (pace : Pace) (round : ℕ) (e : Entry) (n : ℕ) (board now : Board) (told told_now : List Settled)
-    (waits : (spot pace round e n board ≡ None) × (is_over pace round e n ≡ false))
-    (now_is : now ≡ with_spot e (spot pace round e n board) board)
-    (told_is : told_now ≡ told ++ map (told_as e) (settlement pace round e n (spot pace round e n board))) where
+module _ (pace : Pace) (round : ℕ) (e : Entry) (active : Bool) (n : ℕ) (board now : Board) (told told_now : List Settled)
+    (waits : Waits pace round e active board n)
+    (now_is : now ≡ with_spot e active (spot pace round e active n board) board)
+    (told_is : told_now ≡ told ++ map (told_as e) (settlement pace round e active n (spot pace round e active n board))) where
   pub stands : now ≡ board
-  stands = now_is ∙ ap (λ found. with_spot e found board) waits.0
+  stands = now_is ∙ ap (λ found. with_spot e active found board) waits.0
 
   pub stands_told : told_now ≡ told
   stands_told =
-      told_is ∙ ap (λ found. told ++ map (told_as e) (settlement pace round e n found)) waits.0 ∙
-      ap (λ settlements. told ++ map (told_as e) settlements) (settlements_waiting pace round e n waits.1) ∙ append-nil told
+      told_is ∙ ap (λ found. told ++ map (told_as e) (settlement pace round e active n found)) waits.0 ∙
+      ap (λ settlements. told ++ map (told_as e) settlements) (settlements_waiting pace round e active n waits.1) ∙
+      append-nil told
 
 -- The first occurrences stay the first ones.
 
-pub numbers_on : (pace : Pace) (round : ℕ) (e : Entry) (n : ℕ) (board : Board) (found : Option ℕ) → HasWindows e →
-    ideal e n < end_of pace round → spot pace round e n board ≡ found → numbers_of (settlement pace round e n found) ≡ n ∷ [] →
-    range_with_len 0 n ++ numbers_of (settle_from pace round e n board).settlements ≡
-    range_with_len 0 (n + 1) ++ numbers_of (settle_from pace round e (n + 1) (with_spot e found board)).settlements
-numbers_on pace round e n board found is due found_is number =
-    let rest : SettledEntry = settle_from pace round e (n + 1) (with_spot e found board) in
-    let step = settle-next pace round e n board is due ∙
-    ap (λ f. then_settle pace round e n f (settle_from pace round e (n + 1)) board) found_is in
-    ap (λ o. range_with_len 0 n ++ numbers_of o.settlements) step ∙
-    ap (λ ns. range_with_len 0 n ++ ns) (map-append (λ m. m.number) (settlement pace round e n found) rest.settlements) ∙
-    ap (λ ns. range_with_len 0 n ++ (ns ++ numbers_of rest.settlements)) number ∙
-    sym (append_assoc (range_with_len 0 n) (n ∷ []) (numbers_of rest.settlements)) ∙
-    ap (λ ns. ns ++ numbers_of rest.settlements) (sym (range-more n))
+pub numbers_on : (pace : Pace) (round : ℕ) (e : Entry) (speaks : ℕ → Bool) (n : ℕ) (board : Board) (found : Option ℕ) →
+    HasWindows e → comes e speaks n ≡ true → ideal e n < end_of pace round →
+    spot pace round e (speaks (ideal e n)) n board ≡ found →
+    settlement pace round e (speaks (ideal e n)) n found ≡
+    record { number = n; active = speaks (ideal e n); start = found } ∷ [] →
+    range_with_len 0 n ++ numbers_of e (settle_from pace round e speaks n board).settlements ≡
+    range_with_len 0 (behind e (speaks (ideal e n)) n) ++ numbers_of e (settle_from pace round e speaks
+    (behind e (speaks (ideal e n)) n) (with_spot e (speaks (ideal e n)) found board)).settlements
+numbers_on pace round e speaks n board found is it due found_is one =
+    let active : Bool = speaks (ideal e n) in
+    let rest : SettledEntry = settle_from pace round e speaks (behind e active n) (with_spot e active found board) in
+    let step = settle-next pace round e speaks n board is it due ∙
+    ap (λ f. then_settle pace round e active n f (settle_from pace round e speaks (behind e active n)) board) found_is in
+    ap (λ o. range_with_len 0 n ++ numbers_of e o.settlements) step ∙
+    settled_then e n active found (settlement pace round e active n found) rest.settlements one
 
-pub stop_here : (pace : Pace) (round : ℕ) (e : Entry) (n : ℕ) (board : Board) →
-    settle_from pace round e n board ≡ nothing board →
-    range_with_len 0 n ++ numbers_of (settle_from pace round e n board).settlements ≡ range_with_len 0 n
-stop_here pace round e n board last =
-    ap (λ o. range_with_len 0 n ++ numbers_of o.settlements) last ∙ append-nil (range_with_len 0 n)
+pub stop_here : (pace : Pace) (round : ℕ) (e : Entry) (speaks : ℕ → Bool) (n : ℕ) (board : Board) →
+    settle_from pace round e speaks n board ≡ nothing board →
+    range_with_len 0 n ++ numbers_of e (settle_from pace round e speaks n board).settlements ≡ range_with_len 0 n
+stop_here pace round e speaks n board last =
+    ap (λ o. range_with_len 0 n ++ numbers_of e o.settlements) last ∙ append-nil (range_with_len 0 n)
 
-abbrev Ones : Pace → ℕ → Entry → ℕ → Board → Type 0
-Ones pace round e n board =
-    (more : ℕ) ×
-    (range_with_len 0 n ++ numbers_of (settle_from pace round e n board).settlements ≡ range_with_len 0 more)
+-- the windows of the next one aren't over, so other intervals begin later
+pub first_of_all : (time : ℕ) (e : Entry) (speaks : ℕ → Bool) (n : ℕ) → HasWindows e → comes e speaks n ≡ true →
+    time ≤ ideal e n + e.jitter → (settled : List ℕ) → settled ≡ range_with_len 0 n → AreFirst time e speaks settled n
+first_of_all time e speaks n is it late settled first = record {
+  first = first;
+  comes = it;
+  not_over = late;
+  later = λ m after. elim (cases_lt m n) [
+    | inl before ↦ let rises = ideal-rises e m n is (omega (arith, before)) in absurd (omega (arith, rises, after))
+    | inr from ↦ elim (ideal-apart e n m is from) [
+      | inl same ↦ absurd (omega (arith, same, after))
+      | inr apart ↦ omega (arith, apart, late, is.jitter)
+    ]
+  ];
+}
 
-pub first_ones : (pace : Pace) (round : ℕ) (e : Entry) (left n : ℕ) (board : Board) → HasWindows e →
-    end_of pace round * e.grants ≤ n + left → Ones pace round e n board
-first_ones pace round e zero n board is all = elim (cases_lt (ideal e n) (end_of pace round)) [
+abbrev Ones : Pace → ℕ → Entry → (ℕ → Bool) → ℕ → Board → Type 0
+Ones pace round e speaks n board =
+    (more : ℕ) × (n ≤ more) × AreFirst (end_of pace round) e speaks
+    (range_with_len 0 n ++ numbers_of e (settle_from pace round e speaks n board).settlements) more
+
+ones_stop : (pace : Pace) (round : ℕ) (e : Entry) (speaks : ℕ → Bool) (n : ℕ) (board : Board) → HasWindows e →
+    comes e speaks n ≡ true → end_of pace round ≤ ideal e n + e.jitter →
+    settle_from pace round e speaks n board ≡ nothing board → Ones pace round e speaks n board
+ones_stop pace round e speaks n board is it late last = (
+  n,
+  omega arith,
+  first_of_all (end_of pace round) e speaks n is it late
+      (range_with_len 0 n ++ numbers_of e (settle_from pace round e speaks n board).settlements)
+      (stop_here pace round e speaks n board last),
+)
+
+pub first_ones : (pace : Pace) (round : ℕ) (e : Entry) (speaks : ℕ → Bool) (left n : ℕ) (board : Board) → HasWindows e →
+    comes e speaks n ≡ true → end_of pace round * e.grants ≤ n + left → Ones pace round e speaks n board
+first_ones pace round e speaks zero n board is it all = elim (cases_lt (ideal e n) (end_of pace round)) [
   | inl due ↦ let below = number-below e n (end_of pace round) is due in absurd (omega (arith, below, all))
-  | inr late ↦ (n, stop_here pace round e n board (settle-none pace round e n board is late))
+  | inr late ↦
+      ones_stop pace round e speaks n board is it (omega (arith, late)) (settle-none pace round e speaks n board is late)
 ]
-first_ones pace round e (suc left) n board is all = elim (cases_lt (ideal e n) (end_of pace round)) [
-  | inr late ↦ (n, stop_here pace round e n board (settle-none pace round e n board is late))
-  | inl due ↦ by due (spot pace round e n board) refl (λ next. first_ones pace round e left (n + 1) next is (omega (arith, all)))
+first_ones pace round e speaks (suc left) n board is it all = elim (cases_lt (ideal e n) (end_of pace round)) [
+  | inr late ↦
+      ones_stop pace round e speaks n board is it (omega (arith, late)) (settle-none pace round e speaks n board is late)
+  | inl due ↦ by due (spot pace round e (speaks (ideal e n)) n board) refl (λ next. first_ones pace round e speaks left
+      (behind e (speaks (ideal e n)) n) next is (comes_behind e speaks n is it) (omega (arith, all)))
 ]
   where
-    by : ideal e n < end_of pace round → (found : Option ℕ) → spot pace round e n board ≡ found →
-        ((next : Board) → Ones pace round e (n + 1) next) → Ones pace round e n board
+    on : ideal e n < end_of pace round → (found : Option ℕ) →
+        spot pace round e (speaks (ideal e n)) n board ≡ found →
+        settlement pace round e (speaks (ideal e n)) n found ≡
+        record { number = n; active = speaks (ideal e n); start = found } ∷ [] →
+        Ones pace round e speaks (behind e (speaks (ideal e n)) n) (with_spot e (speaks (ideal e n)) found board) →
+        Ones pace round e speaks n board
+    on due found found_is one more = (
+      more.0,
+      (let low = more.1 in omega (arith, low)),
+      subst (λ ns. AreFirst (end_of pace round) e speaks ns more.0)
+          (sym (numbers_on pace round e speaks n board found is it due found_is one)) more.2,
+    )
+
+    by : ideal e n < end_of pace round → (found : Option ℕ) → spot pace round e (speaks (ideal e n)) n board ≡ found →
+        ((next : Board) → Ones pace round e speaks (behind e (speaks (ideal e n)) n) next) →
+        Ones pace round e speaks n board
     by due (Some at) found rest =
-        let more = rest (with_spot e (Some at) board) in
-        (more.0, numbers_on pace round e n board (Some at) is due found refl ∙ more.1)
+        on due (Some at) found refl (rest (with_spot e (speaks (ideal e n)) (Some at) board))
     by due None found rest = elim (cases_Bool (is_over pace round e n)) [
-      | inl over ↦
-          let more = rest board in
-          (more.0, numbers_on pace round e n board None is due found (rw over refl) ∙ more.1)
-      | inr open_yet ↦ (n, stop_here pace round e n board (settle-waits pace round e n board is found open_yet))
+      | inl over ↦ on due None found (rw over refl) (rest board)
+      | inr open_yet ↦
+          ones_stop pace round e speaks n board is it
+          (ltb-false (ideal e n + e.jitter) (end_of pace round) open_yet)
+          (settle-waits pace round e speaks n board is (found, open_yet))
     ]

@@ -8,19 +8,19 @@ use Rattle.std.proofs.lemmas.List.Sorted.{All-permutation, IsPermutation-refl, I
 use Rattle.std.proofs.lemmas.Map.Keys.{IsDistinct-head, IsDistinct-tail}
 use Rattle.std.proofs.lemmas.Map.Keys.{IsDistinct-IsPermutation}
 use Rattle.std.specs.Cmp.{nat_eq_equiv}
-use Rattle.us_flows.specs.Tables.{Tables, FlowTable}
+use Rattle.us_flows.specs.Tables.{Tables}
 use Rattle.us_flows.specs.Lawful.{AreTables, IsFlow, IsStation, IsScheduled}
 use Rattle.us_flows.specs.declared.channels.Channel.{Channel}
 use Rattle.us_flows.specs.declared.stations.Station.{Station}
 use Rattle.us_flows.specs.declared.flows.SchedulingType.{SchedulingType}
-use Rattle.us_flows.specs.declared.flows.SchedulingType.TheVariants.{BestEffort, NonRealTimePolling, RealTimePolling, UnsolicitedGrant}
+use Rattle.us_flows.specs.declared.flows.SchedulingType.TheVariants.{BestEffort, NonRealTimePolling, RealTimePolling, ActivityDetection, UnsolicitedGrant}
 use Rattle.us_flows.proofs.RankLemmas.{all_more, sorted-in_place}
 use Rattle.us_flows.proofs.TurnLemmas.{all-append}
 use Rattle.us_slots.specs.UsageCodes as codes
 use Rattle.us_calendar.specs.declared.kinds.Kind.TheVariants as kinds
-use Rattle.us_calendar.specs.Entries.{Entry, quarters, rank_of, goes_before, in_order, entries, scheduled, entry_of_flow, entry_of_station}
+use Rattle.us_calendar.specs.Entries.{Entry, WordedFlow, quarters, rank_of, goes_before, in_order, entries, scheduled, entry_of_flow, entry_of_station}
 use Rattle.us_calendar.proofs.IdealLemmas.{HasWindows}
-use Rattle.us_calendar.proofs.OrderLemmas.{number, HasId, before_number, all_ids, all_apart, flows_first, stations_then}
+use Rattle.us_calendar.proofs.OrderLemmas.{number, HasId, before_number, all_ids, all_apart, flows_first, stations_then, worded, worded_all}
 use Rattle.us_calendar.proofs.OnceLaws.{IsOrdered}
 
 -- sorting by insertion
@@ -151,17 +151,18 @@ module _ {X : Type 0} (P : X → Type 0) (Q : Entry → Type 0) (h : X → Optio
 
 -- windows
 
-flow_windows : (t : Tables) (c : Channel) (f : FlowTable) → IsFlow t f → IfSome (entry_of_flow c f) HasWindows
-flow_windows t c f is = by (slice_index f.channels 0 == c.id)
+flow_windows : (t : Tables) (c : Channel) (f : WordedFlow) → IsFlow t f.flow → IfSome (entry_of_flow c f) HasWindows
+flow_windows t c f is = by (slice_index f.flow.channels 0 == c.id)
   where
-    of_kind : (k : SchedulingType) → IsScheduled t f k → IfSome (scheduled c f k) HasWindows
+    of_kind : (k : SchedulingType) → IsScheduled t f.flow k → IfSome (scheduled c f.word f.flow k) HasWindows
     of_kind BestEffort has = tt
     of_kind NonRealTimePolling has = record { grants = omega arith; jitter = omega (arith, has.1.schedule.jitter) }
     of_kind RealTimePolling has = record { grants = omega arith; jitter = omega (arith, has.1.schedule.jitter) }
+    of_kind ActivityDetection has = record { grants = has.0.grants; jitter = omega (arith, has.0.schedule.jitter) }
     of_kind UnsolicitedGrant has = record { grants = has.grants; jitter = omega (arith, has.schedule.jitter) }
 
-    by : (b : Bool) → IfSome (if b then scheduled c f f.kind else None) HasWindows
-    by true = of_kind f.kind is.scheduled
+    by : (b : Bool) → IfSome (if b then scheduled c f.word f.flow f.flow.kind else None) HasWindows
+    by true = of_kind f.flow.kind is.scheduled
     by false = tt
 
 station_windows : (t : Tables) (c : Channel) (s : Station) → IsStation t s → IfSome (entry_of_station c s) HasWindows
@@ -176,6 +177,7 @@ station_windows t c s is = by (s.channel == c.id)
       interval = quarters s.interval_us;
       jitter = quarters s.jitter_us;
       grants = 1;
+      silence = None;
     }) else None) HasWindows
     by true = record { grants = omega arith; jitter = omega (arith, is.schedule.jitter) }
     by false = tt
@@ -202,12 +204,13 @@ module _ (t : Tables) (c : Channel) (lawful : AreTables t) where
   entries_moved = subst (IsPermutation unsorted) (sym entries_sorted) (sorted_moved unsorted)
 
   -- what holds of the entries of flows and of stations holds of all
-  pub entries_all : (Q : Entry → Type 0) → ((f : FlowTable) → IsFlow t f → IfSome (entry_of_flow c f) Q) →
+  pub entries_all : (Q : Entry → Type 0) → ((f : WordedFlow) → IsFlow t f.flow → IfSome (entry_of_flow c f) Q) →
       ((s : Station) → IsStation t s → IfSome (entry_of_station c s) Q) → AllByRecursion Q (entries t c)
   entries_all Q flow station =
       moved_all Q unsorted (entries t c) entries_moved
       (all-append Q (flows_first t c lawful) (stations_then t c lawful)
-      (all_made (IsFlow t) Q (entry_of_flow c) flow t.flows lawful.flows)
+      (all_made (λ (f : WordedFlow). IsFlow t f.flow) Q (entry_of_flow c) flow (worded t c lawful)
+      (worded_all (IsFlow t) 0 t.flows lawful.flows))
       (all_made (IsStation t) Q (entry_of_station c) station t.stations lawful.stations))
 
   pub entries_windows : AllByRecursion HasWindows (entries t c)

@@ -10,7 +10,7 @@ use Rattle.us_holes.specs.Boards.{Board, is_full, is_idle_at, fits}
 use Rattle.us_holes.specs.Placements.{IsPlacedAt, HasNoRoom}
 use Rattle.us_holes.proofs.IdleLemmas.{first_of-least, first_of-none}
 use Rattle.us_holes.proofs.FitLemmas.{fits-held}
-use Rattle.us_calendar.specs.Entries.{Entry}
+use Rattle.us_calendar.specs.Entries.{Entry, slots_of}
 use Rattle.us_calendar.specs.Occurrences.{Pace, ideal, starts_within}
 use Rattle.us_calendar.specs.Settling.{spot}
 use Rattle.us_calendar.specs.declared.occurrences.Occurrence.{Occurrence}
@@ -96,50 +96,50 @@ abbrev pub IsWindow : Pace → ℕ → Entry → ℕ → ℕ → ℕ → Type 0
 IsWindow pace round e n from to = (at : ℕ) → at < pace.len →
     starts_within pace.time e n (round * pace.len + at) ≡ (nat_le from at && nat_le at to)
 
-abbrev passes : Pace → ℕ → Entry → ℕ → Board → ℕ → Bool
-passes pace round e n board at = starts_within pace.time e n (round * pace.len + at) && fits board e.slots at
+abbrev passes : Pace → ℕ → Entry → Bool → ℕ → Board → ℕ → Bool
+passes pace round e active n board at = starts_within pace.time e n (round * pace.len + at) && fits board (slots_of e active) at
 
-pub spot-outside : (pace : Pace) (round : ℕ) (e : Entry) (n : ℕ) (board : Board) →
+pub spot-outside : (pace : Pace) (round : ℕ) (e : Entry) (active : Bool) (n : ℕ) (board : Board) →
     ((at : ℕ) → at < pace.len → starts_within pace.time e n (round * pace.len + at) ≡ false) →
-    None ≡ spot pace round e n board
-spot-outside pace round e n board none =
-    sym (first_of-none (passes pace round e n board) 0 pace.len
-    (λ at _ inside. ap (λ b. b && fits board e.slots at) (none at (omega (arith, inside)))))
+    None ≡ spot pace round e active n board
+spot-outside pace round e active n board none =
+    sym (first_of-none (passes pace round e active n board) 0 pace.len
+    (λ at _ inside. ap (λ b. b && fits board (slots_of e active) at) (none at (omega (arith, inside)))))
 
-pub spot-full : (pace : Pace) (round : ℕ) (e : Entry) (n : ℕ) (board : Board) → is_full board ≡ true →
-    None ≡ spot pace round e n board
-spot-full pace round e n board full =
-    sym (first_of-none (passes pace round e n board) 0 pace.len (λ at _ inside.
-    and_right (starts_within pace.time e n (round * pace.len + at)) (fits board e.slots at)
-    (ap (λ b. b && is_idle_at board.cells e.slots at) (le-ltb board.standing 100 (leb-true 100 board.standing full)))))
+pub spot-full : (pace : Pace) (round : ℕ) (e : Entry) (active : Bool) (n : ℕ) (board : Board) → is_full board ≡ true →
+    None ≡ spot pace round e active n board
+spot-full pace round e active n board full =
+    sym (first_of-none (passes pace round e active n board) 0 pace.len (λ at _ inside.
+    and_right (starts_within pace.time e n (round * pace.len + at)) (fits board (slots_of e active) at)
+    (ap (λ b. b && is_idle_at board.cells (slots_of e active) at) (le-ltb board.standing 100 (leb-true 100 board.standing full)))))
 
-missed_at : (pace : Pace) (round : ℕ) (e : Entry) (n from to at : ℕ) (board : Board) →
-    IsWindow pace round e n from to → at < pace.len → (from ≤ at → at ≤ to → fits board e.slots at ≡ false) →
-    passes pace round e n board at ≡ false
-missed_at pace round e n from to at board window inside none =
-    false_if (passes pace round e n board at) (λ t.
-    let parts = and_parts (starts_within pace.time e n (round * pace.len + at)) (fits board e.slots at) t in
+missed_at : (pace : Pace) (round : ℕ) (e : Entry) (active : Bool) (n from to at : ℕ) (board : Board) →
+    IsWindow pace round e n from to → at < pace.len → (from ≤ at → at ≤ to → fits board (slots_of e active) at ≡ false) →
+    passes pace round e active n board at ≡ false
+missed_at pace round e active n from to at board window inside none =
+    false_if (passes pace round e active n board at) (λ t.
+    let parts = and_parts (starts_within pace.time e n (round * pace.len + at)) (fits board (slots_of e active) at) t in
     let ends = and_parts (nat_le from at) (nat_le at to) (sym (window at inside) ∙ parts.0) in
     let never : true ≡ false = sym parts.1 ∙ none (leb-true from at ends.0) (leb-true at to ends.1) in absurd cc)
 
-pub spot-none : (pace : Pace) (round : ℕ) (e : Entry) (n from to : ℕ) (board : Board) →
-    IsWindow pace round e n from to → HasNoRoom board from to e.slots → None ≡ spot pace round e n board
-spot-none pace round e n from to board window room =
-    sym (first_of-none (passes pace round e n board) 0 pace.len (λ at _ inside.
-    missed_at pace round e n from to at board window (omega (arith, inside))
-    (λ low high. fits-held board e.slots at (room.none at low high))))
+pub spot-none : (pace : Pace) (round : ℕ) (e : Entry) (active : Bool) (n from to : ℕ) (board : Board) →
+    IsWindow pace round e n from to → HasNoRoom board from to (slots_of e active) → None ≡ spot pace round e active n board
+spot-none pace round e active n from to board window room =
+    sym (first_of-none (passes pace round e active n board) 0 pace.len (λ at _ inside.
+    missed_at pace round e active n from to at board window (omega (arith, inside))
+    (λ low high. fits-held board (slots_of e active) at (room.none at low high))))
 
-pub spot-at : (pace : Pace) (round : ℕ) (e : Entry) (n from to start : ℕ) (board : Board) →
-    IsWindow pace round e n from to → to < pace.len → IsPlacedAt board from to e.slots start →
-    Some start ≡ spot pace round e n board
-spot-at pace round e n from to start board window inside placed =
+pub spot-at : (pace : Pace) (round : ℕ) (e : Entry) (active : Bool) (n from to start : ℕ) (board : Board) →
+    IsWindow pace round e n from to → to < pace.len → IsPlacedAt board from to (slots_of e active) start →
+    Some start ≡ spot pace round e active n board
+spot-at pace round e active n from to start board window inside placed =
     let least = placed.least in
     let in_window = window start (omega (arith, least.below, inside)) ∙ and_from (nat_le from start) (nat_le start to)
     (le-leb from start least.above) (le-leb start to least.below) in
-    sym (first_of-least (passes pace round e n board) 0 pace.len start
-    (and_from (starts_within pace.time e n (round * pace.len + start)) (fits board e.slots start) in_window least.passing)
+    sym (first_of-least (passes pace round e active n board) 0 pace.len start
+    (and_from (starts_within pace.time e n (round * pace.len + start)) (fits board (slots_of e active) start) in_window least.passing)
     (omega arith) (omega (arith, least.below, inside))
-    (λ at _ earlier. missed_at pace round e n from to at board window (omega (arith, earlier, least.below, inside))
+    (λ at _ earlier. missed_at pace round e active n from to at board window (omega (arith, earlier, least.below, inside))
     (λ low high. least.first at low earlier)))
 
 pub ruleset spot_facts = (spot-at, spot-none, spot-full, spot-outside)

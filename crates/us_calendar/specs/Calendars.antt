@@ -1,12 +1,13 @@
 -- The calendar of a channel, from round to round.
-use Rattle.std.specs.Prelude.{ℕ, ◌+◌, ◌*◌, ◌<◌, ◌≤◌, ◌^◌, ⊤, List, [], ◌∷◌, ◌++◌, length, map, sum_by, Option, Some, None}
+use Rattle.std.specs.Prelude.{ℕ, ◌+◌, ◌*◌, ◌<◌, ◌≤◌, ◌^◌, ◌==◌, ◌&&◌, Bool, ⊤, List, [], ◌∷◌, ◌++◌, length, map, sum_by, Option, Some, None, is_some, option_map}
+use Rattle.std.specs.List.{find}
 use Rattle.us_slots.specs.Times.{minislot_ticks}
 use Rattle.us_flows.specs.declared.channels.Channel.{Channel}
 use Rattle.us_flows.specs.Tables.{Tables, map_len}
 use Rattle.us_holes.specs.Boards.{Board}
 use Rattle.us_calendar.specs.Entries.{entries}
-use Rattle.us_calendar.specs.Occurrences.{Pace}
-use Rattle.us_calendar.specs.Settling.{EntryState, SettledEntry, settle_entry, after_settling, told_as}
+use Rattle.us_calendar.specs.Occurrences.{Pace, end_of}
+use Rattle.us_calendar.specs.Settling.{EntryState, SettledEntry, opening_state, heard, settle_state, after_settling, told_as}
 use Rattle.us_calendar.specs.declared.settled.Settled.{Settled}
 use Rattle.us_calendar.specs.declared.settled.Settled.TheVariants as told
 
@@ -19,12 +20,12 @@ pub record Calendar : Type 0 where
 abbrev pub pace_of : Tables → Channel → Pace
 pace_of t c = record { time = c.bursts.time; len = map_len t c }
 
--- before round 0 nothing is settled
+-- before round 0 nothing is settled, and each flow is active
 abbrev pub opening : Tables → Channel → Calendar
 opening t c = record {
   pace = pace_of t c;
   next_round = 0;
-  states = map (λ e. record { entry = e; settled = [] }) (entries t c);
+  states = map opening_state (entries t c);
 }
 
 -- what a round comes to: the calendar and the board that it leaves, and what it settled, in the order of entries
@@ -37,27 +38,50 @@ pub record Ran : Type 0 where
 unfoldable pub run_entries : Pace → ℕ → List EntryState → Board → Ran
 run_entries pace round [] board = record { states = []; board = board; settled = [] }
 run_entries pace round (state ∷ more) board =
-    let one : SettledEntry = settle_entry pace round state board in
+    let one : SettledEntry = settle_state pace round state board in
     let rest : Ran = run_entries pace round more one.board in
     record {
-      states = after_settling state one.settlements ∷ rest.states;
+      states = after_settling (end_of pace round) state one.settlements ∷ rest.states;
       board = rest.board;
       settled = map (told_as state.entry) one.settlements ++ rest.settled;
     }
 
--- the round of a calendar on a board
-abbrev pub ran : Calendar → Board → Ran
-ran calendar board = run_entries calendar.pace calendar.next_round calendar.states board
-
--- and the calendar then
-abbrev pub after : Calendar → Board → Calendar
-after calendar board = record {
+-- a calendar that has heard a round's cut, bytes by word
+abbrev pub heard_by : List ℕ → Calendar → Calendar
+heard_by cut calendar = record {
   pace = calendar.pace;
-  next_round = calendar.next_round + 1;
-  states = (ran calendar board).states;
+  next_round = calendar.next_round;
+  states = map (heard cut) calendar.states;
 }
 
--- how many occurrences are settled so far, granted or missed
+-- its round on a board
+abbrev pub settles : Calendar → Board → Ran
+settles calendar board = run_entries calendar.pace calendar.next_round calendar.states board
+
+-- and the calendar then
+abbrev pub settled_after : Calendar → Board → Calendar
+settled_after calendar board = record {
+  pace = calendar.pace;
+  next_round = calendar.next_round + 1;
+  states = (settles calendar board).states;
+}
+
+-- the round of a calendar with a cut, on a board, and the calendar then
+abbrev pub ran : Calendar → List ℕ → Board → Ran
+ran calendar cut board = settles (heard_by cut calendar) board
+
+abbrev pub after : Calendar → List ℕ → Board → Calendar
+after calendar cut board = settled_after (heard_by cut calendar) board
+
+-- the entry of the flow with this id, if its activity is detected,
+abbrev pub is_heard_as : ℕ → EntryState → Bool
+is_heard_as id state = is_some state.entry.silence && (state.entry.id == id)
+
+-- and whether that flow is active
+abbrev pub activity_in : ℕ → Calendar → Option Bool
+activity_in id calendar = option_map (λ state. state.active) (find (is_heard_as id) calendar.states)
+
+-- how many occurrences are settled so far: granted or missed, or left out in a silent interval
 abbrev pub settled_in : Calendar → ℕ
 settled_in calendar = sum_by (λ state. length state.settled) calendar.states
 

@@ -5,13 +5,14 @@ use Rattle.us_slots.specs.Bursts.{burst_cost, coded_length}
 use Rattle.us_flows.specs.declared.channels.Channel.{Channel}
 use Rattle.us_flows.specs.declared.stations.Station.{Station}
 use Rattle.us_flows.specs.declared.flows.SchedulingType.{SchedulingType}
-use Rattle.us_flows.specs.declared.flows.SchedulingType.TheVariants.{BestEffort, NonRealTimePolling, RealTimePolling, UnsolicitedGrant}
+use Rattle.us_flows.specs.declared.flows.SchedulingType.TheVariants.{BestEffort, NonRealTimePolling, RealTimePolling, ActivityDetection, UnsolicitedGrant}
 use Rattle.us_flows.specs.Tables.{Tables, FlowTable}
-use Rattle.us_calendar.specs.Entries.{Entry, entry_of_flow, entry_of_station, entries}
+use Rattle.us_calendar.specs.Entries.{Entry, WordedFlow, entry_of_flow, entry_of_station, entries}
 use Rattle.us_calendar.specs.declared.kinds.Kind.{Kind}
 use Rattle.us_calendar.specs.declared.kinds.Kind.TheVariants as kinds
 
--- the base channel with this id: minislots of 64 symbols, of which a poll has 2 and a station 4
+-- The base channel with this id, but with polls of 3 minislots, so that no grant here is as long as one. Minislots have 64
+-- symbols, and a station has 4.
 abbrev channel : ℕ → Channel
 channel id = record {
   id = id;
@@ -19,7 +20,7 @@ channel id = record {
   ucd_count = 0;
   ranging_backoff = 2 ∷ 6 ∷ [];
   data_backoff = 3 ∷ 8 ∷ [];
-  request_minislots = 2;
+  request_minislots = 3;
   contention_minislots = 10;
   maintenance_minislots = 0;
   maintenance_every = 1;
@@ -50,6 +51,10 @@ flow id kind = record {
 abbrev station : Station
 station = record { id = 5; channel = 2; sid = 300; start_us = 1000; interval_us = 10000; jitter_us = 500 }
 
+-- one whose first word has this number
+abbrev worded : ℕ → ℕ → SchedulingType → WordedFlow
+worded word id kind = record { word = word; flow = flow id kind }
+
 -- an entry of these times, in quarter microseconds
 abbrev entry : Kind → ℕ → ℕ → ℕ → ℕ → ℕ → Entry
 entry kind id sid iuc slots grants = record {
@@ -61,24 +66,31 @@ entry kind id sid iuc slots grants = record {
   interval = 40000;
   jitter = 2000;
   grants = grants;
+  silence = None;
 }
 
 -- a flow is polled on its first channel, with the SID that its first cluster has there,
-poll : entry_of_flow (channel 2) (flow 7 RealTimePolling) ≡ Some (entry kinds.RealTimePoll 7 292 1 2 1)
+poll : entry_of_flow (channel 2) (worded 5 7 RealTimePolling) ≡ Some (entry kinds.RealTimePoll 7 292 1 3 1)
 poll = refl
 
 -- and on no other one
-no_second_poll : entry_of_flow (channel 1) (flow 7 RealTimePolling) ≡ None
+no_second_poll : entry_of_flow (channel 1) (worded 5 7 RealTimePolling) ≡ None
 no_second_poll = refl
 
 -- nobody polls a flow of best effort
-best_effort : entry_of_flow (channel 2) (flow 7 BestEffort) ≡ None
+best_effort : entry_of_flow (channel 2) (worded 5 7 BestEffort) ≡ None
 best_effort = refl
 
 -- 17 bytes are two symbols over a minislot, and no header comes to them
-unsolicited : entry_of_flow (channel 2) (flow 7 UnsolicitedGrant) ≡ Some (entry kinds.Unsolicited 7 292 11 2 3)
+unsolicited : entry_of_flow (channel 2) (worded 5 7 UnsolicitedGrant) ≡ Some (entry kinds.Unsolicited 7 292 11 2 3)
 unfolding burst_cost coded_length
 unsolicited = refl
+
+-- a flow whose activity is detected has the same grants, and the number of its first word with the minislots of a poll
+activity : entry_of_flow (channel 2) (worded 5 7 ActivityDetection) ≡
+    Some (record (entry kinds.Activity 7 292 11 2 3) { silence = Some (record { word = 5; slots = 3 }) })
+unfolding burst_cost coded_length
+activity = refl
 
 maintenance : entry_of_station (channel 2) station ≡ Some (entry kinds.Station 5 300 4 4 1)
 maintenance = refl
@@ -86,20 +98,24 @@ maintenance = refl
 no_maintenance : entry_of_station (channel 1) station ≡ None
 no_maintenance = refl
 
--- by kind, whatever the order in the tables is, and each kind by id
+-- By kind, whatever the order in the tables is, and each kind by id. Flow 6 has words 2 and 3, behind those of the two
+-- clusters of flow 4, and flow 5 has words 6 and 7.
 abbrev tables : Tables
 tables = record {
   round_ticks = 320;
   lead_ticks = 160;
   channels = channel 1 ∷ channel 2 ∷ [];
-  flows = flow 4 NonRealTimePolling ∷ flow 9 UnsolicitedGrant ∷ flow 3 RealTimePolling ∷ flow 8 UnsolicitedGrant
-      ∷ flow 1 BestEffort ∷ [];
+  flows = flow 4 NonRealTimePolling ∷ flow 9 UnsolicitedGrant ∷ flow 6 ActivityDetection ∷ flow 3 RealTimePolling
+      ∷ flow 5 ActivityDetection ∷ flow 8 UnsolicitedGrant ∷ flow 1 BestEffort ∷ [];
   stations = station ∷ [];
 }
 
 all_entries : entries tables (channel 2) ≡
-    entry kinds.Unsolicited 8 292 11 2 3 ∷ entry kinds.Unsolicited 9 292 11 2 3 ∷ entry kinds.RealTimePoll 3 292 1 2 1
-    ∷ entry kinds.NonRealTimePoll 4 292 1 2 1 ∷ entry kinds.Station 5 300 4 4 1 ∷ []
+    entry kinds.Unsolicited 8 292 11 2 3 ∷ entry kinds.Unsolicited 9 292 11 2 3
+    ∷ record (entry kinds.Activity 5 292 11 2 3) { silence = Some (record { word = 6; slots = 3 }) }
+    ∷ record (entry kinds.Activity 6 292 11 2 3) { silence = Some (record { word = 2; slots = 3 }) }
+    ∷ entry kinds.RealTimePoll 3 292 1 3 1
+    ∷ entry kinds.NonRealTimePoll 4 292 1 3 1 ∷ entry kinds.Station 5 300 4 4 1 ∷ []
 unfolding entries burst_cost coded_length
 all_entries = refl
 

@@ -1,5 +1,5 @@
--- Read in this order: the entries of a channel; when their occurrences are ideal, and where they may start; how a round
--- settles them; then laws, and small inputs computed.
+-- Read in this order: the entries of a channel; when their occurrences are ideal, and where they may start; when their flows
+-- are silent; how a round settles them; then laws, and small inputs computed.
 -- In a definition `≡` is equals, `×` is and, `→` implies, `++` one list behind another, `∷` one item before a list, and
 -- ℕ has the whole numbers from 0; `/` rounds down.
 
@@ -7,6 +7,8 @@
 pub mod Entries
 -- the occurrences of an entry, by their numbers
 pub mod Occurrences
+-- which flows are active, and which are silent
+pub mod Activity
 -- what a round does with them
 pub mod Settling
 -- the calendar of a channel, from round to round
@@ -21,5 +23,7 @@ pub mod Kept
 pub mod Laws
 -- the definitions at small inputs: entries,
 pub mod EntryExamples
--- and what becomes of their occurrences
+-- what becomes of their occurrences,
 pub mod Examples
+-- and what where a flow falls silent
+pub mod ActivityExamples

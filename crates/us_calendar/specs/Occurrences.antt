@@ -1,5 +1,5 @@
 -- When the occurrences of an entry are ideal, and where they may start.
-use Rattle.std.specs.Prelude.{ℕ, ◌+◌, ◌*◌, ◌/◌, nat_le, nat_lt, nat_eq, Bool, ◌&&◌, not, List, filter}
+use Rattle.std.specs.Prelude.{ℕ, ◌+◌, ◌*◌, ◌/◌, ◌%◌, nat_le, nat_lt, nat_eq, ◌==◌, Bool, ◌&&◌, ◌||◌, not, List, filter}
 use Rattle.std.specs.List.{list_any, range_with_len}
 use Rattle.us_slots.specs.Times.{Timing, start_of}
 use Rattle.us_calendar.specs.Entries.{Entry}
@@ -32,3 +32,12 @@ is_over pace round e n = nat_lt (ideal e n + e.jitter) (end_of pace round)
 unfoldable pub due : Entry → ℕ → List ℕ → List ℕ
 due e end settled =
     filter (λ n. nat_lt (ideal e n) end && not (list_any (nat_eq n) settled)) (range_with_len 0 (end * e.grants))
+
+-- Whether the flow is active at a time, or silent, decides of what kind an interval is that begins then: all grants of it
+-- come where the flow is active, and where it is silent the first alone, as a poll.
+abbrev pub comes : Entry → (ℕ → Bool) → ℕ → Bool
+comes e speaks n = speaks (ideal e n) || (n % e.grants == 0)
+
+-- those that are due and come
+unfoldable pub coming : Entry → (ℕ → Bool) → ℕ → List ℕ → List ℕ
+coming e speaks end settled = filter (comes e speaks) (due e end settled)

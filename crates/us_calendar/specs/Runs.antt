@@ -3,8 +3,8 @@ use Rattle.std.specs.Prelude.{◌≡◌, ℕ, ◌+◌, ◌*◌, ◌/◌, ◌%◌
 use Rattle.std.specs.List.{AllByRecursion, Contains}
 use Rattle.us_slots.specs.Times.{start_of}
 use Rattle.us_holes.specs.Boards.{Board, Assignment, fits, assign_all}
-use Rattle.us_calendar.specs.Entries.{Entry, rank_of}
-use Rattle.us_calendar.specs.Occurrences.{Pace, ideal, starts_within}
+use Rattle.us_calendar.specs.Entries.{Entry, slots_of, owner_of, rank_of}
+use Rattle.us_calendar.specs.Occurrences.{Pace, ideal, starts_within, comes}
 use Rattle.us_calendar.specs.Settling.{spot}
 use Rattle.us_calendar.specs.Calendars.{Calendar, ran, after}
 use Rattle.us_calendar.specs.declared.settled.Settled.{Settled}
@@ -15,11 +15,19 @@ pub record Round : Type 0 where
   pub board : Board
   pub settled : List Settled
 
--- the rounds of a calendar, one on each of these boards
-abbrev pub rounds_on : Calendar → List Board → List Round
-rounds_on calendar [] = []
-rounds_on calendar (board ∷ boards) =
-    record { board = board; settled = (ran calendar board).settled } ∷ rounds_on (after calendar board) boards
+-- the rounds of a calendar, one with each of these cuts on each of these boards,
+abbrev pub rounds_on : Calendar → List (List ℕ) → List Board → List Round
+rounds_on calendar [] boards = []
+rounds_on calendar (cut ∷ cuts) [] = []
+rounds_on calendar (cut ∷ cuts) (board ∷ boards) =
+    record { board = board; settled = (ran calendar cut board).settled }
+    ∷ rounds_on (after calendar cut board) cuts boards
+
+-- and the calendar behind them
+abbrev pub after_rounds : Calendar → List (List ℕ) → List Board → Calendar
+after_rounds calendar [] boards = calendar
+after_rounds calendar (cut ∷ cuts) [] = calendar
+after_rounds calendar (cut ∷ cuts) (board ∷ boards) = after_rounds (after calendar cut board) cuts boards
 
 -- when so many rounds have ended
 abbrev pub end_after : Pace → ℕ → ℕ
@@ -73,26 +81,30 @@ assignments_of (told.Missed kind id i k) = []
 abbrev pub board_at_turn : Entry → ℕ → Round → Board
 board_at_turn e n round = assign_all round.board (flat_map assignments_of (filter (is_earlier e n) round.settled))
 
--- Where round `r` grants an occurrence, it starts in its window, with the minislots and the owner of its entry, and fits
--- on the board that it met. Where the round misses it, its window ends in that round.
-abbrev pub IsRight : Pace → ℕ → Entry → ℕ → Board → Settled → Type 0
-IsRight pace r e n board (told.Granted kind id i k start slots owner) = is_name e n (rank_of kind) id i k ≡ true →
+-- Where round `r` grants an occurrence, it starts in its window, with the minislots and the owner of its entry, as a grant
+-- or as a poll, and fits on the board that it met. Where the round misses it, its window ends in that round.
+abbrev pub IsRight : Pace → ℕ → Entry → Bool → ℕ → Board → Settled → Type 0
+IsRight pace r e active n board (told.Granted kind id i k start slots owner) = is_name e n (rank_of kind) id i k ≡ true →
     (start < pace.len) × (starts_within pace.time e n (r * pace.len + start) ≡ true) × (fits board slots start ≡ true)
-    × (slots ≡ e.slots) × (owner ≡ e.owner)
-IsRight pace r e n board (told.Missed kind id i k) = is_name e n (rank_of kind) id i k ≡ true →
+    × (slots ≡ slots_of e active) × (owner ≡ owner_of e active)
+IsRight pace r e active n board (told.Missed kind id i k) = is_name e n (rank_of kind) id i k ≡ true →
     (end_after pace r ≤ window_end e n) × (window_end e n < end_after pace (r + 1))
 
--- What becomes of occurrence `n` of an entry in these rounds, from round 0 on.
-pub record IsSettledOnce (pace : Pace) (rounds : List Round) (e : Entry) (n : ℕ) : Type 0 where
-  -- it is granted or missed once where its window ends before they do,
-  pub closed : window_end e n < end_after pace (length rounds) →
+-- What becomes of occurrence `n` of an entry in these rounds, from round 0 on, where its flow is active at some times and
+-- silent at others.
+pub record IsSettledOnce (pace : Pace) (speaks : ℕ → Bool) (rounds : List Round) (e : Entry) (n : ℕ) : Type 0 where
+  -- it is neither granted nor missed where it doesn't come;
+  pub left_out : comes e speaks n ≡ false → times (grants e n) rounds + times (misses e n) rounds ≡ 0
+  -- else it is granted or missed once where its window ends before they do,
+  pub closed : comes e speaks n ≡ true → window_end e n < end_after pace (length rounds) →
       times (grants e n) rounds + times (misses e n) rounds ≡ 1
   -- and else it is granted once, or neither granted nor missed
   pub waits : end_after pace (length rounds) ≤ window_end e n →
       (times (grants e n) rounds ≤ 1) × (times (misses e n) rounds ≡ 0)
   -- it is granted in its window, and missed where its window ends
   pub right : (r : ℕ) (round : Round) → slice_get rounds r ≡ Some round →
-      AllByRecursion (IsRight pace r e n (board_at_turn e n round)) round.settled
+      AllByRecursion (IsRight pace r e (speaks (ideal e n)) n (board_at_turn e n round)) round.settled
   -- and in each round up to which it isn't granted, it fits at no start in its window when it has its turn
-  pub no_room : (r : ℕ) (round : Round) → slice_get rounds r ≡ Some round →
-      times (grants e n) (take (r + 1) rounds) ≡ 0 → spot pace r e n (board_at_turn e n round) ≡ None
+  pub no_room : comes e speaks n ≡ true → (r : ℕ) (round : Round) → slice_get rounds r ≡ Some round →
+      times (grants e n) (take (r + 1) rounds) ≡ 0 →
+      spot pace r e (speaks (ideal e n)) n (board_at_turn e n round) ≡ None

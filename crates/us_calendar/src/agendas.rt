@@ -1,5 +1,6 @@
-ghost use Rattle.std.specs.Prelude.{◌≡◌, ◌+◌, ◌≤◌, ◌++◌, [], length, map, OnOk, IfOk};
+ghost use Rattle.std.specs.Prelude.{◌≡◌, ◌+◌, ◌≤◌, ◌++◌, length, map, OnOk, IfOk};
 ghost use Rattle.std.specs.List.{AllByRecursion};
+ghost use Rattle.us_calendar.specs.Settling.{opening_state};
 ghost use Rattle.us_calendar.specs.Calendars.{run_entries};
 ghost use Rattle.us_calendar.specs.Kept.{IsEntryState};
 ghost use Rattle.us_calendar.specs.Agendas.{IsAgenda};
@@ -24,7 +25,7 @@ pub(crate) fn noted(
     requires first { span.now.round ≡ 0 }
     requires few { length entries.now ≤ 1280 }
     ensures states { IfOk result
-        (λ kept. kept.0.items ≡ map (λ e. record { entry = e; settled = [] }) entries.now) }
+        (λ kept. kept.0.items ≡ map opening_state entries.now) }
     ensures known { IfOk result (λ kept. AllByRecursion IsEntryState kept.0.items) }
     ensures agenda { IfOk result (λ kept. IsAgenda span.now.pace 0 0 kept.0.items kept.1.items kept.2 0) }
 {

@@ -1,8 +1,11 @@
+ghost use Rattle.std.specs.Prelude.{◌≡◌, ◌≤◌};
 ghost use Rattle.us_calendar.specs.Entries as spec;
 
 use crate::kinds::Kind;
+use crate::silences::Silence;
 use std::marker::Model;
 use us_holes::Owner;
+use us_slots::Iuc;
 
 /// An entry of the calendar: so many grants of `slots` minislots in each interval. Times are in quarter microseconds.
 #[derive(Clone, Copy)]
@@ -23,6 +26,8 @@ pub struct Entry {
     pub jitter: u32,
     /// How many grants there are in an interval, 1 to 127.
     pub grants: u8,
+    /// What it has while its flow is silent, where the flow's activity is detected.
+    pub silence: Option<Silence>,
 }
 
 impl Model for Entry {
@@ -37,6 +42,7 @@ impl Model for Entry {
       interval = e.interval;
       jitter = e.jitter;
       grants = e.grants;
+      silence = e.silence;
     } };
 
     ghost invariant = { λ e. spec.IsEntry (record {
@@ -48,6 +54,7 @@ impl Model for Entry {
       interval = e.interval;
       jitter = e.jitter;
       grants = e.grants;
+      silence = e.silence;
     }) };
 
     ghost inverse = { λ e. record {
@@ -59,5 +66,33 @@ impl Model for Entry {
       interval = e.interval;
       jitter = e.jitter;
       grants = e.grants;
+      silence = e.silence;
     } };
+}
+
+impl Entry {
+    /// The minislots of a grant, where the flow is active, or of a poll, where it is silent.
+    pub fn slots_of(&self, active: bool) -> u32
+        ensures value { result ≡ spec.slots_of self.now active }
+        ensures some { 1 ≤ result }
+    {
+        if active {
+            return self.slots;
+        }
+        match self.silence {
+            None => self.slots,
+            Some(silence) => silence.slots,
+        }
+    }
+
+    /// Whom these are for.
+    pub fn owner_of(&self, active: bool) -> Owner
+        ensures { result ≡ spec.owner_of self.now active }
+    {
+        if active {
+            self.owner
+        } else {
+            Owner::new(self.owner.sid(), Iuc::request())
+        }
+    }
 }

@@ -1,6 +1,6 @@
 //! Laws of the definitions of the calendar, each as the contract of a function that does nothing.
 
-ghost use Rattle.us_calendar.specs.Laws.{AreOccurrences, EntriesAreApart, EntriesAreLawful, FirstOnes, GrantsFit, SettledOnce};
+ghost use Rattle.us_calendar.specs.Laws.{AreOccurrences, EntriesAreApart, EntriesAreLawful, EntriesHaveWords, FirstOnes, GrantsFit, KindsAsHeard, RowsStandFirst, SettledOnce};
 
 /// An entry of a kind and an id stands on one channel, and is one.
 pub fn entries_are_apart()
@@ -12,9 +12,19 @@ pub fn entries_are_lawful()
     ensures { EntriesAreLawful }
 {}
 
-/// What is settled of an entry are its first occurrences, and so they are after a round.
+/// An entry whose activity is detected has the words of its flow.
+pub fn entries_have_words()
+    ensures { EntriesHaveWords }
+{}
+
+/// What is settled of an entry are its first occurrences, and so they are after a round, of which one interval is open at most.
 pub fn first_ones()
     ensures { FirstOnes }
+{}
+
+/// After any number of rounds the first occurrences of each entry of a channel are settled, and no others.
+pub fn rows_stand_first()
+    ensures { RowsStandFirst }
 {}
 
 /// A round leaves the board with what it granted, each where it fitted.
@@ -22,7 +32,12 @@ pub fn grants_fit()
     ensures { GrantsFit }
 {}
 
-/// Each occurrence is granted in its window or missed, once, where its window ends in a run.
+/// What is kept of which flows are silent is what the cuts say.
+pub fn kinds_as_heard()
+    ensures { KindsAsHeard }
+{}
+
+/// Each occurrence that comes is granted in its window or missed, once, where its window ends in a run.
 pub fn settled_once()
     ensures { SettledOnce }
 {}

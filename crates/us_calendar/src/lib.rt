@@ -2,7 +2,7 @@
 //!
 //! ```
 //! let mut calendar = Calendar::new(alloc, &config, 0)?; // of the first channel
-//! let settled = calendar.run(alloc, 0, &mut board)?; // what round 0 grants and misses
+//! let settled = calendar.run(alloc, 0, &cuts, &mut board)?; // what round 0 grants and misses
 //! ```
 //!
 //! What these words mean stands in `specs/`, in the order of its `Lib.antt`.
@@ -10,6 +10,9 @@
 
 // What an entry is.
 mod kinds;
+
+// What it has while its flow is silent.
+mod silences;
 
 // What a round settled.
 mod settled;
@@ -25,6 +28,12 @@ mod entries;
 
 // An occurrence of it.
 mod occurrences;
+
+// Which flows are silent.
+mod hearing;
+
+// What is kept of that for an entry's intervals.
+mod interval_kinds;
 
 // Where an occurrence is granted.
 mod placing;
@@ -50,6 +59,9 @@ mod near_rounds;
 // The entries that are due.
 mod agendas;
 
+// The entries that hear whether their flows are silent.
+mod heard_entries;
+
 // The calendar.
 mod calendars;
 
@@ -60,11 +72,12 @@ pub use calendars::Calendar;
 pub use entries::Entry;
 pub use kinds::Kind;
 pub use laws::{
-    all_are_occurrences, entries_are_apart, entries_are_lawful, first_ones, grants_fit,
-    settled_once,
+    all_are_occurrences, entries_are_apart, entries_are_lawful, entries_have_words, first_ones,
+    grants_fit, kinds_as_heard, rows_stand_first, settled_once,
 };
 pub use listing::entries_of;
 pub use settled::Settled;
+pub use silences::Silence;
 
 #[cfg(test)]
 mod tests;

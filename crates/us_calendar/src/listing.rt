@@ -1,11 +1,15 @@
-ghost use Rattle.std.specs.Prelude.{◌≡◌, ◌≢◌, ◌≤◌, ◌<◌, ◌++◌, filter_map, IfOk, OnOk, length};
+ghost use Rattle.std.specs.Prelude.{◌≡◌, ◌≢◌, ◌≤◌, ◌<◌, ◌++◌, filter_map, IfOk, OnOk, None, length};
 ghost use Rattle.std.specs.List.{AllByRecursion};
+ghost use Rattle.std.specs.Option.{ForSome, option_to_list};
+ghost use Rattle.us_slots.specs.UsageCodes as codes;
+ghost use Rattle.us_flows.specs.Ranges.{max_flows};
 ghost use Rattle.us_flows.specs.Tables.{Tables, FlowTable};
 ghost use Rattle.us_flows.specs.Lawful.{IsFlow, IsStation, IsChannel, IsSchedule};
 ghost use Rattle.us_calendar.specs.Entries as spec;
 
 use crate::entries::Entry;
 use crate::kinds::Kind;
+use crate::silences::Silence;
 use std::alloc::Global;
 use us_flows::{Channel, Config, Flow, SchedulingType, Station};
 use us_holes::Owner;
@@ -33,24 +37,26 @@ fn rank(entry: &Entry) -> (u8, u16)
 {
     let turn = match entry.kind {
         Kind::Unsolicited => 0,
-        Kind::RealTimePoll => 1,
-        Kind::NonRealTimePoll => 2,
-        Kind::Station => 3,
+        Kind::Activity => 1,
+        Kind::RealTimePoll => 2,
+        Kind::NonRealTimePoll => 3,
+        Kind::Station => 4,
     };
     (turn, entry.id)
 }
 
-/// Puts the entries of flows behind those before them.
+/// Puts the entries of flows behind those before them. The words of flows are numbered from 0 on.
 fn push_flows(entries: &mut Vec<Entry>, channel: &Channel, flows: &[Flow]) -> Result<(), NoMemory>
     requires some { 1 ≤ channel.now.request_minislots }
     requires flows { (t : Tables) × AllByRecursion (IsFlow t) flows.now }
-    ensures { OnOk result
-        (entries.new.items ≡ entries.old.items ++ filter_map (spec.entry_of_flow channel.now) flows.now) }
+    requires few { length flows.now ≤ max_flows }
+    ensures { OnOk result (entries.new.items ≡ entries.old.items ++
+        filter_map (spec.entry_of_flow channel.now) (spec.with_words 0 flows.now)) }
 {
+    let mut word = 0;
     for flow in flows {
-        if let Some(entry) = flow_entry(channel, flow) {
-            entries.push(entry)?;
-        }
+        push_some(entries, flow_entry(channel, flow, word))?;
+        word += flow.words() as u16;
     }
     Ok(())
 }
@@ -67,18 +73,26 @@ fn push_stations(
         (entries.new.items ≡ entries.old.items ++ filter_map (spec.entry_of_station channel.now) stations.now) }
 {
     for station in stations {
-        if let Some(entry) = station_entry(channel, station) {
-            entries.push(entry)?;
-        }
+        push_some(entries, station_entry(channel, station))?;
     }
     Ok(())
 }
 
-/// The entry of a flow, if it has one on this channel.
-fn flow_entry(channel: &Channel, flow: &Flow) -> Option<Entry>
+/// Puts an entry behind those before it, if there is one.
+fn push_some(entries: &mut Vec<Entry>, entry: Option<Entry>) -> Result<(), NoMemory>
+    ensures { OnOk result (entries.new.items ≡ entries.old.items ++ option_to_list entry) }
+{
+    if let Some(entry) = entry {
+        entries.push(entry)?;
+    }
+    Ok(())
+}
+
+/// The entry of a flow, whose first word has this number, if it has one on this channel.
+fn flow_entry(channel: &Channel, flow: &Flow, word: u16) -> Option<Entry>
     requires some { 1 ≤ channel.now.request_minislots }
     requires flow { (t : Tables) × IsFlow t flow.now }
-    ensures { result ≡ spec.entry_of_flow channel.now flow.now }
+    ensures { result ≡ spec.entry_of_flow channel.now (record { word = word; flow = flow.now }) }
 {
     if flow.channels()[0] != channel.id {
         return None;
@@ -86,48 +100,67 @@ fn flow_entry(channel: &Channel, flow: &Flow) -> Option<Entry>
     let poll = u32::from(channel.request_minislots);
     match flow.kind() {
         SchedulingType::BestEffort => None,
-        SchedulingType::NonRealTimePolling => Some(entry_with(
-            flow,
-            Kind::NonRealTimePoll,
-            Iuc::request(),
-            poll,
-            1,
-        )),
-        SchedulingType::RealTimePolling => Some(entry_with(
-            flow,
-            Kind::RealTimePoll,
-            Iuc::request(),
-            poll,
-            1,
-        )),
+        SchedulingType::NonRealTimePolling => {
+            Some(poll_entry(flow, Kind::NonRealTimePoll, poll))
+        }
+        SchedulingType::RealTimePolling => Some(poll_entry(flow, Kind::RealTimePoll, poll)),
+        SchedulingType::ActivityDetection => {
+            let silence = Silence { word, slots: poll };
+            Some(grant_entry(channel, flow, Kind::Activity, Some(silence)))
+        }
         SchedulingType::UnsolicitedGrant => {
-            let bursts = channel.bursts;
-            let slots = cost(
-                bursts.time(),
-                bursts.unsolicited(),
-                u32::from(flow.grant_bytes()),
-            );
-            let grants = flow.grants_per_interval();
-            Some(entry_with(
-                flow,
-                Kind::Unsolicited,
-                Iuc::unsolicited_grant(),
-                slots,
-                grants,
-            ))
+            Some(grant_entry(channel, flow, Kind::Unsolicited, None))
         }
     }
 }
 
+/// The entry of a flow with a poll of so many minislots in each interval.
+fn poll_entry(flow: &Flow, kind: Kind, slots: u32) -> Entry
+    requires flow { (t : Tables) × IsFlow t flow.now }
+    requires schedule { IsSchedule flow.now.start_us flow.now.interval_us flow.now.jitter_us }
+    requires slots { 1 ≤ slots }
+    ensures { result ≡ spec.flow_entry flow.now kind codes.request slots 1 None }
+{
+    entry_with(flow, kind, Iuc::request(), slots, 1, None)
+}
+
+/// The entry of a flow with its unsolicited grants.
+fn grant_entry(channel: &Channel, flow: &Flow, kind: Kind, silence: Option<Silence>) -> Entry
+    requires flow { (t : Tables) × IsFlow t flow.now }
+    requires schedule { IsSchedule flow.now.start_us flow.now.interval_us flow.now.jitter_us }
+    requires bytes { 1 ≤ flow.now.grant_bytes }
+    requires grants { 1 ≤ flow.now.grants_per_interval }
+    requires silence { ForSome silence (λ s. 1 ≤ s.slots) }
+    ensures { result ≡ spec.flow_entry flow.now kind codes.unsolicited_grant (spec.grant_cost channel.now flow.now)
+        flow.now.grants_per_interval silence }
+{
+    let bursts = channel.bursts;
+    let slots = cost(
+        bursts.time(),
+        bursts.unsolicited(),
+        u32::from(flow.grant_bytes()),
+    );
+    let grants = flow.grants_per_interval();
+    entry_with(flow, kind, Iuc::unsolicited_grant(), slots, grants, silence)
+}
+
 /// The entry of a flow with so many grants, of so many minislots, in each interval.
-fn entry_with(flow: &Flow, kind: Kind, iuc: Iuc, slots: u32, grants: u8) -> Entry
+fn entry_with(
+    flow: &Flow,
+    kind: Kind,
+    iuc: Iuc,
+    slots: u32,
+    grants: u8,
+    silence: Option<Silence>,
+) -> Entry
     requires flow { (t : Tables) × IsFlow t flow.now }
     requires schedule { IsSchedule flow.now.start_us flow.now.interval_us flow.now.jitter_us }
     requires iuc { iuc ≢ 7 }
     requires slots { 1 ≤ slots }
     requires grants { 1 ≤ grants }
     requires few { grants ≤ 127 }
-    ensures { result ≡ spec.flow_entry flow.now kind iuc slots grants }
+    requires silence { ForSome silence (λ s. 1 ≤ s.slots) }
+    ensures { result ≡ spec.flow_entry flow.now kind iuc slots grants silence }
 {
     Entry {
         kind,
@@ -138,6 +171,7 @@ fn entry_with(flow: &Flow, kind: Kind, iuc: Iuc, slots: u32, grants: u8) -> Entr
         interval: QUARTERS_PER_US * flow.interval_us(),
         jitter: QUARTERS_PER_US * flow.jitter_us(),
         grants,
+        silence,
     }
 }
 
@@ -168,5 +202,6 @@ fn station_entry(channel: &Channel, station: &Station) -> Option<Entry>
         interval: QUARTERS_PER_US * station.interval_us,
         jitter: QUARTERS_PER_US * station.jitter_us,
         grants: 1,
+        silence: None,
     })
 }

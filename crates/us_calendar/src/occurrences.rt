@@ -1,7 +1,7 @@
-ghost use Rattle.std.specs.Prelude.{◌≡◌, ◌+◌, ◌*◌, ◌<◌};
+ghost use Rattle.std.specs.Prelude.{◌≡◌, ◌*◌, ◌<◌, ◌==◌, ◌||◌, ◌&&◌, true};
 ghost use Rattle.us_slots.specs.Times.{quarters_per_tick};
 ghost use Rattle.us_flows.specs.Tables.{max_run_ticks};
-ghost use Rattle.us_calendar.specs.Kept.{IsTimed, number_of};
+ghost use Rattle.us_calendar.specs.Kept.{IsTimed, behind, number_of};
 
 use crate::entries::Entry;
 
@@ -30,16 +30,19 @@ impl Occurrence {
         }
     }
 
-    /// The one behind it: the next grant of its interval, or the first one of the next interval.
+    /// The one behind it: the next grant of its interval, or the first one of the next interval. A poll, where the flow is
+    /// silent, is the first of its interval and stands for all of it.
     #[tactic(auto, using(crate::proofs::TimedLemmas::timed_facts))]
-    pub(crate) fn after(self, entry: &Entry) -> Occurrence
+    pub(crate) fn after(self, entry: &Entry, active: bool) -> Occurrence
         requires timed { IsTimed entry.now self }
+        requires begins { (active || (self.k == 0)) ≡ true }
         requires soon { self.ideal < quarters_per_tick * max_run_ticks }
-        ensures number { number_of entry.now result ≡ number_of entry.now self + 1 }
+        ensures number { number_of entry.now result ≡ behind entry.now active (number_of entry.now self) }
         ensures timed { IsTimed entry.now result }
+        ensures comes { ((active && (result.ideal == self.ideal)) || (result.k == 0)) ≡ true }
     {
         let grants = entry.grants;
-        if self.k + 1 < grants {
+        if active && self.k + 1 < grants {
             Occurrence {
                 i: self.i,
                 k: self.k + 1,

@@ -8,18 +8,27 @@ use crate::occurrences::Occurrence;
 use crate::spans::Span;
 use us_holes::{Board, Placed};
 
-/// Grants an occurrence the first minislot of its window in this round's MAP where it fits: the offset, if there is one.
+/// Grants an occurrence the first minislot of its window in this round's MAP where it fits, as a grant of an active flow or
+/// as a poll: the offset, if there is one.
 #[tactic(auto, using(crate::proofs::SpotLemmas::spot_facts))]
-pub(crate) fn place(entry: &Entry, span: &Span, next: Occurrence, board: &mut Board) -> Option<u32>
+#[inline(always)]
+pub(crate) fn place(
+    entry: &Entry,
+    span: &Span,
+    active: bool,
+    next: Occurrence,
+    board: &mut Board,
+) -> Option<u32>
     requires len { length board.old.cells ≡ span.now.pace.len }
     requires timed { IsTimed entry.now next }
     requires due { next.ideal < span.now.end }
-    ensures value { result ≡ spec.spot span.now.pace span.now.round entry.now (number_of entry.now next) board.old }
-    ensures board { board.new ≡ spec.with_spot entry.now result board.old }
+    ensures value { result ≡ spec.spot span.now.pace span.now.round entry.now active (number_of entry.now next) board.old }
+    ensures board { board.new ≡ spec.with_spot entry.now active result board.old }
     ensures len { length board.new.cells ≡ length board.old.cells }
 {
     let (from, to) = starts(entry, span, next)?;
-    match board.place_earliest(from, to, entry.slots, entry.owner) {
+    let slots = entry.slots_of(active);
+    match board.place_earliest(from, to, slots, entry.owner_of(active)) {
         Placed::At(start, _) => Some(start),
         Placed::Full => None,
         Placed::NoRoom => None,

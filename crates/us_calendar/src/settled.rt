@@ -12,7 +12,8 @@ pub enum Settled {
         id: u16,
         /// The number of the interval.
         i: u32,
-        /// The place among the grants of the interval, 0 but for unsolicited grants.
+        /// The place among the grants of the interval, 0 but for unsolicited grants and those of a flow whose activity is
+        /// detected.
         k: u8,
         /// The offset of its first minislot in the MAP.
         start: u32,
@@ -29,7 +30,8 @@ pub enum Settled {
         id: u16,
         /// The number of the interval.
         i: u32,
-        /// The place among the grants of the interval, 0 but for unsolicited grants.
+        /// The place among the grants of the interval, 0 but for unsolicited grants and those of a flow whose activity is
+        /// detected.
         k: u8,
     },
 }

@@ -1,5 +1,6 @@
 //! What no clause says: that there are answers at all, and worked rounds.
 
+mod activity;
 mod base;
 mod compared;
 mod memory;

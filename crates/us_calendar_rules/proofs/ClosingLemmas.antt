@@ -1,18 +1,19 @@
 -- When windows close: those of an entry one after another, so that the first occurrence that fails is its first breach.
-use Rattle.std.proofs.Common.{◌≡◌, ℕ, ◌*◌, ◌/◌, ◌≤◌, Bool, true, false, List, Some, None, refl, ap, sym, subst, ◌∙◌, inl, inr, arith, ltb-true, lt-ltb, le-ltb, eq-eqb, ne_eqb}
+use Rattle.std.proofs.Common.{◌≡◌, ℕ, ◌*◌, ◌/◌, ◌<◌, ◌≤◌, Bool, true, false, List, Some, None, refl, ap, sym, subst, ◌∙◌, inl, inr, arith, ltb-true, lt-ltb, le-ltb, eq-eqb, ne_eqb}
 use Rattle.std.specs.Prelude.{if◌then◌else◌}
 use Rattle.std.proofs.Math.Nat.{div-mul-le_self, div-zero}
-use Rattle.std.proofs.lemmas.Bool.{cases_eq, cases_lt, false≢true}
+use Rattle.std.proofs.lemmas.Bool.{cases_Bool, cases_eq, cases_lt, false≢true}
 use Rattle.std.proofs.lemmas.Nat.{le-div, mul-le}
 use Rattle.us_flows.specs.declared.channels.Channel.{Channel}
 use Rattle.us_calendar.specs.Entries.{Entry}
 use Rattle.us_calendar.specs.Runs.{window_end}
 use Rattle.us_lawful.specs.declared.place.Place.{Place}
 use Rattle.us_lawful.specs.Runs.{Run}
-use Rattle.us_lawful.specs.CalendarLines.{ChannelEntry, closes, closing_round, round_quarters}
+use Rattle.us_lawful.specs.CalendarLines.{ChannelEntry, closes, closing_round, is_there, round_quarters}
 use Rattle.us_breaches.specs.Order.{goes_before}
 use Rattle.us_breaches.specs.Breaches.{IsFirstFailure}
-use Rattle.us_calendar_rules.specs.Failures.{ClosingFails, IsFirstUnmarked}
+use Rattle.us_calendar_rules.specs.Marks.{numbers}
+use Rattle.us_calendar_rules.specs.Failures.{ClosingFails, IsAlike, IsFirstUnmarked}
 
 -- Quotients don't fall,
 div-rises : (m n k : ℕ) → m ≤ n → m / k ≤ n / k
@@ -57,6 +58,15 @@ is_closed false round told is = absurd (cc is)
 
 module _ (channels : List Channel) (run : Run) (marks : List ℕ) (l : ChannelEntry) (number : ℕ)
     (first : IsFirstUnmarked marks l number) where
+  -- The first that isn't marked once is there: else an earlier one would be marked as often.
+  unmarked_there : number < numbers → IsAlike run marks l → is_there run l.entry number ≡ true
+  unmarked_there few alike = elim (cases_Bool (is_there run l.entry number)) [
+    | inl there ↦ there
+    | inr out ↦
+        let other = alike number few out in
+        absurd (first.wrong (other.2 ∙ first.before other.0 other.1))
+  ]
+
   no_earlier : (p : Place) (fails : ClosingFails run marks l p) → number ≤ fails.number
   no_earlier p fails = elim (cases_lt fails.number number) [
     | inl sooner ↦ absurd (fails.wrong (first.before fails.number sooner))
@@ -69,11 +79,17 @@ module _ (channels : List Channel) (run : Run) (marks : List ℕ) (l : ChannelEn
       false≢true (sym out ∙ closes_before run l.entry number fails.number (no_earlier p fails) fails.closes)
 
   -- and where it closes, it is the first breach
-  pub first_closes : (at : Place) → closes run l.entry number ≡ true →
+  pub first_closes : (at : Place) → number < numbers → IsAlike run marks l → closes run l.entry number ≡ true →
       at ≡ record { round = closing_round run.tables l.entry number; channel = l.channel.id; third = l.entry.id } →
       IsFirstFailure channels (ClosingFails run marks l) (Some at)
-  first_closes at closed is = (
-    record { number = number; closes = closed; place = is; wrong = first.wrong },
+  first_closes at few alike closed is = (
+    record {
+      number = number;
+      there = unmarked_there few alike;
+      closes = closed;
+      place = is;
+      wrong = first.wrong;
+    },
     λ p fails. no_sooner channels p at
         (subst (λ q. at.round ≤ q.round) (sym fails.place)
         (subst (λ q. q.round ≤ closing_round run.tables l.entry fails.number) (sym is)

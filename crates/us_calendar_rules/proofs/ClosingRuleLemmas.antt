@@ -1,30 +1,33 @@
 -- The rule of closings, told by marks: where it fails, an occurrence of a listed entry closes that isn't marked once.
-use Rattle.std.proofs.Common.{◌≡◌, ℕ, ◌*◌, ◌/◌, ◌^◌, ◌<◌, ◌≤◌, ◌==◌, ◌&&◌, ◌||◌, Bool, true, false, List, [], ◌∷◌, Option, Contains, get_or, refl, ap, sym, subst, ◌∙◌, inl, inr, arith, div-lt_iff_lt-mul, ltb-true, eq-eqb, ne_eqb, eqb-true}
-use Rattle.std.specs.Prelude.{◌↔◌, filter, not}
+use Rattle.std.proofs.Common.{◌≡◌, ℕ, ◌+◌, ◌*◌, ◌/◌, ◌%◌, ◌^◌, ◌<◌, ◌≤◌, ◌==◌, ◌&&◌, ◌||◌, Bool, true, false, List, [], ◌∷◌, Option, Contains, get_or, refl, ap, sym, subst, ◌∙◌, inl, inr, arith, div-lt_iff_lt-mul, ltb-true, eq-eqb, ne_eqb, eqb-true}
+use Rattle.std.specs.Prelude.{All, ◌↔◌, filter, not}
 use Rattle.std.specs.List.{list_all, range_with_len}
-use Rattle.std.proofs.lemmas.Bool.{and_from, and_parts, false≢true}
+use Rattle.std.proofs.Math.Nat.{mod-lt}
+use Rattle.std.proofs.lemmas.Bool.{and_from, and_parts, cases_lt, false≢true, or_parts}
+use Rattle.std.proofs.lemmas.List.Elements.{Contains-get_or}
 use Rattle.std.proofs.lemmas.List.FromFn.{get_or-range_with_len, length-range_with_len}
 use Rattle.std.proofs.lemmas.List.Sorted.{Contains-permutation, IsPermutation-sym}
-use Rattle.std.proofs.lemmas.Nat.{mul-le}
+use Rattle.std.proofs.lemmas.Nat.{div-add-mod', mul-le}
 use Rattle.us_flows.specs.declared.channels.Channel.{Channel}
 use Rattle.us_flows.specs.Tables.{Tables}
 use Rattle.us_flows.specs.Lawful.{AreTables}
 use Rattle.us_calendar.specs.Entries.{Entry, IsEntry}
+use Rattle.us_calendar.specs.Occurrences.{ideal}
 use Rattle.us_calendar.specs.Runs.{window_end}
 use Rattle.us_output.specs.declared.rows.Row.{Row}
 use Rattle.us_lawful.specs.declared.place.Place.{Place}
 use Rattle.us_lawful.specs.Runs.{Run, Judged}
-use Rattle.us_lawful.specs.CalendarLines.{ChannelEntry, channel_entries, closes, closing_in, closing_round, closings_hold, is_entry_at, round_quarters, times}
+use Rattle.us_lawful.specs.CalendarLines.{ChannelEntry, channel_entries, closes, closing_in, closing_round, closings_hold, is_entry_at, is_there, round_quarters, speaks_in, times}
 use Rattle.us_breaches.specs.Breaches.{Any, IsFirstFailure}
 use Rattle.us_breaches.proofs.AnyLemmas.{any_at, any_filter, any_of_all}
 use Rattle.us_breaches.proofs.BreachLemmas.{same_places}
 use Rattle.us_breaches.proofs.OrderLemmas.{place-is}
 use Rattle.us_calendar_rules.specs.Listed.{AreListed}
 use Rattle.us_calendar_rules.specs.Marks.{AreMarks, marked, numbers}
-use Rattle.us_calendar_rules.specs.Failures.{ClosingFails}
+use Rattle.us_calendar_rules.specs.Failures.{ClosingFails, IsAlike}
 use Rattle.us_calendar_rules.proofs.FoundLemmas.{contains_later}
 use Rattle.us_calendar_rules.proofs.ListedLemmas.{entry_lawful}
-use Rattle.us_calendar_rules.proofs.TimesLemmas.{times_marked}
+use Rattle.us_calendar_rules.proofs.TimesLemmas.{alike_marked, times_marked}
 
 -- Items that fail.
 
@@ -75,12 +78,19 @@ module _ (run : Run) (lines : List Row) (e : Entry) (p : Place) where
   abbrev once : ℕ → Bool
   once n = times e n lines == 1
 
-  -- it closes in the round of the place
+  -- it is there, and closes in the round of the place
   abbrev closes_there : ℕ → Bool
-  closes_there n = closes run e n && (closing_round run.tables e n == p.round)
+  closes_there n = is_there run e n && (closes run e n && (closing_round run.tables e n == p.round))
 
   abbrev looked_at : List ℕ
   looked_at = range_with_len 0 (run.rounds * round_quarters run.tables * e.grants)
+
+  closing_parts : (n : ℕ) → closes_there n ≡ true →
+      (is_there run e n ≡ true) × (closes run e n ≡ true) × (closing_round run.tables e n ≡ p.round)
+  closing_parts n there =
+      let parts = and_parts (is_there run e n) (closes run e n && (closing_round run.tables e n == p.round)) there in
+      let closing = and_parts (closes run e n) (closing_round run.tables e n == p.round) parts.1 in
+      (parts.0, closing.0, eqb-true (closing_round run.tables e n) p.round closing.1)
 
   -- where not all that close there are named once, one isn't,
   some_fails : list_all once (closing_in run p.round e) ≡ false →
@@ -98,8 +108,7 @@ module _ (run : Run) (lines : List Row) (e : Entry) (p : Place) where
   unfolding closing_in
   one_fails n lawful there wrong =
       let end : ℕ = run.rounds * round_quarters run.tables in
-      let closed = ltb-true (window_end e n) end
-      (and_parts (closes run e n) (closing_round run.tables e n == p.round) there).0 in
+      let closed = ltb-true (window_end e n) end (closing_parts n there).1 in
       let within = number_within e n end lawful closed in
       let here : get_or looked_at n 0 ≡ n = omega (arith, get_or-range_with_len 0 (end * e.grants) n 0 within) in
       (any_of_all (λ n q. once n) (filter closes_there looked_at) p).1
@@ -108,10 +117,39 @@ module _ (run : Run) (lines : List Row) (e : Entry) (p : Place) where
       (omega (arith, within, length-range_with_len 0 (end * e.grants)))
       (subst (λ m. (closes_there m ≡ true) × (once m ≡ false)) (sym here) (there, wrong))))
 
+-- Occurrences that aren't there.
+
+positive : (k : ℕ) → (k == 0) ≡ false → 0 < k
+positive k apart = elim (cases_lt 0 k) [
+  | inl some ↦ some
+  | inr none ↦ absurd (false≢true (sym apart ∙ eq-eqb k 0 (omega (arith, none))))
+]
+
+module _ (run : Run) (es : List ChannelEntry) (listed : AreListed run.tables es) (lines : List Row) (marks : List ℕ)
+    (are : AreMarks run es lines marks) where
+  -- each is marked as often as the first of its interval
+  marked_alike : (l : ChannelEntry) → Contains es l → IsAlike run marks l
+  marked_alike l has n few out =
+      let i : ℕ = n / l.entry.grants in
+      let k : ℕ = n % l.entry.grants in
+      let some : 0 < l.entry.grants = omega (arith, (entry_lawful run.tables es listed l has).grants) in
+      let whole : i * l.entry.grants + k ≡ n = div-add-mod' n l.entry.grants in
+      let parts = or_parts (speaks_in run l.entry (ideal l.entry n)) (k == 0) out in
+      let later : 0 < k = positive k parts.1 in (
+        i * l.entry.grants,
+        omega (arith, whole, later),
+        ap (marked marks l) (sym whole)
+            ∙ alike_marked run es listed l i k has parts.0 (mod-lt n some) (subst (λ m. m < numbers) (sym whole) few)
+            lines marks are,
+      )
+
+  pub all_alike : All (IsAlike run marks) es
+  all_alike i d inside = marked_alike (get_or es i d) (Contains-get_or es i d inside)
+
 -- Closings.
 
 module _ (run : Run) (es : List ChannelEntry) (listed : AreListed run.tables es) (few : run.rounds < 2 ^ 32)
-    (judged : Judged) (marks : List ℕ) (are : AreMarks es judged.lines marks) where
+    (judged : Judged) (marks : List ℕ) (are : AreMarks run es judged.lines marks) where
   -- the test of an entry
   abbrev holds_for : ChannelEntry → Place → Bool
   holds_for l p =
@@ -119,10 +157,10 @@ module _ (run : Run) (es : List ChannelEntry) (listed : AreListed run.tables es)
       || list_all (λ n. times l.entry n judged.lines == 1) (closing_in run p.round l.entry)
 
   -- an occurrence that closes is named as often as it is marked
-  marked_closing : (l : ChannelEntry) (n : ℕ) → Contains es l → closes run l.entry n ≡ true →
-      marked marks (record { of = l; number = n }) ≡ times l.entry n judged.lines
-  marked_closing l n has closed =
-      times_marked run.tables es listed l n has
+  marked_closing : (l : ChannelEntry) (n : ℕ) → Contains es l → is_there run l.entry n ≡ true →
+      closes run l.entry n ≡ true → marked marks l n ≡ times l.entry n judged.lines
+  marked_closing l n has there closed =
+      times_marked run es listed l n has there
       (number_few run.tables l.entry n run.rounds listed.tables (entry_lawful run.tables es listed l has) few
       (ltb-true (window_end l.entry n) (run.rounds * round_quarters run.tables) closed))
       judged.lines marks are
@@ -134,23 +172,27 @@ module _ (run : Run) (es : List ChannelEntry) (listed : AreListed run.tables es)
       (list_all (λ n. times l.entry n judged.lines == 1) (closing_in run p.round l.entry)) fails in
       let here = and_parts (l.channel.id == p.channel) (l.entry.id == p.third) parts.0 in
       let one = some_fails run judged.lines l.entry p parts.1 in
-      let closing = and_parts (closes run l.entry one.0) (closing_round run.tables l.entry one.0 == p.round) one.1 in
+      let closing = closing_parts run judged.lines l.entry p one.0 one.1 in
       record {
         number = one.0;
-        closes = closing.0;
+        there = closing.0;
+        closes = closing.1;
         place = place-is p
             (record { round = closing_round run.tables l.entry one.0; channel = l.channel.id; third = l.entry.id })
-            (sym (eqb-true (closing_round run.tables l.entry one.0) p.round closing.1))
+            (sym closing.2)
             (sym (eqb-true l.channel.id p.channel here.0)) (sym (eqb-true l.entry.id p.third here.1));
         wrong = λ single. false≢true (sym one.2
-            ∙ eq-eqb (times l.entry one.0 judged.lines) 1 (sym (marked_closing l one.0 has closing.0) ∙ single));
+            ∙ eq-eqb (times l.entry one.0 judged.lines) 1
+            (sym (marked_closing l one.0 has closing.0 closing.1) ∙ single));
       }
 
   fails_entry : (l : ChannelEntry) (p : Place) → Contains es l → ClosingFails run marks l p → holds_for l p ≡ false
   fails_entry l p has fails =
       let n : ℕ = fails.number in
-      let there = and_from (closes run l.entry n) (closing_round run.tables l.entry n == p.round) fails.closes
-      (eq-eqb (closing_round run.tables l.entry n) p.round (ap (λ q. q.round) (sym fails.place))) in
+      let there = and_from (is_there run l.entry n)
+      (closes run l.entry n && (closing_round run.tables l.entry n == p.round)) fails.there
+      (and_from (closes run l.entry n) (closing_round run.tables l.entry n == p.round) fails.closes
+      (eq-eqb (closing_round run.tables l.entry n) p.round (ap (λ q. q.round) (sym fails.place)))) in
       let here = and_from (l.channel.id == p.channel) (l.entry.id == p.third)
       (eq-eqb l.channel.id p.channel (ap (λ q. q.channel) (sym fails.place)))
       (eq-eqb l.entry.id p.third (ap (λ q. q.third) (sym fails.place))) in
@@ -158,7 +200,7 @@ module _ (run : Run) (es : List ChannelEntry) (listed : AreListed run.tables es)
       ap (λ b. not b || all) here
       ∙ one_fails run judged.lines l.entry p n (entry_lawful run.tables es listed l has) there
       (ne_eqb (times l.entry n judged.lines) 1
-      (λ single. fails.wrong (marked_closing l n has fails.closes ∙ single)))
+      (λ single. fails.wrong (marked_closing l n has fails.there fails.closes ∙ single)))
 
   -- The rule of closings fails just where one of an entry does.
   pub closings_fail : (p : Place) → (closings_hold run judged p ≡ false) ↔ Any (ClosingFails run marks) es p

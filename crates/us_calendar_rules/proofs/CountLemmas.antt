@@ -1,8 +1,10 @@
 -- How often a number stands in a list, by the places at which it stands.
-use Rattle.std.proofs.Common.{◌≡◌, ℕ, zero, suc, ◌+◌, ◌-◌, ◌<◌, ◌≤◌, ◌==◌, nat_le, true, false, cond, List, [], ◌∷◌, length, get_or, count_by, ap, sym, ◌∙◌, inl, inr, arith, eq-eqb, ne_eqb, le-leb}
+use Rattle.std.proofs.Common.{◌≡◌, ℕ, zero, suc, ◌+◌, ◌-◌, ◌<◌, ◌≤◌, ◌==◌, nat_le, Bool, true, false, cond, List, [], ◌∷◌, length, get_or, count_by, flat_map, refl, ap, ap₂, sym, ◌∙◌, inl, inr, arith, eq-eqb, ne_eqb, le-leb}
+use Rattle.std.specs.List.{AllByRecursion, range_with_len}
 use Rattle.std.specs.List.Sorted.{IsNonDecreasing}
 use Rattle.std.proofs.lemmas.Bool.{cases_eq, cases_lt, lt-leb}
-use Rattle.std.proofs.lemmas.List.Sums.{sum_by-cons}
+use Rattle.std.proofs.lemmas.List.FromFn.{get_or-range_with_len, length-range_with_len}
+use Rattle.std.proofs.lemmas.List.Sums.{sum_by-append, sum_by-cons}
 use Rattle.us_calendar_rules.specs.Marks.{IsPartedAt}
 
 abbrev pub times_in : ℕ → List ℕ → ℕ
@@ -65,6 +67,62 @@ counted v (x ∷ xs) (suc from) (suc to) at =
         behind = λ k low inside. at.behind (suc k) (omega (arith, low)) (omega (arith, inside));
       }),
     )
+
+-- Numbers one after another: each of them stands there once,
+pub range_once : (a count v : ℕ) → a ≤ v → v < a + count → times_in v (range_with_len a count) ≡ 1
+range_once a count v low high =
+    let place : a + (v - a) ≡ v = omega (arith, low) in
+    let once = counted v (range_with_len a count) (v - a) (v - a + 1) (record {
+      order = omega arith;
+      inside = omega (arith, length-range_with_len a count, low, high);
+      here = λ k from to.
+          let same : a + k ≡ v = omega (arith, place, from, to) in
+          get_or-range_with_len a count k 0 (omega (arith, low, high, to)) ∙ same;
+      before = λ k below is.
+          omega (arith, get_or-range_with_len a count k 0 (omega (arith, low, high, below)), is, below, place);
+      behind = λ k past within is.
+          let inside : k < count = omega (arith, within, length-range_with_len a count) in
+          omega (arith, get_or-range_with_len a count k 0 inside, is, past, place);
+    }) in
+    omega (arith, once)
+
+-- and no other one
+pub range_none : (a count v : ℕ) → (a ≤ v → v < a + count → ⊥) → times_in v (range_with_len a count) ≡ 0
+range_none a count v out =
+    let never = counted v (range_with_len a count) 0 0 (record {
+      order = omega arith;
+      inside = omega arith;
+      here = λ k from to. absurd (omega (arith, to));
+      before = λ k below is. absurd (omega (arith, below));
+      behind = λ k past within is.
+          let inside : k < count = omega (arith, within, length-range_with_len a count) in
+          let at = get_or-range_with_len a count k 0 inside in
+          out (omega (arith, at, is)) (omega (arith, at, is, inside));
+    }) in
+    omega (arith, never)
+
+-- What items give, each a list.
+module _ {X : Type 0} (p : ℕ → Bool) (f : X → List ℕ) where
+  one_given : (x : X) (xs : List X) →
+      count_by p (flat_map f (x ∷ xs)) ≡ count_by p (f x) + count_by p (flat_map f xs)
+  one_given x xs = sum_by-append (λ m. cond (p m) 1 0) (f x) (flat_map f xs)
+
+  -- where the list of an item has one that passes just where the item passes, as many pass as items do
+  pub given_counted : (q : X → Bool) (xs : List X) → AllByRecursion (λ x. count_by p (f x) ≡ cond (q x) 1 0) xs →
+      count_by p (flat_map f xs) ≡ count_by q xs
+  given_counted q [] same = refl
+  given_counted q (x ∷ xs) same =
+      one_given x xs
+      ∙ ap₂ (λ m n. m + n) same.0 (given_counted q xs same.1)
+      ∙ sym (sum_by-cons (λ x. cond (q x) 1 0) x xs)
+
+-- and where as many in each list pass one test as another, so they do in all
+pub given_alike : {X : Type 0} (p q : ℕ → Bool) (f : X → List ℕ) (xs : List X) →
+    AllByRecursion (λ x. count_by p (f x) ≡ count_by q (f x)) xs →
+    count_by p (flat_map f xs) ≡ count_by q (flat_map f xs)
+given_alike p q f [] same = refl
+given_alike p q f (x ∷ xs) same =
+    one_given p f x xs ∙ ap₂ (λ m n. m + n) same.0 (given_alike p q f xs same.1) ∙ sym (one_given q f x xs)
 
 one_there : (v : ℕ) (xs : List ℕ) (k : ℕ) → k < length xs → get_or xs k 0 ≡ v → 1 ≤ times_in v xs
 one_there v [] k inside is = absurd (omega (arith, inside))

@@ -1,5 +1,6 @@
 pub mod FoundLemmas
 pub mod ListedLemmas
+pub mod RunLemmas
 pub mod CountLemmas
 pub mod NamingLemmas
 pub mod MarkLemmas

@@ -1,40 +1,60 @@
 -- Marks of occurrences: put one behind another, and walked through.
-use Rattle.std.proofs.Common.{◌≡◌, ℕ, ◌+◌, ◌-◌, ◌<◌, ◌≤◌, List, [], ◌∷◌, ◌++◌, Option, Some, None, append_assoc, add-one, drop-cons, length, get_or, take, drop, ap, sym, subst, ◌∙◌, arith, length-take, length-drop, get_or-take, get_or-drop}
-use Rattle.std.specs.List.{All, cons_option, filter_map}
+use Rattle.std.proofs.Common.{◌≡◌, ℕ, zero, suc, ◌+◌, ◌-◌, ◌<◌, ◌≤◌, List, [], ◌∷◌, ◌++◌, Option, Some, None, append_assoc, add-one, drop-cons, length, get_or, take, drop, ap, sym, subst, ◌∙◌, arith, length-take, length-drop, get_or-take, get_or-drop}
+use Rattle.std.specs.Prelude.{option_map, unwrap_or}
+use Rattle.std.specs.List.{All, flat_map, range_with_len}
 use Rattle.std.specs.List.Sorted.{IsNonDecreasing}
 use Rattle.std.proofs.lemmas.List.{append-nil, drop_all, take_all}
 use Rattle.us_lawful.specs.CalendarLines.{ChannelEntry}
-use Rattle.us_calendar_rules.specs.Marks.{IsPartedAt, mark_of}
+use Rattle.us_calendar_rules.specs.declared.naming.Occurrence.{Occurrence}
+use Rattle.us_calendar_rules.specs.Marks.{IsPartedAt, mark_at, marks_of}
 use Rattle.us_calendar_rules.specs.Failures.{IsFirstUnmarked}
 use Rattle.us_calendar_rules.proofs.CountLemmas.{all_once, last_twice, next_missing, times_in}
 
 -- Marks put one behind another.
-module _ {X Y : Type 0} (f : X → Option Y) (xs : List X) (i : ℕ) (d : X) (old all : List Y) (inside : i < length xs)
-    (before : old ++ filter_map f (drop i xs) ≡ all) where
-  next_is : filter_map f (drop i xs) ≡ cons_option (f (get_or xs i d)) (filter_map f (drop (i + 1) xs))
-  next_is =
-      ap (filter_map f) (drop-cons xs i d inside)
-      ∙ ap (λ n. cons_option (f (get_or xs i d)) (filter_map f (drop n xs))) (sym (add-one i))
 
-  -- that of an item that gives one
-  pub one_marked : (y : Y) (new : List Y) → f (get_or xs i d) ≡ Some y → new ≡ old ++ y ∷ [] →
-      new ++ filter_map f (drop (i + 1) xs) ≡ all
-  one_marked y new gives put =
-      ap (λ ys. ys ++ filter_map f (drop (i + 1) xs)) put
-      ∙ append_assoc old (y ∷ []) (filter_map f (drop (i + 1) xs))
-      ∙ ap (λ ys. old ++ ys) (sym (next_is ∙ ap (λ o. cons_option o (filter_map f (drop (i + 1) xs))) gives))
+-- those that an item gives, and what those behind it give
+module _ {X Y : Type 0} (f : X → List Y) (xs : List X) (i : ℕ) (d : X) (old all : List Y) (inside : i < length xs)
+    (before : old ++ flat_map f (drop i xs) ≡ all) where
+  next_is : flat_map f (drop i xs) ≡ f (get_or xs i d) ++ flat_map f (drop (i + 1) xs)
+  next_is =
+      ap (flat_map f) (drop-cons xs i d inside)
+      ∙ ap (λ n. f (get_or xs i d) ++ flat_map f (drop n xs)) (sym (add-one i))
+
+  pub some_marked : (ys new : List Y) → f (get_or xs i d) ≡ ys → new ≡ old ++ ys →
+      new ++ flat_map f (drop (i + 1) xs) ≡ all
+  some_marked ys new gives put =
+      ap (λ ys. ys ++ flat_map f (drop (i + 1) xs)) put
+      ∙ append_assoc old ys (flat_map f (drop (i + 1) xs))
+      ∙ ap (λ ys. old ++ ys) (sym (next_is ∙ ap (λ ys. ys ++ flat_map f (drop (i + 1) xs)) gives))
       ∙ before
 
-  -- and none of one that gives none
-  pub none_marked : f (get_or xs i d) ≡ None → old ++ filter_map f (drop (i + 1) xs) ≡ all
+  -- of an item that gives none only these
+  pub none_marked : f (get_or xs i d) ≡ [] → old ++ flat_map f (drop (i + 1) xs) ≡ all
   none_marked gives =
-      ap (λ ys. old ++ ys) (sym (next_is ∙ ap (λ o. cons_option o (filter_map f (drop (i + 1) xs))) gives)) ∙ before
+      ap (λ ys. old ++ ys) (sym (next_is ∙ ap (λ ys. ys ++ flat_map f (drop (i + 1) xs)) gives)) ∙ before
 
--- at the end all are
-pub all_marked : {X Y : Type 0} (f : X → Option Y) (xs : List X) (i : ℕ) (done : List Y) → length xs ≤ i →
-    done ++ filter_map f (drop i xs) ≡ filter_map f xs → done ≡ filter_map f xs
+-- at the end all are put
+pub all_marked : {X Y : Type 0} (f : X → List Y) (xs : List X) (i : ℕ) (done : List Y) → length xs ≤ i →
+    done ++ flat_map f (drop i xs) ≡ flat_map f xs → done ≡ flat_map f xs
 all_marked f xs i done past all =
-    sym (append-nil done) ∙ ap (λ ys. done ++ filter_map f ys) (sym (drop_all i xs past)) ∙ all
+    sym (append-nil done) ∙ ap (λ ys. done ++ flat_map f ys) (sym (drop_all i xs past)) ∙ all
+
+-- what is marked where a name is, or none
+pub marked_by : (o : Option Occurrence) (named : Occurrence) → Some named ≡ o →
+    unwrap_or (option_map marks_of o) [] ≡ marks_of named
+marked_by o named is = ap (λ o. unwrap_or (option_map marks_of o) []) (sym is)
+
+pub marked_none : (o : Option Occurrence) → None ≡ o → unwrap_or (option_map marks_of o) [] ≡ []
+marked_none o is = ap (λ o. unwrap_or (option_map marks_of o) []) (sym is)
+
+-- numbers one after another, and one more
+pub one_more : (first count : ℕ) → range_with_len first (count + 1) ≡ range_with_len first count ++ (first + count) ∷ []
+one_more first count = rw (add-one count) (by first count)
+  where
+    by : (a n : ℕ) → range_with_len a (suc n) ≡ range_with_len a n ++ (a + n) ∷ []
+    by a zero = ap (λ m. m ∷ []) (omega arith)
+    by a (suc n) =
+        ap (λ more. a ∷ more) (by (a + 1) n ∙ ap (λ m. range_with_len (a + 1) n ++ m ∷ []) (omega arith))
 
 pub all_intervals : {X : Type 0} (P : X → Type 0) (xs : List X) (i : ℕ) → length xs ≤ i → All P (take i xs) → All P xs
 all_intervals P xs i past all = subst (All P) (take_all i xs past) all
@@ -53,7 +73,7 @@ read_behind : (marks : List ℕ) (from k : ℕ) → k < length marks - from →
 read_behind marks from k inside = rw (get_or-take, get_or-drop)
 
 module _ (marks : List ℕ) (rising : IsNonDecreasing marks) (of : ChannelEntry) (first from number : ℕ)
-    (first_is : first ≡ mark_of (record { of = of; number = 0 })) (parted : IsPartedAt marks first from)
+    (first_is : first ≡ mark_at of 0) (parted : IsPartedAt marks first from)
     (walked : (k : ℕ) → k < number → get_or (behind marks from) k 0 ≡ first + k)
     (room : number ≤ length (behind marks from)) where
   inside_all : from + number ≤ length marks
@@ -63,7 +83,7 @@ module _ (marks : List ℕ) (rising : IsNonDecreasing marks) (of : ChannelEntry)
   walked_all k below =
       sym (read_behind marks from k (omega (arith, long_behind marks from, room, below))) ∙ walked k below
 
-  mark_is : (m : ℕ) → first + m ≡ mark_of (record { of = of; number = m })
+  mark_is : (m : ℕ) → first + m ≡ mark_at of m
   mark_is m = omega (arith, first_is)
 
   here : number < length (behind marks from) → get_or (behind marks from) number 0 ≡ get_or marks (from + number) 0

@@ -1,21 +1,24 @@
 -- Lines that aren't right: those for which no entry has an occurrence that they tell.
-use Rattle.std.proofs.Common.{◌≡◌, ℕ, get_or, ◌+◌, ◌*◌, ◌^◌, ◌<◌, ◌==◌, nat_le, nat_lt, ◌&&◌, ◌||◌, Bool, true, false, List, Option, Some, None, Contains, refl, ap, sym, ◌∙◌, inl, inr, eq-eqb, ltb-true}
+use Rattle.std.proofs.Common.{◌≡◌, ℕ, get_or, ◌+◌, ◌*◌, ◌^◌, ◌<◌, ◌≤◌, ◌==◌, nat_le, nat_lt, ◌&&◌, ◌||◌, Bool, true, false, List, Option, Some, None, Contains, refl, ap, ap₂, sym, ◌∙◌, inl, inr, arith, eq-eqb, lt-ltb, le-ltb, ltb-true}
 use Rattle.std.specs.Prelude.{if◌then◌else◌, IfSome, not, option_and_then, ◌↔◌}
 use Rattle.std.specs.List.{find, list_any}
-use Rattle.std.proofs.lemmas.Bool.{and_parts, cases_Bool, false≢true, false_from_ne_true}
+use Rattle.std.proofs.lemmas.Bool.{and_parts, cases_Bool, cases_lt, false≢true, false_from_ne_true}
+use Rattle.std.proofs.lemmas.Bool.Decides.{nat_tests}
 use Rattle.std.proofs.lemmas.List.Elements.{Contains-get_or}
 use Rattle.std.proofs.lemmas.List.Folds.{list_any_at, list_any_none}
 use Rattle.std.proofs.lemmas.List.Sorted.{list_any-IsPermutation}
+use Rattle.std.proofs.lemmas.Nat.{div-mul-add, mod-mul-add}
+use Rattle.us_calendar.specs.Entries.{IsEntry}
 use Rattle.us_output.specs.declared.rows.Row.{Row}
 use Rattle.us_output.specs.declared.rows.Row.TheVariants as rows
 use Rattle.us_lawful.specs.declared.place.Place.{Place}
 use Rattle.us_lawful.specs.Runs.{Run, is_requested}
-use Rattle.us_lawful.specs.CalendarLines.{ChannelEntry, channel_entries, closes, is_calendar_line_at, is_named, is_right_line, tells_one_of, times}
+use Rattle.us_lawful.specs.CalendarLines.{ChannelEntry, channel_entries, closes, is_calendar_line_at, is_named, is_right_line, is_there, speaks_in, tells_one_of, times}
 use Rattle.us_breaches.specs.Breaches.{At}
 use Rattle.us_breaches.proofs.BreachLemmas.{at_there}
 use Rattle.us_calendar_rules.specs.declared.naming.CalendarLine.{CalendarLine}
 use Rattle.us_calendar_rules.specs.Listed.{AreListed, is_called}
-use Rattle.us_calendar_rules.specs.Naming.{occurrence_at, occurrence_named}
+use Rattle.us_calendar_rules.specs.Naming.{occurrence_at, occurrence_named, speaks_at}
 use Rattle.us_calendar_rules.specs.Marks.{AreMarks, HasInterval}
 use Rattle.us_calendar_rules.specs.Failures.{FailsAsLine, LineFails, is_told}
 use Rattle.us_calendar_rules.proofs.FoundLemmas.{find_one, find_some}
@@ -60,8 +63,35 @@ module _ {X : Type 0} (p q : X → Bool) (xs : List X) (within : (x : X) → p x
 
 -- A line of a calendar.
 
+-- of an interval all grants are there while the flow is active, and the first alone while it is silent
+there_inside : (run : Run) (l : ChannelEntry) (i k : ℕ) → 1 ≤ l.entry.grants →
+    (nat_lt k l.entry.grants && is_there run l.entry (i * l.entry.grants + k))
+    ≡ nat_lt k (if speaks_at run l i then l.entry.grants else 1)
+there_inside run l i k some = elim (cases_lt k l.entry.grants) [
+  | inl inside ↦
+      ap₂ (λ b c. b && c) (lt-ltb k l.entry.grants inside)
+      (ap₂ (λ q r. speaks_in run l.entry (l.entry.start + q * l.entry.interval) || (r == 0))
+      (div-mul-add i l.entry.grants k inside) (mod-mul-add i l.entry.grants k inside))
+      ∙ within (speaks_at run l i) inside
+  | inr out ↦
+      ap (λ b. b && is_there run l.entry (i * l.entry.grants + k)) (le-ltb k l.entry.grants out)
+      ∙ sym (beyond (speaks_at run l i) out)
+]
+  where
+    within : (b : Bool) → k < l.entry.grants → (b || (k == 0)) ≡ nat_lt k (if b then l.entry.grants else 1)
+    within true inside = sym (lt-ltb k l.entry.grants inside)
+    within false inside = grind (arith, nat_tests)
+
+    beyond : (b : Bool) → l.entry.grants ≤ k → nat_lt k (if b then l.entry.grants else 1) ≡ false
+    beyond true out = le-ltb k l.entry.grants out
+    beyond false out = le-ltb k 1 (omega (arith, out, some))
+
+regrouped : (a b c : Bool) → ((a && true) && (b && c)) ≡ ((a && b) && c)
+regrouped true b c = refl
+regrouped false b c = refl
+
 module _ (run : Run) (es : List ChannelEntry) (listed : AreListed run.tables es) (lines : List Row) (marks : List ℕ)
-    (are : AreMarks es lines marks) where
+    (are : AreMarks run es lines marks) where
   abbrev number : CalendarLine → ChannelEntry → ℕ
   number line l = line.i * l.entry.grants + line.k
 
@@ -74,40 +104,50 @@ module _ (run : Run) (es : List ChannelEntry) (listed : AreListed run.tables es)
   -- the line tells one of an entry
   abbrev tells : Row → CalendarLine → ChannelEntry → Bool
   tells row line l =
-      is_named l.entry (number line l) line.entry line.at.third line.i line.k && holds_for row line l
+      is_named l.entry (number line l) line.entry line.at.third line.i line.k
+      && (is_there run l.entry (number line l) && holds_for row line l)
 
   -- so the entry has that word and id
   tells_called : (row : Row) (line : CalendarLine) (l : ChannelEntry) → tells row line l ≡ true →
       is_called line.entry line.at.third l ≡ true
   tells_called row line l is =
       let named = (and_parts (is_named l.entry (number line l) line.entry line.at.third line.i line.k)
-      (holds_for row line l) is).0 in
+      (is_there run l.entry (number line l) && holds_for row line l) is).0 in
       (and_parts (is_called line.entry line.at.third l)
       (nat_lt line.k l.entry.grants && (line.i * l.entry.grants + line.k == number line l))
       (sym (named_by l (number line l) line.entry line.at.third line.i line.k) ∙ named)).0
 
   -- of the entry that has them it is told by marks
   told_by_marks : (row : Row) (line : CalendarLine) (l : ChannelEntry) → line.i < 2 ^ 64 → Contains es l →
-      is_called line.entry line.at.third l ≡ true → tells row line l ≡ is_told run marks row (occurrence_at line l)
+      is_called line.entry line.at.third l ≡ true → tells row line l ≡ is_told run marks row (occurrence_at run line l)
   told_by_marks row line l interval has called =
-      ap (λ b. b && holds_for row line l)
+      ap (λ b. b && (is_there run l.entry (number line l) && holds_for row line l))
       (named_by l (number line l) line.entry line.at.third line.i line.k
       ∙ ap (λ b. b && (nat_lt line.k l.entry.grants && (number line l == number line l))) called
       ∙ ap (λ b. nat_lt line.k l.entry.grants && b) (eq-eqb (number line l) (number line l) refl))
-      ∙ by (nat_lt line.k l.entry.grants) refl
+      ∙ regrouped (nat_lt line.k l.entry.grants) (is_there run l.entry (number line l)) (holds_for row line l)
+      ∙ ap (λ b. b && holds_for row line l) (there_inside run l line.i line.k lawful.grants)
+      ∙ by (nat_lt line.k (if speaks_at run l line.i then l.entry.grants else 1)) refl
     where
-      by : (b : Bool) → nat_lt line.k l.entry.grants ≡ b → ((b && true) && holds_for row line l)
-          ≡ is_told run marks row (if b then Some (record { of = l; number = number line l }) else None)
+      lawful : IsEntry l.entry
+      lawful = entry_lawful run.tables es listed l has
+
+      by : (b : Bool) → nat_lt line.k (if speaks_at run l line.i then l.entry.grants else 1) ≡ b →
+          (b && holds_for row line l)
+          ≡ is_told run marks row
+          (if b then Some (record { of = l; number = number line l; active = speaks_at run l line.i }) else None)
       by true inside =
-          let below = number_below l.entry line.i line.k (entry_lawful run.tables es listed l has) interval
-          (ltb-true line.k l.entry.grants inside) in
+          let there = and_parts (nat_lt line.k l.entry.grants) (is_there run l.entry (number line l))
+          (there_inside run l line.i line.k lawful.grants ∙ inside) in
+          let below =
+          number_below l.entry line.i line.k lawful interval (ltb-true line.k l.entry.grants there.0) in
           ap (λ n. is_right_line run l (number line l) row && (closes run l.entry (number line l) || nat_le n 1))
-          (sym (times_marked run.tables es listed l (number line l) has below lines marks are))
+          (sym (times_marked run es listed l (number line l) has there.1 below lines marks are))
       by false out = refl
 
   -- and of all entries so
   pub line_told : (row : Row) (line : CalendarLine) → line.i < 2 ^ 64 →
-      list_any (tells row line) (channel_entries run.tables) ≡ is_told run marks row (occurrence_named es line)
+      list_any (tells row line) (channel_entries run.tables) ≡ is_told run marks row (occurrence_named run es line)
   line_told row line interval =
       list_any-IsPermutation (tells row line) (channel_entries run.tables) es listed.all
       ∙ one_passes (tells row line) (is_called line.entry line.at.third) es (tells_called row line)
@@ -117,7 +157,7 @@ module _ (run : Run) (es : List ChannelEntry) (listed : AreListed run.tables es)
       ∙ by (find (is_called line.entry line.at.third) es) refl
     where
       by : (o : Option ChannelEntry) → find (is_called line.entry line.at.third) es ≡ o →
-          passes (tells row line) o ≡ is_told run marks row (option_and_then (occurrence_at line) o)
+          passes (tells row line) o ≡ is_told run marks row (option_and_then (occurrence_at run line) o)
       by None is = refl
       by (Some l) is =
           let there = find_some (is_called line.entry line.at.third) es l is in
@@ -132,7 +172,7 @@ module _ (run : Run) (es : List ChannelEntry) (listed : AreListed run.tables es)
   line_fails : (row : Row) (line : CalendarLine) (p : Place) → line.i < 2 ^ 64 →
       ((not ((line.at.round == p.round) && ((line.at.channel == p.channel) && (line.at.third == p.third)))
       || list_any (tells row line) (channel_entries run.tables)) ≡ false)
-      ↔ At line.at (is_told run marks row (occurrence_named es line)) p
+      ↔ At line.at (is_told run marks row (occurrence_named run es line)) p
   line_fails row line p interval =
       let there = at_there line.at p (list_any (tells row line) (channel_entries run.tables)) in (
         λ fails. (
@@ -167,4 +207,5 @@ module _ (run : Run) (es : List ChannelEntry) (listed : AreListed run.tables es)
         k = m.k;
       }) p interval
   row_fails (rows.Final f) p interval = (λ fails. false≢true (sym fails), λ fails. absurd fails)
+  row_fails (rows.Activity a) p interval = (λ fails. false≢true (sym fails), λ fails. absurd fails)
   row_fails (rows.Counts c) p interval = (λ fails. false≢true (sym fails), λ fails. absurd fails)

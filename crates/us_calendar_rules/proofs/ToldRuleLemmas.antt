@@ -26,7 +26,7 @@ none : Row
 none = rows.Counts (record { unknown = 0; not_requestable = 0; late = 0 })
 
 module _ (run : Run) (es : List ChannelEntry) (listed : AreListed run.tables es) (judged : Judged) (marks : List ℕ)
-    (are : AreMarks es judged.lines marks) where
+    (are : AreMarks run es judged.lines marks) where
   holds : Row → Place → Bool
   holds = holds_at run es listed judged.lines marks are
 

@@ -3,17 +3,17 @@ use Rattle.std.specs.Prelude.{◌≡◌, ℕ, ◌<◌, nat_le, ◌&&◌, ◌||�
 use Rattle.us_output.specs.declared.rows.Row.{Row}
 use Rattle.us_lawful.specs.declared.place.Place.{Place}
 use Rattle.us_lawful.specs.Runs.{Run}
-use Rattle.us_lawful.specs.CalendarLines.{ChannelEntry, closes, closing_round, is_right_line}
+use Rattle.us_lawful.specs.CalendarLines.{ChannelEntry, closes, closing_round, is_right_line, is_there}
 use Rattle.us_breaches.specs.Breaches.{At}
 use Rattle.us_calendar_rules.specs.declared.naming.CalendarLine.{CalendarLine}
 use Rattle.us_calendar_rules.specs.declared.naming.Occurrence.{Occurrence}
 use Rattle.us_calendar_rules.specs.Naming.{calendar_line, occurrence_named}
-use Rattle.us_calendar_rules.specs.Marks.{marked}
+use Rattle.us_calendar_rules.specs.Marks.{marked, numbers}
 
 -- A line is right for the occurrence that it names, and while that is open no other line names it.
 abbrev pub is_told_right : Run → List ℕ → Row → Occurrence → Bool
 is_told_right run marks row o =
-    is_right_line run o.of o.number row && (closes run o.of.entry o.number || nat_le (marked marks o) 1)
+    is_right_line run o.of o.number row && (closes run o.of.entry o.number || nat_le (marked marks o.of o.number) 1)
 
 abbrev pub is_told : Run → List ℕ → Row → Option Occurrence → Bool
 is_told run marks row None = false
@@ -22,19 +22,25 @@ is_told run marks row (Some o) = is_told_right run marks row o
 -- a line of a calendar that isn't fails where it is
 abbrev pub FailsAsLine : Run → List ChannelEntry → List ℕ → Row → Option CalendarLine → Place → Type 0
 FailsAsLine run es marks row None p = ⊥
-FailsAsLine run es marks row (Some line) p = At line.at (is_told run marks row (occurrence_named es line)) p
+FailsAsLine run es marks row (Some line) p = At line.at (is_told run marks row (occurrence_named run es line)) p
 
 abbrev pub LineFails : Run → List ChannelEntry → List ℕ → Row → Place → Type 0
 LineFails run es marks row p = FailsAsLine run es marks row (calendar_line row) p
 
--- An occurrence of an entry that closes there isn't marked once.
+-- An occurrence of an entry that is there and closes isn't marked once.
 pub record ClosingFails (run : Run) (marks : List ℕ) (l : ChannelEntry) (p : Place) : Type 0 where
   pub number : ℕ
+  pub there : is_there run l.entry number ≡ true
   pub closes : closes run l.entry number ≡ true
   pub place : p ≡ record { round = closing_round run.tables l.entry number; channel = l.channel.id; third = l.entry.id }
-  pub wrong : marked marks (record { of = l; number = number }) ≡ 1 → ⊥
+  pub wrong : marked marks l number ≡ 1 → ⊥
 
 -- the least number of an occurrence of an entry that isn't marked once
 pub record IsFirstUnmarked (marks : List ℕ) (l : ChannelEntry) (number : ℕ) : Type 0 where
-  pub wrong : marked marks (record { of = l; number = number }) ≡ 1 → ⊥
-  pub before : (m : ℕ) → m < number → marked marks (record { of = l; number = m }) ≡ 1
+  pub wrong : marked marks l number ≡ 1 → ⊥
+  pub before : (m : ℕ) → m < number → marked marks l m ≡ 1
+
+-- An occurrence of an entry that isn't there is marked as often as an earlier one: the first of its interval.
+abbrev pub IsAlike : Run → List ℕ → ChannelEntry → Type 0
+IsAlike run marks l = (n : ℕ) → n < numbers → is_there run l.entry n ≡ false →
+    (m : ℕ) × (m < n) × (marked marks l n ≡ marked marks l m)

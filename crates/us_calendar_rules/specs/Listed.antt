@@ -8,9 +8,9 @@ use Rattle.us_output.specs.declared.rows.EntryWord.{EntryWord}
 use Rattle.us_output.specs.declared.rows.EntryWord.TheVariants as words
 use Rattle.us_lawful.specs.CalendarLines.{ChannelEntry, channel_entries, is_word}
 
--- what entries are listed by: their id, and of one id their kind. There are four kinds.
+-- what entries are listed by: their id, and of one id their kind. There are five kinds.
 abbrev pub key_of : Entry → ℕ
-key_of e = e.id * 4 + rank_of e.kind
+key_of e = e.id * 5 + rank_of e.kind
 
 -- all entries of accepted tables, by their keys
 pub record AreListed (t : Tables) (es : List ChannelEntry) : Type 0 where
@@ -25,7 +25,8 @@ is_called word id l = is_word l.entry.kind word && (id == l.entry.id)
 -- the rank of the kind that a word calls; a request has none
 abbrev pub rank_called : EntryWord → Option ℕ
 rank_called words.Unsolicited = Some 0
-rank_called words.RealTimePoll = Some 1
-rank_called words.NonRealTimePoll = Some 2
-rank_called words.Station = Some 3
+rank_called words.Activity = Some 1
+rank_called words.RealTimePoll = Some 2
+rank_called words.NonRealTimePoll = Some 3
+rank_called words.Station = Some 4
 rank_called words.Requested = None

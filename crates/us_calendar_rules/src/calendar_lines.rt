@@ -6,8 +6,10 @@ ghost use Rattle.us_breaches.specs.Breaches.{IsFirstBreach};
 use crate::closings::closing_breach;
 use crate::listed::listed;
 use crate::marks::marks_of;
+use crate::runs::JudgedRun;
 use crate::told::told_breach;
 use std::alloc::Global;
+use us_activity::Activities;
 use us_breaches::earlier;
 use us_flows::Config;
 use us_lawful::{Judged, Place};
@@ -27,9 +29,15 @@ pub fn calendar_lines_breach(
     // Asked for what it tells of the run: how many rounds it may have.
     let _ = trace.rounds();
     let lines = judged.lines();
+    let activities = Activities::of(alloc, config, trace)?;
+    let run = JudgedRun {
+        config,
+        trace,
+        activities: &activities,
+    };
     let entries = listed(alloc, config)?;
-    let marks = marks_of(alloc, &entries, lines)?;
-    let told = told_breach(config, trace, &entries, &marks, lines);
-    let closing = closing_breach(config, trace, &entries, &marks);
+    let marks = marks_of(alloc, &run, &entries, lines)?;
+    let told = told_breach(&run, &entries, &marks, lines);
+    let closing = closing_breach(&run, &entries, &marks);
     Ok(earlier(config.channels(), told, closing))
 }

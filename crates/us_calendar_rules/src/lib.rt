@@ -5,7 +5,8 @@
 //! let first = calendar_lines_breach(alloc, &config, &trace, &judged)?; // None: it holds everywhere
 //! ```
 //!
-//! Each line that names an occurrence gives it a mark, a number by entry and by occurrence, and the marks are sorted. So
+//! Each line that names an occurrence gives it a mark, a number by entry and by occurrence, and the marks are sorted. One
+//! that names a poll of a silent flow marks its whole interval, whose other occurrences aren't there. So
 //! a line's entry is found, and its marks counted, by halving; and an entry's marks are walked from its first one on, up
 //! to the first occurrence that isn't marked once.
 //!
@@ -14,6 +15,9 @@
 
 // The entries of all channels.
 mod listed;
+
+// The run that is judged.
+mod runs;
 
 // What a line names.
 mod naming;

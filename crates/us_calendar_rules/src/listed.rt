@@ -13,7 +13,7 @@ use us_round::EntryWord;
 use us_slots::NoMemory;
 
 /// How many kinds of entries there are.
-const KINDS: u128 = 4;
+const KINDS: u128 = 5;
 
 /// An entry of a calendar, and the channel that it is on.
 #[derive(Clone, Copy)]
@@ -54,26 +54,28 @@ pub(crate) fn called(entries: &[ChannelEntry], word: EntryWord, id: u64) -> Opti
 /// What an entry is listed by.
 pub(crate) fn key_of(entry: &Entry) -> u128
     ensures value { result ≡ spec.key_of entry.now }
-    ensures few { result < 2 ^ 18 }
+    ensures few { result < 2 ^ 19 }
 {
     let rank = match entry.kind {
         Kind::Unsolicited => 0,
-        Kind::RealTimePoll => 1,
-        Kind::NonRealTimePoll => 2,
-        Kind::Station => 3,
+        Kind::Activity => 1,
+        Kind::RealTimePoll => 2,
+        Kind::NonRealTimePoll => 3,
+        Kind::Station => 4,
     };
     u128::from(entry.id) * KINDS + rank
 }
 
 /// What an entry that is called so is listed by; nothing for a request.
 fn key_called(word: EntryWord, id: u64) -> Option<u128>
-    ensures { result ≡ option_map (λ rank. id * 4 + rank) (spec.rank_called word) }
+    ensures { result ≡ option_map (λ rank. id * 5 + rank) (spec.rank_called word) }
 {
     let rank = match word {
         EntryWord::Unsolicited => 0,
-        EntryWord::RealTimePoll => 1,
-        EntryWord::NonRealTimePoll => 2,
-        EntryWord::Station => 3,
+        EntryWord::Activity => 1,
+        EntryWord::RealTimePoll => 2,
+        EntryWord::NonRealTimePoll => 3,
+        EntryWord::Station => 4,
         EntryWord::Requested => return None,
     };
     Some(u128::from(id) * KINDS + rank)

@@ -1,32 +1,34 @@
-ghost use Rattle.std.specs.Prelude.{◌≡◌, ◌<◌, ◌^◌, nat_le, IfOk};
+ghost use Rattle.std.specs.Prelude.{◌≡◌, ◌<◌, ◌^◌, ◌++◌, nat_le, IfOk, IfSome, OnOk};
 ghost use Rattle.std.specs.List.Sorted.{IsNonDecreasing};
-ghost use Rattle.us_flows.specs.Tables.{Tables};
 ghost use Rattle.us_calendar_rules.specs.Listed.{AreListed};
 ghost use Rattle.us_calendar_rules.specs.Marks as spec;
 ghost use Rattle.us_calendar_rules.specs.Failures.{IsFirstUnmarked};
 
 use crate::listed::{ChannelEntry, key_of};
 use crate::naming::{Occurrence, calendar_line, occurrence_named};
-use std::alloc::Global;
+use crate::runs::JudgedRun;
+use std::alloc::{AllocError, Global};
 use us_round::Row;
 use us_slots::NoMemory;
 
 /// More than any number of an occurrence that a line can name.
 const NUMBERS: u128 = 1 << 72;
 
-/// The marks of what lines name, rising: a mark for each line.
+/// The marks of what lines name, rising: one for a line that names a grant. One that names a poll marks its whole interval,
+/// so that the numbers of an entry's marks have no gap.
 pub(crate) fn marks_of(
     alloc: Global,
+    run: &JudgedRun<'_>,
     entries: &[ChannelEntry],
     lines: &[Row],
 ) -> Result<Vec<u128>, NoMemory>
-    requires { (t : Tables) × AreListed t entries.now }
-    ensures { IfOk result (λ marks. spec.AreMarks entries.now lines.now marks.items) }
+    requires { AreListed run.now.tables entries.now }
+    ensures { IfOk result (λ marks. spec.AreMarks run.now entries.now lines.now marks.items) }
 {
     let mut marks = Vec::new(alloc);
     for line in lines {
-        if let Some(mark) = mark_in(entries, line) {
-            marks.push(mark)?;
+        if let Some(occurrence) = named_in(run, entries, line) {
+            push_marks(&occurrence, &mut marks)?;
         }
     }
     marks.sort_unstable();
@@ -37,9 +39,9 @@ pub(crate) fn marks_of(
 pub(crate) fn at_most_once(marks: &[u128], occurrence: &Occurrence) -> bool
     requires rising { IsNonDecreasing marks.now }
     requires number { occurrence.now.number < spec.numbers }
-    ensures { result ≡ nat_le (spec.marked marks.now occurrence.now) 1 }
+    ensures { result ≡ nat_le (spec.marked marks.now occurrence.now.of occurrence.now.number) 1 }
 {
-    let mark = mark_of(occurrence);
+    let mark = mark_at(&occurrence.of, occurrence.number);
     match marks.get(first_from(marks, mark) + 1) {
         Some(second) => *second != mark,
         None => true,
@@ -52,7 +54,7 @@ pub(crate) fn first_unmarked(marks: &[u128], of: &ChannelEntry) -> u128
     ensures first { IsFirstUnmarked marks.now of.now result }
     ensures few { result < spec.numbers }
 {
-    let first = mark_of(&Occurrence { of: *of, number: 0 });
+    let first = mark_at(of, 0);
     let from = first_from(marks, first);
     for (number, mark) in marks[from..].iter().enumerate() {
         let number = number as u128;
@@ -74,23 +76,36 @@ fn first_from(marks: &[u128], mark: u128) -> usize
     marks.partition_point(|other| *other < mark)
 }
 
-/// The mark of what a line names.
-fn mark_in(entries: &[ChannelEntry], row: &Row) -> Option<u128>
-    requires { (t : Tables) × AreListed t entries.now }
-    ensures value { result ≡ spec.mark_in entries.now row.now }
+/// The occurrence that a line names.
+fn named_in(run: &JudgedRun<'_>, entries: &[ChannelEntry], row: &Row) -> Option<Occurrence>
+    requires { AreListed run.now.tables entries.now }
+    ensures value { result ≡ spec.named_in run.now entries.now row.now }
+    ensures number { IfSome result (λ o. o.number < spec.numbers) }
     ensures interval { spec.HasInterval row.now }
 {
     let line = calendar_line(row)?;
-    let occurrence = occurrence_named(entries, line)?;
-    Some(mark_of(&occurrence))
+    occurrence_named(run, entries, line)
 }
 
-/// The mark of an occurrence.
-fn mark_of(occurrence: &Occurrence) -> u128
+/// Puts the marks of an occurrence that is named behind those before them.
+fn push_marks(occurrence: &Occurrence, marks: &mut Vec<u128>) -> Result<(), AllocError>
     requires { occurrence.now.number < spec.numbers }
-    ensures value { result ≡ spec.mark_of occurrence.now }
+    ensures { OnOk result (marks.new.items ≡ marks.old.items ++ spec.marks_of occurrence.now) }
+{
+    let first = mark_at(&occurrence.of, occurrence.number);
+    let entry = occurrence.of.entry;
+    let count = if occurrence.active { 1 } else { entry.grants };
+    for k in 0..count {
+        marks.push(first + u128::from(k))?;
+    }
+    Ok(())
+}
+
+/// The mark of the occurrence of an entry with a number.
+fn mark_at(of: &ChannelEntry, number: u128) -> u128
+    requires { number < spec.numbers }
+    ensures value { result ≡ spec.mark_at of.now number }
     ensures few { result < 2 ^ 91 }
 {
-    let of = occurrence.of;
-    key_of(&of.entry) * NUMBERS + occurrence.number
+    key_of(&of.entry) * NUMBERS + number
 }

@@ -1,10 +1,10 @@
 ghost use Rattle.std.specs.Prelude.{◌≡◌, ◌<◌, ◌^◌, IfSome};
-ghost use Rattle.us_flows.specs.Tables.{Tables};
 ghost use Rattle.us_calendar_rules.specs.Listed.{AreListed};
 ghost use Rattle.us_calendar_rules.specs.Naming as spec;
 ghost use Rattle.us_calendar_rules.specs.Marks.{numbers};
 
 use crate::listed::{ChannelEntry, called};
+use crate::runs::JudgedRun;
 use us_lawful::Place;
 use us_round::{EntryWord, Row};
 
@@ -28,6 +28,8 @@ pub(crate) struct Occurrence {
     pub(crate) of: ChannelEntry,
     /// Its number, from 0 as they come.
     pub(crate) number: u128,
+    /// Whether the flow is active as the interval begins, so that it is a grant. Of a silent one it is a poll.
+    pub(crate) active: bool,
 }
 
 /// A line of a calendar; `None` for other lines.
@@ -59,23 +61,31 @@ pub(crate) fn calendar_line(row: &Row) -> Option<CalendarLine>
     }
 }
 
-/// The occurrence that a line names; `None` where there is no such entry, or where an interval of it has fewer grants.
-pub(crate) fn occurrence_named(entries: &[ChannelEntry], line: CalendarLine) -> Option<Occurrence>
-    requires { (t : Tables) × AreListed t entries.now }
-    ensures value { result ≡ spec.occurrence_named entries.now line }
+/// The occurrence that a line names; `None` where there is no such entry, or where the interval has fewer grants: all of
+/// them while the flow is active, and the first alone while it is silent.
+pub(crate) fn occurrence_named(
+    run: &JudgedRun<'_>,
+    entries: &[ChannelEntry],
+    line: CalendarLine,
+) -> Option<Occurrence>
+    requires { AreListed run.now.tables entries.now }
+    ensures value { result ≡ spec.occurrence_named run.now entries.now line }
     ensures number { IfSome result (λ occurrence. occurrence.number < numbers) }
     ensures interval { line.i < 2 ^ 64 }
 {
     let i = u128::from(line.i);
     let of = called(entries, line.entry, line.at.third)?;
     let entry = of.entry;
+    let begins = u128::from(entry.start) + i * u128::from(entry.interval);
+    let active = run.speaks_in(&of, begins);
     let grants = u128::from(entry.grants);
     let k = u128::from(line.k);
-    if k >= grants {
+    if k >= if active { grants } else { 1 } {
         return None;
     }
     Some(Occurrence {
         of,
         number: i * grants + k,
+        active,
     })
 }

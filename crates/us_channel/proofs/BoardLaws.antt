@@ -1,5 +1,5 @@
 -- What a channel's board has: its reserves, what its calendar granted, and its grants, each of which fits and is of a claim.
-use Rattle.std.proofs.Common.{◌≡◌, ℕ, ◌-◌, ◌%◌, ◌≤◌, ◌==◌, if◌then◌else◌, List, [], ◌∷◌, ◌++◌, map, flat_map, true, Option, Some, None, refl, sym, ap, ◌∙◌, subst, inl, inr, eq-eqb, ne_eqb, arith}
+use Rattle.std.proofs.Common.{◌≡◌, ℕ, ◌-◌, ◌%◌, ◌≤◌, ◌==◌, if◌then◌else◌, List, [], ◌∷◌, ◌++◌, map, flat_map, Bool, true, Option, Some, None, refl, sym, ap, ◌∙◌, subst, inl, inr, eq-eqb, ne_eqb, arith}
 use Rattle.std.specs.Prelude.{option_map, option_to_list}
 use Rattle.std.specs.List.{AllByRecursion}
 use Rattle.std.proofs.lemmas.Bool.{cases_Bool, cases_eq}
@@ -12,7 +12,7 @@ use Rattle.us_holes.specs.Boards.{Board, Assignment, empty_board, fits, assign, 
 use Rattle.us_holes.proofs.LawLemmas.{assign_all-append, AllFit-append}
 use Rattle.us_calendar.specs.Entries.{Entry}
 use Rattle.us_calendar.specs.Occurrences.{Pace}
-use Rattle.us_calendar.specs.Settling.{Settlement, SettledEntry, EntryState, settle_entry, told_as}
+use Rattle.us_calendar.specs.Settling.{Settlement, SettledEntry, EntryState, settle_state, told_as}
 use Rattle.us_calendar.specs.Calendars as calendars
 use Rattle.us_calendar.specs.Calendars.{Ran, run_entries}
 use Rattle.us_calendar.specs.Runs.{assignments_of}
@@ -20,7 +20,7 @@ use Rattle.us_calendar.proofs.FitLaws as calendar_laws
 use Rattle.us_split.specs.Claims.{Claim}
 use Rattle.us_channel.specs.Reserves.{reserved, maintenance, reserves}
 use Rattle.us_channel.specs.Placements.{Spot, PlacedClaim, spot, grant_at, grant_of, with_grant, grants_of, assignments}
-use Rattle.us_channel.specs.Laws.{AreGrantsFor, BoardsAreBuilt, GrantsAreOfClaims, GrantsFit, HaveMinislots, IsMadeOf, PlacedHaveMinislots, ReservesFit, reserve, reserve_assignments}
+use Rattle.us_channel.specs.Laws.{AreGrantsFor, BoardsAreBuilt, GrantsAreOfClaims, GrantsFit, HasMinislots, HaveMinislots, IsMadeOf, PlacedHaveMinislots, ReservesFit, reserve, reserve_assignments}
 use Rattle.us_channel.proofs.GrantLaws.{Granted, grants_are}
 use Rattle.us_channel.proofs.ReserveLemmas.{empty_fits, maintained_fits}
 use Rattle.us_channel.proofs.SpotLaws.{spot_fits}
@@ -165,7 +165,7 @@ pub boards_are_built : BoardsAreBuilt
 boards_are_built t c round calendar claims is =
     let len : ℕ = map_len t c in
     let board : Board = reserves c len round in
-    let ran : Ran = calendars.ran calendar board in
+    let ran : Ran = calendars.settles calendar board in
     let settled = calendar_laws.grants_fit calendar.pace calendar.next_round calendar.states board in
     let grants : List PlacedClaim = grants_of c.bursts ran.board claims in
     made_more (reserve_assignments c len round ++ flat_map assignments_of ran.settled) (assignments grants) len ran.board
@@ -176,25 +176,25 @@ boards_are_built t c round calendar claims is =
 
 -- Each has a minislot.
 
-told_has : (e : Entry) (n : ℕ) (start : Option ℕ) → 1 ≤ e.slots →
-    HaveMinislots (assignments_of (told_as e (record { number = n; start = start })))
-told_has e n None some = tt
-told_has e n (Some at) some = (some, tt)
+told_has : (e : Entry) (n : ℕ) (active : Bool) (start : Option ℕ) → HasMinislots e →
+    HaveMinislots (assignments_of (told_as e (record { number = n; active = active; start = start })))
+told_has e n active None some = tt
+told_has e n active (Some at) some = (some active, tt)
 
-all_told_have : (e : Entry) (ms : List Settlement) → 1 ≤ e.slots →
+all_told_have : (e : Entry) (ms : List Settlement) → HasMinislots e →
     HaveMinislots (flat_map assignments_of (map (told_as e) ms))
 all_told_have e [] some = tt
 all_told_have e (m ∷ ms) some =
     all-append (λ i. 1 ≤ i.slots) (assignments_of (told_as e m)) (flat_map assignments_of (map (told_as e) ms))
-    (told_has e m.number m.start some) (all_told_have e ms some)
+    (told_has e m.number m.active m.start some) (all_told_have e ms some)
 
 settled_have : (pace : Pace) (round : ℕ) (states : List EntryState) (board : Board) →
-    AllByRecursion (λ state. 1 ≤ state.entry.slots) states →
+    AllByRecursion (λ state. HasMinislots state.entry) states →
     HaveMinislots (flat_map assignments_of (run_entries pace round states board).settled)
 unfolding run_entries
 settled_have pace round [] board all = tt
 settled_have pace round (state ∷ states) board all =
-    let one : SettledEntry = settle_entry pace round state board in
+    let one : SettledEntry = settle_state pace round state board in
     let rest : Ran = run_entries pace round states one.board in
     subst HaveMinislots (sym (flat_map-append assignments_of (map (told_as state.entry) one.settlements) rest.settled))
     (all-append (λ i. 1 ≤ i.slots) (flat_map assignments_of (map (told_as state.entry) one.settlements))
@@ -216,7 +216,7 @@ pub placed_have_minislots : PlacedHaveMinislots
 placed_have_minislots t c round calendar claims is entries some =
     let len : ℕ = map_len t c in
     let board : Board = reserves c len round in
-    let ran : Ran = calendars.ran calendar board in
+    let ran : Ran = calendars.settles calendar board in
     let grants : List PlacedClaim = grants_of c.bursts ran.board claims in
     all-append (λ i. 1 ≤ i.slots) (reserve_assignments c len round ++ flat_map assignments_of ran.settled)
     (assignments grants)

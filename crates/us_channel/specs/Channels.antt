@@ -19,12 +19,12 @@ pub record Filled : Type 0 where
   pub calendar : Calendar
   pub settled : List Settled
 
--- the calendar of a channel goes over what its reserves leave
+-- the calendar of a channel, which has heard the round's cut, goes over what its reserves leave
 abbrev pub fill : Tables → ℕ → Channel → Calendar → Filled
 fill t round c calendar =
     let board : Board = reserves c (map_len t c) round in
-    let ran : Ran = calendars.ran calendar board in
-    record { channel = c; board = ran.board; calendar = calendars.after calendar board; settled = ran.settled }
+    let ran : Ran = calendars.settles calendar board in
+    record { channel = c; board = ran.board; calendar = calendars.settled_after calendar board; settled = ran.settled }
 
 -- a channel whose claims are placed; its calendar is the one that the next round finds
 pub record Built : Type 0 where
@@ -42,6 +42,16 @@ opening t c = record {
   calendar = calendars.opening t c;
   settled = [];
   grants = [];
+}
+
+-- a channel whose calendar has heard a round's cut
+abbrev pub heard : List ℕ → Built → Built
+heard cut b = record {
+  channel = b.channel;
+  board = b.board;
+  calendar = calendars.heard_by cut b.calendar;
+  settled = b.settled;
+  grants = b.grants;
 }
 
 -- none of its claims is granted yet

@@ -1,5 +1,5 @@
 -- Laws of one channel in a round: what its board has, and whose its grants are.
-use Rattle.std.specs.Prelude.{◌≡◌, ℕ, ◌+◌, ◌-◌, ◌%◌, ◌≤◌, ◌==◌, ◌⊎◌, ⊤, if◌then◌else◌, List, [], ◌∷◌, ◌++◌, flat_map}
+use Rattle.std.specs.Prelude.{◌≡◌, ℕ, ◌+◌, ◌-◌, ◌%◌, ◌≤◌, ◌==◌, ◌⊎◌, ⊤, Bool, if◌then◌else◌, List, [], ◌∷◌, ◌++◌, flat_map}
 use Rattle.std.specs.List.{AllByRecursion}
 use Rattle.us_slots.specs.UsageCodes as codes
 use Rattle.us_slots.specs.Bursts.{ChannelBursts, IsChannelBursts, grant_cost}
@@ -8,6 +8,7 @@ use Rattle.us_flows.specs.Lawful.{IsChannel}
 use Rattle.us_flows.specs.Tables.{Tables, map_len}
 use Rattle.us_holes.specs.Boards.{Board, Assignment, empty_board, assign_all, AllFit}
 use Rattle.us_calendar.specs.Calendars.{Calendar}
+use Rattle.us_calendar.specs.Entries.{Entry, slots_of}
 use Rattle.us_calendar.specs.Runs.{assignments_of}
 use Rattle.us_split.specs.Claims.{Claim}
 use Rattle.us_channel.specs.Reserves.{broadcast, reserves}
@@ -85,8 +86,12 @@ BoardsAreBuilt = (t : Tables) (c : Channel) (round : ℕ) (calendar : Calendar) 
 abbrev pub HaveMinislots : List Assignment → Type 0
 HaveMinislots placed = AllByRecursion (λ i. 1 ≤ i.slots) placed
 
+-- a grant of an entry has a minislot, and a poll where its flow is silent
+abbrev pub HasMinislots : Entry → Type 0
+HasMinislots e = (active : Bool) → 1 ≤ slots_of e active
+
 -- All that is placed on it has a minislot at least, where the calendar's entries have.
 abbrev pub PlacedHaveMinislots : Type 0
 PlacedHaveMinislots = (t : Tables) (c : Channel) (round : ℕ) (calendar : Calendar) (claims : List Claim) →
-    IsChannelBursts c.bursts → AllByRecursion (λ state. 1 ≤ state.entry.slots) calendar.states → AreShares claims →
+    IsChannelBursts c.bursts → AllByRecursion (λ state. HasMinislots state.entry) calendar.states → AreShares claims →
     HaveMinislots (placed_on t round (build_on claims (fill t round c calendar)))

@@ -2,7 +2,7 @@ ghost use Rattle.std.specs.Prelude.{◌≡◌, ◌+◌, ◌*◌, ◌<◌, ◌≤
 ghost use Rattle.std.specs.List.{AllByRecursion};
 ghost use Rattle.us_flows.specs.Lawful.{IsChannel};
 ghost use Rattle.us_flows.specs.Tables.{map_len, max_run_ticks};
-ghost use Rattle.us_calendar.specs.Calendars.{pace_of};
+ghost use Rattle.us_calendar.specs.Calendars.{activity_in, pace_of};
 ghost use Rattle.us_holes.specs.Boards.{free_count};
 ghost use Rattle.us_split.specs.Claims.{IsClaimOn};
 ghost use Rattle.us_channel.specs.Channels as spec;
@@ -87,6 +87,14 @@ impl ChannelRound {
         Ok(ChannelRound { channel, track })
     }
 
+    /// Takes in a round's cut, in bytes by word, before the round: its calendar hears which flows are active and which are
+    /// silent. All else stays.
+    pub fn hear(&mut self, cut: &[u64])
+        ensures { self.new ≡ spec.heard cut.now self.old }
+    {
+        self.track.calendar.hear(cut);
+    }
+
     /// Puts the reserves of a round on the board, and settles what is due then; no claim is granted yet. The fault is want
     /// of memory, and nothing is said of board, calendar and lists then.
     pub fn fill(&mut self, config: &Config, round: u32) -> Result<(), NoMemory>
@@ -107,7 +115,7 @@ impl ChannelRound {
         } = self.track.as_mut();
         grants.clear();
         reserves(board, &self.channel, round);
-        calendar.run_into(round, board, settled)
+        calendar.settle_into(round, board, settled)
     }
 
     /// Places claims. What was granted before is told no more. It needs no memory.
@@ -149,6 +157,14 @@ impl ChannelRound {
         ensures { result.now ≡ self.now.board }
     {
         &self.track.board
+    }
+
+    /// Whether the flow with this id is active, as its calendar heard last. `None` where the channel's calendar has no entry of
+    /// a flow with this id, or where nobody detects the flow's activity.
+    pub fn activity(&self, id: u16) -> Option<bool>
+        ensures { result ≡ activity_in id self.now.calendar }
+    {
+        self.track.calendar.activity(id)
     }
 
     /// What its calendar settled, granted or missed, in the order of the calendar.

@@ -45,7 +45,7 @@ impl Model for PlacedClaim {
 }
 
 impl PlacedClaim {
-    /// The number of its cluster.
+    /// The number of its cluster's word.
     pub fn cluster(self) -> usize
         ensures { result ≡ self.claimant.cluster }
     {

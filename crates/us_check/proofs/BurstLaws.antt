@@ -226,6 +226,7 @@ line_among (rows.Granted other ∷ lines) g (inl is) = inl (ap (λ g. rows.Grant
 line_among (rows.Granted other ∷ lines) g (inr later) = inr (line_among lines g later)
 line_among (rows.Missed m ∷ lines) g among = inr (line_among lines g among)
 line_among (rows.Final f ∷ lines) g among = inr (line_among lines g among)
+line_among (rows.Activity a ∷ lines) g among = inr (line_among lines g among)
 line_among (rows.Counts u ∷ lines) g among = inr (line_among lines g among)
 
 -- a G line is of a round and a channel of the run

@@ -13,7 +13,7 @@ use Rattle.us_flows.specs.Clusters.{table_order}
 use Rattle.us_breaches.specs.Breaches.{IsFirstBreach}
 use Rattle.us_breaches.specs.Order.{goes_before}
 use Rattle.us_check.specs.declared.rules.Breach.{Breach}
-use Rattle.us_check.specs.Verdicts.{CalendarLines, Counts, Credits, Finals, Headings, Holds, IsAnswer, Part, Places, Rates, Regions, parts, rule_of}
+use Rattle.us_check.specs.Verdicts.{Activities, CalendarLines, Counts, Credits, Finals, Headings, Holds, IsAnswer, Part, Places, Rates, Regions, parts, rule_of}
 use Rattle.us_check.specs.Named.{HoldsAll, HoldsBefore, IsFirstBroken, RuleHoldsBefore, VerdictsNameTheFirst, number_of}
 use Rattle.us_check.proofs.AmongLemmas.{Among, all_pass, among_filter, each_from_among}
 use Rattle.us_check.proofs.BurstLaws.{has_its_place}
@@ -61,7 +61,7 @@ credits_inside run judged place places fails = elim (cases_lt place.round run.ro
   | inr over ↦ absurd (fails (credits_end run judged place places over))
 ]
 
--- and before that are no places of F lines, and none of the U line
+-- and before that are no places of F lines, none of A lines, and none of the U line
 early : (run : Run) (p place : Place) → place.round < run.rounds → goes_before run.tables.channels p place ≡ true →
     (p.round == run.rounds) ≡ false
 early run p place inside before =
@@ -70,6 +70,10 @@ early run p place inside before =
 finals_early : (run : Run) (judged : Judged) (place : Place) → place.round < run.rounds →
     HoldsBefore run judged Finals place
 finals_early run judged place inside p before = rw (early run p place inside before) refl
+
+activities_early : (run : Run) (judged : Judged) (place : Place) → place.round < run.rounds →
+    HoldsBefore run judged Activities place
+activities_early run judged place inside p before = rw (early run p place inside before) refl
 
 counts_early : (run : Run) (judged : Judged) (place : Place) → place.round < run.rounds →
     HoldsBefore run judged Counts place
@@ -89,6 +93,7 @@ lower_parts run judged n headings minislots lines rates last CalendarLines below
 lower_parts run judged n headings minislots lines rates last Rates below = rates below
 lower_parts run judged n headings minislots lines rates last Credits below = absurd (omega (arith, below, last))
 lower_parts run judged n headings minislots lines rates last Finals below = absurd (omega (arith, below, last))
+lower_parts run judged n headings minislots lines rates last Activities below = absurd (omega (arith, below, last))
 lower_parts run judged n headings minislots lines rates last Counts below = absurd (omega (arith, below, last))
 
 -- a part that is broken first breaks its rule there
@@ -134,8 +139,12 @@ first_broken run judged breach (inr (headings, inr (places, inr (regions, inr (l
 first_broken run judged breach (inr (headings, inr (places, inr (regions, inr (lines, inr (rates, inl is)))))) =
     let inside : breach.place.round < run.rounds = credits_inside run judged breach.place places is.1.0 in
     broken_part run judged breach Credits is.0 is.1
-    (lower_parts run judged 6 (λ _. headings) (λ _. (places, regions)) (λ _. lines) (λ _. rates) (omega arith))
-    (is.1.1, finals_early run judged breach.place inside, λ _. counts_early run judged breach.place inside)
+    (lower_parts run judged 6 (λ _. headings) (λ _. (places, regions)) (λ _. lines) (λ _. rates) (omega arith)) (
+      is.1.1,
+      finals_early run judged breach.place inside,
+      λ _.
+          (activities_early run judged breach.place inside, λ _. counts_early run judged breach.place inside),
+    )
 first_broken run judged breach
     (inr (headings, inr (places, inr (regions, inr (lines, inr (rates, inr (credits, inl is))))))) =
     broken_part run judged breach Finals is.0 is.1
@@ -143,11 +152,16 @@ first_broken run judged breach
     (λ p _. credits p, is.1.1, λ all. absurd (is.1.0 (all breach.place)))
 first_broken run judged breach
     (inr (headings, inr (places, inr (regions, inr (lines, inr (rates, inr (credits, inr (finals, inl is)))))))) =
+    broken_part run judged breach Activities is.0 is.1
+    (lower_parts run judged 6 (λ _. headings) (λ _. (places, regions)) (λ _. lines) (λ _. rates) (omega arith))
+    (λ p _. credits p, λ p _. finals p, λ _. (is.1.1, λ all. absurd (is.1.0 (all breach.place))))
+first_broken run judged breach
+    (inr (headings, inr (places, inr (regions, inr (lines, inr (rates, inr (credits, inr (finals, inr (activities, inl is))))))))) =
     broken_part run judged breach Counts is.0 is.1
     (lower_parts run judged 6 (λ _. headings) (λ _. (places, regions)) (λ _. lines) (λ _. rates) (omega arith))
-    (λ p _. credits p, λ p _. finals p, λ _. is.1.1)
+    (λ p _. credits p, λ p _. finals p, λ _. (λ p _. activities p, λ _. is.1.1))
 first_broken run judged breach
-    (inr (headings, inr (places, inr (regions, inr (lines, inr (rates, inr (credits, inr (finals, inr last)))))))) =
+    (inr (headings, inr (places, inr (regions, inr (lines, inr (rates, inr (credits, inr (finals, inr (activities, inr last))))))))) =
     absurd last.1
 
 pub verdicts_name_the_first : VerdictsNameTheFirst

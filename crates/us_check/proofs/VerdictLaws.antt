@@ -20,7 +20,7 @@ use Rattle.us_check.specs.declared.verdicts.Verdict.{Verdict}
 use Rattle.us_check.specs.declared.verdicts.Verdict.TheVariants as verdicts
 use Rattle.us_check.specs.declared.faults.CheckFault.{CheckFault}
 use Rattle.us_check.specs.declared.faults.CheckFault.TheVariants as fault
-use Rattle.us_check.specs.Verdicts.{Part, Headings, Places, Regions, CalendarLines, Rates, Credits, Finals, Counts, Holds, IsAnswer, AreRead, IsBroken, Answers, parts}
+use Rattle.us_check.specs.Verdicts.{Part, Headings, Places, Regions, CalendarLines, Rates, Credits, Finals, Activities, Counts, Holds, IsAnswer, AreRead, IsBroken, Answers, parts}
 use Rattle.us_check.specs.Laws.{HoldsUnlessNoMemory}
 
 -- Readings.
@@ -82,6 +82,7 @@ holds_all run judged lawful CalendarLines p = lawful.calendar_lines p
 holds_all run judged lawful Rates p = lawful.rates p
 holds_all run judged lawful Credits p = lawful.credits p
 holds_all run judged lawful Finals p = lawful.finals p
+holds_all run judged lawful Activities p = lawful.activities p
 holds_all run judged lawful Counts p = lawful.counts p
 
 -- so none is broken

@@ -6,7 +6,7 @@ use Rattle.us_breaches.specs.Order.{goes_before}
 use Rattle.us_check.specs.declared.rules.Rule.{Rule}
 use Rattle.us_check.specs.declared.rules.Rule.TheVariants as rules
 use Rattle.us_check.specs.declared.verdicts.Verdict.TheVariants as verdicts
-use Rattle.us_check.specs.Verdicts.{Answers, AreRead, CalendarLines, Counts, Credits, Finals, Headings, Holds, Part, Places, Rates, Regions, rule_of}
+use Rattle.us_check.specs.Verdicts.{Activities, Answers, AreRead, CalendarLines, Counts, Credits, Finals, Headings, Holds, Part, Places, Rates, Regions, rule_of}
 
 -- the number of a rule
 abbrev pub number_of : Rule → ℕ
@@ -30,7 +30,7 @@ HoldsBefore run judged part place =
     (p : Place) → goes_before run.tables.channels p place ≡ true → Holds run judged part p
 
 -- A rule holds before a place. Lines of rounds and channels that the run lacks come before all else of the rule of
--- minislots, and the U line comes behind all else of the rule of credits.
+-- minislots. In the rule of credits A lines come behind F lines, and the U line comes behind all else.
 abbrev pub RuleHoldsBefore : Run → Judged → Rule → Place → Type 0
 RuleHoldsBefore run judged rules.Records p = Unit {0}
 RuleHoldsBefore run judged rules.Headings p = HoldsBefore run judged Headings p
@@ -40,7 +40,8 @@ RuleHoldsBefore run judged rules.Occurrences p = HoldsBefore run judged Calendar
 RuleHoldsBefore run judged rules.Rates p = HoldsBefore run judged Rates p
 RuleHoldsBefore run judged rules.Credits p =
     HoldsBefore run judged Credits p × HoldsBefore run judged Finals p
-    × (HoldsAll run judged Finals → HoldsBefore run judged Counts p)
+    × (HoldsAll run judged Finals → HoldsBefore run judged Activities p
+    × (HoldsAll run judged Activities → HoldsBefore run judged Counts p))
 
 -- a rule is broken first at a place, and it is the first that is
 pub record IsFirstBroken (run : Run) (judged : Judged) (rule : Rule) (place : Place) : Type 0 where

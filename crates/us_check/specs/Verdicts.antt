@@ -10,7 +10,7 @@ use Rattle.us_lawful.specs.Regions.{regions_hold}
 use Rattle.us_lawful.specs.CalendarLines.{calendar_lines_hold}
 use Rattle.us_lawful.specs.Rates.{rates_hold}
 use Rattle.us_lawful.specs.Credits.{credits_hold}
-use Rattle.us_lawful.specs.Finals.{finals_hold, counts_hold}
+use Rattle.us_lawful.specs.Finals.{finals_hold, activities_hold, counts_hold}
 use Rattle.us_lawful.specs.Texts.{AreLawful}
 use Rattle.us_lawful.specs.Reports.{IsReport, IsFirstBad}
 use Rattle.us_breaches.specs.Breaches.{IsFirstBreach}
@@ -32,7 +32,7 @@ code_of rules.Occurrences = codes "P4"
 code_of rules.Rates = codes "P5"
 code_of rules.Credits = codes "P6"
 
--- What is judged of MAPs and lines that were read, part by part: the rule of minislots has two, that of credits three.
+-- What is judged of MAPs and lines that were read, part by part: the rule of minislots has two, that of credits four.
 pub data Part : Type 0 where
   Headings : Part
   Places : Part
@@ -41,6 +41,7 @@ pub data Part : Type 0 where
   Rates : Part
   Credits : Part
   Finals : Part
+  Activities : Part
   Counts : Part
 
 -- the rule that a part is of
@@ -52,6 +53,7 @@ rule_of CalendarLines = rules.Occurrences
 rule_of Rates = rules.Rates
 rule_of Credits = rules.Credits
 rule_of Finals = rules.Credits
+rule_of Activities = rules.Credits
 rule_of Counts = rules.Credits
 
 -- what a part asks at a place
@@ -63,11 +65,12 @@ Holds run judged CalendarLines p = calendar_lines_hold run judged p ≡ true
 Holds run judged Rates p = rates_hold run judged p ≡ true
 Holds run judged Credits p = credits_hold run judged p ≡ true
 Holds run judged Finals p = finals_hold run judged p ≡ true
+Holds run judged Activities p = activities_hold run judged p ≡ true
 Holds run judged Counts p = counts_hold run judged p ≡ true
 
 -- all parts in order
 abbrev pub parts : List Part
-parts = Headings ∷ Places ∷ Regions ∷ CalendarLines ∷ Rates ∷ Credits ∷ Finals ∷ Counts ∷ []
+parts = Headings ∷ Places ∷ Regions ∷ CalendarLines ∷ Rates ∷ Credits ∷ Finals ∷ Activities ∷ Counts ∷ []
 
 -- the answer of some parts: none is broken; or the first that is, of this rule, is broken first at this place
 abbrev pub IsAnswer : Run → Judged → List Part → Option Breach → Type 0

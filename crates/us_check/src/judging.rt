@@ -6,7 +6,9 @@ ghost use Rattle.us_check.specs.Verdicts.{IsAnswer, parts};
 use crate::rules::{Breach, Rule};
 use std::alloc::Global;
 use us_calendar_rules::calendar_lines_breach;
-use us_credit_rules::{Moves, counts_breach, credits_breach, finals_breach, rates_breach};
+use us_credit_rules::{
+    Moves, activities_breach, counts_breach, credits_breach, finals_breach, rates_breach,
+};
 use us_flows::Config;
 use us_lawful::Judged;
 use us_map_rules::{headings_breach, places_breach, regions_breach};
@@ -61,6 +63,12 @@ pub(crate) fn first_breach(
         }));
     }
     if let Some(place) = finals_breach(alloc, config, trace, judged, &moves)? {
+        return Ok(Some(Breach {
+            rule: Rule::Credits,
+            place,
+        }));
+    }
+    if let Some(place) = activities_breach(alloc, config, trace, judged)? {
         return Ok(Some(Breach {
             rule: Rule::Credits,
             place,

@@ -17,7 +17,8 @@ pub enum Rule {
     Occurrences,
     /// P5: no flow is credited more than its rate and its burst allow.
     Rates,
-    /// P6: what is credited was asked for, and is what the grant carries; the last lines tell what is left.
+    /// P6: what is credited was asked for, and is what the grant carries; the last lines tell what is left, and which flows
+    /// are active.
     Credits,
 }
 

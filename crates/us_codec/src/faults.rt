@@ -33,7 +33,7 @@ pub enum MapFault {
 
 impl MapFault {
     ghost use Rattle.std.specs.Prelude.{◌≡◌};
-    ghost use Rattle.us_codec.specs.Codes.{code_of};
+    ghost use Rattle.us_codec.specs.Codes.{code_of, sentence_of};
 
     /// Its code, M1 to M11.
     pub fn code(self) -> &'static str
@@ -55,7 +55,9 @@ impl MapFault {
     }
 
     /// What it says, behind its code.
-    fn sentence(self) -> &'static str {
+    fn sentence(self) -> &'static str
+        ensures { result.now ≡ sentence_of self }
+    {
         match self {
             MapFault::Short => "the body has under 16 bytes",
             MapFault::LengthMismatch => "the length is not that of the counted elements",
@@ -74,6 +76,11 @@ impl MapFault {
 
 /// Writes a fault as its code and what it says.
 impl fmt::Display for MapFault {
+    ghost use Rattle.std.specs.Prelude.{Some};
+    ghost use Rattle.us_codec.specs.Codes.{fault_text};
+
+    ghost output = { λ fault. Some (fault_text fault) };
+
     fn fmt<W: fmt::Write>(&self, f: &mut fmt::Formatter<W>) -> fmt::Result {
         write!(f, "{}: {}", self.code(), self.sentence())
     }

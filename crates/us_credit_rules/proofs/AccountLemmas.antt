@@ -1,12 +1,12 @@
 -- What a cluster asks for and is credited in the first rounds, by its moves.
 use Rattle.std.proofs.Common.{◌≡◌, ℕ, zero, suc, ◌+◌, ◌<◌, ◌≤◌, ◌==◌, Bool, true, false, List, length, map, cond, Option, Some, None, refl, sym, ap, ◌∙◌, arith, IsPermutation}
-use Rattle.std.specs.Prelude.{◌&&◌, if◌then◌else◌, nat_lt, filter, filter_map, option_and_then, slice_index, sum_by}
+use Rattle.std.specs.Prelude.{◌&&◌, if◌then◌else◌, nat_lt, filter, filter_map, find, option_and_then, slice_index, sum_by}
 use Rattle.std.specs.List.{range_with_len}
 use Rattle.std.proofs.lemmas.Bool.{lt-ltb, le-ltb, ltb-true, false≢true}
 use Rattle.std.proofs.lemmas.List.FromFn.{get_or-map-range_with_len, take-map-range_with_len}
 use Rattle.std.proofs.lemmas.List.Sums.{sum_by-cons}
 use Rattle.us_flows.specs.Tables.{Tables}
-use Rattle.us_flows.specs.Clusters.{Turn, IsTurnIn, clusters_of, table_order}
+use Rattle.us_flows.specs.Clusters.{Turn, IsTurnIn, table_order, words_of}
 use Rattle.us_flows.specs.Lawful.{AreTables}
 use Rattle.us_requests.specs.declared.asks.Ask.{Ask}
 use Rattle.us_requests.specs.Cuts.{asked, cut_of}
@@ -20,10 +20,10 @@ use Rattle.us_lawful.proofs.CreditLineLaws.{of_requested, requested_sum}
 use Rattle.us_lawful.proofs.ItemLemmas.{sum_zero}
 use Rattle.us_lawful.proofs.SameLemmas.{worth, sum_append, sum_filter, sum_filter_map, sum_flat_map, sum_map}
 use Rattle.us_credit_rules.specs.declared.moves.Move.{Move}
-use Rattle.us_credit_rules.specs.Seats.{is_number, number_of}
+use Rattle.us_credit_rules.specs.Seats.{names}
 use Rattle.us_credit_rules.specs.Moves.{ask_move, asked_moves, cluster_move, credit_move, moves_told}
 use Rattle.us_credit_rules.proofs.CreditLemmas.{own_bytes, own_sum, sum_pointwise}
-use Rattle.us_credit_rules.proofs.SeatLemmas.{named_number}
+use Rattle.us_credit_rules.proofs.SeatLemmas.{has_word, named_word}
 
 -- what a move asks for, and what it credits
 abbrev pub asked_by : Move → ℕ
@@ -105,31 +105,32 @@ lines_ask number rounds all turns lines =
         ap (λ n. cond {A = ℕ} (owner == number) n 0) (nothing (nat_lt g.round rounds)) ∙ nothing (owner == number)
     made g false owner = refl
 
-    of : (g : Grant) (found : Option ℕ) → worth (own_bytes number (within rounds asked_by))
-        (option_and_then (λ owner. credit_move all owner g) found) ≡ 0
+    of : (g : Grant) (found : Option Turn) → worth (own_bytes number (within rounds asked_by))
+        (option_and_then (λ turn. credit_move all turn.number g) found) ≡ 0
     of g None = refl
-    of g (Some owner) = made g (is_requested g.entry && nat_lt g.round all) owner
+    of g (Some turn) = made g (is_requested g.entry && nat_lt g.round all) turn.number
 
     one : (line : Row) → worth (own_bytes number (within rounds asked_by)) (cluster_move all turns line) ≡ 0
-    one (rows.Granted g) = of g (number_of g.id g.i turns)
+    one (rows.Granted g) = of g (find (names g.id g.i) turns)
     one (rows.Missed m) = refl
     one (rows.Final f) = refl
+    one (rows.Activity a) = refl
     one (rows.Counts c) = refl
 
-cut_at : (clusters number : ℕ) (asks : List Ask) → number < clusters → slice_index (cut_of clusters asks) number ≡ asked asks number
+pub cut_at : (words number : ℕ) (asks : List Ask) → number < words → slice_index (cut_of words asks) number ≡ asked asks number
 unfolding cut_of
-cut_at clusters number asks inside =
-    get_or-map-range_with_len (asked asks) 0 clusters number number 0 inside (omega arith)
+cut_at words number asks inside =
+    get_or-map-range_with_len (asked asks) 0 words number number 0 inside (omega arith)
 
 pub asked_is : (t : Tables) (v : TraceAsks) (turns : List Turn) (lines : List Row) (moves : List Move)
-    (rounds number : ℕ) → number < length (clusters_of t) → rounds ≤ v.rounds →
+    (rounds number : ℕ) → number < length (words_of t) → rounds ≤ v.rounds →
     IsPermutation (moves_told v turns lines) moves →
     sum_by (within rounds asked_by) (filter (λ m. m.owner == number) moves) ≡ asked_within (run_in t v) rounds number
 unfolding cuts_in
 asked_is t v turns lines moves rounds number known early moved =
     let f : Move → ℕ = own_bytes number (within rounds asked_by) in
     let asks : ℕ → ℕ = λ round. asked (asks_in v round) number in
-    let cut : ℕ → List ℕ = λ round. cut_of (length (clusters_of t)) (asks_in v round) in
+    let cut : ℕ → List ℕ = λ round. cut_of (length (words_of t)) (asks_in v round) in
     let same : 0 + rounds ≡ rounds = omega arith in
     own_sum number (within rounds asked_by) (moves_told v turns lines) moves moved
     ∙ sum_append f (asked_moves v) (filter_map (cluster_move v.rounds turns) lines)
@@ -142,7 +143,7 @@ asked_is t v turns lines moves rounds number known early moved =
     ∙ ap (λ end. cond (nat_lt round end) (asks round) 0) (sym same)) (range_with_len 0 v.rounds)
     ∙ front_sum asks 0 v.rounds rounds early
     ∙ sum_pointwise asks (λ round. slice_index (cut round) number)
-    (λ round. sym (cut_at (length (clusters_of t)) number (asks_in v round) known)) (range_with_len 0 rounds)
+    (λ round. sym (cut_at (length (words_of t)) number (asks_in v round) known)) (range_with_len 0 rounds)
     ∙ sym (sum_map (λ (c : List ℕ). slice_index c number) cut (range_with_len 0 rounds))
     ∙ ap (sum_by (λ (c : List ℕ). slice_index c number)) (sym (take-map-range_with_len cut 0 v.rounds rounds early))
 
@@ -162,9 +163,9 @@ line_credits : (t : Tables) (turn : Turn) (rounds all : ℕ) → AreTables t →
     worth (own_bytes turn.number (within rounds credited_by)) (cluster_move all (table_order t) line)
     ≡ of_requested (λ g. cond (is_of turn.cluster g && nat_lt g.round rounds) g.credit 0) line
 line_credits t turn rounds all lawful known early (rows.Granted g) =
-    of (number_of g.id g.i (table_order t))
+    of (find (names g.id g.i) (table_order t))
     ∙ ap (λ b. cond (is_requested g.entry) (cond (b && nat_lt g.round rounds) g.credit 0) 0)
-    (sym (named_number t turn g.id g.i lawful known))
+    (sym (named_word t turn g.id g.i lawful known))
   where
     made : (asked inside own here : Bool) → (inside ≡ true → here ≡ true) →
         worth (λ (m : Move). cond own (cond inside (credited_by m) 0) 0) (if asked && here
@@ -191,17 +192,18 @@ line_credits t turn rounds all lawful known early (rows.Granted g) =
     moved true false owner = refl
     moved false here owner = refl
 
-    of : (found : Option ℕ) →
+    of : (found : Option Turn) →
         worth (own_bytes turn.number (within rounds credited_by))
-        (option_and_then (λ owner. credit_move all owner g) found)
-        ≡ cond (is_requested g.entry) (cond (is_number turn.number found && nat_lt g.round rounds) g.credit 0) 0
+        (option_and_then (λ other. credit_move all other.number g) found)
+        ≡ cond (is_requested g.entry) (cond (has_word turn.number found && nat_lt g.round rounds) g.credit 0) 0
     of None = sym (nothing (is_requested g.entry))
-    of (Some owner) =
-        moved (is_requested g.entry) (nat_lt g.round all) owner
-        ∙ made (is_requested g.entry) (nat_lt g.round rounds) (owner == turn.number) (nat_lt g.round all)
+    of (Some other) =
+        moved (is_requested g.entry) (nat_lt g.round all) other.number
+        ∙ made (is_requested g.entry) (nat_lt g.round rounds) (other.number == turn.number) (nat_lt g.round all)
         (λ inside. lt-ltb g.round all (omega (arith, ltb-true g.round rounds inside, early)))
 line_credits t turn rounds all lawful known early (rows.Missed m) = refl
 line_credits t turn rounds all lawful known early (rows.Final f) = refl
+line_credits t turn rounds all lawful known early (rows.Activity a) = refl
 line_credits t turn rounds all lawful known early (rows.Counts c) = refl
 
 pub credited_is : (t : Tables) (v : TraceAsks) (lines : List Row) (moves : List Move) (rounds : ℕ) (turn : Turn) →

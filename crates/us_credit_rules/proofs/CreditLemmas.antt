@@ -68,6 +68,7 @@ flow_adds rounds id round small within (rows.Granted g) =
     (λ is. lt-ltb g.round rounds (omega (arith, eqb-true g.round round is, within))) refl
 flow_adds rounds id round small within (rows.Missed m) = refl
 flow_adds rounds id round small within (rows.Final f) = refl
+flow_adds rounds id round small within (rows.Activity a) = refl
 flow_adds rounds id round small within (rows.Counts c) = refl
 
 -- what lines credit to a flow in a round is what its moves do

@@ -1,9 +1,9 @@
 -- What F lines tell of each cluster, and that they are judged by it.
 use Rattle.std.proofs.Common.{◌≡◌, ℕ, suc, ◌+◌, ◌-◌, ◌<◌, ◌≤◌, ◌==◌, Bool, true, false, List, [], ◌∷◌, ◌++◌, length, get_or, take, set, replicate, cond, Option, Some, None, refl, sym, ap, ap₂, ◌∙◌, inl, inr, arith, eq-eqb, ne_eqb, IsPermutation}
-use Rattle.std.specs.Prelude.{◌&&◌, ◌||◌, if◌then◌else◌, nat_eq, filter, filter_map, sum_by}
-use Rattle.std.specs.List.{AllByRecursion, list_all, list_any}
-use Rattle.std.specs.Option.{option_eq}
-use Rattle.std.proofs.lemmas.Bool.{and_cases, and_left, and_parts, and_right, cases_Bool, cases_eq, eqb-true, false≢true, lt-ltb}
+use Rattle.std.specs.Prelude.{◌&&◌, ◌||◌, nat_eq, filter, filter_map, slice_get, sum_by}
+use Rattle.std.specs.List.{AllByRecursion, list_any}
+use Rattle.std.specs.Option.{is_some, option_eq}
+use Rattle.std.proofs.lemmas.Bool.{cases_Bool, cases_eq, lt-ltb}
 use Rattle.std.proofs.lemmas.List.{append-nil, get_or-set_same, get_or-set_other, get_or-replicate}
 use Rattle.std.proofs.lemmas.List.Elements.{filter_agree, filter_more}
 use Rattle.std.proofs.lemmas.List.Sums.{length-filter, sum_by-cons}
@@ -19,20 +19,21 @@ use Rattle.us_output.proofs.PartLemmas.{all_filtered, all_weaker}
 use Rattle.us_lawful.specs.declared.place.Place.{Place}
 use Rattle.us_lawful.specs.Runs.{Run, Judged, finals_in, run_in}
 use Rattle.us_lawful.specs.Rates.{flow_credit}
-use Rattle.us_lawful.specs.Finals.{final_holds, final_of, finals_hold, flow_finals_hold, is_final_of, is_same_final, level_left, units_left}
+use Rattle.us_lawful.specs.Finals.{final_holds, final_of, finals_hold, is_final_of, is_same_final, level_left, units_left}
 use Rattle.us_breaches.specs.Order.{earlier}
-use Rattle.us_breaches.specs.Breaches.{Any, At, Either, IsFirstBreach, IsFirstFailure}
-use Rattle.us_breaches.proofs.BreachLemmas.{holds_first, joined, same_places}
-use Rattle.us_breaches.proofs.AnyLemmas.{any_each, any_of_all}
+use Rattle.us_breaches.specs.Breaches.{Any, IsFirstBreach, IsFirstFailure}
+use Rattle.us_breaches.proofs.BreachLemmas.{same_places}
+use Rattle.us_breaches.proofs.AnyLemmas.{any_each}
 use Rattle.us_credit_rules.specs.declared.finals.Told.{Told}
 use Rattle.us_credit_rules.specs.declared.finals.Told.TheVariants.{Nothing}
 use Rattle.us_credit_rules.specs.declared.moves.Move.{Move}
-use Rattle.us_credit_rules.specs.Seats.{is_number, names, number_of}
+use Rattle.us_credit_rules.specs.Seats.{is_number, names, place_of}
 use Rattle.us_credit_rules.specs.Moves.{AreMoves, asked_of, credited_of, flow_move, moves_told}
-use Rattle.us_credit_rules.specs.LastLines.{IsStrange, IsWrong, cluster_left, end_place, flow_left, is_right, is_told, tells, told_at, told_by, told_more}
+use Rattle.us_credit_rules.specs.LastLines.{IsStrange, IsWrong, cluster_left, flow_left, is_right, is_told, tells, told_at, told_by, told_more}
 use Rattle.us_credit_rules.proofs.MoveLemmas.{own_rounds_rise}
 use Rattle.us_credit_rules.proofs.CreditLemmas.{flow_credit_is}
-use Rattle.us_credit_rules.proofs.SeatLemmas.{any_number, named_number}
+use Rattle.us_credit_rules.proofs.SeatLemmas.{any_number, named_place}
+use Rattle.us_credit_rules.proofs.EndLemmas.{EndFails, ends_first}
 use Rattle.us_credit_rules.proofs.AccountLemmas.{asked_by, asked_is, credited_by, credited_is, within}
 use Rattle.us_credit_rules.proofs.LevelLemmas.{full-is}
 use Rattle.us_credit_rules.proofs.WalkLemmas.{credit_in, rounds_of, rounds_same}
@@ -68,7 +69,7 @@ pub none_told : (turns : List Turn) → AreTold turns [] (replicate (length turn
 none_told turns number inside = get_or-replicate (length turns) number Nothing Nothing inside
 
 pub told_kept : (turns : List Turn) (finals : List FinalState) (i : ℕ) (d : FinalState) (told : List Told) →
-    i < length finals → number_of (get_or finals i d).flow (get_or finals i d).cluster turns ≡ None →
+    i < length finals → place_of (get_or finals i d).flow (get_or finals i d).cluster turns ≡ None →
     AreTold turns (take i finals) told → AreTold turns (take (i + 1) finals) told
 told_kept turns finals i d told inside none are number known =
     are number known
@@ -77,7 +78,7 @@ told_kept turns finals i d told inside none are number known =
     (told_at turns (take i finals) number)) none)
 
 pub told_set : (turns : List Turn) (finals : List FinalState) (i k : ℕ) (d : FinalState) (told : List Told) →
-    i < length finals → number_of (get_or finals i d).flow (get_or finals i d).cluster turns ≡ Some k →
+    i < length finals → place_of (get_or finals i d).flow (get_or finals i d).cluster turns ≡ Some k →
     k < length told → AreTold turns (take i finals) told →
     AreTold turns (take (i + 1) finals) (set told k (told_more (get_or finals i d) (get_or told k Nothing)))
 told_set turns finals i k d told inside some room are number known =
@@ -115,7 +116,7 @@ any_agree : {X : Type 0} (p q : X → Bool) → ((x : X) → p x ≡ q x) → (x
 any_agree p q same [] = refl
 any_agree p q same (x ∷ xs) = ap₂ (λ a b. a || b) (same x) (any_agree p q same xs)
 
-turned : (x y : ℕ) → (x == y) ≡ (y == x)
+pub turned : (x y : ℕ) → (x == y) ≡ (y == x)
 turned x y = elim (cases_eq x y) [
   | inl same ↦ eq-eqb x y same ∙ sym (eq-eqb y x (sym same))
   | inr other ↦ ne_eqb x y other ∙ sym (ne_eqb y x (λ same. other (sym same)))
@@ -154,17 +155,18 @@ one_told outstanding units (f ∷ g ∷ fs) =
     ap (λ b. b && list_any (tells_left outstanding units) (f ∷ g ∷ fs))
     (ne_eqb (suc (suc (length fs))) 1 (λ same. omega (arith, same)))
 
-pub final_right : (t : Tables) (v : TraceAsks) (lines : List Row) (turn : Turn) → AreTables t → IsTurnIn t turn →
+pub final_right : (t : Tables) (v : TraceAsks) (lines : List Row) (turn : Turn) (place : ℕ) → AreTables t →
+    slice_get (table_order t) place ≡ Some turn →
     final_holds (run_in t v) lines turn
     ≡ is_told (final_of (run_in t v) lines turn).outstanding (final_of (run_in t v) lines turn).units
-    (told_at (table_order t) (finals_in lines) turn.number)
-final_right t v lines turn lawful known =
+    (told_at (table_order t) (finals_in lines) place)
+final_right t v lines turn place lawful listed =
     let finals : List FinalState = finals_in lines in
     let right : FinalState = final_of (run_in t v) lines turn in
     let own : List FinalState = filter (is_final_of turn) finals in
-    let named : filter (is_final_of turn) finals ≡ filter (tells (table_order t) turn.number) finals =
-    filter_agree (is_final_of turn) (tells (table_order t) turn.number)
-    (λ f. named_number t turn f.flow f.cluster lawful known) finals in
+    let named : filter (is_final_of turn) finals ≡ filter (tells (table_order t) place) finals =
+    filter_agree (is_final_of turn) (tells (table_order t) place)
+    (λ f. named_place t turn place f.flow f.cluster lawful listed) finals in
     ap₂ (λ n b. (n == 1) && b) (sym (length-filter (is_final_of turn) finals))
     (any_agree (is_same_final right) (λ f. is_final_of turn f && tells_left right.outstanding right.units f)
     (same_parts (run_in t v) lines turn) finals
@@ -222,135 +224,37 @@ units_over t v lines moves flow small some moved are =
     (all_filtered (λ m. m.round < v.rounds) (λ m. m.owner == flow.id) moves are.inside)))
 
 -- so that a cluster has its own F line where it is told so
-pub judged_right : (t : Tables) (v : TraceAsks) (lines : List Row) (flows clusters : List Move) (told : List Told)
-    (turn : Turn) → AreTables t → IsTurnIn t turn → turn.cluster.flow.id < 65536 → 0 < v.rounds →
+pub judged_right : (t : Tables) (v : TraceAsks) (lines : List Row) (flows clusters : List Move) (told : Told)
+    (turn : Turn) (place : ℕ) → AreTables t → slice_get (table_order t) place ≡ Some turn → IsTurnIn t turn →
+    turn.cluster.flow.id < 65536 → 0 < v.rounds →
     IsPermutation (filter_map (flow_move v.rounds) lines) flows → AreMoves v.rounds flows →
     IsPermutation (moves_told v (table_order t) lines) clusters → AreMoves v.rounds clusters →
-    get_or told turn.number Nothing ≡ told_at (table_order t) (finals_in lines) turn.number →
+    told ≡ told_at (table_order t) (finals_in lines) place →
     final_holds (run_in t v) lines turn ≡ is_right v.rounds t.round_ticks flows clusters told turn
-judged_right t v lines flows clusters told turn lawful known small some moved_flows are_flows moved are is =
-    final_right t v lines turn lawful known
-    ∙ ap₂ (λ left units. is_told left units (told_at (table_order t) (finals_in lines) turn.number))
+judged_right t v lines flows clusters told turn place lawful listed known small some moved_flows are_flows moved are is =
+    final_right t v lines turn place lawful listed
+    ∙ ap₂ (λ left units. is_told left units (told_at (table_order t) (finals_in lines) place))
     (left_over t v lines clusters turn lawful known moved are)
     (units_over t v lines flows turn.cluster.flow small some moved_flows are_flows)
     ∙ ap (is_told (cluster_left clusters turn.number) (flow_left v.rounds t.round_ticks flows turn.cluster.flow)) (sym is)
 
 -- Places.
 
--- a test of items with an id, which is asked at the place of that id
-module _ {X : Type 0} (id : X → ℕ) (holds : X → Bool) (rounds : ℕ) where
-  asked_there : (x : X) (p : Place) → p.round ≡ rounds → p.channel ≡ 0 →
-      (if id x == p.third then holds x else true) ≡ false → At (end_place rounds (id x)) (holds x) p
-  asked_there x p round channel fails = elim (cases_eq (id x) p.third) [
-    | inl same ↦ (
-      (λ i. record { round = round i; channel = channel i; third = sym same i }),
-      ap (λ b. if b then holds x else true) (sym (eq-eqb (id x) p.third same)) ∙ fails,
-    )
-    | inr other ↦
-        absurd (false≢true (sym fails ∙ ap (λ b. if b then holds x else true) (ne_eqb (id x) p.third other)))
-  ]
-
-  there_asked : (x : X) (p : Place) → At (end_place rounds (id x)) (holds x) p →
-      (if id x == p.third then holds x else true) ≡ false
-  there_asked x p fails =
-      ap (λ b. if b then holds x else true) (eq-eqb (id x) p.third (sym (ap (λ (q : Place). q.third) fails.0))) ∙ fails.1
-
-  pub all_there : (xs : List X) (p : Place) → p.round ≡ rounds → p.channel ≡ 0 →
-      list_all (λ x. if id x == p.third then holds x else true) xs ≡ false →
-      Any (λ x. At (end_place rounds (id x)) (holds x)) xs p
-  all_there xs p round channel fails =
-      any_each (λ x p. (if id x == p.third then holds x else true) ≡ false) (λ x. At (end_place rounds (id x)) (holds x)) xs p
-      (λ x fails. asked_there x p round channel fails)
-      ((any_of_all (λ x p. if id x == p.third then holds x else true) xs p).0 fails)
-
-  pub there_all : (xs : List X) (p : Place) → Any (λ x. At (end_place rounds (id x)) (holds x)) xs p →
-      list_all (λ x. if id x == p.third then holds x else true) xs ≡ false
-  there_all xs p fails =
-      (any_of_all (λ x p. if id x == p.third then holds x else true) xs p).1
-      (any_each (λ x. At (end_place rounds (id x)) (holds x)) (λ x p. (if id x == p.third then holds x else true) ≡ false)
-      xs p (λ x fails. there_asked x p fails) fails)
-
-  pub at_end : (xs : List X) (p : Place) → Any (λ x. At (end_place rounds (id x)) (holds x)) xs p →
-      (p.round ≡ rounds) × (p.channel ≡ 0)
-  at_end [] p fails = absurd fails
-  at_end (x ∷ xs) p (inl here) = (ap (λ (q : Place). q.round) here.0, ap (λ (q : Place). q.channel) here.0)
-  at_end (x ∷ xs) p (inr there) = at_end xs p there
-
--- what fails at the end is one of both
-finals_fail : (run : Run) (lines : List Row) (p : Place) →
-    (if (p.round == run.rounds) && (p.channel == 0) then flow_finals_hold run lines p.third else true) ≡ false →
-    Either (Any (IsStrange run.rounds (table_order run.tables)) (finals_in lines))
-    (Any (IsWrong run lines) (table_order run.tables)) p
-finals_fail run lines p fails = elim (cases_Bool ((p.round == run.rounds) && (p.channel == 0))) [
-  | inl there ↦
-      let parts = and_parts (p.round == run.rounds) (p.channel == 0) there in
-      let round : p.round ≡ run.rounds = eqb-true p.round run.rounds parts.0 in
-      let channel : p.channel ≡ 0 = eqb-true p.channel 0 parts.1 in
-      let out : flow_finals_hold run lines p.third ≡ false = rw there at fails in
-      elim (and_cases (list_all (strange_test p) (finals_in lines)) (list_all (wrong_test p) (table_order run.tables)) out) [
-        | inl strange ↦
-            inl (any_each (λ (f : FinalState). At (end_place run.rounds f.flow) (known f))
-            (IsStrange run.rounds (table_order run.tables)) (finals_in lines) p
-            (λ f fails. (fails.0, sym (any_number (names f.flow f.cluster) 0 (table_order run.tables)) ∙ fails.1))
-            (all_there (λ (f : FinalState). f.flow) known run.rounds (finals_in lines) p round channel strange))
-        | inr wrong ↦
-            inr (all_there (λ (turn : Turn). turn.cluster.flow.id) (final_holds run lines) run.rounds (table_order run.tables)
-            p round channel wrong)
-      ]
-  | inr elsewhere ↦ absurd (false≢true (sym (rw elsewhere at fails)))
-]
-  where
-    known : FinalState → Bool
-    known f = list_any (λ turn. is_final_of turn f) (table_order run.tables)
-
-    strange_test : Place → FinalState → Bool
-    strange_test p f = if f.flow == p.third then known f else true
-
-    wrong_test : Place → Turn → Bool
-    wrong_test p turn = if turn.cluster.flow.id == p.third then final_holds run lines turn else true
-
-asked_at : (round rounds channel : ℕ) (holds : Bool) → round ≡ rounds → channel ≡ 0 → holds ≡ false →
-    (if (round == rounds) && (channel == 0) then holds else true) ≡ false
-asked_at round rounds channel holds here all fails =
-    rw (eq-eqb round rounds here, eq-eqb channel 0 all) fails
-
--- and back
-fail_finals : (run : Run) (lines : List Row) (p : Place) →
-    Either (Any (IsStrange run.rounds (table_order run.tables)) (finals_in lines))
-    (Any (IsWrong run lines) (table_order run.tables)) p →
-    (if (p.round == run.rounds) && (p.channel == 0) then flow_finals_hold run lines p.third else true) ≡ false
-fail_finals run lines p (inl strange) =
-    let known : FinalState → Bool = λ f. list_any (λ turn. is_final_of turn f) (table_order run.tables) in
-    let fails : Any (λ (f : FinalState). At (end_place run.rounds f.flow) (known f)) (finals_in lines) p =
-    any_each (IsStrange run.rounds (table_order run.tables))
-    (λ (f : FinalState). At (end_place run.rounds f.flow) (known f)) (finals_in lines) p
-    (λ f fails. (fails.0, any_number (names f.flow f.cluster) 0 (table_order run.tables) ∙ fails.1)) strange in
-    let there = at_end (λ (f : FinalState). f.flow) known run.rounds (finals_in lines) p fails in
-    asked_at p.round run.rounds p.channel (flow_finals_hold run lines p.third) there.0 there.1
-    (and_left (list_all (λ f. if f.flow == p.third then known f else true) (finals_in lines))
-    (list_all (λ turn. if turn.cluster.flow.id == p.third then final_holds run lines turn else true)
-    (table_order run.tables))
-    (there_all (λ (f : FinalState). f.flow) known run.rounds (finals_in lines) p fails))
-fail_finals run lines p (inr wrong) =
-    let known : FinalState → Bool = λ f. list_any (λ turn. is_final_of turn f) (table_order run.tables) in
-    let there = at_end (λ (turn : Turn). turn.cluster.flow.id) (final_holds run lines) run.rounds (table_order run.tables) p
-    wrong in
-    asked_at p.round run.rounds p.channel (flow_finals_hold run lines p.third) there.0 there.1
-    (and_right (list_all (λ f. if f.flow == p.third then known f else true) (finals_in lines))
-    (list_all (λ turn. if turn.cluster.flow.id == p.third then final_holds run lines turn else true)
-    (table_order run.tables))
-    (there_all (λ (turn : Turn). turn.cluster.flow.id) (final_holds run lines) run.rounds (table_order run.tables) p wrong))
-
--- so the earlier of both is the first
+-- the earlier of both is the first
 pub finals_first : (channels : List Channel) (run : Run) (judged : Judged) (strange wrong : Option Place) →
     IsFirstFailure channels (Any (IsStrange run.rounds (table_order run.tables)) (finals_in judged.lines)) strange →
     IsFirstFailure channels (Any (IsWrong run judged.lines) (table_order run.tables)) wrong →
     IsFirstBreach channels (λ p. finals_hold run judged p ≡ true) (earlier channels strange wrong)
 finals_first channels run judged strange wrong first second =
-    let lines : List Row = judged.lines in
-    let A : Place → Type 0 = Any (IsStrange run.rounds (table_order run.tables)) (finals_in lines) in
-    let B : Place → Type 0 = Any (IsWrong run lines) (table_order run.tables) in
-    holds_first channels (finals_hold run judged) (earlier channels strange wrong)
-    (same_places channels (Either A B) (λ p. finals_hold run judged p ≡ false) (earlier channels strange wrong)
-    (λ p fails. fail_finals run lines p fails) (λ p fails. finals_fail run lines p fails)
-    (joined channels A B strange wrong first second))
+    let turns : List Turn = table_order run.tables in
+    let finals : List FinalState = finals_in judged.lines in
+    let known : FinalState → Bool = λ f. list_any (λ turn. is_final_of turn f) turns in
+    let named : (f : FinalState) → known f ≡ is_some (place_of f.flow f.cluster turns) =
+    (λ f. any_number (names f.flow f.cluster) 0 turns) in
+    let Unknown : FinalState → Place → Type 0 = EndFails (λ (f : FinalState). f.flow) known run.rounds in
+    ends_first (λ (f : FinalState). f.flow) known (λ (turn : Turn). turn.cluster.flow.id) (final_holds run judged.lines)
+    run.rounds finals turns channels strange wrong
+    (same_places channels (Any (IsStrange run.rounds turns) finals) (Any Unknown finals) strange
+    (λ p fails. any_each (IsStrange run.rounds turns) Unknown finals p (λ f out. (out.0, named f ∙ out.1)) fails)
+    (λ p fails. any_each Unknown (IsStrange run.rounds turns) finals p (λ f out. (out.0, sym (named f) ∙ out.1)) fails)
+    first) second

@@ -16,7 +16,12 @@ pub mod LeftLemmas
 pub mod BoundLemmas
 pub mod RateLemmas
 -- F lines
+pub mod EndLemmas
 pub mod FinalLemmas
+-- A lines
+pub mod MarkLemmas
+pub mod TalkerLemmas
+pub mod ActivityLemmas
 -- what was not asked for
 pub mod SumLemmas
 -- lines of requests

@@ -10,7 +10,7 @@ use Rattle.us_flows.specs.declared.channels.Channel.{Channel}
 use Rattle.us_flows.specs.Tables.{Tables, channel_with}
 use Rattle.us_flows.specs.Lawful.{AreTables, IsChannel}
 use Rattle.us_flows.specs.Clusters.{Turn, IsTurnIn, has_sid, table_order}
-use Rattle.us_flows.proofs.TurnLaws.{one_turn, table_order-turns}
+use Rattle.us_flows.proofs.TurnLaws.{table_order-turns}
 use Rattle.us_requests.specs.Traces.{TraceAsks}
 use Rattle.us_output.specs.declared.rows.Grant.{Grant}
 use Rattle.us_output.specs.declared.rows.Row.{Row}
@@ -26,10 +26,10 @@ use Rattle.us_breaches.proofs.BreachLemmas.{at_there, same_places}
 use Rattle.us_breaches.proofs.AnyLemmas.{any_each, any_filter, any_filter_map, any_of_all}
 use Rattle.us_breaches.proofs.OrderLemmas.{before-self}
 use Rattle.us_breaches.specs.Order.{goes_before}
-use Rattle.us_credit_rules.specs.Seats.{is_number, names, number_of}
+use Rattle.us_credit_rules.specs.Seats.{is_number, names, place_of}
 use Rattle.us_credit_rules.specs.CreditLines.{IsWrongLine, is_alone, is_right_for, is_right_line, key_for, key_of, key_told, keys_told, line_place}
 use Rattle.us_credit_rules.proofs.CreditLemmas.{sum_pointwise}
-use Rattle.us_credit_rules.proofs.SeatLemmas.{are_seats, find_number, named_number, number_below, number_found}
+use Rattle.us_credit_rules.proofs.SeatLemmas.{are_seats, find_number, number_below, number_found, one_named}
 
 same_test : (a b : Bool) → (a ≡ true → b ≡ true) → (b ≡ true → a ≡ true) → a ≡ b
 same_test true b there back = sym (there refl)
@@ -58,8 +58,8 @@ key_parts (Some number) round channel key is = elim (cases_lt channel 256) [
 ]
 
 -- lines that name the same cluster have the same id and place
-one_name : (turns : List Turn) (id list other_id other_list k : ℕ) → number_of id list turns ≡ Some k →
-    number_of other_id other_list turns ≡ Some k → (other_id ≡ id) × (other_list ≡ list)
+one_name : (turns : List Turn) (id list other_id other_list k : ℕ) → place_of id list turns ≡ Some k →
+    place_of other_id other_list turns ≡ Some k → (other_id ≡ id) × (other_list ≡ list)
 one_name turns id list other_id other_list k found found_other =
     let a = number_found (names id list) 0 turns k found in
     let b = number_found (names other_id other_list) 0 turns k found_other in
@@ -89,16 +89,16 @@ like_key turns g o key few is =
         let b = and_parts (o.channel == g.channel) ((o.id == g.id) && (o.i == g.i)) a.1 in
         let c = and_parts (o.id == g.id) (o.i == g.i) b.1 in
         ap₂ (λ found round. is_number key (key_for found round o.channel))
-        (ap₂ (λ id list. number_of id list turns) (eqb-true o.id g.id c.0) (eqb-true o.i g.i c.1))
+        (ap₂ (λ id list. place_of id list turns) (eqb-true o.id g.id c.0) (eqb-true o.i g.i c.1))
         (eqb-true o.round g.round a.0)
-        ∙ ap (λ channel. is_number key (key_for (number_of g.id g.i turns) g.round channel))
+        ∙ ap (λ channel. is_number key (key_for (place_of g.id g.i turns) g.round channel))
         (eqb-true o.channel g.channel b.0)
         ∙ own
 
     back : is_number key (key_of turns o) ≡ true → is_like g o ≡ true
     back same =
-        let a = key_parts (number_of g.id g.i turns) g.round g.channel key own in
-        let b = key_parts (number_of o.id o.i turns) o.round o.channel key same in
+        let a = key_parts (place_of g.id g.i turns) g.round g.channel key own in
+        let b = key_parts (place_of o.id o.i turns) o.round o.channel key same in
         let few_a : a.number < length turns = number_below g.id g.i a.number turns a.found_is in
         let few_b : b.number < length turns = number_below o.id o.i b.number turns b.found_is in
         let channel : o.channel ≡ g.channel = omega (arith, few, few_a, few_b, a.small, b.small, a.made, b.made) in
@@ -135,6 +135,7 @@ like_count turns lines g key few is =
     one (rows.Granted o) = asked o (is_requested o.entry)
     one (rows.Missed m) = refl
     one (rows.Final f) = refl
+    one (rows.Activity a) = refl
     one (rows.Counts c) = refl
 
 -- in whatever order keys are
@@ -164,15 +165,15 @@ module _ {X : Type 0} (p r : X → Bool) where
     | inr there ↦ rest_named u xs one.1 there
   ]
 
-  one_named : (u : X) (xs : List X) → find p xs ≡ Some u → AllByRecursion (λ x. p x ≡ true → x ≡ u) xs →
+  one_asked : (u : X) (xs : List X) → find p xs ≡ Some u → AllByRecursion (λ x. p x ≡ true → x ≡ u) xs →
       list_any (λ x. p x && r x) xs ≡ r u
-  one_named u [] found one = absurd (cc found)
-  one_named u (x ∷ xs) found one = elim (cases_Bool (p x)) [
+  one_asked u [] found one = absurd (cc found)
+  one_asked u (x ∷ xs) found one = elim (cases_Bool (p x)) [
     | inl is ↦
         let same : x ≡ u = one.0 is in
         same_test (list_any (λ x. p x && r x) (x ∷ xs)) (r u) (rest_named u (x ∷ xs) one)
         (λ right. or_left (p x && r x) (list_any (λ x. p x && r x) xs) (and_from (p x) (r x) is (ap r same ∙ right)))
-    | inr out ↦ rw out (one_named u xs (rw out at found) one.1)
+    | inr out ↦ rw out (one_asked u xs (rw out at found) one.1)
   ]
 
 -- the test of the cluster that is found
@@ -198,22 +199,16 @@ named_once : (t : Tables) (id list : ℕ) (r : Turn → Bool) → AreTables t �
 named_once t id list r lawful None is = none_named (names id list) r (table_order t) is
 named_once t id list r lawful (Some u) is =
     let known = found_passes (names id list) (IsTurnIn t) (table_order t) u is (table_order-turns t) in
-    one_named (names id list) r u (table_order t) is
+    one_asked (names id list) r u (table_order t) is
     (all_weaker (IsTurnIn t) (λ turn. names id list turn ≡ true → turn ≡ u)
-    (λ turn of named. one_turn t turn u of known.0 (same_number (number_of id list (table_order t)) turn.number u.number
-    (sym (named_number t turn id list lawful of) ∙ named) (sym (named_number t u id list lawful known.0) ∙ known.1)))
-    (table_order t) (table_order-turns t))
-  where
-    same_number : (found : Option ℕ) (m n : ℕ) → is_number m found ≡ true → is_number n found ≡ true → m ≡ n
-    same_number None m n is_m is_n = absurd (false≢true is_m)
-    same_number (Some k) m n is_m is_n = sym (eqb-true k m is_m) ∙ eqb-true k n is_n
+    (λ turn of named. one_named t turn u id list lawful of known.0 named known.1) (table_order t) (table_order-turns t))
 
 -- a number is found where an item is
 found_number : (id list : ℕ) (turns : List Turn) (u : Turn) → find (names id list) turns ≡ Some u →
-    (k : ℕ) × (number_of id list turns ≡ Some k)
-found_number id list turns u found = of (number_of id list turns) refl
+    (k : ℕ) × (place_of id list turns ≡ Some k)
+found_number id list turns u found = of (place_of id list turns) refl
   where
-    of : (number : Option ℕ) → number_of id list turns ≡ number → (k : ℕ) × (number_of id list turns ≡ Some k)
+    of : (number : Option ℕ) → place_of id list turns ≡ number → (k : ℕ) × (place_of id list turns ≡ Some k)
     of None is = absurd (cc (found, find_number (names id list) 0 turns, is))
     of (Some k) is = (k, is)
 
@@ -307,6 +302,7 @@ place_moved channels turns told keys (rows.Granted g) moved =
         (alone_moved told keys (key_of turns g) moved)
 place_moved channels turns told keys (rows.Missed m) moved = refl
 place_moved channels turns told keys (rows.Final f) moved = refl
+place_moved channels turns told keys (rows.Activity a) moved = refl
 place_moved channels turns told keys (rows.Counts c) moved = refl
 
 pub wrong_first : (channels : List Channel) (turns : List Turn) (lines : List Row) (keys : List ℕ) (line : Row)
@@ -337,6 +333,7 @@ module _ (t : Tables) (v : TraceAsks) (lines : List Row) (lawful : AreTables t) 
   line_there (rows.Granted g) p (inr none) = absurd none
   line_there (rows.Missed m) p none = absurd none
   line_there (rows.Final f) p none = absurd none
+  line_there (rows.Activity a) p none = absurd none
   line_there (rows.Counts c) p none = absurd none
 
   line_back : (line : Row) (p : Place) → place_told line ≡ Some p → Any requested_fails (option_to_list (as_grant line)) p
@@ -356,6 +353,7 @@ module _ (t : Tables) (v : TraceAsks) (lines : List Row) (lawful : AreTables t) 
       of false b asked right is = absurd (cc is)
   line_back (rows.Missed m) p is = absurd (cc is)
   line_back (rows.Final f) p is = absurd (cc is)
+  line_back (rows.Activity a) p is = absurd (cc is)
   line_back (rows.Counts c) p is = absurd (cc is)
 
   wrong_fails : (p : Place) → Any (IsWrongLine t.channels (table_order t) lines) lines p →

@@ -1,6 +1,6 @@
 -- Moves in order: those of one owner stand together, and rise by round.
 use Rattle.std.proofs.Common.{◌≡◌, ltb, leb, ℕ, zero, suc, ◌+◌, ◌-◌, ◌*◌, ◌<◌, ◌≤◌, ◌==◌, Bool, true, false, List, [], ◌∷◌, ◌++◌, append_assoc, length, get_or, take, drop, Some, None, Option, refl, sym, ap, ◌∙◌, inl, inr, arith, IsPermutation}
-use Rattle.std.specs.Prelude.{filter, filter_map, flat_map, map, IfSome, option_and_then, ◌&&◌, nat_lt}
+use Rattle.std.specs.Prelude.{filter, filter_map, find, flat_map, map, IfSome, option_and_then, ◌&&◌, nat_lt}
 use Rattle.std.specs.List.{All, AllByRecursion, cons_option, range_with_len}
 use Rattle.std.specs.List.Sorted.{IsNonDecreasingBy, IsPartitionPoint}
 use Rattle.std.proofs.lemmas.Bool.{cases_Bool, eqb-true, ltb-true, ltb-false, leb-true, leb-false, ne_eqb, eq-eqb, and_parts}
@@ -18,7 +18,7 @@ use Rattle.us_output.specs.declared.rows.Row.{Row}
 use Rattle.us_output.specs.declared.rows.Row.TheVariants as rows
 use Rattle.us_lawful.specs.Runs.{is_requested}
 use Rattle.us_credit_rules.specs.declared.moves.Move.{Move}
-use Rattle.us_credit_rules.specs.Seats.{number_of}
+use Rattle.us_credit_rules.specs.Seats.{names}
 use Rattle.us_credit_rules.specs.Moves.{AreMoves, ask_move, asked_moves, cluster_move, credit_move, moves_told, flow_move, order_of, time_of}
 use Rattle.us_credit_rules.specs.Moves.{Rising}
 
@@ -181,6 +181,7 @@ flow_inside rounds (rows.Granted g) = elim (cases_Bool (nat_lt g.id 65536)) [
 ]
 flow_inside rounds (rows.Missed m) = tt
 flow_inside rounds (rows.Final f) = tt
+flow_inside rounds (rows.Activity a) = tt
 flow_inside rounds (rows.Counts c) = tt
 
 all_joined : {Y : Type 0} (P : Y → Type 0) (y : Option Y) (ys : List Y) → IfSome y P → AllByRecursion P ys →
@@ -213,14 +214,15 @@ asks_inside rounds round (ask ∷ asks) inside = (inside, asks_inside rounds rou
 
 cluster_inside : (rounds : ℕ) (turns : List Turn) (line : Row) →
     IfSome (cluster_move rounds turns line) (λ m. m.round < rounds)
-cluster_inside rounds turns (rows.Granted g) = of (number_of g.id g.i turns)
+cluster_inside rounds turns (rows.Granted g) = of (find (names g.id g.i) turns)
   where
-    of : (number : Option ℕ) →
-        IfSome (option_and_then (λ owner. credit_move rounds owner g) number) (λ m. m.round < rounds)
+    of : (found : Option Turn) →
+        IfSome (option_and_then (λ turn. credit_move rounds turn.number g) found) (λ m. m.round < rounds)
     of None = tt
-    of (Some owner) = credit_inside rounds owner g
+    of (Some turn) = credit_inside rounds turn.number g
 cluster_inside rounds turns (rows.Missed m) = tt
 cluster_inside rounds turns (rows.Final f) = tt
+cluster_inside rounds turns (rows.Activity a) = tt
 cluster_inside rounds turns (rows.Counts c) = tt
 
 pub cluster_moves_inside : (v : TraceAsks) (turns : List Turn) (lines : List Row) →

@@ -1,21 +1,21 @@
 -- Clusters that make requests: in table order, one more of a flow, and those of one more flow; and found by what lines
 -- tell.
-use Rattle.std.proofs.Common.{◌≡◌, ℕ, zero, suc, ◌+◌, ◌-◌, ◌*◌, ◌<◌, ◌≤◌, ◌==◌, Bool, true, false, List, [], ◌∷◌, ◌++◌, length, map, get_or, take, drop, Option, Some, None, refl, sym, ap, subst, ◌∙◌, append_assoc, ◌⊎◌, inl, inr, arith, eq-eqb, ne_eqb}
-use Rattle.std.specs.Prelude.{if◌then◌else◌, find, flat_map, option_and_then, option_map, slice_get}
-use Rattle.std.specs.List.{AllByRecursion, list_any, range_with_len}
+use Rattle.std.proofs.Common.{◌≡◌, ℕ, zero, suc, ◌+◌, ◌-◌, ◌*◌, ◌<◌, ◌≤◌, ◌==◌, Bool, true, false, cond, List, [], ◌∷◌, ◌++◌, length, map, get_or, take, drop, Option, Some, None, refl, sym, ap, subst, ◌∙◌, append_assoc, ◌⊎◌, inl, inr, arith, eq-eqb, ne_eqb}
+use Rattle.std.specs.Prelude.{if◌then◌else◌, count_by, find, flat_map, option_and_then, slice_get}
+use Rattle.std.specs.List.{AllByRecursion, list_any}
 use Rattle.std.specs.Option.{option_or, is_some}
 use Rattle.std.proofs.lemmas.Bool.{cases_Bool, cases_eq, and_left, and_right, eqb-true, false≢true, true≢false, false_from_ne_true, and_parts}
 use Rattle.std.proofs.lemmas.List.Elements.{All-from_recursion}
 use Rattle.std.proofs.lemmas.List.{drop-map, drop_more, length-append, length-take-le, take_more}
+use Rattle.std.proofs.lemmas.List.Sums.{sum_by-cons}
 use Rattle.us_flows.specs.Tables.{Tables, FlowTable}
 use Rattle.us_flows.specs.Lawful.{AreTables, IsFlow}
-use Rattle.us_flows.specs.Clusters.{Cluster, Turn, IsTurnIn, clusters_from, clusters_of, makes_requests, requesting, table_order, turns_for, turns_from}
-use Rattle.us_flows.proofs.TurnLaws.{one_number, one_turn, table_order-length, table_order-numbers, table_order-turns}
-use Rattle.us_lawful.proofs.CreditLineLaws.{turn_listed}
-use Rattle.us_lawful.proofs.RoundLemmas.{range_at}
-use Rattle.std.proofs.lemmas.Option.{slice_get-map, slice_get_read}
+use Rattle.us_flows.specs.Clusters.{Cluster, Turn, IsTurnIn, clusters_from, makes_requests, requesting, table_order, turns_for, turns_from, words_in}
+use Rattle.us_flows.proofs.TurnLaws.{one_number, one_turn, table_order-length, table_order-once, table_order-turns}
+use Rattle.us_lawful.proofs.CreditLineLaws.{counted_there, turn_listed}
+use Rattle.std.proofs.lemmas.Option.{slice_get_read}
 use Rattle.us_output.proofs.PartLemmas.{all_both, all_found, all_weaker}
-use Rattle.us_credit_rules.specs.Seats.{AreSeats, code_of, is_number, names, number_from, number_of}
+use Rattle.us_credit_rules.specs.Seats.{AreSeats, code_of, is_number, names, number_from, place_of}
 
 -- what a function gives from a place on
 pub drop_given : {X : Type 0} (f : X → List ℕ) (xs : List X) (i : ℕ) (x : X) → i < length xs → x ≡ get_or xs i x →
@@ -24,37 +24,28 @@ drop_given f xs i x inside is =
     drop-map f i xs ∙ ap (map f) (drop_more xs i x inside ∙ ap (λ y. y ∷ drop (i + 1) xs) (sym is))
     ∙ ap (λ rest. f x ∷ rest) (sym (drop-map f (i + 1) xs))
 
-pub seat_more : (seats : List Turn) (place list : ℕ) (flow : FlowTable) (sids : List ℕ) (turn : Turn) →
+pub seat_more : (seats : List Turn) (place word list : ℕ) (flow : FlowTable) (sids : List ℕ) (turn : Turn) →
     drop list flow.clusters ≡ sids ∷ drop (list + 1) flow.clusters →
-    turn ≡ record { number = length seats; place = place; cluster = record { flow = flow; list = list; sids = sids } } →
-    (seats ++ turn ∷ []) ++ turns_for place (length (seats ++ turn ∷ []))
-    (clusters_from flow (list + 1) (drop (list + 1) flow.clusters))
-    ≡ seats ++ turns_for place (length seats) (clusters_from flow list (drop list flow.clusters))
-seat_more seats place list flow sids turn here is =
+    turn ≡ record { number = word; place = place; cluster = record { flow = flow; list = list; sids = sids } } →
+    (seats ++ turn ∷ []) ++ turns_for place (word + 1) (clusters_from flow (list + 1) (drop (list + 1) flow.clusters))
+    ≡ seats ++ turns_for place word (clusters_from flow list (drop list flow.clusters))
+seat_more seats place word list flow sids turn here is =
     let rest : List Cluster = clusters_from flow (list + 1) (drop (list + 1) flow.clusters) in
-    ap (λ n. (seats ++ turn ∷ []) ++ turns_for place n rest) (length-append seats (turn ∷ []))
-    ∙ append_assoc seats (turn ∷ []) (turns_for place (length seats + 1) rest)
-    ∙ ap (λ t. seats ++ t ∷ turns_for place (length seats + 1) rest) is
-    ∙ ap (λ left. seats ++ turns_for place (length seats) (clusters_from flow list left)) (sym here)
+    append_assoc seats (turn ∷ []) (turns_for place (word + 1) rest)
+    ∙ ap (λ t. seats ++ t ∷ turns_for place (word + 1) rest) is
+    ∙ ap (λ left. seats ++ turns_for place word (clusters_from flow list left)) (sym here)
 
-length-turns : (place number : ℕ) (clusters : List Cluster) → length (turns_for place number clusters) ≡ length clusters
-length-turns place number [] = refl
-length-turns place number (cluster ∷ rest) = ap (λ n. suc n) (length-turns place (number + 1) rest)
-
-pub flow_more : (seats : List Turn) (place : ℕ) (flows : List FlowTable) (flow : FlowTable) → place < length flows →
-    flow ≡ get_or flows place flow →
-    (seats ++ turns_for place (length seats) (requesting flow))
-    ++ turns_from (place + 1) (length (seats ++ turns_for place (length seats) (requesting flow))) (drop (place + 1) flows)
-    ≡ seats ++ turns_from place (length seats) (drop place flows)
-flow_more seats place flows flow inside is =
-    let own : List Turn = turns_for place (length seats) (requesting flow) in
+pub flow_more : (seats : List Turn) (place word words : ℕ) (flows : List FlowTable) (flow : FlowTable) →
+    place < length flows → flow ≡ get_or flows place flow → words ≡ length (words_in flow) →
+    (seats ++ turns_for place word (requesting flow)) ++ turns_from (place + 1) (word + words) (drop (place + 1) flows)
+    ≡ seats ++ turns_from place word (drop place flows)
+flow_more seats place word words flows flow inside is many =
+    let own : List Turn = turns_for place word (requesting flow) in
     let rest : List FlowTable = drop (place + 1) flows in
-    let long : length (seats ++ own) ≡ length seats + length (requesting flow) =
-    length-append seats own ∙ ap (λ n. length seats + n) (length-turns place (length seats) (requesting flow)) in
     let here : flow ∷ rest ≡ drop place flows = ap (λ f. f ∷ rest) is ∙ sym (drop_more flows place flow inside) in
-    ap (λ n. (seats ++ own) ++ turns_from (place + 1) n rest) long
-    ∙ append_assoc seats own (turns_from (place + 1) (length seats + length (requesting flow)) rest)
-    ∙ ap (λ left. seats ++ turns_from place (length seats) left) here
+    ap (λ n. (seats ++ own) ++ turns_from (place + 1) (word + n) rest) many
+    ∙ append_assoc seats own (turns_from (place + 1) (word + length (words_in flow)) rest)
+    ∙ ap (λ left. seats ++ turns_from place word left) here
 
 -- Numbers of items that pass.
 
@@ -150,7 +141,7 @@ number_found p n (y ∷ xs) k found = elim (cases_Bool (p y)) [
 ]
 
 -- of one that is there
-pub number_below : (id list k : ℕ) (turns : List Turn) → number_of id list turns ≡ Some k → k < length turns
+pub number_below : (id list k : ℕ) (turns : List Turn) → place_of id list turns ≡ Some k → k < length turns
 number_below id list k turns found =
     let place = number_found (names id list) 0 turns k found in
     omega (arith, place.2, inside turns place.0 place.1 place.3)
@@ -183,7 +174,7 @@ find_number {X = X} p n (x ∷ xs) = elim (cases_Bool (p x)) [
         ap (λ i. slice_get (x ∷ xs) i) (sym one)
 
 -- so it is found by its number, and none is found where there is none
-pub found_there : (id list k : ℕ) (turns : List Turn) (turn : Turn) → number_of id list turns ≡ Some k →
+pub found_there : (id list k : ℕ) (turns : List Turn) (turn : Turn) → place_of id list turns ≡ Some k →
     turn ≡ get_or turns k turn → find (names id list) turns ≡ Some turn
 found_there id list k turns turn is at =
     let same : k - 0 ≡ k = omega arith in
@@ -191,7 +182,7 @@ found_there id list k turns turn is at =
     ∙ ap (slice_get turns) same
     ∙ slice_get_read turns (length turns) k turn refl (number_below id list k turns is) at
 
-pub found_nowhere : (id list : ℕ) (turns : List Turn) → number_of id list turns ≡ None →
+pub found_nowhere : (id list : ℕ) (turns : List Turn) → place_of id list turns ≡ None →
     find (names id list) turns ≡ None
 found_nowhere id list turns none =
     find_number (names id list) 0 turns ∙ ap (option_and_then (λ k. slice_get turns (k - 0))) none
@@ -221,7 +212,7 @@ code_names id list turn small short = elim (cases_eq id turn.cluster.flow.id) [
 
 -- the number by the code is that by id and place
 pub number_by_code : (id list : ℕ) (turns : List Turn) → list < 2 → AreSeats turns →
-    number_from (λ turn. code_of turn == id * 2 + list) 0 turns ≡ number_of id list turns
+    number_from (λ turn. code_of turn == id * 2 + list) 0 turns ≡ place_of id list turns
 number_by_code id list turns small are =
     sym (number_same (names id list) (λ turn. code_of turn == id * 2 + list) 0 turns
     (all_weaker (λ turn. turn.cluster.list < 2) (λ turn. names id list turn ≡ (code_of turn == id * 2 + list))
@@ -229,7 +220,7 @@ number_by_code id list turns small are =
 
 -- and others have no number
 pub no_number : (id list : ℕ) (turns : List Turn) → (65536 ≤ id) ⊎ (2 ≤ list) → AreSeats turns →
-    number_of id list turns ≡ None
+    place_of id list turns ≡ None
 no_number id list turns past are =
     number_none (names id list) 0 turns
     (all_weaker (λ turn. (turn.cluster.flow.id < 65536) × (turn.cluster.list < 2)) (λ turn. names id list turn ≡ false)
@@ -298,43 +289,111 @@ are_seats t lawful = record {
           clusters_few flows most.1,
         )
 
--- a line names a turn of the tables just where it has the turn's number
-pub named_number : (t : Tables) (turn : Turn) (id list : ℕ) → AreTables t → IsTurnIn t turn →
-    names id list turn ≡ is_number turn.number (number_of id list (table_order t))
-named_number t turn id list lawful known = of (number_of id list (table_order t)) refl
+-- What a line names.
+
+-- an item that passes is counted, and so are those behind it
+counted_first : {X : Type 0} (p : X → Bool) (x : X) (xs : List X) → p x ≡ true → count_by p (x ∷ xs) ≡ 1 + count_by p xs
+counted_first p x xs is =
+    sum_by-cons (λ x. cond (p x) 1 0) x xs ∙ ap (λ b. cond {A = ℕ} b 1 0 + count_by p xs) is
+
+counted_behind : {X : Type 0} (p : X → Bool) (x : X) (xs : List X) → count_by p xs ≤ count_by p (x ∷ xs)
+counted_behind p x xs = omega (arith, sum_by-cons (λ x. cond (p x) 1 0) x xs)
+
+-- what is counted once stands at one place
+one_place : {X : Type 0} (p : X → Bool) (xs : List X) (i j : ℕ) (x y : X) → count_by p xs ≤ 1 →
+    slice_get xs i ≡ Some x → slice_get xs j ≡ Some y → p x ≡ true → p y ≡ true → i ≡ j
+one_place p [] i j x y once at there is too = absurd (cc at)
+one_place p (z ∷ xs) zero zero x y once at there is too = refl
+one_place p (z ∷ xs) zero (suc j) x y once at there is too =
+    let same : z ≡ x = cc at in
+    absurd (omega (arith, once, counted_first p z xs (ap p same ∙ is), counted_there p xs j y there too))
+one_place p (z ∷ xs) (suc i) zero x y once at there is too =
+    let same : z ≡ y = cc there in
+    absurd (omega (arith, once, counted_first p z xs (ap p same ∙ too), counted_there p xs i x at is))
+one_place p (z ∷ xs) (suc i) (suc j) x y once at there is too =
+    ap (λ n. suc n) (one_place p xs i j x y (omega (arith, once, counted_behind p z xs)) at there is too)
+
+-- the turns of tables that a line names are one turn
+pub one_named : (t : Tables) (a b : Turn) (id list : ℕ) → AreTables t → IsTurnIn t a → IsTurnIn t b →
+    names id list a ≡ true → names id list b ≡ true → a ≡ b
+one_named t a b id list lawful known other named too =
+    let its = and_parts (id == a.cluster.flow.id) (list == a.cluster.list) named in
+    let both = and_parts (id == b.cluster.flow.id) (list == b.cluster.list) too in
+    one_turn t a b known other (one_number t a b lawful.flows_apart known other
+    (sym (eqb-true id a.cluster.flow.id its.0) ∙ eqb-true id b.cluster.flow.id both.0)
+    (sym (eqb-true list a.cluster.list its.1) ∙ eqb-true list b.cluster.list both.1))
+
+-- a line names the turn at a place just where that is the place of what it names
+pub named_place : (t : Tables) (turn : Turn) (place id list : ℕ) → AreTables t →
+    slice_get (table_order t) place ≡ Some turn →
+    names id list turn ≡ is_number place (place_of id list (table_order t))
+named_place t turn place id list lawful listed = of (place_of id list (table_order t)) refl
   where
-    listed : slice_get (table_order t) turn.number ≡ Some turn
-    listed = turn_listed t turn known
+    known : IsTurnIn t turn
+    known = all_found (IsTurnIn t) (table_order t) place turn (table_order-turns t) listed
 
-    numbered : (place : ℕ) (other : Turn) → slice_get (table_order t) place ≡ Some other → other.number ≡ place
-    numbered place other at =
-        let told : slice_get (range_with_len 0 (length (clusters_of t))) place ≡ Some other.number =
-        ap (λ numbers. slice_get numbers place) (sym (table_order-numbers t))
-        ∙ slice_get-map (λ (u : Turn). u.number) (table_order t) place
-        ∙ ap (option_map (λ (u : Turn). u.number)) at in
-        omega (arith, range_at 0 (length (clusters_of t)) place other.number told)
-
-    of : (found : Option ℕ) → number_of id list (table_order t) ≡ found → names id list turn ≡ is_number turn.number found
-    of None is = number_missing (names id list) 0 (table_order t) is turn.number turn listed
+    of : (found : Option ℕ) → place_of id list (table_order t) ≡ found → names id list turn ≡ is_number place found
+    of None is = number_missing (names id list) 0 (table_order t) is place turn listed
     of (Some k) is =
-        let place = number_found (names id list) 0 (table_order t) k is in
-        let other : Turn = place.1 in
+        let there = number_found (names id list) 0 (table_order t) k is in
+        let at : there.0 ≡ k = omega (arith, there.2) in
+        let other : Turn = there.1 in
         let of_tables : IsTurnIn t other =
-        all_found (IsTurnIn t) (table_order t) place.0 other (table_order-turns t) place.3 in
-        let number : other.number ≡ k =
-        numbered place.0 other place.3 ∙ sym (place.2 ∙ omega arith) in
-        elim (cases_eq k turn.number) [
+        all_found (IsTurnIn t) (table_order t) there.0 other (table_order-turns t) there.3 in
+        elim (cases_eq k place) [
           | inl same ↦
-              let one : other ≡ turn = one_turn t other turn of_tables known (number ∙ same) in
-              ap (names id list) (sym one) ∙ place.4 ∙ sym (eq-eqb k turn.number same)
+              let found : Some other ≡ Some turn =
+              sym there.3 ∙ ap (slice_get (table_order t)) (at ∙ same) ∙ listed in
+              let one : other ≡ turn = cc found in
+              ap (names id list) (sym one) ∙ there.4 ∙ sym (eq-eqb k place same)
           | inr apart ↦
               false_from_ne_true (names id list turn) (λ named.
-              let both = and_parts (id == turn.cluster.flow.id) (list == turn.cluster.list) named in
-              let its = and_parts (id == other.cluster.flow.id) (list == other.cluster.list) place.4 in
-              apart (sym number ∙ one_number t other turn lawful.flows_apart of_tables known
-              (sym (eqb-true id other.cluster.flow.id its.0) ∙ eqb-true id turn.cluster.flow.id both.0)
-              (sym (eqb-true list other.cluster.list its.1) ∙ eqb-true list turn.cluster.list both.1)))
-              ∙ sym (ne_eqb k turn.number apart)
+              let one : other ≡ turn = one_named t other turn id list lawful of_tables known there.4 named in
+              apart (sym at ∙ one_place (λ (u : Turn). u.number == turn.number) (table_order t) there.0 place other turn
+              (table_order-once t turn.number) there.3 listed
+              (eq-eqb other.number turn.number (ap (λ (u : Turn). u.number) one))
+              (eq-eqb turn.number turn.number refl)))
+              ∙ sym (ne_eqb k place apart)
+        ]
+
+-- the cluster that is found has this word
+abbrev pub has_word : ℕ → Option Turn → Bool
+has_word word None = false
+has_word word (Some turn) = turn.number == word
+
+-- and a turn of the tables just where it has the word of what it names
+pub named_word : (t : Tables) (turn : Turn) (id list : ℕ) → AreTables t → IsTurnIn t turn →
+    names id list turn ≡ has_word turn.number (find (names id list) (table_order t))
+named_word t turn id list lawful known = of (place_of id list (table_order t)) refl
+  where
+    found_at : find (names id list) (table_order t)
+        ≡ option_and_then (λ k. slice_get (table_order t) (k - 0)) (place_of id list (table_order t))
+    found_at = find_number (names id list) 0 (table_order t)
+
+    of : (found : Option ℕ) → place_of id list (table_order t) ≡ found →
+        names id list turn ≡ has_word turn.number (find (names id list) (table_order t))
+    of None is =
+        let listed = turn_listed t turn known in
+        number_missing (names id list) 0 (table_order t) is listed.0 turn listed.1
+        ∙ sym (ap (has_word turn.number) (found_nowhere id list (table_order t) is))
+    of (Some k) is =
+        let there = number_found (names id list) 0 (table_order t) k is in
+        let at : k - 0 ≡ there.0 = omega (arith, there.2) in
+        let other : Turn = there.1 in
+        let of_tables : IsTurnIn t other =
+        all_found (IsTurnIn t) (table_order t) there.0 other (table_order-turns t) there.3 in
+        let found : find (names id list) (table_order t) ≡ Some other =
+        found_at ∙ ap (option_and_then (λ k. slice_get (table_order t) (k - 0))) is
+        ∙ ap (slice_get (table_order t)) at ∙ there.3 in
+        elim (cases_eq other.number turn.number) [
+          | inl same ↦
+              let one : other ≡ turn = one_turn t other turn of_tables known same in
+              ap (names id list) (sym one) ∙ there.4
+              ∙ sym (ap (has_word turn.number) found ∙ eq-eqb other.number turn.number same)
+          | inr apart ↦
+              false_from_ne_true (names id list turn) (λ named.
+              apart (ap (λ (u : Turn). u.number) (one_named t other turn id list lawful of_tables known there.4 named)))
+              ∙ sym (ap (has_word turn.number) found ∙ ne_eqb other.number turn.number apart)
         ]
 
 -- an item of all turns is one of the tables,
@@ -345,10 +404,13 @@ seat_known t turns i turn all inside is =
     (All-from_recursion (IsTurnIn t) turns (subst (AllByRecursion (IsTurnIn t)) (sym all) (table_order-turns t)) i turn
     inside)
 
--- with a number and an id of 16 bits
-pub seat_small : (t : Tables) (turn : Turn) → AreTables t → IsTurnIn t turn →
-    (turn.number < 65536) × (turn.cluster.flow.id < 65536)
-seat_small t turn lawful known = (
-  omega (arith, known.number, table_order-length t, (are_seats t lawful).few),
-  omega (arith, (all_found (IsFlow t) t.flows turn.place turn.cluster.flow lawful.flows known.flow).id.1),
-)
+-- which stands there,
+pub seat_listed : (t : Tables) (turns : List Turn) (i : ℕ) (turn : Turn) → turns ≡ table_order t → i < length turns →
+    turn ≡ get_or turns i turn → slice_get (table_order t) i ≡ Some turn
+seat_listed t turns i turn all inside is =
+    ap (λ these. slice_get these i) (sym all) ∙ slice_get_read turns (length turns) i turn refl inside is
+
+-- and is of a flow with an id of 16 bits
+pub seat_small : (t : Tables) (turn : Turn) → AreTables t → IsTurnIn t turn → turn.cluster.flow.id < 65536
+seat_small t turn lawful known =
+    omega (arith, (all_found (IsFlow t) t.flows turn.place turn.cluster.flow lawful.flows known.flow).id.1)

@@ -9,18 +9,18 @@ use Rattle.us_output.specs.declared.rows.Row.TheVariants as rows
 use Rattle.us_lawful.specs.declared.place.Place.{Place}
 use Rattle.us_lawful.specs.Runs.{is_requested}
 use Rattle.us_lawful.specs.Credits.{has_cost}
-use Rattle.us_credit_rules.specs.Seats.{names, number_of}
+use Rattle.us_credit_rules.specs.Seats.{names, place_of}
 
--- a round, the number of a cluster and a channel as one number; none where no cluster is named, or where the channel is
+-- a round, the place of a cluster and a channel as one number; none where no cluster is named, or where the channel is
 -- none of 8 bits
 abbrev pub key_for : Option ℕ → ℕ → ℕ → Option ℕ
 key_for None round channel = None
-key_for (Some number) round channel =
-    if nat_lt channel 256 then Some (round * 16777216 + number * 256 + channel) else None
+key_for (Some place) round channel =
+    if nat_lt channel 256 then Some (round * 16777216 + place * 256 + channel) else None
 
 -- those of a line: lines with the same round, cluster and channel have the same
 abbrev pub key_of : List Turn → Grant → Option ℕ
-key_of turns g = key_for (number_of g.id g.i turns) g.round g.channel
+key_of turns g = key_for (place_of g.id g.i turns) g.round g.channel
 
 -- of a request's,
 abbrev pub key_told : List Turn → Row → Option ℕ

@@ -1,5 +1,5 @@
 -- F lines, as they are judged: each names a cluster, and each cluster has one.
-use Rattle.std.specs.Prelude.{ℕ, ◌-◌, ◌==◌, ◌&&◌, nat_eq, if◌then◌else◌, Bool, false, List, [], ◌∷◌, filter, slice_index_or, Option, Some, None}
+use Rattle.std.specs.Prelude.{ℕ, ◌-◌, ◌==◌, ◌&&◌, nat_eq, Bool, false, List, [], ◌∷◌, filter, Option}
 use Rattle.std.specs.Option.{is_some, option_eq}
 use Rattle.us_flows.specs.Tables.{FlowTable}
 use Rattle.us_flows.specs.Clusters.{Turn}
@@ -13,29 +13,22 @@ use Rattle.us_breaches.specs.Breaches.{At}
 use Rattle.us_credit_rules.specs.declared.finals.Told.{Told}
 use Rattle.us_credit_rules.specs.declared.finals.Told.TheVariants.{Nothing, Once, Several}
 use Rattle.us_credit_rules.specs.declared.moves.Move.{Move}
+use Rattle.us_credit_rules.specs.Ends.{end_place}
 use Rattle.us_credit_rules.specs.Moves.{asked_of, credited_of}
-use Rattle.us_credit_rules.specs.Seats.{is_number, number_of}
+use Rattle.us_credit_rules.specs.Seats.{is_number, place_of}
 use Rattle.us_credit_rules.specs.Shorts.{level_behind}
-
--- the place of a flow behind the last round
-abbrev pub end_place : ℕ → ℕ → Place
-end_place rounds id = record { round = rounds; channel = 0; third = id }
-
--- a place at which a test has to pass
-abbrev pub unless : Bool → Place → Option Place
-unless holds at = if holds then None else Some at
 
 -- an F line fails that names no cluster
 abbrev pub IsStrange : ℕ → List Turn → FinalState → Place → Type 0
-IsStrange rounds turns f = At (end_place rounds f.flow) (is_some (number_of f.flow f.cluster turns))
+IsStrange rounds turns f = At (end_place rounds f.flow) (is_some (place_of f.flow f.cluster turns))
 
 -- and a cluster fails that has not its own
 abbrev pub IsWrong : Run → List Row → Turn → Place → Type 0
 IsWrong run lines turn = At (end_place run.rounds turn.cluster.flow.id) (final_holds run lines turn)
 
--- an F line names the cluster of a number
+-- an F line names the cluster at a place of the table order
 abbrev pub tells : List Turn → ℕ → FinalState → Bool
-tells turns number f = is_number number (number_of f.flow f.cluster turns)
+tells turns place f = is_number place (place_of f.flow f.cluster turns)
 
 -- what F lines tell of one cluster
 abbrev pub told_by : List FinalState → Told
@@ -49,17 +42,17 @@ told_more f Nothing = Once f
 told_more f _ = Several
 
 abbrev pub told_at : List Turn → List FinalState → ℕ → Told
-told_at turns finals number = told_by (filter (tells turns number) finals)
+told_at turns finals place = told_by (filter (tells turns place) finals)
 
 -- just one tells this
 abbrev pub is_told : ℕ → Option ℕ → Told → Bool
 is_told outstanding units (Once f) = (outstanding == f.outstanding) && option_eq nat_eq units f.units
 is_told outstanding units _ = false
 
--- what moves leave of a cluster,
+-- what moves leave of the cluster with a word,
 abbrev pub cluster_left : List Move → ℕ → ℕ
-cluster_left clusters number =
-    let own : List Move = filter (λ m. m.owner == number) clusters in
+cluster_left clusters word =
+    let own : List Move = filter (λ m. m.owner == word) clusters in
     asked_of own - credited_of own
 
 -- and of the bucket of a flow
@@ -67,8 +60,7 @@ abbrev pub flow_left : ℕ → ℕ → List Move → FlowTable → Option ℕ
 flow_left rounds ticks flows flow =
     units_in (level_behind ticks (rounds - 1) 0 (full flow.rate flow.burst) (filter (λ m. m.owner == flow.id) flows))
 
--- just one tells of a cluster, and tells that
-abbrev pub is_right : ℕ → ℕ → List Move → List Move → List Told → Turn → Bool
+-- what is told of a cluster is that
+abbrev pub is_right : ℕ → ℕ → List Move → List Move → Told → Turn → Bool
 is_right rounds ticks flows clusters told turn =
-    is_told (cluster_left clusters turn.number) (flow_left rounds ticks flows turn.cluster.flow)
-    (slice_index_or told turn.number Nothing)
+    is_told (cluster_left clusters turn.number) (flow_left rounds ticks flows turn.cluster.flow) told

@@ -1,5 +1,5 @@
 -- Read in this order: the clusters that lines name; the bytes that are asked for and credited; which credit a bucket
--- lacks, and which was not asked for; which line of a request isn't right; and which F lines aren't.
+-- lacks, and which was not asked for; which line of a request isn't right; and which F lines and A lines aren't.
 -- In a definition `≡` is equals, `×` and, `→` implies, `∷` one item before a list, `++` one list behind another, and ℕ
 -- has the whole numbers from 0; `-` stops at 0.
 
@@ -13,5 +13,9 @@ pub mod Shorts
 pub mod Sums
 -- lines of requests that aren't right
 pub mod CreditLines
+-- places behind the last round
+pub mod Ends
 -- F lines that aren't right
 pub mod LastLines
+-- and A lines
+pub mod Activities

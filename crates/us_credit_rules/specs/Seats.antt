@@ -1,4 +1,5 @@
--- Clusters that make requests, by the ids of their flows and their places among the flow's clusters.
+-- Clusters that make requests, by the ids of their flows and their places among the flow's clusters. What lines tell of them
+-- goes by their places in table order, and what a trace asks for by their words.
 use Rattle.std.specs.Prelude.{◌≡◌, ℕ, ◌+◌, ◌*◌, ◌<◌, ◌≤◌, ◌==◌, ◌&&◌, Bool, false, if◌then◌else◌, List, [], ◌∷◌, length, slice_index_or, Option, Some, None}
 use Rattle.std.specs.List.{AllByRecursion}
 use Rattle.us_flows.specs.Clusters.{Turn}
@@ -12,16 +13,16 @@ abbrev pub number_from : {X : Type 0} → (X → Bool) → ℕ → List X → Op
 number_from passes n [] = None
 number_from passes n (x ∷ xs) = if passes x then Some n else number_from passes (n + 1) xs
 
--- the number of the cluster that a line names, if it names one
-abbrev pub number_of : ℕ → ℕ → List Turn → Option ℕ
-number_of id list turns = number_from (names id list) 0 turns
+-- the place in table order of the cluster that a line names, if it names one
+abbrev pub place_of : ℕ → ℕ → List Turn → Option ℕ
+place_of id list turns = number_from (names id list) 0 turns
 
 -- a number that was found is this one
 abbrev pub is_number : ℕ → Option ℕ → Bool
 is_number n None = false
 is_number n (Some k) = k == n
 
--- clusters of flows with ids of 16 bits, of which each has two at most, and so many that their numbers have 16 bits
+-- clusters of flows with ids of 16 bits, of which each has two at most, and so many that their places have 16 bits
 pub record AreSeats (turns : List Turn) : Type 0 where
   pub ids : AllByRecursion (λ turn. turn.cluster.flow.id < 65536) turns
   pub lists : AllByRecursion (λ turn. turn.cluster.list < 2) turns
@@ -31,11 +32,11 @@ pub record AreSeats (turns : List Turn) : Type 0 where
 abbrev pub code_of : Turn → ℕ
 code_of turn = turn.cluster.flow.id * 2 + turn.cluster.list
 
--- the numbers of such clusters stand at these
-abbrev pub AreNumbers : List Turn → List (Option ℕ) → Type 0
-AreNumbers turns numbers =
-    (code : ℕ) → slice_index_or numbers code None ≡ number_from (λ turn. code_of turn == code) 0 turns
+-- the places of such clusters stand at these
+abbrev pub ArePlaces : List Turn → List (Option ℕ) → Type 0
+ArePlaces turns places =
+    (code : ℕ) → slice_index_or places code None ≡ number_from (λ turn. code_of turn == code) 0 turns
 
-pub record IsIndex (turns : List Turn) (numbers : List (Option ℕ)) : Type 0 where
+pub record IsIndex (turns : List Turn) (places : List (Option ℕ)) : Type 0 where
   pub seats : AreSeats turns
-  pub found : AreNumbers turns numbers
+  pub found : ArePlaces turns places

@@ -73,7 +73,7 @@ impl<'a> Moves<'a> {
         &self.flows
     }
 
-    /// The moves of clusters, by their numbers.
+    /// The moves of clusters, by their words.
     pub(crate) fn of_clusters(&self) -> &[Move]
         ensures { result.now ≡ self.now.clusters }
     {

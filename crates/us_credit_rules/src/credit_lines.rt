@@ -15,7 +15,7 @@ use us_flows::{Channel, Config};
 use us_lawful::Place;
 use us_round::{EntryWord, Grant, Row};
 
-/// How many keys a round has: one for each number of 16 bits, and channel id of 8.
+/// How many keys a round has: one for each place of 16 bits, and channel id of 8.
 const KEYS_PER_ROUND: u128 = 16_777_216;
 
 /// How many a cluster has in a round: one for each channel.
@@ -82,11 +82,11 @@ fn key_told(seats: &Seats, line: &Row) -> Option<u128>
 fn key_of(seats: &Seats, grant: &Grant) -> Option<u128>
     ensures { result ≡ spec.key_of seats.now grant.now }
 {
-    let number = seats.number(grant.id, grant.i)?;
+    let place = seats.place(grant.id, grant.i)?;
     let channel = u8::try_from(grant.channel).ok()?;
     Some(
         u128::from(grant.round) * KEYS_PER_ROUND
-            + u128::from(number) * KEYS_PER_CLUSTER
+            + u128::from(place) * KEYS_PER_CLUSTER
             + u128::from(channel),
     )
 }

@@ -10,6 +10,7 @@ ghost use Rattle.us_credit_rules.specs.LastLines as spec;
 
 use crate::all_moves::Moves;
 use crate::buckets::{RunTime, units_left};
+use crate::ends::unless;
 use crate::moves::{Move, outstanding, own};
 use crate::seats::{Seat, Seats};
 use std::alloc::{AllocError, Global};
@@ -88,35 +89,21 @@ fn first_strange(
 {
     let mut first = None;
     for state in finals {
-        let known = seats.number(state.flow, state.cluster).is_some();
+        let known = seats.place(state.flow, state.cluster).is_some();
         first = earlier(channels, first, unless(known, rounds, state.flow));
     }
     first
 }
 
-/// The place of a flow behind the last round, where a test has to pass.
-fn unless(holds: bool, rounds: u32, id: u64) -> Option<Place>
-    ensures { result ≡ spec.unless holds (spec.end_place rounds id) }
-{
-    if holds {
-        return None;
-    }
-    Some(Place {
-        round: u64::from(rounds),
-        channel: 0,
-        third: id,
-    })
-}
-
-/// What F lines tell of each cluster, by its number.
+/// What F lines tell of each cluster, by its place in table order.
 fn told_of(alloc: Global, seats: &Seats, finals: &[FinalState]) -> Result<Vec<Told>, AllocError>
     ensures { IfOk result (λ told.
         told.items ≡ map (spec.told_at seats.now finals.now) (range_with_len 0 (length seats.now))) }
 {
     let mut told = nothing_told(alloc, seats.all().len())?;
     for state in finals {
-        if let Some(number) = seats.number(state.flow, state.cluster) {
-            tell(&mut told, usize::from(number), *state);
+        if let Some(place) = seats.place(state.flow, state.cluster) {
+            tell(&mut told, usize::from(place), *state);
         }
     }
     Ok(told)
@@ -127,19 +114,19 @@ fn nothing_told(alloc: Global, count: usize) -> Result<Vec<Told>, AllocError>
     ensures { IfOk result (λ told. told.items ≡ replicate count Told.Nothing) }
 {
     let mut told = Vec::new(alloc);
-    for _number in 0..count {
+    for _place in 0..count {
         told.push(Told::Nothing)?;
     }
     Ok(told)
 }
 
-/// One more F line tells of the cluster with this number.
-fn tell(told: &mut [Told], number: usize, state: FinalState)
-    requires { number < length told.old }
+/// One more F line tells of the cluster at this place.
+fn tell(told: &mut [Told], place: usize, state: FinalState)
+    requires { place < length told.old }
     ensures { told.new ≡
-        slice_set told.old number (spec.told_more state (slice_index_or told.old number Told.Nothing)) }
+        slice_set told.old place (spec.told_more state (slice_index_or told.old place Told.Nothing)) }
 {
-    told[number] = told[number].and(state);
+    told[place] = told[place].and(state);
 }
 
 /// Where a cluster first has not its own F line.
@@ -163,35 +150,37 @@ fn first_wrong(
     };
     let told = told_of(alloc, moves.seats(), finals)?;
     let mut first = None;
-    for seat in moves.seats().all() {
-        let right = is_right(seat, time, moves.of_flows(), moves.of_clusters(), &told);
-        let place = unless(right, time.rounds, u64::from(seat.flow().id()));
-        first = earlier(config.channels(), first, place);
+    for (place, seat) in moves.seats().all().iter().enumerate() {
+        let right = is_right(
+            seat,
+            time,
+            moves.of_flows(),
+            moves.of_clusters(),
+            told[place],
+        );
+        let wrong = unless(right, time.rounds, u64::from(seat.flow().id()));
+        first = earlier(config.channels(), first, wrong);
     }
     Ok(first)
 }
 
-/// Whether just one F line tells of a cluster, and tells what the moves leave of it and of the bucket of its flow.
-fn is_right(seat: &Seat, time: RunTime, flows: &[Move], clusters: &[Move], told: &[Told]) -> bool
+/// Whether what is told of a cluster is what the moves leave of it and of the bucket of its flow, once.
+fn is_right(seat: &Seat, time: RunTime, flows: &[Move], clusters: &[Move], told: Told) -> bool
     requires flows { AreMoves time.rounds flows.now }
     requires clusters { AreMoves time.rounds clusters.now }
-    requires number { seat.now.number < 65536 }
-    requires told { seat.now.number < length told.now }
-    ensures { result ≡
-        spec.is_right time.rounds time.round_ticks flows.now clusters.now told.now seat.now }
+    ensures { result ≡ spec.is_right time.rounds time.round_ticks flows.now clusters.now told seat.now }
 {
-    let number = seat.number();
-    let left = cluster_left(time, clusters, number as u16);
+    let left = cluster_left(time, clusters, seat.word());
     let units = flow_left(time, flows, seat.flow());
-    is_told(told[number], left, units)
+    is_told(told, left, units)
 }
 
-/// The bytes that are outstanding of a cluster behind all rounds.
-fn cluster_left(time: RunTime, clusters: &[Move], number: u16) -> u128
+/// The bytes that are outstanding of the cluster with a word behind all rounds.
+fn cluster_left(time: RunTime, clusters: &[Move], word: u16) -> u128
     requires { AreMoves time.rounds clusters.now }
-    ensures { result ≡ spec.cluster_left clusters.now number }
+    ensures { result ≡ spec.cluster_left clusters.now word }
 {
-    outstanding(own(clusters, number))
+    outstanding(own(clusters, word))
 }
 
 /// The units in the bucket of a flow in the last round.

@@ -41,12 +41,25 @@ mod sums;
 // and the rule of both.
 mod credits;
 
+// Places behind the last round.
+mod ends;
+
 // F lines.
 mod finals;
+
+// Which rounds mark flows as silent or as active,
+mod marks;
+
+// the A lines that they lead to,
+mod talkers;
+
+// and those of a report.
+mod activities;
 
 // The U line.
 mod counts;
 
+pub use activities::activities_breach;
 pub use all_moves::Moves;
 pub use counts::counts_breach;
 pub use credits::credits_breach;

@@ -12,7 +12,7 @@ use us_round::{EntryWord, Grant, Row};
 /// Bytes that are asked for, or credited, in a round.
 #[derive(Clone, Copy)]
 pub(crate) struct Move {
-    /// Whose they are: the id of a flow, or the number of a cluster.
+    /// Whose they are: the id of a flow, or the number of a word.
     pub(crate) owner: u16,
     /// The number of the round.
     pub(crate) round: u32,
@@ -32,8 +32,8 @@ pub(crate) fn flow_moves(alloc: Global, lines: &[Row], rounds: u32) -> Result<Ve
     Ok(all)
 }
 
-/// What clusters ask for in the rounds of a trace, and what lines of requests credit to them, by their numbers, in
-/// order.
+/// What words ask for in the rounds of a trace, and what lines of requests credit to clusters, by their words, in order.
+/// Where a flow is marked as silent or as active, a word asks for a byte that is no cluster's.
 pub(crate) fn cluster_moves(
     alloc: Global,
     seats: &Seats,
@@ -89,7 +89,7 @@ fn flow_moves_told(alloc: Global, lines: &[Row], rounds: u32) -> Result<Vec<Move
     Ok(moves)
 }
 
-/// What clusters ask for in all rounds.
+/// What words ask for in all rounds.
 fn asked_moves(alloc: Global, trace: &Trace) -> Result<Vec<Move>, AllocError>
     ensures { IfOk result (λ moves. moves.items ≡ spec.asked_moves trace.now) }
 {
@@ -100,7 +100,7 @@ fn asked_moves(alloc: Global, trace: &Trace) -> Result<Vec<Move>, AllocError>
     Ok(moves)
 }
 
-/// Puts what clusters ask for in a round behind other moves.
+/// Puts what words ask for in a round behind other moves.
 fn push_round(moves: &mut Vec<Move>, round: u32, asks: &[Ask]) -> Result<(), AllocError>
     ensures { OnOk result (moves.new.items ≡ moves.old.items ++ map (spec.ask_move round) asks.now) }
 {
@@ -133,15 +133,15 @@ fn credited_moves(
     Ok(moves)
 }
 
-/// What a line credits to the cluster that it names.
+/// What a line credits to the cluster that it names, by the cluster's word.
 fn cluster_move(line: &Row, seats: &Seats, rounds: u32) -> Option<Move>
     ensures { result ≡ spec.cluster_move rounds seats.now line.now }
 {
     let Row::Granted(grant) = line else {
         return None;
     };
-    let owner = seats.number(grant.id, grant.i)?;
-    credit_move(grant, owner, rounds)
+    let seat = seats.find(grant.id, grant.i)?;
+    credit_move(grant, seat.word(), rounds)
 }
 
 /// What a line credits to the flow whose id it tells.

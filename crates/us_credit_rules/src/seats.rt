@@ -1,6 +1,7 @@
 ghost use Rattle.std.specs.Prelude.{◌≡◌, ◌≤◌, ◌++◌, ◌==◌, ◌<◌, ℕ, List, Some, None, find, length, if◌then◌else◌, slice_index_or, IfOk, OnOk};
 ghost use Rattle.std.specs.Option.{option_copied};
 ghost use Rattle.us_flows.specs.Lawful.{AreTables};
+ghost use Rattle.us_flows.specs.Ranges.{max_clusters, max_clusters_of_flow};
 ghost use Rattle.us_flows.specs.Clusters.{Turn, requesting, table_order, turns_for};
 ghost use Rattle.us_credit_rules.specs.Seats as spec;
 ghost use Rattle.us_credit_rules.specs.Seats.{AreSeats, IsIndex};
@@ -18,8 +19,8 @@ const LISTS: u64 = 2;
 /// The clusters that make requests, in table order, found by what lines tell of them.
 pub(crate) struct Seats<'a> {
     seats: Vec<Seat<'a>>,
-    // by the id of the flow and the place among its clusters
-    numbers: Vec<Option<u16>>,
+    // in table order, by the id of the flow and the place among its clusters
+    places: Vec<Option<u16>>,
 }
 
 impl<'a> Model for Seats<'a> {
@@ -27,7 +28,7 @@ impl<'a> Model for Seats<'a> {
 
     ghost view = { λ s. s.seats.items };
 
-    ghost invariant = { λ s. IsIndex s.seats.items s.numbers.items };
+    ghost invariant = { λ s. IsIndex s.seats.items s.places.items };
 }
 
 /// Gives them up. It is written out so that it is one step wherever they end.
@@ -35,7 +36,7 @@ impl<'a> Drop for Seats<'a> {
     fn drop(self) {
         let Seats {
             seats: _,
-            numbers: _,
+            places: _,
         } = self;
     }
 }
@@ -46,8 +47,8 @@ impl<'a> Seats<'a> {
         ensures { IfOk result (λ seats. seats ≡ table_order config.now) }
     {
         let seats = seats_of(alloc, config)?;
-        let numbers = numbers_of(alloc, &seats)?;
-        Ok(Seats { seats, numbers })
+        let places = places_of(alloc, &seats)?;
+        Ok(Seats { seats, places })
     }
 
     /// All of them, in table order.
@@ -57,29 +58,29 @@ impl<'a> Seats<'a> {
         &self.seats
     }
 
-    /// The number of the cluster at a place of the flow with an id.
-    pub(crate) fn number(&self, id: u64, list: u64) -> Option<u16>
-        ensures { result ≡ spec.number_of id list self.now }
+    /// The place in table order of the cluster at a place of the flow with an id.
+    pub(crate) fn place(&self, id: u64, list: u64) -> Option<u16>
+        ensures { result ≡ spec.place_of id list self.now }
     {
-        let numbers = &self.numbers;
+        let places = &self.places;
         if id >= IDS || list >= LISTS {
             return None;
         }
-        number_at(numbers, id as u32 * LISTS as u32 + list as u32)
+        place_at(places, id as u32 * LISTS as u32 + list as u32)
     }
 
     /// The cluster at a place of the flow with an id.
     pub(crate) fn find(&self, id: u64, list: u64) -> Option<&Seat<'a>>
         ensures { option_copied result ≡ find (spec.names id list) self.now }
     {
-        let number = self.number(id, list)?;
-        Some(&self.all()[usize::from(number)])
+        let place = self.place(id, list)?;
+        Some(&self.all()[usize::from(place)])
     }
 }
 
 /// A SID cluster that makes requests, where it stands in the tables.
 pub(crate) struct Seat<'a> {
-    number: usize,
+    word: u16,
     place: usize,
     list: usize,
     flow: &'a Flow,
@@ -90,7 +91,7 @@ impl<'a> Model for Seat<'a> {
     ghost Value = { Turn };
 
     ghost view = { λ s. record {
-      number = s.number;
+      number = s.word;
       place = s.place;
       cluster = record { flow = s.flow.now; list = s.list; sids = s.sids.now };
     } };
@@ -99,7 +100,7 @@ impl<'a> Model for Seat<'a> {
 impl<'a> Drop for Seat<'a> {
     fn drop(self) {
         let Seat {
-            number: _,
+            word: _,
             place: _,
             list: _,
             flow: _,
@@ -109,11 +110,11 @@ impl<'a> Drop for Seat<'a> {
 }
 
 impl<'a> Seat<'a> {
-    /// Its number.
-    pub(crate) fn number(&self) -> usize
+    /// The number of its word.
+    pub(crate) fn word(&self) -> u16
         ensures { result ≡ self.now.number }
     {
-        self.number
+        self.word
     }
 
     /// Its place among the clusters of its flow.
@@ -152,24 +153,31 @@ pub(crate) fn seats_of<'a>(alloc: Global, config: &'a Config) -> Result<Vec<Seat
     ensures lawful { AreTables config.now }
 {
     let mut seats = Vec::new(alloc);
+    let mut word = 0;
     for (place, flow) in config.flows().iter().enumerate() {
-        push_seats(&mut seats, place, flow)?;
+        push_seats(&mut seats, place, word, flow)?;
+        word += flow.words() as u16;
     }
     Ok(seats)
 }
 
-/// Puts the clusters of the flow at this place behind those before it.
-fn push_seats<'a>(seats: &mut Vec<Seat<'a>>, place: usize, flow: &'a Flow) -> Result<(), AllocError>
-    ensures { OnOk result (seats.new.items ≡
-        seats.old.items ++ turns_for place (length seats.old.items) (requesting flow.now)) }
+/// Puts the clusters of the flow at this place, whose first word has this number, behind those before it.
+fn push_seats<'a>(
+    seats: &mut Vec<Seat<'a>>,
+    place: usize,
+    word: u16,
+    flow: &'a Flow,
+) -> Result<(), AllocError>
+    requires few_words { word ≤ max_clusters }
+    requires few_clusters { length flow.now.clusters ≤ max_clusters_of_flow }
+    ensures { OnOk result (seats.new.items ≡ seats.old.items ++ turns_for place word (requesting flow.now)) }
 {
     if !flow.kind().makes_requests() {
         return Ok(());
     }
     for (list, sids) in flow.clusters().iter().enumerate() {
-        let number = seats.len();
         seats.push(Seat {
-            number,
+            word: word + list as u16,
             place,
             list,
             flow,
@@ -179,51 +187,51 @@ fn push_seats<'a>(seats: &mut Vec<Seat<'a>>, place: usize, flow: &'a Flow) -> Re
     Ok(())
 }
 
-/// The numbers of clusters, by the ids of their flows and their places.
-fn numbers_of(alloc: Global, seats: &[Seat]) -> Result<Vec<Option<u16>>, AllocError>
+/// The places of clusters in table order, by the ids of their flows and their places there.
+fn places_of(alloc: Global, seats: &[Seat]) -> Result<Vec<Option<u16>>, AllocError>
     requires { AreSeats seats.now }
-    ensures { IfOk result (λ numbers. spec.AreNumbers seats.now numbers.items) }
+    ensures { IfOk result (λ places. spec.ArePlaces seats.now places.items) }
 {
-    let mut numbers = Vec::new(alloc);
-    for (number, seat) in seats.iter().enumerate() {
+    let mut places = Vec::new(alloc);
+    for (place, seat) in seats.iter().enumerate() {
         let code = seat.code();
-        if number_at(&numbers, code).is_none() {
-            put(&mut numbers, code, number as u16)?;
+        if place_at(&places, code).is_none() {
+            put(&mut places, code, place as u16)?;
         }
     }
-    Ok(numbers)
+    Ok(places)
 }
 
-/// The number of this code, if it has one.
-fn number_at(numbers: &[Option<u16>], code: u32) -> Option<u16>
-    ensures { result ≡ slice_index_or numbers.now code None }
+/// The place of this code, if it has one.
+fn place_at(places: &[Option<u16>], code: u32) -> Option<u16>
+    ensures { result ≡ slice_index_or places.now code None }
 {
-    let place = code as usize;
-    if place < numbers.len() {
-        return numbers[place];
+    let at = code as usize;
+    if at < places.len() {
+        return places[at];
     }
     None
 }
 
-/// Gives a code a number.
-fn put(numbers: &mut Vec<Option<u16>>, code: u32, number: u16) -> Result<(), AllocError>
-    ensures { OnOk result ((other : ℕ) → slice_index_or numbers.new.items other None ≡
-        (if code == other then Some number else slice_index_or numbers.old.items other None)) }
+/// Gives a code a place.
+fn put(places: &mut Vec<Option<u16>>, code: u32, place: u16) -> Result<(), AllocError>
+    ensures { OnOk result ((other : ℕ) → slice_index_or places.new.items other None ≡
+        (if code == other then Some place else slice_index_or places.old.items other None)) }
 {
-    let place = code as usize;
-    grow(numbers, place + 1)?;
-    numbers[place] = Some(number);
+    let at = code as usize;
+    grow(places, at + 1)?;
+    places[at] = Some(place);
     Ok(())
 }
 
-/// Makes room for so many codes, which have no numbers.
-fn grow(numbers: &mut Vec<Option<u16>>, count: usize) -> Result<(), AllocError>
+/// Makes room for so many codes, which have no places.
+fn grow(places: &mut Vec<Option<u16>>, count: usize) -> Result<(), AllocError>
     ensures same { OnOk result ((code : ℕ) →
-        slice_index_or numbers.new.items code None ≡ slice_index_or numbers.old.items code None) }
-    ensures long { OnOk result (count ≤ length numbers.new.items) }
+        slice_index_or places.new.items code None ≡ slice_index_or places.old.items code None) }
+    ensures long { OnOk result (count ≤ length places.new.items) }
 {
-    for _code in numbers.len()..count {
-        numbers.push(None)?;
+    for _code in places.len()..count {
+        places.push(None)?;
     }
     Ok(())
 }

@@ -1,4 +1,4 @@
-ghost use Rattle.std.specs.Prelude.{◌≡◌, ◌<◌, false};
+ghost use Rattle.std.specs.Prelude.{◌≡◌, false};
 ghost use Rattle.us_lawful.specs.Runs.{run_in};
 ghost use Rattle.us_lawful.specs.Credits.{sums_hold};
 ghost use Rattle.us_breaches.specs.Breaches.{IsFirstFailure};
@@ -40,11 +40,10 @@ pub(crate) fn first_sum(
 
 /// Where a cluster is first credited more than it asked for.
 fn cluster_sum(rounds: u32, moves: &[Move], seat: &Seat) -> Option<Place>
-    requires moves { AreMoves rounds moves.now }
-    requires number { seat.now.number < 65536 }
+    requires { AreMoves rounds moves.now }
     ensures { result ≡ spec.sum_place moves.now seat.now }
 {
-    let round = overdrawn(own(moves, seat.number() as u16))?;
+    let round = overdrawn(own(moves, seat.word()))?;
     Some(Place {
         round: u64::from(round),
         channel: 0,

@@ -32,6 +32,10 @@ impl<E> CrewFault<E> {
 
 /// Writes a fault as its code and what it says, behind that of an item the item's own fault.
 impl<E: fmt::Display> fmt::Display for CrewFault<E> {
+    ghost use Rattle.us_crew.specs.Codes.{fault_text};
+
+    ghost output = { λ fault. fault_text E.output fault };
+
     fn fmt<W: fmt::Write>(&self, f: &mut fmt::Formatter<W>) -> fmt::Result {
         let code = self.code();
         match self {

@@ -3,6 +3,7 @@
 
 mod answers;
 mod base;
+mod counting;
 mod gates;
 mod kept_answers;
 mod kept_base;

@@ -7,7 +7,7 @@ use Rattle.toml.specs.declared.value.Value.{Value}
 use Rattle.toml.specs.View.{view, items_view}
 use Rattle.us_flows.specs.Ranges.{min_interval_us, max_burst, max_channel_id, max_channels_of_flow, max_clusters_of_flow, max_grant_bytes, max_grants, max_id, max_priority, max_rate, max_unicast_sid, max_unit, max_us}
 use Rattle.us_flows.specs.declared.flows.SchedulingType.{SchedulingType}
-use Rattle.us_flows.specs.declared.flows.SchedulingType.TheVariants.{BestEffort, NonRealTimePolling, RealTimePolling, UnsolicitedGrant}
+use Rattle.us_flows.specs.declared.flows.SchedulingType.TheVariants.{BestEffort, NonRealTimePolling, RealTimePolling, ActivityDetection, UnsolicitedGrant}
 use Rattle.us_flows.specs.Keys.{Key, all_flow_keys, flow_keys}
 use Rattle.us_flows.specs.Lawful.{Between, IsUnit, HasNoGrants, HasNoOthers, HasNoSchedule, MakesNoRequests}
 use Rattle.us_flows.specs.Documents.{number_of, number_at, flag_of, flag_at, items_of, items_at, read_or}
@@ -77,7 +77,7 @@ unit_between (datetime x) h = absurd (false≢true h)
 unit_between (array ds) h = absurd (false≢true h)
 unit_between (table ms) h = absurd (false≢true h)
 
--- the keys of each type; those of both types that are polled are the same
+-- the keys of each type; those of both types that are polled are the same, and those of both with unsolicited grants
 abbrev best_effort_keys : List Key
 best_effort_keys = flow_keys BestEffort
 
@@ -143,6 +143,7 @@ unfolding all_flow_keys
 others_absent t BestEffort r = best_effort_others t r
 others_absent t NonRealTimePolling r = polling_others t r
 others_absent t RealTimePolling r = polling_others t r
+others_absent t ActivityDetection r = unsolicited_others t r
 others_absent t UnsolicitedGrant r = unsolicited_others t r
 
 -- The ranges that all types have.
@@ -278,6 +279,7 @@ abbrev pub KindRanges : Members → SchedulingType → Type 0
 KindRanges t BestEffort = RequestRanges t
 KindRanges t NonRealTimePolling = RequestRanges t × (min_interval_us ≤ number_at (codes "interval_us") t)
 KindRanges t RealTimePolling = RequestRanges t × (min_interval_us ≤ number_at (codes "interval_us") t)
+KindRanges t ActivityDetection = GrantRanges t
 KindRanges t UnsolicitedGrant = GrantRanges t
 
 pub kind_ranges : (t : Members) (kind : SchedulingType) → lacks (flow_keys kind) t ≡ false → strays (flow_keys kind) t ≡
@@ -286,6 +288,7 @@ unfolding all_flow_keys
 kind_ranges t BestEffort w r = best_effort_ranges t w r
 kind_ranges t NonRealTimePolling w r = let all = polling_ranges t w r in (all.0, (all.1, all.2))
 kind_ranges t RealTimePolling w r = let all = polling_ranges t w r in (all.0, (all.1, all.2))
+kind_ranges t ActivityDetection w r = unsolicited_ranges t w r
 kind_ranges t UnsolicitedGrant w r = unsolicited_ranges t w r
 
 pub flow_ranges : (t : Members) → lacks (flow_keys (kind_at t)) t ≡ false → strays (flow_keys (kind_at t)) t ≡ false →

@@ -12,10 +12,13 @@ use Rattle.indexmap.specs.IndexMap.{insert_all}
 use Rattle.us_flows.specs.declared.found.Found.{Found}
 use Rattle.us_flows.specs.declared.found.Found.TheVariants as found
 use Rattle.us_flows.specs.Tables.{FlowTable, sids_of}
-use Rattle.us_flows.specs.Clusters.{Cluster, clusters_from, makes_requests, requesting, has_sid, is_unsolicited, found_among}
+use Rattle.us_flows.specs.Clusters.{Cluster, Word, Requests, Silent, Active, clusters_from, makes_requests, tells_activity, words_in, has_sid, flow_has_sid, is_requested_by, is_activity_of, is_unsolicited, found_among}
+use Rattle.us_flows.specs.declared.flows.SchedulingType.{SchedulingType}
+use Rattle.us_flows.specs.declared.flows.SchedulingType.TheVariants.{BestEffort, NonRealTimePolling, RealTimePolling, ActivityDetection, UnsolicitedGrant}
 use Rattle.us_flows.specs.Checks.{same_sid, repeats, is_taken}
-use Rattle.us_flows.specs.Listed.{asks, asked_from, asked_by, Asked, AreIndexed}
+use Rattle.us_flows.specs.Listed.{asks, asked_from, asked_of, asked_by, Asked, AreIndexed}
 use Rattle.us_flows.proofs.ListedLemmas.{by_id-push}
+use Rattle.us_flows.proofs.WordLemmas.{words_by, few_words}
 use Rattle.us_flows.proofs.SidLemmas.{same_sid-equivalence, list_any-same, lookup-append, is_some-lookup, repeats-append, repeats-behind, not_again, insert-apart}
 
 -- options
@@ -31,7 +34,7 @@ option_map-or f (Some x) b = refl
 
 -- positions
 
-position-append : {X : Type 0} (passes : X → Bool) (i : ℕ) (xs ys : List X) →
+pub position-append : {X : Type 0} (passes : X → Bool) (i : ℕ) (xs ys : List X) →
     position_from passes i (xs ++ ys) ≡ option_or (position_from passes i xs) (position_from passes (i + length xs) ys)
 position-append passes i [] ys = let none : i ≡ i + 0 = omega arith in ap (λ j. position_from passes j ys) none
 position-append passes i (x ∷ xs) ys = elim (cases_Bool (passes x)) [
@@ -42,7 +45,7 @@ position-append passes i (x ∷ xs) ys = elim (cases_Bool (passes x)) [
       (λ j. option_or (position_from passes (i + 1) xs) (position_from passes j ys)) next)
 ]
 
-position-none : {X : Type 0} (passes : X → Bool) (i : ℕ) (xs : List X) → list_any passes xs ≡ false →
+pub position-none : {X : Type 0} (passes : X → Bool) (i : ℕ) (xs : List X) → list_any passes xs ≡ false →
     position_from passes i xs ≡ None
 position-none passes i [] h = refl
 position-none passes i (x ∷ xs) h =
@@ -75,10 +78,10 @@ keys-asked_from what number channels (sids ∷ rest) =
 keys-asked_by : (number : ℕ) (flows : List FlowTable) → keys_of (asked_by number flows) ≡ flat_map sids_of flows
 keys-asked_by number [] = refl
 keys-asked_by number (flow ∷ flows) =
-    let own = keys-asked_from (asks flow.kind) number flow.channels flow.clusters in
-    let more = keys-asked_by (number + length (requesting flow)) flows in
-    map-append (λ entry. entry.0) (asked_from (asks flow.kind) number flow.channels flow.clusters)
-    (asked_by (number + length (requesting flow)) flows) ∙ ap₂ (λ a b. a ++ b) own more
+    let own = keys-asked_from (asks flow.kind number) number flow.channels flow.clusters in
+    let more = keys-asked_by (number + length (words_in flow)) flows in
+    map-append (λ entry. entry.0) (asked_of number flow) (asked_by (number + length (words_in flow)) flows) ∙ ap₂
+    (λ a b. a ++ b) own more
 
 -- a cluster has a SID where the index has it
 
@@ -126,98 +129,204 @@ sids-clusters channel sid flow list (sids ∷ rest) =
     let both = list_any-append (same_sid (channel, sid)) pairs (flat_map (λ sids. zip flow.channels sids) rest) in
     both ∙ ap₂ (λ a b. a || b) (has_sid-is channel sid pairs) (sids-clusters channel sid flow (list + 1) rest)
 
-none_requesting : (channel sid number : ℕ) (flows : List FlowTable) →
+-- the words by which a SID is told
+
+position-requests : (channel sid number : ℕ) (cs : List Cluster) →
+    position_from (is_requested_by channel sid) number (map Requests cs) ≡ position_from (has_sid channel sid) number cs
+position-requests channel sid number [] = refl
+position-requests channel sid number (c ∷ cs) =
+    ap (λ rest. if has_sid channel sid c then Some number else rest) (position-requests channel sid (number + 1) cs)
+
+requested-any : (channel sid : ℕ) (cs : List Cluster) →
+    list_any (is_requested_by channel sid) (map Requests cs) ≡ list_any (has_sid channel sid) cs
+requested-any channel sid [] = refl
+requested-any channel sid (c ∷ cs) = ap (λ b. has_sid channel sid c || b) (requested-any channel sid cs)
+
+pub no_activity : (channel sid : ℕ) (cs : List Cluster) → list_any (is_activity_of channel sid) (map Requests cs) ≡ false
+no_activity channel sid [] = refl
+no_activity channel sid (c ∷ cs) = no_activity channel sid cs
+
+-- a flow without the SID has no such word
+record NoWord (channel sid : ℕ) (words : List Word) : Type 0 where
+  pub requests : list_any (is_requested_by channel sid) words ≡ false
+  pub activity : list_any (is_activity_of channel sid) words ≡ false
+
+own_words : (channel sid : ℕ) (flow : FlowTable) → flow_has_sid channel sid flow ≡ false →
+    NoWord channel sid (words_in flow)
+own_words channel sid flow h = by flow.kind
+  where
+    requested : NoWord channel sid (map Requests (clusters_from flow 0 flow.clusters))
+    requested = record {
+      requests = requested-any channel sid (clusters_from flow 0 flow.clusters) ∙ h;
+      activity = no_activity channel sid (clusters_from flow 0 flow.clusters);
+    }
+
+    by : (kind : SchedulingType) → NoWord channel sid (words_by flow kind (clusters_from flow 0 flow.clusters))
+    by BestEffort = requested
+    by NonRealTimePolling = requested
+    by RealTimePolling = requested
+    by ActivityDetection = record { requests = refl; activity = rw h refl }
+    by UnsolicitedGrant = record { requests = refl; activity = refl }
+
+none_told : (channel sid : ℕ) (flows : List FlowTable) →
     list_any (same_sid (channel, sid)) (flat_map sids_of flows) ≡ false →
-    position_from (has_sid channel sid) number (flat_map requesting flows) ≡ None
-none_requesting channel sid number [] h = refl
-none_requesting channel sid number (flow ∷ flows) h =
+    NoWord channel sid (flat_map words_in flows)
+none_told channel sid [] h = record { requests = refl; activity = refl }
+none_told channel sid (flow ∷ flows) h =
+    let both = list_any-append (same_sid (channel, sid)) (sids_of flow) (flat_map sids_of flows) in
+    let parts = or_parts (list_any (same_sid (channel, sid)) (sids_of flow))
+    (list_any (same_sid (channel, sid)) (flat_map sids_of flows)) (sym both ∙ h) in
+    let own = own_words channel sid flow (sym (sids-clusters channel sid flow 0 flow.clusters) ∙ parts.0) in
+    let rest = none_told channel sid flows parts.1 in
+    record {
+      requests = list_any-append (is_requested_by channel sid) (words_in flow) (flat_map words_in flows) ∙ ap₂
+          (λ a b. a || b) own.requests rest.requests;
+      activity = list_any-append (is_activity_of channel sid) (words_in flow) (flat_map words_in flows) ∙ ap₂
+          (λ a b. a || b) own.activity rest.activity;
+    }
+
+-- nor is it one with grants at all times
+none_free : (channel sid : ℕ) (flows : List FlowTable) →
+    list_any (same_sid (channel, sid)) (flat_map sids_of flows) ≡ false →
+    list_any (is_unsolicited channel sid) flows ≡ false
+none_free channel sid [] h = refl
+none_free channel sid (flow ∷ flows) h =
     let both = list_any-append (same_sid (channel, sid)) (sids_of flow) (flat_map sids_of flows) in
     let parts = or_parts (list_any (same_sid (channel, sid)) (sids_of flow))
     (list_any (same_sid (channel, sid)) (flat_map sids_of flows)) (sym both ∙ h) in
     let own = sym (sids-clusters channel sid flow 0 flow.clusters) ∙ parts.0 in
-    let first : position_from (has_sid channel sid) number (requesting flow) ≡ None =
-    none_own (makes_requests flow.kind) (clusters_from flow 0 flow.clusters) own in
-    let rest = none_requesting channel sid (number + length (requesting flow)) flows parts.1 in
-    position-append (has_sid channel sid) number (requesting flow) (flat_map requesting flows) ∙ ap₂
-    (λ a b. option_or a b) first rest
+    let free : Bool = not (makes_requests flow.kind) && not (tells_activity flow.kind) in
+    let here : is_unsolicited channel sid flow ≡ false = ap (λ b. free && b) own ∙ and-false free in
+    ap₂ (λ a b. a || b) here (none_free channel sid flows parts.1)
   where
-    none_own : (b : Bool) (clusters : List Cluster) → list_any (has_sid channel sid) clusters ≡ false →
-        position_from (has_sid channel sid) number (if b then clusters else []) ≡ None
-    none_own true clusters h = position-none (has_sid channel sid) number clusters h
-    none_own false clusters h = refl
+    and-false : (b : Bool) → (b && false) ≡ false
+    and-false true = refl
+    and-false false = refl
 
 -- what is looked up
 
 abbrev unsolicited : Bool → Option Found
 unsolicited b = if b then Some found.Unsolicited else None
 
--- the number of the first cluster that has it among flows, from a number on
+-- among words and flows, where the first word has this number
+abbrev found_in : ℕ → ℕ → ℕ → List Word → Bool → Option Found
+found_in channel sid number words free =
+    option_or (option_map found.Cluster (position_from (is_requested_by channel sid) number words))
+    (option_or (option_map found.Activity (position_from (is_activity_of channel sid) number words)) (unsolicited free))
+
 abbrev found_from : ℕ → ℕ → ℕ → List FlowTable → Option Found
 found_from channel sid number flows =
-    option_or (option_map found.Cluster (position_from (has_sid channel sid) number (flat_map requesting flows)))
-    (unsolicited (list_any (is_unsolicited channel sid) flows))
+    found_in channel sid number (flat_map words_in flows) (list_any (is_unsolicited channel sid) flows)
 
--- one flow before others, by whether it makes requests
-one_flow : (channel sid number : ℕ) (flows : List FlowTable) (requests : Bool) (clusters : List Cluster) →
-    (list_any (has_sid channel sid) clusters ≡ true →
-    position_from (has_sid channel sid) number (flat_map requesting flows) ≡ None) →
+-- one flow before others, by its type
+module _ (channel sid number : ℕ) (words : List Word) (free : Bool) where
+  -- where the SID is none of the others'
+  record AreOthers : Type 0 where
+    pub told : NoWord channel sid words
+    pub granted : free ≡ false
+
+  requesting_flow : (clusters : List Cluster) →
+      option_or (option_map found.Cluster (position_from (has_sid channel sid) number clusters))
+      (found_in channel sid (number + length (map Requests clusters)) words free) ≡
+      found_in channel sid number (map Requests clusters ++ words) free
+  requesting_flow clusters =
+      let behind : ℕ = number + length (map Requests clusters) in
+      let here : Option ℕ = position_from (has_sid channel sid) number clusters in
+      let there : Option ℕ = position_from (is_requested_by channel sid) behind words in
+      let told : Option ℕ = position_from (is_activity_of channel sid) behind words in
+      let other : Option Found = option_or (option_map found.Activity told) (unsolicited free) in
+      let requests : position_from (is_requested_by channel sid) number (map Requests clusters ++ words) ≡
+      option_or here there = position-append (is_requested_by channel sid) number (map Requests clusters) words ∙ ap
+      (λ o. option_or o there) (position-requests channel sid number clusters) in
+      let activity : position_from (is_activity_of channel sid) number (map Requests clusters ++ words) ≡ told =
+      position-append (is_activity_of channel sid) number (map Requests clusters) words ∙ ap (λ o. option_or o told)
+      (position-none (is_activity_of channel sid) number (map Requests clusters) (no_activity channel sid clusters)) in
+      sym (ap₂ (λ a b. option_or (option_map found.Cluster a) (option_or (option_map found.Activity b) (unsolicited free)))
+      requests activity ∙ ap (λ o. option_or o other) (option_map-or found.Cluster here there) ∙
+      option_or-assoc (option_map found.Cluster here) (option_map found.Cluster there) other)
+
+  activity_flow : (flow : FlowTable) (here : Option ℕ) → flow_has_sid channel sid flow ≡ is_some here →
+      (flow_has_sid channel sid flow ≡ true → AreOthers) →
+      option_or (option_map (λ n. found.Activity number) here) (found_in channel sid (number + 2) words free) ≡
+      found_in channel sid number (Silent flow ∷ Active flow ∷ words) free
+  activity_flow flow None is others =
+      let next : number + 2 ≡ number + 1 + 1 = omega arith in
+      rw is (ap (λ n. found_in channel sid n words free) next)
+  activity_flow flow (Some n) is others =
+      rw (is, position-none (is_requested_by channel sid) (number + 1 + 1) words (others is).told.requests) refl
+
+  free_flow : (has : Bool) (here : Option ℕ) → has ≡ is_some here → (has ≡ true → AreOthers) →
+      option_or (option_map (λ n. found.Unsolicited) here) (found_in channel sid (number + 0) words free) ≡
+      found_in channel sid number words (has || free)
+  free_flow true None is others = let no : true ≡ false = is in cc
+  free_flow false None is others =
+      let same : number + 0 ≡ number = omega arith in ap (λ n. found_in channel sid n words free) same
+  free_flow false (Some n) is others = let no : false ≡ true = is in cc
+  free_flow true (Some n) is others =
+      rw (
+        position-none (is_requested_by channel sid) number words (others refl).told.requests,
+        position-none (is_activity_of channel sid) number words (others refl).told.activity,
+      ) refl
+
+one_flow : (channel sid number : ℕ) (flow : FlowTable) (flows : List FlowTable) →
+    (flow_has_sid channel sid flow ≡ true →
+    AreOthers channel sid number (flat_map words_in flows) (list_any (is_unsolicited channel sid) flows)) →
     option_or
-    (option_map (λ n. if requests then found.Cluster n else found.Unsolicited)
-    (position_from (has_sid channel sid) number clusters))
-    (found_from channel sid (number + length (if requests then clusters else [])) flows) ≡
-    option_or
-    (option_map found.Cluster
-    (position_from (has_sid channel sid) number ((if requests then clusters else []) ++ flat_map requesting flows)))
-    (unsolicited ((not requests && list_any (has_sid channel sid) clusters) ||
-    list_any (is_unsolicited channel sid) flows))
-one_flow channel sid number flows true clusters none =
-    let rest : List Cluster = flat_map requesting flows in
-    let both = position-append (has_sid channel sid) number clusters rest in
-    let here : Option ℕ = position_from (has_sid channel sid) number clusters in
-    let there : Option ℕ = position_from (has_sid channel sid) (number + length clusters) rest in
-    let other : Option Found = unsolicited (list_any (is_unsolicited channel sid) flows) in
-    sym (ap (λ o. option_or (option_map found.Cluster o) other) both ∙ ap (λ o. option_or o other)
-    (option_map-or found.Cluster here there) ∙ option_or-assoc (option_map found.Cluster here)
-    (option_map found.Cluster there) other)
-one_flow channel sid number flows false clusters none =
-    by (position_from (has_sid channel sid) number clusters) (list_any (has_sid channel sid) clusters)
-    (position-some (has_sid channel sid) number clusters) none
+    (option_map (asks flow.kind number)
+    (position_from (has_sid channel sid) number (clusters_from flow 0 flow.clusters)))
+    (found_from channel sid (number + length (words_in flow)) flows) ≡
+    found_from channel sid number (flow ∷ flows)
+one_flow channel sid number flow flows others = by flow.kind
   where
-    by : (here : Option ℕ) (has : Bool) → has ≡ is_some here →
-        (has ≡ true → position_from (has_sid channel sid) number (flat_map requesting flows) ≡ None) →
-        option_or (option_map (λ n. found.Unsolicited) here) (found_from channel sid (number + 0) flows) ≡
-        option_or
-        (option_map found.Cluster (position_from (has_sid channel sid) number (flat_map requesting flows)))
-        (unsolicited (has || list_any (is_unsolicited channel sid) flows))
-    by None true is none = let no : true ≡ false = is in cc
-    by None false is none =
-        let same : number + 0 ≡ number = omega arith in ap (λ n. found_from channel sid n flows) same
-    by (Some n) false is none = let no : false ≡ true = is in cc
-    by (Some n) true is none =
-        sym (ap (λ o. option_or (option_map found.Cluster o) (Some found.Unsolicited)) (none refl))
+    clusters : List Cluster
+    clusters = clusters_from flow 0 flow.clusters
+
+    here : Option ℕ
+    here = position_from (has_sid channel sid) number clusters
+
+    words : List Word
+    words = flat_map words_in flows
+
+    free : Bool
+    free = list_any (is_unsolicited channel sid) flows
+
+    by : (kind : SchedulingType) →
+        option_or (option_map (asks kind number) here)
+        (found_in channel sid (number + length (words_by flow kind clusters)) words free) ≡
+        found_in channel sid number (words_by flow kind clusters ++ words)
+        (((not (makes_requests kind) && not (tells_activity kind)) && flow_has_sid channel sid flow) || free)
+    by BestEffort = requesting_flow channel sid number words free clusters
+    by NonRealTimePolling = requesting_flow channel sid number words free clusters
+    by RealTimePolling = requesting_flow channel sid number words free clusters
+    by ActivityDetection =
+        activity_flow channel sid number words free flow here (position-some (has_sid channel sid) number clusters) others
+    by UnsolicitedGrant =
+        free_flow channel sid number words free (flow_has_sid channel sid flow) here
+        (position-some (has_sid channel sid) number clusters) others
 
 lookup-from : (channel sid number : ℕ) (flows : List FlowTable) → repeats same_sid (flat_map sids_of flows) ≡ false →
     lookup (same_sid (channel, sid)) (asked_by number flows) ≡ found_from channel sid number flows
 lookup-from channel sid number [] apart = refl
 lookup-from channel sid number (flow ∷ flows) apart =
     let key : ℕ × ℕ = (channel, sid) in
-    let both = lookup-append (same_sid key) (asked_from (asks flow.kind) number flow.channels flow.clusters)
-    (asked_by (number + length (requesting flow)) flows) in
-    let own = lookup-clusters channel sid (asks flow.kind) flow number 0 flow.clusters in
+    let next : ℕ = number + length (words_in flow) in
+    let both = lookup-append (same_sid key) (asked_of number flow) (asked_by next flows) in
+    let own = lookup-clusters channel sid (asks flow.kind number) flow number 0 flow.clusters in
     let behind = repeats-behind same_sid same_sid-equivalence (sids_of flow) (flat_map sids_of flows) apart in
-    let rest = lookup-from channel sid (number + length (requesting flow)) flows behind in
-    both ∙ ap₂ (λ a b. option_or a b) own rest ∙ one_flow channel sid number flows (makes_requests flow.kind)
-    (clusters_from flow 0 flow.clusters) (λ has.
-    none_requesting channel sid number flows
-    (not_again same_sid same_sid-equivalence (sids_of flow) (flat_map sids_of flows) key apart
-    (sids-clusters channel sid flow 0 flow.clusters ∙ has)))
+    both ∙ ap₂ (λ a b. option_or a b) own (lookup-from channel sid next flows behind) ∙
+    one_flow channel sid number flow flows (λ has.
+    let none = not_again same_sid same_sid-equivalence (sids_of flow) (flat_map sids_of flows) key apart
+    (sids-clusters channel sid flow 0 flow.clusters ∙ has) in
+    record { told = none_told channel sid flows none; granted = none_free channel sid flows none })
 
 pub lookup-asked : (channel sid : ℕ) (flows : List FlowTable) → repeats same_sid (flat_map sids_of flows) ≡ false →
     lookup (same_sid (channel, sid)) (asked_by 0 flows) ≡ found_among flows channel sid
 lookup-asked channel sid flows apart =
-    lookup-from channel sid 0 flows apart ∙ sym (ap
-    (λ o. option_or (option_map found.Cluster o) (unsolicited (list_any (is_unsolicited channel sid) flows)))
-    (position_from-zero (has_sid channel sid) (flat_map requesting flows)))
+    lookup-from channel sid 0 flows apart ∙ sym (ap₂
+    (λ a b. option_or (option_map found.Cluster a)
+    (option_or (option_map found.Activity b) (unsolicited (list_any (is_unsolicited channel sid) flows))))
+    (position_from-zero (is_requested_by channel sid) (flat_map words_in flows))
+    (position_from-zero (is_activity_of channel sid) (flat_map words_in flows)))
 
 pub taken-asked : (channel sid : ℕ) (flows : List FlowTable) →
     is_some (lookup (same_sid (channel, sid)) (asked_by 0 flows)) ≡ is_taken flows (channel, sid)
@@ -229,80 +338,55 @@ taken-asked channel sid flows =
 
 asked_by-push : (number : ℕ) (flows : List FlowTable) (flow : FlowTable) →
     asked_by number (flows ++ flow ∷ []) ≡
-    asked_by number flows ++
-    asked_from (asks flow.kind) (number + length (flat_map requesting flows)) flow.channels flow.clusters
+    asked_by number flows ++ asked_of (number + length (flat_map words_in flows)) flow
 asked_by-push number [] flow =
     let same : number ≡ number + 0 = omega arith in
-    append-nil (asked_from (asks flow.kind) number flow.channels flow.clusters) ∙ ap
-    (λ n. asked_from (asks flow.kind) n flow.channels flow.clusters) same
+    append-nil (asked_of number flow) ∙ ap (λ n. asked_of n flow) same
 asked_by-push number (first ∷ flows) flow =
-    let own : List Asked = asked_from (asks first.kind) number first.channels first.clusters in
-    let rest : List Asked = asked_by (number + length (requesting first)) flows in
-    let lengths = length-append (requesting first) (flat_map requesting flows) in
-    let count : number + length (requesting first) + length (flat_map requesting flows) ≡
-    number + length (flat_map requesting (first ∷ flows)) = omega (arith, lengths) in
-    let more = asked_by-push (number + length (requesting first)) flows flow ∙ ap
-    (λ n. rest ++ asked_from (asks flow.kind) n flow.channels flow.clusters) count in
+    let own : List Asked = asked_of number first in
+    let rest : List Asked = asked_by (number + length (words_in first)) flows in
+    let lengths = length-append (words_in first) (flat_map words_in flows) in
+    let count : number + length (words_in first) + length (flat_map words_in flows) ≡
+    number + length (flat_map words_in (first ∷ flows)) = omega (arith, lengths) in
+    let more = asked_by-push (number + length (words_in first)) flows flow ∙ ap (λ n. rest ++ asked_of n flow) count in
     ap (λ entries. own ++ entries) more ∙ sym (append_assoc own rest
-    (asked_from (asks flow.kind) (number + length (flat_map requesting (first ∷ flows))) flow.channels flow.clusters))
-
-length-clusters_from : (flow : FlowTable) (list : ℕ) (clusters : List (List ℕ)) →
-    length (clusters_from flow list clusters) ≡ length clusters
-length-clusters_from flow list [] = refl
-length-clusters_from flow list (sids ∷ rest) = omega (arith, length-clusters_from flow (list + 1) rest)
-
-pub all_requesting : (flow : FlowTable) → makes_requests flow.kind ≡ true →
-    length (requesting flow) ≡ length flow.clusters
-all_requesting flow requests =
-    ap (λ b. length (if b then clusters_from flow 0 flow.clusters else [])) requests ∙
-    length-clusters_from flow 0 flow.clusters
-
-pub none_requested : (flow : FlowTable) → makes_requests flow.kind ≡ false → length (requesting flow) ≡ 0
-none_requested flow unsolicited =
-    ap (λ b. length (if b then clusters_from flow 0 flow.clusters else [])) unsolicited
-
-few_requesting : (flow : FlowTable) → length flow.clusters ≤ 2 → length (requesting flow) ≤ 2
-few_requesting flow few = by (makes_requests flow.kind)
-  where
-    by : (b : Bool) → length (if b then clusters_from flow 0 flow.clusters else []) ≤ 2
-    by true = omega (arith, length-clusters_from flow 0 flow.clusters, few)
-    by false = omega arith
+    (asked_of (number + length (flat_map words_in (first ∷ flows))) flow))
 
 module _ (entries : List (ℕ × FlowTable)) (index : List Asked) (count : ℕ) (are : AreIndexed entries index count)
     (flow : FlowTable) where
   pub index-push : list_any (is_taken (values_of entries)) (sids_of flow) ≡ false →
       repeats same_sid (sids_of flow) ≡ false → length flow.clusters ≤ 2 →
-      AreIndexed (entries ++ (flow.id, flow) ∷ [])
-      (insert_all same_sid index (asked_from (asks flow.kind) count flow.channels flow.clusters))
-      (count + length (requesting flow))
+      AreIndexed (entries ++ (flow.id, flow) ∷ []) (insert_all same_sid index (asked_of count flow))
+      (count + length (words_in flow))
   index-push new apart two =
       let flows : List FlowTable = values_of entries in
-      let own : List Asked = asked_from (asks flow.kind) count flow.channels flow.clusters in
+      let own : List Asked = asked_of count flow in
       let values : values_of (entries ++ (flow.id, flow) ∷ []) ≡ flows ++ flow ∷ [] =
       map-append (λ entry. entry.1) entries ((flow.id, flow) ∷ []) in
       let keys : keys_of index ≡ flat_map sids_of flows = ap keys_of are.sids ∙ keys-asked_by 0 flows in
-      let own_keys : keys_of own ≡ sids_of flow = keys-asked_from (asks flow.kind) count flow.channels flow.clusters in
+      let own_keys : keys_of own ≡ sids_of flow =
+      keys-asked_from (asks flow.kind count) count flow.channels flow.clusters in
       let all_apart = repeats-append same_sid same_sid-equivalence (flat_map sids_of flows) (sids_of flow) are.apart
       new apart in
       let more : flat_map sids_of (flows ++ flow ∷ []) ≡ flat_map sids_of flows ++ sids_of flow =
       flat_map-append sids_of flows (flow ∷ []) ∙ ap (λ sids. flat_map sids_of flows ++ sids)
       (append-nil (sids_of flow)) in
-      let clusters : flat_map requesting (flows ++ flow ∷ []) ≡ flat_map requesting flows ++ requesting flow =
-      flat_map-append requesting flows (flow ∷ []) ∙ ap (λ rest. flat_map requesting flows ++ rest)
-      (append-nil (requesting flow)) in
+      let words : flat_map words_in (flows ++ flow ∷ []) ≡ flat_map words_in flows ++ words_in flow =
+      flat_map-append words_in flows (flow ∷ []) ∙ ap (λ rest. flat_map words_in flows ++ rest)
+      (append-nil (words_in flow)) in
       let inserted = insert-apart same_sid same_sid-equivalence index own
       (ap (repeats same_sid) (ap₂ (λ a b. a ++ b) keys own_keys) ∙ all_apart) in
-      let counted = length-append (flat_map requesting flows) (requesting flow) in
+      let counted = length-append (flat_map words_in flows) (words_in flow) in
       let lengths = length-append flows (flow ∷ []) in
-      let before : count ≡ 0 + length (flat_map requesting flows) = omega (arith, are.clusters) in
+      let before : count ≡ 0 + length (flat_map words_in flows) = omega (arith, are.words) in
       record {
         flows = by_id-push (λ f. f.id) entries are.flows flow;
         sids =
-            inserted ∙ ap₂ (λ a n. a ++ asked_from (asks flow.kind) n flow.channels flow.clusters) are.sids
-            before ∙ sym (asked_by-push 0 flows flow) ∙ ap (asked_by 0) (sym values);
+            inserted ∙ ap₂ (λ a n. a ++ asked_of n flow) are.sids before ∙ sym (asked_by-push 0 flows flow) ∙ ap
+            (asked_by 0) (sym values);
         apart = ap (λ fs. repeats same_sid (flat_map sids_of fs)) values ∙ ap (repeats same_sid) more ∙ all_apart;
-        clusters =
-            ap (λ n. n + length (requesting flow)) are.clusters ∙ sym counted ∙ ap length (sym clusters) ∙ ap
-            (λ fs. length (flat_map requesting fs)) (sym values);
-        few = omega (arith, are.few, few_requesting flow two, lengths, ap length values);
+        words =
+            ap (λ n. n + length (words_in flow)) are.words ∙ sym counted ∙ ap length (sym words) ∙ ap
+            (λ fs. length (flat_map words_in fs)) (sym values);
+        few = omega (arith, are.few, few_words flow two, lengths, ap length values);
       }

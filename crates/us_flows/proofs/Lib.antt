@@ -9,11 +9,13 @@ pub mod ApartLemmas
 pub mod JudgedLemmas
 pub mod TableLemmas
 pub mod ListedLemmas
+pub mod WordLemmas
 pub mod SidLemmas
 pub mod IndexLemmas
 pub mod RankLemmas
 pub mod TurnLemmas
 pub mod KeyLaws
 pub mod TurnLaws
+pub mod WordLaws
 pub mod OrderLemmas
 pub mod CopyLemmas

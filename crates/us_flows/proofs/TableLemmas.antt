@@ -1,8 +1,8 @@
 -- A document without a fault writes lawful tables.
-use Rattle.std.proofs.Common.{◌≡◌, ℕ, zero, suc, ◌+◌, ◌*◌, ◌/◌, ◌%◌, ◌^◌, ◌<◌, ◌≤◌, ◌==◌, nat_eq, nat_lt, nat_le, Bool, true, false, not, ◌&&◌, List, [], ◌∷◌, ◌++◌, length, map, flat_map, codes, Option, Some, None, append_assoc, refl, sym, subst, ◌∙◌, ap, arith, inl, inr}
+use Rattle.std.proofs.Common.{◌≡◌, ℕ, zero, suc, ◌+◌, ◌*◌, ◌/◌, ◌%◌, ◌^◌, ◌<◌, ◌≤◌, ◌==◌, max, nat_eq, nat_lt, nat_le, Bool, true, false, not, ◌&&◌, List, [], ◌∷◌, ◌++◌, length, map, flat_map, codes, Option, Some, None, append_assoc, refl, sym, subst, ◌∙◌, ap, arith, inl, inr}
 use Rattle.std.specs.Prelude.{Err, is_some, option_and_then, slice_get}
 use Rattle.std.specs.List.{AllByRecursion, list_all, list_any}
-use Rattle.std.proofs.lemmas.Bool.{cases_Bool, and_parts, or_parts, eqb-true, lt-ltb, ltb-false, leb-false, not-false, false≢true}
+use Rattle.std.proofs.lemmas.Bool.{cases_Bool, and_parts, or_parts, eqb-true, lt-ltb, le-ltb, ltb-false, leb-false, not-false, false≢true}
 use Rattle.std.proofs.Math.Nat.{div-le_self}
 use Rattle.std.proofs.lemmas.Nat.{div-add-mod'}
 use Rattle.std.proofs.lemmas.List.{append-nil}
@@ -14,14 +14,14 @@ use Rattle.us_flows.specs.Ranges.{min_interval_us, max_channels, max_flows, max_
 use Rattle.us_flows.specs.declared.channels.Channel.{Channel}
 use Rattle.us_flows.specs.declared.stations.Station.{Station}
 use Rattle.us_flows.specs.declared.flows.SchedulingType.{SchedulingType}
-use Rattle.us_flows.specs.declared.flows.SchedulingType.TheVariants.{BestEffort, NonRealTimePolling, RealTimePolling, UnsolicitedGrant}
+use Rattle.us_flows.specs.declared.flows.SchedulingType.TheVariants.{BestEffort, NonRealTimePolling, RealTimePolling, ActivityDetection, UnsolicitedGrant}
 use Rattle.us_flows.specs.declared.faults.Place.{Place}
 use Rattle.us_flows.specs.declared.faults.TableName.TheVariants as name
 use Rattle.us_flows.specs.declared.faults.ConfigFault.{ConfigFault}
 use Rattle.us_flows.specs.Tables.{Tables, FlowTable, map_len, has_channel, channel_with, first_channel, sids_of}
 use Rattle.us_flows.specs.Clusters.{makes_requests, has_intervals}
 use Rattle.us_flows.specs.Keys.{top_keys}
-use Rattle.us_flows.specs.Lawful.{Between, AreApart, Fits, IsSchedule, IsChannel, IsRequesting, IsPolled, IsScheduled, IsFlow, IsStation, AreTables}
+use Rattle.us_flows.specs.Lawful.{Between, AreApart, Fits, IsSchedule, IsChannel, IsRequesting, IsPolled, IsUnsolicited, IsScheduled, IsFlow, IsStation, AreTables}
 use Rattle.us_flows.specs.Documents.{number_at, flag_at, numbers_of, lists_of, items_of, items_at, read_or}
 use Rattle.us_flows.specs.Shapes.{is_number, is_number_list, is_list, is_table, count, all_items, allows, lacks, strays}
 use Rattle.us_flows.specs.Checks.{first_of, or_else, top_checks, channel_shape, channel_rules, channel_fault, repeats, same_sid, is_taken, has_flow, flow_place, flow_shape, flow_names, grant_slots, is_too_long, flow_grants, flow_fault, station_shape, station_rules, station_fault, in_turn, channels_fault, flows_fault, stations_fault, first_fault}
@@ -33,7 +33,7 @@ use Rattle.us_flows.proofs.CheckLemmas.{or_else_none, none_finds}
 use Rattle.us_flows.proofs.ApartLemmas.{keys_apart, ids_apart, sids_apart}
 use Rattle.us_flows.proofs.ShapeLemmas.{length-numbers_of, length-lists_of, found_allowed, number_in_range, number_between}
 use Rattle.us_flows.proofs.ChannelLemmas.{list_items, list_in_range, channel_ranges}
-use Rattle.us_flows.proofs.FlowLemmas.{FlowRanges, RequestRanges, KindRanges, kind_ranges, numbers_within, others_absent}
+use Rattle.us_flows.proofs.FlowLemmas.{FlowRanges, RequestRanges, GrantRanges, KindRanges, kind_ranges, numbers_within, others_absent}
 use Rattle.us_flows.proofs.StationLemmas.{station_ranges}
 
 -- The top level.
@@ -243,6 +243,32 @@ polled_is t m ranges first least jitter poll = record {
   poll = fits t (λ c. c.request_minislots) (first_channel t.channels (flow_of m)) first poll;
 }
 
+-- where the longer of two isn't too long, neither is
+neither_long : (round : ℕ) (one other : Channel → ℕ) (channel : Option Channel) →
+    is_too_long round (λ c. max (one c) (other c)) channel ≡ false →
+    (is_too_long round one channel ≡ false) × (is_too_long round other channel ≡ false)
+neither_long round one other None h = (refl, refl)
+neither_long round one other (Some c) h =
+    let fits = ltb-false (round / minislot_ticks c.bursts.time) (max (one c) (other c)) h in (
+      le-ltb (round / minislot_ticks c.bursts.time) (one c) (omega (arith, fits)),
+      le-ltb (round / minislot_ticks c.bursts.time) (other c) (omega (arith, fits)),
+    )
+
+unsolicited_is : (t : Tables) (m : Members) → FlowRanges m → GrantRanges m → 1 ≤ length (flow_of m).channels →
+    is_some (first_channel t.channels (flow_of m)) ≡ true →
+    nat_le (flow_of m).interval_us (flow_of m).jitter_us ≡ false →
+    is_too_long t.round_ticks (grant_slots (flow_of m) UnsolicitedGrant) (first_channel t.channels (flow_of m)) ≡ false →
+    IsUnsolicited t (flow_of m)
+unsolicited_is t m ranges own some first jitter long = record {
+  schedule = schedule (number_at (codes "start_us") m) (number_at (codes "interval_us") m) (number_at (codes "jitter_us") m)
+      ranges.start_us own.interval_us ranges.interval_us jitter;
+  one_channel = omega (arith, some, own.channels, length-numbers_of (items_at (codes "channels") m));
+  one_cluster = omega (arith, ranges.clusters.0, own.clusters, length-lists_of (items_at (codes "clusters") m));
+  grant_bytes = own.grant_bytes;
+  grants = own.grants;
+  grant = fits t (grant_slots (flow_of m) UnsolicitedGrant) (first_channel t.channels (flow_of m)) first long;
+}
+
 scheduled_is : (t : Tables) (m : Members) (kind : SchedulingType) → FlowRanges m → KindRanges m kind →
     1 ≤ length (flow_of m).channels → is_some (first_channel t.channels (flow_of m)) ≡ true →
     (has_intervals kind && nat_le (flow_of m).interval_us (flow_of m).jitter_us) ≡ false →
@@ -255,15 +281,16 @@ scheduled_is t m NonRealTimePolling ranges own some first jitter long headers ra
     (requesting_is m own.0 some headers rates, polled_is t m ranges first own.1 jitter long)
 scheduled_is t m RealTimePolling ranges own some first jitter long headers rates =
     (requesting_is m own.0 some headers rates, polled_is t m ranges first own.1 jitter long)
-scheduled_is t m UnsolicitedGrant ranges own some first jitter long headers rates = record {
-  schedule = schedule (number_at (codes "start_us") m) (number_at (codes "interval_us") m) (number_at (codes "jitter_us") m)
-      ranges.start_us own.interval_us ranges.interval_us jitter;
-  one_channel = omega (arith, some, own.channels, length-numbers_of (items_at (codes "channels") m));
-  one_cluster = omega (arith, ranges.clusters.0, own.clusters, length-lists_of (items_at (codes "clusters") m));
-  grant_bytes = own.grant_bytes;
-  grants = own.grants;
-  grant = fits t (grant_slots (flow_of m) UnsolicitedGrant) (first_channel t.channels (flow_of m)) first long;
-}
+scheduled_is t m ActivityDetection ranges own some first jitter long headers rates =
+    let grant : Channel → ℕ = grant_slots (flow_of m) UnsolicitedGrant in
+    let channel : Option Channel = first_channel t.channels (flow_of m) in (
+      unsolicited_is t m ranges own some first jitter
+          (neither_long t.round_ticks grant (λ c. c.request_minislots) channel long).0,
+      polled_is t m ranges first own.interval_us jitter
+          (neither_long t.round_ticks grant (λ c. c.request_minislots) channel long).1,
+    )
+scheduled_is t m UnsolicitedGrant ranges own some first jitter long headers rates =
+    unsolicited_is t m ranges own some first jitter long
 
 flow_is : (t : Tables) (earlier : List FlowTable) (m : Members) → flow_fault t.round_ticks t.channels earlier m ≡ None →
     IsFlow t (flow_of m)

@@ -7,7 +7,7 @@ use Rattle.std.proofs.lemmas.List.{drop_more, length-append, map-append}
 use Rattle.std.proofs.lemmas.Map.Keys.{IsDistinct-cons, IsDistinct-head, IsDistinct-tail}
 use Rattle.us_flows.specs.Tables.{FlowTable}
 use Rattle.us_flows.specs.Clusters as clusters
-use Rattle.us_flows.specs.Clusters.{Cluster, clusters_from, makes_requests, requesting, turns_for, turns_from}
+use Rattle.us_flows.specs.Clusters.{Cluster, clusters_from, makes_requests, requesting, turns_for, turns_from, words_in}
 use Rattle.us_flows.specs.Turns.{in_flow}
 use Rattle.us_flows.specs.Lawful.{AreApart}
 use Rattle.us_flows.specs.Ranks.{cluster_turns, flow_turns, table_turns, IsRanked}
@@ -16,48 +16,29 @@ use Rattle.us_flows.proofs.RankLemmas.{order_of, all_map}
 
 -- steps of the loops
 
-pub cluster_turns-more : (turns : List Turn) (place list : ℕ) (clusters : List (List ℕ)) → list < length clusters →
-    (turns ++ record { flow = place; list = list; cluster = length turns } ∷ []) ++
-    cluster_turns place (length (turns ++ record { flow = place; list = list; cluster = length turns } ∷ []))
-    (list + 1) (drop (list + 1) clusters) ≡
-    turns ++ cluster_turns place (length turns) list (drop list clusters)
-cluster_turns-more turns place list clusters within =
-    let turn : Turn = record { flow = place; list = list; cluster = length turns } in
+pub cluster_turns-more : (turns : List Turn) (place number list : ℕ) (clusters : List (List ℕ)) → list < length clusters →
+    (turns ++ record { flow = place; list = list; cluster = number + list } ∷ []) ++
+    cluster_turns place (number + (list + 1)) (list + 1) (drop (list + 1) clusters) ≡
+    turns ++ cluster_turns place (number + list) list (drop list clusters)
+cluster_turns-more turns place number list clusters within =
+    let turn : Turn = record { flow = place; list = list; cluster = number + list } in
     let rest : List (List ℕ) = drop (list + 1) clusters in
-    let long : length (turns ++ turn ∷ []) ≡ length turns + 1 = length-append turns (turn ∷ []) in
-    ap (λ n. (turns ++ turn ∷ []) ++ cluster_turns place n (list + 1) rest) long ∙
-    append_assoc turns (turn ∷ []) (cluster_turns place (length turns + 1) (list + 1) rest) ∙
-    ap (λ left. turns ++ cluster_turns place (length turns) list left) (sym (drop_more clusters list [] within))
+    let next : number + (list + 1) ≡ number + list + 1 = omega arith in
+    ap (λ n. (turns ++ turn ∷ []) ++ cluster_turns place n (list + 1) rest) next ∙
+    append_assoc turns (turn ∷ []) (cluster_turns place (number + list + 1) (list + 1) rest) ∙
+    ap (λ left. turns ++ cluster_turns place (number + list) list left) (sym (drop_more clusters list [] within))
 
-length-cluster_turns : (place number list : ℕ) (flow : FlowTable) (clusters : List (List ℕ)) →
-    length (cluster_turns place number list clusters) ≡ length (clusters_from flow list clusters)
-length-cluster_turns place number list flow [] = refl
-length-cluster_turns place number list flow (sids ∷ rest) =
-    omega (arith, length-cluster_turns place (number + 1) (list + 1) flow rest)
-
-length-flow_turns : (place number : ℕ) (flow : FlowTable) →
-    length (flow_turns place number flow) ≡ length (requesting flow)
-length-flow_turns place number flow = by (makes_requests flow.kind)
-  where
-    by : (b : Bool) → length (if b then cluster_turns place number 0 flow.clusters else []) ≡
-        length (if b then clusters_from flow 0 flow.clusters else [])
-    by true = length-cluster_turns place number 0 flow flow.clusters
-    by false = refl
-
-pub table_turns-more : (turns : List Turn) (place : ℕ) (flows : List FlowTable) (flow d : FlowTable) →
+pub table_turns-more : (turns : List Turn) (place number : ℕ) (flows : List FlowTable) (flow d : FlowTable) →
     place < length flows → flow ≡ get_or flows place d →
-    (turns ++ flow_turns place (length turns) flow) ++
-    table_turns (place + 1) (length (turns ++ flow_turns place (length turns) flow)) (drop (place + 1) flows) ≡
-    turns ++ table_turns place (length turns) (drop place flows)
-table_turns-more turns place flows flow d within is =
-    let own : List Turn = flow_turns place (length turns) flow in
+    (turns ++ flow_turns place number flow) ++
+    table_turns (place + 1) (number + length (words_in flow)) (drop (place + 1) flows) ≡
+    turns ++ table_turns place number (drop place flows)
+table_turns-more turns place number flows flow d within is =
+    let own : List Turn = flow_turns place number flow in
     let rest : List FlowTable = drop (place + 1) flows in
-    let long : length (turns ++ own) ≡ length turns + length (requesting flow) =
-    length-append turns own ∙ ap (λ n. length turns + n) (length-flow_turns place (length turns) flow) in
     let next : flow ∷ rest ≡ drop place flows = ap (λ f. f ∷ rest) is ∙ sym (drop_more flows place d within) in
-    ap (λ n. (turns ++ own) ++ table_turns (place + 1) n rest) long ∙
-    append_assoc turns own (table_turns (place + 1) (length turns + length (requesting flow)) rest) ∙
-    ap (λ left. turns ++ table_turns place (length turns) left) next
+    append_assoc turns own (table_turns (place + 1) (number + length (words_in flow)) rest) ∙
+    ap (λ left. turns ++ table_turns place number left) next
 
 -- as clusters
 
@@ -102,7 +83,7 @@ flows_turns flows before (flow ∷ rest) number is =
     let own : map (turn_in flows) (flow_turns (length before) number flow) ≡
     map Some (turns_for (length before) number (requesting flow)) = by (makes_requests flow.kind) at in
     let long : length (before ++ flow ∷ []) ≡ length before + 1 = length-append before (flow ∷ []) in
-    let count : ℕ = number + length (requesting flow) in
+    let count : ℕ = number + length (words_in flow) in
     let more = flows_turns flows (before ++ flow ∷ []) rest count (is ∙ sym (append_assoc before (flow ∷ []) rest)) in
     let turns = map-append (turn_in flows) (flow_turns (length before) number flow)
     (table_turns (length before + 1) count rest) in
@@ -265,7 +246,7 @@ pub clusters_in : (place number : ℕ) (flows : List FlowTable) →
     map (λ turn. turn.cluster) (turns_from place number flows) ≡ flat_map requesting flows
 clusters_in place number [] = refl
 clusters_in place number (flow ∷ flows) =
-    let next : ℕ = number + length (requesting flow) in
+    let next : ℕ = number + length (words_in flow) in
     map-append (λ turn. turn.cluster) (turns_for place number (requesting flow)) (turns_from (place + 1) next flows) ∙
     ap₂ (λ a b. a ++ b) (clusters_for place number (requesting flow)) (clusters_in (place + 1) next flows)
 

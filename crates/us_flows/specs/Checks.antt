@@ -1,6 +1,6 @@
 -- The faults of a document, in the order in which they are looked for: the top level, each channel, each flow, each
 -- station.
-use Rattle.std.specs.Prelude.{ℕ, ◌+◌, ◌*◌, ◌/◌, ◌%◌, Bool, false, not, nat_eq, ◌==◌, nat_lt, nat_le, ◌&&◌, ◌||◌, if◌then◌else◌, List, [], ◌∷◌, ◌++◌, length, flat_map, codes, is_none, Option, Some, None}
+use Rattle.std.specs.Prelude.{ℕ, ◌+◌, ◌*◌, ◌/◌, ◌%◌, max, Bool, false, not, nat_eq, ◌==◌, nat_lt, nat_le, ◌&&◌, ◌||◌, if◌then◌else◌, List, [], ◌∷◌, ◌++◌, length, flat_map, codes, is_none, Option, Some, None}
 use Rattle.std.specs.List.{list_all, list_any}
 use Rattle.toml.specs.Data.{Data, table, Items, no_items, item, Members, get_member}
 use Rattle.us_slots.specs.Times.{minislot_ticks}
@@ -9,7 +9,7 @@ use Rattle.us_flows.specs.Ranges.{max_codeword}
 use Rattle.us_flows.specs.declared.channels.Channel.{Channel}
 use Rattle.us_flows.specs.declared.stations.Station.{Station}
 use Rattle.us_flows.specs.declared.flows.SchedulingType.{SchedulingType}
-use Rattle.us_flows.specs.declared.flows.SchedulingType.TheVariants.{BestEffort, NonRealTimePolling, RealTimePolling, UnsolicitedGrant}
+use Rattle.us_flows.specs.declared.flows.SchedulingType.TheVariants.{BestEffort, NonRealTimePolling, RealTimePolling, ActivityDetection, UnsolicitedGrant}
 use Rattle.us_flows.specs.declared.faults.Place.{Place}
 use Rattle.us_flows.specs.declared.faults.TableName.TheVariants as name
 use Rattle.us_flows.specs.declared.faults.ConfigFault.{ConfigFault}
@@ -117,11 +117,13 @@ flow_names place channels earlier flow =
     (not (list_all (λ sids. length sids == length flow.channels) flow.clusters), fault.ClusterLength place) ∷
     (list_any (is_taken earlier) (sids_of flow) || repeats same_sid (sids_of flow), fault.DuplicateSid place) ∷ []
 
--- the minislots of a poll or of an unsolicited grant
+-- the minislots of a poll or of an unsolicited grant; where a flow has now the one and now the other, those of the longer
 abbrev pub grant_slots : FlowTable → SchedulingType → Channel → ℕ
 grant_slots flow BestEffort channel = 0
 grant_slots flow NonRealTimePolling channel = channel.request_minislots
 grant_slots flow RealTimePolling channel = channel.request_minislots
+grant_slots flow ActivityDetection channel =
+    max (burst_cost channel.bursts.time channel.bursts.unsolicited flow.grant_bytes) channel.request_minislots
 grant_slots flow UnsolicitedGrant channel =
     burst_cost channel.bursts.time channel.bursts.unsolicited flow.grant_bytes
 

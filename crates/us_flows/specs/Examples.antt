@@ -1,16 +1,16 @@
 -- Small documents, computed by the definitions alone.
-use Rattle.std.specs.Prelude.{◌≡◌, ℕ, ◌+◌, pos, true, false, if◌then◌else◌, List, [], ◌∷◌, map, codes, Option, Some, None, option_map, refl}
+use Rattle.std.specs.Prelude.{◌≡◌, ℕ, ◌+◌, pos, true, false, if◌then◌else◌, List, [], ◌∷◌, length, map, codes, Option, Some, None, option_map, slice_get, refl}
 use Rattle.std.specs.Str.{bytes_eq}
 use Rattle.toml.specs.Data.{Data, integer, boolean, array, table, Items, no_items, item, Members, no_members, member}
 use Rattle.us_slots.specs.Bursts.{BurstProfile, burst_cost, coded_length}
-use Rattle.us_flows.specs.declared.found.Found.TheVariants.{Cluster, Unsolicited}
-use Rattle.us_flows.specs.declared.flows.SchedulingType.TheVariants.{BestEffort, UnsolicitedGrant}
+use Rattle.us_flows.specs.declared.found.Found.TheVariants.{Cluster, Activity, Unsolicited}
+use Rattle.us_flows.specs.declared.flows.SchedulingType.TheVariants.{BestEffort, ActivityDetection, UnsolicitedGrant}
 use Rattle.us_flows.specs.declared.faults.Place.{Place}
 use Rattle.us_flows.specs.declared.faults.TableName.TheVariants as name
 use Rattle.us_flows.specs.declared.faults.ConfigFault.{ConfigFault}
 use Rattle.us_flows.specs.declared.faults.ConfigFault.TheVariants.{Missing, Range, UnknownChannel, DuplicateId, DuplicateSid, ClusterLength, RoundNotMultiple, ReservesTooLong, Jitter, GrantLongerThanMap, Headers, MinRate}
 use Rattle.us_flows.specs.Tables.{Tables, FlowTable, rounds_fit}
-use Rattle.us_flows.specs.Clusters.{lookup, table_order, turns_of}
+use Rattle.us_flows.specs.Clusters.{Silent, Active, lookup, table_order, turns_of, words_before, words_of}
 use Rattle.us_flows.specs.Turns.{turn_at}
 use Rattle.us_flows.specs.Keys.{top_keys, channel_keys, profile_keys, short_keys, all_flow_keys, station_keys}
 use Rattle.us_flows.specs.Checks.{top, channel_lacks, channel_strays, channel_fault, flow_fault, station_fault, first_fault}
@@ -309,6 +309,28 @@ unfolding first_fault channel_fault channel_lacks channel_strays flow_fault stat
     burst_cost coded_length
 schedules = (refl, refl, refl, refl, refl)
 
+-- a flow with activity detection has the keys of one with unsolicited grants, and one channel and one cluster; both its
+-- grant and its poll have room in a MAP
+abbrev pub talking_with : List ℕ → Data → Members
+talking_with key d = with_key key d (with_key (codes "type") (number 5) granted_flow)
+
+activity_faults :
+    (second_with (talking_with (codes "id") (number 2)) ≡ None) ×
+    (second_with (without_key (codes "grant_bytes") (talking_with (codes "id") (number 2))) ≡ Some (Missing second)) ×
+    (second_with (talking_with (codes "priority") (number 0)) ≡ Some (Range second)) ×
+    (second_with (talking_with (codes "channels") (array (numbers (1 ∷ 1 ∷ [])))) ≡ Some (Range second)) ×
+    (second_with (talking_with (codes "clusters")
+    (array (item (array (numbers (300 ∷ []))) (item (array (numbers (301 ∷ []))) no_items)))) ≡ Some (Range second)) ×
+    (second_with (talking_with (codes "jitter_us") (number 2000)) ≡ Some (Jitter second)) ×
+    (second_with (talking_with (codes "grant_bytes") (number 5105)) ≡ Some (GrantLongerThanMap second)) ×
+    -- in a MAP of one minislot a grant of a byte has room, and a poll of 2 minislots has none
+    (first_fault (short_round (with_key (codes "grant_bytes") (number 1) granted_flow ∷ []) []) ≡ None) ×
+    (first_fault (short_round (talking_with (codes "grant_bytes") (number 1) ∷ []) []) ≡ Some (GrantLongerThanMap flow))
+unfolding first_fault channel_fault channel_lacks channel_strays flow_fault station_fault
+    top_keys channel_keys profile_keys short_keys all_flow_keys station_keys
+    burst_cost coded_length
+activity_faults = (refl, refl, refl, refl, refl, refl, refl, refl, refl)
+
 -- without segment headers on two channels
 abbrev pub other_channel : Members
 other_channel = with_key (codes "id") (number 2) base_channel
@@ -409,6 +431,33 @@ found_among_four :
     (lookup four_tables 1 8 ≡ Some (Cluster 2)) × (lookup four_tables 2 500 ≡ None)
 unfolding lookup
 found_among_four = (refl, refl, refl, refl)
+
+-- with a flow behind the first that tells its activity
+abbrev pub talking : FlowTable
+talking = record granted { id = 6; kind = ActivityDetection; clusters = (501 ∷ []) ∷ [] }
+
+abbrev pub five_tables : Tables
+five_tables = record base_tables {
+  flows = two_clusters 9 1 ∷ talking ∷ granted ∷ two_clusters 8 1 ∷ two_clusters 10 2 ∷ [];
+}
+
+-- its words stand behind those of the first flow, and the numbers of later words are two more
+activity_in_five :
+    (length (words_of five_tables) ≡ 8) × (words_before five_tables.flows 1 ≡ 2) ×
+    (slice_get (words_of five_tables) 2 ≡ Some (Silent talking)) ×
+    (slice_get (words_of five_tables) 3 ≡ Some (Active talking)) ×
+    (lookup five_tables 1 501 ≡ Some (Activity 2)) × (lookup five_tables 1 500 ≡ Some Unsolicited) ×
+    (lookup five_tables 1 19 ≡ Some (Cluster 1)) × (lookup five_tables 1 8 ≡ Some (Cluster 4)) ×
+    (lookup five_tables 2 501 ≡ None)
+unfolding lookup
+activity_in_five = (refl, refl, refl, refl, refl, refl, refl, refl, refl)
+
+-- and it has no turn
+turns_of_five :
+    (map (λ turn. turn.number) (table_order five_tables) ≡ 0 ∷ 1 ∷ 4 ∷ 5 ∷ 6 ∷ 7 ∷ []) ×
+    (map (λ turn. turn.number) (turns_of five_tables) ≡ 6 ∷ 7 ∷ 4 ∷ 5 ∷ 0 ∷ 1 ∷ [])
+unfolding turns_of
+turns_of_five = (refl, refl)
 
 -- numbers go on from flow to flow, and places count flows without requests too
 numbered_in_table_order :

@@ -7,7 +7,7 @@ use Rattle.us_flows.specs.Ranges.{max_channels, max_flows, max_stations, max_rou
 use Rattle.us_flows.specs.declared.channels.Channel.{Channel}
 use Rattle.us_flows.specs.declared.stations.Station.{Station}
 use Rattle.us_flows.specs.declared.flows.SchedulingType.{SchedulingType}
-use Rattle.us_flows.specs.declared.flows.SchedulingType.TheVariants.{BestEffort, NonRealTimePolling, RealTimePolling, UnsolicitedGrant}
+use Rattle.us_flows.specs.declared.flows.SchedulingType.TheVariants.{BestEffort, NonRealTimePolling, RealTimePolling, ActivityDetection, UnsolicitedGrant}
 use Rattle.us_flows.specs.Tables.{Tables, FlowTable, map_len, has_channel, channel_with, first_channel, sids_of}
 
 -- a number is from the least to the most one
@@ -102,6 +102,7 @@ abbrev pub HasNoOthers : FlowTable → SchedulingType → Type 0
 HasNoOthers f BestEffort = HasNoSchedule f × HasNoGrants f
 HasNoOthers f NonRealTimePolling = HasNoGrants f
 HasNoOthers f RealTimePolling = HasNoGrants f
+HasNoOthers f ActivityDetection = MakesNoRequests f
 HasNoOthers f UnsolicitedGrant = MakesNoRequests f
 
 -- what a scheduling type asks of a flow
@@ -109,6 +110,7 @@ abbrev pub IsScheduled : Tables → FlowTable → SchedulingType → Type 0
 IsScheduled t f BestEffort = IsRequesting f
 IsScheduled t f NonRealTimePolling = IsRequesting f × IsPolled t f
 IsScheduled t f RealTimePolling = IsRequesting f × IsPolled t f
+IsScheduled t f ActivityDetection = IsUnsolicited t f × IsPolled t f
 IsScheduled t f UnsolicitedGrant = IsUnsolicited t f
 
 pub record IsFlow (t : Tables) (f : FlowTable) : Type 0 where

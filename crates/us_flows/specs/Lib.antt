@@ -6,11 +6,11 @@
 
 -- the tables of a configuration, as values
 pub mod Tables
--- SID clusters, which SID is whose, and the order of turns
+-- SID clusters, words, which SID is whose, and the order of turns
 pub mod Clusters
 -- turns as places in the tables
 pub mod Turns
--- laws of turns
+-- laws of turns and of words
 pub mod Laws
 -- the least and the greatest of what a configuration may say
 pub mod Ranges
@@ -33,6 +33,8 @@ pub mod Examples
 -- the code of a fault, and the table that it names
 pub mod Codes
 pub mod Places
+-- what faults are told as
+pub mod Texts
 -- inside the crate, and of no use to a reader of the promise: what an index of SIDs holds, and what turns are sorted by
 pub mod Listed
 pub mod Ranks

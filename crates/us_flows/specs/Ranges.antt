@@ -117,7 +117,7 @@ max_grant_bytes = 65535
 abbrev pub max_grants : ℕ
 max_grants = 127
 
--- all clusters that make requests
+-- the words of all flows, of which none has more than two
 abbrev pub max_clusters : ℕ
 max_clusters = 2048
 

@@ -1,12 +1,12 @@
 -- How the turns of a round come to be: in table order first, then sorted by rank. Nothing of this is seen from outside.
 use Rattle.std.specs.Prelude.{◌≡◌, ℕ, ◌+◌, ◌-◌, ◌≤◌, map, if◌then◌else◌, List, [], ◌∷◌, ◌++◌, length, Option, Some, None, slice_get}
 use Rattle.us_flows.specs.Tables.{Tables, FlowTable}
-use Rattle.us_flows.specs.Clusters.{makes_requests, requesting, turns_of}
+use Rattle.us_flows.specs.Clusters.{makes_requests, words_in, turns_of}
 use Rattle.us_flows.specs.Turns.{turn_at}
 use Rattle.us_flows.specs.Lawful.{AreTables}
 use Rattle.us_flows.specs.declared.turns.Turn.{Turn}
 
--- the turns of clusters of the flow at this place: the first has this number and this place in the flow
+-- the turns of clusters of the flow at this place: the first has the word of this number and this place in the flow
 abbrev pub cluster_turns : ℕ → ℕ → ℕ → List (List ℕ) → List Turn
 cluster_turns place number list [] = []
 cluster_turns place number list (sids ∷ rest) =
@@ -20,7 +20,7 @@ flow_turns place number flow = if makes_requests flow.kind then cluster_turns pl
 abbrev pub table_turns : ℕ → ℕ → List FlowTable → List Turn
 table_turns place number [] = []
 table_turns place number (flow ∷ flows) =
-    flow_turns place number flow ++ table_turns (place + 1) (number + length (requesting flow)) flows
+    flow_turns place number flow ++ table_turns (place + 1) (number + length (words_in flow)) flows
 
 -- what a turn is sorted by, the least first
 abbrev pub rank_in : ℕ → Option FlowTable → ℕ × ℕ × ℕ

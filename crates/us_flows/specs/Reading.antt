@@ -6,7 +6,7 @@ use Rattle.us_slots.specs.Bursts.{BurstProfile, ChannelBursts}
 use Rattle.us_flows.specs.declared.channels.Channel.{Channel}
 use Rattle.us_flows.specs.declared.stations.Station.{Station}
 use Rattle.us_flows.specs.declared.flows.SchedulingType.{SchedulingType}
-use Rattle.us_flows.specs.declared.flows.SchedulingType.TheVariants.{BestEffort, NonRealTimePolling, RealTimePolling, UnsolicitedGrant}
+use Rattle.us_flows.specs.declared.flows.SchedulingType.TheVariants.{BestEffort, NonRealTimePolling, RealTimePolling, ActivityDetection, UnsolicitedGrant}
 use Rattle.us_flows.specs.Tables.{Tables, FlowTable}
 use Rattle.us_flows.specs.Documents.{number_at, flag_at, pair_at, items_at, table_at, table_of, numbers_of, lists_of}
 
@@ -53,6 +53,7 @@ abbrev pub kind_of : ℕ → SchedulingType
 kind_of number =
     if number == 3 then NonRealTimePolling
     else if number == 4 then RealTimePolling
+    else if number == 5 then ActivityDetection
     else if number == 6 then UnsolicitedGrant
     else BestEffort
 

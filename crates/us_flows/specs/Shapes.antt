@@ -14,9 +14,9 @@ abbrev pub is_number : ℕ → ℕ → Data → Bool
 is_number least most (integer (pos n)) = is_between least most n
 is_number least most _ = false
 
--- 2, 3, 4 or 6, as the standard numbers scheduling types
+-- 2, 3, 4, 5 or 6, as the standard numbers scheduling types
 abbrev pub is_type : Data → Bool
-is_type (integer (pos n)) = n == 2 || (n == 3 || (n == 4 || n == 6))
+is_type (integer (pos n)) = n == 2 || (n == 3 || (n == 4 || (n == 5 || n == 6)))
 is_type _ = false
 
 -- 1, 2, 4, 8 or 16

@@ -5,7 +5,7 @@ ghost use Rattle.us_flows.specs.Tables;
 ghost use Rattle.us_flows.specs.Tables.{Tables};
 ghost use Rattle.us_flows.specs.Turns.{turn_at};
 ghost use Rattle.us_flows.specs.Clusters;
-ghost use Rattle.us_flows.specs.Clusters.{clusters_of, turns_of};
+ghost use Rattle.us_flows.specs.Clusters.{words_of, turns_of};
 ghost use Rattle.us_flows.specs.Ranges.{max_round_ticks, max_clusters};
 ghost use Rattle.us_flows.specs.Lawful.{AreTables, IsChannel};
 ghost use Rattle.us_flows.specs.Ranks.{IsConfig};
@@ -187,22 +187,23 @@ impl Config {
     #[tactic(auto, using(crate::proofs::TurnLaws::config_numbers))]
     pub fn turns(&self) -> &[Turn]
         ensures value { map (turn_at self.now) result.now ≡ map Some (turns_of self.now) }
-        ensures numbers { AllByRecursion (λ turn. turn.cluster < length (clusters_of self.now)) result.now }
+        ensures numbers { AllByRecursion (λ turn. turn.cluster < length (words_of self.now)) result.now }
         ensures lawful { AreTables self.now }
     {
         &self.turns
     }
 
-    /// How many SID clusters make requests.
+    /// How many words there are: one for each SID cluster that makes requests, and two for each flow that tells its activity.
     pub fn clusters(&self) -> usize
-        ensures value { result ≡ length (clusters_of self.now) }
+        ensures value { result ≡ length (words_of self.now) }
         ensures few { result ≤ max_clusters }
         ensures lawful { AreTables self.now }
     {
-        self.flows.clusters()
+        self.flows.words()
     }
 
-    /// What a SID asks for on a channel: a SID cluster, by its number in table order, or an unsolicited grant.
+    /// What a SID asks for on a channel: a SID cluster or a flow's activity, by the number of its word in table order, or
+    /// an unsolicited grant.
     #[tactic(auto, unfolding(crate::specs::Clusters::lookup))]
     pub fn lookup(&self, channel: u8, sid: u16) -> Option<Found>
         ensures value { result ≡ Clusters.lookup self.now channel sid }

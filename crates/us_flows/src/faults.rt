@@ -112,6 +112,7 @@ impl ConfigFault {
     ghost use Rattle.std.specs.Prelude.{◌≡◌};
     ghost use Rattle.us_flows.specs.Codes.{code_of};
     ghost use Rattle.us_flows.specs.Places.{place_of};
+    ghost use Rattle.us_flows.specs.Texts.{sentence_of};
 
     /// Its code, C1 to C14.
     pub fn code(self) -> &'static str
@@ -136,7 +137,9 @@ impl ConfigFault {
     }
 
     /// What it says behind its code, up to the table that it names.
-    pub fn sentence(self) -> &'static str {
+    pub fn sentence(self) -> &'static str
+        ensures { result.now ≡ sentence_of self }
+    {
         match self {
             ConfigFault::Text => "no TOML document of at most 4194304 bytes",
             ConfigFault::Missing(_) => "a key is missing in ",
@@ -179,6 +182,11 @@ impl ConfigFault {
 
 /// Writes a fault as its code and a sentence that ends in its table.
 impl fmt::Display for ConfigFault {
+    ghost use Rattle.std.specs.Prelude.{Some};
+    ghost use Rattle.us_flows.specs.Texts.{fault_text};
+
+    ghost output = { λ fault. Some (fault_text fault) };
+
     fn fmt<W: fmt::Write>(&self, f: &mut fmt::Formatter<W>) -> fmt::Result {
         let (code, sentence) = (self.code(), self.sentence());
         match self.place() {

@@ -1,4 +1,5 @@
 ghost use Rattle.std.specs.Prelude.{◌≡◌};
+ghost use Rattle.us_slots.specs.Bursts.{burst_cost};
 ghost use Rattle.us_flows.specs.Tables.{first_channel};
 ghost use Rattle.us_flows.specs.Checks;
 ghost use Rattle.us_flows.specs.Checks.{first_of, flow_grants};
@@ -48,22 +49,28 @@ fn has_long_grant(round_ticks: u32, channels: &Channels, flow: &Flow) -> bool
     }
 }
 
-/// The minislots of a flow's poll or of its unsolicited grant; none of best effort.
+/// The minislots of a flow's poll or of its unsolicited grant, whichever has more where it has both; none of best effort.
 fn grant_slots(flow: &Flow, channel: &Channel) -> u32
     ensures { result ≡ Checks.grant_slots flow.now flow.now.kind channel.now }
 {
+    let poll = u32::from(channel.request_minislots);
     match flow.kind() {
         SchedulingType::BestEffort => 0,
-        SchedulingType::NonRealTimePolling | SchedulingType::RealTimePolling => {
-            u32::from(channel.request_minislots)
-        }
-        SchedulingType::UnsolicitedGrant => {
-            let bursts = &channel.bursts;
-            cost(
-                bursts.time(),
-                bursts.unsolicited(),
-                u32::from(flow.grant_bytes()),
-            )
-        }
+        SchedulingType::NonRealTimePolling | SchedulingType::RealTimePolling => poll,
+        SchedulingType::ActivityDetection => unsolicited_slots(flow, channel).max(poll),
+        SchedulingType::UnsolicitedGrant => unsolicited_slots(flow, channel),
     }
+}
+
+/// The minislots of an unsolicited grant of a flow.
+fn unsolicited_slots(flow: &Flow, channel: &Channel) -> u32
+    ensures { result ≡
+        burst_cost channel.now.bursts.time channel.now.bursts.unsolicited flow.now.grant_bytes }
+{
+    let bursts = &channel.bursts;
+    cost(
+        bursts.time(),
+        bursts.unsolicited(),
+        u32::from(flow.grant_bytes()),
+    )
 }

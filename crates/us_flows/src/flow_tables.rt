@@ -130,6 +130,7 @@ fn kind_at(table: &Table) -> SchedulingType
     match number_at(table, "type") {
         3 => SchedulingType::NonRealTimePolling,
         4 => SchedulingType::RealTimePolling,
+        5 => SchedulingType::ActivityDetection,
         6 => SchedulingType::UnsolicitedGrant,
         _ => SchedulingType::BestEffort,
     }

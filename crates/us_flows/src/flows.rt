@@ -1,9 +1,12 @@
-ghost use Rattle.std.specs.Prelude.{◌≡◌, map, IfOk};
-ghost use Rattle.us_flows.specs.Clusters.{makes_requests, has_intervals};
+ghost use Rattle.std.specs.Prelude.{◌≡◌, length, map, IfOk};
+ghost use Rattle.us_flows.specs.Clusters.{makes_requests, has_intervals, tells_activity, words_in};
 ghost use Rattle.us_flows.specs.Tables.{FlowTable};
 
 use std::alloc::{AllocError, Global};
 use std::marker::Model;
+
+/// The words that tell a flow's activity: that it is silent, and that it is active.
+const ACTIVITY_WORDS: usize = 2;
 
 /// How a service flow is scheduled (the standard's scheduling types).
 #[derive(Clone, Copy, Debug, PartialEq, Eq)]
@@ -14,6 +17,9 @@ pub enum SchedulingType {
     NonRealTimePolling,
     /// Type 4: it makes requests, and is polled for them in time for what it carries.
     RealTimePolling,
+    /// Type 5: it has grants of one size at intervals while it is active, and polls while it is silent. It tells when it
+    /// falls silent and when it is active again, and makes no requests.
+    ActivityDetection,
     /// Type 6: it has grants of one size at intervals, and makes no requests.
     UnsolicitedGrant,
 }
@@ -23,7 +29,12 @@ impl SchedulingType {
     pub fn makes_requests(self) -> bool
         ensures value { result ≡ makes_requests self }
     {
-        self != SchedulingType::UnsolicitedGrant
+        match self {
+            SchedulingType::BestEffort
+            | SchedulingType::NonRealTimePolling
+            | SchedulingType::RealTimePolling => true,
+            SchedulingType::ActivityDetection | SchedulingType::UnsolicitedGrant => false,
+        }
     }
 
     /// Whether its flows are polled, or have unsolicited grants, at intervals: all but those of best effort.
@@ -31,6 +42,13 @@ impl SchedulingType {
         ensures value { result ≡ has_intervals self }
     {
         self != SchedulingType::BestEffort
+    }
+
+    /// Whether its flows tell when they fall silent, and when they are active again.
+    pub fn tells_activity(self) -> bool
+        ensures value { result ≡ tells_activity self }
+    {
+        self == SchedulingType::ActivityDetection
     }
 }
 
@@ -152,6 +170,19 @@ impl Flow {
         &self.clusters
     }
 
+    /// How many words it has: one for each cluster that makes requests, or two that tell its activity.
+    pub fn words(&self) -> usize
+        ensures value { result ≡ length (words_in self.now) }
+    {
+        if self.kind.tells_activity() {
+            ACTIVITY_WORDS
+        } else if self.kind.makes_requests() {
+            self.clusters.len()
+        } else {
+            0
+        }
+    }
+
     /// The traffic priority, 0 to 7; a higher number goes first. 0 for unsolicited grants.
     pub fn priority(&self) -> u8
         ensures value { result ≡ self.now.priority }
@@ -196,7 +227,8 @@ impl Flow {
 
     /// When its first interval begins, in microseconds, 0 to 10,000,000; 0 for best effort.
     ///
-    /// A flow that is polled has one poll in each interval, and one with unsolicited grants has so many of them.
+    /// A flow that is polled has one poll in each interval, and one with unsolicited grants has so many of them. One that
+    /// tells its activity has either.
     pub fn start_us(&self) -> u32
         ensures value { result ≡ self.now.start_us }
     {

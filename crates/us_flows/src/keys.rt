@@ -18,7 +18,7 @@ pub(crate) enum Rule {
     Number(u32, u32),
     /// A whole number whose key may be left out.
     OptionalNumber(u32, u32),
-    /// A scheduling type: 2, 3, 4 or 6.
+    /// A scheduling type: 2, 3, 4, 5 or 6.
     Type,
     /// The bytes of a unit: 1, 2, 4, 8 or 16.
     Unit,
@@ -44,9 +44,9 @@ pub(crate) enum Types {
     All,
     /// Those that make requests: 2, 3 and 4.
     Requesting,
-    /// Those that are polled or have unsolicited grants, at intervals: 3, 4 and 6.
+    /// Those that are polled or have unsolicited grants, at intervals: 3, 4, 5 and 6.
     AtIntervals,
-    /// That of unsolicited grants: 6.
+    /// Those of unsolicited grants: 5 and 6.
     Unsolicited,
 }
 

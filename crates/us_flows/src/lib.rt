@@ -77,7 +77,7 @@ pub use config::Config;
 pub use faults::{ConfigFault, Place, TableName};
 pub use flows::{Flow, SchedulingType};
 pub use found::Found;
-pub use laws::one_turn;
+pub use laws::{activity_has_words, found_has_words, one_turn, turns_are_of_clusters};
 pub use reading::MAX_CONFIG_BYTES;
 pub use stations::Station;
 pub use turns::Turn;

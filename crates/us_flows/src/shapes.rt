@@ -128,12 +128,12 @@ fn is_number(value: &Value, least: u32, most: u32) -> bool
     }
 }
 
-/// Whether a value is a scheduling type: 2, 3, 4 or 6.
+/// Whether a value is a scheduling type: 2, 3, 4, 5 or 6.
 pub(crate) fn is_type(value: &Value) -> bool
     ensures { result ≡ Shapes.is_type (view value.now) }
 {
     match value.as_integer() {
-        Some(number) => matches!(number, 2 | 3 | 4 | 6),
+        Some(number) => matches!(number, 2 | 3 | 4 | 5 | 6),
         None => false,
     }
 }

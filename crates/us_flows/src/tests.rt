@@ -1,5 +1,6 @@
 //! What no clause says: texts of each kind, printed faults, memory; and the promises at worked values.
 
+mod activity;
 // Configurations, and the driver of tables of changed ones.
 mod base;
 // One of each fault; `crates/mapsim/cases/config_*.toml` have all limits, keys and orders.

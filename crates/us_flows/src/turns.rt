@@ -10,6 +10,6 @@ pub struct Turn {
     pub flow: usize,
     /// Its place among the clusters of the flow.
     pub list: usize,
-    /// Its number among all clusters that make requests.
+    /// The number of its word.
     pub cluster: usize,
 }

@@ -1,4 +1,4 @@
-ghost use Rattle.std.specs.Prelude.{◌≡◌, ℕ, ◌+◌, ◌*◌, ◌-◌, ◌≤◌, ◌<◌, ◌++◌, true, false, IfOk, OnOk, IfSome, IfNone, Some, length, vec_capacity};
+ghost use Rattle.std.specs.Prelude.{◌≡◌, ℕ, ◌+◌, ◌*◌, ◌-◌, ◌≤◌, ◌<◌, ◌++◌, max, true, false, IfOk, OnOk, IsOk, IfSome, IfNone, Some, length, vec_len, vec_capacity};
 ghost use Rattle.std.specs.List.{flat_map};
 ghost use Rattle.us_holes.specs.Boards as spec;
 ghost use Rattle.us_holes.specs.Kept.{IsBoard};
@@ -162,6 +162,9 @@ impl Board {
         ensures minislots { flat_map runs.minislots_of (runs.runs_of self.now.cells) ≡ self.now.cells }
         ensures differ { runs.Differ (runs.runs_of self.now.cells) }
         ensures few { length (runs.runs_of self.now.cells) ≤ 2 * self.now.standing + 1 }
+
+        // The list has room for so many, and no more.
+        ensures room { IfOk result (λ found. vec_capacity found ≡ 2 * self.now.standing + 1) }
     {
         let mut found = Vec::new(alloc);
         self.push_runs(&mut found)?;
@@ -177,6 +180,11 @@ impl Board {
         ensures minislots { flat_map runs.minislots_of (runs.runs_of self.now.cells) ≡ self.now.cells }
         ensures differ { runs.Differ (runs.runs_of self.now.cells) }
         ensures few { length (runs.runs_of self.now.cells) ≤ 2 * self.now.standing + 1 }
+
+        // The list gets room for so many, where it hasn't, and no more. Where it has, no memory is wanted.
+        ensures room { OnOk result (vec_capacity found.new ≡
+            max (vec_capacity found.old) (vec_len found.old + (2 * self.now.standing + 1))) }
+        ensures spared { vec_len found.old + (2 * self.now.standing + 1) ≤ vec_capacity found.old → IsOk result }
     {
         push_runs(found, &self.assigned, self.len)
     }

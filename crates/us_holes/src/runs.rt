@@ -1,4 +1,4 @@
-ghost use Rattle.std.specs.Prelude.{◌≡◌, ◌≤◌, ◌++◌, OnOk, length};
+ghost use Rattle.std.specs.Prelude.{◌≡◌, ◌+◌, ◌*◌, ◌<◌, ◌≤◌, ◌++◌, max, OnOk, IsOk, length, vec_len, vec_capacity};
 ghost use Rattle.us_holes.specs.Boards.{max_assignments};
 ghost use Rattle.us_holes.specs.Runs as spec;
 
@@ -59,21 +59,24 @@ impl Run {
     }
 }
 
-/// Adds the idle run from `from` to `to`, where there are such minislots.
-fn push_idle(found: &mut Vec<Run>, from: u32, to: u32) -> Result<(), NoMemory>
-    ensures { OnOk result (found.new.items ≡ found.old.items ++ spec.idle_run from to) }
+/// Adds the idle run from `from` to `to`, where there are such minislots. It needs no memory.
+fn push_idle(found: &mut Vec<Run>, from: u32, to: u32)
+    requires room { vec_len found.old < vec_capacity found.old }
+    ensures runs { found.new.items ≡ found.old.items ++ spec.idle_run from to }
+    ensures len { vec_len found.new ≤ vec_len found.old + 1 }
+    ensures room { vec_capacity found.new ≡ vec_capacity found.old }
 {
     if from < to {
-        found.push(Run {
+        found.push_reserved(Run {
             start: from,
             len: to - from,
             owner: None,
-        })?;
+        });
     }
-    Ok(())
 }
 
-/// Adds the runs of a board of `len` minislots with these assignments.
+/// Adds the runs of a board of `len` minislots with these assignments. Room for as many as there may be is taken before the
+/// first is added.
 #[tactic(auto, unfolding(crate::specs::Runs::runs_between))]
 pub(crate) fn push_runs(
     found: &mut Vec<Run>,
@@ -81,15 +84,19 @@ pub(crate) fn push_runs(
     len: u32,
 ) -> Result<(), NoMemory>
     requires { length assigned.now ≤ max_assignments }
-    ensures { OnOk result (found.new.items ≡ found.old.items ++ spec.runs_between 0 assigned.now len) }
+    ensures runs { OnOk result (found.new.items ≡ found.old.items ++ spec.runs_between 0 assigned.now len) }
+    ensures room { OnOk result (vec_capacity found.new ≡
+        max (vec_capacity found.old) (vec_len found.old + (2 * length assigned.now + 1))) }
+    ensures spared { vec_len found.old + (2 * length assigned.now + 1) ≤ vec_capacity found.old → IsOk result }
 {
-    found.reserve(2 * assigned.len() + 1)?;
+    found.reserve_exact(2 * assigned.len() + 1)?;
     let mut from = 0;
     for i in 0..assigned.len() {
         let one = assigned[i];
-        push_idle(found, from, one.start())?;
-        found.push(Run::of(one))?;
+        push_idle(found, from, one.start());
+        found.push_reserved(Run::of(one));
         from = one.end();
     }
-    push_idle(found, from, len)
+    push_idle(found, from, len);
+    Ok(())
 }

@@ -145,6 +145,7 @@ module _ (terms : Terms) (words : List ℕ) (parts : List Part) (a : Account ter
         within = stands.within;
         taken_within = omega (arith, stands.whole, taken_le seat part at);
         idle = stands.idle;
+        no_swap = stands.no_swap;
         whole_takes = λ all. whole_takes seat part at (all ∙ stands.whole);
       }
 

@@ -1,10 +1,18 @@
 -- A cut, cluster by cluster.
-use Rattle.std.proofs.Common.{◌≡◌, ◌≢◌, ℕ, ◌+◌, ◌<◌, ◌≤◌, List, length, set, take, slice_index, ap, sym, subst, ◌∙◌, inl, inr, arith, add-one, take_all}
+use Rattle.std.proofs.Common.{◌≡◌, ◌≢◌, ℕ, ◌+◌, ◌<◌, ◌≤◌, List, [], ◌∷◌, ◌++◌, length, set, take, slice_index, ap, sym, subst, ◌∙◌, inl, inr, arith, add-one, take_all, length-set}
+use Rattle.std.specs.List.{range_with_len}
 use Rattle.std.proofs.lemmas.Bool.{cases_eq, cases_lt}
-use Rattle.std.proofs.lemmas.List.{get_or-set_other}
+use Rattle.std.proofs.lemmas.List.{get_or-set_other, append-nil, append_assoc, length-take-le, map-id}
+use Rattle.std.proofs.lemmas.List.FromFn.{map-range_with_len_more}
 use Rattle.us_intake.specs.Tallies.{added}
 use Rattle.us_intake.specs.Seats.{Seat, seat_after_take, seat_after_cut, IsWhole, IsSeat}
 use Rattle.us_intake.proofs.TallyLemmas.{added-nil, raised-added, index-past, same_tally}
+
+-- so many numbers from 0 on, and the next one
+range-more : (n : ℕ) → range_with_len 0 (n + 1) ≡ range_with_len 0 n ++ n ∷ []
+range-more n =
+    sym (map-id (range_with_len 0 (n + 1))) ∙ map-range_with_len_more (λ (i : ℕ). i) 0 n n (omega arith)
+    ∙ ap (λ l. l ++ n ∷ []) (map-id (range_with_len 0 n))
 
 -- what the words before `at` held was taken
 pub record CutTo (old seat : Seat) (at : ℕ) (cuts : List ℕ) : Type 0 where
@@ -14,14 +22,35 @@ pub record CutTo (old seat : Seat) (at : ℕ) (cuts : List ℕ) : Type 0 where
   pub least : (k : ℕ) → k < at → slice_index seat.submitted k ≤ slice_index seat.taken k
   pub whole : IsWhole old → (k : ℕ) → k < at → slice_index seat.taken k ≡ slice_index seat.submitted k
 
-abbrev with_taken : Seat → List ℕ → Seat
-with_taken seat taken =
-    record { intake = seat.intake; quota = seat.quota; takes = seat.takes; submitted = seat.submitted; taken = taken }
+abbrev with_taken : Seat → List ℕ → List ℕ → Seat
+with_taken seat taken swapped =
+    record {
+      intake = seat.intake;
+      quota = seat.quota;
+      takes = seat.takes;
+      submitted = seat.submitted;
+      taken = taken;
+      additions = seat.additions;
+      swapped = swapped;
+    }
+
+-- one word more, in the order of the words
+next_word : (swapped cuts : List ℕ) (at found : ℕ) → at < length cuts →
+    (swapped ++ range_with_len 0 (length (take at cuts))) ++ at ∷ []
+    ≡ swapped ++ range_with_len 0 (length (take (at + 1) (set cuts at found)))
+next_word swapped cuts at found lt =
+    let more : length (take (at + 1) (set cuts at found)) ≡ at + 1 =
+    length-take-le (at + 1) (set cuts at found) (omega (arith, length-set cuts at found)) in
+    append_assoc swapped (range_with_len 0 (length (take at cuts))) (at ∷ [])
+    ∙ ap (λ n. swapped ++ (range_with_len 0 n ++ at ∷ [])) (length-take-le at cuts (omega arith))
+    ∙ ap (λ l. swapped ++ l) (sym (range-more at))
+    ∙ ap (λ n. swapped ++ range_with_len 0 n) (sym more)
 
 pub cut_none : (old : Seat) (cuts : List ℕ) → IsSeat old → CutTo old old 0 cuts
 cut_none old cuts known =
     record {
-      same = ap (λ t. with_taken old t) (sym (added-nil old.taken));
+      same = ap (λ t. with_taken old t old.swapped) (sym (added-nil old.taken))
+          ∙ ap (λ l. with_taken old (added old.taken []) l) (sym (append-nil old.swapped));
       old_known = known;
       known = known;
       least = λ k lt. absurd (omega arith);
@@ -53,12 +82,14 @@ pub cut_more : (old seat after : Seat) (at found : ℕ) (cuts : List ℕ) → Cu
 cut_more old seat after at found cuts so_far lt len took =
     record {
       same = took.0 ∙ ap (λ (s : Seat). seat_after_take s at found) so_far.same
-          ∙ ap (λ t. with_taken old t) (raised-added old.taken cuts at found (omega (
+          ∙ ap (λ t. with_taken old t ((old.swapped ++ range_with_len 0 (length (take at cuts))) ++ at ∷ []))
+          (raised-added old.taken cuts at found (omega (
             arith,
             so_far.old_known.taken_row,
             lt,
-          )) (omega (arith, lt, len)))
-          ∙ ap (λ n. with_taken old (added old.taken (take n (set cuts at found)))) (sym (add-one at));
+          )) (omega (arith, lt, len)) ∙ ap (λ n. added old.taken (take n (set cuts at found))) (sym (add-one at)))
+          ∙ ap (λ l. with_taken old (added old.taken (take (at + 1) (set cuts at found))) l)
+          (next_word old.swapped cuts at found (omega (arith, lt, len)));
       old_known = so_far.old_known;
       known = took.1;
       least = λ k lt'. elim (cases_eq k at) [

@@ -1,7 +1,7 @@
 -- The laws, each by its lemmas.
 use Rattle.us_intake.specs.Laws.{WholeIsAlone, WholeBalances, StepsKeepAccount}
 use Rattle.us_intake.proofs.AccountLemmas.{others_spent, whole_takes, whole_submitted, whole_balances}
-use Rattle.us_intake.proofs.StepLemmas.{submits, swaps, splits, joins, opens}
+use Rattle.us_intake.proofs.StepLemmas.{submits, swaps, splits, joins, looks, opens}
 
 pub alone-whole : WholeIsAlone
 alone-whole terms words parts seat part a at whole =
@@ -14,4 +14,11 @@ balanced-whole terms words parts seat part a at whole cluster = (
 )
 
 pub steps-keep : StepsKeepAccount
-steps-keep = record { opening = opens; submitting = submits; taking = swaps; splitting = splits; joining = joins }
+steps-keep = record {
+  opening = opens;
+  submitting = submits;
+  taking = swaps;
+  splitting = splits;
+  joining = joins;
+  looking = looks;
+}

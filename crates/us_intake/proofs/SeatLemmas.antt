@@ -4,7 +4,7 @@ use Rattle.atomic_table.specs.Seated.{TableId}
 use Rattle.atomic_table.specs.Table.{Me, State, Final, Seen}
 use Rattle.us_intake.specs.Tallies.{added}
 use Rattle.us_intake.specs.Seats.{IsIntake}
-use Rattle.us_intake.specs.Accounts.{Terms, Part, Account, joined_part}
+use Rattle.us_intake.specs.Accounts.{Terms, Part, Account, joined_part, part_after_look}
 use Rattle.us_intake.specs.Parts.{Known}
 use Rattle.us_intake.specs.Insides.{seat_at, IsInside}
 use Rattle.us_intake.proofs.SumLemmas.{item_at}
@@ -18,12 +18,12 @@ pub inside_joined : {S : Type 0} (id one_id other_id : TableId) (me one other : 
     IsInside one_id one quota spent takes submitted taken →
     IsInside other_id other its_quota its_spent its_takes its_submitted its_taken →
     id ≡ one_id → other_id.words ≡ one_id.words →
-    me ≡ (joined_part one.0 other.0, []) → Known me.0 → all_submitted ≡ added submitted its_submitted →
+    me ≡ (part_after_look (joined_part one.0 other.0), []) → Known me.0 → all_submitted ≡ added submitted its_submitted →
     all_taken ≡ added taken its_taken →
     IsInside id me (quota + its_quota) (spent + its_spent) (takes || its_takes) all_submitted all_taken
 inside_joined {S} id one_id other_id me one other quota spent its_quota its_spent takes its_takes submitted taken
     its_submitted its_taken all_submitted all_taken first second same words is known sub tak =
-    let part : me.0 ≡ joined_part one.0 other.0 = ap (λ (m : Me S Part). m.0) is in
+    let part : me.0 ≡ part_after_look (joined_part one.0 other.0) = ap (λ (m : Me S Part). m.0) is in
     let rows : length (added one.0.submitted other.0.submitted) ≡ length one.0.submitted =
     length-added one.0.submitted other.0.submitted (omega (
       arith,
@@ -58,6 +58,7 @@ inside_joined {S} id one_id other_id me one other quota spent its_quota its_spen
           ∙ ap (λ l. added one.0.submitted l) second.same_submitted ∙ sym (ap (λ (p : Part). p.submitted) part);
       same_taken = tak ∙ ap (λ l. added l its_taken) first.same_taken
           ∙ ap (λ l. added one.0.taken l) second.same_taken ∙ sym (ap (λ (p : Part). p.taken) part);
+      looked = ap (λ (p : Part). p.looks) part;
       known = record {
         intake = intake;
         submitted_row = omega (
@@ -73,6 +74,7 @@ inside_joined {S} id one_id other_id me one other quota spent its_quota its_spen
         within = known.within;
         taken_within = known.taken_within;
         idle = known.idle;
+        no_swap = known.no_swap;
         whole_takes = known.whole_takes;
       };
     }

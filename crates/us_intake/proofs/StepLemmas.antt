@@ -3,7 +3,7 @@ use Rattle.std.proofs.Common.{◌≡◌, ◌≢◌, ℕ, zero, suc, ◌+◌, ◌
 use Rattle.std.proofs.lemmas.Option.{none-some, same_Some}
 use Rattle.std.proofs.lemmas.List.Sums.{sum_by-append}
 use Rattle.us_intake.specs.Tallies.{empty_tally, raised}
-use Rattle.us_intake.specs.Accounts.{Terms, Part, spent_part, Stands, Account, first_part, part_after_submit, part_after_swap, part_after_split, new_part, joined_part}
+use Rattle.us_intake.specs.Accounts.{Terms, Part, spent_part, Stands, Account, first_part, part_after_submit, part_after_swap, part_after_split, new_part, joined_part, part_after_look}
 use Rattle.us_intake.proofs.SumLemmas.{set_item, set_other, snoc_item, sum-set, terms_le}
 use Rattle.us_intake.proofs.TallyLemmas.{index-raised, index-cleared, sum-raised, index-empty, sum-empty, length-empty, index-added, sum-added}
 use Rattle.us_intake.proofs.AccountLemmas.{one_if, quota_of, turn_of, taken_at, submitted_at, taker_stands}
@@ -46,6 +46,7 @@ submits terms words parts seat part cluster bytes a at stands there row within =
       some = stands.some;
       within = omega (arith, sum-raised part.submitted cluster bytes row, within);
       idle = stands.idle;
+      no_swap = stands.no_swap;
     })
     (λ k. omega (arith, index-raised words cluster bytes k inside, index-raised part.submitted cluster bytes k row))
 
@@ -64,6 +65,7 @@ swaps terms words parts seat part cluster a at takes there row =
       some = stands.some;
       within = stands.within;
       idle = λ idle. absurd (true≢false (sym takes ∙ idle));
+      no_swap = λ idle. absurd (true≢false (sym takes ∙ idle));
     })
     (λ k. omega (arith, index-cleared words cluster k inside, index-raised part.taken cluster found k row))
 
@@ -81,6 +83,7 @@ splits terms words parts seat part quota a at stands some less within =
       some = omega arith;
       within = omega (arith, within);
       idle = stands.idle;
+      no_swap = stands.no_swap;
     } in
     let right_stands : Stands terms right =
     record {
@@ -88,6 +91,7 @@ splits terms words parts seat part quota a at stands some less within =
       some = some;
       within = omega (arith, sum-empty (length part.submitted));
       idle = λ idle cluster. index-empty (length part.submitted) cluster;
+      no_swap = λ idle. refl;
     } in
     record {
       small = a.small;
@@ -156,6 +160,9 @@ joins terms words parts seat other part its a apart at at_other stands its_stand
             stands.idle none.0 cluster,
             its_stands.idle none.1 cluster,
           );
+      no_swap = λ idle.
+          let none = neither part.takes its.takes idle in
+          ap (λ l. l ++ its.swapped) (stands.no_swap none.0) ∙ its_stands.no_swap none.1;
     } in
     record {
       small = a.small;
@@ -191,6 +198,18 @@ joins terms words parts seat other part its a apart at at_other stands its_stand
           (set_item first other k spent_part u e);
     }
 
+pub looks : (terms : Terms) (words : List ℕ) (parts : List Part) (seat : ℕ) (part : Part) → Account terms words parts →
+    slice_get parts seat ≡ Some part → Stands terms part → Account terms words (set parts seat (part_after_look part))
+looks terms words parts seat part a at stands =
+    moved terms words words parts seat part (part_after_look part) a at refl refl refl
+    (record {
+      whole = stands.whole;
+      some = stands.some;
+      within = stands.within;
+      idle = stands.idle;
+      no_swap = stands.no_swap;
+    }) (λ k. refl)
+
 only_item : (terms : Terms) (part u : Part) (k : ℕ) → slice_get (part ∷ []) k ≡ Some u → Stands terms part →
     (u ≡ spent_part) ⊎ Stands terms u
 only_item terms part u zero e stands = inr (subst (λ (p : Part). Stands terms p) (same_Some part u e) stands)
@@ -206,6 +225,7 @@ opens terms some small =
       some = some;
       within = omega (arith, sum-empty terms.clusters);
       idle = λ idle. absurd (true≢false idle);
+      no_swap = λ idle. refl;
     } in
     record {
       small = small;

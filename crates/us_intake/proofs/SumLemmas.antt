@@ -42,11 +42,6 @@ module _ {A : Type 0} where
   set_here (x ∷ xs) zero a b e = refl
   set_here (x ∷ xs) (suc i) a b e = set_here xs i a b e
 
-  pub set_same : (l : List A) (i : ℕ) (a : A) → slice_get l i ≡ Some a → set l i a ≡ l
-  set_same [] i a e = refl
-  set_same (x ∷ xs) zero a e = ap (λ y. y ∷ xs) (sym (same_Some x a e))
-  set_same (x ∷ xs) (suc i) a e = ap (λ l. x ∷ l) (set_same xs i a e)
-
   pub snoc_item : (l : List A) (a b : A) (j : ℕ) → slice_get (l ++ a ∷ []) j ≡ Some b →
       (slice_get l j ≡ Some b) ⊎ (a ≡ b)
   snoc_item [] a b zero e = inr (same_Some a b e)

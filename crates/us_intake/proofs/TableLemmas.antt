@@ -1,12 +1,12 @@
 -- What the table asks of each step, from the account.
-use Rattle.std.proofs.Common.{◌≡◌, ℕ, ◌+◌, ◌%◌, ◌^◌, ◌<◌, ◌≤◌, true, List, [], length, set, sum, slice_index, slice_get, Some, ap, sym, subst, subst₂, ◌∙◌, arith, mod-eq_of_lt}
+use Rattle.std.proofs.Common.{◌≡◌, ℕ, ◌+◌, ◌%◌, ◌^◌, ◌<◌, ◌≤◌, true, List, [], length, set, sum, slice_index, slice_get, Some, ap, sym, subst, ◌∙◌, arith, mod-eq_of_lt}
 use Rattle.atomic_table.specs.Table.{State, Me, keeps, Allows, Splits, Joins}
 use Rattle.us_intake.specs.Tallies.{raised}
-use Rattle.us_intake.specs.Accounts.{Terms, Part, spent_part, Stands, Account, part_after_submit, part_after_swap, part_after_split, new_part, joined_part}
+use Rattle.us_intake.specs.Accounts.{Terms, Part, spent_part, Stands, Account, part_after_submit, part_after_swap, part_after_split, new_part, joined_part, part_after_look}
 use Rattle.us_intake.specs.Parts.{Known, Covers}
-use Rattle.us_intake.proofs.SumLemmas.{item_at, set_here, set_same, set_other}
+use Rattle.us_intake.proofs.SumLemmas.{item_at, set_here, set_other}
 use Rattle.us_intake.proofs.AccountLemmas.{standing, taker_stands, word_le, known, covers}
-use Rattle.us_intake.proofs.StepLemmas.{submits, swaps, splits, joins}
+use Rattle.us_intake.proofs.StepLemmas.{submits, swaps, splits, joins, looks}
 use Rattle.std.proofs.lemmas.List.{get_or-set_same, set-get_or}
 
 module _ {S : Type 0} (terms : Terms) where
@@ -68,16 +68,25 @@ module _ {S : Type 0} (terms : Terms) where
         ),
       )
 
-  pub look_step : (slots seat cluster : ℕ) (me : Me S Part) → me.1 ≡ [] → 1 ≤ me.0.quota →
-      Allows holds slots seat me cluster (λ n. n) (λ n after. (after ≡ (me.0, [])) × Known after.0)
-  look_step slots seat cluster me bare has s kept homes at lt =
-      let item : slice_get s.views seat ≡ Some me.0 = item_at s.views seat me.0 at in (
-        me.0,
+  pub look_step : (slots seat cluster : ℕ) (me : Me S Part) → me.1 ≡ [] → me.0.looks ≡ true → 1 ≤ me.0.quota →
+      Allows holds slots seat me cluster (λ n. n) (λ n after. (me.0.looks ≡ true)
+      × (after ≡ (part_after_look me.0, [])) × Known after.0)
+  look_step slots seat cluster me bare owed has s kept homes at lt =
+      let part : Part = part_after_look me.0 in
+      let item : slice_get s.views seat ≡ Some me.0 = item_at s.views seat me.0 at in
+      let after : Account terms s.words (set s.views seat part) =
+      looks terms s.words s.views seat me.0 kept item (standing terms s.words s.views kept seat me.0 item has) in
+      let here : slice_get (set s.views seat part) seat ≡ Some part = set_here s.views seat me.0 part item in (
+        part,
         keeps,
         tt,
-        subst₂ (λ (words : List ℕ) (parts : List Part). Account terms words parts) (sym (set-get_or s.words cluster
-            0)) (sym (set_same s.views seat me.0 item)) kept,
-        (ap (λ l. (me.0, l)) bare, known terms s.words s.views kept seat me.0 item has),
+        subst (λ (words : List ℕ). Account terms words (set s.views seat part)) (sym (set-get_or s.words cluster 0))
+            after,
+        (
+          owed,
+          ap (λ l. (part, l)) bare,
+          known terms s.words (set s.views seat part) after seat part here has,
+        ),
       )
 
   pub split_step : (seat quota : ℕ) (part : Part) → 1 ≤ quota → quota < part.quota →

@@ -1,6 +1,6 @@
 -- The account of an intake: what holds of its words and of all its seats between any two atomic steps, whatever threads
 -- do (ours). The code's table of words is of this rule, so that each step is proved to keep it.
-use Rattle.std.specs.Prelude.{◌≡◌, ℕ, ◌+◌, ◌-◌, ◌^◌, ◌<◌, ◌≤◌, ◌⊎◌, Bool, true, false, ◌||◌, List, [], length, sum, sum_by, count_by, slice_index, slice_get, Some}
+use Rattle.std.specs.Prelude.{◌≡◌, ℕ, ◌+◌, ◌-◌, ◌^◌, ◌<◌, ◌≤◌, ◌⊎◌, Bool, true, false, ◌||◌, List, [], ◌∷◌, ◌++◌, length, sum, sum_by, count_by, slice_index, slice_get, Some}
 use Rattle.us_intake.specs.Tallies.{empty_tally, raised, added}
 
 -- what an intake was opened for
@@ -15,17 +15,34 @@ pub record Part : Type 0 where
   pub takes : Bool
   pub submitted : List ℕ
   pub taken : List ℕ
+  -- in how many additions it submitted, and the words that it swapped to take, in their order
+  pub additions : ℕ
+  pub swapped : List ℕ
+  -- whether it was joined, and no load has looked at it since
+  pub looks : Bool
 
 -- what a join leaves of the seat that goes
 abbrev pub spent_part : Part
-spent_part = record { whole = 0; quota = 0; takes = false; submitted = []; taken = [] }
+spent_part =
+    record {
+      whole = 0;
+      quota = 0;
+      takes = false;
+      submitted = [];
+      taken = [];
+      additions = 0;
+      swapped = [];
+      looks = false;
+    }
 
--- a seat that stands: it has some of the quota and keeps to it, and where it doesn't take, it has taken nothing
+-- a seat that stands: it has some of the quota and keeps to it, and where it doesn't take, it has swapped no word and
+-- taken nothing
 pub record Stands (terms : Terms) (part : Part) : Type 0 where
   pub whole : part.whole ≡ terms.quota
   pub some : 1 ≤ part.quota
   pub within : sum part.submitted ≤ part.quota
   pub idle : part.takes ≡ false → (cluster : ℕ) → slice_index part.taken cluster ≡ 0
+  pub no_swap : part.takes ≡ false → part.swapped ≡ []
 
 pub record Account (terms : Terms) (words : List ℕ) (parts : List Part) : Type 0 where
   pub small : terms.quota < 2 ^ 62
@@ -41,7 +58,8 @@ pub record Account (terms : Terms) (words : List ℕ) (parts : List Part) : Type
   -- each seat stands, or a join has spent it
   pub seats : (seat : ℕ) (part : Part) → slice_get parts seat ≡ Some part → (part ≡ spent_part) ⊎ Stands terms part
 
--- What the steps make of a seat's part: opening, `submit`, the `swap` of one word by `cut`, splitting, joining.
+-- What the steps make of a seat's part: opening, `submit`, the `swap` of one word by `cut`, splitting, joining, and the
+-- load behind a join.
 
 abbrev pub first_part : Terms → Part
 first_part terms =
@@ -51,6 +69,9 @@ first_part terms =
       takes = true;
       submitted = empty_tally terms.clusters;
       taken = empty_tally terms.clusters;
+      additions = 0;
+      swapped = [];
+      looks = false;
     }
 
 abbrev pub part_after_submit : Part → ℕ → ℕ → Part
@@ -61,6 +82,9 @@ part_after_submit part cluster bytes =
       takes = part.takes;
       submitted = raised part.submitted cluster bytes;
       taken = part.taken;
+      additions = part.additions + 1;
+      swapped = part.swapped;
+      looks = part.looks;
     }
 
 abbrev pub part_after_swap : Part → ℕ → ℕ → Part
@@ -71,6 +95,9 @@ part_after_swap part cluster bytes =
       takes = part.takes;
       submitted = part.submitted;
       taken = raised part.taken cluster bytes;
+      additions = part.additions;
+      swapped = part.swapped ++ cluster ∷ [];
+      looks = part.looks;
     }
 
 abbrev pub part_after_split : Part → ℕ → Part
@@ -81,6 +108,9 @@ part_after_split part quota =
       takes = part.takes;
       submitted = part.submitted;
       taken = part.taken;
+      additions = part.additions;
+      swapped = part.swapped;
+      looks = part.looks;
     }
 
 -- the part that is split off
@@ -92,6 +122,9 @@ new_part part quota =
       takes = false;
       submitted = empty_tally (length part.submitted);
       taken = empty_tally (length part.submitted);
+      additions = 0;
+      swapped = [];
+      looks = false;
     }
 
 abbrev pub joined_part : Part → Part → Part
@@ -102,4 +135,20 @@ joined_part one other =
       takes = one.takes || other.takes;
       submitted = added one.submitted other.submitted;
       taken = added one.taken other.taken;
+      additions = one.additions + other.additions;
+      swapped = one.swapped ++ other.swapped;
+      looks = true;
+    }
+
+abbrev pub part_after_look : Part → Part
+part_after_look part =
+    record {
+      whole = part.whole;
+      quota = part.quota;
+      takes = part.takes;
+      submitted = part.submitted;
+      taken = part.taken;
+      additions = part.additions;
+      swapped = part.swapped;
+      looks = false;
     }

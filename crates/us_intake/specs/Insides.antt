@@ -1,5 +1,5 @@
 -- How the code's seats and intakes are kept.
-use Rattle.std.specs.Prelude.{◌≡◌, ℕ, Bool, List, [], sum}
+use Rattle.std.specs.Prelude.{◌≡◌, ℕ, Bool, false, List, [], sum}
 use Rattle.atomic_table.specs.Seated.{TableId}
 use Rattle.atomic_table.specs.Table.{Me}
 use Rattle.us_intake.specs.Seats.{Intake, Seat, IsIntake, IsSeat}
@@ -14,9 +14,11 @@ seat_at id part =
       takes = part.takes;
       submitted = part.submitted;
       taken = part.taken;
+      additions = part.additions;
+      swapped = part.swapped;
     }
 
--- the seat's fields are what its part in the account says
+-- the seat's fields are what its part in the account says, and where it was joined, a load has looked at it
 pub record IsInside {S : Type 0} (id : TableId) (me : Me S Part) (quota bytes_spent : ℕ) (takes : Bool) (submitted
     taken : List ℕ) : Type 0 where
   pub bare : me.1 ≡ []
@@ -25,6 +27,7 @@ pub record IsInside {S : Type 0} (id : TableId) (me : Me S Part) (quota bytes_sp
   pub same_takes : takes ≡ me.0.takes
   pub same_submitted : submitted ≡ me.0.submitted
   pub same_taken : taken ≡ me.0.taken
+  pub looked : me.0.looks ≡ false
   pub known : IsSeat (seat_at id me.0)
 
 abbrev pub intake_at : TableId → ℕ → Intake

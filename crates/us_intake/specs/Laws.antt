@@ -1,7 +1,7 @@
 -- Laws of the account.
 use Rattle.std.specs.Prelude.{◌≡◌, ◌≢◌, ℕ, ◌+◌, ◌^◌, ◌≤◌, ◌<◌, true, List, [], ◌∷◌, ◌++◌, length, sum, sum_by, slice_index, slice_set, slice_get, Some}
 use Rattle.us_intake.specs.Tallies.{empty_tally, raised}
-use Rattle.us_intake.specs.Accounts.{Terms, Part, spent_part, Stands, Account, first_part, part_after_submit, part_after_swap, part_after_split, new_part, joined_part}
+use Rattle.us_intake.specs.Accounts.{Terms, Part, spent_part, Stands, Account, first_part, part_after_submit, part_after_swap, part_after_split, new_part, joined_part, part_after_look}
 
 -- a seat with the whole quota takes, and no other one stands
 abbrev pub WholeIsAlone : Type 0
@@ -20,7 +20,7 @@ WholeBalances =
     (sum_by (λ its. slice_index its.submitted cluster) parts ≡ slice_index part.submitted cluster)
     × (slice_index words cluster + slice_index part.taken cluster ≡ slice_index part.submitted cluster)
 
--- An account is opened, and each step of a seat that stands keeps it. A load keeps the words and the parts.
+-- an account is opened, and each step of a seat that stands keeps it
 pub record StepsKeepAccount : Type 0 where
   pub opening : (terms : Terms) → 1 ≤ terms.quota → terms.quota < 2 ^ 62 →
       Account terms (empty_tally terms.clusters) (first_part terms ∷ [])
@@ -41,3 +41,7 @@ pub record StepsKeepAccount : Type 0 where
       Account terms words parts → other ≢ seat → slice_get parts seat ≡ Some part → slice_get parts other ≡ Some its →
       Stands terms part → Stands terms its →
       Account terms words (slice_set (slice_set parts seat (joined_part part its)) other spent_part)
+  -- the load behind a join
+  pub looking : (terms : Terms) (words : List ℕ) (parts : List Part) (seat : ℕ) (part : Part) →
+      Account terms words parts → slice_get parts seat ≡ Some part → Stands terms part →
+      Account terms words (slice_set parts seat (part_after_look part))

@@ -3,9 +3,9 @@
 -- In a definition `≡` is equals, `≢` differs from, `×` and, `⊎` or, `→` implies, `||` or of truth values, `++` one list
 -- behind another, `∷` one item before a list, and ℕ has the whole numbers from 0; `-` stops at 0.
 -- `slice_index tally cluster` is a cluster's number of bytes, 0 behind the last; `sum` adds up a tally, and `sum_by f`
--- adds up what `f` gives of each item of a list.
+-- adds up what `f` gives of each item of a list. `range_with_len 0 n` is the list of n numbers from 0 on.
 
--- bytes by SID cluster
+-- bytes by cluster
 pub mod Tallies
 -- intakes and seats
 pub mod Seats

@@ -1,5 +1,5 @@
 -- What one step tells of a seat's part, whatever the others are.
-use Rattle.std.specs.Prelude.{◌≡◌, ℕ, ◌^◌, ◌<◌, ◌≤◌, true, false, sum, slice_index}
+use Rattle.std.specs.Prelude.{◌≡◌, ℕ, ◌^◌, ◌<◌, ◌≤◌, true, false, [], sum, slice_index}
 use Rattle.us_intake.specs.Accounts.{Part}
 
 pub record Known (part : Part) : Type 0 where
@@ -8,6 +8,7 @@ pub record Known (part : Part) : Type 0 where
   pub within : sum part.submitted ≤ part.quota
   pub taken_within : sum part.taken ≤ part.whole
   pub idle : part.takes ≡ false → (cluster : ℕ) → slice_index part.taken cluster ≡ 0
+  pub no_swap : part.takes ≡ false → part.swapped ≡ []
   pub whole_takes : part.quota ≡ part.whole → part.takes ≡ true
 
 -- after the swap of a cluster's word: all that the seat submitted of it was taken; with the whole quota, no more was

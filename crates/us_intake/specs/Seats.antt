@@ -1,9 +1,10 @@
 -- Intakes and seats, as their callers know them (ours).
-use Rattle.std.specs.Prelude.{◌≡◌, ℕ, ◌+◌, ◌-◌, ◌^◌, ◌<◌, ◌≤◌, ◌⊎◌, Bool, true, false, ◌||◌, List, length, sum, slice_index}
+use Rattle.std.specs.Prelude.{◌≡◌, ℕ, ◌+◌, ◌-◌, ◌^◌, ◌<◌, ◌≤◌, ◌⊎◌, Bool, true, false, ◌||◌, List, [], ◌∷◌, ◌++◌, length, sum, slice_index}
+use Rattle.std.specs.List.{range_with_len}
 use Rattle.atomic_table.specs.Seated.{TableId}
 use Rattle.us_intake.specs.Tallies.{empty_tally, raised, added}
 
--- an intake: which one it is, how many SID clusters it has a word for, and the bytes that may be submitted in all
+-- an intake: which one it is, how many words it has, each called a cluster, and the bytes that may be submitted in all
 pub record Intake : Type 0 where
   pub id : TableId
   pub clusters : ℕ
@@ -17,6 +18,9 @@ pub record Seat : Type 0 where
   pub takes : Bool
   pub submitted : List ℕ
   pub taken : List ℕ
+  -- in how many additions they submitted, and the words that they swapped to take, in their order
+  pub additions : ℕ
+  pub swapped : List ℕ
 
 -- the bytes that a seat has submitted, of all clusters
 abbrev pub spent : Seat → ℕ
@@ -31,6 +35,8 @@ first_seat intake =
       takes = true;
       submitted = empty_tally intake.clusters;
       taken = empty_tally intake.clusters;
+      additions = 0;
+      swapped = [];
     }
 
 -- a seat that is split off with so many bytes
@@ -42,6 +48,8 @@ new_seat intake quota =
       takes = false;
       submitted = empty_tally intake.clusters;
       taken = empty_tally intake.clusters;
+      additions = 0;
+      swapped = [];
     }
 
 -- no bytes, or all that the seat may submit, or more than it may yet
@@ -57,9 +65,11 @@ seat_after_split seat quota =
       takes = seat.takes;
       submitted = seat.submitted;
       taken = seat.taken;
+      additions = seat.additions;
+      swapped = seat.swapped;
     }
 
--- two seats of an intake made one
+-- two seats of an intake made one; one of them at most has swapped words
 abbrev pub joined_seat : Seat → Seat → Seat
 joined_seat one other =
     record {
@@ -68,9 +78,11 @@ joined_seat one other =
       takes = one.takes || other.takes;
       submitted = added one.submitted other.submitted;
       taken = added one.taken other.taken;
+      additions = one.additions + other.additions;
+      swapped = one.swapped ++ other.swapped;
     }
 
--- the seat that submitted so many bytes of a cluster
+-- the seat that submitted so many bytes of a cluster, by one addition
 abbrev pub seat_after_submit : Seat → ℕ → ℕ → Seat
 seat_after_submit seat cluster bytes =
     record {
@@ -79,9 +91,11 @@ seat_after_submit seat cluster bytes =
       takes = seat.takes;
       submitted = raised seat.submitted cluster bytes;
       taken = seat.taken;
+      additions = seat.additions + 1;
+      swapped = seat.swapped;
     }
 
--- the seat that took what one word held
+-- the seat that took what one word held, by one swap
 abbrev pub seat_after_take : Seat → ℕ → ℕ → Seat
 seat_after_take seat cluster bytes =
     record {
@@ -90,9 +104,11 @@ seat_after_take seat cluster bytes =
       takes = seat.takes;
       submitted = seat.submitted;
       taken = raised seat.taken cluster bytes;
+      additions = seat.additions;
+      swapped = seat.swapped ++ cluster ∷ [];
     }
 
--- the seat that took what a cut found
+-- the seat that took what a cut found, by one swap of each word, in the order of the clusters
 abbrev pub seat_after_cut : Seat → List ℕ → Seat
 seat_after_cut seat cuts =
     record {
@@ -101,6 +117,8 @@ seat_after_cut seat cuts =
       takes = seat.takes;
       submitted = seat.submitted;
       taken = added seat.taken cuts;
+      additions = seat.additions;
+      swapped = seat.swapped ++ range_with_len 0 (length cuts);
     }
 
 -- the whole quota is this seat's
@@ -130,4 +148,5 @@ pub record IsSeat (seat : Seat) : Type 0 where
   pub within : spent seat ≤ seat.quota
   pub taken_within : sum seat.taken ≤ seat.intake.quota
   pub idle : seat.takes ≡ false → (cluster : ℕ) → slice_index seat.taken cluster ≡ 0
+  pub no_swap : seat.takes ≡ false → seat.swapped ≡ []
   pub whole_takes : IsWhole seat → seat.takes ≡ true

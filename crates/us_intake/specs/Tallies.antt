@@ -1,4 +1,4 @@
--- Tallies: a number of bytes for each SID cluster, in the order of the clusters' numbers (ours).
+-- Tallies: a number of bytes for each cluster of an intake, in the order of the clusters' numbers (ours).
 use Rattle.std.specs.Prelude.{ℕ, ◌+◌, List, [], ◌∷◌, replicate, slice_index, slice_set}
 
 -- none of any cluster

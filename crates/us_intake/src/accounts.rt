@@ -1,4 +1,4 @@
-ghost use Rattle.std.specs.Prelude.{◌≡◌, ℕ, []};
+ghost use Rattle.std.specs.Prelude.{◌≡◌, ℕ, true, []};
 ghost use Rattle.us_intake.specs.Accounts as spec;
 ghost use Rattle.us_intake.specs.Parts.{Known, Covers};
 
@@ -53,11 +53,12 @@ impl<S> Play<S, Part> for Takes {
         × Known after.0 × Covers after.0 step.word };
 }
 
-/// What a load tells: what the account says of a seat.
+/// What a load tells, which a seat may make once it was joined: what the account says of it.
 pub(crate) struct Looks;
 
 impl<S> Play<S, Part> for Looks {
-    ghost then = { λ step before found after. (after ≡ (before.0, [])) × Known after.0 };
+    ghost then = { λ step before found after. (before.0.looks ≡ true) × (after ≡ (spec.part_after_look before.0, []))
+        × Known after.0 };
 }
 
 /// The bytes of a split, which each call names.

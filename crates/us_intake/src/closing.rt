@@ -4,7 +4,7 @@ ghost use Rattle.std.specs.Mem.Slots.{slots_items, slots_len, IsFull};
 use atomic_table::Closed;
 use std::alloc::Global;
 
-/// What an intake comes to, in bytes by SID cluster: what is left in its words, what was submitted by all its seats,
+/// What an intake comes to, in bytes by cluster: what is left in its words, what was submitted by all its seats,
 /// and what was taken. Of each cluster, what is left and what was taken are what was submitted.
 #[derive(Drop)]
 pub struct Closing {

@@ -17,7 +17,7 @@ pub enum IntakeFault {
 
 impl IntakeFault {
     ghost use Rattle.std.specs.Prelude.{◌≡◌};
-    ghost use Rattle.us_intake.specs.Codes.{code_of};
+    ghost use Rattle.us_intake.specs.Codes.{code_of, sentence_of};
 
     /// Its code, I1 to I3.
     pub fn code(self) -> &'static str
@@ -31,7 +31,9 @@ impl IntakeFault {
     }
 
     /// What it says, behind its code.
-    fn sentence(self) -> &'static str {
+    fn sentence(self) -> &'static str
+        ensures { result.now ≡ sentence_of self }
+    {
         match self {
             IntakeFault::QuotaSpent => "the bytes are over what the seat's quota leaves",
             IntakeFault::BadQuota => "the quota is none that can be given",
@@ -42,6 +44,11 @@ impl IntakeFault {
 
 /// Writes a fault as its code and what it says.
 impl fmt::Display for IntakeFault {
+    ghost use Rattle.std.specs.Prelude.{Some};
+    ghost use Rattle.us_intake.specs.Codes.{fault_text};
+
+    ghost output = { λ fault. Some (fault_text fault) };
+
     fn fmt<W: fmt::Write>(&self, f: &mut fmt::Formatter<W>) -> fmt::Result {
         write!(f, "{}: {}", self.code(), self.sentence())
     }

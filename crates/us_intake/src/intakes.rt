@@ -14,13 +14,14 @@ use std::marker::{Brand, Model};
 
 mod steps;
 
-/// The most SID clusters of an intake (ours).
+/// The most clusters of an intake (ours): as many as a configuration has words.
 pub const MAX_CLUSTERS: u16 = 2_048;
 
 /// The bytes that no quota reaches (ours), so that two numbers of bytes below it add up in a word.
 const QUOTA_LIMIT: u64 = 1 << 62;
 
-/// The words that threads add requests to while rounds are cut: one for each SID cluster, without a lock.
+/// The words that threads add requests and marks to while rounds are cut, without a lock. An intake knows nothing of
+/// flows: what it calls a cluster is one of its words, whatever is told by it.
 #[derive(Drop)]
 pub struct Intake {
     table: Table<(), Part, Terms, Kept, Global>,

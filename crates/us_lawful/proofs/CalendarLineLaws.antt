@@ -11,7 +11,8 @@ use Rattle.us_holes.specs.Boards.{Board}
 use Rattle.us_requests.specs.declared.asks.Counts.{Counts}
 use Rattle.us_calendar.specs.declared.settled.Settled.{Settled}
 use Rattle.us_calendar.specs.declared.settled.Settled.TheVariants as settled
-use Rattle.us_calendar.specs.Entries.{Entry, rank_of, entries}
+use Rattle.us_calendar.specs.Entries.{Entry, rank_of, entries, owner_of, slots_of}
+use Rattle.us_calendar.specs.Occurrences.{ideal}
 use Rattle.us_calendar.specs.Calendars.{pace_of}
 use Rattle.us_calendar.specs.Runs as runs
 use Rattle.us_calendar.specs.Runs.{is_name, grants, misses, board_at_turn, IsOccurrence, IsRight}
@@ -25,14 +26,14 @@ use Rattle.us_output.proofs.PartLemmas.{all_append, all_contained, all_flat, all
 use Rattle.us_lawful.specs.declared.place.Place.{Place}
 use Rattle.us_lawful.specs.Runs.{Run, Judged}
 use Rattle.us_lawful.specs.Output.{output_of, judged_of, run_of}
-use Rattle.us_lawful.specs.CalendarLines.{ChannelEntry, channel_entries, round_quarters, closes, closing_in, names, times, is_right_line, tells_one_of, is_calendar_line_at, told_lines_hold, is_entry_at, closings_hold, calendar_lines_hold}
+use Rattle.us_lawful.specs.CalendarLines.{ChannelEntry, channel_entries, round_quarters, closes, speaks_in, is_there, closing_in, names, times, is_right_line, tells_one_of, is_calendar_line_at, told_lines_hold, is_entry_at, closings_hold, calendar_lines_hold}
 use Rattle.us_lawful.proofs.TestLemmas.{all_pass, any_before, any_behind, any_first, any_later}
 use Rattle.us_lawful.proofs.SameLemmas.{same_all}
-use Rattle.us_lawful.proofs.RoundLemmas.{rounds_of, IsRoundOf, rounds_are, round_at, rows_in, round_rows, last_rows}
+use Rattle.us_lawful.proofs.RoundLemmas.{rounds_of, IsRoundOf, rounds_are, round_at, rows_in, round_rows, last_rows, last_all}
 use Rattle.us_lawful.proofs.NameLemmas.{row_names, number_told}
-use Rattle.us_lawful.proofs.WindowLemmas.{rounds_for, closing_in_round, closed_once, open_once}
+use Rattle.us_lawful.proofs.WindowLemmas.{rounds_for, closing_in_round, closed_once, open_once, settled_come}
 use Rattle.us_lawful.proofs.CalendarLineLemmas.{IsListed, IsBuiltAt, AreBuilt, all_by_places, channel_lawful, some_grants, listed_once, occurrences_built}
-use Rattle.us_lawful.proofs.TimesLemmas.{rounds_built, all_lines, last_all, lines_counted}
+use Rattle.us_lawful.proofs.TimesLemmas.{rounds_built, all_lines, lines_counted}
 
 -- All that is listed.
 
@@ -87,43 +88,49 @@ filter_passes p Q (x ∷ xs) each = elim (cases_Bool (p x)) [
   | inr out ↦ rw out (filter_passes p Q xs each)
 ]
 
--- the numbers that close in a round close in the run
-closing_all : (run : Run) (round : ℕ) (e : Entry) (Q : ℕ → Type 0) → ((n : ℕ) → closes run e n ≡ true → Q n) →
-    AllByRecursion Q (closing_in run round e)
+-- the numbers that close in a round are there, and close in the run
+closing_all : (run : Run) (round : ℕ) (e : Entry) (Q : ℕ → Type 0) →
+    ((n : ℕ) → is_there run e n ≡ true → closes run e n ≡ true → Q n) → AllByRecursion Q (closing_in run round e)
 unfolding closing_in
 closing_all run round e Q each =
-    filter_passes (λ n. closes run e n && (runs.window_end e n / round_quarters run.tables == round)) Q
+    let now : ℕ → Bool = λ n. runs.window_end e n / round_quarters run.tables == round in
+    filter_passes (λ n. is_there run e n && (closes run e n && now n)) Q
     (range_with_len 0 (run.rounds * round_quarters run.tables * e.grants))
-    (λ n passes. each n (and_parts (closes run e n) (runs.window_end e n / round_quarters run.tables == round) passes).0)
+    (λ n passes.
+    let parts = and_parts (is_there run e n) (closes run e n && now n) passes in
+    each n parts.0 (and_parts (closes run e n) (now n) parts.1).0)
 
 -- A run whose lines name an occurrence as often as the calendar of its channel settled it.
 
-abbrev pub AreCounted : Run → List Row → Type 0
-AreCounted run lines = (place : ℕ) (c : Channel) (e : Entry) (n : ℕ) → IsListed run.tables place c e →
-    times e n lines ≡ runs.times (grants e n) (rounds_for run.tables c run.rounds)
-    + runs.times (misses e n) (rounds_for run.tables c run.rounds)
+abbrev pub AreCounted : Tables → List (List ℕ) → List Row → Type 0
+AreCounted t cuts lines = (place : ℕ) (c : Channel) (e : Entry) (n : ℕ) → IsListed t place c e →
+    times e n lines ≡ runs.times (grants e n) (rounds_for t c cuts) + runs.times (misses e n) (rounds_for t c cuts)
 
 -- a line is none that a place is about, or marks an occurrence
 abbrev pub LineHolds : Run → List Row → Place → Row → Type 0
 LineHolds run lines p row = (not (is_calendar_line_at p row) || list_any (tells_one_of run lines row) (channel_entries run.tables)) ≡ true
 
-module _ (run : Run) (lines : List Row) (lawful : AreTables run.tables) (counted : AreCounted run lines) where
-  -- what closes is named once,
-  closed_named : (place : ℕ) (c : Channel) (e : Entry) (n : ℕ) → IsListed run.tables place c e → closes run e n ≡ true →
-      times e n lines ≡ 1
-  closed_named place c e n is closed =
+module _ (t : Tables) (cuts : List (List ℕ)) (counts : Counts) (lines : List Row) (lawful : AreTables t)
+    (counted : AreCounted t cuts lines) where
+  abbrev run : Run
+  run = run_of t cuts counts
+
+  -- what is there and closes is named once,
+  closed_named : (place : ℕ) (c : Channel) (e : Entry) (n : ℕ) → IsListed t place c e → is_there run e n ≡ true →
+      closes run e n ≡ true → times e n lines ≡ 1
+  closed_named place c e n is there closed =
       counted place c e n is
-      ∙ closed_once run.tables c e n run.rounds (channel_lawful run.tables place c lawful is.at)
-      (listed_once run.tables place c e n run.rounds lawful is) closed
+      ∙ closed_once t c cuts (speaks_in run e) e n (channel_lawful t place c lawful is.at)
+      (listed_once t cuts counts place c e n lawful is) there closed
 
   -- and what doesn't at most once
-  named_once : (place : ℕ) (c : Channel) (e : Entry) (n : ℕ) → IsListed run.tables place c e →
+  named_once : (place : ℕ) (c : Channel) (e : Entry) (n : ℕ) → IsListed t place c e →
       (closes run e n || nat_le (times e n lines) 1) ≡ true
   named_once place c e n is = elim (cases_Bool (closes run e n)) [
     | inl closed ↦ or_left (closes run e n) (nat_le (times e n lines) 1) closed
     | inr opens ↦
-        let few = open_once run.tables c e n run.rounds (channel_lawful run.tables place c lawful is.at)
-        (listed_once run.tables place c e n run.rounds lawful is) opens in
+        let few = open_once t c cuts (speaks_in run e) e n (channel_lawful t place c lawful is.at)
+        (listed_once t cuts counts place c e n lawful is) opens in
         or_right (closes run e n) (nat_le (times e n lines) 1)
         (le-leb (times e n lines) 1 (omega (arith, counted place c e n is, few)))
   ]
@@ -133,72 +140,81 @@ module _ (run : Run) (lines : List Row) (lawful : AreTables run.tables) (counted
   all_closings_hold judged p same =
       let each : (lines : List Row) → ChannelEntry → Bool = λ lines l. not (is_entry_at p l)
       || list_all (λ n. times l.entry n lines == 1) (closing_in run p.round l.entry) in
-      subst (λ lines. list_all (each lines) (channel_entries run.tables) ≡ true) (sym same)
-      (all_pass (each lines) (channel_entries run.tables) (listed_all run.tables (λ l. each lines l ≡ true)
+      subst (λ lines. list_all (each lines) (channel_entries t) ≡ true) (sym same)
+      (all_pass (each lines) (channel_entries t) (listed_all t (λ l. each lines l ≡ true)
       (λ place c e is. or_right (not (is_entry_at p (listed_on c e)))
       (list_all (λ n. times e n lines == 1) (closing_in run p.round e))
       (all_pass (λ n. times e n lines == 1) (closing_in run p.round e)
       (closing_all run p.round e (λ n. (times e n lines == 1) ≡ true)
-      (λ n closed. eq-eqb (times e n lines) 1 (closed_named place c e n is closed)))))))
+      (λ n there closed. eq-eqb (times e n lines) 1 (closed_named place c e n is there closed)))))))
 
   -- A line is right for the occurrence that it tells as settled.
-  told_right : (c : Channel) (e : Entry) (n r : ℕ) (board : Board) (s : Settled) → IsChannel run.tables c → r < run.rounds →
-      (grants e n s || misses e n s) ≡ true → IsRight (pace_of run.tables c) r e n board s →
+  told_right : (c : Channel) (e : Entry) (n r : ℕ) (board : Board) (s : Settled) → IsChannel t c → r < length cuts →
+      (grants e n s || misses e n s) ≡ true → IsRight (pace_of t c) r e (speaks_in run e (ideal e n)) n board s →
       is_right_line run (listed_on c e) n (settled_row r c s) ≡ true
   told_right c e n r board (settled.Granted kind id i k start slots owner) is before named right =
       let name : is_name e n (rank_of kind) id i k ≡ true =
       elim (or_cases (is_name e n (rank_of kind) id i k) false named) [ inl own ↦ own | inr never ↦ absurd (cc never) ] in
       let facts = right name in
+      let active : Bool = speaks_in run e (ideal e n) in
       rw (
         eq-eqb c.id c.id refl,
         facts.1,
-        eq-eqb owner.sid e.owner.sid (ap (λ o. o.sid) facts.4),
-        eq-eqb owner.iuc e.owner.iuc (ap (λ o. o.iuc) facts.4),
-        eq-eqb slots e.slots facts.3,
+        eq-eqb owner.sid (owner_of e active).sid (ap (λ o. o.sid) facts.4),
+        eq-eqb owner.iuc (owner_of e active).iuc (ap (λ o. o.iuc) facts.4),
+        eq-eqb slots (slots_of e active) facts.3,
       ) refl
   told_right c e n r board (settled.Missed kind id i k) is before named right =
       let facts = right named in
-      let closing = closing_in_round run.tables c e n r run.rounds is before facts.0 facts.1 in
+      let closing = closing_in_round t c e n r (length cuts) is before facts.0 facts.1 in
       rw (
         eq-eqb c.id c.id refl,
         closing.0,
-        eq-eqb r (runs.window_end e n / round_quarters run.tables) (sym closing.1),
+        eq-eqb r (runs.window_end e n / round_quarters t) (sym closing.1),
       ) refl
 
   -- so that it marks one of an entry
   told_marks : (place : ℕ) (c : Channel) (e : Entry) (n r : ℕ) (board : Board) (s : Settled) →
-      IsListed run.tables place c e → r < run.rounds → (grants e n s || misses e n s) ≡ true →
-      IsRight (pace_of run.tables c) r e n board s →
-      list_any (tells_one_of run lines (settled_row r c s)) (channel_entries run.tables) ≡ true
-  told_marks place c e n r board s is before named right =
+      IsListed t place c e → r < length cuts → (grants e n s || misses e n s) ≡ true → is_there run e n ≡ true →
+      IsRight (pace_of t c) r e (speaks_in run e (ideal e n)) n board s →
+      list_any (tells_one_of run lines (settled_row r c s)) (channel_entries t) ≡ true
+  told_marks place c e n r board s is before named there right =
       let l : ChannelEntry = listed_on c e in
       let row : Row = settled_row r c s in
-      listed_any run.tables (tells_one_of run lines row) place c e is
-      (subst (λ m. (names e m row && (is_right_line run l m row && (closes run e m || nat_le (times e m lines) 1))) ≡ true)
+      let once : ℕ → Bool = λ m. closes run e m || nat_le (times e m lines) 1 in
+      listed_any t (tells_one_of run lines row) place c e is
+      (subst (λ m. (names e m row && (is_there run e m && (is_right_line run l m row && once m))) ≡ true)
       (sym (number_told e n r c s named))
-      (and_from (names e n row) (is_right_line run l n row && (closes run e n || nat_le (times e n lines) 1))
-      (row_names e n r c s (some_grants run.tables place c e lawful is) ∙ named)
-      (and_from (is_right_line run l n row) (closes run e n || nat_le (times e n lines) 1)
-      (told_right c e n r board s (channel_lawful run.tables place c lawful is.at) before named right)
-      (named_once place c e n is))))
+      (and_from (names e n row) (is_there run e n && (is_right_line run l n row && once n))
+      (row_names e n r c s (some_grants t place c e lawful is) ∙ named)
+      (and_from (is_there run e n) (is_right_line run l n row && once n) there
+      (and_from (is_right_line run l n row) (once n)
+      (told_right c e n r board s (channel_lawful t place c lawful is.at) before named right)
+      (named_once place c e n is)))))
+
+  -- what the calendar of the channel settled in a round is told so: it is there, and right
+  abbrev AreRight : Channel → ℕ → runs.Round → Entry → ℕ → List Settled → Type 0
+  AreRight c r round e n all =
+      AllByRecursion (λ s. (grants e n s || misses e n s) ≡ true → is_there run e n ≡ true) all
+      × AllByRecursion (IsRight (pace_of t c) r e (speaks_in run e (ideal e n)) n (board_at_turn e n round)) all
 
   -- So hold the lines of a channel's round.
   -- those of what is settled,
   settled_hold : (p : Place) (r place : ℕ) (c : Channel) (round : runs.Round) (all : List Settled) →
-      slice_get run.tables.channels place ≡ Some c → r < run.rounds →
-      AllByRecursion (IsOccurrence (entries run.tables c)) all →
-      ((e : Entry) (n : ℕ) → Contains (entries run.tables c) e →
-      AllByRecursion (IsRight (pace_of run.tables c) r e n (board_at_turn e n round)) all) →
+      slice_get t.channels place ≡ Some c → r < length cuts → AllByRecursion (IsOccurrence (entries t c)) all →
+      ((e : Entry) (n : ℕ) → Contains (entries t c) e → AreRight c r round e n all) →
       AllByRecursion (LineHolds run lines p) (map (settled_row r c) all)
   settled_hold p r place c round [] at before of right = tt
   settled_hold p r place c round (s ∷ all) at before of right =
       let e : Entry = of.0.entry in
-      let n : ℕ = of.0.number in (
+      let n : ℕ = of.0.number in
+      let own = right e n of.0.among in (
         or_right (not (is_calendar_line_at p (settled_row r c s)))
-            (list_any (tells_one_of run lines (settled_row r c s)) (channel_entries run.tables))
+            (list_any (tells_one_of run lines (settled_row r c s)) (channel_entries t))
             (told_marks place c e n r (board_at_turn e n round) s (record { at = at; among = of.0.among }) before of.0.named
-            (right e n of.0.among).0),
-        settled_hold p r place c round all at before of.1 (λ e n among. (right e n among).1),
+            (own.0.0 of.0.named) own.1.0),
+        settled_hold p r place c round all at before of.1
+            (λ e n among. let more = right e n among in (more.0.1, more.1.1)),
       )
 
   -- those of requests,
@@ -208,19 +224,19 @@ module _ (run : Run) (lines : List Row) (lawful : AreTables run.tables) (counted
   requests_hold p r c (g ∷ all) = (refl, requests_hold p r c all)
 
   -- and all
-  pub build_holds : (p : Place) (r place : ℕ) (b : Built) → r < run.rounds →
-      IsBuiltAt run.tables run.rounds r place b → AllByRecursion (LineHolds run lines p) (rows_in r b)
+  pub build_holds : (p : Place) (r place : ℕ) (b : Built) → r < length cuts → IsBuiltAt t cuts r place b →
+      AllByRecursion (LineHolds run lines p) (rows_in r b)
   build_holds p r place b before is =
       let c : Channel = b.channel in
-      let right : (e : Entry) (n : ℕ) → Contains (entries run.tables c) e →
-      AllByRecursion (IsRight (pace_of run.tables c) r e n (board_at_turn e n is.round)) b.settled =
-      λ e n among. subst (λ all. AllByRecursion (IsRight (pace_of run.tables c) r e n (board_at_turn e n is.round)) all)
-      is.settled
-      ((listed_once run.tables place c e n run.rounds lawful (record { at = is.channel; among = among })).right r is.round
-      is.at) in
+      let right : (e : Entry) (n : ℕ) → Contains (entries t c) e → AreRight c r is.round e n b.settled =
+      λ e n among.
+      let once = listed_once t cuts counts place c e n lawful (record { at = is.channel; among = among }) in
+      subst (AreRight c r is.round e n) is.settled (
+        settled_come (pace_of t c) (speaks_in run e) (rounds_for t c cuts) e n r is.round once is.at,
+        once.right r is.round is.at,
+      ) in
       all_append (LineHolds run lines p) (map (settled_row r c) b.settled) (map (grant_row r c) b.grants)
-      (settled_hold p r place c is.round b.settled is.channel before
-      (occurrences_built run.tables run.rounds r place b is) right)
+      (settled_hold p r place c is.round b.settled is.channel before (occurrences_built t cuts r place b is) right)
       (requests_hold p r c b.grants)
 
 -- The lines of a schedule.
@@ -236,11 +252,11 @@ rounds_hold t cuts counts p r s lawful long at =
     all_found (IsRoundOf t (length cuts)) (rounds_of t cuts) r s (rounds_are t cuts lawful long) at in
     let number : s.round ≡ r = round_at t cuts r s at in
     let before : r < length cuts = omega (arith, number, is.before) in
-    let all : AreBuilt t (length cuts) r (builds_of s) = rounds_built t cuts r s lawful long at in
+    let all : AreBuilt t cuts r (builds_of s) = rounds_built t cuts r s lawful long at in
     subst (λ n. AllByRecursion (LineHolds run lines p) (flat_map (rows_in n) (builds_of s))) (sym number)
     (all_flat (LineHolds run lines p) (rows_in r) (builds_of s)
     (all_by_places (λ b. AllByRecursion (LineHolds run lines p) (rows_in r b)) (builds_of s)
-    (λ place b there. build_holds run lines lawful
+    (λ place b there. build_holds t cuts counts lines lawful
     (λ place c e n listed. lines_counted t cuts counts place c e n lawful long listed) p r place b before
     (all place b there))))
 
@@ -258,9 +274,9 @@ calendar_lines_are_lawful t cuts counts lawful long fit p =
     (all_flat (LineHolds run judged.lines p) round_rows (rounds_of t cuts)
     (all_by_places (λ s. AllByRecursion (LineHolds run judged.lines p) (round_rows s)) (rounds_of t cuts)
     (λ r s at. rounds_hold t cuts counts p r s lawful long at)))
-    (last_all (LineHolds run judged.lines p) t cuts counts (λ state. refl) refl) in
+    (last_all (LineHolds run judged.lines p) t cuts counts (λ state. refl) (λ activity. refl) refl) in
     let lines : told_lines_hold run judged p ≡ true =
     same_all holds judged.lines parts (all_lines t cuts counts lawful long) ∙ all_pass holds parts each in
     and_from (told_lines_hold run judged p) (closings_hold run judged p) lines
-    (all_closings_hold run judged.lines lawful
+    (all_closings_hold t cuts counts judged.lines lawful
     (λ place c e n listed. lines_counted t cuts counts place c e n lawful long listed) judged p refl)

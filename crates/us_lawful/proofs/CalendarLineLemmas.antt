@@ -1,5 +1,5 @@
 -- How many lines name an occurrence: as many as its channel's calendar settles.
-use Rattle.std.proofs.Common.{◌≡◌, ℕ, zero, suc, ◌≤◌, ◌||◌, false, cond, List, [], ◌∷◌, length, map, sum_by, count_by, flat_map, slice_get, Some, Contains, refl, ap, ◌∙◌, arith, inl, inr}
+use Rattle.std.proofs.Common.{◌≡◌, ℕ, zero, suc, ◌≤◌, ◌||◌, false, cond, List, [], ◌∷◌, length, map, sum_by, count_by, flat_map, slice_get, Some, Contains, refl, ap, subst, ◌∙◌, arith, inl, inr}
 use Rattle.std.specs.List.{AllByRecursion}
 use Rattle.std.proofs.lemmas.Bool.{cases_Bool}
 use Rattle.std.proofs.lemmas.List.Elements.{All-contains, All-from_recursion}
@@ -9,7 +9,9 @@ use Rattle.us_flows.specs.declared.channels.Channel.{Channel}
 use Rattle.us_flows.specs.Tables.{Tables}
 use Rattle.us_flows.specs.Lawful.{AreTables, IsChannel}
 use Rattle.us_flows.proofs.KeyLaws.{place_of_key}
+use Rattle.us_requests.specs.declared.asks.Counts.{Counts}
 use Rattle.us_calendar.specs.declared.settled.Settled.{Settled}
+use Rattle.us_calendar.specs.Activity.{speaks_by}
 use Rattle.us_calendar.specs.Entries.{Entry, entries}
 use Rattle.us_calendar.specs.Calendars.{pace_of, opening}
 use Rattle.us_calendar.specs.Runs.{Round, IsOccurrence, IsSettledOnce, grants, misses}
@@ -23,12 +25,13 @@ use Rattle.us_channel.specs.Placements.{PlacedClaim}
 use Rattle.us_output.specs.Outputs.{settled_row, grant_row}
 use Rattle.us_round.specs.ScheduleLaws.{boards_of}
 use Rattle.us_output.proofs.PartLemmas.{all_found}
-use Rattle.us_lawful.specs.CalendarLines.{names}
+use Rattle.us_lawful.specs.Output.{run_of}
+use Rattle.us_lawful.specs.CalendarLines.{names, speaks_in}
 use Rattle.us_lawful.proofs.SameLemmas.{sum_append, sum_flat_map, sum_map}
 use Rattle.us_lawful.proofs.SumLemmas.{sum_none, sum_same}
 use Rattle.us_lawful.proofs.RoundLemmas.{rows_in}
 use Rattle.us_lawful.proofs.NameLemmas.{row_names, request_names, same_told}
-use Rattle.us_lawful.proofs.WindowLemmas.{rounds_for}
+use Rattle.us_lawful.proofs.WindowLemmas.{rounds_for, speaks_alike}
 
 -- Lists by places.
 
@@ -91,13 +94,17 @@ some_grants t place c e lawful is =
     (all_among (IsLawfulEntry t c) (entries t c) e (entries_are_lawful t lawful c (found_has t.channels place c is.at))
     is.among).entry.grants
 
--- each of its occurrences is settled once
-pub listed_once : (t : Tables) (place : ℕ) (c : Channel) (e : Entry) (n count : ℕ) → AreTables t → IsListed t place c e →
-    IsSettledOnce (pace_of t c) (rounds_for t c count) e n
-listed_once t place c e n count lawful is =
-    all_among (λ e. (n : ℕ) → IsSettledOnce (pace_of t c) (rounds_for t c count) e n) (entries t c) e
-    (settled_once (pace_of t c) (entries t c) (boards_of t c count) (entries_ordered t c lawful)
-    (entries_windows t c lawful)) is.among n
+-- each of its occurrences that is there is settled once
+pub listed_once : (t : Tables) (cuts : List (List ℕ)) (counts : Counts) (place : ℕ) (c : Channel) (e : Entry) (n : ℕ) →
+    AreTables t → IsListed t place c e →
+    IsSettledOnce (pace_of t c) (speaks_in (run_of t cuts counts) e) (rounds_for t c cuts) e n
+listed_once t cuts counts place c e n lawful is =
+    subst (λ speaks. IsSettledOnce (pace_of t c) speaks (rounds_for t c cuts) e n)
+    (speaks_alike t c cuts e (channel_lawful t place c lawful is.at))
+    (all_among (λ e. (n : ℕ) → IsSettledOnce (pace_of t c) (speaks_by (pace_of t c) cuts e) (rounds_for t c cuts) e n)
+    (entries t c) e
+    (settled_once (pace_of t c) (entries t c) cuts (boards_of t c (length cuts)) (entries_ordered t c lawful)
+    (entries_windows t c lawful)) is.among n)
 
 -- what names an occurrence of an entry on another channel names none of it
 stranger : (t : Tables) (place other : ℕ) (c d : Channel) (e : Entry) (n : ℕ) (s : Settled) → AreTables t →
@@ -117,23 +124,24 @@ stranger t place other c d e n s lawful is there apart of =
 -- Rounds.
 
 -- a channel's round settled what the calendar of the channel at this place settles in round `r` of a run
-pub record IsBuiltAt (t : Tables) (count r place : ℕ) (b : Built) : Type 0 where
+pub record IsBuiltAt (t : Tables) (cuts : List (List ℕ)) (r place : ℕ) (b : Built) : Type 0 where
   pub channel : slice_get t.channels place ≡ Some b.channel
   pub round : Round
-  pub at : slice_get (rounds_for t b.channel count) r ≡ Some round
+  pub at : slice_get (rounds_for t b.channel cuts) r ≡ Some round
   pub settled : round.settled ≡ b.settled
 
-abbrev pub AreBuilt : Tables → ℕ → ℕ → List Built → Type 0
-AreBuilt t count r bs = (place : ℕ) (b : Built) → slice_get bs place ≡ Some b → IsBuiltAt t count r place b
+abbrev pub AreBuilt : Tables → List (List ℕ) → ℕ → List Built → Type 0
+AreBuilt t cuts r bs = (place : ℕ) (b : Built) → slice_get bs place ≡ Some b → IsBuiltAt t cuts r place b
 
 -- which are occurrences of entries of this channel
-pub occurrences_built : (t : Tables) (count r place : ℕ) (b : Built) → IsBuiltAt t count r place b →
+pub occurrences_built : (t : Tables) (cuts : List (List ℕ)) (r place : ℕ) (b : Built) → IsBuiltAt t cuts r place b →
     AllByRecursion (IsOccurrence (entries t b.channel)) b.settled
-occurrences_built t count r place b is =
+occurrences_built t cuts r place b is =
     let c : Channel = b.channel in
     let told : AllByRecursion (IsOccurrence (entries t c)) is.round.settled =
-    all_found (λ (round : Round). AllByRecursion (IsOccurrence (entries t c)) round.settled) (rounds_for t c count) r
-    is.round (rounds_told (entries t c) (opening t c) (boards_of t c count) (opening_states (entries t c))) is.at in
+    all_found (λ (round : Round). AllByRecursion (IsOccurrence (entries t c)) round.settled) (rounds_for t c cuts) r
+    is.round (rounds_told (entries t c) (opening t c) cuts (boards_of t c (length cuts)) (opening_states (entries t c)))
+    is.at in
     rw is.settled at told
 
 -- Lines.
@@ -175,13 +183,13 @@ build_counted e n round b some =
     )
 
 -- and of those of a round's other channels none
-other_counted : (t : Tables) (count r place other : ℕ) (c : Channel) (e : Entry) (n round : ℕ) (b : Built) → AreTables t →
-    IsListed t place c e → (other ≡ place → ⊥) → IsBuiltAt t count r other b →
+other_counted : (t : Tables) (cuts : List (List ℕ)) (r place other : ℕ) (c : Channel) (e : Entry) (n round : ℕ) (b : Built) → AreTables t →
+    IsListed t place c e → (other ≡ place → ⊥) → IsBuiltAt t cuts r other b →
     count_by (names e n) (rows_in round b) ≡ 0
-other_counted t count r place other c e n round b lawful is apart built =
+other_counted t cuts r place other c e n round b lawful is apart built =
     build_counted e n round b (some_grants t place c e lawful is)
     ∙ sum_none (λ s. cond (grants e n s || misses e n s) 1 0) b.settled
-    (each b.settled (occurrences_built t count r other b built))
+    (each b.settled (occurrences_built t cuts r other b built))
   where
     each : (all : List Settled) → AllByRecursion (IsOccurrence (entries t b.channel)) all →
         AllByRecursion (λ s. cond {A = ℕ} (grants e n s || misses e n s) 1 0 ≡ 0) all
@@ -193,11 +201,12 @@ other_counted t count r place other c e n round b lawful is apart built =
     )
 
 -- The lines of a round name it as often as the calendar of its entry's channel settled it.
-pub round_counted : (t : Tables) (count r place : ℕ) (c : Channel) (e : Entry) (n round : ℕ) (bs : List Built) (b : Built) →
-    AreTables t → IsListed t place c e → AreBuilt t count r bs → slice_get bs place ≡ Some b →
+pub round_counted : (t : Tables) (cuts : List (List ℕ)) (r place : ℕ) (c : Channel) (e : Entry) (n round : ℕ) (bs : List Built)
+    (b : Built) →
+    AreTables t → IsListed t place c e → AreBuilt t cuts r bs → slice_get bs place ≡ Some b →
     count_by (names e n) (flat_map (rows_in round) bs) ≡ count_by (λ s. grants e n s || misses e n s) b.settled
-round_counted t count r place c e n round bs b lawful is built at =
+round_counted t cuts r place c e n round bs b lawful is built at =
     sum_flat_map (λ row. cond (names e n row) 1 0) (rows_in round) bs
     ∙ sum_place (λ b. count_by (names e n) (rows_in round b)) bs place b at
-    (λ other d there apart. other_counted t count r place other c e n round d lawful is apart (built other d there))
+    (λ other d there apart. other_counted t cuts r place other c e n round d lawful is apart (built other d there))
     ∙ build_counted e n round b (some_grants t place c e lawful is)

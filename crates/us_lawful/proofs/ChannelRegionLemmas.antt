@@ -78,6 +78,7 @@ worth_counts : (f : Region → ℕ) (round id : ℕ) → CountsAt round id (span
 worth_counts f round id (rows.Granted g) none = rw none refl
 worth_counts f round id (rows.Missed m) none = refl
 worth_counts f round id (rows.Final state) none = refl
+worth_counts f round id (rows.Activity activity) none = refl
 worth_counts f round id (rows.Counts counts) none = refl
 
 sum_of_spans : (f : Region → ℕ) (round id : ℕ) (lines : List Row) →

@@ -1,17 +1,17 @@
 -- Each line of a request is right: it is the line of a grant, which is of a turn of the tables.
-use Rattle.std.proofs.Common.{◌≡◌, ℕ, zero, suc, ◌+◌, ◌<◌, ◌≤◌, ◌==◌, eq-eqb, lt-ltb, Bool, true, false, List, [], ◌∷◌, length, map, cond, Some, option_map, refl, sym, ap, ap₂, ◌∙◌, arith, inl, inr}
+use Rattle.std.proofs.Common.{◌≡◌, ℕ, zero, suc, ◌+◌, ◌≤◌, ◌==◌, eq-eqb, eqb-true, lt-ltb, Bool, true, false, List, [], ◌∷◌, length, map, cond, Some, option_map, refl, sym, ap, ap₂, ◌∙◌, arith, inl, inr}
 use Rattle.std.specs.Prelude.{◌&&◌, ◌||◌, not, nat_lt, count_by, sum_by, slice_get}
-use Rattle.std.specs.List.{AllByRecursion, list_all, list_any, range_with_len}
+use Rattle.std.specs.List.{AllByRecursion, list_all, list_any}
 use Rattle.std.proofs.lemmas.Bool.{cases_Bool, and_from, or_left, or_right}
 use Rattle.std.proofs.lemmas.List.Sums.{sum_by-cons}
 use Rattle.std.proofs.lemmas.Option.{slice_get-map}
 use Rattle.us_slots.specs.Bursts.{grant_cost}
 use Rattle.us_flows.specs.declared.channels.Channel.{Channel}
 use Rattle.us_flows.specs.Tables.{Tables, channel_with, header_bytes, rounds_fit}
-use Rattle.us_flows.specs.Clusters.{Turn, Cluster, IsTurnIn, clusters_of, has_sid, table_order}
+use Rattle.us_flows.specs.Clusters.{Turn, Cluster, IsTurnIn, Requests, has_sid, table_order, turns_of}
 use Rattle.us_flows.specs.Lawful.{AreTables}
 use Rattle.us_flows.proofs.KeyLaws.{channel_found}
-use Rattle.us_flows.proofs.TurnLaws.{one_turn, table_order-length, table_order-numbers, table_order-turns}
+use Rattle.us_flows.proofs.TurnLaws.{in_order-count, one_turn, table_order-turns, turns_are_of_clusters}
 use Rattle.us_requests.specs.declared.asks.Counts.{Counts}
 use Rattle.us_calendar.specs.declared.kinds.Kind.{Kind}
 use Rattle.us_calendar.specs.declared.kinds.Kind.TheVariants as kinds
@@ -24,20 +24,20 @@ use Rattle.us_output.specs.declared.rows.EntryWord.TheVariants as words
 use Rattle.us_output.specs.declared.rows.Grant.{Grant}
 use Rattle.us_output.specs.declared.rows.Row.{Row}
 use Rattle.us_output.specs.declared.rows.Row.TheVariants as rows
-use Rattle.us_round.specs.Rounds.{State, opening, builds_of, final}
-use Rattle.us_output.specs.Outputs.{entry_word, settled_row, grant_row, final_row}
-use Rattle.us_round.specs.States.{final_rows}
+use Rattle.us_round.specs.Rounds.{State, builds_of}
+use Rattle.us_output.specs.Outputs.{entry_word, settled_row, grant_row}
 use Rattle.us_round.specs.ScheduleLaws.{AreCuts}
 use Rattle.us_output.proofs.PartLemmas.{all_found, all_weaker}
 use Rattle.us_round.proofs.ChannelRunLaws.{channels_stay}
 use Rattle.us_lawful.specs.declared.place.Place.{Place}
 use Rattle.us_lawful.specs.Runs.{Run, as_grant, is_requested, grants_in, requested_in}
-use Rattle.us_lawful.specs.Output.{counts_row, output_of, judged_of, run_of}
+use Rattle.us_lawful.specs.Output.{output_of, judged_of, run_of}
 use Rattle.us_lawful.specs.Places.{is_told_at}
 use Rattle.us_lawful.specs.Credits.{is_of, has_cost, is_like, is_right_for, is_right_credit, is_credit_at, credit_lines_hold}
 use Rattle.us_lawful.proofs.SameLemmas.{worth, sum_append, sum_filter, sum_filter_map, sum_flat_map, sum_map}
 use Rattle.us_lawful.proofs.SumLemmas.{sum_none, sum_same}
-use Rattle.us_lawful.proofs.RoundLemmas.{IsRoundOf, found_inside, last_rows, round_at, round_rows, rounds_are, rounds_of, rows_in, sum_at, sum_lines, range_at}
+use Rattle.us_lawful.proofs.ItemLemmas.{some_counted}
+use Rattle.us_lawful.proofs.RoundLemmas.{IsRoundOf, last_all, last_rows, round_at, round_rows, rounds_are, rounds_of, rows_in, sum_at, sum_lines}
 use Rattle.us_lawful.proofs.GrantLemmas.{HasClaims, IsTurnGrant, builds_claimed, grants_of_turns, grants_once, same_cluster}
 
 -- Lists.
@@ -72,7 +72,7 @@ none_fails q (x ∷ xs) none =
     ]
 
 -- one that passes is counted
-counted_there : {X : Type 0} (p : X → Bool) (xs : List X) (place : ℕ) (x : X) → slice_get xs place ≡ Some x → p x ≡ true →
+pub counted_there : {X : Type 0} (p : X → Bool) (xs : List X) (place : ℕ) (x : X) → slice_get xs place ≡ Some x → p x ≡ true →
     1 ≤ count_by p xs
 counted_there p [] place x at is = absurd (cc at)
 counted_there p (y ∷ xs) zero x at is =
@@ -86,21 +86,18 @@ counted_there p (y ∷ xs) (suc place) x at is =
 
 -- Turns.
 
--- a turn of the tables stands in table order, at its number
-pub turn_listed : (t : Tables) (turn : Turn) → IsTurnIn t turn → slice_get (table_order t) turn.number ≡ Some turn
+-- a turn of the tables stands in table order: its word has one turn
+pub turn_listed : (t : Tables) (turn : Turn) → IsTurnIn t turn →
+    (place : ℕ) × (slice_get (table_order t) place ≡ Some turn)
+unfolding turns_of
 turn_listed t turn is =
-    let inside : turn.number < length (table_order t) = omega (arith, is.number, table_order-length t) in
-    let found = found_inside (table_order t) turn.number inside in
-    let other : Turn = found.0 in
-    let told : slice_get (range_with_len 0 (length (clusters_of t))) turn.number ≡ Some other.number =
-    ap (λ numbers. slice_get numbers turn.number) (sym (table_order-numbers t))
-    ∙ slice_get-map (λ (u : Turn). u.number) (table_order t) turn.number
-    ∙ ap (option_map (λ (u : Turn). u.number)) found.1 in
-    let number : other.number ≡ turn.number =
-    omega (arith, range_at 0 (length (clusters_of t)) turn.number other.number told) in
+    let own : Turn → Bool = λ other. other.number == turn.number in
+    let found = some_counted own (table_order t)
+    (omega (arith, turns_are_of_clusters t turn.number (Requests turn.cluster) is.word, in_order-count own (table_order t))) in
+    let other : Turn = found.1 in
     let known : IsTurnIn t other =
-    all_found (IsTurnIn t) (table_order t) turn.number other (table_order-turns t) found.1 in
-    found.1 ∙ ap Some (one_turn t other turn known is number)
+    all_found (IsTurnIn t) (table_order t) found.0 other (table_order-turns t) found.2 in
+    (found.0, found.2 ∙ ap Some (one_turn t other turn known is (eqb-true other.number turn.number found.3)))
 
 -- Lines of requests.
 
@@ -131,6 +128,7 @@ requested_sum f lines =
 
 no_request : (kind : Kind) → is_requested (entry_word kind) ≡ false
 no_request kinds.Unsolicited = refl
+no_request kinds.Activity = refl
 no_request kinds.RealTimePoll = refl
 no_request kinds.NonRealTimePoll = refl
 no_request kinds.Station = refl
@@ -159,21 +157,9 @@ requested_rows f round b =
 -- and those at the end of a report add nothing
 pub requested_last : (f : Grant → ℕ) (t : Tables) (cuts : List (List ℕ)) (counts : Counts) →
     sum_by (of_requested f) (last_rows t cuts counts) ≡ 0
-unfolding final_rows
 requested_last f t cuts counts =
-    let end : State = final (opening t) cuts in
-    let finals : List Row = map (final_row end.outstanding end.buckets) (table_order end.tables) in
-    let none : sum_by (λ turn. of_requested f (final_row end.outstanding end.buckets turn)) (table_order end.tables) ≡ 0 =
-    sum_none (λ turn. of_requested f (final_row end.outstanding end.buckets turn)) (table_order end.tables)
-    (all_placed (λ turn. of_requested f (final_row end.outstanding end.buckets turn) ≡ 0) (table_order end.tables)
-    (λ place turn at. refl)) in
-    omega (
-      arith,
-      sum_append (of_requested f) finals (counts_row counts ∷ []),
-      sum_map (of_requested f) (final_row end.outstanding end.buckets) (table_order end.tables),
-      none,
-      sum_by-cons (of_requested f) (counts_row counts) [],
-    )
+    sum_none (of_requested f) (last_rows t cuts counts)
+    (last_all (λ row. of_requested f row ≡ 0) t cuts counts (λ state. refl) (λ activity. refl) refl)
 
 -- a test passes all lines of requests if it passes the line of each grant of each channel in each round
 pub requested_pass : (q : Grant → Bool) (t : Tables) (cuts : List (List ℕ)) (counts : Counts) → AreTables t →
@@ -252,6 +238,7 @@ like_told r id line (rows.Granted other) round channel out =
     zero_both false = refl
 like_told r id line (rows.Missed missed) round channel out = refl
 like_told r id line (rows.Final state) round channel out = refl
+like_told r id line (rows.Activity activity) round channel out = refl
 like_told r id line (rows.Counts counts) round channel out = refl
 
 -- and of all lines of requests just one is like the line of a grant, itself
@@ -319,8 +306,9 @@ line_right t cuts counts r place s b there g lawful long at found own =
     let once : (count_by (is_like line) (requested_in lines) == 1) ≡ true =
     eq-eqb (count_by (is_like line) (requested_in lines)) 1
     (line_once t cuts counts r place s b there g lawful long at found own has is) in
-    any_found (λ turn. is_right_for run lines line turn.cluster) (table_order t) is.turn.number is.turn
-    (turn_listed t is.turn is.known) (right_for run lines line cluster of refl is.sid some cost once)
+    let listed = turn_listed t is.turn is.known in
+    any_found (λ turn. is_right_for run lines line turn.cluster) (table_order t) listed.0 is.turn listed.1
+    (right_for run lines line cluster of refl is.sid some cost once)
 
 -- Each line of a request is right for a cluster.
 pub credit_lines_are_lawful : (t : Tables) (cuts : List (List ℕ)) (counts : Counts) → AreTables t → AreCuts t cuts →

@@ -1,5 +1,5 @@
 -- The end of a report: an F line for each cluster, with what its other lines leave of it, and the U line.
-use Rattle.std.proofs.Common.{◌≡◌, ℕ, ◌-◌, ◌==◌, eq-eqb, Bool, true, false, List, [], ◌∷◌, ◌++◌, length, map, take, Option, Some, None, option_map, refl, sym, ap, subst, ◌∙◌, arith, append_assoc}
+use Rattle.std.proofs.Common.{◌≡◌, ℕ, ◌-◌, ◌≤◌, ◌==◌, cond, eq-eqb, Bool, true, false, List, [], ◌∷◌, ◌++◌, length, map, take, Option, Some, None, option_map, refl, sym, ap, subst, ◌∙◌, arith, append_assoc}
 use Rattle.std.specs.Prelude.{◌&&◌, nat_eq, if◌then◌else◌, filter, count_by, option_and_then, slice_get, slice_index}
 use Rattle.std.specs.List.{AllByRecursion, list_all, list_any}
 use Rattle.std.specs.Option.{option_eq}
@@ -8,30 +8,35 @@ use Rattle.std.proofs.lemmas.List.{take_all}
 use Rattle.std.proofs.lemmas.List.Sums.{length-filter}
 use Rattle.std.proofs.lemmas.Option.{slice_get-map}
 use Rattle.us_flows.specs.Tables.{Tables, rounds_fit}
-use Rattle.us_flows.specs.Clusters.{Turn, IsTurnIn, table_order}
-use Rattle.us_flows.specs.Lawful.{AreTables}
+use Rattle.us_flows.specs.Clusters.{Turn, IsTurnIn, table_order, tells_activity}
+use Rattle.us_flows.specs.Lawful.{AreApart, AreTables}
+use Rattle.us_flows.proofs.KeyLaws.{one_with}
 use Rattle.us_flows.proofs.TurnLaws.{table_order-once, table_order-turns}
 use Rattle.us_bucket.specs.Levels.{Level, full, units_in}
 use Rattle.us_requests.specs.declared.asks.Counts.{Counts}
+use Rattle.us_calendar.specs.Entries.{WordedFlow, with_words}
+use Rattle.us_calendar.proofs.OrderLemmas.{worded_ids}
+use Rattle.us_output.specs.declared.rows.FinalActivity.{FinalActivity}
 use Rattle.us_output.specs.declared.rows.FinalState.{FinalState}
 use Rattle.us_output.specs.declared.rows.Row.{Row}
 use Rattle.us_output.specs.declared.rows.TraceCounts.{TraceCounts}
 use Rattle.us_round.specs.Rounds.{State, opening, final}
 use Rattle.us_round.specs.ScheduleLaws.{AreCuts}
-use Rattle.us_output.proofs.PartLemmas.{all_found, all_weaker}
+use Rattle.us_output.proofs.PartLemmas.{all_found, all_mapped, all_weaker}
 use Rattle.us_lawful.specs.declared.place.Place.{Place}
-use Rattle.us_lawful.specs.Runs.{Run, counts_in, counts_told, finals_in}
+use Rattle.us_lawful.specs.Runs.{Run, activities_in, counts_in, counts_told, finals_in}
 use Rattle.us_lawful.specs.Credits.{asked_within, credited_within}
-use Rattle.us_lawful.specs.Finals.{counts_hold, final_holds, final_of, finals_hold, flow_finals_hold, is_final_of, is_same_counts, is_same_final, level_left, units_left}
+use Rattle.us_lawful.specs.Finals.{activities_hold, activity_holds, activity_of, counts_hold, final_holds, final_of, finals_hold, flow_activity_holds, flow_finals_hold, is_final_of, is_same_activity, is_same_counts, is_same_final, level_left, talking, units_left}
 use Rattle.us_lawful.specs.Output.{output_of, judged_of, run_of}
 use Rattle.us_lawful.proofs.TestLemmas.{all_pass, any_behind, any_first}
 use Rattle.us_lawful.proofs.GrantLemmas.{same_cluster}
-use Rattle.us_lawful.proofs.ItemLemmas.{any_placed, filter_mapped, filter_same, one_passes}
-use Rattle.us_lawful.proofs.CreditLineLaws.{all_placed}
+use Rattle.us_lawful.proofs.ItemLemmas.{any_placed, filter_mapped, filter_same, one_passes, sum_most}
+use Rattle.us_lawful.proofs.SameLemmas.{sum_filter, sum_map}
+use Rattle.us_lawful.proofs.CreditLineLaws.{all_placed, counted_there}
 use Rattle.us_lawful.proofs.BucketLemmas.{flow_left}
 use Rattle.us_lawful.proofs.RateLaws.{flow_credits_are}
 use Rattle.us_lawful.proofs.SumLaws.{bytes_balance}
-use Rattle.us_lawful.proofs.LastLineLemmas.{counts_are, final_told, finals_are}
+use Rattle.us_lawful.proofs.LastLineLemmas.{activities_are, counts_are, final_told, finals_are}
 
 -- What a line tells.
 
@@ -174,6 +179,74 @@ finals_are_lawful t cuts counts lawful long fit p =
     (all_pass each turns (all_placed (λ turn. each turn ≡ true) turns
     (λ place turn at. where_asked (turn.cluster.flow.id == p.third) (final_holds run lines turn)
     (one_holds t cuts counts lawful long place turn at)))))
+
+-- A lines.
+
+-- what holds where it is asked, holds under that condition
+if_asked : (asked holds : Bool) → (asked ≡ true → holds ≡ true) → (if asked then holds else true) ≡ true
+if_asked true holds is = is refl
+if_asked false holds is = refl
+
+same_activity : (a : FinalActivity) → is_same_activity a a ≡ true
+same_activity a =
+    and_from (a.flow == a.flow) (a.active == a.active) (eq-eqb a.flow a.flow refl) (eq-eqb a.active a.active refl)
+
+-- of some no more pass than of all
+fewer_filtered : {X : Type 0} (p q : X → Bool) (xs : List X) → count_by q (filter p xs) ≤ count_by q xs
+fewer_filtered p q xs = omega (
+  arith,
+  sum_filter (λ x. cond (q x) 1 0) p xs,
+  sum_most (λ x. cond (p x) (cond (q x) 1 0) 0) (λ x. cond (q x) 1 0) xs (λ x. few (p x) (cond (q x) 1 0)),
+)
+  where
+    few : (b : Bool) (n : ℕ) → cond b n 0 ≤ n
+    few true n = omega arith
+    few false n = omega arith
+
+-- a flow that tells its activity has its A line
+one_activity : (t : Tables) (cuts : List (List ℕ)) (counts : Counts) → AreTables t → AreCuts t cuts →
+    (place : ℕ) (f : WordedFlow) → slice_get (talking t) place ≡ Some f →
+    activity_holds (run_of t cuts counts) (judged_of (output_of t cuts counts)).lines f ≡ true
+one_activity t cuts counts lawful long place f at =
+    let all : List FinalActivity = activities_in (judged_of (output_of t cuts counts)).lines in
+    let right : WordedFlow → FinalActivity = activity_of (run_of t cuts counts) in
+    let own : WordedFlow → Bool = λ other. other.flow.id == f.flow.id in
+    let are : all ≡ map right (talking t) = activities_are t cuts counts lawful long in
+    let there : slice_get all place ≡ Some (right f) =
+    ap (λ all. slice_get all place) are ∙ slice_get-map right (talking t) place ∙ ap (option_map right) at in
+    let count : count_by (λ (a : FinalActivity). a.flow == f.flow.id) all ≡ count_by own (talking t) =
+    ap (count_by (λ (a : FinalActivity). a.flow == f.flow.id)) are
+    ∙ sum_map (λ (a : FinalActivity). cond (a.flow == f.flow.id) 1 0) right (talking t) in
+    and_from (count_by (λ (a : FinalActivity). a.flow == f.flow.id) all == 1) (list_any (is_same_activity (right f)) all)
+    (eq-eqb (count_by (λ (a : FinalActivity). a.flow == f.flow.id) all) 1 (omega (
+      arith,
+      count,
+      counted_there own (talking t) place f at (eq-eqb f.flow.id f.flow.id refl),
+      fewer_filtered (λ (f : WordedFlow). tells_activity f.flow.kind) own (with_words 0 t.flows),
+      one_with (λ (f : WordedFlow). f.flow.id) (with_words 0 t.flows) f.flow.id
+          (subst AreApart (sym (worded_ids 0 t.flows)) lawful.flows_apart),
+    )))
+    (any_placed (is_same_activity (right f)) all place (right f) there (same_activity (right f)))
+
+-- In every run there is an A line for each of these flows, and it is right.
+pub activities_are_lawful : (t : Tables) (cuts : List (List ℕ)) (counts : Counts) → AreTables t → AreCuts t cuts →
+    rounds_fit t (length cuts) ≡ true → (p : Place) →
+    activities_hold (run_of t cuts counts) (judged_of (output_of t cuts counts)) p ≡ true
+activities_are_lawful t cuts counts lawful long fit p =
+    let run : Run = run_of t cuts counts in
+    let lines : List Row = (judged_of (output_of t cuts counts)).lines in
+    let own : WordedFlow → Bool = λ f. f.flow.id == p.third in
+    let known : FinalActivity → Bool = λ a. if a.flow == p.third then list_any own (talking t) else true in
+    let each : WordedFlow → Bool = λ f. if own f then activity_holds run lines f else true in
+    where_asked ((p.round == run.rounds) && (p.channel == 0)) (flow_activity_holds run lines p.third)
+    (and_from (list_all known (activities_in lines)) (list_all each (talking t))
+    (subst (λ all. list_all known all ≡ true) (sym (activities_are t cuts counts lawful long))
+    (all_pass known (map (activity_of run) (talking t)) (all_mapped (λ a. known a ≡ true) (activity_of run) (talking t)
+    (all_placed (λ f. known (activity_of run f) ≡ true) (talking t)
+    (λ place f at. if_asked (own f) (list_any own (talking t)) (any_placed own (talking t) place f at))))))
+    (all_pass each (talking t) (all_placed (λ f. each f ≡ true) (talking t)
+    (λ place f at. where_asked (own f) (activity_holds run lines f)
+    (one_activity t cuts counts lawful long place f at)))))
 
 -- There is one U line, with the counts of the run.
 pub counts_are_lawful : (t : Tables) (cuts : List (List ℕ)) (counts : Counts) → AreTables t → AreCuts t cuts →

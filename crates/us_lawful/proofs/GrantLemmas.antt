@@ -1,13 +1,13 @@
 -- Whose the grants of a round are: each is of a turn of the tables, and no cluster has two on a channel.
 use Rattle.std.proofs.Common.{◌≡◌, ℕ, ◌+◌, ◌≤◌, ◌==◌, eq-eqb, ne_eqb, eqb-true, true, List, [], ◌∷◌, map, cond, Some, refl, sym, ap, ap₂, subst, ◌∙◌, arith, inl, inr}
-use Rattle.std.specs.Prelude.{◌&&◌, count_by, slice_get, flat_map, length, take}
+use Rattle.std.specs.Prelude.{◌&&◌, count_by, slice_get}
 use Rattle.std.specs.List.{AllByRecursion}
 use Rattle.std.proofs.lemmas.Bool.{cases_Bool, cases_eq, and_parts}
 use Rattle.std.proofs.lemmas.List.Sums.{sum_by-cons}
 use Rattle.us_slots.specs.Bursts.{grant_cost}
 use Rattle.us_flows.specs.declared.channels.Channel.{Channel}
 use Rattle.us_flows.specs.Tables.{Tables, FlowTable, header_bytes}
-use Rattle.us_flows.specs.Clusters.{Turn, IsTurnIn, has_sid, requesting}
+use Rattle.us_flows.specs.Clusters.{Turn, IsTurnIn, has_sid, words_before}
 use Rattle.us_flows.specs.Lawful.{AreTables}
 use Rattle.us_flows.proofs.KeyLaws.{place_of_key}
 use Rattle.us_flows.proofs.TurnLaws.{one_turn}
@@ -162,7 +162,7 @@ same_cluster t a b lawful one other = elim (cases_eq a.number b.number) [
         place_of_key (λ (f : FlowTable). f.id) t.flows a.place b.place a.cluster.flow b.cluster.flow lawful.flows_apart
         one.flow other.flow (eqb-true a.cluster.flow.id b.cluster.flow.id parts.0) in
         let list : a.cluster.list ≡ b.cluster.list = eqb-true a.cluster.list b.cluster.list parts.1 in
-        absurd (apart (one.before ∙ ap₂ (λ p l. length (flat_map requesting (take p t.flows)) + l) place list
+        absurd (apart (one.before ∙ ap₂ (λ p l. words_before t.flows p + l) place list
         ∙ sym other.before))
     | inr differ ↦ differ ∙ sym (ne_eqb a.number b.number apart)
   ]

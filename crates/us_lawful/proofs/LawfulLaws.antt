@@ -10,7 +10,7 @@ use Rattle.us_lawful.proofs.CalendarLineLaws.{calendar_lines_are_lawful}
 use Rattle.us_lawful.proofs.RateLaws.{rates_are_lawful}
 use Rattle.us_lawful.proofs.CreditLineLaws.{credit_lines_are_lawful}
 use Rattle.us_lawful.proofs.SumLaws.{sums_are_lawful}
-use Rattle.us_lawful.proofs.FinalLaws.{counts_are_lawful, finals_are_lawful}
+use Rattle.us_lawful.proofs.FinalLaws.{activities_are_lawful, counts_are_lawful, finals_are_lawful}
 use Rattle.us_lawful.proofs.TextLaws.{rows_are, texts_are_lawful}
 
 pub schedules_are_lawful : SchedulesAreLawful
@@ -27,6 +27,7 @@ schedules_are_lawful t cuts counts lawful long fits = record {
       (credit_lines_are_lawful t cuts counts lawful long fits p)
       (sums_are_lawful t cuts counts lawful long fits p);
   finals = finals_are_lawful t cuts counts lawful long fits;
+  activities = activities_are_lawful t cuts counts lawful long fits;
   counts = counts_are_lawful t cuts counts lawful long fits;
 }
 

@@ -22,6 +22,7 @@ pub mod CreditSumLemmas
 pub mod BucketLemmas
 pub mod SumLaws
 pub mod RateLaws
+pub mod ActivityLemmas
 pub mod LastLineLemmas
 pub mod FinalLaws
 pub mod LawfulLaws

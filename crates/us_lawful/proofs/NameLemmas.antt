@@ -19,13 +19,15 @@ use Rattle.us_lawful.specs.CalendarLines.{is_word, is_named, names, number_of}
 -- the kind of a rank
 kind_at : ℕ → Kind
 kind_at zero = kinds.Unsolicited
-kind_at (suc zero) = kinds.RealTimePoll
-kind_at (suc (suc zero)) = kinds.NonRealTimePoll
+kind_at (suc zero) = kinds.Activity
+kind_at (suc (suc zero)) = kinds.RealTimePoll
+kind_at (suc (suc (suc zero))) = kinds.NonRealTimePoll
 kind_at _ = kinds.Station
 
 unranked : (kind : Kind) → kind_at (rank_of kind) ≡ kind
 unfolding kind_at
 unranked kinds.Unsolicited = refl
+unranked kinds.Activity = refl
 unranked kinds.RealTimePoll = refl
 unranked kinds.NonRealTimePoll = refl
 unranked kinds.Station = refl
@@ -37,18 +39,27 @@ same_kind a b same = sym (unranked a) ∙ ap kind_at same ∙ unranked b
 -- the word of a kind is that of an entry of this kind alone
 pub word_is : (a b : Kind) → is_word a (entry_word b) ≡ (rank_of b == rank_of a)
 word_is kinds.Unsolicited kinds.Unsolicited = refl
+word_is kinds.Unsolicited kinds.Activity = refl
 word_is kinds.Unsolicited kinds.RealTimePoll = refl
 word_is kinds.Unsolicited kinds.NonRealTimePoll = refl
 word_is kinds.Unsolicited kinds.Station = refl
+word_is kinds.Activity kinds.Unsolicited = refl
+word_is kinds.Activity kinds.Activity = refl
+word_is kinds.Activity kinds.RealTimePoll = refl
+word_is kinds.Activity kinds.NonRealTimePoll = refl
+word_is kinds.Activity kinds.Station = refl
 word_is kinds.RealTimePoll kinds.Unsolicited = refl
+word_is kinds.RealTimePoll kinds.Activity = refl
 word_is kinds.RealTimePoll kinds.RealTimePoll = refl
 word_is kinds.RealTimePoll kinds.NonRealTimePoll = refl
 word_is kinds.RealTimePoll kinds.Station = refl
 word_is kinds.NonRealTimePoll kinds.Unsolicited = refl
+word_is kinds.NonRealTimePoll kinds.Activity = refl
 word_is kinds.NonRealTimePoll kinds.RealTimePoll = refl
 word_is kinds.NonRealTimePoll kinds.NonRealTimePoll = refl
 word_is kinds.NonRealTimePoll kinds.Station = refl
 word_is kinds.Station kinds.Unsolicited = refl
+word_is kinds.Station kinds.Activity = refl
 word_is kinds.Station kinds.RealTimePoll = refl
 word_is kinds.Station kinds.NonRealTimePoll = refl
 word_is kinds.Station kinds.Station = refl
@@ -56,6 +67,7 @@ word_is kinds.Station kinds.Station = refl
 -- no entry has the word of a request
 pub no_request : (kind : Kind) → is_word kind words.Requested ≡ false
 no_request kinds.Unsolicited = refl
+no_request kinds.Activity = refl
 no_request kinds.RealTimePoll = refl
 no_request kinds.NonRealTimePoll = refl
 no_request kinds.Station = refl

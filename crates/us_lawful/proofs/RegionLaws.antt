@@ -1,5 +1,5 @@
 -- The minislots of every MAP of a schedule are what they must be.
-use Rattle.std.proofs.Common.{◌≡◌, ℕ, zero, suc, ◌+◌, ◌*◌, ◌<◌, ◌==◌, Bool, true, List, [], ◌∷◌, ◌++◌, length, map, Contains, Option, Some, None, option_map, slice_get, refl, sym, ap, subst, ◌∙◌, suc-mul, arith, inl, inr}
+use Rattle.std.proofs.Common.{◌≡◌, ℕ, zero, suc, ◌+◌, ◌*◌, ◌<◌, ◌≤◌, ◌==◌, Bool, true, false, List, [], ◌∷◌, ◌++◌, length, map, Contains, Option, Some, None, option_map, slice_get, refl, sym, ap, subst, ◌∙◌, suc-mul, arith, inl, inr}
 use Rattle.std.specs.Prelude.{nat_lt, not, flat_map, sum_by, zip, find, position}
 use Rattle.std.specs.List.{AllByRecursion}
 use Rattle.std.proofs.lemmas.Bool.{cases_Bool, cases_lt, or_left, or_right, le-ltb, lt-ltb}
@@ -11,7 +11,8 @@ use Rattle.us_flows.specs.declared.channels.Channel.{Channel}
 use Rattle.us_flows.specs.Tables.{Tables, map_len, channel_with, rounds_fit}
 use Rattle.us_flows.specs.Lawful.{AreTables, IsChannel}
 use Rattle.us_holes.specs.Boards.{Board}
-use Rattle.us_calendar.specs.Entries.{entries}
+use Rattle.us_calendar.specs.Entries.{Entry, IsEntry, entries, slots_of}
+use Rattle.us_calendar.specs.Settling.{EntryState, heard, opening_state}
 use Rattle.us_calendar.specs.Calendars as calendars
 use Rattle.us_calendar.specs.Calendars.{Calendar}
 use Rattle.us_calendar.specs.Runs.{Round, assignments_of, rounds_on}
@@ -157,26 +158,40 @@ body_lawful t cuts lawful long fits r place s b at there =
 
 -- What calendars grant has minislots.
 
-rounds_have : (calendar : Calendar) (boards : List Board) → AllByRecursion HasOwner calendar.states →
-    AllByRecursion (λ round. HaveOwners (flat_map assignments_of round.settled)) (rounds_on calendar boards)
-rounds_have calendar [] known = tt
-rounds_have calendar (board ∷ boards) known =
-    let told = run_owned calendar.pace calendar.next_round calendar.states board known in
-    (told.1, rounds_have (calendars.after calendar board) boards told.0)
+-- calendars that hear keep their entries
+states_heard : (cut : List ℕ) (states : List EntryState) → AllByRecursion HasOwner states →
+    AllByRecursion HasOwner (map (heard cut) states)
+states_heard cut [] known = tt
+states_heard cut (state ∷ states) known = (known.0, states_heard cut states known.1)
+
+rounds_have : (calendar : Calendar) (cuts : List (List ℕ)) (boards : List Board) →
+    AllByRecursion HasOwner calendar.states →
+    AllByRecursion (λ round. HaveOwners (flat_map assignments_of round.settled)) (rounds_on calendar cuts boards)
+rounds_have calendar [] boards known = tt
+rounds_have calendar (cut ∷ cuts) [] known = tt
+rounds_have calendar (cut ∷ cuts) (board ∷ boards) known =
+    let told = run_owned calendar.pace calendar.next_round (map (heard cut) calendar.states) board
+    (states_heard cut calendar.states known) in
+    (told.1, rounds_have (calendars.after calendar cut board) cuts boards told.0)
+
+has_minislots : (e : Entry) (active : Bool) → IsEntry e → 1 ≤ slots_of e active
+has_minislots e true is = is.slots
+has_minislots e false is = is.poll
 
 opening_known : (t : Tables) (c : Channel) → AreTables t → Contains t.channels c →
     AllByRecursion HasOwner (calendars.opening t c).states
 opening_known t c lawful has =
-    all_mapped HasOwner (λ e. record { entry = e; settled = [] }) (entries t c)
-    (all_weaker (IsLawfulEntry t c) (λ e. HasOwner (record { entry = e; settled = [] }))
-    (λ e is. (is.entry.owner, is.entry.slots)) (entries t c) (entries_are_lawful t lawful c has))
+    all_mapped HasOwner opening_state (entries t c)
+    (all_weaker (IsLawfulEntry t c) (λ e. HasOwner (opening_state e))
+    (λ e is. (is.entry.owner, λ active. has_minislots e active is.entry)) (entries t c)
+    (entries_are_lawful t lawful c has))
 
 settled_have : (t : Tables) (cuts : List (List ℕ)) → AreTables t → (r place : ℕ) (c : Channel) (s : State) (b : Built) →
     slice_get t.channels place ≡ Some c → slice_get (rounds_of t cuts) r ≡ Some s →
     slice_get (builds_of s) place ≡ Some b → HaveOwners (flat_map assignments_of b.settled)
 settled_have t cuts lawful r place c s b is at there =
     let one : Scheduled = (ended s (builds_of s)).scheduled in
-    let rounds : List Round = rounds_on (calendars.opening t c) (boards_of t c (length cuts)) in
+    let rounds : List Round = rounds_on (calendars.opening t c) cuts (boards_of t c (length cuts)) in
     let own : settled_at place one ≡ b.settled =
     get_or_from_slice_get (map (λ b. b.settled) (builds_of s)) place b.settled []
     (slice_get-map (λ b. b.settled) (builds_of s) place ∙ ap (option_map (λ b. b.settled)) there) in
@@ -188,7 +203,7 @@ settled_have t cuts lawful r place c s b is at there =
     (place, slice_get_within t.channels place c is, get_or_from_slice_get t.channels place c c is) in
     all_found (λ all. HaveOwners (flat_map assignments_of all)) (map (λ (round : Round). round.settled) rounds) r b.settled
     (all_mapped (λ all. HaveOwners (flat_map assignments_of all)) (λ (round : Round). round.settled) rounds
-    (rounds_have (calendars.opening t c) (boards_of t c (length cuts)) (opening_known t c lawful has))) told
+    (rounds_have (calendars.opening t c) cuts (boards_of t c (length cuts)) (opening_known t c lawful has))) told
 
 -- Boards are made of what is placed.
 

@@ -88,6 +88,7 @@ has_bytes : (row : Row) → 0 < length (text_of row)
 has_bytes (rows.Granted g) = omega arith
 has_bytes (rows.Missed m) = omega arith
 has_bytes (rows.Final s) = omega arith
+has_bytes (rows.Activity a) = omega arith
 has_bytes (rows.Counts c) = omega arith
 
 pub less_left : (rest behind : List ℕ) (row : Row) → row_at rest ≡ Some (row, behind) → length behind < length rest

@@ -3,6 +3,7 @@ use Rattle.std.proofs.Common.{◌≡◌, ℕ, ◌^◌, ◌<◌, List, [], ◌∷
 use Rattle.std.specs.Fmt.{decimal}
 use Rattle.std.proofs.lemmas.Bool.{not-true}
 use Rattle.std.proofs.lemmas.Bool.Decides.{eqb_tells}
+use Rattle.us_output.specs.declared.rows.FinalActivity.{FinalActivity}
 use Rattle.us_output.specs.declared.rows.FinalState.{FinalState}
 use Rattle.us_output.specs.declared.rows.Grant.{Grant}
 use Rattle.us_output.specs.declared.rows.MissedOccurrence.{MissedOccurrence}
@@ -10,9 +11,9 @@ use Rattle.us_output.specs.declared.rows.Row.{Row}
 use Rattle.us_output.specs.declared.rows.Row.TheVariants as rows
 use Rattle.us_output.specs.declared.rows.TraceCounts.{TraceCounts}
 use Rattle.us_lawful.specs.Runs.{is_requested}
-use Rattle.us_output.specs.Lines.{word_text, numbers, units_text, text_of, grant_text, missed_text, final_text, counts_text, Fit}
+use Rattle.us_output.specs.Lines.{word_text, numbers, units_text, text_of, grant_text, missed_text, final_text, activity_text, counts_text, Fit}
 use Rattle.us_lawful.specs.Texts.{IsRow}
-use Rattle.us_lawful.specs.ReportReaders.{after, field_at, word_at, units_at, occurrence_at, grant_at, missed_at, final_at, counts_at, told_by, row_at}
+use Rattle.us_lawful.specs.ReportReaders.{after, field_at, word_at, units_at, occurrence_at, grant_at, missed_at, final_at, activity_at, counts_at, told_by, row_at}
 use Rattle.us_lawful.proofs.ReportReaderLemmas.{Stops, bool_tells, found_in, moved, after_again, after_found, field_found, field_again, field_comma, field_end, word_found, word_again, units_found, units_again}
 
 -- Texts.
@@ -248,6 +249,39 @@ final_again s more is =
       after_again (codes "\n"),
     ) refl
 
+-- A lines.
+
+abbrev TellsActivity : List ℕ → FinalActivity × List ℕ → Type 0
+TellsActivity bytes x = IsRow (rows.Activity x.0) × (65 ∷ bytes ≡ activity_text x.0 ++ x.1)
+
+activity_spelled : (a : FinalActivity) (more : List ℕ) →
+    activity_text a ++ more ≡ 65 ∷ fields (a.flow ∷ a.active ∷ []) (10 ∷ more)
+activity_spelled a more = ap (λ text. 65 ∷ text) (end_spelled (a.flow ∷ a.active ∷ []) more)
+
+activity_found : (bytes : List ℕ) (x : FinalActivity × List ℕ) → activity_at bytes ≡ Some x → TellsActivity bytes x
+unfolding activity_at
+activity_found bytes x found =
+    found_in (field_at bytes) _ x found (λ flow a found.
+    found_in (field_at flow.1) _ x found (λ active b found.
+    found_in (after (codes "\n") active.1) _ x found (λ rest c found.
+    let a = field_found bytes flow a in
+    let b = field_found flow.1 active b in
+    moved (TellsActivity bytes) _ x found (
+      ((a.0, (b.0, tt)), refl),
+      ap (λ text. 65 ∷ text)
+          (follow (44 ∷ decimal flow.0) a.1
+          (follow (44 ∷ decimal active.0) b.1 (after_found (codes "\n") active.1 rest c)))
+          ∙ sym (activity_spelled _ rest),
+    ))))
+
+activity_again : (a : FinalActivity) (more : List ℕ) → IsRow (rows.Activity a) →
+    row_at (activity_text a ++ more) ≡ Some (rows.Activity a, more)
+unfolding activity_at told_by row_at
+activity_again a more is =
+    let flow : a.flow < 2 ^ 64 = is.0.0 in
+    let active : a.active < 2 ^ 64 = is.0.1.0 in
+    ap row_at (activity_spelled a more) ∙ rw (field_comma, field_end, after_again (codes "\n")) refl
+
 -- U lines.
 
 abbrev TellsCounts : List ℕ → TraceCounts × List ℕ → Type 0
@@ -305,10 +339,14 @@ row_found (letter ∷ bytes) x found =
         | inr not_m ↦ elim (eqb_tells letter 70) [
           | inl f ↦ found_in (final_at bytes) _ x (rw (not_g.0, not_m.0, f.0) at found) (λ state a same.
               rw (f.1) (moved (TellsRow (70 ∷ bytes)) _ x same (final_found bytes state a)))
-          | inr not_f ↦ elim (eqb_tells letter 85) [
-            | inl u ↦ found_in (counts_at bytes) _ x (rw (not_g.0, not_m.0, not_f.0, u.0) at found) (λ counts a same.
-                rw (u.1) (moved (TellsRow (85 ∷ bytes)) _ x same (counts_found bytes counts a)))
-            | inr not_u ↦ (let none = rw (not_g.0, not_m.0, not_f.0, not_u.0) at found in cc)
+          | inr not_f ↦ elim (eqb_tells letter 65) [
+            | inl l ↦ found_in (activity_at bytes) _ x (rw (not_g.0, not_m.0, not_f.0, l.0) at found)
+                (λ activity a same. rw (l.1) (moved (TellsRow (65 ∷ bytes)) _ x same (activity_found bytes activity a)))
+            | inr not_a ↦ elim (eqb_tells letter 85) [
+              | inl u ↦ found_in (counts_at bytes) _ x (rw (not_g.0, not_m.0, not_f.0, not_a.0, u.0) at found)
+                  (λ counts a same. rw (u.1) (moved (TellsRow (85 ∷ bytes)) _ x same (counts_found bytes counts a)))
+              | inr not_u ↦ (let none = rw (not_g.0, not_m.0, not_f.0, not_a.0, not_u.0) at found in cc)
+            ]
           ]
         ]
       ]
@@ -319,4 +357,5 @@ pub row_again : (row : Row) (more : List ℕ) → IsRow row → row_at (text_of 
 row_again (rows.Granted g) more is = grant_again g more is
 row_again (rows.Missed m) more is = missed_again m more is
 row_again (rows.Final s) more is = final_again s more is
+row_again (rows.Activity a) more is = activity_again a more is
 row_again (rows.Counts c) more is = counts_again c more is

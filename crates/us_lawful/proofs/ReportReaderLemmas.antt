@@ -209,13 +209,16 @@ unfolding word_at
 word_found bytes x found =
     elim (or_some (spelled_at words.Unsolicited bytes) _ x found) [
       | inl first ↦ spelled_found words.Unsolicited bytes x first
-      | inr later ↦ elim (or_some (spelled_at words.RealTimePoll bytes) _ x later) [
-        | inl first ↦ spelled_found words.RealTimePoll bytes x first
-        | inr later ↦ elim (or_some (spelled_at words.NonRealTimePoll bytes) _ x later) [
-          | inl first ↦ spelled_found words.NonRealTimePoll bytes x first
-          | inr later ↦ elim (or_some (spelled_at words.Station bytes) _ x later) [
-            | inl first ↦ spelled_found words.Station bytes x first
-            | inr later ↦ spelled_found words.Requested bytes x later
+      | inr later ↦ elim (or_some (spelled_at words.Activity bytes) _ x later) [
+        | inl first ↦ spelled_found words.Activity bytes x first
+        | inr later ↦ elim (or_some (spelled_at words.RealTimePoll bytes) _ x later) [
+          | inl first ↦ spelled_found words.RealTimePoll bytes x first
+          | inr later ↦ elim (or_some (spelled_at words.NonRealTimePoll bytes) _ x later) [
+            | inl first ↦ spelled_found words.NonRealTimePoll bytes x first
+            | inr later ↦ elim (or_some (spelled_at words.Station bytes) _ x later) [
+              | inl first ↦ spelled_found words.Station bytes x first
+              | inr later ↦ spelled_found words.Requested bytes x later
+            ]
           ]
         ]
       ]
@@ -224,6 +227,7 @@ word_found bytes x found =
 pub word_again : (entry : EntryWord) (more : List ℕ) → word_at (word_text entry ++ more) ≡ Some (entry, more)
 unfolding word_at spelled_at after
 word_again words.Unsolicited more = refl
+word_again words.Activity more = refl
 word_again words.RealTimePoll more = refl
 word_again words.NonRealTimePoll more = refl
 word_again words.Station more = refl

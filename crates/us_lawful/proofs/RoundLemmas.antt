@@ -1,25 +1,28 @@
 -- The rounds of a run, and their lines: a sum over all lines of a report goes round by round and channel by channel.
-use Rattle.std.proofs.Common.{◌≡◌, ◌≢◌, ℕ, zero, suc, ◌+◌, ◌<◌, ◌==◌, ◌⊎◌, ne_eqb, Bool, true, false, List, [], ◌∷◌, ◌++◌, length, map, Some, refl, sym, ap, subst, ◌∙◌, arith, inl, inr}
-use Rattle.std.specs.Prelude.{◌&&◌, not, filter, flat_map, slice_get, sum_by, option_map}
+use Rattle.std.proofs.Common.{◌≡◌, ◌≢◌, ℕ, zero, suc, ◌+◌, ◌<◌, ◌==◌, ◌⊎◌, ne_eqb, Bool, true, false, List, [], ◌∷◌, ◌++◌, length, map, Option, Some, None, refl, sym, ap, subst, ◌∙◌, arith, inl, inr}
+use Rattle.std.specs.Prelude.{◌&&◌, not, if◌then◌else◌, filter, flat_map, slice_get, slice_index, sum_by, option_map, option_and_then}
 use Rattle.std.specs.List.{AllByRecursion, range_with_len}
 use Rattle.std.proofs.lemmas.Bool.{cases_Bool}
 use Rattle.std.proofs.lemmas.List.{length-map}
 use Rattle.std.proofs.lemmas.List.Sums.{sum_by-cons}
 use Rattle.std.proofs.lemmas.Option.{slice_get-map}
 use Rattle.us_flows.specs.declared.channels.Channel.{Channel}
-use Rattle.us_flows.specs.Tables.{Tables}
+use Rattle.us_flows.specs.Tables.{FlowTable, Tables}
 use Rattle.us_flows.specs.Clusters.{Turn, table_order}
 use Rattle.us_flows.specs.Lawful.{AreApart, AreTables}
-use Rattle.us_bucket.specs.Levels.{Level}
+use Rattle.us_bucket.specs.Levels.{Level, units_in}
 use Rattle.us_requests.specs.declared.asks.Counts.{Counts}
 use Rattle.us_calendar.specs.declared.settled.Settled.{Settled}
 use Rattle.us_calendar.specs.declared.settled.Settled.TheVariants as settled
 use Rattle.us_channel.specs.Placements.{PlacedClaim}
 use Rattle.us_channel.specs.Channels.{Built}
+use Rattle.us_output.specs.declared.rows.FinalActivity.{FinalActivity}
+use Rattle.us_output.specs.declared.rows.FinalState.{FinalState}
 use Rattle.us_output.specs.declared.rows.Row.{Row}
-use Rattle.us_round.specs.Rounds.{State, opening, builds_of, ended, schedule, final}
-use Rattle.us_output.specs.Outputs.{Scheduled, RoundOut, is_granted, settled_row, grant_row, by_start, granted_rows, missed_rows, rows_on, final_row, out_of}
-use Rattle.us_round.specs.States.{final_rows, IsState, AreSound}
+use Rattle.us_output.specs.declared.rows.Row.TheVariants as rows
+use Rattle.us_round.specs.Rounds.{State, opening, builds_of, ended, round_from, round_of, schedule, final}
+use Rattle.us_output.specs.Outputs.{Scheduled, RoundOut, is_granted, settled_row, grant_row, by_start, granted_rows, missed_rows, rows_on, activity_rows, final_row, out_of}
+use Rattle.us_round.specs.States.{activity_of, final_rows, IsState, AreSound}
 use Rattle.us_output.specs.Leftovers.{AreInside}
 use Rattle.us_round.specs.ScheduleLaws.{begun_rounds, AreCuts}
 use Rattle.us_output.proofs.PartLemmas.{all_append, all_found, all_weaker}
@@ -65,6 +68,12 @@ rounds_long t cuts =
     range_long : (from n : ℕ) → length (range_with_len from n) ≡ n
     range_long from zero = refl
     range_long from (suc n) = ap suc (range_long (from + 1) n)
+
+-- a schedule keeps its tables
+pub final_tables : (s : State) (cuts : List (List ℕ)) → (final s cuts).tables ≡ s.tables
+unfolding final round_of round_from
+final_tables s [] = refl
+final_tables s (cut ∷ cuts) = final_tables (round_of s cut).state cuts
 
 -- an item that is there, of a list of what others are made into
 pub found_made : {X Y : Type 0} (f : X → Y) (xs : List X) (place : ℕ) (y : Y) → slice_get (map f xs) place ≡ Some y →
@@ -139,6 +148,39 @@ round_rows s = flat_map (rows_in s.round) (builds_of s)
 -- at the end of a report
 abbrev pub last_rows : Tables → List (List ℕ) → Counts → List Row
 last_rows t cuts counts = final_rows (final (opening t) cuts) ++ counts_row counts ∷ []
+
+-- what holds of lines of these three kinds holds of them
+pub last_all : (P : Row → Type 0) (t : Tables) (cuts : List (List ℕ)) (counts : Counts) →
+    ((state : FinalState) → P (rows.Final state)) → ((activity : FinalActivity) → P (rows.Activity activity)) →
+    P (counts_row counts) → AllByRecursion P (last_rows t cuts counts)
+unfolding final_rows
+last_all P t cuts counts states activities told =
+    let end : State = final (opening t) cuts in
+    let finals : List Row = map (final_row end.outstanding end.buckets) (table_order end.tables) in
+    let active : List (Option Bool) = map (activity_of end) end.tables.flows in
+    all_append P (finals ++ activity_rows end.tables.flows active) (counts_row counts ∷ [])
+    (all_append P finals (activity_rows end.tables.flows active)
+    (each_state end.outstanding end.buckets (table_order end.tables)) (each_activity end.tables.flows active)) (told, tt)
+  where
+    each_state : (outstanding : List ℕ) (buckets : List Level) (turns : List Turn) →
+        AllByRecursion P (map (final_row outstanding buckets) turns)
+    each_state outstanding buckets [] = tt
+    each_state outstanding buckets (turn ∷ turns) = (
+      states (record {
+        flow = turn.cluster.flow.id;
+        cluster = turn.cluster.list;
+        outstanding = slice_index outstanding turn.number;
+        units = option_and_then units_in (slice_get buckets turn.place);
+      }),
+      each_state outstanding buckets turns,
+    )
+
+    each_activity : (flows : List FlowTable) (active : List (Option Bool)) → AllByRecursion P (activity_rows flows active)
+    each_activity [] active = tt
+    each_activity (flow ∷ flows) [] = tt
+    each_activity (flow ∷ flows) (None ∷ active) = each_activity flows active
+    each_activity (flow ∷ flows) (Some is ∷ active) =
+        (activities (record { flow = flow.id; active = if is then 1 else 0 }), each_activity flows active)
 
 -- what passes and what doesn't is all
 parted : {X : Type 0} (f : X → ℕ) (p : X → Bool) (xs : List X) →
@@ -245,16 +287,8 @@ rows_elsewhere round r id b other =
 -- nor are those at the end of a report
 pub last_elsewhere : (r id : ℕ) (t : Tables) (cuts : List (List ℕ)) (counts : Counts) →
     AllByRecursion (λ row. is_told_at r id row ≡ false) (last_rows t cuts counts)
-unfolding final_rows
 last_elsewhere r id t cuts counts =
-    let end : State = final (opening t) cuts in
-    all_append (λ row. is_told_at r id row ≡ false) (map (final_row end.outstanding end.buckets) (table_order end.tables))
-    (counts_row counts ∷ []) (none end.outstanding end.buckets (table_order end.tables)) (refl, tt)
-  where
-    none : (outstanding : List ℕ) (buckets : List Level) (turns : List Turn) →
-        AllByRecursion (λ row. is_told_at r id row ≡ false) (map (final_row outstanding buckets) turns)
-    none outstanding buckets [] = tt
-    none outstanding buckets (turn ∷ turns) = (refl, none outstanding buckets turns)
+    last_all (λ row. is_told_at r id row ≡ false) t cuts counts (λ state. refl) (λ activity. refl) refl
 
 -- a sum of what is told at one round and channel counts nothing else
 abbrev pub CountsAt : ℕ → ℕ → (Row → ℕ) → Type 0

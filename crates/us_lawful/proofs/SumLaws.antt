@@ -1,19 +1,23 @@
 -- No round credits more to a cluster than is outstanding, and what is left is outstanding behind it.
-use Rattle.std.proofs.Common.{◌≡◌, ℕ, ◌+◌, ◌-◌, ◌==◌, Bool, true, false, List, length, take, cond, sym, ◌∙◌, arith}
-use Rattle.std.specs.Prelude.{◌&&◌, ◌||◌, not, nat_lt, slice_index}
+use Rattle.std.proofs.Common.{◌≡◌, ℕ, ◌+◌, ◌-◌, ◌==◌, Bool, true, false, List, length, take, cond, sym, ap, ◌∙◌, arith}
+use Rattle.std.specs.Prelude.{◌&&◌, ◌||◌, not, nat_lt, slice_index, sum_by}
 use Rattle.std.specs.List.{list_all}
+use Rattle.std.specs.Option.{option_map_or}
 use Rattle.std.proofs.lemmas.Bool.{le-leb, or_right}
 use Rattle.std.proofs.lemmas.Bool.Decides.{nat_tests}
 use Rattle.us_flows.specs.Tables.{Tables, rounds_fit}
-use Rattle.us_flows.specs.Clusters.{Cluster, Turn, IsTurnIn, clusters_of, table_order}
+use Rattle.us_flows.specs.Clusters.{Cluster, Turn, IsTurnIn, table_order, words_of}
 use Rattle.us_flows.specs.Lawful.{AreTables}
 use Rattle.us_flows.proofs.TurnLaws.{table_order-turns}
 use Rattle.us_requests.specs.declared.asks.Counts.{Counts}
+use Rattle.us_split.specs.Asking as asking
+use Rattle.us_split.specs.Asking.{requested_by}
+use Rattle.us_split.proofs.RequestedLemmas.{requested-at}
 use Rattle.us_channel.specs.Placements.{credits}
 use Rattle.us_output.specs.declared.rows.Grant.{Grant}
 use Rattle.us_output.specs.declared.rows.Row.{Row}
 use Rattle.us_round.specs.Rounds.{opening, builds_of, all_grants, is_of_cluster, schedule, final}
-use Rattle.us_round.specs.ScheduleLaws.{AreCuts, credited_of}
+use Rattle.us_round.specs.ScheduleLaws.{AreCuts, asked_of, credited_of}
 use Rattle.us_round.proofs.ByteLaws.{bytes_are_kept}
 use Rattle.us_output.proofs.PartLemmas.{all_taken, all_weaker}
 use Rattle.us_lawful.specs.declared.place.Place.{Place}
@@ -69,6 +73,17 @@ credited_is_within t cuts counts lawful long rounds turn known =
     (omega arith)
     ∙ sym (credited_is turn.number (opening t) (take rounds cuts))
 
+-- a cluster requests all bytes that cuts have of its word
+requested_is : (t : Tables) (cuts : List (List ℕ)) (turn : Turn) → AreCuts t cuts → IsTurnIn t turn →
+    asked_of t turn.number cuts ≡ sum_by (λ cut. slice_index cut turn.number) cuts
+requested_is t cuts turn long known =
+    let n : ℕ = turn.number in
+    sum_same (λ cut. slice_index (asking.requested_in (words_of t) cut) n) (λ cut. slice_index cut n) cuts
+    (all_weaker (λ cut. length cut ≡ length (words_of t))
+    (λ cut. slice_index (asking.requested_in (words_of t) cut) n ≡ slice_index cut n)
+    (λ cut same. requested-at (words_of t) cut n (omega (arith, same, known.number))
+    ∙ ap (λ word. option_map_or (λ word. requested_by word (slice_index cut n)) word 0) known.word) cuts long)
+
 -- what it asks for in them is credited to it there, or outstanding behind them
 pub bytes_balance : (t : Tables) (cuts : List (List ℕ)) (counts : Counts) → AreTables t → AreCuts t cuts →
     (rounds : ℕ) (turn : Turn) → IsTurnIn t turn →
@@ -77,11 +92,12 @@ pub bytes_balance : (t : Tables) (cuts : List (List ℕ)) (counts : Counts) → 
     ≡ asked_within (run_of t cuts counts) rounds turn.number
 bytes_balance t cuts counts lawful long rounds turn known =
     let first : List (List ℕ) = take rounds cuts in
-    let are : AreCuts t first = all_taken (λ cut. length cut ≡ length (clusters_of t)) rounds cuts long in
+    let are : AreCuts t first = all_taken (λ cut. length cut ≡ length (words_of t)) rounds cuts long in
     omega (
       arith,
       credited_is_within t cuts counts lawful long rounds turn known,
       bytes_are_kept t first turn.number lawful are,
+      requested_is t first turn are known,
     )
 
 -- In every run no round credits more than is outstanding.

@@ -29,8 +29,8 @@ use Rattle.us_lawful.specs.Texts.{IsRow, AreLawful, can_be_told, record_of}
 use Rattle.us_lawful.specs.Laws.{ReportsReadBack}
 use Rattle.us_lawful.proofs.TestLemmas.{all_pass, each_passes}
 use Rattle.us_lawful.proofs.SameLemmas.{same_all}
-use Rattle.us_lawful.proofs.RoundLemmas.{last_rows, round_rows, rounds_of, rows_in}
-use Rattle.us_lawful.proofs.TimesLemmas.{all_lines, last_all}
+use Rattle.us_lawful.proofs.RoundLemmas.{last_all, last_rows, round_rows, rounds_of, rows_in}
+use Rattle.us_lawful.proofs.TimesLemmas.{all_lines}
 
 -- The maps file.
 
@@ -88,6 +88,7 @@ texts_are_lawful run out told lawful = record {
 
 calendar_word : (kind : Kind) → is_requested (entry_word kind) ≡ false
 calendar_word kinds.Unsolicited = refl
+calendar_word kinds.Activity = refl
 calendar_word kinds.RealTimePoll = refl
 calendar_word kinds.NonRealTimePoll = refl
 calendar_word kinds.Station = refl
@@ -127,7 +128,7 @@ lines_told t cuts counts lawful long =
     each_passes can_be_told (judged_of (output_of t cuts counts)).lines
     (same_all can_be_told (judged_of (output_of t cuts counts)).lines (rounds ++ ends) (all_lines t cuts counts lawful long)
     ∙ all_pass can_be_told (rounds ++ ends) (all_append (λ row. can_be_told row ≡ true) rounds ends
-    (rounds_told (rounds_of t cuts)) (last_all (λ row. can_be_told row ≡ true) t cuts counts (λ state. refl) refl)))
+    (rounds_told (rounds_of t cuts)) (last_all (λ row. can_be_told row ≡ true) t cuts counts (λ state. refl) (λ activity. refl) refl)))
 
 pub rows_are : (t : Tables) (cuts : List (List ℕ)) (counts : Counts) → AreTables t → AreCuts t cuts →
     AllByRecursion HasFields (judged_of (output_of t cuts counts)).lines →

@@ -1,6 +1,7 @@
 -- When windows close: what becomes of an occurrence in the rounds of a run, told by the run's quarters.
-use Rattle.std.proofs.Common.{◌≡◌, ℕ, suc, ◌+◌, ◌-◌, ◌*◌, ◌/◌, ◌<◌, ◌≤◌, nat_lt, ◌||◌, Bool, true, false, cond, List, [], ◌∷◌, length, sum_by, count_by, refl, sym, ap, subst, ◌∙◌, arith, lt-ltb, ltb-true, ltb-false}
+use Rattle.std.proofs.Common.{◌≡◌, ℕ, suc, ◌+◌, ◌-◌, ◌*◌, ◌/◌, ◌<◌, ◌≤◌, nat_lt, ◌||◌, Bool, true, false, cond, List, [], ◌∷◌, length, sum_by, count_by, slice_get, Some, refl, sym, ap, subst, ◌∙◌, arith, inl, inr, lt-ltb, ltb-true, ltb-false}
 use Rattle.std.specs.List.{AllByRecursion}
+use Rattle.std.proofs.lemmas.Bool.{cases_Bool, false≢true}
 use Rattle.std.proofs.lemmas.List.FromFn.{length-map-range_with_len}
 use Rattle.std.proofs.lemmas.Nat.{div-mul-add, mul-le}
 use Rattle.us_slots.specs.Times.{minislot_ticks}
@@ -10,13 +11,17 @@ use Rattle.us_flows.specs.Lawful.{IsChannel}
 use Rattle.us_holes.specs.Boards.{Board}
 use Rattle.us_calendar.specs.declared.settled.Settled.{Settled}
 use Rattle.us_calendar.specs.declared.settled.Settled.TheVariants as settled
+use Rattle.us_calendar.specs.Activity.{active_in, speaks_by}
 use Rattle.us_calendar.specs.Entries.{Entry, rank_of}
+use Rattle.us_calendar.specs.Occurrences.{Pace, comes, end_of}
 use Rattle.us_calendar.specs.Calendars.{Calendar, pace_of, opening, after}
 use Rattle.us_calendar.specs.Runs.{Round, rounds_on, end_after, window_end, is_name, grants, misses, times, IsSettledOnce}
 use Rattle.us_channel.specs.Reserves.{reserves}
 use Rattle.us_round.specs.ScheduleLaws.{boards_of}
 use Rattle.us_lawful.specs.CalendarLines.{round_quarters}
+use Rattle.us_output.proofs.PartLemmas.{all_weaker}
 use Rattle.us_lawful.proofs.SumLemmas.{sum_same, sum_both}
+use Rattle.us_lawful.proofs.ItemLemmas.{none_passing, of_each, part_of_none}
 
 -- Ends of rounds.
 
@@ -52,17 +57,27 @@ closing_in_round t c e n r count is before low high =
 -- What a channel's calendar settles.
 
 -- the rounds that it goes over in a run
-abbrev pub rounds_for : Tables → Channel → ℕ → List Round
-rounds_for t c count = rounds_on (opening t c) (boards_of t c count)
+abbrev pub rounds_for : Tables → Channel → List (List ℕ) → List Round
+rounds_for t c cuts = rounds_on (opening t c) cuts (boards_of t c (length cuts))
 
-rounds_on_long : (calendar : Calendar) (boards : List Board) → length (rounds_on calendar boards) ≡ length boards
-rounds_on_long calendar [] = refl
-rounds_on_long calendar (board ∷ boards) = ap suc (rounds_on_long (after calendar board) boards)
+rounds_on_long : (calendar : Calendar) (cuts : List (List ℕ)) (boards : List Board) → length cuts ≡ length boards →
+    length (rounds_on calendar cuts boards) ≡ length cuts
+rounds_on_long calendar [] boards many = refl
+rounds_on_long calendar (cut ∷ cuts) [] many = absurd (omega (arith, many))
+rounds_on_long calendar (cut ∷ cuts) (board ∷ boards) many =
+    ap suc (rounds_on_long (after calendar cut board) cuts boards (omega (arith, many)))
 
-pub rounds_for_long : (t : Tables) (c : Channel) (count : ℕ) → length (rounds_for t c count) ≡ count
-rounds_for_long t c count =
-    rounds_on_long (opening t c) (boards_of t c count)
-    ∙ length-map-range_with_len (reserves c (map_len t c)) 0 count
+pub rounds_for_long : (t : Tables) (c : Channel) (cuts : List (List ℕ)) → length (rounds_for t c cuts) ≡ length cuts
+rounds_for_long t c cuts =
+    rounds_on_long (opening t c) cuts (boards_of t c (length cuts))
+    (sym (length-map-range_with_len (reserves c (map_len t c)) 0 (length cuts)))
+
+-- the round that holds a time is the quotient by the quarters of a round, by which the calendar tells who is active
+pub speaks_alike : (t : Tables) (c : Channel) (cuts : List (List ℕ)) (e : Entry) → IsChannel t c →
+    speaks_by (pace_of t c) cuts e ≡ (λ time. active_in e.silence cuts (time / round_quarters t))
+speaks_alike t c cuts e is =
+    let first : end_of (pace_of t c) 0 ≡ round_quarters t = omega (arith, rounds_end t c 1 is) in
+    ap (λ quarters time. active_in e.silence cuts (time / quarters)) first
 
 -- no item both grants and misses
 one_of : (e : Entry) (n : ℕ) (s : Settled) →
@@ -104,25 +119,42 @@ times_parted e n rounds =
     each [] = tt
     each (round ∷ rounds) = (count_parted e n round.settled, each rounds)
 
--- an occurrence is settled once where its window closes in the run,
-pub closed_once : (t : Tables) (c : Channel) (e : Entry) (n count : ℕ) → IsChannel t c →
-    IsSettledOnce (pace_of t c) (rounds_for t c count) e n →
-    nat_lt (window_end e n) (count * round_quarters t) ≡ true →
-    times (grants e n) (rounds_for t c count) + times (misses e n) (rounds_for t c count) ≡ 1
-closed_once t c e n count is once closes =
-    let end : end_after (pace_of t c) (length (rounds_for t c count)) ≡ count * round_quarters t =
-    ap (end_after (pace_of t c)) (rounds_for_long t c count) ∙ rounds_end t c count is in
-    once.closed (subst (λ moment. window_end e n < moment) (sym end)
-    (ltb-true (window_end e n) (count * round_quarters t) closes))
+-- an occurrence that comes is settled once where its window closes in the run,
+pub closed_once : (t : Tables) (c : Channel) (cuts : List (List ℕ)) (speaks : ℕ → Bool) (e : Entry) (n : ℕ) →
+    IsChannel t c → IsSettledOnce (pace_of t c) speaks (rounds_for t c cuts) e n → comes e speaks n ≡ true →
+    nat_lt (window_end e n) (length cuts * round_quarters t) ≡ true →
+    times (grants e n) (rounds_for t c cuts) + times (misses e n) (rounds_for t c cuts) ≡ 1
+closed_once t c cuts speaks e n is once it closes =
+    let end : end_after (pace_of t c) (length (rounds_for t c cuts)) ≡ length cuts * round_quarters t =
+    ap (end_after (pace_of t c)) (rounds_for_long t c cuts) ∙ rounds_end t c (length cuts) is in
+    once.closed it (subst (λ moment. window_end e n < moment) (sym end)
+    (ltb-true (window_end e n) (length cuts * round_quarters t) closes))
 
 -- and at most once where it doesn't
-pub open_once : (t : Tables) (c : Channel) (e : Entry) (n count : ℕ) → IsChannel t c →
-    IsSettledOnce (pace_of t c) (rounds_for t c count) e n →
-    nat_lt (window_end e n) (count * round_quarters t) ≡ false →
-    times (grants e n) (rounds_for t c count) + times (misses e n) (rounds_for t c count) ≤ 1
-open_once t c e n count is once opens =
-    let end : end_after (pace_of t c) (length (rounds_for t c count)) ≡ count * round_quarters t =
-    ap (end_after (pace_of t c)) (rounds_for_long t c count) ∙ rounds_end t c count is in
+pub open_once : (t : Tables) (c : Channel) (cuts : List (List ℕ)) (speaks : ℕ → Bool) (e : Entry) (n : ℕ) →
+    IsChannel t c → IsSettledOnce (pace_of t c) speaks (rounds_for t c cuts) e n →
+    nat_lt (window_end e n) (length cuts * round_quarters t) ≡ false →
+    times (grants e n) (rounds_for t c cuts) + times (misses e n) (rounds_for t c cuts) ≤ 1
+open_once t c cuts speaks e n is once opens =
+    let end : end_after (pace_of t c) (length (rounds_for t c cuts)) ≡ length cuts * round_quarters t =
+    ap (end_after (pace_of t c)) (rounds_for_long t c cuts) ∙ rounds_end t c (length cuts) is in
     let waits = once.waits (subst (λ moment. moment ≤ window_end e n) (sym end)
-    (ltb-false (window_end e n) (count * round_quarters t) opens)) in
+    (ltb-false (window_end e n) (length cuts * round_quarters t) opens)) in
     omega (arith, waits.0, waits.1)
+
+-- What a round settles is of occurrences that come.
+
+pub settled_come : (pace : Pace) (speaks : ℕ → Bool) (rounds : List Round) (e : Entry) (n r : ℕ) (round : Round) →
+    IsSettledOnce pace speaks rounds e n → slice_get rounds r ≡ Some round →
+    AllByRecursion (λ s. (grants e n s || misses e n s) ≡ true → comes e speaks n ≡ true) round.settled
+settled_come pace speaks rounds e n r round once at = elim (cases_Bool (comes e speaks n)) [
+  | inl is ↦ of_each (λ s. (grants e n s || misses e n s) ≡ true → comes e speaks n ≡ true) round.settled (λ s named. is)
+  | inr out ↦
+      let both : Settled → Bool = λ s. grants e n s || misses e n s in
+      let none : sum_by (λ (round : Round). count_by both round.settled) rounds ≡ 0 =
+      omega (arith, times_parted e n rounds, once.left_out out) in
+      all_weaker (λ s. both s ≡ false) (λ s. both s ≡ true → comes e speaks n ≡ true)
+      (λ s unnamed named. absurd (false≢true (sym unnamed ∙ named))) round.settled
+      (none_passing both round.settled
+      (part_of_none (λ (round : Round). count_by both round.settled) rounds r round none at))
+]

@@ -1,7 +1,9 @@
--- The rule of calendar lines at small inputs: a flow with one unsolicited grant, ideal at 1,900 microseconds.
-use Rattle.std.specs.Prelude.{◌≡◌, ℕ, true, false, List, [], ◌∷◌, replicate, ⊤, refl}
+-- The rule of calendar lines at small inputs: a flow with one unsolicited grant, ideal at 1,900 microseconds; and flows that
+-- fall silent.
+use Rattle.std.specs.Prelude.{◌≡◌, ℕ, ◌∷◌, ◌++◌, true, false, List, [], length, replicate, ⊤, refl}
 use Rattle.us_slots.specs.Bursts.{coded_length, burst_cost}
-use Rattle.us_flows.specs.declared.flows.SchedulingType.TheVariants.{UnsolicitedGrant}
+use Rattle.us_flows.specs.declared.flows.SchedulingType.TheVariants.{ActivityDetection, UnsolicitedGrant}
+use Rattle.us_flows.specs.Tables.{FlowTable}
 use Rattle.us_calendar.specs.Entries.{entries}
 use Rattle.us_output.specs.declared.rows.EntryWord.TheVariants as words
 use Rattle.us_output.specs.declared.rows.Grant.{Grant}
@@ -244,3 +246,131 @@ open_at_the_end :
     × (calendar_lines_hold open_to_the_end (with (rows.Missed (missed_in 1) ∷ [])) (at 1 1 1) ≡ false)
 unfolding steps each_round open_to_the_end
 open_at_the_end = (refl, refl, refl)
+
+-- Silence.
+
+-- a call with two grants of a minislot in each interval, or a poll of 2, an interval a round: word 0 marks it as silent, word 1
+-- as active
+abbrev call : FlowTable
+call = record base_flow {
+  kind = ActivityDetection;
+  clusters = (513 ∷ []) ∷ [];
+  start_us = 0;
+  interval_us = 2000;
+  jitter_us = 1000;
+  grant_bytes = 16;
+  grants_per_interval = 2;
+}
+
+unfoldable heard_of : List FlowTable → List (List ℕ) → Run
+heard_of flows cuts = record {
+  tables = tables (base_channel ∷ []) flows;
+  rounds = length cuts;
+  cuts = cuts;
+  counts = record { unknown = 0; not_requestable = 0; late = 0 };
+}
+
+-- silent in round 1, and active again in round 2
+abbrev with_silence : Run
+with_silence = heard_of (call ∷ []) ((0 ∷ 0 ∷ []) ∷ (1 ∷ 0 ∷ []) ∷ (0 ∷ 1 ∷ []) ∷ [])
+
+-- grant `k` of interval `i`, and its poll
+abbrev spoken : ℕ → ℕ → Grant
+spoken i k = record grant { round = i; entry = words.Activity; i = i; k = k; start = k }
+
+abbrev polled : ℕ → Grant
+polled i = record (spoken i 0) { iuc = 1; slots = 2 }
+
+abbrev both_grants : ℕ → List Row
+both_grants i = rows.Granted (spoken i 0) ∷ rows.Granted (spoken i 1) ∷ []
+
+-- lines of the rounds 0 and 2, with these of round 1
+abbrev around : List Row → Judged
+around lines = with (both_grants 0 ++ (lines ++ both_grants 2))
+
+silent_interval :
+    let judged : Judged = around (rows.Granted (polled 1) ∷ []) in
+    (calendar_lines_hold with_silence judged (at 0 1 1) ≡ true)
+    × (calendar_lines_hold with_silence judged (at 1 1 1) ≡ true)
+    × (calendar_lines_hold with_silence judged (at 2 1 1) ≡ true)
+unfolding steps heard_of
+silent_interval = (refl, refl, refl)
+
+-- both grants there, one of them, and one that stands for the poll
+grants_while_silent :
+    let both : Judged = around (both_grants 1) in
+    let first : Judged = around (rows.Granted (spoken 1 0) ∷ []) in
+    let iuc : Judged = around (rows.Granted (record (polled 1) { iuc = 11 }) ∷ []) in
+    let slots : Judged = around (rows.Granted (record (polled 1) { slots = 1 }) ∷ []) in
+    (calendar_lines_hold with_silence both (at 1 1 1) ≡ false)
+    × (calendar_lines_hold with_silence both (at 2 1 1) ≡ true)
+    × (calendar_lines_hold with_silence first (at 1 1 1) ≡ false)
+    × (calendar_lines_hold with_silence iuc (at 1 1 1) ≡ false)
+    × (calendar_lines_hold with_silence slots (at 1 1 1) ≡ false)
+unfolding steps heard_of
+grants_while_silent = (refl, refl, refl, refl, refl)
+
+-- a poll for each grant, none at all, and another poll that is missed
+other_polls :
+    let second : Judged =
+    around (rows.Granted (polled 1) ∷ rows.Granted (record (polled 1) { k = 1; start = 2 }) ∷ []) in
+    let missed_second : Judged = around (rows.Granted (polled 1) ∷ rows.Missed (record {
+      round = 1;
+      channel = 1;
+      entry = words.Activity;
+      id = 1;
+      i = 1;
+      k = 1;
+    }) ∷ []) in
+    (calendar_lines_hold with_silence second (at 1 1 1) ≡ false)
+    × (calendar_lines_hold with_silence (around []) (at 1 1 1) ≡ false)
+    × (calendar_lines_hold with_silence missed_second (at 1 1 1) ≡ false)
+    × (calendar_lines_hold with_silence missed_second (at 2 1 1) ≡ true)
+unfolding steps heard_of
+other_polls = (refl, refl, refl, refl)
+
+-- the poll may be missed, as what else closes
+missed_poll :
+    let missed : MissedOccurrence = record (missed_in 1) { entry = words.Activity; i = 1 } in
+    (calendar_lines_hold with_silence (around (rows.Missed missed ∷ [])) (at 1 1 1) ≡ true)
+    × (calendar_lines_hold with_silence (around (rows.Missed (record missed { round = 2 }) ∷ [])) (at 2 1 1) ≡ false)
+unfolding steps heard_of
+missed_poll = (refl, refl)
+
+-- a poll of an interval that begins while the call is active: without the mark as silent, and with both marks in one round
+poll_while_active :
+    let unmarked : Run = heard_of (call ∷ []) ((0 ∷ 0 ∷ []) ∷ (0 ∷ 0 ∷ []) ∷ (0 ∷ 1 ∷ []) ∷ []) in
+    let both : Run = heard_of (call ∷ []) ((0 ∷ 0 ∷ []) ∷ (1 ∷ 1 ∷ []) ∷ (0 ∷ 0 ∷ []) ∷ []) in
+    let judged : Judged = around (rows.Granted (polled 1) ∷ []) in
+    (calendar_lines_hold unmarked judged (at 1 1 1) ≡ false)
+    × (calendar_lines_hold unmarked judged (at 2 1 1) ≡ true)
+    × (calendar_lines_hold both judged (at 1 1 1) ≡ false)
+    × (calendar_lines_hold both (around (both_grants 1)) (at 1 1 1) ≡ true)
+unfolding steps heard_of
+poll_while_active = (refl, refl, refl, refl)
+
+-- of two calls each has its own marks; that of the second one are the words 2 and 3
+marks_of_another_call :
+    let calls : List FlowTable = call ∷ record call { id = 2; clusters = (514 ∷ []) ∷ [] } ∷ [] in
+    let first_silent : Run = heard_of calls ((1 ∷ 0 ∷ 0 ∷ 0 ∷ []) ∷ []) in
+    let second_silent : Run = heard_of calls ((0 ∷ 0 ∷ 1 ∷ 0 ∷ []) ∷ []) in
+    let other : Grant = record (polled 0) { id = 2; sid = 514; start = 2 } in
+    let judged : Judged = with (rows.Granted other ∷ both_grants 0) in
+    (calendar_lines_hold second_silent judged (at 0 1 1) ≡ true)
+    × (calendar_lines_hold second_silent judged (at 0 1 2) ≡ true)
+    × (calendar_lines_hold first_silent judged (at 0 1 1) ≡ false)
+    × (calendar_lines_hold first_silent judged (at 0 1 2) ≡ false)
+unfolding steps heard_of
+marks_of_another_call = (refl, refl, refl, refl)
+
+-- Of what kind an interval is, the round says that holds its ideal time: this one is ideal in round 0, and granted in round 1,
+-- in which the call is silent.
+granted_in_silence :
+    let late : FlowTable =
+    record call { start_us = 1900; interval_us = 10000; jitter_us = 800; grants_per_interval = 1 } in
+    let run : Run = heard_of (late ∷ []) ((0 ∷ 0 ∷ []) ∷ (1 ∷ 0 ∷ []) ∷ []) in
+    let first : Grant = record grant { entry = words.Activity } in
+    (calendar_lines_hold run (with (rows.Granted first ∷ [])) (at 1 1 1) ≡ true)
+    × (calendar_lines_hold run (with (rows.Granted (record first { iuc = 1; slots = 2 }) ∷ [])) (at 1 1 1) ≡ false)
+unfolding steps heard_of
+granted_in_silence = (refl, refl)

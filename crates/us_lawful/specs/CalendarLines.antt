@@ -6,11 +6,13 @@ use Rattle.us_flows.specs.declared.channels.Channel.{Channel}
 use Rattle.us_flows.specs.Tables.{Tables, map_len}
 use Rattle.us_calendar.specs.declared.kinds.Kind.{Kind}
 use Rattle.us_calendar.specs.declared.kinds.Kind.TheVariants as kinds
-use Rattle.us_calendar.specs.Entries.{Entry, entries}
-use Rattle.us_calendar.specs.Occurrences.{starts_within}
+use Rattle.us_calendar.specs.Activity.{active_in}
+use Rattle.us_calendar.specs.Entries.{Entry, entries, owner_of, slots_of}
+use Rattle.us_calendar.specs.Occurrences.{comes, ideal, starts_within}
 use Rattle.us_calendar.specs.Runs.{window_end}
 use Rattle.us_output.specs.declared.rows.EntryWord.{EntryWord}
 use Rattle.us_output.specs.declared.rows.EntryWord.TheVariants as words
+use Rattle.us_output.specs.declared.rows.Grant.{Grant}
 use Rattle.us_output.specs.declared.rows.Row.{Row}
 use Rattle.us_output.specs.declared.rows.Row.TheVariants as rows
 use Rattle.us_lawful.specs.declared.place.Place.{Place}
@@ -39,11 +41,19 @@ closing_round t e n = window_end e n / round_quarters t
 abbrev pub closes : Run → Entry → ℕ → Bool
 closes run e n = nat_lt (window_end e n) (run.rounds * round_quarters run.tables)
 
+-- whether the flow of an entry is active in the round that holds a time: so it is but for what the run's marks say
+abbrev pub speaks_in : Run → Entry → ℕ → Bool
+speaks_in run e time = active_in e.silence run.cuts (time / round_quarters run.tables)
+
+-- an occurrence is there: all of an interval that begins while the flow is active, and the first alone of a silent one
+abbrev pub is_there : Run → Entry → ℕ → Bool
+is_there run e n = comes e (speaks_in run e) n
+
 -- the occurrences that close in a round of the run. An interval lasts a quarter microsecond at least, so that all of them
 -- are among these numbers.
 unfoldable pub closing_in : Run → ℕ → Entry → List ℕ
 closing_in run round e =
-    filter (λ n. closes run e n && (closing_round run.tables e n == round))
+    filter (λ n. is_there run e n && (closes run e n && (closing_round run.tables e n == round)))
     (range_with_len 0 (run.rounds * round_quarters run.tables * e.grants))
 
 -- Names.
@@ -51,6 +61,7 @@ closing_in run round e =
 -- the word of an entry of this kind
 abbrev pub is_word : Kind → EntryWord → Bool
 is_word kinds.Unsolicited words.Unsolicited = true
+is_word kinds.Activity words.Activity = true
 is_word kinds.RealTimePoll words.RealTimePoll = true
 is_word kinds.NonRealTimePoll words.NonRealTimePoll = true
 is_word kinds.Station words.Station = true
@@ -79,22 +90,29 @@ times e n lines = count_by (names e n) lines
 
 -- Lines.
 
--- a line is right for an occurrence: it tells the entry's channel; a grant starts in its window, has the SID, the IUC and the
--- minislots of the entry, and credits nothing; a missed one closes in the run, in the round that is told
+-- a grant of an occurrence has the SID, the IUC and the minislots of the entry, as a grant or as a poll, and credits nothing
+abbrev pub is_grant_of : Entry → Bool → Grant → Bool
+is_grant_of e active g =
+    (g.sid == (owner_of e active).sid)
+    && ((g.iuc == (owner_of e active).iuc) && ((g.slots == slots_of e active) && (g.credit == 0)))
+
+-- a line is right for an occurrence: it tells the entry's channel; a grant starts in its window, and is what the entry has
+-- then; a missed one closes in the run, in the round that is told
 abbrev pub is_right_line : Run → ChannelEntry → ℕ → Row → Bool
 is_right_line run l n (rows.Granted g) =
     (g.channel == l.channel.id)
     && (starts_within l.channel.bursts.time l.entry n (g.round * map_len run.tables l.channel + g.start)
-    && ((g.sid == l.entry.owner.sid) && ((g.iuc == l.entry.owner.iuc) && ((g.slots == l.entry.slots) && (g.credit == 0)))))
+    && is_grant_of l.entry (speaks_in run l.entry (ideal l.entry n)) g)
 is_right_line run l n (rows.Missed m) =
     (m.channel == l.channel.id) && (closes run l.entry n && (m.round == closing_round run.tables l.entry n))
 is_right_line run l n _ = false
 
--- it names an occurrence of this entry and is right for it, and no other line names that while it is open
+-- it names an occurrence of this entry that is there and is right for it, and no other line names that while it is open
 abbrev pub tells_one_of : Run → List Row → Row → ChannelEntry → Bool
 tells_one_of run lines row l =
     let n : ℕ = number_of l.entry row in
-    names l.entry n row && (is_right_line run l n row && (closes run l.entry n || nat_le (times l.entry n lines) 1))
+    names l.entry n row && (is_there run l.entry n
+    && (is_right_line run l n row && (closes run l.entry n || nat_le (times l.entry n lines) 1)))
 
 -- a calendar's line with this round, channel and id
 abbrev pub is_calendar_line_at : Place → Row → Bool

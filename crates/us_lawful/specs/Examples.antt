@@ -7,13 +7,17 @@ use Rattle.us_slots.specs.Bursts.{coded_length, burst_cost}
 use Rattle.us_codec.specs.declared.heads.Head.{Head}
 use Rattle.us_codec.specs.Elements.{MapElement, null_at}
 use Rattle.us_codec.specs.Bodies.{MapBody}
+use Rattle.us_flows.specs.declared.flows.SchedulingType.TheVariants.{ActivityDetection}
+use Rattle.us_flows.specs.Tables.{FlowTable}
 use Rattle.us_bucket.specs.Levels.{refilled, spent, units_in}
+use Rattle.us_calendar.specs.Occurrences.{coming, due}
+use Rattle.us_calendar.specs.Settling.{settle_each, settle_entry}
 use Rattle.us_channel.specs.Maps.{head_of}
 use Rattle.us_output.specs.declared.rows.EntryWord.TheVariants as words
 use Rattle.us_output.specs.declared.rows.Grant.{Grant}
 use Rattle.us_output.specs.declared.rows.Row.{Row}
 use Rattle.us_output.specs.declared.rows.Row.TheVariants as rows
-use Rattle.us_round.specs.RoundExamples.{base, base_channel, round_steps}
+use Rattle.us_round.specs.RoundExamples.{base, base_channel, base_flow, round_steps}
 use Rattle.us_lawful.specs.declared.place.Place.{Place}
 use Rattle.us_lawful.specs.declared.judged.RoundMap.{RoundMap}
 use Rattle.us_lawful.specs.Runs.{Run, Judged}
@@ -104,6 +108,27 @@ stored_report :
     report_text (output_of base stored.cuts stored.counts) ≡ codes "G,1,1,req,1,0,0,291,10,0,32,1000\nF,1,0,0,-\nU,0,0,0\n"
 unfolding steps round_steps output_of lines digits
 stored_report = refl
+
+-- A call over the base channel, with two grants in each round, or a poll: silent in round 1, and active again in round 2.
+abbrev silent_call : FlowTable
+silent_call = record base_flow {
+  kind = ActivityDetection;
+  clusters = (513 ∷ []) ∷ [];
+  start_us = 0;
+  interval_us = 2000;
+  jitter_us = 1000;
+  grant_bytes = 16;
+  grants_per_interval = 2;
+}
+
+silent_report :
+    report_text (output_of (record base { flows = silent_call ∷ [] }) ((0 ∷ 0 ∷ []) ∷ (1 ∷ 0 ∷ []) ∷ (0 ∷ 1 ∷ []) ∷ [])
+    stored.counts)
+    ≡ codes "G,0,1,ad,1,0,0,513,11,0,1,0\nG,0,1,ad,1,0,1,513,11,1,1,0\n"
+    ++ (codes "G,1,1,ad,1,1,0,513,1,0,2,0\n"
+    ++ codes "G,2,1,ad,1,2,0,513,11,0,1,0\nG,2,1,ad,1,2,1,513,11,1,1,0\nA,1,1\nU,0,0,0\n")
+unfolding steps round_steps output_of lines digits coming due settle_each settle_entry
+silent_report = refl
 
 -- Headings.
 

@@ -1,5 +1,6 @@
--- The rules of F and U lines at small inputs: the stored run, and the same with other lines at the end.
-use Rattle.std.specs.Prelude.{◌≡◌, ◌*◌, true, false, List, [], ◌∷◌, map, Some, None, refl}
+-- The rules of F, A and U lines at small inputs: the stored run, and the same with other lines at the end.
+use Rattle.std.specs.Prelude.{◌≡◌, ℕ, ◌*◌, true, false, List, [], ◌∷◌, map, Some, None, refl}
+use Rattle.us_flows.specs.declared.flows.SchedulingType.TheVariants.{ActivityDetection}
 use Rattle.us_flows.specs.Clusters.{table_order}
 use Rattle.us_flows.specs.Tables.{FlowTable}
 use Rattle.us_output.specs.declared.rows.FinalState.{FinalState}
@@ -9,7 +10,7 @@ use Rattle.us_output.specs.declared.rows.Row.TheVariants as rows
 use Rattle.us_output.specs.declared.rows.TraceCounts.{TraceCounts}
 use Rattle.us_round.specs.RoundExamples.{base, base_flow}
 use Rattle.us_lawful.specs.Runs.{Run, Judged, counts_told}
-use Rattle.us_lawful.specs.Finals.{final_of, finals_hold, counts_hold}
+use Rattle.us_lawful.specs.Finals.{activities_hold, activity_of, final_of, finals_hold, counts_hold, talking}
 use Rattle.us_lawful.specs.Examples.{at, ends, steps, stored, stored_grant, told, with_lines}
 use Rattle.us_lawful.specs.CreditExamples.{limited, slow, with_credits}
 
@@ -96,6 +97,76 @@ two_clusters :
     (finals_hold run told (at 2 0 1) ≡ true) × (finals_hold run turned (at 2 0 1) ≡ false)
 unfolding steps
 two_clusters = (refl, refl)
+
+-- A lines.
+
+-- Two calls: the words 1 and 3 mark them as silent in round 0, and word 2 marks the first one as active again in round 1. Word
+-- 0 is what a flow before them requests.
+abbrev call : ℕ → ℕ → FlowTable
+call id sid = record base_flow {
+  id = id;
+  kind = ActivityDetection;
+  clusters = (sid ∷ []) ∷ [];
+  start_us = 0;
+  interval_us = 2000;
+  jitter_us = 1000;
+  grant_bytes = 16;
+  grants_per_interval = 2;
+}
+
+unfoldable calls : Run
+calls = record stored {
+  tables = record base { flows = base_flow ∷ call 3 513 ∷ call 2 514 ∷ [] };
+  cuts = (0 ∷ 1 ∷ 0 ∷ 1 ∷ 0 ∷ []) ∷ (1000 ∷ 0 ∷ 1 ∷ 0 ∷ 0 ∷ []) ∷ [];
+}
+
+abbrev activity : ℕ → ℕ → Row
+activity flow active = rows.Activity (record { flow = flow; active = active })
+
+-- the lines of the flows that tell it
+told_activities :
+    (map (activity_of calls) (talking calls.tables)
+    ≡ record { flow = 3; active = 1 } ∷ record { flow = 2; active = 0 } ∷ [])
+    × (map (activity_of stored) (talking base) ≡ [])
+unfolding steps calls
+told_activities = (refl, refl)
+
+lawful_activities :
+    let judged : Judged = with_lines (activity 3 1 ∷ activity 2 0 ∷ []) in
+    (activities_hold calls judged (at 2 0 3) ≡ true) × (activities_hold calls judged (at 2 0 2) ≡ true)
+    × (activities_hold calls judged (at 2 0 1) ≡ true) × (activities_hold stored told (at 2 0 1) ≡ true)
+unfolding steps calls
+lawful_activities = (refl, refl, refl, refl)
+
+-- none, two, one that tells the other activity, and one whose number says neither
+wrong_activities :
+    let none : Judged = with_lines (activity 2 0 ∷ []) in
+    let twice : Judged = with_lines (activity 3 1 ∷ activity 3 1 ∷ activity 2 0 ∷ []) in
+    let turned : Judged = with_lines (activity 3 0 ∷ activity 2 0 ∷ []) in
+    let neither : Judged = with_lines (activity 3 2 ∷ activity 2 0 ∷ []) in
+    (activities_hold calls none (at 2 0 3) ≡ false) × (activities_hold calls none (at 2 0 2) ≡ true)
+    × (activities_hold calls none (at 1 0 3) ≡ true) × (activities_hold calls none (at 2 1 3) ≡ true)
+    × (activities_hold calls twice (at 2 0 3) ≡ false) × (activities_hold calls twice (at 2 0 2) ≡ true)
+    × (activities_hold calls turned (at 2 0 3) ≡ false) × (activities_hold calls turned (at 2 0 2) ≡ true)
+    × (activities_hold calls neither (at 2 0 3) ≡ false) × (activities_hold calls neither (at 2 0 2) ≡ true)
+unfolding steps calls
+wrong_activities = (refl, refl, refl, refl, refl, refl, refl, refl, refl, refl)
+
+-- one of a flow that makes requests, and of one that isn't there
+other_activities :
+    let requests : Judged = with_lines (activity 3 1 ∷ activity 2 0 ∷ activity 1 1 ∷ []) in
+    let unknown : Judged = with_lines (activity 3 1 ∷ activity 2 0 ∷ activity 4 1 ∷ []) in
+    (activities_hold calls requests (at 2 0 1) ≡ false) × (activities_hold calls requests (at 2 0 3) ≡ true)
+    × (activities_hold calls unknown (at 2 0 4) ≡ false) × (activities_hold calls unknown (at 2 0 1) ≡ true)
+unfolding steps calls
+other_activities = (refl, refl, refl, refl)
+
+-- two lines of one call, of which one is right
+right_and_wrong :
+    let judged : Judged = with_lines (activity 3 1 ∷ activity 3 0 ∷ activity 2 0 ∷ []) in
+    (activities_hold calls judged (at 2 0 3) ≡ false) × (activities_hold calls judged (at 2 0 2) ≡ true)
+unfolding steps calls
+right_and_wrong = (refl, refl)
 
 -- U lines: none, two, and one that tells a row more.
 wrong_counts :

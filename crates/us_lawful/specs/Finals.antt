@@ -1,15 +1,19 @@
--- P6, at the end of a report: one F line for each cluster, with what its other lines leave of it, and one U line.
-use Rattle.std.specs.Prelude.{ℕ, ◌-◌, ◌==◌, ◌&&◌, nat_eq, if◌then◌else◌, Bool, true, List, [], ◌∷◌, length, count_by, Option}
+-- P6, at the end of a report: one F line for each cluster, with what its other lines leave of it, one A line for each flow
+-- that tells its activity, with what its last mark says, and one U line.
+use Rattle.std.specs.Prelude.{ℕ, ◌-◌, ◌==◌, ◌&&◌, nat_eq, if◌then◌else◌, Bool, true, List, [], ◌∷◌, length, filter, count_by, Option}
 use Rattle.std.specs.List.{list_all, list_any}
 use Rattle.std.specs.Option.{option_eq}
-use Rattle.us_flows.specs.Tables.{FlowTable}
-use Rattle.us_flows.specs.Clusters.{Turn, table_order}
+use Rattle.us_flows.specs.Tables.{FlowTable, Tables}
+use Rattle.us_flows.specs.Clusters.{Turn, table_order, tells_activity}
 use Rattle.us_bucket.specs.Levels.{Level, full, refilled, spent, units_in}
+use Rattle.us_calendar.specs.Activity.{hears}
+use Rattle.us_calendar.specs.Entries.{WordedFlow, with_words}
+use Rattle.us_output.specs.declared.rows.FinalActivity.{FinalActivity}
 use Rattle.us_output.specs.declared.rows.FinalState.{FinalState}
 use Rattle.us_output.specs.declared.rows.Row.{Row}
 use Rattle.us_output.specs.declared.rows.TraceCounts.{TraceCounts}
 use Rattle.us_lawful.specs.declared.place.Place.{Place}
-use Rattle.us_lawful.specs.Runs.{Run, Judged, finals_in, counts_in, counts_told}
+use Rattle.us_lawful.specs.Runs.{Run, Judged, activities_in, finals_in, counts_in, counts_told}
 use Rattle.us_lawful.specs.Rates.{flow_credits}
 use Rattle.us_lawful.specs.Credits.{credited_within, asked_within}
 
@@ -58,6 +62,39 @@ flow_finals_hold run lines id =
 abbrev pub finals_hold : Run → Judged → Place → Bool
 finals_hold run judged p =
     if (p.round == run.rounds) && (p.channel == 0) then flow_finals_hold run judged.lines p.third else true
+
+-- the flows that tell their activity, each with the number of its silent word
+abbrev pub talking : Tables → List WordedFlow
+talking t = filter (λ f. tells_activity f.flow.kind) (with_words 0 t.flows)
+
+-- whether such a flow is active after these cuts, where it was before them or not
+abbrev pub active_after : ℕ → Bool → List (List ℕ) → Bool
+active_after word was [] = was
+active_after word was (cut ∷ cuts) = active_after word (hears word was cut) cuts
+
+-- its A line: every flow is active at first
+abbrev pub activity_of : Run → WordedFlow → FinalActivity
+activity_of run f = record { flow = f.flow.id; active = if active_after f.word true run.cuts then 1 else 0 }
+
+abbrev pub is_same_activity : FinalActivity → FinalActivity → Bool
+is_same_activity a other = (a.flow == other.flow) && (a.active == other.active)
+
+-- such a flow has one A line, which is right
+abbrev pub activity_holds : Run → List Row → WordedFlow → Bool
+activity_holds run lines f =
+    (count_by (λ a. a.flow == f.flow.id) (activities_in lines) == 1)
+    && list_any (is_same_activity (activity_of run f)) (activities_in lines)
+
+-- A lines with the id `third` are of such flows, and the one with this id has its own
+abbrev pub flow_activity_holds : Run → List Row → ℕ → Bool
+flow_activity_holds run lines id =
+    list_all (λ a. if a.flow == id then list_any (λ f. f.flow.id == id) (talking run.tables) else true) (activities_in lines)
+    && list_all (λ f. if f.flow.id == id then activity_holds run lines f else true) (talking run.tables)
+
+-- so it is behind the last round, where the channel is 0
+abbrev pub activities_hold : Run → Judged → Place → Bool
+activities_hold run judged p =
+    if (p.round == run.rounds) && (p.channel == 0) then flow_activity_holds run judged.lines p.third else true
 
 abbrev pub is_same_counts : TraceCounts → TraceCounts → Bool
 is_same_counts c other =

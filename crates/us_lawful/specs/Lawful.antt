@@ -11,7 +11,7 @@ use Rattle.us_lawful.specs.Regions.{regions_hold}
 use Rattle.us_lawful.specs.CalendarLines.{calendar_lines_hold}
 use Rattle.us_lawful.specs.Rates.{rates_hold}
 use Rattle.us_lawful.specs.Credits.{credits_hold}
-use Rattle.us_lawful.specs.Finals.{finals_hold, counts_hold}
+use Rattle.us_lawful.specs.Finals.{finals_hold, activities_hold, counts_hold}
 
 -- a round of four bytes, and a body in the grammar
 pub record IsRoundMap (m : RoundMap) : Type 0 where
@@ -28,4 +28,5 @@ pub record IsLawful (run : Run) (judged : Judged) : Type 0 where
   pub rates : (p : Place) → rates_hold run judged p ≡ true
   pub credits : (p : Place) → credits_hold run judged p ≡ true
   pub finals : (p : Place) → finals_hold run judged p ≡ true
+  pub activities : (p : Place) → activities_hold run judged p ≡ true
   pub counts : (p : Place) → counts_hold run judged p ≡ true

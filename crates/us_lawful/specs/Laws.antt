@@ -19,7 +19,7 @@ use Rattle.us_lawful.specs.Reports.{IsReport}
 -- Schedules.
 
 -- All that a schedule gives is lawful: of all accepted tables, of rounds that fit into a run, and of cuts with a number for
--- each cluster.
+-- each word.
 abbrev pub SchedulesAreLawful : Type 0
 SchedulesAreLawful = (t : Tables) (cuts : List (List ℕ)) (counts : Counts) → AreTables t → AreCuts t cuts →
     rounds_fit t (length cuts) ≡ true → IsLawful (run_of t cuts counts) (judged_of (output_of t cuts counts))

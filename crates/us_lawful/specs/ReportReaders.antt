@@ -5,6 +5,7 @@ use Rattle.std.specs.Char.{is_ascii_digit}
 use Rattle.std.specs.Option.{option_or}
 use Rattle.us_output.specs.declared.rows.EntryWord.{EntryWord}
 use Rattle.us_output.specs.declared.rows.EntryWord.TheVariants as words
+use Rattle.us_output.specs.declared.rows.FinalActivity.{FinalActivity}
 use Rattle.us_output.specs.declared.rows.FinalState.{FinalState}
 use Rattle.us_output.specs.declared.rows.Grant.{Grant}
 use Rattle.us_output.specs.declared.rows.MissedOccurrence.{MissedOccurrence}
@@ -58,10 +59,11 @@ spelled_at entry bytes = do
 unfoldable pub word_at : List ℕ → Option (EntryWord × List ℕ)
 word_at bytes =
     option_or (spelled_at words.Unsolicited bytes)
+    (option_or (spelled_at words.Activity bytes)
     (option_or (spelled_at words.RealTimePoll bytes)
     (option_or (spelled_at words.NonRealTimePoll bytes)
     (option_or (spelled_at words.Station bytes)
-    (spelled_at words.Requested bytes))))
+    (spelled_at words.Requested bytes)))))
 
 -- the units of a bucket
 unfoldable pub units_at : List ℕ → Option (Option ℕ × List ℕ)
@@ -130,6 +132,14 @@ final_at bytes = do
   rest ← after (codes "\n") units.1
   Some (record { flow = flow.0; cluster = cluster.0; outstanding = outstanding.0; units = units.0 }, rest)
 
+-- an A line behind its letter
+unfoldable pub activity_at : List ℕ → Option (FinalActivity × List ℕ)
+activity_at bytes = do
+  flow ← field_at bytes
+  active ← field_at flow.1
+  rest ← after (codes "\n") active.1
+  Some (record { flow = flow.0; active = active.0 }, rest)
+
 -- a U line behind its letter
 unfoldable pub counts_at : List ℕ → Option (TraceCounts × List ℕ)
 counts_at bytes = do
@@ -151,6 +161,9 @@ told_by letter bytes =
     else if letter == 70 then (do
       state ← final_at bytes
       Some (rows.Final state.0, state.1))
+    else if letter == 65 then (do
+      activity ← activity_at bytes
+      Some (rows.Activity activity.0, activity.1))
     else if letter == 85 then (do
       counts ← counts_at bytes
       Some (rows.Counts counts.0, counts.1))

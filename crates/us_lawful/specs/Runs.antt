@@ -2,12 +2,13 @@
 use Rattle.std.specs.Prelude.{ℕ, ◌<◌, List, length, map, filter, filter_map, Option, Some, None, Bool, true, false}
 use Rattle.std.specs.List.{AllByRecursion, range_with_len}
 use Rattle.us_flows.specs.Tables.{Tables}
-use Rattle.us_flows.specs.Clusters.{clusters_of}
+use Rattle.us_flows.specs.Clusters.{words_of}
 use Rattle.us_requests.specs.declared.asks.Counts.{Counts}
 use Rattle.us_requests.specs.Cuts.{cut_of}
 use Rattle.us_requests.specs.Traces.{TraceAsks, asks_in}
 use Rattle.us_output.specs.declared.rows.EntryWord.{EntryWord}
 use Rattle.us_output.specs.declared.rows.EntryWord.TheVariants as words
+use Rattle.us_output.specs.declared.rows.FinalActivity.{FinalActivity}
 use Rattle.us_output.specs.declared.rows.FinalState.{FinalState}
 use Rattle.us_output.specs.declared.rows.Grant.{Grant}
 use Rattle.us_output.specs.declared.rows.Row.{Row}
@@ -15,8 +16,8 @@ use Rattle.us_output.specs.declared.rows.Row.TheVariants as rows
 use Rattle.us_output.specs.declared.rows.TraceCounts.{TraceCounts}
 use Rattle.us_lawful.specs.declared.judged.RoundMap.{RoundMap}
 
--- a run: its tables, the number of its rounds, the bytes that each cluster newly asks for in each round, and how many rows
--- of the trace are no requests
+-- a run: its tables, the number of its rounds, what each round cuts, in bytes by word, and how many rows of the trace are
+-- neither requests nor marks
 pub record Run : Type 0 where
   pub tables : Tables
   pub rounds : ℕ
@@ -25,15 +26,15 @@ pub record Run : Type 0 where
 
 -- the cuts of all rounds of a trace that was read: what its asks add up to
 unfoldable pub cuts_in : Tables → TraceAsks → List (List ℕ)
-cuts_in t v = map (λ round. cut_of (length (clusters_of t)) (asks_in v round)) (range_with_len 0 v.rounds)
+cuts_in t v = map (λ round. cut_of (length (words_of t)) (asks_in v round)) (range_with_len 0 v.rounds)
 
 -- the run of such a trace
 abbrev pub run_in : Tables → TraceAsks → Run
 run_in t v = record { tables = t; rounds = v.rounds; cuts = cuts_in t v; counts = v.counts }
 
--- each of its asks names a cluster that is there
+-- each of its asks names a word that is there
 abbrev pub AsksAreKnown : Tables → TraceAsks → Type 0
-AsksAreKnown t v = (round : ℕ) → AllByRecursion (λ ask. ask.cluster < length (clusters_of t)) (asks_in v round)
+AsksAreKnown t v = (round : ℕ) → AllByRecursion (λ ask. ask.cluster < length (words_of t)) (asks_in v round)
 
 -- what is judged: MAPs and lines
 pub record Judged : Type 0 where
@@ -49,6 +50,10 @@ as_grant _ = None
 abbrev pub as_final : Row → Option FinalState
 as_final (rows.Final state) = Some state
 as_final _ = None
+
+abbrev pub as_activity : Row → Option FinalActivity
+as_activity (rows.Activity activity) = Some activity
+as_activity _ = None
 
 abbrev pub as_counts : Row → Option TraceCounts
 as_counts (rows.Counts counts) = Some counts
@@ -66,9 +71,12 @@ grants_in lines = filter_map as_grant lines
 abbrev pub requested_in : List Row → List Grant
 requested_in lines = filter (λ g. is_requested g.entry) (grants_in lines)
 
--- the F lines, and the U lines
+-- the F lines, the A lines, and the U lines
 abbrev pub finals_in : List Row → List FinalState
 finals_in lines = filter_map as_final lines
+
+abbrev pub activities_in : List Row → List FinalActivity
+activities_in lines = filter_map as_activity lines
 
 abbrev pub counts_in : List Row → List TraceCounts
 counts_in lines = filter_map as_counts lines

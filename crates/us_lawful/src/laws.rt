@@ -4,7 +4,7 @@ ghost use Rattle.us_lawful.specs.Laws.{OrderedAssignmentsHold, ReportsReadBack, 
 ghost use Rattle.us_lawful.specs.Reports.{OneReading};
 
 /// All that a schedule gives is lawful: of all accepted tables, of rounds that fit into a run, and of cuts with a number for
-/// each cluster.
+/// each word.
 pub fn schedules_are_lawful()
     ensures { SchedulesAreLawful }
 {}

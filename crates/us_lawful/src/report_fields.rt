@@ -63,6 +63,9 @@ pub(crate) fn word(bytes: &[u8]) -> Option<(EntryWord, &[u8])>
     if let Some(rest) = after(b"ugs", bytes) {
         return Some((EntryWord::Unsolicited, rest));
     }
+    if let Some(rest) = after(b"ad", bytes) {
+        return Some((EntryWord::Activity, rest));
+    }
     if let Some(rest) = after(b"rtp", bytes) {
         return Some((EntryWord::RealTimePoll, rest));
     }

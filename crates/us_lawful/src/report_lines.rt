@@ -4,7 +4,7 @@ ghost use Rattle.std.specs.Prelude.{◌≡◌, option_map};
 ghost use Rattle.us_lawful.specs.ReportReaders as spec;
 
 use crate::report_fields::{after, field, units, word};
-use us_round::{EntryWord, FinalState, Grant, MissedOccurrence, Row, TraceCounts};
+use us_round::{EntryWord, FinalActivity, FinalState, Grant, MissedOccurrence, Row, TraceCounts};
 
 /// A line.
 #[tactic(auto, unfolding(crate::specs::ReportReaders::row_at, crate::specs::ReportReaders::told_by))]
@@ -24,6 +24,10 @@ pub(crate) fn row(bytes: &[u8]) -> Option<(Row, &[u8])>
         b'F' => {
             let (state, rest) = final_state(rest)?;
             Some((Row::Final(state), rest))
+        }
+        b'A' => {
+            let (activity, rest) = activity(rest)?;
+            Some((Row::Activity(activity), rest))
         }
         b'U' => {
             let (counts, rest) = counts(rest)?;
@@ -113,6 +117,17 @@ fn final_state(bytes: &[u8]) -> Option<(FinalState, &[u8])>
         units,
     };
     Some((state, rest))
+}
+
+/// An A line behind its letter.
+#[tactic(auto, unfolding(crate::specs::ReportReaders::activity_at))]
+fn activity(bytes: &[u8]) -> Option<(FinalActivity, &[u8])>
+    ensures { option_map (λ found. (found.0, found.1.now)) result ≡ spec.activity_at bytes.now }
+{
+    let (flow, rest) = field(bytes)?;
+    let (active, rest) = field(rest)?;
+    let rest = after(b"\n", rest)?;
+    Some((FinalActivity { flow, active }, rest))
 }
 
 /// A U line behind its letter.

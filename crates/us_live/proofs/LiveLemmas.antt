@@ -2,7 +2,7 @@
 use Rattle.std.proofs.Common.{◌≡◌, ℕ, ◌+◌, ◌*◌, ◌<◌, ◌≤◌, List, [], ◌∷◌, ◌++◌, length, map, slice_index, Option, Some, true, ap, subst, sym, ◌∙◌, arith, length-append}
 use Rattle.std.specs.Prelude.{IfSome, IsSomeAnd}
 use Rattle.us_flows.specs.Tables.{Tables, max_run_ticks, rounds_fit}
-use Rattle.us_flows.specs.Clusters.{clusters_of}
+use Rattle.us_flows.specs.Clusters.{words_of}
 use Rattle.us_intake.specs.Seats.{Seat}
 use Rattle.us_round.specs.Rounds.{State, opening, final, round_of}
 use Rattle.us_output.specs.Outputs.{RoundOut, out_of}
@@ -13,7 +13,7 @@ use Rattle.us_live.proofs.ScheduleLemmas.{after, final-more, outstanding-logged,
 -- Opening.
 
 pub inside-opening : {A : Type 0} (entry : A → List ℕ) (clusters rounds : ℕ) (entries : List A) (t : Tables)
-    (state : State) → entries ≡ [] → state ≡ opening t → clusters ≡ length (clusters_of t) →
+    (state : State) → entries ≡ [] → state ≡ opening t → clusters ≡ length (words_of t) →
     rounds_fit t rounds ≡ true → IsInside clusters rounds (map entry entries) (Some state)
 unfolding final
 inside-opening entry clusters rounds entries t state none first same fits =
@@ -22,7 +22,7 @@ inside-opening entry clusters rounds entries t state none first same fits =
       few = omega (arith, ap (λ xs. length (map entry xs)) none);
       running = record {
         fits = ap (λ t. rounds_fit t rounds) tables ∙ fits;
-        clusters_are = same ∙ ap (λ t. length (clusters_of t)) (sym tables);
+        clusters_are = same ∙ ap (λ t. length (words_of t)) (sym tables);
         state_is = first ∙ ap opening (sym tables) ∙ ap (λ xs. final (opening state.tables) (map entry xs)) (sym none);
       };
     }
@@ -62,7 +62,7 @@ inside-made clusters rounds log more state made cut out is below now =
       few = omega (arith, ap length now.logs, length-append log (cut ∷ []), below);
       running = record {
         fits = ap (λ t. rounds_fit t rounds) same ∙ is.fits;
-        clusters_are = is.clusters_are ∙ ap (λ t. length (clusters_of t)) (sym same);
+        clusters_are = is.clusters_are ∙ ap (λ t. length (words_of t)) (sym same);
         state_is = now.state_is ∙ ap (λ s. (round_of s cut).state) is.state_is
             ∙ sym (final-more (opening state.tables) log cut) ∙ ap (final (opening state.tables)) (sym now.logs)
             ∙ ap (λ t. final (opening t) more) (sym same);

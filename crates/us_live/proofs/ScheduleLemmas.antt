@@ -1,16 +1,17 @@
 -- The schedule over a log with one more cut; what is outstanding was logged.
-use Rattle.std.proofs.Common.{◌≡◌, ℕ, zero, suc, ◌+◌, ◌*◌, ◌^◌, ◌<◌, ◌≤◌, List, [], ◌∷◌, ◌++◌, length, map, sum, slice_index, nat_le, true, refl, ap, ◌∙◌, arith}
+use Rattle.std.proofs.Common.{◌≡◌, ℕ, zero, suc, ◌+◌, ◌*◌, ◌^◌, ◌<◌, ◌≤◌, List, [], ◌∷◌, ◌++◌, length, map, sum, slice_index, nat_le, true, refl, ap, ◌∙◌, inl, inr, arith}
 use Rattle.std.specs.List.{AllByRecursion, zip}
-use Rattle.std.proofs.lemmas.Bool.{and_parts, leb-true}
+use Rattle.std.proofs.lemmas.Bool.{and_parts, cases_Bool, leb-true}
 use Rattle.std.proofs.lemmas.Nat.{mul-le}
 use Rattle.std.proofs.lemmas.List.{map-append}
 use Rattle.std.proofs.lemmas.List.Sums.{sum_by-cons}
 use Rattle.us_flows.specs.Tables.{Tables, max_run_ticks, rounds_fit}
-use Rattle.us_flows.specs.Clusters.{clusters_of}
+use Rattle.us_flows.specs.Clusters.{Word, is_of_cluster, words_of}
 use Rattle.us_intake.specs.Tallies.{added}
 use Rattle.us_intake.proofs.TallyLemmas.{index-added, index-empty, index_le_sum}
+use Rattle.us_split.specs.Asking.{requested_by, requested_in, with_cut}
 use Rattle.us_channel.specs.Placements.{PlacedClaim}
-use Rattle.us_round.specs.Rounds.{State, all_grants, with_cut, begun, builds_of, final, uncredited, opening, round_from, round_of, schedule}
+use Rattle.us_round.specs.Rounds.{State, all_grants, begun, builds_of, final, uncredited, opening, round_from, round_of, schedule}
 use Rattle.us_output.specs.Outputs.{out_of}
 use Rattle.us_live.specs.Lives.{logged, rounds_of}
 
@@ -44,12 +45,21 @@ index-left grants number [] cluster = omega arith
 index-left grants number (bytes ∷ more) zero = omega arith
 index-left grants number (bytes ∷ more) (suc cluster) = index-left grants (number + 1) more cluster
 
-index-asked : (outstanding cut : List ℕ) (cluster : ℕ) →
-    slice_index (with_cut outstanding cut) cluster ≤ slice_index outstanding cluster + slice_index cut cluster
-index-asked [] cut cluster = omega arith
-index-asked (bytes ∷ more) [] cluster = omega arith
-index-asked (bytes ∷ more) (newly ∷ cut) zero = omega arith
-index-asked (bytes ∷ more) (newly ∷ cut) (suc cluster) = index-asked more cut cluster
+-- of what a word has no more is requested
+requested-few : (word : Word) (bytes : ℕ) → requested_by word bytes ≤ bytes
+requested-few word bytes = elim (cases_Bool (is_of_cluster word)) [
+  | inl own ↦ rw own (omega arith)
+  | inr other ↦ rw other (omega arith)
+]
+
+index-asked : (words : List Word) (outstanding cut : List ℕ) (number : ℕ) →
+    slice_index (map (λ pair. pair.0 + pair.1) (zip outstanding (requested_in words cut))) number
+    ≤ slice_index outstanding number + slice_index cut number
+index-asked words [] cut number = omega arith
+index-asked [] (bytes ∷ more) cut number = omega arith
+index-asked (word ∷ words) (bytes ∷ more) [] number = omega arith
+index-asked (word ∷ words) (bytes ∷ more) (newly ∷ cut) zero = omega (arith, requested-few word newly)
+index-asked (word ∷ words) (bytes ∷ more) (newly ∷ cut) (suc number) = index-asked words more cut number
 
 -- as far as the next one needs it
 pub record After (state : State) (cut : List ℕ) (next : State) : Type 0 where
@@ -61,7 +71,7 @@ pub record After (state : State) (cut : List ℕ) (next : State) : Type 0 where
 pub after : (state : State) (cut : List ℕ) → After state cut (round_of state cut).state
 unfolding round_of round_from
 after state cut =
-    let now : List ℕ = with_cut state.outstanding cut in
+    let now : List ℕ = with_cut state.tables state.outstanding cut in
     let grants : List PlacedClaim = all_grants (builds_of (begun state cut)) in
     record {
       tables_are = refl;
@@ -69,7 +79,7 @@ after state cut =
       asked_for = λ cluster. omega (
         arith,
         index-left grants 0 now cluster,
-        index-asked state.outstanding cut cluster,
+        index-asked (words_of state.tables) state.outstanding cut cluster,
       );
     }
 
@@ -109,7 +119,7 @@ outstanding-logged t log state is cluster =
       arith,
       ap (λ s. slice_index s.outstanding cluster) is,
       final-outstanding (opening t) log cluster,
-      index-empty (length (clusters_of t)) cluster,
+      index-empty (length (words_of t)) cluster,
     )
 
 -- Conditions of a round.

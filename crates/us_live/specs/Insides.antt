@@ -1,7 +1,7 @@
 -- How the code's Live is kept, and what one round makes of a state.
 use Rattle.std.specs.Prelude.{◌≡◌, ℕ, ◌≤◌, ◌++◌, ◌∷◌, [], true, List, length, Option, IfSome, option_map}
 use Rattle.us_flows.specs.Tables.{rounds_fit}
-use Rattle.us_flows.specs.Clusters.{clusters_of}
+use Rattle.us_flows.specs.Clusters.{words_of}
 use Rattle.us_round.specs.Rounds.{State, opening, final, round_of}
 use Rattle.us_output.specs.Outputs.{RoundOut, out_of}
 use Rattle.us_live.specs.Lives.{Live}
@@ -13,7 +13,7 @@ live_at clusters rounds log state =
 -- the state is the one that the rounds of the log leave
 pub record IsRunning (clusters rounds : ℕ) (log : List (List ℕ)) (state : State) : Type 0 where
   pub fits : rounds_fit state.tables rounds ≡ true
-  pub clusters_are : clusters ≡ length (clusters_of state.tables)
+  pub clusters_are : clusters ≡ length (words_of state.tables)
   pub state_is : state ≡ final (opening state.tables) log
 
 pub record IsInside (clusters rounds : ℕ) (log : List (List ℕ)) (state : Option State) : Type 0 where

@@ -19,7 +19,7 @@ pub data CutByRounds (intake : Intake) : List (List ℕ) → Seat → Type 0 whe
   made : (log : List (List ℕ)) (seat after : Seat) (cut : List ℕ) → CutByRounds intake log seat →
       IsCut seat after cut → CutByRounds intake (log ++ cut ∷ []) after
 
--- Then the seat took of each cluster what is in the log, no more and no less; and where the intake is closed by it, the
+-- Then the seat took of each word what is in the log, no more and no less; and where the intake is closed by it, the
 -- entries of the log and what is left are all that was submitted.
 pub record LogBalances : Type 0 where
   pub took : (intake : Intake) (log : List (List ℕ)) (seat : Seat) → CutByRounds intake log seat → (cluster : ℕ) →

@@ -1,23 +1,23 @@
 -- The scheduler that callers' threads feed, as its caller knows it (ours).
 use Rattle.std.specs.Prelude.{◌≡◌, ℕ, ◌≤◌, true, List, [], ◌∷◌, ◌++◌, length, map, sum_by, slice_index, Option, Some, None, IsSomeAnd}
 use Rattle.us_flows.specs.Tables.{Tables}
-use Rattle.us_flows.specs.Clusters.{clusters_of}
+use Rattle.us_flows.specs.Clusters.{words_of}
 use Rattle.us_intake.specs.Seats.{Intake, Seat, IsWhole, seat_after_cut}
 use Rattle.us_round.specs.Rounds.{opening, schedule}
 use Rattle.us_output.specs.Outputs.{RoundOut, out_of}
 
 pub record Live : Type 0 where
-  -- how many SID clusters make requests, and how many rounds there are in all
+  -- how many words the configuration has, and how many rounds there are in all
   pub clusters : ℕ
   pub rounds : ℕ
-  -- the cut of each round so far: the bytes of each cluster
+  -- the cut of each round so far: the bytes of each word
   pub log : List (List ℕ)
   -- of what the rounds are made: none any more, once memory was wanting in a round
   pub tables : Option Tables
 
 -- before the first round
 abbrev pub first_live : Tables → ℕ → Live
-first_live t rounds = record { clusters = length (clusters_of t); rounds = rounds; log = []; tables = Some t }
+first_live t rounds = record { clusters = length (words_of t); rounds = rounds; log = []; tables = Some t }
 
 -- a round of this cut was made
 abbrev pub with_entry : Live → List ℕ → Live
@@ -32,11 +32,11 @@ failed_live live = record { clusters = live.clusters; rounds = live.rounds; log 
 abbrev pub rounds_of : Tables → List (List ℕ) → List RoundOut
 rounds_of t log = map (out_of t) (schedule (opening t) log)
 
--- the bytes of a cluster in all entries of a log
+-- the bytes of a word in all entries of a log
 abbrev pub logged : List (List ℕ) → ℕ → ℕ
 logged log cluster = sum_by (λ cut. slice_index cut cluster) log
 
--- an intake with a word for each cluster, and a seat of it that takes and took at least what is in the log
+-- an intake with these words, and a seat of it that takes and took at least what is in the log
 pub record Feeds (live : Live) (intake : Intake) (seat : Seat) : Type 0 where
   pub clusters : intake.clusters ≡ live.clusters
   pub own : seat.intake ≡ intake

@@ -1,6 +1,6 @@
 ghost use Rattle.std.specs.Prelude.{◌≡◌, ◌^◌, ◌<◌, ◌≤◌, ◌⊎◌, ◌↔◌, ℕ, true, false, List, length, map, Err, None, IsSome, IfOk, OnOk, IfErr};
 ghost use Rattle.us_flows.specs.Tables as tables;
-ghost use Rattle.us_flows.specs.Clusters.{clusters_of};
+ghost use Rattle.us_flows.specs.Clusters.{words_of};
 ghost use Rattle.us_intake.specs.Seats.{first_seat};
 ghost use Rattle.us_live.specs.Lives.{Feeds, IsNext, first_live};
 ghost use Rattle.us_live.specs.Leaves.{Leaves};
@@ -40,10 +40,10 @@ impl Model for Live {
 }
 
 impl Live {
-    /// Opens a scheduler of `rounds` rounds, and an intake with a word for each SID cluster of the configuration, in
-    /// which seats submit at most `quota` bytes in all; with the intake's first seat, which has them all and takes.
-    /// LV1: the rounds don't fit into a run; LV2: no flow makes requests; LV3: the quota is 0, or 2^62 or more; LV7:
-    /// want of memory. The first of these is answered, and the configuration is given up then.
+    /// Opens a scheduler of `rounds` rounds, and an intake with the words of the configuration, in which seats submit at
+    /// most `quota` bytes in all; with the intake's first seat, which has them all and takes. LV1: the rounds don't fit
+    /// into a run; LV2: there is no word, since no flow makes requests or tells its activity; LV3: the quota is 0, or
+    /// 2^62 or more; LV7: want of memory. The first of these is answered, and the configuration is given up then.
     pub fn open(
         alloc: Global,
         config: Config,
@@ -52,13 +52,13 @@ impl Live {
     ) -> Result<(Live, Intake, Seat), LiveFault>
         ensures rounds { (result ≡ Err fault.Rounds) ↔ (tables.rounds_fit config rounds ≡ false) }
         ensures no_cluster { (result ≡ Err fault.NoCluster) ↔
-            ((tables.rounds_fit config rounds ≡ true) × (length (clusters_of config) ≡ 0)) }
+            ((tables.rounds_fit config rounds ≡ true) × (length (words_of config) ≡ 0)) }
         ensures quota { (result ≡ Err fault.Quota) ↔ ((tables.rounds_fit config rounds ≡ true)
-            × (1 ≤ length (clusters_of config)) × ((quota ≡ 0) ⊎ (2 ^ 62 ≤ quota))) }
+            × (1 ≤ length (words_of config)) × ((quota ≡ 0) ⊎ (2 ^ 62 ≤ quota))) }
         ensures faults { IfErr result (λ given. (given ≡ fault.Rounds) ⊎ ((given ≡ fault.NoCluster)
             ⊎ ((given ≡ fault.Quota) ⊎ (given ≡ fault.NoMemory)))) }
         ensures live { IfOk result (λ opened. opened.0 ≡ first_live config rounds) }
-        ensures intake { IfOk result (λ opened. (opened.1.clusters ≡ length (clusters_of config))
+        ensures intake { IfOk result (λ opened. (opened.1.clusters ≡ length (words_of config))
             × (opened.1.quota ≡ quota)) }
         ensures some { IfOk result (λ opened. 1 ≤ opened.1.clusters) }
         ensures seat { IfOk result (λ opened. opened.2 ≡ first_seat opened.1) }
@@ -162,8 +162,8 @@ impl Live {
         Ok(())
     }
 
-    /// The cuts of the rounds so far: of each the bytes of each cluster, in the order of the clusters' numbers. It needs
-    /// no memory.
+    /// The cuts of the rounds so far: of each the bytes of each word, in the order of the words' numbers. It needs no
+    /// memory.
     pub fn cut_log(&self) -> &[Vec<u64>]
         ensures { map (λ cut. cut.items) result.now ≡ self.now.log }
     {

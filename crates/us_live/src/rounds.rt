@@ -1,6 +1,6 @@
 ghost use Rattle.std.specs.Prelude.{◌≡◌, ◌+◌, ◌*◌, ◌^◌, ◌<◌, ◌≤◌, ◌⊎◌, ℕ, true, List, length, map, sum, slice_index, IfOk, OnOk, OnErr};
 ghost use Rattle.us_flows.specs.Tables.{max_run_ticks};
-ghost use Rattle.us_flows.specs.Clusters.{clusters_of};
+ghost use Rattle.us_flows.specs.Clusters.{words_of};
 ghost use Rattle.us_live.specs.Lives.{IsCut};
 ghost use Rattle.us_live.specs.Insides.{IsMade};
 
@@ -24,7 +24,7 @@ pub(crate) fn make_round<H: Threads + Sync, G: Gate + Sync>(
     workers: usize,
     gate: &G,
 ) -> Result<(State, RoundOut), NoMemory>
-    requires clusters { (clusters ≡ length (clusters_of state.tables)) × (intake.now.clusters ≡ clusters) }
+    requires clusters { (clusters ≡ length (words_of state.tables)) × (intake.now.clusters ≡ clusters) }
     requires seat { (seat.old.intake ≡ intake.now) × (seat.old.takes ≡ true) }
     requires took { (cluster : ℕ) →
         slice_index state.outstanding cluster ≤ slice_index seat.old.taken cluster }

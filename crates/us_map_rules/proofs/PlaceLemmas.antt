@@ -49,6 +49,7 @@ is_told : (line : Row) (p : Place) → place_told line ≡ Some p →
 is_told (rows.Granted g) p told = here g.round g.channel p (same_place g.round g.channel p told)
 is_told (rows.Missed m) p told = here m.round m.channel p (same_place m.round m.channel p told)
 is_told (rows.Final f) p told = absurd (cc told)
+is_told (rows.Activity a) p told = absurd (cc told)
 is_told (rows.Counts u) p told = absurd (cc told)
 
 -- and nowhere else
@@ -56,6 +57,7 @@ told_there : (line : Row) (p : Place) → p.third ≡ 0 → is_told_at p.round p
 told_there (rows.Granted g) p third told = ap (λ q. Some q) (there g.round g.channel p third told)
 told_there (rows.Missed m) p third told = ap (λ q. Some q) (there m.round m.channel p third told)
 told_there (rows.Final f) p third told = absurd (false≢true told)
+told_there (rows.Activity a) p third told = absurd (false≢true told)
 told_there (rows.Counts u) p third told = absurd (false≢true told)
 
 -- All lines.

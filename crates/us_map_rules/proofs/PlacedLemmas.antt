@@ -99,6 +99,7 @@ module _ (t : Tables) (rounds round y : ℕ) (c : Channel) (inside : round < rou
       with_line g lines (placed_line t rounds (rows.Granted g)) refl (one_line g) (grants_told lines)
   grants_told (rows.Missed m ∷ lines) = grants_told lines
   grants_told (rows.Final s ∷ lines) = grants_told lines
+  grants_told (rows.Activity a ∷ lines) = grants_told lines
   grants_told (rows.Counts n ∷ lines) = grants_told lines
 
 -- Places.

@@ -42,7 +42,7 @@ fn place_of(line: &Row) -> Option<Place>
     let (round, channel) = match line {
         Row::Granted(grant) => (grant.round, grant.channel),
         Row::Missed(missed) => (missed.round, missed.channel),
-        Row::Final(_) | Row::Counts(_) => return None,
+        Row::Final(_) | Row::Activity(_) | Row::Counts(_) => return None,
     };
     Some(Place {
         round,

@@ -1,5 +1,5 @@
 -- Whose minislots are: each owner on a round's boards has a SID of 14 bits, and an IUC that ends no list.
-use Rattle.std.proofs.Common.{◌≡◌, ◌≢◌, ℕ, ◌+◌, ◌-◌, ◌%◌, ◌^◌, ◌<◌, ◌≤◌, ◌==◌, nat_le, true, ◌⊎◌, List, [], ◌∷◌, ◌++◌, take, drop, replicate, map, flat_map, Option, Some, None, sym, subst, inl, inr, arith}
+use Rattle.std.proofs.Common.{◌≡◌, ◌≢◌, ℕ, ◌+◌, ◌-◌, ◌%◌, ◌^◌, ◌<◌, ◌≤◌, ◌==◌, nat_le, Bool, true, false, ◌⊎◌, List, [], ◌∷◌, ◌++◌, take, drop, replicate, map, flat_map, Option, Some, None, sym, subst, inl, inr, arith}
 use Rattle.std.specs.List.{AllByRecursion}
 use Rattle.std.proofs.lemmas.Bool.{cases_Bool}
 use Rattle.std.proofs.lemmas.Bool.Decides.{nat_tests}
@@ -15,14 +15,16 @@ use Rattle.us_holes.specs.Kept.{IsBoard}
 use Rattle.us_holes.specs.Runs.{Run, goes_on, lengthened, owner_of, runs_from, runs_of}
 use Rattle.us_holes.proofs.BoardLemmas.{empty_is_board}
 use Rattle.us_holes.proofs.LawLemmas.{fit_is_board}
+use Rattle.us_calendar.specs.Entries as entries
 use Rattle.us_calendar.specs.Entries.{Entry}
 use Rattle.us_calendar.specs.Occurrences.{Pace}
-use Rattle.us_calendar.specs.Settling.{EntryState, Settlement, SettledEntry, settle_entry, told_as}
+use Rattle.us_calendar.specs.Settling.{EntryState, Settlement, SettledEntry, settle_state, told_as}
 use Rattle.us_calendar.specs.Calendars.{Ran, run_entries}
 use Rattle.us_calendar.specs.Runs.{assignments_of}
 use Rattle.us_split.specs.Claims.{Claim}
 use Rattle.us_channel.specs.Reserves.{reserved, maintenance, reserves}
 use Rattle.us_channel.specs.Placements.{PlacedClaim, assignments}
+use Rattle.us_channel.specs.Laws.{HasMinislots}
 use Rattle.us_channel.specs.Maps.{gap, element_by, run_element}
 use Rattle.us_channel.proofs.ReserveLemmas.{empty_fits, maintained_fits}
 use Rattle.us_channel.proofs.GrantLaws.{Granted}
@@ -116,21 +118,26 @@ reserves_board t c round is =
 
 -- Calendars.
 
--- an entry has a minislot, and a lawful owner
+-- an entry has a lawful owner, and its grants and polls have a minislot
 abbrev pub HasOwner : EntryState → Type 0
-HasOwner state = IsOwner state.entry.owner × (0 < state.entry.slots)
+HasOwner state = IsOwner state.entry.owner × HasMinislots state.entry
 
-told_owned : (e : Entry) (number : ℕ) (start : Option ℕ) → IsOwner e.owner × (0 < e.slots) →
-    HaveOwners (assignments_of (told_as e (record { number = number; start = start })))
-told_owned e number None is = tt
-told_owned e number (Some at) is = (is, tt)
+-- whom a poll is for is lawful too
+polled_owned : (e : Entry) (active : Bool) → IsOwner e.owner → IsOwner (entries.owner_of e active)
+polled_owned e true is = is
+polled_owned e false is = record { sid = is.sid; usage = omega arith; other = λ no. omega (arith, no) }
 
-all_told_owned : (e : Entry) (ms : List Settlement) → IsOwner e.owner × (0 < e.slots) →
+told_owned : (e : Entry) (number : ℕ) (active : Bool) (start : Option ℕ) → IsOwner e.owner × HasMinislots e →
+    HaveOwners (assignments_of (told_as e (record { number = number; active = active; start = start })))
+told_owned e number active None is = tt
+told_owned e number active (Some at) is = ((polled_owned e active is.0, omega (arith, is.1 active)), tt)
+
+all_told_owned : (e : Entry) (ms : List Settlement) → IsOwner e.owner × HasMinislots e →
     HaveOwners (flat_map assignments_of (map (told_as e) ms))
 all_told_owned e [] is = tt
 all_told_owned e (m ∷ ms) is =
     all_append IsOwnedPart (assignments_of (told_as e m)) (flat_map assignments_of (map (told_as e) ms))
-    (told_owned e m.number m.start is) (all_told_owned e ms is)
+    (told_owned e m.number m.active m.start is) (all_told_owned e ms is)
 
 pub run_owned : (pace : Pace) (round : ℕ) (states : List EntryState) (board : Board) → AllByRecursion HasOwner states →
     AllByRecursion HasOwner (run_entries pace round states board).states
@@ -138,7 +145,7 @@ pub run_owned : (pace : Pace) (round : ℕ) (states : List EntryState) (board : 
 unfolding run_entries
 run_owned pace round [] board all = (tt, tt)
 run_owned pace round (state ∷ states) board all =
-    let one : SettledEntry = settle_entry pace round state board in
+    let one : SettledEntry = settle_state pace round state board in
     let rest : Ran = run_entries pace round states one.board in
     let others = run_owned pace round states one.board all.1 in (
       (all.0, others.0),

@@ -3,13 +3,14 @@ use Rattle.std.specs.Prelude.{◌≡◌, ◌^◌, ◌-◌, ◌<◌, codes, [], �
 use Rattle.std.proofs.Common.{arith}
 use Rattle.std.specs.Fmt.{digits}
 use Rattle.us_output.specs.declared.rows.EntryWord.TheVariants as words
+use Rattle.us_output.specs.declared.rows.FinalActivity.{FinalActivity}
 use Rattle.us_output.specs.declared.rows.FinalState.{FinalState}
 use Rattle.us_output.specs.declared.rows.Grant.{Grant}
 use Rattle.us_output.specs.declared.rows.MissedOccurrence.{MissedOccurrence}
 use Rattle.us_output.specs.declared.rows.Row.TheVariants as rows
 use Rattle.us_output.specs.declared.rows.TraceCounts.{TraceCounts}
 use Rattle.us_output.specs.Files.{lines}
-use Rattle.us_output.specs.Lines.{Fit, HasFields, grant_text, missed_text, final_text, counts_text}
+use Rattle.us_output.specs.Lines.{Fit, HasFields, grant_text, missed_text, final_text, activity_text, counts_text}
 
 abbrev requested : Grant
 requested = record {
@@ -51,6 +52,17 @@ polled_seldom :
 unfolding digits
 polled_seldom = refl
 
+-- the poll of a silent flow, and a second grant that an active one missed
+polled_silent : grant_text (record poll { round = 1; entry = words.Activity; i = 1; sid = 513 }) ≡
+    codes "G,1,1,ad,1,1,0,513,1,0,2,0\n"
+unfolding digits
+polled_silent = refl
+
+missed_active : missed_text (record { round = 2; channel = 1; entry = words.Activity; id = 1; i = 2; k = 1 }) ≡
+    codes "M,2,1,ad,1,2,1\n"
+unfolding digits
+missed_active = refl
+
 abbrev pub late_call : MissedOccurrence
 late_call = record { round = 5; channel = 1; entry = words.Unsolicited; id = 1; i = 1; k = 0 }
 
@@ -70,6 +82,17 @@ with_bucket :
 unfolding digits
 with_bucket = refl
 
+abbrev silent_call : FinalActivity
+silent_call = record { flow = 2; active = 0 }
+
+silent : activity_text silent_call ≡ codes "A,2,0\n"
+unfolding digits
+silent = refl
+
+active : activity_text (record silent_call { active = 1 }) ≡ codes "A,2,1\n"
+unfolding digits
+active = refl
+
 abbrev none_left_out : TraceCounts
 none_left_out = record { unknown = 0; not_requestable = 0; late = 0 }
 
@@ -79,8 +102,9 @@ counts = refl
 
 -- a report: each row gives its line
 told :
-    lines (rows.Granted requested ∷ rows.Missed late_call ∷ rows.Final first_cluster ∷ rows.Counts none_left_out ∷ []) ≡
-    codes "G,1,1,req,1,0,0,291,10,0,32,1000\nM,5,1,ugs,1,1,0\nF,1,0,0,-\nU,0,0,0\n"
+    lines (rows.Granted requested ∷ rows.Missed late_call ∷ rows.Final first_cluster ∷ rows.Activity silent_call ∷
+    rows.Counts none_left_out ∷ []) ≡
+    codes "G,1,1,req,1,0,0,291,10,0,32,1000\nM,5,1,ugs,1,1,0\nF,1,0,0,-\nA,2,0\nU,0,0,0\n"
 unfolding digits lines
 told = refl
 
@@ -97,4 +121,5 @@ fields_of_lines :
     × (HasFields (rows.Missed late_call) ≡ Fit (5 ∷ 1 ∷ 1 ∷ 1 ∷ 0 ∷ []))
     × (HasFields (rows.Final (record first_cluster { outstanding = 7; units = Some 9 })) ≡
     (Fit (1 ∷ 0 ∷ 7 ∷ []) × (9 < 2 ^ 64)))
-fields_of_lines = (refl, refl, refl)
+    × (HasFields (rows.Activity silent_call) ≡ Fit (2 ∷ 0 ∷ []))
+fields_of_lines = (refl, refl, refl, refl)

@@ -4,6 +4,7 @@ use Rattle.std.specs.List.{AllByRecursion, flat_map}
 use Rattle.std.specs.Fmt.{decimal}
 use Rattle.us_output.specs.declared.rows.EntryWord.{EntryWord}
 use Rattle.us_output.specs.declared.rows.EntryWord.TheVariants as words
+use Rattle.us_output.specs.declared.rows.FinalActivity.{FinalActivity}
 use Rattle.us_output.specs.declared.rows.FinalState.{FinalState}
 use Rattle.us_output.specs.declared.rows.Grant.{Grant}
 use Rattle.us_output.specs.declared.rows.MissedOccurrence.{MissedOccurrence}
@@ -14,6 +15,7 @@ use Rattle.us_output.specs.declared.rows.TraceCounts.{TraceCounts}
 -- the word of an entry
 abbrev pub word_text : EntryWord → List ℕ
 word_text words.Unsolicited = codes "ugs"
+word_text words.Activity = codes "ad"
 word_text words.RealTimePoll = codes "rtp"
 word_text words.NonRealTimePoll = codes "nrtp"
 word_text words.Station = codes "station"
@@ -45,6 +47,10 @@ abbrev pub final_text : FinalState → List ℕ
 final_text s =
     codes "F" ++ (numbers (s.flow ∷ s.cluster ∷ s.outstanding ∷ []) ++ (codes "," ++ (units_text s.units ++ codes "\n")))
 
+-- an A line
+abbrev pub activity_text : FinalActivity → List ℕ
+activity_text a = codes "A" ++ (numbers (a.flow ∷ a.active ∷ []) ++ codes "\n")
+
 -- the U line
 abbrev pub counts_text : TraceCounts → List ℕ
 counts_text c = codes "U" ++ (numbers (c.unknown ∷ c.not_requestable ∷ c.late ∷ []) ++ codes "\n")
@@ -54,6 +60,7 @@ abbrev pub text_of : Row → List ℕ
 text_of (rows.Granted grant) = grant_text grant
 text_of (rows.Missed missed) = missed_text missed
 text_of (rows.Final state) = final_text state
+text_of (rows.Activity activity) = activity_text activity
 text_of (rows.Counts counts) = counts_text counts
 
 abbrev pub Fit : List ℕ → Type 0
@@ -65,4 +72,5 @@ HasFields (rows.Granted g) =
     Fit (g.round ∷ g.channel ∷ g.id ∷ g.i ∷ g.k ∷ g.sid ∷ g.iuc ∷ g.start ∷ g.slots ∷ g.credit ∷ [])
 HasFields (rows.Missed m) = Fit (m.round ∷ m.channel ∷ m.id ∷ m.i ∷ m.k ∷ [])
 HasFields (rows.Final f) = Fit (f.flow ∷ f.cluster ∷ f.outstanding ∷ []) × IfSome f.units (λ units. units < 2 ^ 64)
+HasFields (rows.Activity a) = Fit (a.flow ∷ a.active ∷ [])
 HasFields (rows.Counts c) = Fit (c.unknown ∷ c.not_requestable ∷ c.late ∷ [])

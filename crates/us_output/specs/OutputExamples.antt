@@ -1,5 +1,5 @@
 -- What a round gives in small, computed by the definitions alone.
-use Rattle.std.specs.Prelude.{◌≡◌, ℕ, true, [], ◌∷◌, replicate, Some, None, refl}
+use Rattle.std.specs.Prelude.{◌≡◌, ℕ, true, false, [], ◌∷◌, replicate, Some, None, refl}
 use Rattle.us_slots.specs.Examples.{base_profile, bursts_with}
 use Rattle.us_bucket.specs.Levels.{Level, units_in}
 use Rattle.us_flows.specs.declared.channels.Channel.{Channel}
@@ -12,7 +12,7 @@ use Rattle.us_calendar.specs.declared.kinds.Kind.TheVariants as kinds
 use Rattle.us_calendar.specs.declared.settled.Settled.TheVariants as settled
 use Rattle.us_channel.specs.Placements.{PlacedClaim}
 use Rattle.us_channel.specs.Maps.{elements_of, head_of}
-use Rattle.us_output.specs.Outputs.{pendings_on, by_start, rows_on, final_row}
+use Rattle.us_output.specs.Outputs.{pendings_on, by_start, settled_row, rows_on, final_row, activity_rows}
 use Rattle.us_output.specs.Leftovers.{still_asking}
 use Rattle.us_output.specs.declared.rows.Row.{Row}
 use Rattle.us_output.specs.declared.rows.Row.TheVariants as rows
@@ -148,6 +148,23 @@ lines_by_start : rows_on 4 (record {
 unfolding rows_on by_start
 lines_by_start = refl
 
+-- the poll of a silent flow, in its second interval
+polled_silent : settled_row 1 channel (settled.Granted kinds.Activity 9 1 0 0 2 (record { sid = 513; iuc = 1 })) ≡
+    rows.Granted (record {
+      round = 1;
+      channel = 1;
+      entry = words.Activity;
+      id = 9;
+      i = 1;
+      k = 0;
+      sid = 513;
+      iuc = 1;
+      start = 0;
+      slots = 2;
+      credit = 0;
+    })
+polled_silent = refl
+
 -- the turn of the flow's second cluster
 abbrev pub turn : Turn
 turn = record { number = 1; place = 0; cluster = record { flow = flow; list = 1; sids = 294 ∷ 293 ∷ [] } }
@@ -165,6 +182,11 @@ no_units : final_row (5 ∷ 6 ∷ []) (bucket 0 ∷ []) turn ≡
     rows.Final (record { flow = 7; cluster = 1; outstanding = 6; units = None })
 unfolding units_in
 no_units = refl
+
+-- the A lines of flows of which the first is active and the last silent; of the one between nothing is told
+last_heard : activity_rows (flow ∷ record flow { id = 8 } ∷ record flow { id = 5 } ∷ []) (Some true ∷ None ∷ Some false ∷ []) ≡
+    rows.Activity (record { flow = 7; active = 1 }) ∷ rows.Activity (record { flow = 5; active = 0 }) ∷ []
+last_heard = refl
 
 -- Pendings.
 

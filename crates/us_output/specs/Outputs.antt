@@ -1,9 +1,9 @@
 -- What a round gives (ours): the MAP of each channel, and its lines. How the round comes to its channels stands in us_round.
-use Rattle.std.specs.Prelude.{ℕ, Bool, true, false, not, ◌==◌, ◌≤◌, List, ◌++◌, length, map, filter, flat_map, zip, take, slice_get, slice_index, Option, option_and_then}
+use Rattle.std.specs.Prelude.{ℕ, Bool, true, false, not, ◌==◌, ◌≤◌, if◌then◌else◌, List, ◌++◌, length, map, filter, filter_map, flat_map, zip, take, slice_get, slice_index, Option, option_map, option_and_then}
 use Rattle.std.specs.List.{AllByRecursion, range_with_len}
 use Rattle.us_codec.specs.Bodies.{MapBody, max_body_bytes, max_elements, spelling}
 use Rattle.us_flows.specs.declared.channels.Channel.{Channel}
-use Rattle.us_flows.specs.Tables.{Tables}
+use Rattle.us_flows.specs.Tables.{FlowTable, Tables}
 use Rattle.us_flows.specs.Clusters.{Turn}
 use Rattle.us_bucket.specs.Levels.{Level, units_in}
 use Rattle.us_holes.specs.Boards.{max_assignments}
@@ -56,6 +56,7 @@ by_start len lines = flat_map (λ start. filter (λ line. start_of line == start
 -- the word of a calendar's entry
 abbrev pub entry_word : Kind → EntryWord
 entry_word kinds.Unsolicited = words.Unsolicited
+entry_word kinds.Activity = words.Activity
 entry_word kinds.RealTimePoll = words.RealTimePoll
 entry_word kinds.NonRealTimePoll = words.NonRealTimePoll
 entry_word kinds.Station = words.Station
@@ -126,6 +127,14 @@ final_row outstanding buckets turn = rows.Final (record {
   outstanding = slice_index outstanding turn.number;
   units = option_and_then units_in (slice_get buckets turn.place);
 })
+
+-- the A line of a flow that is active, or else silent
+abbrev pub activity_row : FlowTable → Bool → Row
+activity_row flow active = rows.Activity (record { flow = flow.id; active = if active then 1 else 0 })
+
+-- the A lines of flows in their order, where it is told of some of them whether they are active
+abbrev pub activity_rows : List FlowTable → List (Option Bool) → List Row
+activity_rows flows told = filter_map (λ one. option_map (activity_row one.0) one.1) (zip flows told)
 
 -- What a round gives: its MAPs in table order, and its lines.
 pub record RoundOut : Type 0 where

@@ -48,6 +48,15 @@ impl ChannelWithText {
         Ok(ChannelWithText { channel, ahead })
     }
 
+    /// Takes in a round's cut, in bytes by word, before the round: its calendar hears which flows are active and which are
+    /// silent. All else stays.
+    pub fn hear(&mut self, cut: &[u64])
+        ensures { self.new ≡ spec.heard cut.now self.old }
+    {
+        self.ahead.round = None;
+        self.channel.hear(cut);
+    }
+
     /// Puts the reserves of a round on the board, and settles what is due then; no claim is granted yet. The fault is want
     /// of memory, and nothing is said of board, calendar and lists then.
     pub fn fill(&mut self, config: &Config, round: u32) -> Result<(), NoMemory>

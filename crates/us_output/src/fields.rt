@@ -4,7 +4,7 @@ ghost use Rattle.std.specs.Prelude.{[], ◌∷◌};
 ghost use Rattle.us_output.specs.declared.rows.Row.TheVariants as rows;
 ghost use Rattle.us_output.specs.Lines.{Fit, HasFields};
 
-use crate::rows::{FinalState, Grant, MissedOccurrence, TraceCounts};
+use crate::rows::{FinalActivity, FinalState, Grant, MissedOccurrence, TraceCounts};
 
 /// Reads all numbers of a G line.
 #[inline(always)]
@@ -62,6 +62,15 @@ pub(crate) fn read_final(state: &FinalState)
     if let Some(units) = state.units {
         let _units = units;
     }
+}
+
+/// Reads those of an A line.
+#[inline(always)]
+pub(crate) fn read_activity(activity: &FinalActivity)
+    ensures { HasFields (rows.Activity activity.now) }
+{
+    let _flow = activity.flow;
+    let _active = activity.active;
 }
 
 /// Reads those of the U line.

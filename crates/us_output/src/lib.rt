@@ -6,11 +6,13 @@
 //! let maps = out.maps(); // a MAP for each channel, in table order
 //! let rows = out.rows(); // the lines of grants, and of what was missed
 //! let finals = final_rows(alloc, &config, &left, &buckets)?; // the F lines, behind the last round
+//! let activity = activity_rows(alloc, &config, &active)?; // the A lines, behind these
 //!
 //! // the same as bytes, straight from the channels, behind what the texts have
 //! push_records(&mut maps, &mut scratch, &config, round, &built, &pendings)?;
 //! push_lines(&mut report, &mut scratch, &mut tally, round, &built)?;
 //! push_rows(&mut report, &mut scratch, &finals)?;
+//! push_rows(&mut report, &mut scratch, &activity)?;
 //! ```
 //!
 //! What these are stands in `specs/`, in the order of its `Lib.antt`. How a round comes to its channels is for `us_round`.
@@ -64,9 +66,9 @@ pub use output_laws::{lines_are_of_grants, lines_bear_round};
 pub use outputs::{out_by, round_out};
 pub use pendings::{PendingSid, first_sid_of, pending_sids};
 pub use records::push_records;
-pub use reporting::final_rows;
+pub use reporting::{activity_rows, final_rows};
 pub use round_outs::RoundOut;
-pub use rows::{EntryWord, FinalState, Grant, MissedOccurrence, Row, TraceCounts};
+pub use rows::{EntryWord, FinalActivity, FinalState, Grant, MissedOccurrence, Row, TraceCounts};
 pub use scratch::Scratch;
 pub use tallies::LineTally;
 pub use texts::{push_lines, push_rows};

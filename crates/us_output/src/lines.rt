@@ -4,9 +4,11 @@ ghost use Rattle.us_output.specs.Lines as spec;
 ghost use Rattle.us_output.specs.Lines.{HasFields};
 ghost use Rattle.us_output.specs.declared.rows.Row.TheVariants as rows;
 
-use crate::fields::{read_counts, read_final, read_grant, read_missed};
+use crate::fields::{read_activity, read_counts, read_final, read_grant, read_missed};
 use crate::pairs::put_pair;
-use crate::rows::{EntryWord, FinalState, Grant, MissedOccurrence, Row, TraceCounts};
+use crate::rows::{
+    EntryWord, FinalActivity, FinalState, Grant, MissedOccurrence, Row, TraceCounts,
+};
 use std::alloc::AllocError;
 
 /// The bytes in which a line is put together, more than any line has: a letter, ten numbers, a word of seven letters behind a
@@ -37,6 +39,7 @@ pub(crate) fn push_line(
         Row::Granted(grant) => push_grant(text, line, grant),
         Row::Missed(missed) => push_missed(text, line, missed),
         Row::Final(state) => push_final(text, line, state),
+        Row::Activity(activity) => push_activity(text, line, activity),
         Row::Counts(counts) => push_counts(text, line, counts),
     }
 }
@@ -83,6 +86,21 @@ fn push_final(
     read_final(state);
     put_feed(line);
     let start = put_final(line, state);
+    text.extend_from_slice(&line[start..])
+}
+
+/// Adds an A line.
+fn push_activity(
+    text: &mut Vec<u8>,
+    line: &mut [u8; LINE_BYTES],
+    activity: &FinalActivity,
+) -> Result<(), AllocError>
+    ensures line { OnOk result (text.new.items ≡ text.old.items ++ spec.activity_text activity.now) }
+    ensures fields { HasFields (rows.Activity activity.now) }
+{
+    read_activity(activity);
+    put_feed(line);
+    let start = put_activity(line, activity);
     text.extend_from_slice(&line[start..])
 }
 
@@ -220,6 +238,16 @@ fn put_final(line: &mut [u8; LINE_BYTES], state: &FinalState) -> usize
     put_front(line, end, b'F', &[flow, cluster, outstanding])
 }
 
+/// Puts an A line before its line feed.
+fn put_activity(line: &mut [u8; LINE_BYTES], activity: &FinalActivity) -> usize
+    requires { drop FEED line.old ≡ 10 ∷ [] }
+    ensures start { result ≤ LINE_BYTES }
+    ensures line { drop result line.new ≡ spec.activity_text activity.now }
+{
+    let FinalActivity { flow, active } = *activity;
+    put_front(line, FEED, b'A', &[flow, active])
+}
+
 /// Puts the U line before its line feed.
 fn put_counts(line: &mut [u8; LINE_BYTES], counts: &TraceCounts) -> usize
     requires { drop FEED line.old ≡ 10 ∷ [] }
@@ -303,7 +331,8 @@ fn put_units(line: &mut [u8; LINE_BYTES], units: Option<u64>) -> usize
     }
 }
 
-/// Puts a comma and the word of an entry before what stands from `end` on.
+/// Puts a comma and the word of an entry before what stands from `end` on. Inlined, as each line of a round has a word.
+#[inline(always)]
 fn put_entry(line: &mut [u8; LINE_BYTES], end: usize, entry: EntryWord) -> usize
     requires room { 8 ≤ end }
     requires end { end ≤ LINE_BYTES }
@@ -313,6 +342,7 @@ fn put_entry(line: &mut [u8; LINE_BYTES], end: usize, entry: EntryWord) -> usize
 {
     match entry {
         EntryWord::Unsolicited => put_text(line, end, b",ugs"),
+        EntryWord::Activity => put_text(line, end, b",ad"),
         EntryWord::RealTimePoll => put_text(line, end, b",rtp"),
         EntryWord::NonRealTimePoll => put_text(line, end, b",nrtp"),
         EntryWord::Station => put_text(line, end, b",station"),

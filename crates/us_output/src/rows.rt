@@ -3,6 +3,8 @@
 pub enum EntryWord {
     /// `ugs`: an unsolicited grant.
     Unsolicited,
+    /// `ad`: a grant of a flow whose activity is detected, or its poll while it is silent.
+    Activity,
     /// `rtp`: a real-time poll.
     RealTimePoll,
     /// `nrtp`: a non-real-time poll.
@@ -22,6 +24,8 @@ pub enum Row {
     Missed(MissedOccurrence),
     /// An F line.
     Final(FinalState),
+    /// An A line.
+    Activity(FinalActivity),
     /// The U line.
     Counts(TraceCounts),
 }
@@ -39,7 +43,8 @@ pub struct Grant {
     pub id: u64,
     /// The number of the interval; of a requested grant its SID cluster, 0 or 1.
     pub i: u64,
-    /// The place among the grants of the interval, 0 but for unsolicited grants.
+    /// The place among the grants of the interval, 0 but for unsolicited grants and those of a flow whose activity is
+    /// detected.
     pub k: u64,
     /// The SID.
     pub sid: u64,
@@ -66,7 +71,8 @@ pub struct MissedOccurrence {
     pub id: u64,
     /// The number of the interval.
     pub i: u64,
-    /// The place among the grants of the interval, 0 but for unsolicited grants.
+    /// The place among the grants of the interval, 0 but for unsolicited grants and those of a flow whose activity is
+    /// detected.
     pub k: u64,
 }
 
@@ -83,13 +89,24 @@ pub struct FinalState {
     pub units: Option<u64>,
 }
 
-/// How many rows of the trace were no requests, as the U line tells it: numbers of 64 bits, as all of a report.
+/// Whether a flow whose activity is detected is active at the end, as an A line tells it: a number of 64 bits, as all of a
+/// report.
+#[derive(Clone, Copy, Debug, PartialEq, Eq)]
+pub struct FinalActivity {
+    /// The flow's id.
+    pub flow: u64,
+    /// 1 where it is active, 0 where it is silent. No schedule tells another number.
+    pub active: u64,
+}
+
+/// How many rows of the trace, requests and marks, count for nothing, as the U line tells it: numbers of 64 bits, as all of
+/// a report.
 #[derive(Clone, Copy, Debug, PartialEq, Eq)]
 pub struct TraceCounts {
     /// No flow has the SID on the channel.
     pub unknown: u64,
-    /// The flow makes no requests.
+    /// It is a request, and the flow makes none; or a mark, and the flow doesn't tell its activity.
     pub not_requestable: u64,
-    /// The round of the request isn't below the number of rounds.
+    /// Its round isn't below the number of rounds.
     pub late: u64,
 }

@@ -194,7 +194,8 @@ fn push_all_missed(
     Ok(())
 }
 
-/// Adds the lines of some rows, such as those at the end of a report. The one fault is want of memory.
+/// Adds the lines of some rows, such as those at the end of a report: F lines, A lines, the U line. The one fault is want of
+/// memory.
 #[tactic(auto, unfolding(crate::specs::Files::lines))]
 pub fn push_rows(text: &mut Vec<u8>, scratch: &mut Scratch, rows: &[Row]) -> Result<(), NoMemory>
     ensures lines { OnOk result (text.new.items ≡ text.old.items ++ lines rows.now) }

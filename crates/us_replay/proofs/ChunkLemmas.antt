@@ -55,7 +55,8 @@ module _ {T : Type 0} (seat_of : T → Seat) (asks_of : T → List Ask) (intake 
       AreDivided seat_of asks_of intake whole asks parts whole [] asks parts
   none-divided are some few = record {
     all = refl;
-    seat_is = ap (λ q. with_all whole q whole.takes whole.submitted whole.taken) (no-quota whole.quota);
+    seat_is = ap (λ q. with_all whole q whole.takes whole.submitted whole.taken whole.additions whole.swapped)
+        (no-quota whole.quota);
     chunks = tt;
     rest_are = are;
     enough = few;
@@ -108,7 +109,7 @@ module _ {T : Type 0} (seat_of : T → Seat) (asks_of : T → List Ask) (intake 
       record {
         all = ap (λ l. l ++ behind) more ∙ append_assoc done chunk behind ∙ ap (λ l. done ++ l) parts_are ∙ so_far.all;
         seat_is = kept_is ∙ ap (λ (s : Seat). seat_after_split s (chunk_quota chunk)) so_far.seat_is ∙
-            ap (λ q. with_all whole q whole.takes whole.submitted whole.taken) quota ∙
+            ap (λ q. with_all whole q whole.takes whole.submitted whole.taken whole.additions whole.swapped) quota ∙
             ap (λ l. seat_after_split whole (chunk_quota l)) (sym more);
         chunks = all-more (λ item. IsChunk intake (seat_of item) (asks_of item)) items item so_far.chunks
             (new_is ∙ ap (λ l. new_seat intake (chunk_quota l)) (sym chunk_is), subst (AreAsks intake.clusters) (sym chunk_is) both.0);

@@ -3,7 +3,7 @@ use Rattle.std.proofs.Common.{◌≡◌, ℕ, zero, suc, ◌+◌, ◌-◌, ◌*�
 use Rattle.std.specs.List.{AllByRecursion, range_with_len}
 use Rattle.std.proofs.Math.Bool.{or-false}
 use Rattle.std.proofs.lemmas.Option.{none-some, same_Some}
-use Rattle.std.proofs.lemmas.List.{length-append}
+use Rattle.std.proofs.lemmas.List.{append-nil, length-append, length-take-le}
 use Rattle.std.proofs.lemmas.List.Elements.{filter-append}
 use Rattle.std.proofs.lemmas.List.Sums.{sum_by-append, sum_by-cons}
 use Rattle.us_crew.specs.Items.{AreAccepted}
@@ -129,13 +129,15 @@ first-within n (ask ∷ asks) (suc i) are within =
 
 -- Submitting.
 
-abbrev with_submitted : Seat → List ℕ → Seat
-with_submitted seat submitted = record {
+abbrev with_submitted : Seat → List ℕ → ℕ → Seat
+with_submitted seat submitted additions = record {
   intake = seat.intake;
   quota = seat.quota;
   takes = seat.takes;
   submitted = submitted;
   taken = seat.taken;
+  additions = additions;
+  swapped = seat.swapped;
 }
 
 -- before the first ask
@@ -144,8 +146,10 @@ pub none-submitted : (intake : Intake) (seat : Seat) (asks : List Ask) → CanSu
 none-submitted intake seat asks can =
     let row : length seat.submitted ≡ seat.intake.clusters =
     can.row ∙ sym (ap (λ (i : Intake). i.clusters) can.own) in
-    ap (with_submitted seat) (sym (added-empty seat.intake.clusters seat.submitted row)) ∙
-    ap (λ l. with_submitted seat (added seat.submitted l)) (cut-none seat.intake.clusters)
+    let count : seat.additions ≡ seat.additions + 0 = omega arith in
+    ap (λ l. with_submitted seat l seat.additions) (sym (added-empty seat.intake.clusters seat.submitted row)) ∙
+    ap (λ l. with_submitted seat (added seat.submitted l) seat.additions) (cut-none seat.intake.clusters) ∙
+    ap (with_submitted seat (added seat.submitted (cut_of seat.intake.clusters []))) count
 
 -- there is room for one ask more
 pub never-over : (intake : Intake) (seat now : Seat) (asks : List Ask) (i bytes : ℕ) (d : Ask) →
@@ -176,25 +180,36 @@ submitted-more intake seat now asks i cluster bytes d can so_far below is has =
     let n : ℕ = seat.intake.clusters in
     let clusters : n ≡ intake.clusters = ap (λ (i : Intake). i.clusters) can.own in
     let there : cluster < n = omega (arith, is, clusters, (ask-at intake.clusters asks i d can.asks_are below).0) in
+    let count : seat.additions + length (take i asks) + 1 ≡ seat.additions + length (take (i + 1) asks) =
+    omega (arith, length-take-le i asks (omega (arith, below)), length-take-le (i + 1) asks (omega (arith, below))) in
     ap (λ (s : Seat). seat_after_submit s cluster bytes) so_far ∙
-    ap (with_submitted seat) (added-raised seat.submitted (cut_of n (take i asks)) cluster bytes
+    ap (λ l. with_submitted seat l (seat.additions + length (take i asks) + 1))
+    (added-raised seat.submitted (cut_of n (take i asks)) cluster bytes
     (omega (arith, there, can.row, clusters)) (omega (arith, there, length-cut n (take i asks)))) ∙
-    ap (λ l. with_submitted seat (added seat.submitted l))
+    ap (λ l. with_submitted seat (added seat.submitted l) (seat.additions + length (take i asks) + 1))
     (cut-more (cut_of n (take i asks)) asks n i cluster bytes d refl below is has
     (subst (λ m. AllByRecursion (λ (ask : Ask). ask.cluster < m) asks) (sym clusters)
-    (are-known intake.clusters asks can.asks_are)))
+    (are-known intake.clusters asks can.asks_are))) ∙
+    ap (with_submitted seat (added seat.submitted (cut_of n (take (i + 1) asks)))) count
 
 -- Joining.
 
-abbrev pub with_all : Seat → ℕ → Bool → List ℕ → List ℕ → Seat
-with_all seat quota takes submitted taken =
-    record { intake = seat.intake; quota = quota; takes = takes; submitted = submitted; taken = taken }
+abbrev pub with_all : Seat → ℕ → Bool → List ℕ → List ℕ → ℕ → List ℕ → Seat
+with_all seat quota takes submitted taken additions swapped = record {
+  intake = seat.intake;
+  quota = quota;
+  takes = takes;
+  submitted = submitted;
+  taken = taken;
+  additions = additions;
+  swapped = swapped;
+}
 
 -- the seat that also has the quota of these asks, and submitted them
 abbrev pub grown : Seat → List Ask → Seat
 grown seat asks =
     with_all seat (seat.quota + chunk_quota asks) seat.takes (added seat.submitted (cut_of seat.intake.clusters asks))
-    seat.taken
+    seat.taken (seat.additions + length asks) seat.swapped
 
 joined-one : (intake : Intake) (seat its : Seat) (asks : List Ask) → seat.intake ≡ intake →
     length seat.taken ≡ intake.clusters → IsChunk intake its asks →
@@ -203,13 +218,21 @@ joined-one intake seat its asks own row chunk =
     let n : ℕ = intake.clusters in
     let quota : ℕ = seat.quota + chunk_quota asks in
     let nothing : List ℕ = empty_tally n in
+    let count : ℕ = seat.additions + (0 + length asks) in
+    let words : List ℕ = seat.swapped ++ [] in
+    let counted : count ≡ seat.additions + length asks = omega arith in
     ap (λ (s : Seat). joined_seat seat (seat_after_asks s asks)) chunk.0 ∙
-    ap (λ b. with_all seat quota b (added seat.submitted (added nothing (cut_of n asks))) (added seat.taken nothing))
-    (or-false seat.takes) ∙
-    ap (λ l. with_all seat quota seat.takes (added seat.submitted l) (added seat.taken nothing))
+    ap (λ b. with_all seat quota b (added seat.submitted (added nothing (cut_of n asks))) (added seat.taken nothing) count
+    words) (or-false seat.takes) ∙
+    ap (λ l. with_all seat quota seat.takes (added seat.submitted l) (added seat.taken nothing) count words)
     (empty-added n (cut_of n asks) (length-cut n asks)) ∙
-    ap (λ l. with_all seat quota seat.takes (added seat.submitted (cut_of n asks)) l) (added-empty n seat.taken row) ∙
-    ap (λ (i : Intake). with_all seat quota seat.takes (added seat.submitted (cut_of i.clusters asks)) seat.taken) (sym own)
+    ap (λ l. with_all seat quota seat.takes (added seat.submitted (cut_of n asks)) l count words)
+    (added-empty n seat.taken row) ∙
+    ap (λ m. with_all seat quota seat.takes (added seat.submitted (cut_of n asks)) seat.taken m words) counted ∙
+    ap (with_all seat quota seat.takes (added seat.submitted (cut_of n asks)) seat.taken (seat.additions + length asks))
+    (append-nil seat.swapped) ∙
+    ap (λ (i : Intake). with_all seat quota seat.takes (added seat.submitted (cut_of i.clusters asks)) seat.taken
+    (seat.additions + length asks) seat.swapped) (sym own)
 
 module _ {T : Type 0} (seat_of : T → Seat) (asks_of : T → List Ask) where
   abbrev value : ℕ → T → Seat
@@ -225,9 +248,13 @@ module _ {T : Type 0} (seat_of : T → Seat) (asks_of : T → List Ask) where
       let n : ℕ = seat.intake.clusters in
       let its : length seat.submitted ≡ n = omega (arith, row, ap (λ (i : Intake). i.clusters) own) in
       let quota : seat.quota ≡ seat.quota + chunk_quota [] = omega arith in
-      ap (λ q. with_all seat q seat.takes seat.submitted seat.taken) quota ∙
-      ap (λ l. with_all seat (seat.quota + chunk_quota []) seat.takes l seat.taken) (sym (added-empty n seat.submitted its)) ∙
-      ap (λ l. with_all seat (seat.quota + chunk_quota []) seat.takes (added seat.submitted l) seat.taken) (cut-none n)
+      let count : seat.additions ≡ seat.additions + 0 = omega arith in
+      ap (λ q. with_all seat q seat.takes seat.submitted seat.taken seat.additions seat.swapped) quota ∙
+      ap (λ m. with_all seat (seat.quota + chunk_quota []) seat.takes seat.submitted seat.taken m seat.swapped) count ∙
+      ap (λ l. with_all seat (seat.quota + chunk_quota []) seat.takes l seat.taken (seat.additions + 0) seat.swapped)
+      (sym (added-empty n seat.submitted its)) ∙
+      ap (λ l. with_all seat (seat.quota + chunk_quota []) seat.takes (added seat.submitted l) seat.taken
+      (seat.additions + 0) seat.swapped) (cut-none n)
   joined-all intake seat (item ∷ items) place own row taken chunks =
       let n : ℕ = seat.intake.clusters in
       let here : List Ask = asks_of item in
@@ -237,10 +264,16 @@ module _ {T : Type 0} (seat_of : T → Seat) (asks_of : T → List Ask) where
       omega (arith, row, ap (λ (i : Intake). i.clusters) own, length-cut n here) in
       let quota : seat.quota + chunk_quota here + chunk_quota behind ≡ seat.quota + chunk_quota (here ++ behind) =
       omega (arith, length-append here behind) in
+      let all : ℕ = seat.additions + length here + length behind in
+      let count : all ≡ seat.additions + length (here ++ behind) = omega (arith, length-append here behind) in
       ap (λ (s : Seat). joined_seats s (values_from value (place + 1) items)) (joined-one intake seat (seat_of item) here own taken chunks.0) ∙
       joined-all intake one items (place + 1) own (length-added seat.submitted (cut_of n here) its ∙ row) taken chunks.1 ∙
-      ap (λ q. with_all seat q seat.takes (added (added seat.submitted (cut_of n here)) (cut_of n behind)) seat.taken) quota ∙
-      ap (λ l. with_all seat (seat.quota + chunk_quota (here ++ behind)) seat.takes l seat.taken)
+      ap (λ q. with_all seat q seat.takes (added (added seat.submitted (cut_of n here)) (cut_of n behind)) seat.taken all
+      seat.swapped) quota ∙
+      ap (λ m. with_all seat (seat.quota + chunk_quota (here ++ behind)) seat.takes
+      (added (added seat.submitted (cut_of n here)) (cut_of n behind)) seat.taken m seat.swapped) count ∙
+      ap (λ l. with_all seat (seat.quota + chunk_quota (here ++ behind)) seat.takes l seat.taken
+      (seat.additions + length (here ++ behind)) seat.swapped)
       (added-added seat.submitted (cut_of n here) (cut_of n behind) ∙ ap (added seat.submitted) (sym (cut-append n here behind)))
 
   -- all seats of a round joined to the seat that they were split off
@@ -255,7 +288,8 @@ module _ {T : Type 0} (seat_of : T → Seat) (asks_of : T → List Ask) where
       let back : left + chunk_quota asks ≡ seat.quota = omega (arith, room) in
       ap (λ (s : Seat). joined_seats s seats) is ∙ ap (joined_seats less) are ∙
       joined-all intake less items 0 own row taken chunks ∙ ap (grown less) whole ∙
-      ap (λ q. with_all seat q seat.takes (added seat.submitted (cut_of seat.intake.clusters asks)) seat.taken) back
+      ap (λ q. with_all seat q seat.takes (added seat.submitted (cut_of seat.intake.clusters asks)) seat.taken
+      (seat.additions + length asks) seat.swapped) back
 
   -- the seats that come back are of the intake
   pub of-intake : (intake : Intake) (items : List T) (place : ℕ) → AreChunks intake items →

@@ -1,38 +1,48 @@
 -- Items that are made of channels one after another: those that are made, and the channels that are left.
-use Rattle.std.proofs.Common.{◌≡◌, ℕ, ◌+◌, List, [], ◌∷◌, ◌++◌, length, append_assoc, length-append, append-nil, refl, sym, ap, subst, ◌∙◌, Result, Ok, Err}
-use Rattle.std.specs.Prelude.{⊤, IfOk}
-use Rattle.us_crew.specs.Items.{AreAccepted}
+use Rattle.std.proofs.Common.{◌≡◌, ℕ, zero, suc, ◌+◌, List, [], ◌∷◌, ◌++◌, length, drop, Some, slice_get, append_assoc, length-append, append-nil, refl, sym, ap, subst, ◌∙◌, Result, Ok, Err, arith}
+use Rattle.std.specs.Prelude.{IfOk}
 use Rattle.us_crew.specs.Values.{values_from, values_of}
 use Rattle.us_crew.specs.Parts.{EachFrom}
 use Rattle.us_crew.proofs.PartLemmas.{values-append, each-append}
-use Rattle.us_crew.proofs.PlaceLemmas.{each-of_places, each-at}
+use Rattle.us_crew.proofs.PlaceLemmas.{each-at}
+use Rattle.us_replay.specs.Doing.{AreLaden}
+use Rattle.us_replay.proofs.ReplayStopLemmas.{next-of}
+
+-- what stands at the front of what is left, by its place in the whole
+found-at : {X : Type 0} (xs : List X) (k : ℕ) (x : X) (rest : List X) → drop k xs ≡ x ∷ rest → slice_get xs k ≡ Some x
+found-at [] zero x rest h = let no : [] ≡ x ∷ rest = h in cc
+found-at [] (suc k) x rest h = let no : [] ≡ x ∷ rest = h in cc
+found-at (y ∷ ys) zero x rest h = let same : y ≡ x = cc in ap Some same
+found-at (y ∷ ys) (suc k) x rest h = found-at ys k x rest h
 
 module _ {I B Z : Type 0} (value : I → Z) (can : I → Type 0) (value_at : ℕ → B → Z) (can_at : ℕ → B → Type 0) where
+  -- what is made may be used where that may which it is made of
+  abbrev pub Suits : List B → ℕ → I → Type 0
+  Suits whole n i = (b : B) × (slice_get whole n ≡ Some b) × (can_at n b → can i)
+
   -- so many are made: the values of these and of what is left are those of the whole
   pub record AreMadeTo (made : List I) (rest whole : List B) : Type 0 where
     pub values : values_of (λ _ i. value i) made ++ values_from value_at (length made) rest ≡ values_of value_at whole
-    pub ready : EachFrom (λ _ i. can i) 0 made
-    pub left : EachFrom can_at (length made) rest
+    pub ready : EachFrom (Suits whole) 0 made
+    pub left : drop (length made) whole ≡ rest
 
-  pub none-made : (whole : List B) → AreAccepted (λ _. ⊤) can_at whole → AreMadeTo [] whole whole
-  none-made whole accepted = record {
-    values = refl;
-    ready = tt;
-    left = each-of_places can_at whole (λ place b is. accepted place b is tt);
-  }
+  pub none-made : (whole : List B) → AreMadeTo [] whole whole
+  none-made whole = record { values = refl; ready = tt; left = refl }
 
   one-more : (made : List I) (i : I) (b : B) (rest whole : List B) → AreMadeTo made (b ∷ rest) whole →
       value i ≡ value_at (length made) b → (can_at (length made) b → can i) → AreMadeTo (made ++ i ∷ []) rest whole
   one-more made i b rest whole so_far same fits =
-      let more : length (made ++ i ∷ []) ≡ length made + 1 = length-append made (i ∷ []) in record {
+      let more : length (made ++ i ∷ []) ≡ length made + 1 = length-append made (i ∷ []) in
+      let number : length made ≡ 0 + length made = omega arith in record {
         values =
             ap (λ n. values_of (λ _ i. value i) (made ++ i ∷ []) ++ values_from value_at n rest) more ∙
             ap (λ l. l ++ values_from value_at (length made + 1) rest) (values-append (λ _ i. value i) 0 made (i ∷ [])) ∙
             append_assoc (values_of (λ _ i. value i) made) (value i ∷ []) (values_from value_at (length made + 1) rest) ∙
             ap (λ z. values_of (λ _ i. value i) made ++ z ∷ values_from value_at (length made + 1) rest) same ∙
             so_far.values;
-        ready = each-append (λ _ i. can i) 0 made (i ∷ []) so_far.ready (fits so_far.left.0, tt);
-        left = subst (λ n. EachFrom can_at n rest) (sym more) so_far.left.1;
+        ready = each-append (Suits whole) 0 made (i ∷ []) so_far.ready
+            (subst (λ n. Suits whole n i) number (b, found-at whole (length made) b rest so_far.left, fits), tt);
+        left = ap (λ n. drop n whole) more ∙ (next-of whole (length made) b rest so_far.left).behind;
       }
 
   pub next-made : (made next : List I) (i : I) (b : B) (left rest whole : List B) → next ≡ made ++ i ∷ [] →
@@ -46,9 +56,10 @@ module _ {I B Z : Type 0} (value : I → Z) (can : I → Type 0) (value_at : ℕ
       values_of (λ _ i. value i) made ≡ values_of value_at whole
   all-made made whole so_far = sym (append-nil (values_of (λ _ i. value i) made)) ∙ so_far.values
 
-  pub made-ready : (made : List I) (rest whole : List B) → AreMadeTo made rest whole →
-      AreAccepted (λ _. ⊤) (λ _ i. can i) made
-  made-ready made rest whole so_far place i is entered = each-at (λ _ i. can i) 0 made so_far.ready place i is
+  pub made-ready : (made : List I) (rest whole : List B) → AreMadeTo made rest whole → AreLaden can_at can whole made
+  made-ready made rest whole so_far place i is =
+      let number : 0 + place ≡ place = omega arith in
+      subst (λ n. Suits whole n i) number (each-at (Suits whole) 0 made so_far.ready place i is)
 
 -- what was answered, passed on with another fault
 pub passed : {A E F : Type 0} (answered : Result A E) (result : Result A F) (P : A → Type 0) →

@@ -2,7 +2,7 @@
 use Rattle.std.proofs.Common.{◌≡◌, ℕ, zero, suc, ◌+◌, true, List, length, map, Option, Result, Ok, Err, OnOk, ap, subst, ◌∙◌}
 use Rattle.std.specs.List.{AllByRecursion, range_with_len}
 use Rattle.us_flows.specs.Tables.{Tables, rounds_fit}
-use Rattle.us_flows.specs.Clusters.{clusters_of}
+use Rattle.us_flows.specs.Clusters.{words_of}
 use Rattle.us_flows.specs.Lawful.{AreTables}
 use Rattle.us_requests.specs.Asks.{Request}
 use Rattle.us_requests.specs.Cuts.{cut_of}
@@ -29,9 +29,9 @@ unfolding cuts_in
 are-cuts t v = each 0 v.rounds
   where
     each : (from n : ℕ) →
-        AreCuts t (map (λ round. cut_of (length (clusters_of t)) (asks_in v round)) (range_with_len from n))
+        AreCuts t (map (λ round. cut_of (length (words_of t)) (asks_in v round)) (range_with_len from n))
     each from zero = tt
-    each from (suc n) = (length-cut (length (clusters_of t)) (asks_in v from), each (from + 1) n)
+    each from (suc n) = (length-cut (length (words_of t)) (asks_in v from), each (from + 1) n)
 
 pub lawful-output : (t : Tables) (v : TraceAsks) (result : Result Summary RunFault) → AreTables t →
     rounds_fit t v.rounds ≡ true → OnOk result (AllByRecursion HasFields (judged_of (output_in t v)).lines) →

@@ -7,7 +7,7 @@ use Rattle.std.proofs.lemmas.List.{length-map, length-replicate, drop_more, drop
 use Rattle.std.proofs.lemmas.List.Sums.{sum_by-cons, sum_by-append, count_by-le-length}
 use Rattle.std.proofs.lemmas.List.FromFn.{length-map-range_with_len, get_or-map-range_with_len}
 use Rattle.us_flows.specs.Tables.{Tables, max_run_ticks, rounds_fit}
-use Rattle.us_flows.specs.Clusters.{clusters_of}
+use Rattle.us_flows.specs.Clusters.{words_of}
 use Rattle.us_flows.specs.Lawful.{AreTables}
 use Rattle.us_requests.specs.declared.asks.Ask.{Ask}
 use Rattle.us_requests.specs.declared.asks.Counts.{Counts}
@@ -38,15 +38,15 @@ no-sum zero = refl
 no-sum (suc n) = omega (arith, sum_by-cons (λ n. n) 0 (replicate n 0), no-sum n)
 
 pub along-opening : (t : Tables) (v : TraceAsks) (state : State) (p : Progress) → AreTables t → state ≡ opening t →
-    p ≡ opening_progress (length (clusters_of t)) → Along t v 0 state p
+    p ≡ opening_progress (length (words_of t)) → Along t v 0 state p
 unfolding KeptLimits
 along-opening t v state p lawful opened empty = record {
   within = omega arith;
   lawful = lawful;
   tables = ap (λ s. s.tables) opened;
   round = ap (λ s. s.round) opened;
-  clusters = ap (λ p. length p.cut) empty ∙ length-replicate (length (clusters_of t)) 0;
-  asked = omega (arith, ap (λ s. sum s.outstanding) opened, no-sum (length (clusters_of t)));
+  clusters = ap (λ p. length p.cut) empty ∙ length-replicate (length (words_of t)) 0;
+  asked = omega (arith, ap (λ s. sum s.outstanding) opened, no-sum (length (words_of t)));
   collected = omega (arith, ap (λ p. p.collected) empty);
   rest = ap (λ s. schedule s (cuts_in t v)) opened;
   ends = ap (λ s. final s (cuts_in t v)) opened;
@@ -61,10 +61,10 @@ along-opening t v state p lawful opened empty = record {
 -- One round.
 
 next-cut : (t : Tables) (v : TraceAsks) (k : ℕ) → k < v.rounds →
-    drop k (cuts_in t v) ≡ cut_of (length (clusters_of t)) (asks_in v k) ∷ drop (k + 1) (cuts_in t v)
+    drop k (cuts_in t v) ≡ cut_of (length (words_of t)) (asks_in v k) ∷ drop (k + 1) (cuts_in t v)
 unfolding cuts_in
 next-cut t v k below =
-    let cut : ℕ → List ℕ = λ round. cut_of (length (clusters_of t)) (asks_in v round) in
+    let cut : ℕ → List ℕ = λ round. cut_of (length (words_of t)) (asks_in v round) in
     drop_more (cuts_in t v) k [] (omega (arith, below, length-map-range_with_len cut 0 v.rounds)) ∙
     ap (λ c. c ∷ drop (k + 1) (cuts_in t v)) (get_or-map-range_with_len cut 0 v.rounds k k [] below (omega arith))
 
@@ -269,7 +269,7 @@ length-schedule state (cut ∷ cuts) = omega (arith, length-schedule (round_of s
 
 pub length-cuts : (t : Tables) (v : TraceAsks) → length (cuts_in t v) ≡ v.rounds
 unfolding cuts_in
-length-cuts t v = length-map-range_with_len (λ round. cut_of (length (clusters_of t)) (asks_in v round)) 0 v.rounds
+length-cuts t v = length-map-range_with_len (λ round. cut_of (length (words_of t)) (asks_in v round)) 0 v.rounds
 
 pub length-given : (t : Tables) (v : TraceAsks) → length (output_in t v).given ≡ v.rounds
 unfolding output_of
@@ -336,13 +336,13 @@ time-next t rounds k fits below =
 -- what is outstanding and what is asked for stay below all that is ever asked for
 pub can-make : (t : Tables) (v : TraceAsks) (k : ℕ) (state : State) (p : Progress) (asks : List Ask) → IsTrace v →
     Along t v k state p → rounds_fit t v.rounds ≡ true → k < v.rounds →
-    AllByRecursion (λ ask. ask.cluster < length (clusters_of t)) (asks_in v k) → asks ≡ asks_in v k → CanMake state p asks
+    AllByRecursion (λ ask. ask.cluster < length (words_of t)) (asks_in v k) → asks ≡ asks_in v k → CanMake state p asks
 can-make t v k state p asks lawful along fits below known are = record {
   lawful = subst AreTables (sym along.tables) along.lawful;
-  clusters = along.clusters ∙ ap (λ t. length (clusters_of t)) (sym along.tables);
+  clusters = along.clusters ∙ ap (λ t. length (words_of t)) (sym along.tables);
   asks_are = subst (AreAsks (length p.cut)) (sym are)
       (subst (λ n. AreAsks n (asks_in v k)) (sym along.clusters)
-      (are-asks (length (clusters_of t)) (asks_in v k) known (lawful.small k)));
+      (are-asks (length (words_of t)) (asks_in v k) known (lawful.small k)));
   few_asks = omega (arith, next-count v k, lawful.few (k + 1), ap length are);
   room = omega (arith, along.collected, next-count v k, lawful.few (k + 1), ap length are);
   asked = omega (arith, along.asked, next-asked v k, lawful.asked (k + 1), ap (sum_by (λ ask. ask.bytes)) are);

@@ -2,7 +2,7 @@
 use Rattle.std.proofs.Common.{◌≡◌, ℕ, true, List, length, map, Option, Result, Ok, Err, ap, subst, ◌∙◌}
 use Rattle.std.specs.List.{range_with_len}
 use Rattle.us_flows.specs.Tables.{Tables, rounds_fit}
-use Rattle.us_flows.specs.Clusters.{clusters_of}
+use Rattle.us_flows.specs.Clusters.{words_of}
 use Rattle.us_requests.specs.Asks.{Request, counts_of}
 use Rattle.us_requests.specs.Cuts.{cut_at, cut_of}
 use Rattle.us_requests.specs.Traces.{TraceAsks, IsTraceOf, asks_in}
@@ -21,7 +21,7 @@ pub cuts-same : (t : Tables) (rounds : ℕ) (requests : List Request) (v : Trace
     cuts_in t v ≡ cuts_of t rounds requests
 unfolding cuts_in cuts_of
 cuts-same t rounds requests v is =
-    let asked : ℕ → List ℕ = λ round. cut_of (length (clusters_of t)) (asks_in v round) in
+    let asked : ℕ → List ℕ = λ round. cut_of (length (words_of t)) (asks_in v round) in
     let cut : asked ≡ cut_at t rounds requests = λ i round. is.cut round i in
     ap (λ n. map asked (range_with_len 0 n)) is.run ∙ ap (λ f. map f (range_with_len 0 rounds)) cut
 

@@ -176,6 +176,7 @@ pub record IsPart (out : Output) (k : ℕ) (maps report : List ℕ) : Type 0 whe
   pub report_behind : List ℕ
   pub maps_is : flat_map records (drop k out.given) ≡ maps ++ maps_behind
   pub report_is : flat_map round_lines (drop k out.given) ++ lines out.last ≡ report ++ report_behind
+  pub maps_whole : flat_map records (take (k + 1) out.given) ≡ flat_map records (take k out.given) ++ maps
   pub short_maps : (n : ℕ) → n < length maps → IsShort out k n 0
   pub short_report : (n : ℕ) → n < length report → IsShort out k (length maps) n
 
@@ -187,27 +188,35 @@ sent-stops out counts k a b c d e f maps report (StoppedBy Maps done) so_far par
     let before : List ℕ = flat_map records (take k out.given) in
     let taken : take n (flat_map records (drop k out.given)) ≡ take n maps =
     ap (take n) part.maps_is ∙ take-append-le n maps part.maps_behind (omega (arith, below)) in
-    subst (Stopped out (grown a c) (grown d f)) (sym is) (stopped out k n 0 (grown a c) (grown d f) (record {
-      rounds = so_far.rounds;
-      maps = subst (Appends a c) (sym (ap (λ bs. before ++ bs) taken)) (appends_join a b c before (take n maps) so_far.maps front);
-      maps_short = omega (arith, below, ap length part.maps_is, length-append maps part.maps_behind);
-      report = appends_join d e f (flat_map round_lines (take k out.given)) [] so_far.report kept;
-      report_short = omega arith;
-    }) (part.short_maps n below))
+    let same : flat_map round_lines (take k out.given) ++ [] ≡ flat_map round_lines (take done out.given) =
+    append-nil (flat_map round_lines (take k out.given)) ∙ ap (λ j. flat_map round_lines (take j out.given)) (sym is) in (
+      inl (subst (Appends d f) same (appends_join d e f (flat_map round_lines (take k out.given)) [] so_far.report kept)),
+      subst (Stopped out (grown a c) (grown d f)) (sym is) (stopped out k n 0 (grown a c) (grown d f) (record {
+        rounds = so_far.rounds;
+        maps = subst (Appends a c) (sym (ap (λ bs. before ++ bs) taken)) (appends_join a b c before (take n maps) so_far.maps front);
+        maps_short = omega (arith, below, ap length part.maps_is, length-append maps part.maps_behind);
+        report = appends_join d e f (flat_map round_lines (take k out.given)) [] so_far.report kept;
+        report_short = omega arith;
+      }) (part.short_maps n below)),
+    )
 sent-stops out counts k a b c d e f maps report (StoppedBy Report done) so_far part (is, wrote, (n, below, front)) =
     let before : List ℕ = flat_map round_lines (take k out.given) in
     let whole : take (length maps) (flat_map records (drop k out.given)) ≡ maps =
     ap (take (length maps)) part.maps_is ∙ take_at maps part.maps_behind (length maps) refl in
     let taken : take n (flat_map round_lines (drop k out.given) ++ lines out.last) ≡ take n report =
     ap (take n) part.report_is ∙ take-append-le n report part.report_behind (omega (arith, below)) in
-    subst (Stopped out (grown a c) (grown d f)) (sym is) (stopped out k (length maps) n (grown a c) (grown d f) (record {
-      rounds = so_far.rounds;
-      maps = subst (Appends a c) (sym (ap (λ bs. flat_map records (take k out.given) ++ bs) whole))
-          (appends_join a b c (flat_map records (take k out.given)) maps so_far.maps wrote);
-      maps_short = omega (arith, ap length part.maps_is, length-append maps part.maps_behind);
-      report = subst (Appends d f) (sym (ap (λ bs. before ++ bs) taken)) (appends_join d e f before (take n report) so_far.report front);
-      report_short = omega (arith, below, ap length part.report_is, length-append report part.report_behind);
-    }) (part.short_report n below))
+    let records_of : flat_map records (take k out.given) ++ maps ≡ flat_map records (take (done + 1) out.given) =
+    sym part.maps_whole ∙ ap (λ j. flat_map records (take (j + 1) out.given)) (sym is) in (
+      subst (Appends a c) records_of (appends_join a b c (flat_map records (take k out.given)) maps so_far.maps wrote),
+      subst (Stopped out (grown a c) (grown d f)) (sym is) (stopped out k (length maps) n (grown a c) (grown d f) (record {
+        rounds = so_far.rounds;
+        maps = subst (Appends a c) (sym (ap (λ bs. flat_map records (take k out.given) ++ bs) whole))
+            (appends_join a b c (flat_map records (take k out.given)) maps so_far.maps wrote);
+        maps_short = omega (arith, ap length part.maps_is, length-append maps part.maps_behind);
+        report = subst (Appends d f) (sym (ap (λ bs. before ++ bs) taken)) (appends_join d e f before (take n report) so_far.report front);
+        report_short = omega (arith, below, ap length part.report_is, length-append report part.report_behind);
+      }) (part.short_report n below)),
+    )
 sent-stops out counts k a b c d e f maps report (StoppedBy Memory done) so_far part never = absurd never
 sent-stops out counts k a b c d e f maps report (Refused why) so_far part never = absurd never
 
@@ -230,6 +239,8 @@ round-part out k maps report texts =
       report_is = ap (λ given. flat_map round_lines given ++ lines out.last) texts.here ∙
           append_assoc (round_lines texts.round) (flat_map round_lines texts.rest) (lines out.last) ∙
           ap (λ bs. bs ++ (flat_map round_lines texts.rest ++ lines out.last)) (sym texts.report_is);
+      maps_whole = next-part records out.given k texts.round texts.rest texts.here
+          ∙ ap (λ bs. flat_map records (take k out.given) ++ bs) (sym texts.maps_are);
       short_maps = λ n below next more at.
           inl (omega (arith, below, ap length texts.maps_are, ap (λ g. length (records g)) (same next more at)));
       short_report = λ n below next more at.
@@ -249,6 +260,11 @@ last-part out k maps report texts = record {
   maps_is = ap (flat_map records) texts.none ∙ ap (λ bs. bs ++ []) (sym texts.maps_are);
   report_is = ap (λ given. flat_map round_lines given ++ lines out.last) texts.none ∙ sym texts.report_is ∙
       sym (append-nil report);
+  maps_whole =
+      ap (flat_map records) (take_all (k + 1) out.given (omega (arith, ended k out.given texts.none))
+      ∙ sym (take_all k out.given (ended k out.given texts.none)))
+      ∙ sym (append-nil (flat_map records (take k out.given)))
+      ∙ ap (λ bs. flat_map records (take k out.given) ++ bs) (sym texts.maps_are);
   short_maps = λ n below. absurd (omega (arith, below, ap length texts.maps_are));
   short_report = λ n below next more at. let no : [] ≡ next ∷ more = sym texts.none ∙ at in cc;
 }
@@ -317,9 +333,12 @@ pub flush-stops : (out : Output) (counts : Counts) (k : ℕ) (a b c d e f : Opti
     k ≡ length out.given → TookAll out (grown a b) (grown d e) →
     Flushed k (grown b c) (grown e f) (Err end) → Ran out counts (grown a c) (grown d f) (Err end)
 flush-stops out counts k a b c d e f (StoppedBy Maps done) all took (maps, report, is) =
-    stops-after out done (grown a c) (grown d f) (is ∙ all) (flushed-all out a b c d e f took maps report)
+    let whole : TookAll out (grown a c) (grown d f) = flushed-all out a b c d e f took maps report in
+    (inr (is ∙ all, whole.1), stops-after out done (grown a c) (grown d f) (is ∙ all) whole)
 flush-stops out counts k a b c d e f (StoppedBy Report done) all took (maps, report, is) =
-    stops-after out done (grown a c) (grown d f) (is ∙ all) (flushed-all out a b c d e f took maps report)
+    let whole : TookAll out (grown a c) (grown d f) = flushed-all out a b c d e f took maps report in
+    let every : take (done + 1) out.given ≡ out.given = take_all (done + 1) out.given (omega (arith, is, all)) in
+    (subst (Appends a c) (sym (ap (flat_map records) every)) whole.0, stops-after out done (grown a c) (grown d f) (is ∙ all) whole)
 flush-stops out counts k a b c d e f (StoppedBy Memory done) all took never = absurd never
 flush-stops out counts k a b c d e f (Refused why) all took never = absurd never
 

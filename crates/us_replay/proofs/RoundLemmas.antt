@@ -1,13 +1,17 @@
 -- Rounds: what is outstanding was asked for, and what a round gives is never nothing.
-use Rattle.std.proofs.Common.{◌≡◌, ℕ, ◌+◌, ◌-◌, ◌<◌, ◌≤◌, List, [], ◌∷◌, length, map, flat_map, sum, refl, ◌∙◌, arith, length-append}
+use Rattle.std.proofs.Common.{◌≡◌, ℕ, ◌+◌, ◌-◌, ◌<◌, ◌≤◌, List, [], ◌∷◌, length, map, flat_map, sum, refl, ◌∙◌, inl, inr, arith, length-append}
 use Rattle.std.specs.List.{zip}
+use Rattle.std.proofs.lemmas.Bool.{cases_Bool}
 use Rattle.std.proofs.lemmas.List.{length-map}
 use Rattle.us_codec.specs.Bodies.{MapBody, spelling}
 use Rattle.us_codec.specs.MapsFiles.{Piece, record_bytes, maps_file}
 use Rattle.us_flows.specs.Tables.{Tables}
+use Rattle.us_flows.specs.Clusters as words
+use Rattle.us_flows.specs.Clusters.{Word, words_of}
 use Rattle.us_calendar.specs.Calendars as calendars
+use Rattle.us_split.specs.Asking.{requested_by, requested_in, with_cut}
 use Rattle.us_channel.specs.Placements.{PlacedClaim, credits}
-use Rattle.us_round.specs.Rounds.{State, all_grants, begun, build_planned, builds_of, fills_of, is_of_cluster, uncredited, opening, round_from, round_of, round_plan, with_cut}
+use Rattle.us_round.specs.Rounds.{State, all_grants, begun, build_planned, builds_of, fills_of, is_of_cluster, uncredited, opening, round_from, round_of, round_plan}
 use Rattle.us_output.specs.Outputs.{RoundOut, built_map, out_of}
 use Rattle.us_output.specs.Files.{records}
 use Rattle.us_replay.proofs.SumLemmas.{sum-cons, sum-added}
@@ -24,6 +28,25 @@ sum-left grants number (x ∷ xs) =
       sum-left grants (number + 1) xs,
     )
 
+-- no more is requested of a cut than it has
+requested-few : (word : Word) (bytes : ℕ) → requested_by word bytes ≤ bytes
+requested-few word bytes = elim (cases_Bool (words.is_of_cluster word)) [
+  | inl own ↦ rw own (omega arith)
+  | inr other ↦ rw other (omega arith)
+]
+
+sum-requested : (words : List Word) (cut : List ℕ) → sum (requested_in words cut) ≤ sum cut
+sum-requested [] cut = omega arith
+sum-requested (word ∷ words) [] = omega arith
+sum-requested (word ∷ words) (bytes ∷ cut) =
+    omega (
+      arith,
+      sum-cons (requested_by word bytes) (requested_in words cut),
+      sum-cons bytes cut,
+      requested-few word bytes,
+      sum-requested words cut,
+    )
+
 -- a round, as far as the next one needs it
 pub record After (state : State) (cut : List ℕ) (next : State) : Type 0 where
   pub tables_are : next.tables ≡ state.tables
@@ -33,12 +56,17 @@ pub record After (state : State) (cut : List ℕ) (next : State) : Type 0 where
 pub after : (state : State) (cut : List ℕ) → After state cut (round_of state cut).state
 unfolding round_of round_from
 after state cut =
-    let now : List ℕ = with_cut state.outstanding cut in
+    let now : List ℕ = with_cut state.tables state.outstanding cut in
     let grants : List PlacedClaim = all_grants (builds_of (begun state cut)) in
     record {
       tables_are = refl;
       round_is = refl;
-      asked_for = omega (arith, sum-left grants 0 now, sum-added state.outstanding cut);
+      asked_for = omega (
+        arith,
+        sum-left grants 0 now,
+        sum-added state.outstanding (requested_in (words_of state.tables) cut),
+        sum-requested (words_of state.tables) cut,
+      );
     }
 
 -- Records.
@@ -61,8 +89,9 @@ length-builds : (state : State) (cut : List ℕ) → HasCalendars state →
 unfolding builds_of
 length-builds state cut has =
     length-map (fills_of (begun state cut)) (build_planned (round_plan (begun state cut))) ∙
-    length-map (zip state.tables.channels state.calendars) _ ∙
-    length-pairs state.tables.channels state.calendars has
+    length-map (zip state.tables.channels (map (calendars.heard_by cut) state.calendars)) _ ∙
+    length-pairs state.tables.channels (map (calendars.heard_by cut) state.calendars)
+    (length-map state.calendars (calendars.heard_by cut) ∙ has)
 
 pub next-calendars : (state : State) (cut : List ℕ) → HasCalendars state → HasCalendars (round_of state cut).state
 unfolding round_of round_from

@@ -9,7 +9,7 @@ use Rattle.us_requests.specs.Traces.{max_ask, max_asked, max_asks}
 
 -- Chunks.
 
--- asks of so many clusters, none of them too great
+-- asks of so many words, none of them too great
 abbrev pub AreAsks : ℕ → List Ask → Type 0
 AreAsks clusters asks = AllByRecursion (λ ask. (ask.cluster < clusters) × (ask.bytes ≤ max_ask)) asks
 
@@ -38,7 +38,7 @@ pub record CanGather (intake : Intake) (seat : Seat) (asks : List Ask) : Type 0 
   pub room : spent seat + chunk_quota asks < seat.quota
   pub asks_are : AreAsks intake.clusters asks
 
--- the seat that submitted these asks
+-- the seat that submitted these asks, by one addition each
 abbrev pub seat_after_asks : Seat → List Ask → Seat
 seat_after_asks seat asks = record {
   intake = seat.intake;
@@ -46,6 +46,8 @@ seat_after_asks seat asks = record {
   takes = seat.takes;
   submitted = added seat.submitted (cut_of seat.intake.clusters asks);
   taken = seat.taken;
+  additions = seat.additions + length asks;
+  swapped = seat.swapped;
 }
 
 -- a seat and others made one
@@ -64,7 +66,7 @@ pub record Collector : Type 0 where
   pub cut : List ℕ
   pub collected : ℕ
 
--- before round 0 of so many clusters
+-- before round 0 of so many words
 abbrev pub opening_collector : ℕ → Collector
 opening_collector clusters = record { cut = replicate clusters 0; collected = 0 }
 
@@ -96,6 +98,6 @@ AreSettled clusters intake None = ⊤
 AreSettled clusters None (Some seat) = ⊥
 AreSettled clusters (Some intake) (Some seat) = IsSettled clusters intake seat
 
--- an intake that was opened for so many clusters, and its seat
+-- an intake that was opened for so many words, and its seat
 abbrev pub AreOpen : ℕ → Option Intake → Option Seat → Type 0
 AreOpen clusters intake seat = AreSettled clusters intake seat × (collected_by seat ≡ 0)

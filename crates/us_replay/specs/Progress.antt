@@ -5,7 +5,7 @@ use Rattle.std.specs.List.{AllByRecursion}
 use Rattle.std.specs.Io.KnownBytes.{Keeps}
 use Rattle.us_slots.specs.Devices.{AppendsFront}
 use Rattle.us_flows.specs.Tables.{Tables, max_run_ticks, rounds_fit}
-use Rattle.us_flows.specs.Clusters.{clusters_of}
+use Rattle.us_flows.specs.Clusters.{words_of}
 use Rattle.us_flows.specs.Lawful.{AreTables}
 use Rattle.us_flows.specs.Ranges.{max_channels}
 use Rattle.us_holes.specs.Boards.{max_assignments}
@@ -47,7 +47,7 @@ RanTrace t v to_maps to_report result =
 -- a trace that can be run with a configuration
 pub record IsTraceFor (t : Tables) (v : TraceAsks) : Type 0 where
   pub fits : rounds_fit t v.rounds ≡ true
-  pub known : (round : ℕ) → AllByRecursion (λ ask. ask.cluster < length (clusters_of t)) (asks_in v round)
+  pub known : (round : ℕ) → AllByRecursion (λ ask. ask.cluster < length (words_of t)) (asks_in v round)
 
 -- what a writer had and has
 abbrev pub grown : Option (List ℕ) → Option (List ℕ) → Growth
@@ -61,7 +61,7 @@ pub record EndsAs (t : Tables) (v : TraceAsks) (to_maps to_report : Growth) (res
 -- Progress.
 
 pub record Progress : Type 0 where
-  -- what each cluster newly asks for
+  -- what is newly told by each word
   pub cut : List ℕ
   -- the bytes that were collected so far
   pub collected : ℕ
@@ -72,7 +72,7 @@ pub record Progress : Type 0 where
   pub granted : ℕ
   pub missed : ℕ
 
--- before round 0 of so many clusters
+-- before round 0 of so many words
 abbrev pub opening_progress : ℕ → Progress
 opening_progress clusters =
     record { cut = replicate clusters 0; collected = 0; to_maps = []; to_report = []; granted = 0; missed = 0 }
@@ -144,7 +144,7 @@ summary_after p rounds counts = record {
 -- a round can be made of a state and these asks
 pub record CanMake (state : State) (p : Progress) (asks : List Ask) : Type 0 where
   pub lawful : AreTables state.tables
-  pub clusters : length p.cut ≡ length (clusters_of state.tables)
+  pub clusters : length p.cut ≡ length (words_of state.tables)
   pub asks_are : AreAsks (length p.cut) asks
   pub few_asks : length asks ≤ max_asks
   pub room : p.collected + chunk_quota asks ≤ max_asked
@@ -174,7 +174,7 @@ pub record Along (t : Tables) (v : TraceAsks) (k : ℕ) (state : State) (p : Pro
   pub lawful : AreTables t
   pub tables : state.tables ≡ t
   pub round : state.round ≡ k
-  pub clusters : length p.cut ≡ length (clusters_of t)
+  pub clusters : length p.cut ≡ length (words_of t)
   pub asked : sum state.outstanding ≤ asked_before v k
   pub collected : p.collected ≤ max_ask * asks_before v k
   -- what is still to be scheduled

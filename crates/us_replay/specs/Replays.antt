@@ -1,5 +1,5 @@
 -- Replays (ours): what a run writes, and what stands after it ended early.
-use Rattle.std.specs.Prelude.{◌≡◌, ℕ, ◌≤◌, List, [], length, map, flat_map, count_by, take, true, false, Option, None, Result, Ok, Err}
+use Rattle.std.specs.Prelude.{◌≡◌, ℕ, ◌+◌, ◌≤◌, ◌⊎◌, List, [], length, map, flat_map, count_by, take, true, false, Option, None, Result, Ok, Err}
 use Rattle.std.specs.List.{AllByRecursion, range_with_len}
 use Rattle.std.specs.Io.KnownBytes.{Appends}
 use Rattle.us_flows.specs.Tables.{Tables, rounds_fit}
@@ -16,11 +16,11 @@ use Rattle.us_lawful.specs.Output.{Output, output_of, maps_text, report_text, al
 use Rattle.us_lawful.specs.Texts.{AreLawful}
 use Rattle.us_replay.specs.declared.summaries.Summary.{Summary}
 use Rattle.us_replay.specs.declared.faults.RunFault.{RunFault}
-use Rattle.us_replay.specs.Endings.{Refusal, Rounds, Workers, Trace, Memory, Ending, Refused, StoppedBy, ended, rounds_done}
+use Rattle.us_replay.specs.Endings.{Refusal, Rounds, Workers, Trace, Maps, Report, Memory, Ending, Refused, StoppedBy, ended, rounds_done}
 
 -- What a run gives.
 
--- the cuts of all rounds: what each cluster asks for by the rows of the trace
+-- the cuts of all rounds: what is told by each word in the rows of the trace
 unfoldable pub cuts_of : Tables → ℕ → List Request → List (List ℕ)
 cuts_of t rounds requests = map (cut_at t rounds requests) (range_with_len 0 rounds)
 
@@ -72,13 +72,25 @@ pub record TookRounds (out : Output) (done : ℕ) (to_maps to_report : Growth) :
   pub maps : Took to_maps (flat_map records (take done out.given))
   pub report : Took to_report (flat_map round_lines (take done out.given))
 
+-- The records of a round are written before its lines, and both before those of the next round. So where the maps file's
+-- writer stops the run, the report's took the lines of the rounds before, or behind all rounds the whole report;
+abbrev pub TookLines : Output → ℕ → Growth → Type 0
+TookLines out done g =
+    Took g (flat_map round_lines (take done out.given)) ⊎ ((done ≡ length out.given) × Took g (report_text out))
+
+-- and where the report's writer does, the maps file's took the records of the round that it was at too, if it was at one
+abbrev pub TookRecords : Output → ℕ → Growth → Type 0
+TookRecords out done g = Took g (flat_map records (take (done + 1) out.given))
+
 -- the run of a trace that was read: what stands at its end. Memory is wanting between rounds alone
 abbrev pub Ran : Output → Counts → Growth → Growth → Result Summary Ending → Type 0
 Ran out counts to_maps to_report (Ok summary) =
     Took to_maps (maps_text out) × Took to_report (report_text out) × (summary ≡ summary_of out counts)
 Ran out counts to_maps to_report (Err (StoppedBy Memory done)) =
     TookRounds out done to_maps to_report × Stopped out to_maps to_report done
-Ran out counts to_maps to_report (Err (StoppedBy writer done)) = Stopped out to_maps to_report done
+Ran out counts to_maps to_report (Err (StoppedBy Maps done)) = TookLines out done to_report × Stopped out to_maps to_report done
+Ran out counts to_maps to_report (Err (StoppedBy Report done)) =
+    TookRecords out done to_maps × Stopped out to_maps to_report done
 Ran out counts to_maps to_report (Err (Refused why)) = ⊥
 
 -- Limits.

@@ -9,8 +9,9 @@ use Rattle.us_flows.specs.Tables.{Tables}
 use Rattle.us_flows.specs.Clusters.{lookup}
 use Rattle.us_requests.specs.Asks.{Request, round_of_tick, counts_of}
 use Rattle.us_requests.specs.Cuts.{cut, cut_at}
+use Rattle.us_requests.specs.Texts.{kind_of}
 use Rattle.us_calendar.specs.Entries.{entries}
-use Rattle.us_calendar.specs.Occurrences.{due}
+use Rattle.us_calendar.specs.Occurrences.{due, coming}
 use Rattle.us_calendar.specs.Settling.{settle_each, settle_entry}
 use Rattle.us_calendar.specs.Calendars.{run_entries}
 use Rattle.us_round.specs.RoundExamples.{base, base_channel, base_flow, round_steps, tables, without_flows}
@@ -20,13 +21,13 @@ use Rattle.us_replay.specs.Replays.{cuts_of, summary_of}
 
 -- what these computations unfold
 unfoldable all_steps : ⊤
-unfolding round_steps entries due settle_each settle_entry run_entries lookup round_of_tick counts_of cut cut_at cuts_of
+unfolding round_steps entries due coming settle_each settle_entry run_entries lookup round_of_tick counts_of cut cut_at cuts_of
     output_of summary_of lines digits element_bytes front spelling record_bytes records maps_file
 all_steps = tt
 
 -- at a tick this SID asks for so many units on channel 1
 abbrev request : ℕ → ℕ → ℕ → Request
-request tick sid units = record { tick = tick; channel = 1; sid = sid; units = units }
+request tick sid units = record { tick = tick; channel = 1; sid = sid; units = units; kind = kind_of 0 }
 
 -- so many rounds for these requests
 abbrev run : Tables → ℕ → List Request → Output

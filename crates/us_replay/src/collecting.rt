@@ -23,8 +23,8 @@ pub(crate) use submitting::{Chunk, Submitting, submit_all};
 /// The bytes that may be submitted in a run: one more than 1,000,000 rows can name.
 const RUN_QUOTA: u64 = 1_048_560_000_001;
 
-/// What collects the requests of a run, and the cut of the last round. With no cluster it has no seat, and after want
-/// of memory none any more. Between rounds the seat is whole, and all that was submitted was taken.
+/// What collects the requests and marks of a run, and the cut of the last round. With no word it has no seat, and after
+/// want of memory none any more. Between rounds the seat is whole, and all that was submitted was taken.
 #[derive(Drop)]
 pub(crate) struct Collector<'a> {
     cut: Vec<u64>,
@@ -44,7 +44,7 @@ impl<'a> Model for Collector<'a> {
 }
 
 impl<'a> Collector<'a> {
-    /// Before round 0 of so many clusters, with what was opened for them.
+    /// Before round 0 of so many words, with what was opened for them.
     pub(crate) fn open(
         alloc: Global,
         clusters: usize,
@@ -75,7 +75,7 @@ impl<'a> Collector<'a> {
             self.cut.fill(0);
             return Ok(());
         }
-        // With no cluster nobody asks, so where there is no seat, memory was wanting before.
+        // With no word nobody asks, so where there is no seat, memory was wanting before.
         let (Some(intake), Some(seat)) = (self.intake, self.seat.take()) else {
             return Err(NoMemory);
         };
@@ -85,7 +85,7 @@ impl<'a> Collector<'a> {
         Ok(())
     }
 
-    /// What each cluster newly asks for.
+    /// What is newly told by each word.
     pub(crate) fn cut(&self) -> &[u64]
         ensures { result.now ≡ self.now.cut }
     {
@@ -105,7 +105,7 @@ fn cut_words(intake: &Intake, seat: &mut Seat, cut: &mut Vec<u64>)
     intake.cut(seat, cut);
 }
 
-/// Opens what the requests of so many clusters are collected with: none where there are no clusters.
+/// Opens what the requests and marks of so many words are collected with: none where there are no words.
 pub(crate) fn open_intake(
     alloc: Global,
     clusters: usize,
@@ -120,7 +120,7 @@ pub(crate) fn open_intake(
     Ok((Some(intake), Some(seat)))
 }
 
-/// Opens an intake for the clusters that there are, and its first seat.
+/// Opens an intake for the words that there are, and its first seat.
 fn open_for(alloc: Global, clusters: u16) -> Result<(Intake, Seat), NoMemory>
     requires some { 1 ≤ clusters }
     requires most { clusters ≤ MAX_CLUSTERS }

@@ -1,7 +1,7 @@
 ghost use Rattle.std.specs.Prelude.{◌≡◌, ◌↔◌, ◌⊎◌, ℕ, ◌<◌, ◌≤◌, true, false, length, option_map, Err, IfOk, OnOk, IfErr};
 ghost use Rattle.std.specs.List.{AllByRecursion};
 ghost use Rattle.us_flows.specs.Tables;
-ghost use Rattle.us_flows.specs.Clusters.{clusters_of};
+ghost use Rattle.us_flows.specs.Clusters.{words_of};
 ghost use Rattle.us_flows.specs.Lawful.{AreTables};
 ghost use Rattle.us_slots.specs.Devices.{TookAtMost};
 ghost use Rattle.us_requests.specs.Readings.{max_bytes};
@@ -37,9 +37,9 @@ mod sending;
 /// there are, and which comes when, changes nothing of what is written.
 ///
 /// The number of rounds is looked at first (RU1), then that of workers (RU2), and then the trace is read to its end
-/// (RU3). Each round writes its records and then its lines, the channels in table order; after the last one the F lines
-/// and the U line are written, and both writers are flushed, the maps file's first. The first fault ends the replay
-/// (RU4, RU5, RU6).
+/// (RU3). Each round writes its records and then its lines, the channels in table order; after the last one the F lines,
+/// the A lines and the U line are written, and both writers are flushed, the maps file's first. The first fault ends the
+/// replay (RU4, RU5, RU6).
 pub fn replay<H: Threads + Sync, R: Source, W1: Sink, W2: Sink, G: Gate + Sync>(
     threads: &H,
     alloc: Global,
@@ -70,6 +70,7 @@ pub fn replay<H: Threads + Sync, R: Source, W1: Sink, W2: Sink, G: Gate + Sync>(
         TookAtMost max_bytes (R.remaining trace.old) (R.remaining trace.new) }
     ensures maps_failed { W1.failed maps.new ≡ blames_maps result }
     ensures report_failed { W2.failed report.new ≡ blames_report result }
+    ensures flushed { OnOk result ((W1.flushed maps.new ≡ true) × (W2.flushed report.new ≡ true)) }
 {
     check_run(config, rounds, workers)?;
     let trace = Trace::read(alloc, trace, config, rounds)?;
@@ -114,6 +115,7 @@ fn run<H: Threads + Sync, W1: Sink, W2: Sink, G: Gate + Sync>(
     ensures lawful { OnOk result (IsLawfulOutput config.now trace.now) }
     ensures maps_failed { W1.failed maps.new ≡ blames_maps result }
     ensures report_failed { W2.failed report.new ≡ blames_report result }
+    ensures flushed { OnOk result ((W1.flushed maps.new ≡ true) × (W2.flushed report.new ≡ true)) }
 {
     let Ok((intake, seat)) = open_intake(alloc, config.clusters()) else {
         return Err(RunFault::NoMemory(0));
@@ -139,13 +141,14 @@ fn run_with<'a, H: Threads + Sync, W1: Sink, W2: Sink, G: Gate + Sync>(
 ) -> Result<Summary, RunFault>
     requires trace { IsTraceFor config.now trace.now }
     requires workers { 1 ≤ workers }
-    requires open { AreOpen (length (clusters_of config.now)) (option_map (λ i. i.now) intake) seat }
+    requires open { AreOpen (length (words_of config.now)) (option_map (λ i. i.now) intake) seat }
     requires maps_ready { W1.failed maps.old ≡ false }
     requires report_ready { W2.failed report.old ≡ false }
     ensures ends { EndsAs config.now trace.now (grown (W1.contents maps.old) (W1.contents maps.new))
         (grown (W2.contents report.old) (W2.contents report.new)) result }
     ensures maps_failed { W1.failed maps.new ≡ blames_maps result }
     ensures report_failed { W2.failed report.new ≡ blames_report result }
+    ensures flushed { OnOk result ((W1.flushed maps.new ≡ true) × (W2.flushed report.new ≡ true)) }
 {
     let Ok(mut progress) = Progress::opening(alloc, config.clusters(), intake, seat) else {
         return Err(RunFault::NoMemory(0));
@@ -181,13 +184,14 @@ fn run_kept<'a, H: Threads + Sync, W1: Sink, W2: Sink, G: Gate + Sync>(
 ) -> Result<Summary, RunFault>
     requires lawful { AreTables config.now }
     requires trace { IsTraceFor config.now trace.now }
-    requires opening { progress ≡ opening_progress (length (clusters_of config.now)) }
+    requires opening { progress ≡ opening_progress (length (words_of config.now)) }
     requires maps_ready { W1.failed maps.old ≡ false }
     requires report_ready { W2.failed report.old ≡ false }
     ensures ends { EndsAs config.now trace.now (grown (W1.contents maps.old) (W1.contents maps.new))
         (grown (W2.contents report.old) (W2.contents report.new)) result }
     ensures maps_failed { W1.failed maps.new ≡ blames_maps result }
     ensures report_failed { W2.failed report.new ≡ blames_report result }
+    ensures flushed { OnOk result ((W1.flushed maps.new ≡ true) × (W2.flushed report.new ≡ true)) }
 {
     let Ok((kept, posts)) = open_crew(alloc, config, gate, workers) else {
         return Err(RunFault::NoMemory(0));
@@ -218,7 +222,7 @@ fn run_by<'a, D: Doers<'a>, W1: Sink, W2: Sink>(
     report: &mut W2,
 ) -> Result<Summary, RunFault>
     requires trace { IsTraceFor config.now trace.now }
-    requires opening { progress.old ≡ opening_progress (length (clusters_of config.now)) }
+    requires opening { progress.old ≡ opening_progress (length (words_of config.now)) }
     requires doers { D.knows doers.old config.now }
     requires maps_ready { W1.failed maps.old ≡ false }
     requires report_ready { W2.failed report.old ≡ false }
@@ -226,6 +230,7 @@ fn run_by<'a, D: Doers<'a>, W1: Sink, W2: Sink>(
         (grown (W2.contents report.old) (W2.contents report.new)) result }
     ensures maps_failed { W1.failed maps.new ≡ blames_maps result }
     ensures report_failed { W2.failed report.new ≡ blames_report result }
+    ensures flushed { OnOk result ((W1.flushed maps.new ≡ true) × (W2.flushed report.new ≡ true)) }
 {
     let Ok(state) = opened(alloc, config) else {
         return Err(RunFault::NoMemory(0));
@@ -267,6 +272,7 @@ fn run_on<'a, D: Doers<'a>, W1: Sink, W2: Sink>(
         (grown (W2.contents report.old) (W2.contents report.new)) result }
     ensures maps_failed { W1.failed maps.new ≡ blames_maps result }
     ensures report_failed { W2.failed report.new ≡ blames_report result }
+    ensures flushed { OnOk result ((W1.flushed maps.new ≡ true) × (W2.flushed report.new ≡ true)) }
 {
     let mut state = state;
     let rounds = trace.rounds();

@@ -9,7 +9,7 @@ pub struct Summary {
     pub missed: u64,
     /// Rows of the trace whose SID no flow has on their channel.
     pub unknown: u32,
-    /// Rows of the trace whose flow is of a type that makes no requests.
+    /// Rows of the trace that are requests of a flow that makes none, or marks of one that doesn't tell its activity.
     pub not_requestable: u32,
     /// Rows of the trace whose round isn't below the number of rounds.
     pub late: u32,

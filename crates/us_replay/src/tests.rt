@@ -3,7 +3,10 @@
 
 mod base;
 mod devices;
+mod entries;
 mod faults;
 mod gates;
+mod long;
+mod memory;
 mod replays;
 mod workers;

@@ -7,12 +7,14 @@ use Rattle.std.proofs.lemmas.Bool.{cases_eq, eq-eqb, ne_eqb}
 use Rattle.std.proofs.lemmas.List.Sums.{sum_by-cons}
 use Rattle.std.proofs.lemmas.List.Sorted.{sum_by-IsPermutation}
 use Rattle.us_flows.specs.Tables.{Tables}
-use Rattle.us_flows.specs.Clusters.{clusters_of, lookup}
+use Rattle.us_flows.specs.Clusters.{words_of, lookup}
 use Rattle.us_flows.specs.declared.found.Found.{Found}
 use Rattle.us_flows.specs.declared.found.Found.TheVariants as found
 use Rattle.us_requests.specs.declared.asks.Ask.{Ask}
+use Rattle.us_requests.specs.declared.requests.Kind.{Kind}
+use Rattle.us_requests.specs.declared.requests.Kind.TheVariants as kinds
 use Rattle.us_requests.specs.Asks.{Request, round_of_tick, unit_of, ask_of, ask_for, asks_at, is_unknown, is_not_requestable, is_late, counts_of}
-use Rattle.us_requests.specs.Cuts.{is_cluster, is_ask, cut, cut_at, asked, cut_of, OrderIsNothing}
+use Rattle.us_requests.specs.Cuts.{asks_by, bytes_by, is_ask, cut, cut_at, asked, cut_of, OrderIsNothing}
 
 -- a sum over those that pass a test is one over all, of nothing where they don't
 sum-kept : {A : Type 0} → (f : A → ℕ) (passes : Bool) (x : A) (xs : List A) →
@@ -30,67 +32,87 @@ sum-filtered f p (x ∷ xs) = omega (
   sum-filtered f p xs,
 )
 
--- what a request asks for of a cluster in a round
+-- what a request asks for by a word in a round
 abbrev bytes_at : Tables → ℕ → ℕ → ℕ → Request → ℕ
-bytes_at t rounds round cluster q =
-    if is_ask t rounds round cluster q then q.units * unit_of (slice_get (clusters_of t) cluster) else 0
+bytes_at t rounds round word q =
+    if is_ask t rounds round word q then bytes_by t word q.kind q.units else 0
 
-cut-sum : (t : Tables) (rounds : ℕ) (requests : List Request) (round cluster : ℕ) →
-    cut t rounds requests round cluster ≡ sum_by (bytes_at t rounds round cluster) requests
+cut-sum : (t : Tables) (rounds : ℕ) (requests : List Request) (round word : ℕ) →
+    cut t rounds requests round word ≡ sum_by (bytes_at t rounds round word) requests
 unfolding cut
-cut-sum t rounds requests round cluster =
-    sum-filtered (λ q. q.units * unit_of (slice_get (clusters_of t) cluster)) (is_ask t rounds round cluster) requests
+cut-sum t rounds requests round word =
+    sum-filtered (λ q. bytes_by t word q.kind q.units) (is_ask t rounds round word) requests
 
--- the bytes of a cluster in an ask
+-- the bytes by a word in an ask
 abbrev bytes_in : ℕ → Option Ask → ℕ
-bytes_in cluster None = 0
-bytes_in cluster (Some ask) = if ask.cluster == cluster then ask.bytes else 0
+bytes_in word None = 0
+bytes_in word (Some ask) = if ask.cluster == word then ask.bytes else 0
 
-asked-cons : (o : Option Ask) (asks : List Ask) (cluster : ℕ) →
-    asked (cons_option o asks) cluster ≡ bytes_in cluster o + asked asks cluster
-asked-cons None asks cluster = omega arith
-asked-cons (Some ask) asks cluster =
-    sum-kept (λ ask. ask.bytes) (ask.cluster == cluster) ask (filter (λ ask. ask.cluster == cluster) asks)
+asked-cons : (o : Option Ask) (asks : List Ask) (word : ℕ) →
+    asked (cons_option o asks) word ≡ bytes_in word o + asked asks word
+asked-cons None asks word = omega arith
+asked-cons (Some ask) asks word =
+    sum-kept (λ ask. ask.bytes) (ask.cluster == word) ask (filter (λ ask. ask.cluster == word) asks)
 
 -- a request's ask names what the request asks for
-ask-bytes : (t : Tables) (b : Bool) (units cluster : ℕ) (o : Option Found) →
-    bytes_in cluster (if b then ask_for t units o else None) ≡
-    (if is_cluster cluster o && b then units * unit_of (slice_get (clusters_of t) cluster) else 0)
-ask-bytes t true units cluster None = refl
-ask-bytes t false units cluster None = refl
-ask-bytes t true units cluster (Some found.Unsolicited) = refl
-ask-bytes t false units cluster (Some found.Unsolicited) = refl
-ask-bytes t true units cluster (Some (found.Cluster number)) = elim (cases_eq number cluster) [
-  | inl same ↦ rw (eq-eqb number cluster same) (ap (λ n. units * unit_of (slice_get (clusters_of t) n)) same)
-  | inr other ↦ rw (ne_eqb number cluster other) refl
+
+no-ask-bytes : (b : Bool) (bytes word : ℕ) →
+    bytes_in word (if b then None else None) ≡ (if false && b then bytes else 0)
+no-ask-bytes true bytes word = refl
+no-ask-bytes false bytes word = refl
+
+-- an ask by the word of a number, of bytes that depend on the word
+one-ask-bytes : (b : Bool) (bytes : ℕ → ℕ) (number word : ℕ) →
+    bytes_in word (if b then Some (record { cluster = number; bytes = bytes number }) else None) ≡
+    (if (number == word) && b then bytes word else 0)
+one-ask-bytes true bytes number word = elim (cases_eq number word) [
+  | inl same ↦ rw (eq-eqb number word same) (ap bytes same)
+  | inr other ↦ rw (ne_eqb number word other) refl
 ]
-ask-bytes t false units cluster (Some (found.Cluster number)) = elim (cases_eq number cluster) [
-  | inl same ↦ rw (eq-eqb number cluster same) refl
-  | inr other ↦ rw (ne_eqb number cluster other) refl
+one-ask-bytes false bytes number word = elim (cases_eq number word) [
+  | inl same ↦ rw (eq-eqb number word same) refl
+  | inr other ↦ rw (ne_eqb number word other) refl
 ]
 
-asked-sum : (t : Tables) (rounds : ℕ) (requests : List Request) (round cluster : ℕ) →
-    asked (asks_at t rounds requests round) cluster ≡ sum_by (bytes_at t rounds round cluster) requests
+ask-bytes : (t : Tables) (b : Bool) (kind : Kind) (units word : ℕ) (o : Option Found) →
+    bytes_in word (if b then ask_for t kind units o else None) ≡
+    (if asks_by word kind o && b then bytes_by t word kind units else 0)
+ask-bytes t b kinds.Request units word None = no-ask-bytes b (bytes_by t word kinds.Request units) word
+ask-bytes t b kinds.Request units word (Some found.Unsolicited) = no-ask-bytes b (bytes_by t word kinds.Request units) word
+ask-bytes t b kinds.Request units word (Some (found.Activity number)) = no-ask-bytes b (bytes_by t word kinds.Request units) word
+ask-bytes t b kinds.Request units word (Some (found.Cluster number)) =
+    one-ask-bytes b (λ n. units * unit_of (slice_get (words_of t) n)) number word
+ask-bytes t b kinds.Silent units word None = no-ask-bytes b (bytes_by t word kinds.Silent units) word
+ask-bytes t b kinds.Silent units word (Some found.Unsolicited) = no-ask-bytes b (bytes_by t word kinds.Silent units) word
+ask-bytes t b kinds.Silent units word (Some (found.Activity number)) = one-ask-bytes b (λ n. 1) number word
+ask-bytes t b kinds.Silent units word (Some (found.Cluster number)) = no-ask-bytes b (bytes_by t word kinds.Silent units) word
+ask-bytes t b kinds.Active units word None = no-ask-bytes b (bytes_by t word kinds.Active units) word
+ask-bytes t b kinds.Active units word (Some found.Unsolicited) = no-ask-bytes b (bytes_by t word kinds.Active units) word
+ask-bytes t b kinds.Active units word (Some (found.Activity number)) = one-ask-bytes b (λ n. 1) (number + 1) word
+ask-bytes t b kinds.Active units word (Some (found.Cluster number)) = no-ask-bytes b (bytes_by t word kinds.Active units) word
+
+asked-sum : (t : Tables) (rounds : ℕ) (requests : List Request) (round word : ℕ) →
+    asked (asks_at t rounds requests round) word ≡ sum_by (bytes_at t rounds round word) requests
 unfolding asks_at
-asked-sum t rounds [] round cluster = refl
-asked-sum t rounds (q ∷ rest) round cluster =
+asked-sum t rounds [] round word = refl
+asked-sum t rounds (q ∷ rest) round word =
     let here : Bool = (round_of_tick t q.tick == round) && nat_lt round rounds in
     omega (
       arith,
-      asked-cons (if here then ask_of t q else None) (asks_at t rounds rest round) cluster,
-      ask-bytes t here q.units cluster (lookup t q.channel q.sid),
-      asked-sum t rounds rest round cluster,
-      sum_by-cons (bytes_at t rounds round cluster) q rest,
+      asked-cons (if here then ask_of t q else None) (asks_at t rounds rest round) word,
+      ask-bytes t here q.kind q.units word (lookup t q.channel q.sid),
+      asked-sum t rounds rest round word,
+      sum_by-cons (bytes_at t rounds round word) q rest,
     )
 
 -- the asks of a round add up to its cut
 pub sums-are-cut : (t : Tables) (rounds : ℕ) (requests : List Request) (round : ℕ) →
-    cut_of (length (clusters_of t)) (asks_at t rounds requests round) ≡ cut_at t rounds requests round
+    cut_of (length (words_of t)) (asks_at t rounds requests round) ≡ cut_at t rounds requests round
 unfolding cut_of cut_at
 sums-are-cut t rounds requests round =
     let same : asked (asks_at t rounds requests round) ≡ cut t rounds requests round =
-    λ i cluster. (asked-sum t rounds requests round cluster ∙ sym (cut-sum t rounds requests round cluster)) i in
-    ap (λ f. map f (range_with_len 0 (length (clusters_of t)))) same
+    λ i word. (asked-sum t rounds requests round word ∙ sym (cut-sum t rounds requests round word)) i in
+    ap (λ f. map f (range_with_len 0 (length (words_of t)))) same
 
 -- requests in another order
 same-counts : (t : Tables) (rounds : ℕ) (requests others : List Request) → IsPermutation requests others →
@@ -110,10 +132,10 @@ same-cut : (t : Tables) (rounds : ℕ) (requests others : List Request) (round :
 unfolding cut_at
 same-cut t rounds requests others round order =
     let same : cut t rounds others round ≡ cut t rounds requests round =
-    λ i cluster. (cut-sum t rounds others round cluster ∙
-    sum_by-IsPermutation (bytes_at t rounds round cluster) requests others order ∙
-    sym (cut-sum t rounds requests round cluster)) i in
-    ap (λ f. map f (range_with_len 0 (length (clusters_of t)))) same
+    λ i word. (cut-sum t rounds others round word ∙
+    sum_by-IsPermutation (bytes_at t rounds round word) requests others order ∙
+    sym (cut-sum t rounds requests round word)) i in
+    ap (λ f. map f (range_with_len 0 (length (words_of t)))) same
 
 pub any-order : OrderIsNothing
 any-order t rounds requests others order =

@@ -1,6 +1,6 @@
 -- Filing requests: what is left gives what all of them give.
 use Rattle.std.proofs.Common.{◌≡◌, ℕ, ◌+◌, ◌<◌, ◌≤◌, Bool, true, false, List, [], ◌∷◌, ◌++◌, length, map, Option, Some, None, refl, ap, sym, ◌∙◌, append_assoc, append-nil, inl, inr, arith}
-use Rattle.std.specs.Prelude.{count_by, filter, ◌==◌, ◌&&◌, nat_lt, if◌then◌else◌, cond}
+use Rattle.std.specs.Prelude.{is_none, count_by, filter, ◌==◌, ◌&&◌, nat_lt, if◌then◌else◌, cond}
 use Rattle.std.specs.List.{cons_option}
 use Rattle.std.proofs.lemmas.Bool.{cases_eq, lt-ltb, le-ltb, eq-eqb, ne_eqb, and_left, and_right}
 use Rattle.std.proofs.lemmas.List.{length-append, map-append}
@@ -8,8 +8,10 @@ use Rattle.std.proofs.lemmas.List.Elements.{filter-append}
 use Rattle.std.proofs.lemmas.List.Sums.{sum_by-cons}
 use Rattle.us_flows.specs.Tables.{Tables}
 use Rattle.us_flows.specs.Clusters.{lookup}
-use Rattle.us_flows.specs.declared.found.Found.TheVariants as found
+use Rattle.us_flows.specs.declared.found.Found.{Found}
 use Rattle.us_requests.specs.declared.asks.Ask.{Ask}
+use Rattle.us_requests.specs.declared.requests.Kind.{Kind}
+use Rattle.us_requests.specs.declared.requests.Kind.TheVariants as kinds
 use Rattle.us_requests.specs.declared.asks.Counts.{Counts}
 use Rattle.us_requests.specs.declared.outcomes.Outcome.{Outcome}
 use Rattle.us_requests.specs.declared.outcomes.Outcome.TheVariants as outcome
@@ -80,46 +82,59 @@ one-ask own round rounds placed asks same within = elim (cases_eq own round) [
   | inr other ↦ rw (ne_eqb own round other, ne_eqb placed.round round (λ here. other (same ∙ here))) refl
 ]
 
+-- what was not found asks for nothing
+nothing-found : (t : Tables) (kind : Kind) (units : ℕ) → ask_for t kind units None ≡ None
+nothing-found t kinds.Request units = refl
+nothing-found t kinds.Silent units = refl
+nothing-found t kinds.Active units = refl
+
+-- so that of what asks something was found
+known : (t : Tables) (kind : Kind) (units : ℕ) (o : Option Found) (ask : Ask) → ask_for t kind units o ≡ Some ask →
+    is_none o ≡ false
+known t kind units None ask made = let no : None ≡ Some ask = sym (nothing-found t kind units) ∙ made in cc
+known t kind units (Some what) ask made = refl
+
 adds : (t : Tables) (rounds : ℕ) (q : Request) (o : Outcome) → Becomes t rounds q o → Adds t rounds q o
 unfolding asks_at of_round
 adds t rounds q outcome.Unknown is = record {
   asks = λ rest round. no-ask ((round_of_tick t q.tick == round) && nat_lt round rounds) (ask_of t q)
-      (asks_at t rounds rest round) (ap (λ o. ask_for t q.units o) is);
+      (asks_at t rounds rest round) (ap (λ o. ask_for t q.kind q.units o) is ∙ nothing-found t q.kind q.units);
   unknown = λ counts. rw is refl;
   not_requestable = λ counts. rw is (omega arith);
   late = λ counts. rw is (omega arith);
 }
-adds t rounds q outcome.NotRequestable is = record {
-  asks = λ rest round. no-ask ((round_of_tick t q.tick == round) && nat_lt round rounds) (ask_of t q)
-      (asks_at t rounds rest round) (ap (λ o. ask_for t q.units o) is);
-  unknown = λ counts. rw is (omega arith);
-  not_requestable = λ counts. rw is refl;
-  late = λ counts. rw is (omega arith);
-}
-adds t rounds q outcome.Late is = record {
-  asks = λ rest round. ap (λ b. cons_option (if b then ask_of t q else None) (asks_at t rounds rest round))
-      (past-end (round_of_tick t q.tick) round rounds is.2);
-  unknown = λ counts. rw is.1 (omega arith);
-  not_requestable = λ counts. rw is.1 (omega arith);
-  late = λ counts. rw (is.1, le-ltb (round_of_tick t q.tick) rounds is.2) refl;
-}
+adds t rounds q outcome.NotRequestable is =
+    let what : Option Found = Some is.0 in
+    let none : ask_of t q ≡ None = ap (λ o. ask_for t q.kind q.units o) is.1 ∙ is.2 in
+    record {
+      asks = λ rest round. no-ask ((round_of_tick t q.tick == round) && nat_lt round rounds) (ask_of t q)
+          (asks_at t rounds rest round) none;
+      unknown = λ counts. rw is.1 (omega arith);
+      not_requestable = λ counts. rw (is.1, is.2) refl;
+      late = λ counts. rw (is.1, is.2) (omega arith);
+    }
+adds t rounds q outcome.Late is =
+    let there : is_unknown t q ≡ false = known t q.kind q.units (lookup t q.channel q.sid) is.0 is.1 in record {
+      asks = λ rest round. ap (λ b. cons_option (if b then ask_of t q else None) (asks_at t rounds rest round))
+          (past-end (round_of_tick t q.tick) round rounds is.2);
+      unknown = λ counts. rw there (omega arith);
+      not_requestable = λ counts. rw (there, is.1) (omega arith);
+      late = λ counts. rw (there, is.1, le-ltb (round_of_tick t q.tick) rounds is.2) refl;
+    }
 adds t rounds q (outcome.Asked placed) is =
-    let whose : lookup t q.channel q.sid ≡ Some (found.Cluster placed.ask.cluster) = is.0 in
-    let when : round_of_tick t q.tick ≡ placed.round = is.2 in
-    let made : ask_of t q ≡ Some placed.ask =
-    ap (λ o. ask_for t q.units o) whose ∙
-    ap (λ n. Some (record { cluster = placed.ask.cluster; bytes = n })) (sym is.1) in
+    let when : round_of_tick t q.tick ≡ placed.round = is.1 in
+    let there : is_unknown t q ≡ false = known t q.kind q.units (lookup t q.channel q.sid) placed.ask is.0 in
     let early : nat_lt (round_of_tick t q.tick) rounds ≡ true =
-    lt-ltb (round_of_tick t q.tick) rounds (omega (arith, when, is.3)) in
+    lt-ltb (round_of_tick t q.tick) rounds (omega (arith, when, is.2)) in
     record {
       asks = λ rest round.
           ap (λ o. cons_option (if (round_of_tick t q.tick == round) && nat_lt round rounds then o else None)
-          (asks_at t rounds rest round)) made ∙
+          (asks_at t rounds rest round)) is.0 ∙
           one-ask (round_of_tick t q.tick) round rounds placed (asks_at t rounds rest round) when
-          (omega (arith, when, is.3));
-      unknown = λ counts. rw whose (omega arith);
-      not_requestable = λ counts. rw whose (omega arith);
-      late = λ counts. rw (whose, early) (omega arith);
+          (omega (arith, when, is.2));
+      unknown = λ counts. rw there (omega arith);
+      not_requestable = λ counts. rw (there, is.0) (omega arith);
+      late = λ counts. rw (there, is.0, early) (omega arith);
     }
 
 -- an ask or nothing

@@ -1,5 +1,5 @@
--- The asks of sound requests: what they add up to, that none is late, and that each names a cluster that is there.
-use Rattle.std.proofs.Common.{◌≡◌, ℕ, zero, suc, ◌+◌, ◌*◌, ◌<◌, ◌≤◌, Bool, true, false, List, [], ◌∷◌, ◌++◌, length, Option, Some, None, refl, ap, ◌∙◌, inl, inr, arith}
+-- The asks of sound requests: what they add up to, that none is late, and that each names a word that is there.
+use Rattle.std.proofs.Common.{◌≡◌, ℕ, zero, suc, ◌+◌, ◌*◌, ◌<◌, ◌≤◌, Bool, true, false, List, [], ◌∷◌, ◌++◌, length, map, Option, Some, None, refl, ap, ◌∙◌, inl, inr, arith}
 use Rattle.std.specs.Prelude.{sum_by, ◌==◌, ◌&&◌, nat_lt, if◌then◌else◌, slice_get, flat_map}
 use Rattle.std.specs.List.{cons_option, AllByRecursion, range_with_len}
 use Rattle.std.proofs.lemmas.Bool.{cases_eq, eq-eqb, ne_eqb, le-ltb, and_right}
@@ -7,15 +7,20 @@ use Rattle.std.proofs.lemmas.List.Sums.{sum_by-cons, sum_by-le-sum_by}
 use Rattle.std.proofs.lemmas.Nat.{mul-le}
 use Rattle.std.proofs.Math.Nat.{mul-suc}
 use Rattle.us_flows.specs.Tables.{Tables, FlowTable}
-use Rattle.us_flows.specs.Clusters.{Cluster, clusters_of, clusters_from, lookup, makes_requests, requesting}
+use Rattle.us_flows.specs.Clusters.{Word, Requests, clusters_from, flow_of_word, lookup, words_in, words_of}
+use Rattle.us_flows.specs.declared.flows.SchedulingType.{SchedulingType}
+use Rattle.us_flows.specs.declared.flows.SchedulingType.TheVariants.{BestEffort, NonRealTimePolling, RealTimePolling, ActivityDetection, UnsolicitedGrant}
+use Rattle.us_flows.proofs.WordLemmas.{words_by}
 use Rattle.us_flows.specs.Lawful.{AreTables, IsFlow}
 use Rattle.us_flows.specs.declared.found.Found.{Found}
 use Rattle.us_flows.specs.declared.found.Found.TheVariants as found
 use Rattle.us_requests.specs.declared.asks.Ask.{Ask}
+use Rattle.us_requests.specs.declared.requests.Kind.{Kind}
+use Rattle.us_requests.specs.declared.requests.Kind.TheVariants as kinds
 use Rattle.us_requests.specs.Asks.{Request, round_of_tick, unit_of, ask_of, ask_for, asks_at}
 use Rattle.us_requests.specs.Traces.{TraceAsks, asks_in, asks_before, asked_before, max_asks, max_ask, max_asked}
 use Rattle.us_requests.specs.Readings.{AreRequests}
-use Rattle.us_requests.proofs.AskLemmas.{cluster-within}
+use Rattle.us_requests.proofs.AskLemmas.{activity-within, cluster-within}
 
 -- the ask of a request in a round
 abbrev ask_in : Tables → ℕ → ℕ → Request → Option Ask
@@ -32,64 +37,77 @@ none-late t rounds (q ∷ rest) round late =
     ap (λ b. cons_option (if b then ask_of t q else None) (asks_at t rounds rest round)) no ∙
     none-late t rounds rest round late
 
--- each names a cluster that is there
+-- each names a word that is there
 abbrev IsKnown : Tables → Option Ask → Type 0
 IsKnown t None = Unit {0}
-IsKnown t (Some ask) = ask.cluster < length (clusters_of t)
+IsKnown t (Some ask) = ask.cluster < length (words_of t)
 
-known-ask : (t : Tables) (q : Request) (o : Option Found) → lookup t q.channel q.sid ≡ o →
-    IsKnown t (ask_for t q.units o)
-known-ask t q None is = tt
-known-ask t q (Some found.Unsolicited) is = tt
-known-ask t q (Some (found.Cluster number)) is = cluster-within t q.channel q.sid number is
+known-ask : (t : Tables) (channel sid units : ℕ) (kind : Kind) (o : Option Found) → lookup t channel sid ≡ o →
+    IsKnown t (ask_for t kind units o)
+known-ask t channel sid units kinds.Request None is = tt
+known-ask t channel sid units kinds.Request (Some found.Unsolicited) is = tt
+known-ask t channel sid units kinds.Request (Some (found.Activity number)) is = tt
+known-ask t channel sid units kinds.Request (Some (found.Cluster number)) is = cluster-within t channel sid number is
+known-ask t channel sid units kinds.Silent None is = tt
+known-ask t channel sid units kinds.Silent (Some found.Unsolicited) is = tt
+known-ask t channel sid units kinds.Silent (Some (found.Activity number)) is =
+    let within = activity-within t channel sid number is in omega (arith, within)
+known-ask t channel sid units kinds.Silent (Some (found.Cluster number)) is = tt
+known-ask t channel sid units kinds.Active None is = tt
+known-ask t channel sid units kinds.Active (Some found.Unsolicited) is = tt
+known-ask t channel sid units kinds.Active (Some (found.Activity number)) is = activity-within t channel sid number is
+known-ask t channel sid units kinds.Active (Some (found.Cluster number)) is = tt
 
 known-in : (t : Tables) (b : Bool) (o : Option Ask) → IsKnown t o → IsKnown t (if b then o else None)
 known-in t true o is = is
 known-in t false o is = tt
 
 known-cons : (t : Tables) (o : Option Ask) (asks : List Ask) → IsKnown t o →
-    AllByRecursion (λ ask. ask.cluster < length (clusters_of t)) asks →
-    AllByRecursion (λ ask. ask.cluster < length (clusters_of t)) (cons_option o asks)
+    AllByRecursion (λ ask. ask.cluster < length (words_of t)) asks →
+    AllByRecursion (λ ask. ask.cluster < length (words_of t)) (cons_option o asks)
 known-cons t None asks first rest = rest
 known-cons t (Some ask) asks first rest = (first, rest)
 
 pub all-known : (t : Tables) (rounds : ℕ) (requests : List Request) (round : ℕ) →
-    AllByRecursion (λ ask. ask.cluster < length (clusters_of t)) (asks_at t rounds requests round)
+    AllByRecursion (λ ask. ask.cluster < length (words_of t)) (asks_at t rounds requests round)
 unfolding asks_at
 all-known t rounds [] round = tt
 all-known t rounds (q ∷ rest) round =
     known-cons t (ask_in t rounds round q) (asks_at t rounds rest round)
-    (known-in t ((round_of_tick t q.tick == round) && nat_lt round rounds) (ask_of t q) (known-ask t q
-    (lookup t q.channel q.sid) refl))
+    (known-in t ((round_of_tick t q.tick == round) && nat_lt round rounds) (ask_of t q)
+    (known-ask t q.channel q.sid q.units q.kind (lookup t q.channel q.sid) refl))
     (all-known t rounds rest round)
 
 -- a unit has at most 16 bytes
-abbrev IsSmall : Cluster → Type 0
-IsSmall cluster = cluster.flow.unit ≤ 16
+abbrev IsSmall : Word → Type 0
+IsSmall word = (flow_of_word word).unit ≤ 16
 
-small-from : (flow : FlowTable) (list : ℕ) (sids : List (List ℕ)) (more : List Cluster) → flow.unit ≤ 16 →
-    AllByRecursion IsSmall more → AllByRecursion IsSmall (clusters_from flow list sids ++ more)
+small-from : (flow : FlowTable) (list : ℕ) (sids : List (List ℕ)) (more : List Word) → flow.unit ≤ 16 →
+    AllByRecursion IsSmall more → AllByRecursion IsSmall (map Requests (clusters_from flow list sids) ++ more)
 small-from flow list [] more small rest = rest
 small-from flow list (first ∷ sids) more small rest = (small, small-from flow (list + 1) sids more small rest)
 
--- whether or not a flow makes requests
-small-flow : (flow : FlowTable) (makes : Bool) (more : List Cluster) → flow.unit ≤ 16 →
+-- whatever the words of a flow are
+small-flow : (flow : FlowTable) (kind : SchedulingType) (more : List Word) → flow.unit ≤ 16 →
     AllByRecursion IsSmall more →
-    AllByRecursion IsSmall ((if makes then clusters_from flow 0 flow.clusters else []) ++ more)
-small-flow flow true more small rest = small-from flow 0 flow.clusters more small rest
-small-flow flow false more small rest = rest
+    AllByRecursion IsSmall (words_by flow kind (clusters_from flow 0 flow.clusters) ++ more)
+small-flow flow BestEffort more small rest = small-from flow 0 flow.clusters more small rest
+small-flow flow NonRealTimePolling more small rest = small-from flow 0 flow.clusters more small rest
+small-flow flow RealTimePolling more small rest = small-from flow 0 flow.clusters more small rest
+small-flow flow ActivityDetection more small rest = (small, (small, rest))
+small-flow flow UnsolicitedGrant more small rest = rest
 
 small-all : (t : Tables) (flows : List FlowTable) → AllByRecursion (IsFlow t) flows →
-    AllByRecursion IsSmall (flat_map requesting flows)
+    AllByRecursion IsSmall (flat_map words_in flows)
 small-all t [] are = tt
 small-all t (flow ∷ flows) are =
-    small-flow flow (makes_requests flow.kind) (flat_map requesting flows) are.0.unit (small-all t flows are.1)
+    small-flow flow flow.kind (flat_map words_in flows) are.0.unit (small-all t flows are.1)
 
-small-unit : (clusters : List Cluster) (number : ℕ) → AllByRecursion IsSmall clusters →
-    unit_of (slice_get clusters number) ≤ 16
+small-unit : (words : List Word) (number : ℕ) → AllByRecursion IsSmall words →
+    unit_of (slice_get words number) ≤ 16
 small-unit [] number are = omega arith
-small-unit (cluster ∷ rest) zero are = are.0
-small-unit (cluster ∷ rest) (suc number) are = small-unit rest number are.1
+small-unit (word ∷ rest) zero are = are.0
+small-unit (word ∷ rest) (suc number) are = small-unit rest number are.1
 
 -- what an ask weighs, where there is one
 abbrev weigh : (Ask → ℕ) → Option Ask → ℕ
@@ -99,14 +117,23 @@ weigh weight (Some ask) = weight ask
 abbrev bytes_of : Option Ask → ℕ
 bytes_of o = weigh (λ ask. ask.bytes) o
 
-small-ask : (t : Tables) (units : ℕ) (o : Option Found) → AreTables t → units ≤ 65535 →
-    bytes_of (ask_for t units o) ≤ max_ask
-small-ask t units None are small = omega arith
-small-ask t units (Some found.Unsolicited) are small = omega arith
-small-ask t units (Some (found.Cluster number)) are small =
-    let unit : unit_of (slice_get (clusters_of t) number) ≤ 16 = small-unit (clusters_of t) number
+small-ask : (t : Tables) (kind : Kind) (units : ℕ) (o : Option Found) → AreTables t → units ≤ 65535 →
+    bytes_of (ask_for t kind units o) ≤ max_ask
+small-ask t kinds.Request units None are small = omega arith
+small-ask t kinds.Request units (Some found.Unsolicited) are small = omega arith
+small-ask t kinds.Request units (Some (found.Activity number)) are small = omega arith
+small-ask t kinds.Request units (Some (found.Cluster number)) are small =
+    let unit : unit_of (slice_get (words_of t) number) ≤ 16 = small-unit (words_of t) number
     (small-all t t.flows are.flows) in
-    omega (arith, mul-le units (unit_of (slice_get (clusters_of t) number)) 65535 16 small unit)
+    omega (arith, mul-le units (unit_of (slice_get (words_of t) number)) 65535 16 small unit)
+small-ask t kinds.Silent units None are small = omega arith
+small-ask t kinds.Silent units (Some found.Unsolicited) are small = omega arith
+small-ask t kinds.Silent units (Some (found.Activity number)) are small = omega arith
+small-ask t kinds.Silent units (Some (found.Cluster number)) are small = omega arith
+small-ask t kinds.Active units None are small = omega arith
+small-ask t kinds.Active units (Some found.Unsolicited) are small = omega arith
+small-ask t kinds.Active units (Some (found.Activity number)) are small = omega arith
+small-ask t kinds.Active units (Some (found.Cluster number)) are small = omega arith
 
 -- so each ask of a round is small
 small-in-round : (t : Tables) (b : Bool) (o : Option Ask) (asks : List Ask) → bytes_of o ≤ max_ask →
@@ -123,7 +150,7 @@ unfolding asks_at
 all-small t rounds [] round are small = tt
 all-small t rounds (q ∷ rest) round are small =
     small-in-round t ((round_of_tick t q.tick == round) && nat_lt round rounds) (ask_of t q) (asks_at t rounds rest round)
-    (small-ask t q.units (lookup t q.channel q.sid) are small.0) (all-small t rounds rest round are small.1)
+    (small-ask t q.kind q.units (lookup t q.channel q.sid) are small.0) (all-small t rounds rest round are small.1)
 
 -- Sums over all rounds, of any weight that asks have.
 
@@ -231,7 +258,7 @@ pub asked-of : (t : Tables) (rounds : ℕ) (requests : List Request) (trace : Tr
 asked-of t rounds requests trace are sound asks n = omega (
   arith,
   weighed-of t rounds requests trace (λ ask. ask.bytes) max_ask
-      (λ q small. small-ask t q.units (lookup t q.channel q.sid) are small) sound asks n,
+      (λ q small. small-ask t q.kind q.units (lookup t q.channel q.sid) are small) sound asks n,
   sound.few,
 )
 

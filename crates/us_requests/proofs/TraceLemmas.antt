@@ -1,7 +1,7 @@
 -- Traces: filed requests, ordered by round, are the trace of these requests.
 use Rattle.std.proofs.Common.{◌≡◌, ℕ, List, length, refl, ap, ◌∙◌}
 use Rattle.us_flows.specs.Tables.{Tables}
-use Rattle.us_flows.specs.Clusters.{clusters_of}
+use Rattle.us_flows.specs.Clusters.{words_of}
 use Rattle.us_flows.specs.Lawful.{AreTables}
 use Rattle.us_requests.specs.declared.asks.Counts.{Counts}
 use Rattle.us_requests.specs.declared.placed.PlacedAsk.{PlacedAsk}
@@ -47,5 +47,5 @@ trace-of t rounds requests filed asks counts is same =
       asks = all;
       counts = is.counted;
       known = λ round. rw (all round) (all-known t rounds requests round);
-      cut = λ round. ap (cut_of (length (clusters_of t))) (all round) ∙ sums-are-cut t rounds requests round;
+      cut = λ round. ap (cut_of (length (words_of t))) (all round) ∙ sums-are-cut t rounds requests round;
     }

@@ -1,5 +1,6 @@
 -- The code of a fault (ours): its text begins with it, and the record that a fault names.
-use Rattle.std.specs.Prelude.{ℕ, List, codes, Option, Some, None}
+use Rattle.std.specs.Prelude.{ℕ, List, ◌++◌, codes, Option, Some, None}
+use Rattle.std.specs.Fmt.{decimal}
 use Rattle.us_requests.specs.declared.faults.TraceFault.{TraceFault}
 use Rattle.us_requests.specs.declared.faults.TraceFault.TheVariants as fault
 
@@ -16,3 +17,21 @@ abbrev pub record_of : TraceFault → Option ℕ
 record_of (fault.Fields number) = Some number
 record_of (fault.Number number) = Some number
 record_of _ = None
+
+-- what is said of it
+abbrev pub sentence_of : TraceFault → List ℕ
+sentence_of fault.Header = codes "the first record is not the header"
+sentence_of (fault.Fields number) = codes "has not as many fields as the header"
+sentence_of (fault.Number number) = codes "has a field that is no number in its range, or is a mark with units"
+sentence_of fault.TooLarge = codes "the trace is too large"
+sentence_of fault.Read = codes "the source failed"
+sentence_of fault.NoMemory = codes "out of memory"
+
+-- behind the record that it names
+abbrev pub behind_record : Option ℕ → List ℕ → List ℕ
+behind_record (Some number) said = codes "record " ++ decimal number ++ codes " " ++ said
+behind_record None said = said
+
+-- what a fault is told as
+abbrev pub fault_text : TraceFault → List ℕ
+fault_text f = code_of f ++ codes ": " ++ behind_record (record_of f) (sentence_of f)

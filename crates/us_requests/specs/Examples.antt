@@ -4,13 +4,15 @@ use Rattle.csv.specs.Machine.{next_record}
 use Rattle.csv.specs.Reading.{records_from, strip_bom}
 use Rattle.us_flows.specs.Tables.{Tables, FlowTable}
 use Rattle.us_flows.specs.Clusters.{lookup}
-use Rattle.us_flows.specs.declared.flows.SchedulingType.TheVariants.{BestEffort, NonRealTimePolling, UnsolicitedGrant}
+use Rattle.us_flows.specs.declared.flows.SchedulingType.TheVariants.{BestEffort, NonRealTimePolling, ActivityDetection, UnsolicitedGrant}
 use Rattle.us_requests.specs.declared.asks.Ask.{Ask}
+use Rattle.us_requests.specs.declared.requests.Kind.{Kind}
+use Rattle.us_requests.specs.declared.requests.Kind.TheVariants as kinds
 use Rattle.us_requests.specs.declared.faults.TraceFault.TheVariants.{Header, Fields, Number, TooLarge}
 use Rattle.us_requests.specs.Asks.{Request, round_of_tick, asks_at, counts_of}
 use Rattle.us_requests.specs.Cuts.{cut, cut_at, cut_of}
 use Rattle.us_requests.specs.Records.{Record}
-use Rattle.us_requests.specs.Texts.{is_header, number_from, are_numbers, record_checks, first_of, fault_from, records_fault, trace_fault, requests_of}
+use Rattle.us_requests.specs.Texts.{is_header, number_from, are_four_numbers, record_checks, first_of, fault_from, records_fault, trace_fault, requests_of}
 
 -- one cluster with a unit of 4 bytes, and two of a flow of two channels with a unit of 16
 abbrev narrow : FlowTable
@@ -58,7 +60,8 @@ unfolding round_of_tick
 last_tick = refl
 
 abbrev asks_for : ℕ → ℕ → ℕ → ℕ → Request
-asks_for tick channel sid units = record { tick = tick; channel = channel; sid = sid; units = units }
+asks_for tick channel sid units =
+    record { tick = tick; channel = channel; sid = sid; units = units; kind = kinds.Request }
 
 abbrev requests : List Request
 requests =
@@ -140,6 +143,40 @@ each_count :
 unfolding counts_of round_of_tick lookup
 each_count = refl
 
+-- a flow that tells its activity between two of two clusters each: marks are asks of one byte of its words, of which the
+-- first is for silent, and of no other flow
+abbrev talking : FlowTable
+talking = record granted { id = 5; kind = ActivityDetection }
+
+abbrev talking_tables : Tables
+talking_tables = record tables { flows = wide ∷ talking ∷ polled ∷ record granted { id = 6; clusters = (701 ∷ []) ∷ [] } ∷ [] }
+
+abbrev marks : ℕ → ℕ → ℕ → Kind → Request
+marks tick channel sid kind = record { tick = tick; channel = channel; sid = sid; units = 0; kind = kind }
+
+abbrev talk : List Request
+talk =
+    marks 0 1 700 kinds.Silent ∷ marks 161 1 700 kinds.Active ∷ marks 1 1 700 kinds.Active ∷ asks_for 0 1 600 5
+    ∷ asks_for 0 1 700 0 ∷ marks 0 1 600 kinds.Silent ∷ marks 0 1 701 kinds.Active ∷ asks_for 0 1 701 9
+    ∷ marks 0 2 700 kinds.Silent ∷ marks 1000000 1 700 kinds.Silent ∷ []
+
+marks_are_asks :
+    (asks_at talking_tables 3 talk 1 ≡ bytes_of 2 1 ∷ bytes_of 3 1 ∷ bytes_of 4 10 ∷ []) ×
+    (asks_at talking_tables 3 talk 2 ≡ bytes_of 3 1 ∷ [])
+unfolding asks_at round_of_tick lookup
+marks_are_asks = (refl, refl)
+
+-- not requestable: a request of such a flow, marks of a flow that requests or has grants at all times, and its request
+marks_counted : counts_of talking_tables 3 talk ≡ record { unknown = 1; not_requestable = 4; late = 1 }
+unfolding counts_of round_of_tick lookup
+marks_counted = refl
+
+marks_cut :
+    (cut_at talking_tables 3 talk 1 ≡ 0 ∷ 0 ∷ 1 ∷ 1 ∷ 10 ∷ 0 ∷ []) ×
+    (cut_at talking_tables 3 talk 2 ≡ 0 ∷ 0 ∷ 0 ∷ 1 ∷ 0 ∷ 0 ∷ [])
+unfolding cut_at cut round_of_tick lookup
+marks_cut = (refl, refl)
+
 -- the same by sums over the requests, for three clusters, in rounds 1 and 2, and behind the end
 cuts : (cut_at tables 3 requests 1 ∷ cut_at tables 3 requests 2 ∷ cut_at tables 2 requests 2 ∷ []) ≡
     (40 ∷ 0 ∷ 32 ∷ []) ∷ (12 ∷ 0 ∷ 0 ∷ []) ∷ (0 ∷ 0 ∷ 0 ∷ []) ∷ []
@@ -172,10 +209,15 @@ sums = refl
 abbrev header : Record
 header = codes "tick" ∷ codes "channel" ∷ codes "sid" ∷ codes "units" ∷ []
 
+-- and that of the second version
+abbrev with_kind : Record
+with_kind = codes "tick" ∷ codes "channel" ∷ codes "sid" ∷ codes "units" ∷ codes "kind" ∷ []
+
 headers : (is_header header ∷ is_header (codes "tick" ∷ codes "channel" ∷ codes "sid" ∷ []) ∷
     is_header (codes "tick" ∷ codes "channel" ∷ codes "units" ∷ codes "sid" ∷ []) ∷
-    is_header (codes "tick" ∷ codes "channel" ∷ codes "sid" ∷ codes "units" ∷ codes "kind" ∷ []) ∷ []) ≡
-    true ∷ false ∷ false ∷ false ∷ []
+    is_header with_kind ∷ is_header (codes "tick" ∷ codes "channel" ∷ codes "sid" ∷ codes "units" ∷ codes "unit" ∷ []) ∷
+    is_header (codes "tick" ∷ codes "channel" ∷ codes "sid" ∷ codes "units" ∷ codes "kind" ∷ codes "kind" ∷ []) ∷ []) ≡
+    true ∷ false ∷ false ∷ true ∷ false ∷ false ∷ []
 unfolding is_header
 headers = refl
 
@@ -184,31 +226,52 @@ fields_of sid units = codes "0" ∷ codes "1" ∷ sid ∷ units ∷ []
 
 -- the greatest values, and one over; eleven digits; no digit; no four fields; the last record, and one more
 record_faults :
-    (first_of (record_checks 2 (codes "4294967295" ∷ codes "255" ∷ codes "16383" ∷ codes "65535" ∷ [])) ∷
-    first_of (record_checks 2 (fields_of (codes "291") (codes "65536"))) ∷
-    first_of (record_checks 3 (fields_of (codes "16384") (codes "1"))) ∷
-    first_of (record_checks 2 (fields_of (codes "291") (codes "00000000001"))) ∷
-    first_of (record_checks 2 (fields_of (codes "291") (codes "x"))) ∷
-    first_of (record_checks 2 (fields_of (codes "291") [])) ∷
-    first_of (record_checks 4 (codes "x" ∷ codes "1" ∷ [])) ∷
-    first_of (record_checks 2 (codes "0" ∷ codes "1" ∷ codes "291" ∷ codes "1" ∷ [] ∷ [])) ∷
-    first_of (record_checks 2 (codes "4294967296" ∷ codes "1" ∷ codes "291" ∷ codes "1" ∷ [])) ∷
-    first_of (record_checks 2 (codes "0" ∷ codes "256" ∷ codes "291" ∷ codes "1" ∷ [])) ∷
-    first_of (record_checks 2 header) ∷
-    first_of (record_checks 1000001 (fields_of (codes "291") (codes "1"))) ∷
-    first_of (record_checks 1000002 (codes "x" ∷ codes "1" ∷ [])) ∷ []) ≡
+    (first_of (record_checks 4 2 (codes "4294967295" ∷ codes "255" ∷ codes "16383" ∷ codes "65535" ∷ [])) ∷
+    first_of (record_checks 4 2 (fields_of (codes "291") (codes "65536"))) ∷
+    first_of (record_checks 4 3 (fields_of (codes "16384") (codes "1"))) ∷
+    first_of (record_checks 4 2 (fields_of (codes "291") (codes "00000000001"))) ∷
+    first_of (record_checks 4 2 (fields_of (codes "291") (codes "x"))) ∷
+    first_of (record_checks 4 2 (fields_of (codes "291") [])) ∷
+    first_of (record_checks 4 4 (codes "x" ∷ codes "1" ∷ [])) ∷
+    first_of (record_checks 4 2 (codes "0" ∷ codes "1" ∷ codes "291" ∷ codes "1" ∷ [] ∷ [])) ∷
+    first_of (record_checks 4 2 (codes "4294967296" ∷ codes "1" ∷ codes "291" ∷ codes "1" ∷ [])) ∷
+    first_of (record_checks 4 2 (codes "0" ∷ codes "256" ∷ codes "291" ∷ codes "1" ∷ [])) ∷
+    first_of (record_checks 4 2 header) ∷
+    first_of (record_checks 4 1000001 (fields_of (codes "291") (codes "1"))) ∷
+    first_of (record_checks 4 1000002 (codes "x" ∷ codes "1" ∷ [])) ∷ []) ≡
     None ∷ Some (Number 2) ∷ Some (Number 3) ∷ Some (Number 2) ∷ Some (Number 2) ∷ Some (Number 2) ∷ Some (Fields 4) ∷
     Some (Fields 2) ∷ Some (Number 2) ∷ Some (Number 2) ∷ Some (Number 2) ∷
     None ∷ Some TooLarge ∷ []
-unfolding are_numbers number_from
+unfolding are_four_numbers number_from
 record_faults = refl
+
+-- behind five columns: kinds 0, 1 and 2, a kind with a leading zero, a kind that is none, a mark with units, no kind, and
+-- four fields; behind four columns five fields
+abbrev of_kind : List ℕ → List ℕ → Record
+of_kind units kind = codes "0" ∷ codes "1" ∷ codes "291" ∷ units ∷ kind ∷ []
+
+kind_faults :
+    (first_of (record_checks 5 2 (of_kind (codes "7") (codes "0"))) ∷
+    first_of (record_checks 5 2 (of_kind (codes "0") (codes "1"))) ∷
+    first_of (record_checks 5 2 (of_kind (codes "0") (codes "2"))) ∷
+    first_of (record_checks 5 2 (of_kind (codes "0") (codes "01"))) ∷
+    first_of (record_checks 5 2 (of_kind (codes "0") (codes "3"))) ∷
+    first_of (record_checks 5 2 (of_kind (codes "1") (codes "1"))) ∷
+    first_of (record_checks 5 2 (of_kind (codes "1") (codes "2"))) ∷
+    first_of (record_checks 5 2 (of_kind (codes "0") [])) ∷
+    first_of (record_checks 5 2 (fields_of (codes "291") (codes "1"))) ∷
+    first_of (record_checks 4 2 (of_kind (codes "0") (codes "0"))) ∷ []) ≡
+    None ∷ None ∷ None ∷ None ∷ Some (Number 2) ∷ Some (Number 2) ∷ Some (Number 2) ∷ Some (Number 2) ∷
+    Some (Fields 2) ∷ Some (Fields 2) ∷ []
+unfolding are_four_numbers number_from
+kind_faults = refl
 
 -- the first faulty record decides
 first_faults :
     (records_fault [] ∷ records_fault (header ∷ []) ∷ records_fault ((codes "x" ∷ []) ∷ fields_of [] [] ∷ []) ∷
     records_fault (header ∷ fields_of (codes "1") (codes "1") ∷ fields_of [] [] ∷ (codes "x" ∷ []) ∷ []) ∷ []) ≡
     Some Header ∷ None ∷ Some Header ∷ Some (Number 3) ∷ []
-unfolding fault_from is_header are_numbers number_from
+unfolding fault_from is_header are_four_numbers number_from
 first_faults = refl
 
 -- texts
@@ -216,12 +279,24 @@ abbrev sound : List ℕ
 sound = codes "tick,channel,sid,units\r\n\r\n161,1,291,3\n0,1,\"00291\",10"
 
 no_fault : trace_fault sound ≡ None
-unfolding trace_fault strip_bom records_from next_record fault_from is_header are_numbers number_from
+unfolding trace_fault strip_bom records_from next_record fault_from is_header are_four_numbers number_from
 no_fault = refl
 
 told : requests_of sound ≡ asks_for 161 1 291 3 ∷ asks_for 0 1 291 10 ∷ []
 unfolding requests_of strip_bom records_from next_record number_from
 told = refl
+
+-- in the second version
+abbrev marked : List ℕ
+marked = codes "tick,channel,sid,units,kind\n0,1,291,10,0\n0,1,700,0,1\n400,1,700,0,02\n"
+
+no_fault_of_kinds : trace_fault marked ≡ None
+unfolding trace_fault strip_bom records_from next_record fault_from is_header are_four_numbers number_from
+no_fault_of_kinds = refl
+
+told_with_kinds : requests_of marked ≡ asks_for 0 1 291 10 ∷ marks 0 1 700 kinds.Silent ∷ marks 400 1 700 kinds.Active ∷ []
+unfolding requests_of strip_bom records_from next_record number_from
+told_with_kinds = refl
 
 text_faults :
     (trace_fault [] ∷ trace_fault (codes "tick,channel,sid\n") ∷
@@ -230,5 +305,5 @@ text_faults :
     trace_fault (codes "tick,channel,sid,units\n0,1,291") ∷
     trace_fault (codes "tick,channel,sid,units\n0,1,291,1\n0,1,291,65536\n") ∷ []) ≡
     Some Header ∷ Some Header ∷ None ∷ Some (Fields 2) ∷ Some (Number 2) ∷ Some (Fields 2) ∷ Some (Number 3) ∷ []
-unfolding trace_fault strip_bom records_from next_record fault_from is_header are_numbers number_from
+unfolding trace_fault strip_bom records_from next_record fault_from is_header are_four_numbers number_from
 text_faults = refl

@@ -3,7 +3,7 @@
 
 -- which requests are asks, and in which round
 pub mod Asks
--- what each cluster asks for in a round: sums over the requests, in whatever order they stand
+-- what is asked for in a round by each word: sums over the requests, in whatever order they stand
 pub mod Cuts
 -- the records of a text, as `csv` splits it
 pub mod Records

@@ -1,29 +1,29 @@
 -- Inside the crate: what becomes of a request of a trace, and what it adds to the asks and counts.
-use Rattle.std.specs.Prelude.{◌≡◌, ℕ, ◌+◌, ◌*◌, ◌<◌, ◌≤◌, List, [], ◌∷◌, map, length, Some, None, slice_get}
+use Rattle.std.specs.Prelude.{◌≡◌, ℕ, ◌+◌, ◌<◌, ◌≤◌, List, [], ◌∷◌, map, length, Some, None}
 use Rattle.us_flows.specs.Tables.{Tables}
-use Rattle.us_flows.specs.Clusters.{clusters_of, lookup}
-use Rattle.us_flows.specs.declared.found.Found.TheVariants as found
+use Rattle.us_flows.specs.Clusters.{flow_of_word, words_of, lookup}
+use Rattle.us_flows.specs.declared.found.Found.{Found}
 use Rattle.us_requests.specs.declared.placed.PlacedAsk.{PlacedAsk}
+use Rattle.us_requests.specs.declared.asks.Ask.{Ask}
 use Rattle.us_requests.specs.declared.asks.Counts.{Counts}
 use Rattle.us_requests.specs.declared.outcomes.Outcome.{Outcome}
 use Rattle.us_requests.specs.declared.outcomes.Outcome.TheVariants as outcome
-use Rattle.us_requests.specs.Asks.{Request, round_of_tick, unit_of, asks_at, counts_of}
+use Rattle.us_requests.specs.Asks.{Request, round_of_tick, ask_for, ask_of, asks_at, counts_of}
 use Rattle.us_requests.specs.Traces.{of_round, max_asks}
 
--- the bytes of a unit of each cluster's requests
+-- the bytes of a unit of the requests by each word
 abbrev pub units_of : Tables → List ℕ
-units_of t = map (λ cluster. cluster.flow.unit) (clusters_of t)
+units_of t = map (λ word. (flow_of_word word).unit) (words_of t)
 
 -- what becomes of a request
 abbrev pub Becomes : Tables → ℕ → Request → Outcome → Type 0
 Becomes t rounds q outcome.Unknown = lookup t q.channel q.sid ≡ None
-Becomes t rounds q outcome.NotRequestable = lookup t q.channel q.sid ≡ Some found.Unsolicited
+Becomes t rounds q outcome.NotRequestable =
+    (what : Found) × (lookup t q.channel q.sid ≡ Some what) × (ask_for t q.kind q.units (Some what) ≡ None)
 Becomes t rounds q outcome.Late =
-    (number : ℕ) × (lookup t q.channel q.sid ≡ Some (found.Cluster number)) × (rounds ≤ round_of_tick t q.tick)
+    (ask : Ask) × (ask_of t q ≡ Some ask) × (rounds ≤ round_of_tick t q.tick)
 Becomes t rounds q (outcome.Asked placed) =
-    (lookup t q.channel q.sid ≡ Some (found.Cluster placed.ask.cluster))
-    × (placed.ask.bytes ≡ q.units * unit_of (slice_get (clusters_of t) placed.ask.cluster))
-    × (round_of_tick t q.tick ≡ placed.round) × (placed.round < rounds)
+    (ask_of t q ≡ Some placed.ask) × (round_of_tick t q.tick ≡ placed.round) × (placed.round < rounds)
 
 -- what a request adds to the asks
 abbrev pub added : Outcome → List PlacedAsk

@@ -2,7 +2,7 @@
 use Rattle.std.specs.Prelude.{◌≡◌, ℕ, ◌*◌, ◌<◌, ◌≤◌, List, [], length, map, filter, sum_by, ◌==◌}
 use Rattle.std.specs.List.{AllByRecursion, range_with_len}
 use Rattle.us_flows.specs.Tables.{Tables}
-use Rattle.us_flows.specs.Clusters.{clusters_of}
+use Rattle.us_flows.specs.Clusters.{words_of}
 use Rattle.us_requests.specs.declared.asks.Ask.{Ask}
 use Rattle.us_requests.specs.declared.asks.Counts.{Counts}
 use Rattle.us_requests.specs.declared.placed.PlacedAsk.{PlacedAsk}
@@ -38,7 +38,7 @@ max_asked = max_asks * max_ask
 abbrev pub asks_before : TraceAsks → ℕ → ℕ
 asks_before t rounds = sum_by (λ round. length (asks_in t round)) (range_with_len 0 rounds)
 
--- the bytes that the first rounds ask for, of all clusters
+-- the bytes that the first rounds ask for, by all words
 abbrev pub asked_before : TraceAsks → ℕ → ℕ
 asked_before t rounds = sum_by (λ round. sum_by (λ ask. ask.bytes) (asks_in t round)) (range_with_len 0 rounds)
 
@@ -54,6 +54,6 @@ pub record IsTraceOf (tables : Tables) (rounds : ℕ) (requests : List Request) 
   pub run : t.rounds ≡ rounds
   pub asks : (round : ℕ) → asks_in t round ≡ asks_at tables rounds requests round
   pub counts : t.counts ≡ counts_of tables rounds requests
-  -- so each ask names a cluster that is there, and the asks of a round add up to its cut
-  pub known : (round : ℕ) → AllByRecursion (λ ask. ask.cluster < length (clusters_of tables)) (asks_in t round)
-  pub cut : (round : ℕ) → cut_of (length (clusters_of tables)) (asks_in t round) ≡ cut_at tables rounds requests round
+  -- so each ask names a word that is there, and the asks of a round add up to its cut
+  pub known : (round : ℕ) → AllByRecursion (λ ask. ask.cluster < length (words_of tables)) (asks_in t round)
+  pub cut : (round : ℕ) → cut_of (length (words_of tables)) (asks_in t round) ≡ cut_at tables rounds requests round

@@ -1,9 +1,9 @@
-/// What a cluster asks for in a round.
+/// What is asked for in a round.
 #[derive(Clone, Copy, Debug, PartialEq, Eq, Hash)]
 pub struct Ask {
-    /// The number of the cluster.
+    /// The number of the word by which it is: a cluster's, or one that tells a flow's activity.
     pub cluster: u16,
-    /// The bytes that it asks for.
+    /// The bytes that the cluster asks for; 1 where a flow marks that it is silent or active.
     pub bytes: u32,
 }
 
@@ -12,7 +12,7 @@ pub struct Ask {
 pub struct Counts {
     /// No flow has that SID on that channel.
     pub unknown: u32,
-    /// The flow is of a type that makes no requests.
+    /// The flow is of a type that makes no requests, or the request is a mark and the flow tells no activity.
     pub not_requestable: u32,
     /// The round of the request is behind the end of the run.
     pub late: u32,

@@ -10,9 +10,9 @@ use us_slots::ReadFault;
 pub enum TraceFault {
     /// TR1: the first record isn't the header, or there is none.
     Header,
-    /// TR2: this record hasn't four fields. Records are counted from 1, with the header.
+    /// TR2: this record hasn't as many fields as the header. Records are counted from 1, with the header.
     Fields(u32),
-    /// TR3: a field of this record isn't of 1 to 10 digits, or is over its greatest value.
+    /// TR3: a field of this record isn't of 1 to 10 digits, or is over its greatest value; or it is a mark with units.
     Number(u32),
     /// TR4: a byte past 33,554,432, or record 1,000,002.
     TooLarge,
@@ -24,7 +24,7 @@ pub enum TraceFault {
 
 impl TraceFault {
     ghost use Rattle.std.specs.Prelude.{◌≡◌};
-    ghost use Rattle.us_requests.specs.Codes.{code_of, record_of};
+    ghost use Rattle.us_requests.specs.Codes.{code_of, record_of, sentence_of};
 
     /// Its code, TR1 to TR6.
     pub fn code(self) -> &'static str
@@ -52,11 +52,14 @@ impl TraceFault {
     }
 
     /// What it says, behind its code and the record that it names.
-    pub fn sentence(self) -> &'static str {
+    pub fn sentence(self) -> &'static str
+        ensures { result.now ≡ sentence_of self }
+    {
         match self {
             TraceFault::Header => "the first record is not the header",
-            TraceFault::Fields(_) => "has not four fields",
-            TraceFault::Number(_) => "has a field that is no number in its range",
+            TraceFault::Fields(_) => "has not as many fields as the header",
+            TraceFault::Number(_) =>
+                "has a field that is no number in its range, or is a mark with units",
             TraceFault::TooLarge => "the trace is too large",
             TraceFault::Read => "the source failed",
             TraceFault::NoMemory => "out of memory",
@@ -66,6 +69,11 @@ impl TraceFault {
 
 /// Writes a fault as its code and a sentence.
 impl fmt::Display for TraceFault {
+    ghost use Rattle.std.specs.Prelude.{Some};
+    ghost use Rattle.us_requests.specs.Codes.{fault_text};
+
+    ghost output = { λ fault. Some (fault_text fault) };
+
     fn fmt<W: fmt::Write>(&self, f: &mut fmt::Formatter<W>) -> fmt::Result {
         let (code, sentence) = (self.code(), self.sentence());
         match self.record() {

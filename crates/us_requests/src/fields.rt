@@ -1,50 +1,79 @@
 ghost use Rattle.std.specs.Prelude.{◌≡◌, ◌≤◌, true, length, Some, None, if◌then◌else◌, IfOk, IfErr, IfSome};
 ghost use Rattle.std.specs.List.{list_all};
 ghost use Rattle.csv.specs.Records.{fields_of};
+ghost use Rattle.us_requests.specs.declared.requests.Kind.TheVariants as kinds;
 ghost use Rattle.us_requests.specs.Texts;
-ghost use Rattle.us_requests.specs.Texts.{max_records, field_in, is_digit, number_of, is_number, are_numbers, request_of, record_checks, first_of};
+ghost use Rattle.us_requests.specs.Texts.{max_records, field_in, is_digit, number_of, is_number, is_kind, are_four_numbers, are_numbers, request_of, record_checks, first_of};
 
 use crate::faults::TraceFault;
-use crate::requests::Request;
+use crate::requests::{Kind, Request};
 use csv::ByteRecord;
 
 /// The most digits of a field.
 const MAX_DIGITS: usize = 10;
 
-/// Whether a record is the header.
+/// The columns of a trace in its first version.
+const COLUMNS: usize = 4;
+
+/// Those of its second version, of which the last is the kind.
+const COLUMNS_WITH_KIND: usize = 5;
+
+/// Whether a record is the header, of either version.
 #[tactic(auto, unfolding(crate::specs::Texts::is_header))]
 pub(crate) fn is_header(fields: &ByteRecord) -> bool
     ensures { result ≡ Texts.is_header (fields_of fields.now) }
 {
-    fields.len() == 4
+    (fields.len() == COLUMNS
+        || (fields.len() == COLUMNS_WITH_KIND && field(fields, 4) == b"kind".as_slice()))
         && field(fields, 0) == b"tick".as_slice()
         && field(fields, 1) == b"channel".as_slice()
         && field(fields, 2) == b"sid".as_slice()
         && field(fields, 3) == b"units".as_slice()
 }
 
-/// The request that the record of this number tells.
-pub(crate) fn request_in(fields: &ByteRecord, number: u32) -> Result<Request, TraceFault>
+/// The request that the record of this number tells, behind a header of so many columns.
+pub(crate) fn request_in(
+    fields: &ByteRecord,
+    columns: usize,
+    number: u32,
+) -> Result<Request, TraceFault>
     requires { number ≤ max_records }
-    ensures fault { IfErr result (λ fault. first_of (record_checks number (fields_of fields.now)) ≡ Some fault) }
-    ensures none { IfOk result (λ _. first_of (record_checks number (fields_of fields.now)) ≡ None) }
+    ensures fault { IfErr result (λ fault. first_of (record_checks columns number (fields_of fields.now)) ≡ Some fault) }
+    ensures none { IfOk result (λ _. first_of (record_checks columns number (fields_of fields.now)) ≡ None) }
     ensures value { IfOk result (λ request. request ≡ request_of (fields_of fields.now)) }
     ensures small { IfOk result (λ request. request.units ≤ 65535) }
 {
-    if fields.len() != 4 {
+    if fields.len() != columns {
         return Err(TraceFault::Fields(number));
     }
-    match four_numbers(fields) {
+    match request_of(fields, columns) {
         Some(request) => Ok(request),
         None => Err(TraceFault::Number(number)),
     }
 }
 
-/// The request that four fields tell, if each is a number in its range.
-#[tactic(auto, unfolding(crate::specs::Texts::are_numbers))]
-fn four_numbers(fields: &ByteRecord) -> Option<Request>
+/// The request that so many fields tell, if each is a number in its range. Only behind more than four columns it has a
+/// kind to be read.
+#[tactic(auto, using(crate::proofs::FieldLemmas::kinded))]
+fn request_of(fields: &ByteRecord, columns: usize) -> Option<Request>
+    requires { length (fields_of fields.now) ≡ columns }
     ensures value { result ≡
         if are_numbers (fields_of fields.now) then Some (request_of (fields_of fields.now)) else None }
+    ensures small { IfSome result (λ request. request.units ≤ 65535) }
+{
+    let request = four_numbers(fields)?;
+    if columns == COLUMNS {
+        return Some(request);
+    }
+    let kind = kind_in(field(fields, 4), request.units)?;
+    Some(Request { kind, ..request })
+}
+
+/// The request that the first four fields tell, if each is a number in its range.
+#[tactic(auto, unfolding(crate::specs::Texts::are_four_numbers))]
+fn four_numbers(fields: &ByteRecord) -> Option<Request>
+    ensures value { result ≡ if are_four_numbers (fields_of fields.now)
+        then Some (record (request_of (fields_of fields.now)) { kind = kinds.Request }) else None }
     ensures small { IfSome result (λ request. request.units ≤ 65535) }
 {
     let tick = number_in(field(fields, 0), u32::MAX)?;
@@ -56,7 +85,20 @@ fn four_numbers(fields: &ByteRecord) -> Option<Request>
         channel: channel as u8,
         sid: sid as u16,
         units: units as u16,
+        kind: Kind::Request,
     })
+}
+
+/// The kind that a field tells of a request of so many units: a mark has none.
+fn kind_in(field: &[u8], units: u16) -> Option<Kind>
+    ensures { result ≡ if is_kind units field.now then Some (Texts.kind_of (number_of field.now)) else None }
+{
+    match number_in(field, 2)? {
+        0 => Some(Kind::Request),
+        _ if units > 0 => None,
+        1 => Some(Kind::Silent),
+        _ => Some(Kind::Active),
+    }
 }
 
 /// The bytes of a field, none where the record has no such field.

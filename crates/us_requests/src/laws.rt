@@ -8,7 +8,7 @@ pub fn round_is_least()
     ensures { RoundIsLeast }
 {}
 
-/// What clusters ask for in a round, and how requests are counted, depends on the requests of a trace and not on their
+/// What is asked for in a round, and how requests are counted, depends on the requests of a trace and not on their
 /// order.
 pub fn order_is_nothing()
     ensures { OrderIsNothing }

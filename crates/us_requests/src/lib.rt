@@ -4,7 +4,7 @@
 //! let trace = Trace::read(alloc, &mut source, &config, 2)?;
 //! let mut state = ClusterState::new();
 //! for ask in trace.asks(1) {
-//!     state.add(u64::from(ask.bytes)); // of the cluster number `ask.cluster`
+//!     state.add(u64::from(ask.bytes)); // by the word number `ask.cluster`, a cluster's as a rule
 //! }
 //! ```
 //!
@@ -16,7 +16,7 @@
 // What is outstanding of a cluster.
 mod cluster_states;
 
-// What a cluster asks for, and the counts of the requests that are no asks.
+// What is asked for, and the counts of the requests that are no asks.
 mod asks;
 
 // Every refusal of this crate, in order.

@@ -4,7 +4,7 @@ ghost use Rattle.us_requests.specs.Outcomes.{Becomes, units_of};
 
 use crate::asks::Ask;
 use crate::placed::PlacedAsk;
-use crate::requests::Request;
+use crate::requests::{Kind, Request};
 use us_flows::{Config, Found};
 
 /// What becomes of a request of a trace.
@@ -12,7 +12,7 @@ use us_flows::{Config, Found};
 pub(crate) enum Outcome {
     /// No flow has that SID on that channel.
     Unknown,
-    /// The flow makes no requests.
+    /// It is a request of a flow that makes none, or a mark of one that tells no activity.
     NotRequestable,
     /// Its round is behind the end of the run.
     Late,
@@ -20,25 +20,45 @@ pub(crate) enum Outcome {
     Asked(PlacedAsk),
 }
 
-/// What becomes of a request in a run of so many rounds, given the bytes of a unit of each cluster's requests.
-#[tactic(auto, using(crate::proofs::AskLemmas::clusters))]
+/// What becomes of a request in a run of so many rounds, given the bytes of a unit of the requests by each word.
+#[tactic(auto, using(crate::proofs::AskLemmas::words))]
 pub(crate) fn outcome_of(config: &Config, units: &[u8], rounds: u32, request: &Request) -> Outcome
     requires { units.now ≡ units_of config.now }
     ensures { Becomes config.now rounds request.now result }
 {
-    let cluster = match config.lookup(request.channel, request.sid) {
+    let found = match config.lookup(request.channel, request.sid) {
+        Some(found) => found,
         None => return Outcome::Unknown,
-        Some(Found::Unsolicited) => return Outcome::NotRequestable,
-        Some(Found::Cluster(cluster)) => cluster,
+    };
+    // Marks come last, so that a request costs little more than where there are none.
+    let ask = if request.kind == Kind::Request {
+        match found {
+            Found::Cluster(cluster) => Ask {
+                cluster,
+                bytes: u32::from(request.units) * u32::from(units[usize::from(cluster)]),
+            },
+            _ => return Outcome::NotRequestable,
+        }
+    } else {
+        match (found, request.kind) {
+            (Found::Activity(silent), Kind::Active) => Ask {
+                cluster: silent + 1,
+                bytes: 1,
+            },
+            (Found::Activity(silent), _) => Ask {
+                cluster: silent,
+                bytes: 1,
+            },
+            _ => return Outcome::NotRequestable,
+        }
     };
     let round = round_of(config, request.tick);
     if round >= u64::from(rounds) {
         return Outcome::Late;
     }
-    let bytes = u32::from(request.units) * u32::from(units[usize::from(cluster)]);
     Outcome::Asked(PlacedAsk {
         round: round as u32,
-        ask: Ask { cluster, bytes },
+        ask,
     })
 }
 

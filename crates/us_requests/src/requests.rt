@@ -2,7 +2,18 @@ ghost use Rattle.us_requests.specs.Asks.{Request};
 
 use std::marker::Model;
 
-/// A request of a trace.
+/// What a request of a trace tells.
+#[derive(Clone, Copy, Debug, PartialEq, Eq)]
+pub(crate) enum Kind {
+    /// That a cluster asks for some units.
+    Request,
+    /// That a flow falls silent.
+    Silent,
+    /// That a flow is active.
+    Active,
+}
+
+/// A request of a trace, or a mark of a flow's activity.
 #[derive(Clone, Copy, Debug, PartialEq, Eq)]
 pub(crate) struct Request {
     /// When it arrives.
@@ -11,14 +22,16 @@ pub(crate) struct Request {
     pub(crate) channel: u8,
     /// The SID that asks.
     pub(crate) sid: u16,
-    /// The units that it asks for.
+    /// The units that it asks for, none by a mark.
     pub(crate) units: u16,
+    /// What it tells.
+    pub(crate) kind: Kind,
 }
 
 impl Model for Request {
     ghost Value = { Request };
 
-    ghost view = { λ q. record { tick = q.tick; channel = q.channel; sid = q.sid; units = q.units } };
+    ghost view = { λ q. record { tick = q.tick; channel = q.channel; sid = q.sid; units = q.units; kind = q.kind } };
 
-    ghost inverse = { λ q. record { tick = q.tick; channel = q.channel; sid = q.sid; units = q.units } };
+    ghost inverse = { λ q. record { tick = q.tick; channel = q.channel; sid = q.sid; units = q.units; kind = q.kind } };
 }

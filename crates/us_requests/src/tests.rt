@@ -2,6 +2,7 @@
 
 mod base;
 mod limits;
+mod marks;
 mod memory;
 mod plain;
 mod plain_filing;

@@ -1,4 +1,4 @@
-ghost use Rattle.std.specs.Prelude.{◌≡◌, drop, map, IfErr, OnOk};
+ghost use Rattle.std.specs.Prelude.{◌≡◌, drop, map, IfErr, IfOk, OnOk};
 ghost use Rattle.us_requests.specs.Texts.{fault_from, records_fault, trace_fault, requests_of, request_of};
 ghost use Rattle.us_requests.specs.Readings.{Tells, IsFirst};
 
@@ -19,14 +19,14 @@ pub(crate) fn requests_in(alloc: Global, text: &[u8]) -> Result<Vec<Request>, Tr
 {
     let mut reader = RecordReader::new(alloc, text);
     let mut fields = ByteRecord::new(alloc);
-    read_header(&mut reader, &mut fields)?;
-    read_requests(alloc, &mut reader, &mut fields)
+    let columns = read_header(&mut reader, &mut fields)?;
+    read_requests(alloc, &mut reader, &mut fields, columns)
 }
 
-/// Reads the header, which is record 1.
-fn read_header(reader: &mut RecordReader<'_>, fields: &mut ByteRecord) -> Result<(), TraceFault>
+/// Reads the header, which is record 1, and answers how many columns it names.
+fn read_header(reader: &mut RecordReader<'_>, fields: &mut ByteRecord) -> Result<usize, TraceFault>
     ensures left { OnOk result (reader.new ≡ drop 1 reader.old) }
-    ensures later { OnOk result (records_fault reader.old ≡ fault_from 2 reader.new) }
+    ensures later { IfOk result (λ columns. records_fault reader.old ≡ fault_from columns 2 reader.new) }
     ensures fault { IfErr result (λ fault. IsFirst (records_fault reader.old) fault) }
 {
     if !reader.read(fields)? {
@@ -35,24 +35,25 @@ fn read_header(reader: &mut RecordReader<'_>, fields: &mut ByteRecord) -> Result
     if !is_header(fields) {
         return Err(TraceFault::Header);
     }
-    Ok(())
+    Ok(fields.len())
 }
 
-/// Reads the requests, which are the records from 2 on.
+/// Reads the requests, which are the records from 2 on, behind a header of so many columns.
 #[tactic(auto, using(crate::proofs::TextLemmas::telling))]
 fn read_requests(
     alloc: Global,
     reader: &mut RecordReader<'_>,
     fields: &mut ByteRecord,
+    columns: usize,
 ) -> Result<Vec<Request>, TraceFault>
-    ensures { Tells (fault_from 2 reader.old) (map request_of reader.old) result }
+    ensures { Tells (fault_from columns 2 reader.old) (map request_of reader.old) result }
 {
     let mut requests = Vec::new(alloc);
     for number in 2..MAX_RECORDS + 1 {
         if !reader.read(fields)? {
             return Ok(requests);
         }
-        requests.push(request_in(fields, number)?)?;
+        requests.push(request_in(fields, columns, number)?)?;
     }
     if reader.read(fields)? {
         return Err(TraceFault::TooLarge);

@@ -22,7 +22,7 @@ use us_slots::{Source, read_all};
 /// The most bytes of a trace.
 const MAX_BYTES: usize = 33_554_432;
 
-/// The requests of a trace as what clusters ask for, by round, and how many of its requests are no asks.
+/// The requests of a trace as what they ask for, by round, and how many of its requests are no asks.
 #[derive(Debug, Drop)]
 pub struct Trace {
     rounds: u32,
@@ -123,17 +123,14 @@ fn file_all(
     Ok(filed)
 }
 
-/// The bytes of a unit of each cluster's requests, by the number of the cluster. Clusters with unsolicited grants have
-/// neither.
+/// The bytes of a unit of the requests by each word; 0 by the words of a flow's activity.
 fn units_of(alloc: Global, config: &Config) -> Result<Vec<u8>, AllocError>
     ensures value { IfOk result (λ v. v.items ≡ units_of config.now) }
     ensures lawful { AreTables config.now }
 {
     let mut units = Vec::new(alloc);
     for flow in config.flows() {
-        if flow.kind().makes_requests() {
-            units.resize(units.len() + flow.clusters().len(), flow.unit())?;
-        }
+        units.resize(units.len() + flow.words(), flow.unit())?;
     }
     Ok(units)
 }

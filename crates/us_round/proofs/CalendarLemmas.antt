@@ -9,9 +9,10 @@ use Rattle.us_flows.specs.Tables.{Tables}
 use Rattle.us_flows.specs.Lawful.{AreTables}
 use Rattle.us_calendar.specs.Calendars.{Calendar, IsCalendar, opening, pace_of, settled_in, max_settled}
 use Rattle.us_calendar.specs.Entries.{Entry, entries}
+use Rattle.us_calendar.specs.Settling as calendar
 use Rattle.us_calendar.specs.Settling.{EntryState}
 use Rattle.us_bucket.specs.Levels.{full}
-use Rattle.us_flows.specs.Clusters.{clusters_of}
+use Rattle.us_flows.specs.Clusters.{words_of}
 use Rattle.us_split.specs.Plans.{Planned}
 use Rattle.us_channel.specs.Channels as channel
 use Rattle.us_channel.specs.Channels.{Filled, Built, IsBuilt, fill}
@@ -71,7 +72,7 @@ state_next core cs built known are is =
     let t : Tables = core.tables in
     let plan : List Planned = round_plan (with_calendars core cs) in
     rw is (record {
-      clusters = left-length _ 0 core.outstanding ∙ known.clusters;
+      words = left-length _ 0 core.outstanding ∙ known.words;
       flows = spent-length _ 0 core.buckets ∙ known.flows;
       reserves = known.reserves;
       paces = paces_kept t core.round plan t.channels cs (calendars_long t core.round cs are) ∙ are.paces;
@@ -136,7 +137,7 @@ then_kept plan (f ∷ fs) =
     )
 
 pub counted : (plan : List Planned) (fs : List Filled) (cs : List Calendar) →
-    settled_now fs + sum_by settled_in cs ≡ settled_then fs → AreCounted cs (map (build_planned plan) fs)
+    settled_now fs + sum_by settled_in cs ≤ settled_then fs → AreCounted cs (map (build_planned plan) fs)
 counted plan fs cs counts = omega (arith, counts, now_kept plan fs, then_kept plan fs)
 
 -- Before round 0.
@@ -161,7 +162,7 @@ opening_rounds t [] = tt
 opening_rounds t (c ∷ channels) = (refl, opening_rounds t channels)
 
 none_settled : (es : List Entry) →
-    sum_by (λ (state : EntryState). length state.settled) (map (λ e. record { entry = e; settled = [] }) es) ≡ 0
+    sum_by (λ (state : EntryState). length state.settled) (map calendar.opening_state es) ≡ 0
 none_settled [] = refl
 none_settled (e ∷ es) = none_settled es
 
@@ -177,7 +178,7 @@ none_by t (c ∷ channels) =
 
 pub opening_state : (t : Tables) → IsState (with_calendars (opening_core t) (map (opening t) t.channels))
 opening_state t = record {
-  clusters = length-replicate (length (clusters_of t)) 0;
+  words = length-replicate (length (words_of t)) 0;
   flows = length-map t.flows (λ flow. full flow.rate flow.burst);
   reserves = length-map t.flows (λ flow. full flow.min_rate flow.burst);
   paces = opening_paces t t.channels;

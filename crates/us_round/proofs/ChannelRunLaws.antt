@@ -7,7 +7,7 @@ use Rattle.us_flows.specs.declared.channels.Channel.{Channel}
 use Rattle.us_flows.specs.Tables.{map_len}
 use Rattle.us_holes.specs.Boards.{Board}
 use Rattle.us_calendar.specs.Calendars as calendars
-use Rattle.us_calendar.specs.Calendars.{Calendar, after, ran}
+use Rattle.us_calendar.specs.Calendars.{Calendar, after, heard_by, ran}
 use Rattle.us_calendar.specs.Runs.{rounds_on}
 use Rattle.us_split.specs.Plans.{Planned}
 use Rattle.us_channel.specs.Reserves.{reserves}
@@ -58,21 +58,23 @@ runs_from : (s : State) (cuts : List (List ℕ)) (place : ℕ) (c : Channel) (ca
     slice_get s.tables.channels place ≡ Some c → slice_get s.calendars place ≡ Some calendar →
     map (settled_at place) (schedule s cuts)
     ≡ map (λ round. round.settled)
-    (rounds_on calendar (map (reserves c (map_len s.tables c)) (range_with_len s.round (length cuts))))
+    (rounds_on calendar cuts (map (reserves c (map_len s.tables c)) (range_with_len s.round (length cuts))))
 unfolding schedule round_of round_from build_planned
 runs_from s [] place c calendar at there = refl
 runs_from s (cut ∷ cuts) place c calendar at there =
     let now : State = begun s cut in
     let next : State = (round_of s cut).state in
     let board : Board = reserves c (map_len s.tables c) s.round in
-    let built : Built = build_planned (round_plan now) (fill s.tables s.round c calendar) in
-    let here : slice_get (builds_of now) place ≡ Some built = built_at now place c calendar at there in
-    let settled : slice_index_or (map (λ b. b.settled) (builds_of now)) place [] ≡ (ran calendar board).settled =
-    get_or_from_slice_get (map (λ b. b.settled) (builds_of now)) place (ran calendar board).settled []
+    let knows : slice_get now.calendars place ≡ Some (heard_by cut calendar) =
+    slice_get-map (heard_by cut) s.calendars place ∙ ap (option_map (heard_by cut)) there in
+    let built : Built = build_planned (round_plan now) (fill s.tables s.round c (heard_by cut calendar)) in
+    let here : slice_get (builds_of now) place ≡ Some built = built_at now place c (heard_by cut calendar) at knows in
+    let settled : slice_index_or (map (λ b. b.settled) (builds_of now)) place [] ≡ (ran calendar cut board).settled =
+    get_or_from_slice_get (map (λ b. b.settled) (builds_of now)) place (ran calendar cut board).settled []
     (slice_get-map (λ b. b.settled) (builds_of now) place ∙ ap (option_map (λ b. b.settled)) here) in
-    let left : slice_get (map (λ b. b.calendar) (builds_of now)) place ≡ Some (after calendar board) =
+    let left : slice_get (map (λ b. b.calendar) (builds_of now)) place ≡ Some (after calendar cut board) =
     slice_get-map (λ b. b.calendar) (builds_of now) place ∙ ap (option_map (λ b. b.calendar)) here in
-    ap₂ (λ x xs. x ∷ xs) settled (runs_from next cuts place c (after calendar board) at left)
+    ap₂ (λ x xs. x ∷ xs) settled (runs_from next cuts place c (after calendar cut board) at left)
 
 pub calendars_run : CalendarsRun
 calendars_run t cuts place c at =

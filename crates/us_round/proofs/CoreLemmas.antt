@@ -1,10 +1,9 @@
 -- What a core is made of, at each stage of a round.
-use Rattle.std.proofs.Common.{◌≡◌, ℕ, ◌+◌, ◌==◌, if◌then◌else◌, List, Option, length, map, refl, ap, ap₂, sym, subst, ◌∙◌, inl, inr, arith}
-use Rattle.std.specs.Prelude.{zip}
+use Rattle.std.proofs.Common.{◌≡◌, ℕ, ◌+◌, ◌==◌, if◌then◌else◌, List, Option, length, map, refl, ap, ap₂, sym, subst, ◌∙◌, inl, inr}
 use Rattle.std.proofs.lemmas.Bool.{cases_Bool}
 use Rattle.std.proofs.lemmas.List.{length-map, length-replicate}
 use Rattle.us_flows.specs.Tables.{Tables}
-use Rattle.us_flows.specs.Clusters.{clusters_of, turns_of}
+use Rattle.us_flows.specs.Clusters.{words_of, turns_of}
 use Rattle.us_flows.specs.Lawful.{AreTables}
 use Rattle.us_bucket.specs.Levels.{Level, bytes_in, full, refilled, reserve_in}
 use Rattle.us_split.specs.Plans.{plan_for, reserved_for}
@@ -16,8 +15,8 @@ use Rattle.us_round.specs.declared.cores.Kept.{Kept}
 use Rattle.us_round.specs.Cores.{AreBuckets, AreCredited, AreKept, Core, IsRoom, begun_core, core_of, credited_core, idle_of, opening_core, planned_core, plan_over, reserved_over}
 use Rattle.us_split.specs.Claims.{Claim, all_claims}
 use Rattle.us_round.specs.Rounds.{all_grants, uncredited, unreserved}
+use Rattle.us_round.proofs.CutLemmas.{asked_long}
 use Rattle.us_round.proofs.NoRateLemmas.{begun_room}
-use Rattle.us_round.proofs.PhaseLemmas.{zip_long}
 use Rattle.us_round.proofs.StateLemmas.{left-length, spent-length}
 
 -- what a core has in memory, in its box
@@ -39,11 +38,11 @@ pub opening_kept : (t : Tables) (asking : Asking) (buckets reserves : Buckets) (
 opening_kept t asking buckets reserves planner allowances left lawful long room asks fills keeps plans =
     rw (asks, fills, keeps, plans) (record {
       lawful = lawful;
-      clusters = length-replicate (length (clusters_of t)) 0;
+      words = length-replicate (length (words_of t)) 0;
       buckets = record { flows = length-map t.flows (λ flow. full flow.rate flow.burst); ticks = refl };
       reserves = record { flows = length-map t.flows (λ flow. full flow.min_rate flow.burst); ticks = refl };
       round = refl;
-      numbers = refl;
+      tables = refl;
       settled = refl;
       planner = refl;
       allowances = long;
@@ -72,19 +71,19 @@ begun_too t round buckets are = record {
 
 pub begun_kept : (t : Tables) (round : ℕ) (cut : List ℕ) (asking next : Asking) (buckets after reserves later : Buckets)
     (planner : Planner) (allowances : List (Option ℕ)) (left : List ℕ) →
-    AreKept t asking buckets reserves planner allowances left → length cut ≡ length (clusters_of t) →
+    AreKept t asking buckets reserves planner allowances left → length cut ≡ length (words_of t) →
     next ≡ all_asked_more cut asking → after ≡ begun_buckets round buckets → later ≡ begun_buckets round reserves →
     AreKept t next after later planner allowances left
 begun_kept t round cut asking next buckets after reserves later planner allowances left are long asks begins also =
     rw (asks, begins, also) (record {
       lawful = are.lawful;
-      clusters = length-map (zip asking.outstanding cut) (λ (pair : ℕ × ℕ). pair.0 + pair.1)
-          ∙ zip_long asking.outstanding cut (omega (arith, long, are.clusters)) ∙ long;
+      words = ap (λ u. length (with_cut u asking.outstanding cut)) are.tables
+          ∙ asked_long t asking.outstanding cut are.words long;
       buckets = begun_too t round buckets are.buckets;
       reserves = begun_too t round reserves are.reserves;
       round = refl;
-      numbers = are.numbers;
-      settled = ap (λ os. with_cut os cut) are.settled;
+      tables = are.tables;
+      settled = ap (λ os. with_cut asking.tables os cut) are.settled;
       planner = are.planner;
       allowances = are.allowances;
       left = begun_room round reserves.ticks reserves.levels left are.left;
@@ -95,17 +94,19 @@ abbrev grown_by : ℕ → ℕ → List Level → List Level
 grown_by round ticks levels = if round == 0 then levels else map (refilled ticks) levels
 
 pub begun_value : (t : Tables) (round : ℕ) (cut : List ℕ) (asking next : Asking) (buckets after reserves later : Buckets)
-    (planner : Planner) → buckets.ticks ≡ t.round_ticks → reserves.ticks ≡ t.round_ticks →
+    (planner : Planner) → asking.tables ≡ t → buckets.ticks ≡ t.round_ticks → reserves.ticks ≡ t.round_ticks →
     next ≡ all_asked_more cut asking → after ≡ begun_buckets round buckets → later ≡ begun_buckets round reserves →
     core_of t round next after later planner ≡ begun_core (core_of t round asking buckets reserves planner) cut
-begun_value t round cut asking next buckets after reserves later planner ticks also asks begins too =
+begun_value t round cut asking next buckets after reserves later planner own ticks also asks begins too =
     let begun : Core = begun_core (core_of t round asking buckets reserves planner) cut in
     ap₂ (λ a b. core_of t round a b later planner) asks begins
     ∙ ap (λ r. core_of t round (all_asked_more cut asking) (begun_buckets round buckets) r planner) too
     ∙ ap₂ (λ n m. record begun {
+      outstanding = with_cut asking.tables asking.outstanding cut;
       buckets = grown_by round n buckets.levels;
       reserves = grown_by round m reserves.levels;
     }) ticks also
+    ∙ ap (λ u. record begun { outstanding = with_cut u asking.outstanding cut }) own
 
 -- The plan.
 
@@ -143,11 +144,11 @@ pub planned_kept : (t : Tables) (asking : Asking) (buckets after reserves later 
 planned_kept t asking buckets after reserves later planner next allowances allowed left rest are same long ticks round tables
     allows room = rw same (record {
       lawful = are.lawful;
-      clusters = are.clusters;
+      words = are.words;
       buckets = are.buckets;
       reserves = record { flows = long ∙ are.reserves.flows; ticks = ticks ∙ are.reserves.ticks };
       round = round ∙ are.round;
-      numbers = are.numbers;
+      tables = are.tables;
       settled = are.settled;
       planner = tables ∙ are.planner;
       allowances = allows ∙ are.allowances;
@@ -172,15 +173,15 @@ pub closed_kept : (t : Tables) (asking now next : Asking) (buckets after reserve
 closed_kept t asking now next buckets after reserves planner allowances left bs are done ends =
     rw ends (record {
       lawful = are.lawful;
-      clusters = ap (λ os. length os) done.left ∙ left-length (all_grants bs) 0 asking.left ∙ ap (λ os. length os) are.settled
-          ∙ are.clusters;
+      words = ap (λ os. length os) done.left ∙ left-length (all_grants bs) 0 asking.left ∙ ap (λ os. length os) are.settled
+          ∙ are.words;
       buckets = record {
         flows = ap (λ ls. length ls) done.levels ∙ spent-length (all_grants bs) 0 buckets.levels ∙ are.buckets.flows;
         ticks = done.ticks ∙ are.buckets.ticks;
       };
       reserves = are.reserves;
       round = are.round ∙ sym done.round;
-      numbers = done.numbers ∙ are.numbers;
+      tables = done.tables ∙ are.tables;
       settled = refl;
       planner = are.planner;
       allowances = are.allowances;
@@ -188,19 +189,20 @@ closed_kept t asking now next buckets after reserves planner allowances left bs 
     })
 
 pub closed_value : (t : Tables) (round : ℕ) (asking now next : Asking) (buckets after reserves : Buckets) (planner : Planner)
-    (bs : List Built) → asking.left ≡ asking.outstanding → asking.numbers ≡ numbers_of (turns_of t) →
+    (bs : List Built) → asking.left ≡ asking.outstanding → asking.tables ≡ t →
     AreCredited (all_grants bs) asking now buckets after → next ≡ settled now →
     core_of t (round + 1) next after reserves planner ≡ credited_core (core_of t round asking buckets reserves planner) bs
 closed_value t round asking now next buckets after reserves planner bs same own done ends =
     let left : now.left ≡ uncredited (all_grants bs) 0 asking.outstanding =
     done.left ∙ ap (λ os. uncredited (all_grants bs) 0 os) same in
-    let pending : pending_places now.outstanding now.left now.numbers
+    let pending : pending_places now.outstanding now.left (numbers_of (turns_of now.tables))
     ≡ pending_places asking.outstanding (uncredited (all_grants bs) 0 asking.outstanding) (numbers_of (turns_of t)) =
-    ap (λ os. pending_places os now.left now.numbers) done.outstanding
-    ∙ ap (λ os. pending_places asking.outstanding os now.numbers) left
-    ∙ ap (λ ns. pending_places asking.outstanding (uncredited (all_grants bs) 0 asking.outstanding) ns) (done.numbers ∙ own) in
+    ap (λ os. pending_places os now.left (numbers_of (turns_of now.tables))) done.outstanding
+    ∙ ap (λ os. pending_places asking.outstanding os (numbers_of (turns_of now.tables))) left
+    ∙ ap (λ u. pending_places asking.outstanding (uncredited (all_grants bs) 0 asking.outstanding) (numbers_of (turns_of u)))
+    (done.tables ∙ own) in
     ap (λ a. core_of t (round + 1) a after reserves planner) ends
-    ∙ ap₂ (λ n os. left_core n os after.levels (pending_places now.outstanding now.left now.numbers)) done.round left
+    ∙ ap₂ (λ n os. left_core n os after.levels (pending_places now.outstanding now.left (numbers_of (turns_of now.tables)))) done.round left
     ∙ ap₂ (λ ls ps. left_core buckets.round (uncredited (all_grants bs) 0 asking.outstanding) ls ps) done.levels pending
   where
     left_core : ℕ → List ℕ → List Level → List ℕ → Core

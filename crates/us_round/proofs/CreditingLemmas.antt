@@ -38,7 +38,7 @@ crediting_one g gs all first now next before after last is takes spends ticks ro
       left = ap (λ os. uncredited gs 0 os) lefts ∙ done.1;
       levels = ap (λ bs. spent_of gs 0 bs) (spends none) ∙ done.2;
       outstanding = ap (λ a. a.outstanding) takes ∙ is.outstanding;
-      numbers = ap (λ a. a.numbers) takes ∙ is.numbers;
+      tables = ap (λ a. a.tables) takes ∙ is.tables;
       ticks = ticks ∙ is.ticks;
       round = round ∙ is.round;
     }
@@ -49,7 +49,7 @@ crediting_end all first now before after is = record {
   left = sym (left_none 0 now.left) ∙ is.left;
   levels = sym (spent_none 0 after.levels) ∙ is.levels;
   outstanding = is.outstanding;
-  numbers = is.numbers;
+  tables = is.tables;
   ticks = is.ticks;
   round = is.round;
 }
@@ -71,7 +71,7 @@ crediting_channel b bs all gs first now next before after last same is done =
       left = more.1;
       levels = more.2;
       outstanding = done.outstanding ∙ is.outstanding;
-      numbers = done.numbers ∙ is.numbers;
+      tables = done.tables ∙ is.tables;
       ticks = done.ticks ∙ is.ticks;
       round = done.round ∙ is.round;
     }

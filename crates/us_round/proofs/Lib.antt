@@ -4,6 +4,8 @@ pub mod PendingLemmas
 pub mod StateLemmas
 pub mod CalendarLemmas
 pub mod PhaseLemmas
+pub mod CutLemmas
+pub mod ActivityLemmas
 pub mod BucketLemmas
 pub mod AskingLemmas
 pub mod CreditingLemmas

@@ -12,9 +12,10 @@ use Rattle.us_flows.proofs.TurnLaws.{turns_of-turns}
 use Rattle.us_bucket.specs.Levels.{bytes_in, reserve_in}
 use Rattle.us_holes.specs.Boards.{Board, IsOwner}
 use Rattle.us_holes.proofs.LawLemmas.{assign_all-is_board}
-use Rattle.us_calendar.specs.Entries.{Entry, entries}
+use Rattle.us_calendar.specs.Entries.{Entry, IsEntry, entries}
+use Rattle.us_calendar.specs.Settling.{EntryState, heard, opening_state}
 use Rattle.us_calendar.specs.Calendars as calendars
-use Rattle.us_calendar.specs.Calendars.{Calendar}
+use Rattle.us_calendar.specs.Calendars.{Calendar, heard_by}
 use Rattle.us_calendar.specs.Laws.{IsLawfulEntry}
 use Rattle.us_calendar.proofs.EntryLaws.{entries_are_lawful}
 use Rattle.us_calendar.proofs.FitLaws as calendar_laws
@@ -24,6 +25,7 @@ use Rattle.us_split.proofs.ClaimLemmas.{plan_for-claims}
 use Rattle.us_channel.specs.Reserves.{reserves}
 use Rattle.us_channel.specs.Placements.{PlacedClaim, assignments, credits, grants_of}
 use Rattle.us_channel.specs.Channels.{Filled, fill}
+use Rattle.us_channel.specs.Laws.{HasMinislots}
 use Rattle.us_channel.proofs.GrantLaws as grant_laws
 use Rattle.us_round.specs.Rounds.{State, opening, begun, fills_of, idle, round_plan, build_planned, builds_of, all_grants, is_of_cluster, uncredited, ended, pending_sid, pending_sids, round_from, round_of}
 use Rattle.us_output.specs.Outputs.{first_sid, built_map}
@@ -128,17 +130,30 @@ calendars_known t round plan (c ∷ channels) (calendar ∷ cs) known = (
   calendars_known t round plan channels cs known.1,
 )
 
+-- so they do where they hear
+states_heard : (cut : List ℕ) (states : List EntryState) → AllByRecursion HasOwner states →
+    AllByRecursion HasOwner (map (heard cut) states)
+states_heard cut [] known = tt
+states_heard cut (state ∷ states) known = (known.0, states_heard cut states known.1)
+
+heard_known : (cut : List ℕ) (cs : List Calendar) → AllByRecursion AreKnown cs →
+    AllByRecursion AreKnown (map (heard_by cut) cs)
+heard_known cut [] known = tt
+heard_known cut (calendar ∷ cs) known = (states_heard cut calendar.states known.0, heard_known cut cs known.1)
+
 -- All rounds.
 
 all_known : (s : State) (cuts : List (List ℕ)) → AllByRecursion AreKnown s.calendars →
     AllByRecursion (λ (b : State). AllByRecursion AreKnown b.calendars) (begun_rounds s cuts)
 unfolding begun_rounds round_of round_from builds_of
 all_known s [] known = tt
-all_known s (cut ∷ cuts) known = (
-  known,
-  all_known (round_of s cut).state cuts
-      (calendars_known s.tables s.round (round_plan (begun s cut)) s.tables.channels s.calendars known),
-)
+all_known s (cut ∷ cuts) known =
+    let now : State = begun s cut in
+    let heard : AllByRecursion AreKnown now.calendars = heard_known cut s.calendars known in (
+      heard,
+      all_known (round_of s cut).state cuts
+          (calendars_known s.tables s.round (round_plan now) s.tables.channels now.calendars heard),
+    )
 
 -- the MAPs of a round
 state_maps : (s : State) → AreTables s.tables → IsState s → AllByRecursion AreKnown s.calendars →
@@ -179,13 +194,17 @@ round_maps t end lawful time s is =
       state_maps s (subst AreTables (sym same) lawful) is.0.state is.1 early_there,
     )
 
--- an entry has a minislot, and a lawful owner
+-- an entry has a lawful owner, and its grants and polls have a minislot
 abbrev IsServed : Entry → Type 0
-IsServed e = IsOwner e.owner × (0 < e.slots)
+IsServed e = IsOwner e.owner × HasMinislots e
+
+has_minislots : (e : Entry) → IsEntry e → HasMinislots e
+has_minislots e is true = is.slots
+has_minislots e is false = is.poll
 
 served : (t : Tables) → AreTables t → (c : Channel) → Contains t.channels c → AllByRecursion IsServed (entries t c)
 served t lawful c has =
-    all_weaker (IsLawfulEntry t c) IsServed (λ e is. (is.entry.owner, is.entry.slots)) (entries t c)
+    all_weaker (IsLawfulEntry t c) IsServed (λ e is. (is.entry.owner, has_minislots e is.entry)) (entries t c)
     (entries_are_lawful t lawful c has)
 
 opening_known : (t : Tables) (channels : List Channel) →
@@ -193,7 +212,7 @@ opening_known : (t : Tables) (channels : List Channel) →
     AllByRecursion AreKnown (map (calendars.opening t) channels)
 opening_known t [] have = tt
 opening_known t (c ∷ channels) have = (
-  all_mapped HasOwner (λ e. record { entry = e; settled = [] }) (entries t c) have.0,
+  all_mapped HasOwner opening_state (entries t c) have.0,
   opening_known t channels have.1,
 )
 

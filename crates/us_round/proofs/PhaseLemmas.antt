@@ -9,7 +9,7 @@ use Rattle.us_flows.specs.Tables.{Tables, map_len, max_run_ticks}
 use Rattle.us_flows.specs.Lawful.{AreTables, IsChannel}
 use Rattle.us_holes.specs.Boards.{Board}
 use Rattle.us_holes.proofs.LawLemmas.{assign_all-length}
-use Rattle.us_calendar.specs.Calendars.{Calendar, StartsInside, pace_of, ran, settled_in}
+use Rattle.us_calendar.specs.Calendars.{Calendar, StartsInside, pace_of, settled_in, settles}
 use Rattle.us_calendar.proofs.FitLaws.{grants_fit}
 use Rattle.us_calendar.proofs.RunLaws.{run_ended}
 use Rattle.us_crew.specs.Items.{AreAccepted}
@@ -110,12 +110,12 @@ fill_sound t round c calendar lawful pace =
     let board : Board = reserves c (map_len t c) round in
     let fitting = grants_fit calendar.pace calendar.next_round calendar.states board in
     let ended = run_ended calendar.pace calendar.next_round calendar.states board in
-    let len : length (ran calendar board).board.cells ≡ map_len t c =
+    let len : length (settles calendar board).board.cells ≡ map_len t c =
     ap (λ b. length b.cells) fitting.0 ∙ assign_all-length board _ fitting.1
     ∙ reserves_length c (map_len t c) round lawful.reserves in
     record {
       len = len;
-      inside = subst (λ n. AllByRecursion (StartsInside n) (ran calendar board).settled)
+      inside = subst (λ n. AllByRecursion (StartsInside n) (settles calendar board).settled)
           (ap (λ p. p.len) pace ∙ sym len) ended.inside;
       few = omega (arith, ended.granted);
     }
@@ -156,16 +156,16 @@ filled_sound t round cs lawful are = all_sound t round t.channels cs lawful.chan
 
 all_counted : (t : Tables) (round : ℕ) (channels : List Channel) (cs : List Calendar) → length cs ≡ length channels →
     settled_now (map (λ (item : Channel × Calendar). fill t round item.0 item.1) (zip channels cs)) + sum_by settled_in cs
-    ≡ settled_then (map (λ (item : Channel × Calendar). fill t round item.0 item.1) (zip channels cs))
-all_counted t round [] [] is = refl
+    ≤ settled_then (map (λ (item : Channel × Calendar). fill t round item.0 item.1) (zip channels cs))
+all_counted t round [] [] is = omega arith
 all_counted t round [] (calendar ∷ cs) is = absurd (omega (arith, is))
 all_counted t round (c ∷ channels) [] is = absurd (omega (arith, is))
 all_counted t round (c ∷ channels) (calendar ∷ cs) is =
     let f : Filled = fill t round c calendar in
     let fs : List Filled = map (λ (item : Channel × Calendar). fill t round item.0 item.1) (zip channels cs) in
-    let counts : length f.settled + settled_in calendar ≡ settled_in f.calendar =
+    let counts : length f.settled + settled_in calendar ≤ settled_in f.calendar =
     (run_ended calendar.pace calendar.next_round calendar.states (reserves c (map_len t c) round)).counts in
-    let rest : settled_now fs + sum_by settled_in cs ≡ settled_then fs =
+    let rest : settled_now fs + sum_by settled_in cs ≤ settled_then fs =
     all_counted t round channels cs (omega (arith, is)) in
     let now : settled_now (f ∷ fs) ≡ length f.settled + settled_now fs = sum_by-cons (λ f. length f.settled) f fs in
     let then : settled_then (f ∷ fs) ≡ settled_in f.calendar + settled_then fs =
@@ -176,5 +176,5 @@ all_counted t round (c ∷ channels) (calendar ∷ cs) is =
 
 -- what calendars settle is counted
 pub filled_counted : (t : Tables) (round : ℕ) (cs : List Calendar) → AreCalendars t round cs →
-    settled_now (filled t round cs) + sum_by settled_in cs ≡ settled_then (filled t round cs)
+    settled_now (filled t round cs) + sum_by settled_in cs ≤ settled_then (filled t round cs)
 filled_counted t round cs are = all_counted t round t.channels cs (calendars_long t round cs are)

@@ -1,11 +1,10 @@
 -- The rounds of a schedule, one after another: each begins with a state, and is sound.
 use Rattle.std.proofs.Common.{◌≡◌, ℕ, ◌+◌, ◌<◌, ◌==◌, List, [], ◌∷◌, length, map, refl, ap, sym, subst, ◌∙◌, inl, inr, arith}
-use Rattle.std.specs.Prelude.{zip}
 use Rattle.std.specs.List.{AllByRecursion}
 use Rattle.std.proofs.lemmas.Bool.{cases_Bool}
 use Rattle.std.proofs.lemmas.List.{length-map}
 use Rattle.us_flows.specs.Tables.{Tables}
-use Rattle.us_flows.specs.Clusters.{clusters_of}
+use Rattle.us_flows.specs.Clusters.{words_of}
 use Rattle.us_flows.specs.Lawful.{AreTables}
 use Rattle.us_bucket.specs.Levels.{Level, refilled, bytes_in, reserve_in}
 use Rattle.us_split.specs.Plans.{IsIdle}
@@ -16,7 +15,8 @@ use Rattle.us_round.specs.States.{IsState, AreSound}
 use Rattle.us_round.specs.ScheduleLaws.{begun_rounds, AreCuts, ScheduleIsOfBegunRounds, RoundsAreNumbered, TablesStay, RoundsAreSound}
 use Rattle.us_output.proofs.PartLemmas.{all_weaker}
 use Rattle.us_round.proofs.FillLemmas.{filled_idle}
-use Rattle.us_round.proofs.PhaseLemmas.{filled_sound, zip_long}
+use Rattle.us_round.proofs.CutLemmas.{asked_long, paces_heard, rounds_heard}
+use Rattle.us_round.proofs.PhaseLemmas.{filled_sound}
 use Rattle.us_round.proofs.CalendarLemmas.{state_next, opening_state}
 use Rattle.us_round.proofs.ReserveLemmas.{unreserved-length}
 use Rattle.us_round.proofs.SoundLemmas.{sound, turns_planned}
@@ -30,14 +30,13 @@ brought-length s levels = elim (cases_Bool (s.round == 0)) [
 ]
 
 -- a round begins with a state,
-pub begun_state : (s : State) (cut : List ℕ) → IsState s → length cut ≡ length (clusters_of s.tables) → IsState (begun s cut)
+pub begun_state : (s : State) (cut : List ℕ) → IsState s → length cut ≡ length (words_of s.tables) → IsState (begun s cut)
 begun_state s cut is long = record {
-  clusters = length-map (zip s.outstanding cut) (λ (pair : ℕ × ℕ). pair.0 + pair.1)
-      ∙ zip_long s.outstanding cut (omega (arith, long, is.clusters)) ∙ long;
+  words = asked_long s.tables s.outstanding cut is.words long;
   flows = brought-length s s.buckets ∙ is.flows;
   reserves = brought-length s s.reserves ∙ is.reserves;
-  paces = is.paces;
-  rounds = is.rounds;
+  paces = paces_heard cut s.calendars ∙ is.paces;
+  rounds = rounds_heard cut s.round s.calendars is.rounds;
 }
 
 pub calendars_in : (s : State) → IsState s → AreCalendars s.tables s.round s.calendars
@@ -57,9 +56,9 @@ next_state s is =
       claims = [];
     } in
     let next = state_next core s.calendars (builds_of s)
-    (record { clusters = is.clusters; flows = is.flows; reserves = is.reserves }) (calendars_in s is) refl in
+    (record { words = is.words; flows = is.flows; reserves = is.reserves }) (calendars_in s is) refl in
     record {
-      clusters = next.clusters;
+      words = next.words;
       flows = next.flows;
       reserves = unreserved-length (reserved_in s) 0 s.reserves ∙ is.reserves;
       paces = next.paces;
@@ -77,7 +76,7 @@ state_idle s lawful is =
 -- and is sound
 pub state_sound : (s : State) → AreTables s.tables → IsState s → AreSound s (builds_of s)
 state_sound s lawful is =
-    sound s lawful (calendars_in s is) is.clusters is.flows
+    sound s lawful (calendars_in s is) is.words is.flows
     (plan_for-lawful s.tables s.outstanding (map bytes_in s.buckets) (map reserve_in s.reserves) (idle (fills_of s)) lawful
     (state_idle s lawful is))
     (turns_planned s) (state_filled s lawful is)

@@ -6,7 +6,7 @@ use Rattle.std.proofs.lemmas.List.{length-append, length-map}
 use Rattle.std.proofs.lemmas.Option.{slice_get-map, get_or_from_slice_get}
 use Rattle.us_slots.specs.Bursts.{ChannelBursts, IsChannelBursts}
 use Rattle.us_flows.specs.Tables.{Tables}
-use Rattle.us_flows.specs.Clusters.{Turn, IsTurnIn, clusters_of, turns_of}
+use Rattle.us_flows.specs.Clusters.{Turn, IsTurnIn, words_of, turns_of}
 use Rattle.us_flows.specs.Lawful.{AreTables, IsChannel, AreApart}
 use Rattle.us_flows.proofs.TurnLaws.{turns_of-turns}
 use Rattle.us_bucket.specs.Levels.{Level, bytes_in, reserve_in}
@@ -95,7 +95,7 @@ abbrev Known : List ℕ → List Level → Claimant → Type 0
 Known os bs c = (c.cluster < length os) × (c.place < length bs)
 
 all_known : (t : Tables) (plan : List Planned) (fs : List Filled) (os : List ℕ) (bs : List Level) →
-    map (λ planned. planned.turn) plan ≡ turns_of t → length os ≡ length (clusters_of t) →
+    map (λ planned. planned.turn) plan ≡ turns_of t → length os ≡ length (words_of t) →
     length bs ≡ length t.flows → AllByRecursion (IsKnown (length os) (length bs)) (all_grants (map (build_planned plan) fs))
 all_known t plan fs os bs turns clusters flows =
     all_weaker (λ g. Known os bs g.claimant) (IsKnown (length os) (length bs))
@@ -157,7 +157,7 @@ channels_sound t plan (f ∷ fs) are long =
 
 -- The round of a state.
 pub sound : (s : State) → AreTables s.tables → AreCalendars s.tables s.round s.calendars →
-    length s.outstanding ≡ length (clusters_of s.tables) → length s.buckets ≡ length s.tables.flows →
+    length s.outstanding ≡ length (words_of s.tables) → length s.buckets ≡ length s.tables.flows →
     IsLawfulPlan s.tables s.outstanding (map bytes_in s.buckets) (idle (fills_of s)) (round_plan s) →
     map (λ planned. planned.turn) (round_plan s) ≡ turns_of s.tables →
     AllByRecursion (IsFilledFor s.tables) (fills_of s) → AreSound s (builds_of s)

@@ -3,7 +3,7 @@ use Rattle.std.proofs.Common.{◌≡◌, ℕ, ◌+◌, ◌*◌, ◌≤◌, List,
 use Rattle.std.specs.Prelude.{zip, filter_map, ◌-◌}
 use Rattle.std.specs.List.{AllByRecursion}
 use Rattle.us_flows.specs.Tables.{Tables, max_run_ticks}
-use Rattle.us_flows.specs.Clusters.{clusters_of, turns_of}
+use Rattle.us_flows.specs.Clusters.{words_of, turns_of}
 use Rattle.us_flows.specs.Lawful.{AreTables, IsChannel}
 use Rattle.us_bucket.specs.Levels.{bytes_in, reserve_in}
 use Rattle.us_calendar.specs.Calendars.{pace_of}
@@ -11,14 +11,15 @@ use Rattle.us_holes.specs.Boards.{free_count}
 use Rattle.us_split.specs.Plans.{IsIdle, plan_for}
 use Rattle.us_split.specs.Claims.{Claim, all_claims}
 use Rattle.us_split.proofs.ClaimLemmas.{plan_for-claims}
-use Rattle.us_channel.specs.Channels.{Filled, Built, IsBuilt, fill, ungranted}
+use Rattle.us_channel.specs.Channels.{Filled, Built, IsBuilt, fill, heard, ungranted}
 use Rattle.us_output.specs.Outputs.{RoundOut, Scheduled, out_of, AreWithinLimits}
 use Rattle.us_output.specs.Leftovers.{still_asking, told}
 use Rattle.us_round.specs.Rounds.{State, RoundResult, begun, fills_of, idle, round_plan, builds_of, round_from, round_of}
 use Rattle.us_round.specs.States.{IsState, AreSound, settled_by}
-use Rattle.us_round.specs.Cores.{Core, IsReady, begun_core, credited_core, first_sid_at, idle_of, plan_over, planned_core}
+use Rattle.us_round.specs.Cores.{Core, IsReady, begun_core, credited_core, first_sid_at, idle_of, plan_over, planned_core, with_calendars}
 use Rattle.us_round.specs.Parts.{ArePartsDone, ArePartsOfRound, ArePartsOfState, AreBuilt, AreClaimsOn, built_by, done_by, done_of, filled_by, state_of}
 use Rattle.us_round.proofs.AskingLemmas.{pendings_are}
+use Rattle.us_round.proofs.CutLemmas.{calendars_heard, channels_heard, settled_heard}
 use Rattle.us_round.proofs.FillLemmas.{filled_channels}
 use Rattle.us_round.proofs.PhaseLemmas.{all_ready}
 use Rattle.us_round.proofs.SoundLemmas.{builds_are, claims_for}
@@ -29,11 +30,15 @@ use Rattle.us_round.proofs.RoundLemmas.{left_state, run_state, run_scheduled, ru
 
 -- The beginning.
 
+pub begun_as : (old : Core) (bs : List Built) (cut : List ℕ) →
+    state_of (begun_core old cut) (map (heard cut) bs) ≡ begun (state_of old bs) cut
+begun_as old bs cut = ap (λ cs. with_calendars (begun_core old cut) cs) (calendars_heard cut bs)
+
 pub begun_parts : (old : Core) (bs : List Built) (cut : List ℕ) → ArePartsOfState old bs → AreTables old.tables →
-    length cut ≡ length (clusters_of old.tables) → ArePartsOfRound (begun_core old cut) bs
+    length cut ≡ length (words_of old.tables) → ArePartsOfRound (begun_core old cut) (map (heard cut) bs)
 begun_parts old bs cut are lawful long = record {
-  state = begun_state (state_of old bs) cut are.state long;
-  channels = are.channels;
+  state = subst IsState (sym (begun_as old bs cut)) (begun_state (state_of old bs) cut are.state long);
+  channels = channels_heard cut bs ∙ are.channels;
   told = refl;
   lawful = lawful;
 }
@@ -188,8 +193,10 @@ unfolding round_of
 few_as s cut core bs done are begins is limits =
     subst (λ d. length (out_of s.tables d.scheduled).rows + settled_by s
     ≤ 100 * length s.tables.channels + settled_by d.state) (sym is)
+    (subst (λ n. length (out_of s.tables (round_from (begun s cut)).scheduled).rows + n
+    ≤ 100 * length s.tables.channels + settled_by (round_from (begun s cut)).state) (settled_heard cut s.calendars)
     (run_few (begun s cut) (subst (λ b. AreTables b.tables) begins are.lawful) (subst IsState begins are.state)
-    (subst (λ d. AreWithinLimits s.tables d.scheduled) is limits))
+    (subst (λ d. AreWithinLimits s.tables d.scheduled) is limits)))
 
 pub sound_as : (s : State) (core : Core) (bs : List Built) → ArePartsOfRound core bs → state_of core bs ≡ s →
     AreSound s (builds_of s)

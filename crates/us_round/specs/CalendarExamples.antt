@@ -4,7 +4,7 @@ use Rattle.us_flows.specs.declared.flows.SchedulingType.TheVariants.{Unsolicited
 use Rattle.us_flows.specs.Tables.{FlowTable, Tables}
 use Rattle.us_bucket.specs.Levels.{reserve_in}
 use Rattle.us_codec.specs.Elements.{word_of}
-use Rattle.us_calendar.specs.Occurrences.{due}
+use Rattle.us_calendar.specs.Occurrences.{coming, due}
 use Rattle.us_calendar.specs.Settling.{settle_each, settle_entry}
 use Rattle.us_split.specs.Plans.{Planned}
 use Rattle.us_round.specs.Rounds.{begun, final, idle, fills_of, opening, round_plan, schedule}
@@ -70,7 +70,7 @@ requested = rows.Granted (record {
 -- The first grant has its minislot, and the second has none and is missed. 13 minislots are idle then, and carry 392
 -- bytes behind a header; but only 7 of them follow on, and these carry 200.
 lines : map (λ out. out.rows) (outs 1000) ≡ [] ∷ (unsolicited ∷ requested ∷ missed ∷ []) ∷ []
-unfolding round_steps due settle_each settle_entry
+unfolding round_steps coming due settle_each settle_entry
 lines = refl
 
 -- the plan pays for the minislots that are idle once the calendar has its own
@@ -78,23 +78,23 @@ planned :
     (idle (fills_of (begun (final (opening split) ((0 ∷ []) ∷ [])) (1000 ∷ []))) ≡ 13 ∷ []) ×
     (map (λ (p : Planned). p.shares) (round_plan (begun (final (opening split) ((0 ∷ []) ∷ [])) (1000 ∷ [])))
     ≡ (392 ∷ []) ∷ [])
-unfolding round_steps due settle_each settle_entry
+unfolding round_steps coming due settle_each settle_entry
 planned = (refl, refl)
 
 elements : map (λ out. map (λ m. map word_of m.elements) out.maps) (outs 1000) ≡
     ((0xfffc4000 ∷ 0xfffc400e ∷ 0x0001c010 ∷ []) ∷ [])
     ∷ ((0xfffc4000 ∷ 0x0806c006 ∷ 0x048e4007 ∷ 0xfffc400e ∷ 0x0001c010 ∷ []) ∷ []) ∷ []
-unfolding round_steps due settle_each settle_entry
+unfolding round_steps coming due settle_each settle_entry
 elements = refl
 
 -- what is not asked for credits nothing
 left : (final (opening split) ((0 ∷ []) ∷ (1000 ∷ []) ∷ [])).outstanding ≡ 800 ∷ []
-unfolding round_steps due settle_each settle_entry
+unfolding round_steps coming due settle_each settle_entry
 left = refl
 
 -- where the base flow's 3,044 bytes are reserved, those that are planned leave its reserve, and not those that are placed
 reserve_left :
     map reserve_in (final (opening (split_for (record base_flow { min_rate = 1280000 }))) ((0 ∷ []) ∷ (1000 ∷ []) ∷ [])).reserves
     ≡ 2652 ∷ 0 ∷ []
-unfolding round_steps due settle_each settle_entry
+unfolding round_steps coming due settle_each settle_entry
 reserve_left = refl

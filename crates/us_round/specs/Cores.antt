@@ -4,13 +4,13 @@ use Rattle.std.specs.Prelude.{◌≡◌, ℕ, ◌+◌, ◌-◌, ◌*◌, ◌<◌
 use Rattle.std.specs.List.{AllByRecursion}
 use Rattle.us_flows.specs.Tables.{Tables, map_len, max_run_ticks}
 use Rattle.us_flows.specs.Lawful.{AreTables, IsChannel}
-use Rattle.us_flows.specs.Clusters.{clusters_of, turns_of}
+use Rattle.us_flows.specs.Clusters.{turns_of, words_of}
 use Rattle.us_flows.specs.declared.turns.Turn as places
 use Rattle.us_bucket.specs.Levels.{Level, full, spent, bytes_in, reserve_in}
 use Rattle.us_holes.specs.Boards.{free_count}
 use Rattle.us_split.specs.Plans.{Planned, plan_for, reserved_for}
 use Rattle.us_split.specs.Claims.{Claim, all_claims}
-use Rattle.us_split.specs.Asking.{Asking, numbers_of, pending_places}
+use Rattle.us_split.specs.Asking.{Asking, numbers_of, pending_places, with_cut}
 use Rattle.us_split.specs.Planners.{Planner}
 use Rattle.us_channel.specs.Placements.{PlacedClaim}
 use Rattle.us_output.specs.Outputs.{first_sid}
@@ -19,7 +19,7 @@ use Rattle.us_calendar.specs.Calendars as calendars
 use Rattle.us_calendar.specs.Calendars.{Calendar, pace_of, settled_in, granted_in}
 use Rattle.us_channel.specs.Channels.{Filled, Built}
 use Rattle.us_round.specs.States.{Covers}
-use Rattle.us_round.specs.Rounds.{State, with_cut, grown, grown_reserves, all_grants, uncredited, spent_of, unreserved}
+use Rattle.us_round.specs.Rounds.{State, grown, grown_reserves, all_grants, uncredited, spent_of, unreserved}
 
 -- all of a state but its calendars
 pub record Core : Type 0 where
@@ -46,9 +46,9 @@ with_calendars core cs = record {
   calendars = cs;
 }
 
--- there is a number for each cluster, and a bucket and a reserve for each flow
+-- there is a number for each word, and a bucket and a reserve for each flow
 pub record IsCore (core : Core) : Type 0 where
-  pub clusters : length core.outstanding ≡ length (clusters_of core.tables)
+  pub words : length core.outstanding ≡ length (words_of core.tables)
   pub flows : length core.buckets ≡ length core.tables.flows
   pub reserves : length core.reserves ≡ length core.tables.flows
 
@@ -58,7 +58,7 @@ opening_core t = record {
   tables = t;
   round = 0;
   told = 0;
-  outstanding = replicate (length (clusters_of t)) 0;
+  outstanding = replicate (length (words_of t)) 0;
   buckets = map (λ flow. full flow.rate flow.burst) t.flows;
   reserves = map (λ flow. full flow.min_rate flow.burst) t.flows;
   pending = [];
@@ -71,7 +71,7 @@ begun_core core cut = record {
   tables = core.tables;
   round = core.round;
   told = core.round;
-  outstanding = with_cut core.outstanding cut;
+  outstanding = with_cut core.tables core.outstanding cut;
   buckets = grown (with_calendars core []);
   reserves = grown_reserves (with_calendars core []);
   pending = core.pending;
@@ -149,11 +149,11 @@ pub record IsRoom (levels : List Level) (noted : List ℕ) : Type 0 where
 pub record AreKept (t : Tables) (asks : Asking) (kept least : Buckets) (plans : Planner) (most : List (Option ℕ))
     (noted : List ℕ) : Type 0 where
   pub lawful : AreTables t
-  pub clusters : length asks.outstanding ≡ length (clusters_of t)
+  pub words : length asks.outstanding ≡ length (words_of t)
   pub buckets : AreBuckets t kept
   pub reserves : AreBuckets t least
   pub round : least.round ≡ kept.round
-  pub numbers : asks.numbers ≡ numbers_of (turns_of t)
+  pub tables : asks.tables ≡ t
   pub settled : asks.left ≡ asks.outstanding
   pub planner : plans.tables ≡ t
   pub allowances : length most ≡ length t.flows
@@ -192,7 +192,7 @@ left_at turns left (place ∷ these) levels =
 pub record AreCredited (grants : List PlacedClaim) (asking next : Asking) (buckets after : Buckets) : Type 0 where
   pub left : next.left ≡ uncredited grants 0 asking.left
   pub outstanding : next.outstanding ≡ asking.outstanding
-  pub numbers : next.numbers ≡ asking.numbers
+  pub tables : next.tables ≡ asking.tables
   pub levels : after.levels ≡ spent_of grants 0 buckets.levels
   pub ticks : after.ticks ≡ buckets.ticks
   pub round : after.round ≡ buckets.round
@@ -203,7 +203,7 @@ pub record IsCrediting (rest all : List PlacedClaim) (first now : Asking) (befor
   pub left : uncredited rest 0 now.left ≡ uncredited all 0 first.left
   pub levels : spent_of rest 0 after.levels ≡ spent_of all 0 before.levels
   pub outstanding : now.outstanding ≡ first.outstanding
-  pub numbers : now.numbers ≡ first.numbers
+  pub tables : now.tables ≡ first.tables
   pub ticks : after.ticks ≡ before.ticks
   pub round : after.round ≡ before.round
 
@@ -239,7 +239,7 @@ settled_now fs = sum_by (λ f. length f.settled) fs
 abbrev pub settled_then : List Filled → ℕ
 settled_then fs = sum_by (λ f. settled_in f.calendar) fs
 
--- the calendars of built channels settled what the channels tell
+-- the calendars of built channels settled what the channels tell, and what silent intervals leave out
 abbrev pub AreCounted : List Calendar → List Built → Type 0
 AreCounted before builds =
-    sum_by (λ b. length b.settled) builds + sum_by settled_in before ≡ sum_by (λ b. settled_in b.calendar) builds
+    sum_by (λ b. length b.settled) builds + sum_by settled_in before ≤ sum_by (λ b. settled_in b.calendar) builds

@@ -12,8 +12,10 @@ pub mod PendingExamples
 pub mod RoundExamples
 -- one turn after another,
 pub mod TurnExamples
--- and rounds with calendars
+-- rounds with calendars,
 pub mod CalendarExamples
+-- and rounds with marks of activity
+pub mod ActivityExamples
 -- what a round's grants take, and what a state keeps and tells
 pub mod States
 -- laws of the schedule

@@ -1,8 +1,10 @@
 -- Inside the crate, and of no use to a reader of the promise: a state in its parts, and what each stage of a round makes of
 -- them.
-use Rattle.std.specs.Prelude.{◌≡◌, ℕ, ◌+◌, ◌-◌, ◌*◌, ◌≤◌, List, [], Some, map, slice_get, slice_index_or}
-use Rattle.std.specs.List.{AllByRecursion}
-use Rattle.us_flows.specs.Tables.{max_run_ticks}
+use Rattle.std.specs.Prelude.{◌≡◌, ℕ, ◌+◌, ◌-◌, ◌*◌, ◌≤◌, ◌==◌, Bool, if◌then◌else◌, List, [], Option, Some, None, map, option_and_then, slice_get, slice_index, slice_index_or}
+use Rattle.std.specs.List.{AllByRecursion, find}
+use Rattle.us_flows.specs.Tables.{FlowTable, max_run_ticks}
+use Rattle.us_flows.specs.Clusters.{tells_activity}
+use Rattle.us_calendar.specs.Calendars.{activity_in}
 use Rattle.us_flows.specs.Lawful.{AreTables}
 use Rattle.us_crew.specs.Values.{values_of}
 use Rattle.us_split.specs.Claims.{Claim, IsClaimOn}
@@ -16,6 +18,14 @@ use Rattle.us_round.specs.Cores.{Core, credited_core, with_calendars}
 -- the state of these parts
 abbrev pub state_of : Core → List Built → State
 state_of core bs = with_calendars core (map (λ b. b.calendar) bs)
+
+-- what the calendar of the channel with this id heard last of the flow with that id,
+abbrev pub activity_heard : List Built → ℕ → ℕ → Option Bool
+activity_heard bs id flow = option_and_then (λ b. activity_in flow b.calendar) (find (λ b. b.channel.id == id) bs)
+
+-- and whether a flow is active, if it tells that
+abbrev pub activity_by : List Built → FlowTable → Option Bool
+activity_by bs flow = if tells_activity flow.kind then activity_heard bs (slice_index flow.channels 0) flow.id else None
 
 -- the channels are those of the tables
 pub record ArePartsOfState (core : Core) (bs : List Built) : Type 0 where

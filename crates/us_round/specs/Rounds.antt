@@ -1,19 +1,20 @@
 -- A round of a bonding group (ours), and the schedule, round after round.
 use Rattle.std.specs.Prelude.{ℕ, ◌+◌, ◌-◌, ◌==◌, nat_lt, Bool, ◌&&◌, if◌then◌else◌, List, [], ◌∷◌, length, replicate, map, flat_map, filter_map, zip, slice_index, Option, None}
 use Rattle.us_flows.specs.Tables.{Tables}
-use Rattle.us_flows.specs.Clusters.{Turn, clusters_of, turns_of}
+use Rattle.us_flows.specs.Clusters.{Turn, turns_of, words_of}
 use Rattle.us_bucket.specs.Levels.{Level, full, refilled, spent, bytes_in, reserve_in}
 use Rattle.us_holes.specs.Boards.{free_count}
 use Rattle.us_calendar.specs.Calendars as calendars
-use Rattle.us_calendar.specs.Calendars.{Calendar}
+use Rattle.us_calendar.specs.Calendars.{Calendar, heard_by}
+use Rattle.us_split.specs.Asking.{with_cut}
 use Rattle.us_split.specs.Plans.{Planned, plan_for, reserved_for}
 use Rattle.us_split.specs.Claims.{claims_on}
 use Rattle.us_channel.specs.Placements.{PlacedClaim, credits}
 use Rattle.us_channel.specs.Channels.{Filled, fill, Built, build_on}
 use Rattle.us_output.specs.Outputs.{Scheduled, first_sid}
 
--- what a round starts from: the tables, its number, the outstanding bytes of each cluster, the bucket of each flow and that of
--- its minimum rate, and the calendar of each channel
+-- what a round starts from: the tables, its number, the outstanding bytes by word, the bucket of each flow and that of its
+-- minimum rate, and the calendar of each channel, which knows which of its flows are active
 pub record State : Type 0 where
   pub tables : Tables
   pub round : ℕ
@@ -22,22 +23,18 @@ pub record State : Type 0 where
   pub reserves : List Level
   pub calendars : List Calendar
 
--- before round 0 nothing is outstanding, every bucket is full, and nothing of the calendars is settled
+-- before round 0 nothing is outstanding, every bucket is full, nothing of the calendars is settled, and every flow is active
 abbrev pub opening : Tables → State
 opening t = record {
   tables = t;
   round = 0;
-  outstanding = replicate (length (clusters_of t)) 0;
+  outstanding = replicate (length (words_of t)) 0;
   buckets = map (λ flow. full flow.rate flow.burst) t.flows;
   reserves = map (λ flow. full flow.min_rate flow.burst) t.flows;
   calendars = map (calendars.opening t) t.channels;
 }
 
 -- The start of a round.
-
--- with a cut: the bytes that are newly asked for of each cluster are outstanding too
-abbrev pub with_cut : List ℕ → List ℕ → List ℕ
-with_cut outstanding cut = map (λ pair. pair.0 + pair.1) (zip outstanding cut)
 
 -- in every round but the first buckets grow by what a round's time brings,
 abbrev pub brought : State → List Level → List Level
@@ -71,14 +68,14 @@ build_planned plan f = build_on (claims_on f.channel plan) f
 abbrev pub all_grants : List Built → List PlacedClaim
 all_grants builds = flat_map (λ b. b.grants) builds
 
--- whether a grant is of the cluster with this number, and whether it is of the flow at this place
+-- whether a grant is of the cluster whose word has this number, and whether it is of the flow at this place
 abbrev pub is_of_cluster : ℕ → PlacedClaim → Bool
 is_of_cluster number g = g.claimant.cluster == number
 
 abbrev pub is_of_flow : ℕ → PlacedClaim → Bool
 is_of_flow place g = g.claimant.place == place
 
--- credits leave the outstanding bytes of the clusters from `number` on,
+-- credits leave the outstanding bytes of the words from `number` on,
 abbrev pub uncredited : List PlacedClaim → ℕ → List ℕ → List ℕ
 uncredited grants number [] = []
 uncredited grants number (bytes ∷ more) =
@@ -114,15 +111,16 @@ pub record RoundResult : Type 0 where
   pub state : State
   pub scheduled : Scheduled
 
--- a state whose round has begun: what is newly asked for is outstanding too, and all buckets have grown
+-- a state whose round has begun: what the cut has of clusters is outstanding too, all buckets have grown, and all calendars
+-- have heard what it has of the activity of flows
 abbrev pub begun : State → List ℕ → State
 begun state cut = record {
   tables = state.tables;
   round = state.round;
-  outstanding = with_cut state.outstanding cut;
+  outstanding = with_cut state.tables state.outstanding cut;
   buckets = grown state;
   reserves = grown_reserves state;
-  calendars = state.calendars;
+  calendars = map (heard_by cut) state.calendars;
 }
 
 -- its channels, once reserves and calendars have their minislots
@@ -174,7 +172,7 @@ ended state builds =
 unfoldable pub round_from : State → RoundResult
 round_from state = ended state (builds_of state)
 
--- the round of a state, with the bytes that are newly asked for of each cluster
+-- the round of a state, with a cut: bytes by word, those that clusters newly ask for, and marks of activity
 unfoldable pub round_of : State → List ℕ → RoundResult
 round_of state cut = round_from (begun state cut)
 

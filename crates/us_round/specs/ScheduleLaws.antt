@@ -4,10 +4,11 @@ use Rattle.std.specs.List.{AllByRecursion, range_with_len}
 use Rattle.us_codec.specs.Bodies.{IsMapBody}
 use Rattle.us_flows.specs.declared.channels.Channel.{Channel}
 use Rattle.us_flows.specs.Tables.{Tables, map_len, rounds_fit}
-use Rattle.us_flows.specs.Clusters.{clusters_of, turns_of}
+use Rattle.us_flows.specs.Clusters.{turns_of, words_of}
 use Rattle.us_flows.specs.Lawful.{AreTables}
 use Rattle.us_bucket.specs.Levels.{bytes_in}
 use Rattle.us_holes.specs.Boards.{Board}
+use Rattle.us_split.specs.Asking.{requested_in}
 use Rattle.us_split.specs.Plans.{ledger_of, plan_of}
 use Rattle.us_calendar.specs.Calendars as calendars
 use Rattle.us_calendar.specs.Runs.{rounds_on}
@@ -38,9 +39,9 @@ abbrev pub TablesStay : Type 0
 TablesStay = (state : State) (cuts : List (List ℕ)) →
     AllByRecursion (λ s. s.tables ≡ state.tables) (begun_rounds state cuts)
 
--- a cut has a number for each cluster
+-- a cut has a number for each word
 abbrev pub AreCuts : Tables → List (List ℕ) → Type 0
-AreCuts t cuts = AllByRecursion (λ cut. length cut ≡ length (clusters_of t)) cuts
+AreCuts t cuts = AllByRecursion (λ cut. length cut ≡ length (words_of t)) cuts
 
 -- Every round from the opening on is sound.
 abbrev pub RoundsAreSound : Type 0
@@ -69,25 +70,25 @@ settled_at place s = slice_index_or (map (λ b. b.settled) s.channels) place []
 abbrev pub boards_of : Tables → Channel → ℕ → List Board
 boards_of t c rounds = map (reserves c (map_len t c)) (range_with_len 0 rounds)
 
--- The calendar of each channel goes over these boards, whatever the cuts are.
+-- The calendar of each channel goes over these boards, with these cuts and no others.
 abbrev pub CalendarsRun : Type 0
 CalendarsRun = (t : Tables) (cuts : List (List ℕ)) (place : ℕ) (c : Channel) → slice_get t.channels place ≡ Some c →
     map (settled_at place) (schedule (opening t) cuts)
-    ≡ map (λ round. round.settled) (rounds_on (calendars.opening t c) (boards_of t c (length cuts)))
+    ≡ map (λ round. round.settled) (rounds_on (calendars.opening t c) cuts (boards_of t c (length cuts)))
 
--- the bytes of the cluster with this number that cuts ask for,
-abbrev pub asked_of : ℕ → List (List ℕ) → ℕ
-asked_of number cuts = sum_by (λ cut. slice_index cut number) cuts
+-- the bytes of the word with this number that cuts request,
+abbrev pub asked_of : Tables → ℕ → List (List ℕ) → ℕ
+asked_of t number cuts = sum_by (λ cut. slice_index (requested_in (words_of t) cut) number) cuts
 
 -- and that rounds credit
 abbrev pub credited_of : ℕ → List Scheduled → ℕ
 credited_of number rounds = sum_by (λ s. credits (is_of_cluster number) (all_grants s.channels)) rounds
 
--- After any rounds from the opening on, each byte that was asked for is outstanding or was credited, once.
+-- After any rounds from the opening on, each byte that was requested is outstanding or was credited, once.
 abbrev pub BytesAreKept : Type 0
 BytesAreKept = (t : Tables) (cuts : List (List ℕ)) (number : ℕ) → AreTables t → AreCuts t cuts →
     slice_index (final (opening t) cuts).outstanding number + credited_of number (schedule (opening t) cuts)
-    ≡ asked_of number cuts
+    ≡ asked_of t number cuts
 
 -- the number of a round has four bytes, and the MAP of each channel is lawful
 abbrev pub HasLawfulMaps : Tables → Scheduled → Type 0

@@ -1,26 +1,27 @@
 -- What a state keeps and tells, and what of it the grants of a round may take.
-use Rattle.std.specs.Prelude.{◌≡◌, ℕ, ◌+◌, ◌*◌, ◌<◌, ◌≤◌, List, length, map, sum_by, slice_index, slice_get, Some}
-use Rattle.std.specs.List.{AllByRecursion}
-use Rattle.us_flows.specs.Clusters.{clusters_of, table_order}
+use Rattle.std.specs.Prelude.{◌≡◌, ℕ, ◌+◌, ◌*◌, ◌<◌, ◌≤◌, ◌==◌, Bool, if◌then◌else◌, List, ◌++◌, length, map, sum_by, zip, slice_index, slice_get, Option, Some, None, option_and_then}
+use Rattle.std.specs.List.{AllByRecursion, find}
+use Rattle.us_flows.specs.Tables.{FlowTable}
+use Rattle.us_flows.specs.Clusters.{table_order, tells_activity, words_of}
 use Rattle.us_bucket.specs.Levels.{Level, bytes_in}
 use Rattle.us_split.specs.PlanLaws.{Within}
-use Rattle.us_calendar.specs.Calendars.{pace_of, settled_in, max_settled, granted_in}
+use Rattle.us_calendar.specs.Calendars.{activity_in, pace_of, settled_in, max_settled, granted_in}
 use Rattle.us_channel.specs.Placements.{PlacedClaim, credits}
 use Rattle.us_channel.specs.Channels.{Built}
-use Rattle.us_output.specs.Outputs.{final_row}
+use Rattle.us_output.specs.Outputs.{activity_rows, final_row}
 use Rattle.us_output.specs.Leftovers.{IsBuiltFor, AreInside}
 use Rattle.us_output.specs.declared.rows.Row.{Row}
 use Rattle.us_round.specs.Rounds.{State, all_grants, is_of_cluster, is_of_flow}
 
--- there is a number for each cluster, a bucket and a reserve for each flow, and a calendar for each channel, at this round
+-- there is a number for each word, a bucket and a reserve for each flow, and a calendar for each channel, at this round
 pub record IsState (s : State) : Type 0 where
-  pub clusters : length s.outstanding ≡ length (clusters_of s.tables)
+  pub words : length s.outstanding ≡ length (words_of s.tables)
   pub flows : length s.buckets ≡ length s.tables.flows
   pub reserves : length s.reserves ≡ length s.tables.flows
   pub paces : map (λ calendar. calendar.pace) s.calendars ≡ map (pace_of s.tables) s.tables.channels
   pub rounds : AllByRecursion (λ calendar. calendar.next_round ≡ s.round) s.calendars
 
--- how many occurrences the calendars have settled so far, granted or missed
+-- how many occurrences the calendars have settled so far
 abbrev pub settled_by : State → ℕ
 settled_by s = sum_by settled_in s.calendars
 
@@ -47,6 +48,18 @@ pub record AreSound (s : State) (builds : List Built) : Type 0 where
   pub inside : AllByRecursion AreInside builds
   pub few : AllByRecursion (λ b. granted_in b.settled + length b.grants ≤ b.board.standing) builds
 
--- the F lines of a state, in table order
+-- what the calendar of the channel with this id knows of the activity of the flow with that id,
+abbrev pub activity_on : State → ℕ → ℕ → Option Bool
+activity_on s channel flow =
+    option_and_then (λ pair. activity_in flow pair.1)
+    (find (λ pair. pair.0.id == channel) (zip s.tables.channels s.calendars))
+
+-- and whether a flow is active, if it tells that: its first channel knows
+abbrev pub activity_of : State → FlowTable → Option Bool
+activity_of s flow = if tells_activity flow.kind then activity_on s (slice_index flow.channels 0) flow.id else None
+
+-- the last lines of a state: the F lines, and behind them the A lines, both in table order
 unfoldable pub final_rows : State → List Row
-final_rows state = map (final_row state.outstanding state.buckets) (table_order state.tables)
+final_rows state =
+    map (final_row state.outstanding state.buckets) (table_order state.tables)
+    ++ activity_rows state.tables.flows (map (activity_of state) state.tables.flows)

@@ -1,7 +1,8 @@
 ghost use Rattle.std.specs.Prelude.{◌≡◌, ◌+◌, ◌*◌, ◌^◌, ◌<◌, ◌≤◌, ⊤, length, zip, IfErr, IfOk};
 ghost use Rattle.std.specs.List.{AllByRecursion};
 ghost use Rattle.us_flows.specs.Tables.{Tables, max_run_ticks};
-ghost use Rattle.us_flows.specs.Clusters.{clusters_of};
+ghost use Rattle.us_flows.specs.Clusters.{words_of};
+ghost use Rattle.us_crew.specs.declared.gates.Phase.TheVariants as phase;
 ghost use Rattle.us_crew.specs.Items.{AreAccepted};
 ghost use Rattle.us_crew.specs.Values.{values_of};
 ghost use Rattle.us_round.specs.Hands.{CanFill, CanBuild, filled_at, built_at};
@@ -27,7 +28,7 @@ impl<'a, G: Gate> Hands for Alone<'a, G> {
     ghost knows = { λ _ _. ⊤ };
 
     fn fill(&mut self, work: &Filling<'_>, channels: Vec<ChannelWithText>) -> Answered
-        requires ready { AreAccepted (λ _. ⊤) (CanFill work.now) channels.items }
+        requires ready { AreAccepted (G.entered self.old.gate.now phase.Fill) (CanFill work.now) channels.items }
         ensures value { IfOk result (λ all. all.items ≡ values_of (filled_at work.now) channels.items) }
         ensures same { (t : Tables) → ⊤ → ⊤ }
     {
@@ -40,7 +41,7 @@ impl<'a, G: Gate> Hands for Alone<'a, G> {
     }
 
     fn build(&mut self, work: &Building<'_>, channels: Vec<ChannelWithText>) -> Answered
-        requires claims { AreAccepted (λ _. ⊤) (CanBuild work.now) channels.items }
+        requires claims { AreAccepted (G.entered self.old.gate.now phase.Build) (CanBuild work.now) channels.items }
         ensures value { IfOk result (λ all. all.items ≡ values_of (built_at work.now) channels.items) }
         ensures same { (t : Tables) → ⊤ → ⊤ }
     {
@@ -61,7 +62,7 @@ pub fn round_alone(
     state: State,
     cuts: &[u64],
 ) -> Result<(State, RoundOut), RoundFault>
-    requires clusters { length cuts.now ≡ length (clusters_of state.tables) }
+    requires words { length cuts.now ≡ length (words_of state.tables) }
     requires room { AllByRecursion (λ pair. pair.0 + pair.1 < 2 ^ 62) (zip state.outstanding cuts.now) }
     requires time { (state.round + 1) * state.tables.round_ticks ≤ max_run_ticks }
     ensures state { IfOk result (λ done. done.0 ≡ (spec.round_of state cuts.now).state) }

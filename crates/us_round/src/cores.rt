@@ -1,7 +1,7 @@
 ghost use Rattle.std.specs.Prelude.{◌≡◌, ◌+◌, ◌-◌, ◌*◌, ◌^◌, ◌<◌, ◌≤◌, filter_map, length, zip, IfOk, OnOk};
 ghost use Rattle.std.specs.List.{AllByRecursion};
 ghost use Rattle.us_flows.specs.Tables.{max_run_ticks};
-ghost use Rattle.us_flows.specs.Clusters.{clusters_of};
+ghost use Rattle.us_flows.specs.Clusters.{words_of};
 ghost use Rattle.us_flows.specs.Lawful.{AreTables};
 ghost use Rattle.us_split.specs.Plans.{IsIdle};
 ghost use Rattle.us_channel.specs.Channels.{IsBuilt};
@@ -69,8 +69,8 @@ impl Drop for Kept {
     }
 }
 
-/// All that a round starts from but the channels: the configuration, the number of the round, what is outstanding of each
-/// SID cluster, and of each flow its bucket and that of its minimum rate; and the planner, which has the claims of the round.
+/// All that a round starts from but the channels: the configuration, the number of the round, what is outstanding by word, and
+/// of each flow its bucket and that of its minimum rate; and the planner, which has the claims of the round.
 pub(crate) struct Core {
     kept: Box<Kept>,
 }
@@ -103,7 +103,7 @@ impl Core {
         let planner = Planner::new(alloc, &config)?;
         let flows = config.flows().len();
         let allowances = no_limits(alloc, flows)?;
-        let left = nothing_left(alloc, &config)?;
+        let left = room_for_reserves(alloc, &config)?;
         let kept = Box::new(
             alloc,
             Kept {
@@ -136,7 +136,7 @@ impl Core {
         self.kept.round
     }
 
-    /// What is outstanding of each cluster.
+    /// What is outstanding, by word.
     pub(crate) fn outstanding(&self) -> &[u64]
         ensures { result.now ≡ self.now.outstanding }
     {
@@ -157,9 +157,10 @@ impl Core {
         &self.kept.planner
     }
 
-    /// Begins the round: each cluster asks for the bytes of its cut, and in every round but the first the buckets grow.
+    /// Begins the round: each cluster asks for the bytes that the cut has of its word, and in every round but the first the
+    /// buckets grow.
     pub(crate) fn begin(&mut self, cuts: &[u64])
-        requires clusters { length cuts.now ≡ length (clusters_of self.old.tables) }
+        requires words { length cuts.now ≡ length (words_of self.old.tables) }
         requires room { AllByRecursion (λ pair. pair.0 + pair.1 < 2 ^ 62) (zip self.old.outstanding cuts.now) }
         requires told { self.old.told ≡ self.old.round - 1 }
         requires time { (self.old.round + 1) * self.old.tables.round_ticks ≤ max_run_ticks }
@@ -240,9 +241,9 @@ fn no_limits(alloc: Global, flows: usize) -> Result<Vec<Option<u64>>, NoMemory>
     Ok(vec![in alloc; None; flows]?)
 }
 
-/// Nothing left of what is reserved, flow by flow; an empty list where no flow has a minimum rate, so that a round has nothing
-/// to look at.
-fn nothing_left(alloc: Global, config: &Config) -> Result<Vec<u64>, NoMemory>
+/// Room for what is reserved, flow by flow; an empty list where no flow has a minimum rate, so that a round has nothing to look
+/// at.
+fn room_for_reserves(alloc: Global, config: &Config) -> Result<Vec<u64>, NoMemory>
     ensures { IfOk result (λ all. spec.IsRoom (full_reserves config.now).levels all.items) }
 {
     let flows = config.flows();

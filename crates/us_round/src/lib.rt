@@ -30,6 +30,9 @@ mod cores;
 // both parts,
 mod parts;
 
+// which flows are active,
+mod activities;
+
 // the state, and what a round leaves of it.
 mod done;
 mod states;
@@ -55,8 +58,8 @@ pub use schedule_laws::{
 };
 pub use states::State;
 pub use us_output::{
-    EntryWord, FinalState, Grant, LineTally, MissedOccurrence, RoundOut, Row, Scratch, TraceCounts,
-    lines_are_of_grants, lines_bear_round,
+    EntryWord, FinalActivity, FinalState, Grant, LineTally, MissedOccurrence, RoundOut, Row,
+    Scratch, TraceCounts, lines_are_of_grants, lines_bear_round,
 };
 
 #[cfg(test)]

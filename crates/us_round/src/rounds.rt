@@ -1,10 +1,12 @@
-ghost use Rattle.std.specs.Prelude.{◌≡◌, ◌+◌, ◌*◌, ◌^◌, ◌<◌, ◌≤◌, ◌⊎◌, ◌↔◌, ⊤, length, zip, Err, IfOk};
+ghost use Rattle.std.specs.Prelude.{◌≡◌, ◌+◌, ◌*◌, ◌^◌, ◌<◌, ◌≤◌, ◌⊎◌, ◌↔◌, ⊤, length, map, zip, Err, IfOk};
 ghost use Rattle.std.specs.List.{AllByRecursion};
 ghost use Rattle.us_flows.specs.Tables.{Tables, max_run_ticks};
-ghost use Rattle.us_flows.specs.Clusters.{clusters_of};
+ghost use Rattle.us_flows.specs.Clusters.{words_of};
 ghost use Rattle.us_holes.specs.Boards.{max_assignments};
+ghost use Rattle.us_crew.specs.declared.gates.Phase.TheVariants as phase;
 ghost use Rattle.us_crew.specs.Items.{AreAccepted};
 ghost use Rattle.us_crew.specs.Values.{values_of};
+ghost use Rattle.us_channel.specs.Channels.{heard};
 ghost use Rattle.us_round.specs.Hands.{CanFill, CanBuild, filled_at, built_at};
 ghost use Rattle.us_round.specs.Parts.{ArePartsOfRound, state_of};
 ghost use Rattle.us_round.specs.Rounds as spec;
@@ -22,14 +24,15 @@ use us_crew::{Gate, MAX_WORKERS, Phase, map_owned};
 use us_output::{ChannelWithText, RoundOut};
 use us_slots::NoMemory;
 
-/// Schedules the round of a state, in which the clusters ask for the bytes of `cuts`, one number for each cluster in
-/// the order of their numbers. The answer has the state that the next round starts from.
+/// Schedules the round of a state with the round's cut: `cuts` has one number for each word, in the order of their numbers.
+/// The words of clusters have the bytes that these newly ask for. Those of activity have bytes where the flow is marked as
+/// silent or as active, and ask for nothing. The answer has the state that the next round starts from.
 ///
 /// Channels are moved to workers and back twice: in phase `Fill` for reserves and calendars, then, once all boards are
 /// planned together, in phase `Build`. Each worker enters the gate before each channel. What is answered is the same
 /// for every number of workers. RO1 is looked for before all else.
 ///
-/// Each cluster's outstanding bytes and its cut together have to be below 2^62, and the round has to end at tick 2^26
+/// The outstanding bytes of each word and its cut together have to be below 2^62, and the round has to end at tick 2^26
 /// or before. On a fault the state is given up.
 pub fn round<H: Threads + Sync, G: Gate + Sync>(
     threads: &H,
@@ -39,7 +42,7 @@ pub fn round<H: Threads + Sync, G: Gate + Sync>(
     workers: usize,
     gate: &G,
 ) -> Result<(State, RoundOut), RoundFault>
-    requires clusters { length cuts.now ≡ length (clusters_of state.tables) }
+    requires words { length cuts.now ≡ length (words_of state.tables) }
     requires room { AllByRecursion (λ pair. pair.0 + pair.1 < 2 ^ 62) (zip state.outstanding cuts.now) }
     requires time { (state.round + 1) * state.tables.round_ticks ≤ max_run_ticks }
     ensures workers { (result ≡ Err RoundFault.Workers) ↔ ((workers ≡ 0) ⊎ (64 < workers)) }
@@ -62,11 +65,11 @@ pub fn round<H: Threads + Sync, G: Gate + Sync>(
         return Err(RoundFault::Workers);
     }
     let fill = |work: &Filling<'_>, channels: Vec<ChannelWithText>| -> Answered
-        requires { AreAccepted (λ _. ⊤) (CanFill work.now) channels.items }
+        requires { AreAccepted (G.entered gate.now phase.Fill) (CanFill work.now) channels.items }
         ensures { IfOk result (λ all. all.items ≡ values_of (filled_at work.now) channels.items) }
     { answers(map_owned(threads, alloc, work, Phase::Fill, channels, workers, gate)) };
     let build = |work: &Building<'_>, channels: Vec<ChannelWithText>| -> Answered
-        requires { AreAccepted (λ _. ⊤) (CanBuild work.now) channels.items }
+        requires { AreAccepted (G.entered gate.now phase.Build) (CanBuild work.now) channels.items }
         ensures { IfOk result (λ all. all.items ≡ values_of (built_at work.now) channels.items) }
     { answers(map_owned(threads, alloc, work, Phase::Build, channels, workers, gate)) };
     let done = step(state, cuts, &mut ByEach { fill, build })?;
@@ -79,7 +82,7 @@ pub fn round<H: Threads + Sync, G: Gate + Sync>(
 ///
 /// On want of memory the state is given up.
 pub fn step<H: Hands>(state: State, cuts: &[u64], hands: &mut H) -> Result<RoundDone, NoMemory>
-    requires clusters { length cuts.now ≡ length (clusters_of state.tables) }
+    requires words { length cuts.now ≡ length (words_of state.tables) }
     requires room { AllByRecursion (λ pair. pair.0 + pair.1 < 2 ^ 62) (zip state.outstanding cuts.now) }
     requires time { (state.round + 1) * state.tables.round_ticks ≤ max_run_ticks }
     requires hands { H.knows hands.old state.tables }
@@ -104,9 +107,10 @@ pub fn step<H: Hands>(state: State, cuts: &[u64], hands: &mut H) -> Result<Round
     built.close()
 }
 
-/// Begins the round of a state: what the clusters ask for is outstanding too, and the buckets grow.
+/// Begins the round of a state: what the clusters ask for is outstanding too, the buckets grow, and the calendars hear which
+/// flows are active from this round on, and which are silent.
 fn begin(state: State, cuts: &[u64]) -> Parts
-    requires clusters { length cuts.now ≡ length (clusters_of state.tables) }
+    requires words { length cuts.now ≡ length (words_of state.tables) }
     requires room { AllByRecursion (λ pair. pair.0 + pair.1 < 2 ^ 62) (zip state.outstanding cuts.now) }
     requires time { (state.round + 1) * state.tables.round_ticks ≤ max_run_ticks }
     ensures value { state_of result.core result.channels.items ≡ spec.begun state cuts.now }
@@ -114,5 +118,15 @@ fn begin(state: State, cuts: &[u64]) -> Parts
 {
     let mut parts = state.into_parts();
     parts.core.begin(cuts);
+    hear_all(&mut parts.channels, cuts);
     parts
+}
+
+/// Has all channels hear a round's cut.
+fn hear_all(channels: &mut [ChannelWithText], cuts: &[u64])
+    ensures { channels.new ≡ map (heard cuts.now) channels.old }
+{
+    for channel in channels.iter_mut() {
+        channel.hear(cuts);
+    }
 }

@@ -20,8 +20,8 @@ pub fn one_pass_does()
     ensures { OnePassDoes }
 {}
 
-/// A round's channels are those of the tables, and the calendar of each goes over the boards of its reserves, whatever the
-/// cuts are.
+/// A round's channels are those of the tables, and the calendar of each goes over the boards of its reserves, with the cuts of
+/// the rounds.
 pub fn calendars_run()
     ensures channels { ChannelsStay }
     ensures settled { CalendarsRun }

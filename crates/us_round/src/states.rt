@@ -4,17 +4,18 @@ ghost use Rattle.us_round.specs.Parts.{ArePartsOfState, state_of};
 ghost use Rattle.us_round.specs.Rounds as spec;
 ghost use Rattle.us_round.specs.States.{final_rows, IsState, settled_by, max_settled_by};
 
+use crate::activities::activities;
 use crate::cores::Core;
 use crate::faults::RoundFault;
 use crate::parts::Parts;
 use std::alloc::Global;
 use std::marker::Model;
 use us_flows::Config;
-use us_output::{ChannelWithText, Row};
+use us_output::{ChannelWithText, Row, activity_rows};
 use us_slots::NoMemory;
 
 /// What a round starts from: the configuration, the number of the round, what is outstanding of each SID cluster, the
-/// bucket of each flow, and the calendar of each channel.
+/// bucket of each flow, and the calendar of each channel, which knows which of its flows are active.
 pub struct State {
     parts: Parts,
 }
@@ -35,8 +36,8 @@ impl Drop for State {
 }
 
 impl State {
-    /// Before round 0: nothing is outstanding, every bucket is full, and nothing of the calendars is settled. The fault
-    /// is want of memory, and the configuration is given up then.
+    /// Before round 0: nothing is outstanding, every bucket is full, nothing of the calendars is settled, and every flow is
+    /// active. The fault is want of memory, and the configuration is given up then.
     pub fn new(alloc: Global, config: Config) -> Result<State, RoundFault>
         ensures state { IfOk result (λ state. state ≡ spec.opening config) }
         ensures fault { IfErr result (λ given. given ≡ RoundFault.NoMemory) }
@@ -76,16 +77,29 @@ impl State {
         &self.parts.core
     }
 
-    /// The F lines: of each SID cluster in table order what is outstanding, and the units of its flow's bucket. The fault
-    /// is want of memory.
-    #[tactic(auto, unfolding(crate::specs::States::final_rows))]
+    /// The F lines: of each SID cluster in table order what is outstanding, and the units of its flow's bucket. Behind them
+    /// the A lines: of each flow in table order whose activity is detected, whether it is active as of the last round's cut.
+    /// The fault is want of memory.
     pub fn finals(&self, alloc: Global) -> Result<Vec<Row>, RoundFault>
         ensures rows { IfOk result (λ rows. rows.items ≡ final_rows self.now) }
         ensures fault { IfErr result (λ given. given ≡ RoundFault.NoMemory) }
     {
+        let rows = self.last_rows(alloc)?;
+        Ok(rows)
+    }
+
+    /// The same lines.
+    #[tactic(auto, unfolding(crate::specs::States::final_rows))]
+    fn last_rows(&self, alloc: Global) -> Result<Vec<Row>, NoMemory>
+        ensures { IfOk result (λ rows. rows.items ≡ final_rows self.now) }
+    {
         let core = self.core();
+        let config = core.config();
         let buckets = core.buckets(alloc)?;
-        let rows = us_output::final_rows(alloc, core.config(), core.outstanding(), &buckets)?;
+        let told = activities(alloc, config, &self.parts.channels)?;
+        let mut rows = us_output::final_rows(alloc, config, core.outstanding(), &buckets)?;
+        let mut active = activity_rows(alloc, config, &told)?;
+        rows.append(&mut active)?;
         Ok(rows)
     }
 

@@ -1,6 +1,7 @@
-//! What no clause says: worked rounds, that workers enter the gate and are at work at the same time, and each allocation
+//! What no clause says: worked rounds, marks of activity, that workers enter the gate and are at work at the same time, and each allocation
 //! refused in turn.
 
+mod activity;
 mod base;
 mod calendars;
 mod entering;

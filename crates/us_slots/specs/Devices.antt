@@ -4,10 +4,16 @@ use Rattle.std.specs.Io.KnownBytes.{Appends, Consumes}
 use Rattle.us_slots.specs.declared.devices.reading.ReadFault.{ReadFault}
 use Rattle.us_slots.specs.declared.devices.reading.ReadFault.TheVariants as fault
 
--- a reader or a writer, and whether a call of it failed
+-- a reader, and whether a call of it failed
 pub record Device (D : Type 0) : Type 0 where
   pub inner : D
   pub failed : Bool
+
+-- a writer, whether a call of it failed, and whether the last one was a flush that didn't
+pub record WriteDevice (D : Type 0) : Type 0 where
+  pub inner : D
+  pub failed : Bool
+  pub flushed : Bool
 
 -- a write that failed: an Err, or no byte taken of a piece that isn't empty
 abbrev pub is_failed_write : {E : Type 0} → Result ℕ E → List ℕ → Bool

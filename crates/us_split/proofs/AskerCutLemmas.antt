@@ -1,25 +1,33 @@
--- Who asks in a cut: clusters that ask for nothing are passed, since nothing changes with them.
+-- Who asks in a cut: words that have nothing are passed, since nothing changes with them.
 use Rattle.std.proofs.Common.{◌≡◌, ℕ, zero, suc, ◌+◌, ◌-◌, ◌<◌, ◌≤◌, List, length, get_or, take, drop, replicate, zip, sym, ap, ◌∙◌, subst, inl, inr, arith}
 use Rattle.std.specs.Prelude.{slice_index}
 use Rattle.std.specs.List.{AllByRecursion}
 use Rattle.std.proofs.lemmas.Bool.{cases_lt}
 use Rattle.std.proofs.lemmas.List.{get_or-drop, get_or-take, get_or-replicate}
-use Rattle.us_split.specs.Askers.{AskNothing}
+use Rattle.us_flows.specs.Clusters.{Word}
+use Rattle.us_split.specs.Asking.{requested_in}
+use Rattle.us_split.specs.Askers.{HasNothing}
 use Rattle.us_split.proofs.AskerStepLemmas.{Fits, none-more, room-more, walked, walked-more}
+use Rattle.us_split.proofs.RequestedLemmas.{requested-idle}
 
--- so many clusters more
-pub idle_more : (cut : List ℕ) (from at count : ℕ) → AskNothing cut from at →
-    take count (drop at cut) ≡ replicate count 0 → AskNothing cut from (at + count)
-idle_more cut from at count none idle = λ cluster above below. elim (cases_lt cluster at) [
-  | inl before ↦ none cluster above before
+-- so many words more
+pub idle_more : (cut : List ℕ) (from at count : ℕ) → HasNothing cut from at →
+    take count (drop at cut) ≡ replicate count 0 → HasNothing cut from (at + count)
+idle_more cut from at count none idle = λ word above below. elim (cases_lt word at) [
+  | inl before ↦ none word above before
   | inr after ↦
-      let place : ℕ = cluster - at in
+      let place : ℕ = word - at in
       let here : place < count = omega (arith, after, below) in
-      let there : at + place ≡ cluster = omega (arith, after) in
+      let there : at + place ≡ word = omega (arith, after) in
       ap (λ n. get_or cut n 0) (sym there) ∙ sym (get_or-drop at cut place 0) ∙
       sym (get_or-take count (drop at cut) place 0 here) ∙ ap (λ xs. get_or xs place 0) idle ∙
       get_or-replicate count place 0 0 here
 ]
+
+-- where a cut has nothing, nothing is requested
+pub none-requested : (words : List Word) (cut : List ℕ) (from to : ℕ) → HasNothing cut from to →
+    HasNothing (requested_in words cut) from to
+none-requested words cut from to none = λ word above below. requested-idle words cut word (none word above below)
 
 -- With one of them nothing changes,
 module _ (k : ℕ) (counts cut : List ℕ) (inside : k < length cut) (none : slice_index cut k ≡ 0) where
@@ -34,7 +42,7 @@ module _ (k : ℕ) (counts cut : List ℕ) (inside : k < length cut) (none : sli
       (none-more counts k (slice_index cut k) none) (room-more k (slice_index cut k) counts cut inside all)
 
 -- nor with so many of them,
-walked-on : (count from : ℕ) (counts cut : List ℕ) → from + count ≤ length cut → AskNothing cut from (from + count) →
+walked-on : (count from : ℕ) (counts cut : List ℕ) → from + count ≤ length cut → HasNothing cut from (from + count) →
     walked (from + count) counts cut ≡ walked from counts cut
 walked-on zero from counts cut inside none =
     let same : from + 0 ≡ from = omega arith in ap (λ k. walked k counts cut) same
@@ -44,7 +52,7 @@ walked-on (suc count) from counts cut inside none =
     walked-idle (from + count) counts cut (omega (arith, inside)) (none (from + count) (omega arith) (omega arith)) ∙
     walked-on count from counts cut (omega (arith, inside)) (λ k above below. none k above (omega (arith, below)))
 
-room-on : (count from : ℕ) (counts cut : List ℕ) → from + count ≤ length cut → AskNothing cut from (from + count) →
+room-on : (count from : ℕ) (counts cut : List ℕ) → from + count ≤ length cut → HasNothing cut from (from + count) →
     AllByRecursion Fits (zip (drop from counts) (drop from cut)) →
     AllByRecursion Fits (zip (drop (from + count) counts) (drop (from + count) cut))
 room-on zero from counts cut inside none all =
@@ -57,7 +65,7 @@ room-on (suc count) from counts cut inside none all =
     (room-on count from counts cut (omega (arith, inside)) (λ k above below. none k above (omega (arith, below))) all))
 
 -- up to another
-module _ (from to : ℕ) (counts cut : List ℕ) (order : from ≤ to) (inside : to ≤ length cut) (none : AskNothing cut from to) where
+module _ (from to : ℕ) (counts cut : List ℕ) (order : from ≤ to) (inside : to ≤ length cut) (none : HasNothing cut from to) where
   is : from + (to - from) ≡ to
   is = omega (arith, order)
 

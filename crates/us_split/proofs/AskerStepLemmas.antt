@@ -1,19 +1,20 @@
 -- Who asks, from step to step.
-use Rattle.std.proofs.Common.{◌≡◌, ◌≢◌, ℕ, zero, suc, ◌+◌, ◌^◌, ◌==◌, ◌<◌, ◌≤◌, nat_lt, ◌&&◌, Bool, true, false, if◌then◌else◌, List, [], ◌∷◌, ◌++◌, length, set, take, drop, filter, zip, replicate, Some, slice_get, refl, sym, ap, ap₂, ◌∙◌, subst, inl, inr, eq-eqb, ne_eqb, lt-ltb, le-ltb, ltb-true, get_or-set_same, get_or-set_other, append-nil, add-one, arith}
-use Rattle.std.specs.Prelude.{slice_index}
+use Rattle.std.proofs.Common.{◌≡◌, ◌≢◌, ℕ, zero, suc, ◌+◌, ◌^◌, ◌==◌, ◌<◌, ◌≤◌, nat_lt, ◌&&◌, Bool, true, false, if◌then◌else◌, List, [], ◌∷◌, ◌++◌, length, set, take, drop, filter, zip, replicate, map, Option, Some, None, slice_get, refl, sym, ap, ap₂, ◌∙◌, subst, inl, inr, eq-eqb, ne_eqb, lt-ltb, le-ltb, ltb-true, get_or-set_same, get_or-set_other, append-nil, add-one, arith}
+use Rattle.std.specs.Prelude.{slice_index, slice_index_or}
 use Rattle.std.specs.List.{AllByRecursion}
 use Rattle.std.specs.List.Sorted.{IsNonDecreasing}
 use Rattle.std.proofs.lemmas.Bool.{cases_Bool, cases_eq, cases_lt}
-use Rattle.std.proofs.lemmas.List.{get_or_past, length-set, length-replicate, get_or-replicate, set-get_or, take_all, drop_all}
+use Rattle.std.proofs.lemmas.List.{get_or_default, get_or_past, length-set, length-replicate, get_or-replicate, set-get_or, take_all, drop_all}
 use Rattle.us_flows.specs.Tables.{Tables}
-use Rattle.us_flows.specs.Clusters.{clusters_of, turns_of}
+use Rattle.us_flows.specs.Clusters.{turns_of, words_of}
 use Rattle.us_flows.specs.Lawful.{AreTables}
-use Rattle.us_split.specs.Asking.{Asking, asked_more, asking, asks, more_of, numbers_of, places_from, pending_places, is_pending, with_cut}
-use Rattle.us_split.specs.Askers.{AreAskers, AreBytes, ArePlaces, put_in}
+use Rattle.us_split.specs.Asking.{Asking, asked_more, asking, asks, more_of, numbers_of, places_from, pending_places, is_pending, requested_at}
+use Rattle.us_split.specs.Askers.{AreAskers, AreBytes, AreOnce, ArePlaces, IsPlaceOf, put_in}
 use Rattle.us_split.proofs.AskerLemmas.{filter-places, places-below, places-fewer, places-rise, put-more}
-use Rattle.us_split.proofs.TurnNumberLemmas.{AreTurnNumbers, turn_numbers}
+use Rattle.us_split.proofs.RequestedLemmas.{requested-left, requested-more, requested-nothing}
+use Rattle.us_split.proofs.TurnNumberLemmas.{AreTurnNumbers, requested-turn, turn_numbers}
 
-abbrev IsSmall : ℕ → Type 0
+abbrev pub IsSmall : ℕ → Type 0
 IsSmall bytes = bytes < 2 ^ 62
 
 -- where two tests pass the same numbers, they pass the same places
@@ -30,54 +31,61 @@ same_places one other place (n ∷ numbers) same =
 
 -- Before round 0.
 
-none-outstanding : (clusters n : ℕ) → slice_index (replicate clusters 0) n ≡ 0
-none-outstanding clusters n = elim (cases_lt n clusters) [
-  | inl within ↦ get_or-replicate clusters n 0 0 within
-  | inr past ↦ get_or_past (replicate clusters 0) n 0 (omega (arith, past, length-replicate {A = ℕ} clusters 0))
+none-outstanding : (words n : ℕ) → slice_index (replicate words 0) n ≡ 0
+none-outstanding words n = elim (cases_lt n words) [
+  | inl within ↦ get_or-replicate words n 0 0 within
+  | inr past ↦ get_or_past (replicate words 0) n 0 (omega (arith, past, length-replicate {A = ℕ} words 0))
 ]
 
-nobody-asks : (clusters place : ℕ) (numbers : List ℕ) → places_from (asks (replicate clusters 0)) place numbers ≡ []
+nobody-asks : (words place : ℕ) (numbers : List ℕ) → places_from (asks (replicate words 0)) place numbers ≡ []
 unfolding places_from
-nobody-asks clusters place [] = refl
-nobody-asks clusters place (n ∷ numbers) =
-    rw (le-ltb 0 (slice_index (replicate clusters 0) n) (omega (arith, none-outstanding clusters n)))
-    (nobody-asks clusters (place + 1) numbers)
+nobody-asks words place [] = refl
+nobody-asks words place (n ∷ numbers) =
+    rw (le-ltb 0 (slice_index (replicate words 0) n) (omega (arith, none-outstanding words n)))
+    (nobody-asks words (place + 1) numbers)
 
-all-none : (clusters : ℕ) → AllByRecursion IsSmall (replicate clusters 0)
+all-none : (words : ℕ) → AllByRecursion IsSmall (replicate words 0)
 all-none zero = tt
-all-none (suc clusters) = let small : 0 < 2 ^ 62 = omega arith in (small, all-none clusters)
+all-none (suc words) = let small : 0 < 2 ^ 62 = omega arith in (small, all-none words)
 
-pub askers-new : (t : Tables) (numbers places : List ℕ) (room pending_room : ℕ) → AreTables t →
-    numbers ≡ numbers_of (turns_of t) → length places ≡ length (clusters_of t) →
-    ((place n : ℕ) → slice_get numbers place ≡ Some n → slice_index places n ≡ place) → length numbers ≤ room →
+pub askers-new : (t : Tables) (numbers : List ℕ) (places : List (Option ℕ)) (room pending_room : ℕ) → AreTables t →
+    numbers ≡ numbers_of (turns_of t) → length places ≡ length (words_of t) →
+    ((n : ℕ) → n < length (words_of t) → IsPlaceOf numbers n (slice_index_or places n None)) → length numbers ≤ room →
     length numbers ≤ pending_room →
-    AreAskers numbers places (replicate (length (clusters_of t)) 0) (replicate (length (clusters_of t)) 0) []
-    room pending_room
+    AreAskers t numbers places (replicate (length (words_of t)) 0) (replicate (length (words_of t)) 0) [] room pending_room
 askers-new t numbers places room pending_room lawful are one_each found enough pending_enough =
-    let clusters : ℕ = length (clusters_of t) in
+    let words : ℕ = length (words_of t) in
     let turns : AreTurnNumbers t = turn_numbers t lawful in
     record {
-      turns = subst (λ n. ArePlaces n numbers places) (sym (length-replicate {A = ℕ} clusters 0)) (record {
+      words = length-replicate {A = ℕ} words 0;
+      of_turns = are;
+      turns = subst (λ n. ArePlaces n numbers places) (sym (length-replicate {A = ℕ} words 0)) (record {
         one_each = one_each;
-        below = subst (AllByRecursion (λ n. n < clusters)) (sym are) turns.below;
-        once = λ one other n at there. turns.once one other n (ap (λ ns. slice_get ns one) (sym are) ∙ at)
-            (ap (λ ns. slice_get ns other) (sym are) ∙ there);
-        found = λ n below.
-            (let at = turns.each n below in
-            let own : slice_get numbers at.0 ≡ Some n = ap (λ ns. slice_get ns at.0) are ∙ at.1 in
-            ap (slice_get numbers) (found at.0 n own) ∙ own);
+        below = subst (AllByRecursion (λ n. n < words)) (sym are) turns.below;
+        once = subst AreOnce (sym are) turns.once;
+        found = found;
       });
       bytes = record {
         one_each = refl;
         within = λ n. omega arith;
-        range = all-none clusters;
+        range = all-none words;
       };
-      listed = sym (nobody-asks clusters 0 numbers);
+      requested = requested-nothing (words_of t);
+      listed = sym (nobody-asks words 0 numbers);
       room_to_ask = enough;
       room_for_pending = pending_enough;
     }
 
 -- More bytes.
+
+-- the place that is kept of a word
+pub kept_place : (words : ℕ) (numbers : List ℕ) (places : List (Option ℕ)) (word : ℕ) (found : Option ℕ) →
+    ArePlaces words numbers places → word < words → found ≡ slice_index_or places word found →
+    IsPlaceOf numbers word found
+kept_place words numbers places word found are below is =
+    let same : slice_index_or places word None ≡ found =
+    get_or_default places word None found (omega (arith, are.one_each, below)) ∙ sym is in
+    subst (IsPlaceOf numbers word) same (are.found word below)
 
 all-set : (P : ℕ → Type 0) (xs : List ℕ) (i x : ℕ) → AllByRecursion P xs → P x → AllByRecursion P (set xs i x)
 all-set P [] i x all is = tt
@@ -96,120 +104,126 @@ listed-below numbers outstanding list is =
     (places-below (asks outstanding) 0 (length numbers) numbers (omega arith))
 
 -- and has room for one more where nothing was outstanding
-pub listed-fewer : (numbers places outstanding list : List ℕ) (cluster : ℕ) → ArePlaces (length outstanding) numbers places →
-    list ≡ asking outstanding numbers → cluster < length outstanding → slice_index outstanding cluster ≡ 0 →
-    length list < length numbers
-listed-fewer numbers places outstanding list cluster turns is below none =
+pub listed-fewer : (numbers outstanding list : List ℕ) (place word : ℕ) → list ≡ asking outstanding numbers →
+    slice_get numbers place ≡ Some word → slice_index outstanding word ≡ 0 → length list < length numbers
+listed-fewer numbers outstanding list place word is at none =
     subst (λ l. length l < length numbers) (sym is)
-    (places-fewer (asks outstanding) 0 (slice_index places cluster) cluster numbers (turns.found cluster below)
-    (le-ltb 0 (slice_index outstanding cluster) (omega (arith, none))))
+    (places-fewer (asks outstanding) 0 place word numbers at
+    (le-ltb 0 (slice_index outstanding word) (omega (arith, none))))
 
-module _ (outstanding : List ℕ) (cluster bytes : ℕ) (below : cluster < length outstanding) (some : bytes ≢ 0) where
+module _ (outstanding : List ℕ) (word bytes : ℕ) (below : word < length outstanding) (some : bytes ≢ 0) where
   abbrev more : List ℕ
-  more = more_of cluster bytes outstanding
+  more = more_of word bytes outstanding
 
-  asks-now : asks more cluster ≡ true
+  asks-now : asks more word ≡ true
   asks-now =
-      let is : slice_index more cluster ≡ slice_index outstanding cluster + bytes =
-      get_or-set_same outstanding cluster (slice_index outstanding cluster + bytes) 0 below in
-      lt-ltb 0 (slice_index more cluster) (omega (arith, is, some))
+      let is : slice_index more word ≡ slice_index outstanding word + bytes =
+      get_or-set_same outstanding word (slice_index outstanding word + bytes) 0 below in
+      lt-ltb 0 (slice_index more word) (omega (arith, is, some))
 
-  asks-else : (n : ℕ) → n ≢ cluster → asks more n ≡ asks outstanding n
+  asks-else : (n : ℕ) → n ≢ word → asks more n ≡ asks outstanding n
   asks-else n other =
-      ap (λ b. nat_lt 0 b) (get_or-set_other outstanding cluster n (slice_index outstanding cluster + bytes) 0 other)
+      ap (λ b. nat_lt 0 b) (get_or-set_other outstanding word n (slice_index outstanding word + bytes) 0 other)
 
-  listed-more : (numbers places list next : List ℕ) → ArePlaces (length outstanding) numbers places →
+  listed-more : (numbers list next : List ℕ) (place : ℕ) → AreOnce numbers → slice_get numbers place ≡ Some word →
       list ≡ asking outstanding numbers →
-      next ≡ (if slice_index outstanding cluster == 0 then put_in (slice_index places cluster) list else list) →
-      next ≡ asking more numbers
-  listed-more numbers places list next turns listed is = elim (cases_eq (slice_index outstanding cluster) 0) [
+      next ≡ (if slice_index outstanding word == 0 then put_in place list else list) → next ≡ asking more numbers
+  listed-more numbers list next place once at listed is = elim (cases_eq (slice_index outstanding word) 0) [
     | inl none ↦
-        let place : ℕ = slice_index places cluster in
         let start : 0 + place ≡ place = omega arith in
-        is ∙ ap (λ b. if b then put_in place list else list) (eq-eqb (slice_index outstanding cluster) 0 none) ∙
+        is ∙ ap (λ b. if b then put_in place list else list) (eq-eqb (slice_index outstanding word) 0 none) ∙
         ap (put_in place) listed ∙ ap (λ p. put_in p (asking outstanding numbers)) (sym start) ∙
-        put-more (asks outstanding) (asks more) cluster asks-else 0 place numbers
-        (le-ltb 0 (slice_index outstanding cluster) (omega (arith, none))) asks-now (turns.found cluster below) turns.once
+        put-more (asks outstanding) (asks more) word asks-else 0 place numbers
+        (le-ltb 0 (slice_index outstanding word) (omega (arith, none))) asks-now at once
     | inr before ↦
-        let asked : asks outstanding cluster ≡ true =
-        lt-ltb 0 (slice_index outstanding cluster) (omega (arith, before)) in
-        let same : (n : ℕ) → asks outstanding n ≡ asks more n = λ n. elim (cases_eq n cluster) [
+        let asked : asks outstanding word ≡ true =
+        lt-ltb 0 (slice_index outstanding word) (omega (arith, before)) in
+        let same : (n : ℕ) → asks outstanding n ≡ asks more n = λ n. elim (cases_eq n word) [
           | inl own ↦ ap (asks outstanding) own ∙ asked ∙ sym asks-now ∙ ap (asks more) (sym own)
           | inr other ↦ sym (asks-else n other)
         ] in
-        is ∙ ap (λ b. if b then put_in (slice_index places cluster) list else list)
-        (ne_eqb (slice_index outstanding cluster) 0 before) ∙ listed ∙
+        is ∙ ap (λ b. if b then put_in place list else list) (ne_eqb (slice_index outstanding word) 0 before) ∙ listed ∙
         same_places (asks outstanding) (asks more) 0 numbers same
   ]
 
-within-more : (outstanding left : List ℕ) (cluster bytes n : ℕ) → length left ≡ length outstanding →
-    slice_index left n ≤ slice_index outstanding n → slice_index left cluster ≤ slice_index outstanding cluster →
-    slice_index (more_of cluster bytes left) n ≤ slice_index (more_of cluster bytes outstanding) n
-within-more outstanding left cluster bytes n one_each here own = elim (cases_eq n cluster) [
-  | inl same ↦ elim (cases_lt cluster (length left)) [
+within-more : (outstanding left : List ℕ) (word bytes n : ℕ) → length left ≡ length outstanding →
+    slice_index left n ≤ slice_index outstanding n → slice_index left word ≤ slice_index outstanding word →
+    slice_index (more_of word bytes left) n ≤ slice_index (more_of word bytes outstanding) n
+within-more outstanding left word bytes n one_each here own = elim (cases_eq n word) [
+  | inl same ↦ elim (cases_lt word (length left)) [
     | inl below ↦
-        let left_is : slice_index (more_of cluster bytes left) n ≡ slice_index left cluster + bytes =
-        ap (slice_index (more_of cluster bytes left)) same ∙
-        get_or-set_same left cluster (slice_index left cluster + bytes) 0 below in
-        let out_is : slice_index (more_of cluster bytes outstanding) n ≡ slice_index outstanding cluster + bytes =
-        ap (slice_index (more_of cluster bytes outstanding)) same ∙
-        get_or-set_same outstanding cluster (slice_index outstanding cluster + bytes) 0 (omega (arith, below, one_each)) in
+        let left_is : slice_index (more_of word bytes left) n ≡ slice_index left word + bytes =
+        ap (slice_index (more_of word bytes left)) same ∙
+        get_or-set_same left word (slice_index left word + bytes) 0 below in
+        let out_is : slice_index (more_of word bytes outstanding) n ≡ slice_index outstanding word + bytes =
+        ap (slice_index (more_of word bytes outstanding)) same ∙
+        get_or-set_same outstanding word (slice_index outstanding word + bytes) 0 (omega (arith, below, one_each)) in
         omega (arith, left_is, out_is, own)
     | inr past ↦
-        let none : slice_index (more_of cluster bytes left) n ≡ 0 =
-        get_or_past (more_of cluster bytes left) n 0
-        (omega (arith, past, same, length-set left cluster (slice_index left cluster + bytes))) in
+        let none : slice_index (more_of word bytes left) n ≡ 0 =
+        get_or_past (more_of word bytes left) n 0
+        (omega (arith, past, same, length-set left word (slice_index left word + bytes))) in
         omega (arith, none)
   ]
   | inr other ↦ omega (
     arith,
     here,
-    get_or-set_other left cluster n (slice_index left cluster + bytes) 0 other,
-    get_or-set_other outstanding cluster n (slice_index outstanding cluster + bytes) 0 other,
+    get_or-set_other left word n (slice_index left word + bytes) 0 other,
+    get_or-set_other outstanding word n (slice_index outstanding word + bytes) 0 other,
   )
 ]
 
-pub askers-more : (numbers places outstanding left list next : List ℕ) (room pending_room more_room cluster bytes : ℕ) →
-    AreAskers numbers places outstanding left list room pending_room → cluster < length outstanding → bytes ≢ 0 →
-    slice_index outstanding cluster + bytes < 2 ^ 62 →
-    next ≡ (if slice_index outstanding cluster == 0 then put_in (slice_index places cluster) list else list) →
-    room ≤ more_room →
-    AreAskers numbers places (more_of cluster bytes outstanding) (more_of cluster bytes left) next more_room pending_room
-askers-more numbers places outstanding left list next room pending_room more_room cluster bytes are below some small is enough =
-    let more : ℕ = slice_index outstanding cluster + bytes in
-    let long : length outstanding ≡ length (set outstanding cluster more) = sym (length-set outstanding cluster more) in
+pub askers-more : (t : Tables) (numbers : List ℕ) (places : List (Option ℕ)) (outstanding left list next : List ℕ)
+    (room pending_room more_room place word bytes : ℕ) →
+    AreAskers t numbers places outstanding left list room pending_room → word < length outstanding →
+    slice_get numbers place ≡ Some word → bytes ≢ 0 → slice_index outstanding word + bytes < 2 ^ 62 →
+    next ≡ (if slice_index outstanding word == 0 then put_in place list else list) → room ≤ more_room →
+    AreAskers t numbers places (more_of word bytes outstanding) (more_of word bytes left) next more_room pending_room
+askers-more t numbers places outstanding left list next room pending_room more_room place word bytes are below at some small is enough =
+    let more : ℕ = slice_index outstanding word + bytes in
+    let long : length outstanding ≡ length (set outstanding word more) = sym (length-set outstanding word more) in
+    let own : slice_get (numbers_of (turns_of t)) place ≡ Some word =
+    ap (λ ns. slice_get ns place) (sym are.of_turns) ∙ at in
     record {
+      words = sym long ∙ are.words;
+      of_turns = are.of_turns;
       turns = subst (λ n. ArePlaces n numbers places) long are.turns;
       bytes = record {
-        one_each = length-set left cluster (slice_index left cluster + bytes) ∙ are.bytes.one_each ∙ long;
-        within = λ n. within-more outstanding left cluster bytes n are.bytes.one_each (are.bytes.within n) (are.bytes.within cluster);
-        range = all-set IsSmall outstanding cluster more are.bytes.range small;
+        one_each = length-set left word (slice_index left word + bytes) ∙ are.bytes.one_each ∙ long;
+        within = λ n. within-more outstanding left word bytes n are.bytes.one_each (are.bytes.within n) (are.bytes.within word);
+        range = all-set IsSmall outstanding word more are.bytes.range small;
       };
-      listed = listed-more outstanding cluster bytes below some numbers places list next are.turns are.listed is;
+      requested = requested-more (words_of t) outstanding word bytes are.requested (requested-turn t place word bytes own);
+      listed = listed-more outstanding word bytes below some numbers list next place are.turns.once at are.listed is;
       room_to_ask = omega (arith, are.room_to_ask, enough);
       room_for_pending = are.room_for_pending;
     }
 
 -- no bytes more change nothing
-pub none-more : (counts : List ℕ) (cluster bytes : ℕ) → bytes ≡ 0 → more_of cluster bytes counts ≡ counts
-none-more counts cluster bytes none =
-    let same : slice_index counts cluster + bytes ≡ slice_index counts cluster = omega (arith, none) in
-    ap (set counts cluster) same ∙ set-get_or counts cluster 0
+pub none-more : (counts : List ℕ) (word bytes : ℕ) → bytes ≡ 0 → more_of word bytes counts ≡ counts
+none-more counts word bytes none =
+    let same : slice_index counts word + bytes ≡ slice_index counts word = omega (arith, none) in
+    ap (set counts word) same ∙ set-get_or counts word 0
 
-pub asked-none : (cluster bytes : ℕ) (a : Asking) → bytes ≡ 0 → a ≡ asked_more cluster bytes a
-asked-none cluster bytes a none =
+-- nor do any that aren't requested
+pub asked-none : (word bytes : ℕ) (a : Asking) → requested_at (words_of a.tables) word bytes ≡ 0 → a ≡ asked_more word bytes a
+asked-none word bytes a none =
+    let more : ℕ = requested_at (words_of a.tables) word bytes in
     ap₂ (λ outstanding left. let b : Asking = record {
-      numbers = a.numbers;
+      tables = a.tables;
       outstanding = outstanding;
       left = left;
       pending = a.pending;
-    } in b) (sym (none-more a.outstanding cluster bytes none)) (sym (none-more a.left cluster bytes none))
+    } in b) (sym (none-more a.outstanding word more none)) (sym (none-more a.left word more none))
 
--- A cut, cluster by cluster.
+-- A cut, word by word.
+
+abbrev sums : List ℕ → List ℕ → List ℕ
+sums counts cut = map (λ pair. pair.0 + pair.1) (zip counts cut)
 
 -- with the first so many of a cut, the others are still to come
 abbrev pub walked : ℕ → List ℕ → List ℕ → List ℕ
-walked k counts cut = take k counts ++ with_cut (drop k counts) (drop k cut)
+walked k counts cut = take k counts ++ sums (drop k counts) (drop k cut)
 
 walked-none : (k : ℕ) (cut : List ℕ) → walked k [] cut ≡ []
 walked-none zero cut = refl
@@ -231,7 +245,7 @@ pub walked-all : (k : ℕ) (counts cut : List ℕ) → length counts ≡ length 
 walked-all k counts cut long past =
     let none : drop k counts ≡ [] = drop_all k counts (omega (arith, long, past)) in
     sym (
-    ap (λ rest. take k counts ++ with_cut rest (drop k cut)) none ∙ append-nil (take k counts) ∙
+    ap (λ rest. take k counts ++ sums rest (drop k cut)) none ∙ append-nil (take k counts) ∙
     take_all k counts (omega (arith, long, past))
     )
 
@@ -253,12 +267,12 @@ pub room-more : (k bytes : ℕ) (counts cut : List ℕ) → k < length cut →
 room-more k bytes counts cut inside all = rw add-one (room-next k bytes counts cut inside all)
 
 -- which come to the same by their parts
-pub same_asking : (a : Asking) (numbers outstanding left pending : List ℕ) → a.numbers ≡ numbers →
+pub same_asking : (a : Asking) (t : Tables) (outstanding left pending : List ℕ) → a.tables ≡ t →
     a.outstanding ≡ outstanding → a.left ≡ left → a.pending ≡ pending →
-    a ≡ record { numbers = numbers; outstanding = outstanding; left = left; pending = pending }
-same_asking a numbers outstanding left pending one two three four =
-    ap₂ (λ n o. let b : Asking = record { numbers = n; outstanding = o; left = a.left; pending = a.pending } in b) one two ∙
-    ap₂ (λ l p. let b : Asking = record { numbers = numbers; outstanding = outstanding; left = l; pending = p } in b) three four
+    a ≡ record { tables = t; outstanding = outstanding; left = left; pending = pending }
+same_asking a t outstanding left pending one two three four =
+    ap₂ (λ t o. let b : Asking = record { tables = t; outstanding = o; left = a.left; pending = a.pending } in b) one two ∙
+    ap₂ (λ l p. let b : Asking = record { tables = t; outstanding = outstanding; left = l; pending = p } in b) three four
 
 -- The end of a round.
 
@@ -292,7 +306,7 @@ pending-is numbers outstanding left list bytes is =
     filter-places (asks outstanding) (is_pending outstanding left) (pending-then outstanding left bytes.within) numbers 0 numbers
     (same-rest numbers)
 
-small-left : (outstanding left : List ℕ) → AllByRecursion IsSmall outstanding → length left ≡ length outstanding →
+pub small-left : (outstanding left : List ℕ) → AllByRecursion IsSmall outstanding → length left ≡ length outstanding →
     ((n : ℕ) → slice_index left n ≤ slice_index outstanding n) → AllByRecursion IsSmall left
 small-left [] [] all long within = tt
 small-left [] (l ∷ left) all long within = absurd (omega (arith, long))
@@ -301,18 +315,22 @@ small-left (o ∷ outstanding) (l ∷ left) all long within =
     let here : l < 2 ^ 62 = omega (arith, within 0, all.0) in
     (here, small-left outstanding left all.1 (omega (arith, long)) (λ n. within (suc n)))
 
-pub askers-settled : (numbers places outstanding left list next : List ℕ) (room pending_room more_room more_pending : ℕ) →
-    AreAskers numbers places outstanding left list room pending_room →
+pub askers-settled : (t : Tables) (numbers : List ℕ) (places : List (Option ℕ)) (outstanding left list next : List ℕ)
+    (room pending_room more_room more_pending : ℕ) →
+    AreAskers t numbers places outstanding left list room pending_room →
     next ≡ filter (λ at. asks left (slice_index numbers at)) list → room ≤ more_room → pending_room ≤ more_pending →
-    AreAskers numbers places left left next more_room more_pending
-askers-settled numbers places outstanding left list next room pending_room more_room more_pending are is enough pending_enough =
+    AreAskers t numbers places left left next more_room more_pending
+askers-settled t numbers places outstanding left list next room pending_room more_room more_pending are is enough pending_enough =
     record {
+      words = are.bytes.one_each ∙ are.words;
+      of_turns = are.of_turns;
       turns = subst (λ n. ArePlaces n numbers places) (sym are.bytes.one_each) are.turns;
       bytes = record {
         one_each = refl;
         within = λ n. omega arith;
         range = small-left outstanding left are.bytes.range are.bytes.one_each are.bytes.within;
       };
+      requested = requested-left (words_of t) outstanding left are.requested are.bytes.one_each are.bytes.within;
       listed = is ∙ ap (filter (λ at. asks left (slice_index numbers at))) are.listed ∙
           filter-places (asks outstanding) (asks left) (asks-then outstanding left are.bytes.within) numbers 0 numbers
           (same-rest numbers);

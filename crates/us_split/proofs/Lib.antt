@@ -13,6 +13,8 @@ pub mod TurnClaimLaws
 pub mod AskingLaws
 pub mod TurnNumberLemmas
 pub mod AskerLemmas
+pub mod PlaceLemmas
+pub mod RequestedLemmas
 pub mod AskerStepLemmas
 pub mod AskerCutLemmas
 pub mod ByPlaceLemmas

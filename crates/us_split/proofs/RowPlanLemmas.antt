@@ -9,7 +9,7 @@ use Rattle.std.proofs.lemmas.Option.{slice_get_read}
 use Rattle.us_slots.specs.Times.{minislot_ticks}
 use Rattle.us_flows.specs.declared.channels.Channel.{Channel}
 use Rattle.us_flows.specs.Tables.{Tables, map_len}
-use Rattle.us_flows.specs.Clusters.{Turn, IsTurnIn, clusters_of, turns_of}
+use Rattle.us_flows.specs.Clusters.{Turn, IsTurnIn, turns_of, words_of}
 use Rattle.us_flows.specs.Lawful.{AreTables, IsChannel}
 use Rattle.us_flows.proofs.TurnLaws.{turns_of-turns}
 use Rattle.us_split.specs.declared.turn_rows.Seat.{Seat}
@@ -242,10 +242,10 @@ rows_ready t rows flows channels lawful are all_flows all_channels =
     (subst (λ n. AllByRecursion (IsRowWithin (length t.flows) n) (rows_from t.channels 0 (turns_of t))) (sym all_channels)
     (rows_inside t 0 (turns_of t) lawful (turns_of-turns t))))
 
-pub clusters_ready : (t : Tables) (rows : List TurnRow) (clusters : ℕ) → rows ≡ rows_from t.channels 0 (turns_of t) →
-    clusters ≡ length (clusters_of t) → AllByRecursion (λ row. row.asker.claimant.cluster < clusters) rows
-clusters_ready t rows clusters are all =
-    subst (λ rs. AllByRecursion (λ row. row.asker.claimant.cluster < clusters) rs) (sym are)
+pub words_ready : (t : Tables) (rows : List TurnRow) (words : ℕ) → rows ≡ rows_from t.channels 0 (turns_of t) →
+    words ≡ length (words_of t) → AllByRecursion (λ row. row.asker.claimant.cluster < words) rows
+words_ready t rows words are all =
+    subst (λ rs. AllByRecursion (λ row. row.asker.claimant.cluster < words) rs) (sym are)
     (subst (λ n. AllByRecursion (λ row. row.asker.claimant.cluster < n) (rows_from t.channels 0 (turns_of t))) (sym all)
     (rows_known t 0 (turns_of t) (turns_of-turns t)))
 

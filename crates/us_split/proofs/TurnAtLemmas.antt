@@ -8,10 +8,11 @@ use Rattle.std.proofs.lemmas.List.Sums.{sum_by-cons}
 use Rattle.std.proofs.lemmas.Option.{slice_get_within, get_or_from_slice_get}
 use Rattle.std.proofs.lemmas.List.Elements.{All-from_recursion}
 use Rattle.us_flows.specs.Tables.{Tables, FlowTable}
-use Rattle.us_flows.specs.Clusters.{Turn, clusters_from, clusters_of, in_order, makes_requests, requesting, table_order, turns_of}
+use Rattle.us_flows.specs.Clusters.{Turn, clusters_from, clusters_of, in_order, makes_requests, requesting, table_order, turns_of, words_of}
 use Rattle.us_flows.specs.Turns.{turn_at, in_flow}
 use Rattle.us_flows.specs.Lawful.{AreApart, AreTables, IsFlow}
 use Rattle.us_flows.specs.declared.turns.Turn as places
+use Rattle.us_flows.proofs.WordLemmas.{few_words-tables}
 use Rattle.us_flows.proofs.TurnLaws.{in_order-few, table_order-length}
 use Rattle.us_split.specs.PartialPlans.{IsTurnOf, IsSmall}
 
@@ -147,13 +148,13 @@ place_small t us i lawful same within =
     omega (arith, length_both t us (turns_of t) same, few_turns t, few_clusters t t.flows lawful.flows, lawful.few_flows)
 
 -- and so have its parts
-pub turn_small : (t : Tables) (u : places.Turn) (i : ℕ) → AreTables t → TurnAt t u i → u.cluster < length (clusters_of t) →
+pub turn_small : (t : Tables) (u : places.Turn) (i : ℕ) → AreTables t → TurnAt t u i → u.cluster < length (words_of t) →
     IsSmall u
 turn_small t u i lawful at number =
     let flow : FlowTable = get_or t.flows u.flow at.turn.cluster.flow in
     let is : IsFlow t flow = All-from_recursion (IsFlow t) t.flows lawful.flows u.flow at.turn.cluster.flow at.within in
     record {
-      cluster = omega (arith, number, few_clusters t t.flows lawful.flows, lawful.few_flows);
+      cluster = omega (arith, number, few_words-tables t lawful);
       flow = omega (arith, at.within, lawful.few_flows);
       list = omega (arith, at.list at.turn.cluster.flow, is.some_clusters.1);
     }

@@ -8,7 +8,7 @@ use Rattle.std.proofs.lemmas.List.Quantifiers.{position-Some}
 use Rattle.std.proofs.lemmas.Option.{slice_get-get_or, slice_get_within}
 use Rattle.us_flows.specs.declared.channels.Channel.{Channel}
 use Rattle.us_flows.specs.Tables.{Tables, FlowTable, has_channel, header_bytes}
-use Rattle.us_flows.specs.Clusters.{Turn, IsTurnIn, clusters_of}
+use Rattle.us_flows.specs.Clusters.{Turn, IsTurnIn, words_of}
 use Rattle.us_flows.specs.Lawful.{AreApart, AreTables, IsFlow}
 use Rattle.us_split.specs.Divisions.{divided}
 use Rattle.us_split.specs.Plans.{Planned, at_most, budget_of, shares_of, weight, weights}
@@ -206,8 +206,8 @@ rows_inside t start (turn ∷ turns) lawful all = (
   rows_inside t (start + 1) turns lawful all.1,
 )
 
--- and to clusters that make requests
+-- and to words
 pub rows_known : (t : Tables) (start : ℕ) (turns : List Turn) → AllByRecursion (IsTurnIn t) turns →
-    AllByRecursion (λ row. row.asker.claimant.cluster < length (clusters_of t)) (rows_from t.channels start turns)
+    AllByRecursion (λ row. row.asker.claimant.cluster < length (words_of t)) (rows_from t.channels start turns)
 rows_known t start [] all = tt
 rows_known t start (turn ∷ turns) all = (all.0.number, rows_known t (start + 1) turns all.1)

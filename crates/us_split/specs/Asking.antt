@@ -1,15 +1,16 @@
 -- Who asks in a round: the turns of which bytes are outstanding. The plan of a round is theirs.
-use Rattle.std.specs.Prelude.{◌≡◌, ℕ, ◌+◌, ◌-◌, ◌==◌, nat_lt, Bool, ◌&&◌, if◌then◌else◌, List, [], ◌∷◌, length, map, set, replicate, zip, filter, filter_map, slice_get, slice_index, slice_index_or, Option, None}
+use Rattle.std.specs.Prelude.{◌≡◌, ℕ, ◌+◌, ◌-◌, ◌==◌, ◌<◌, nat_lt, Bool, ◌&&◌, if◌then◌else◌, List, [], ◌∷◌, length, map, set, replicate, zip, filter, filter_map, slice_get, slice_index, slice_index_or, Option, Some, None}
 use Rattle.std.specs.List.{AllByRecursion}
+use Rattle.std.specs.Option.{option_map_or}
 use Rattle.us_flows.specs.declared.channels.Channel.{Channel}
 use Rattle.us_flows.specs.Tables.{Tables}
-use Rattle.us_flows.specs.Clusters.{Turn, clusters_of, turns_of}
+use Rattle.us_flows.specs.Clusters.{Turn, Word, is_of_cluster, turns_of, words_of}
 use Rattle.us_split.specs.Plans.{Planned, ledger_of, two_passes, plan_for}
 use Rattle.us_split.specs.Claims.{Claim, claim_on, claims_on}
 
 -- Places.
 
--- the clusters of turns, by their numbers
+-- the numbers of the words of the turns' clusters
 abbrev pub numbers_of : List Turn → List ℕ
 numbers_of turns = map (λ turn. turn.number) turns
 
@@ -25,7 +26,7 @@ turns_at turns places = filter_map (slice_get turns) places
 
 -- Who asks, and who is pending.
 
--- bytes are outstanding of the cluster with this number
+-- bytes are outstanding of the word with this number
 abbrev pub asks : List ℕ → ℕ → Bool
 asks outstanding number = nat_lt 0 (slice_index outstanding number)
 
@@ -33,7 +34,7 @@ asks outstanding number = nat_lt 0 (slice_index outstanding number)
 abbrev pub asking : List ℕ → List ℕ → List ℕ
 asking outstanding numbers = places_from (asks outstanding) 0 numbers
 
--- bytes are left of a cluster, as many as were outstanding
+-- bytes are left of a word, as many as were outstanding
 abbrev pub is_pending : List ℕ → List ℕ → ℕ → Bool
 is_pending outstanding left number =
     nat_lt 0 (slice_index left number) && (slice_index left number == slice_index outstanding number)
@@ -42,12 +43,26 @@ is_pending outstanding left number =
 abbrev pub pending_places : List ℕ → List ℕ → List ℕ → List ℕ
 pending_places outstanding left numbers = places_from (is_pending outstanding left) 0 numbers
 
+-- What is requested.
+
+-- of the bytes that a word has in a round: all where it is a cluster's; that a flow is silent or active requests none
+abbrev pub requested_by : Word → ℕ → ℕ
+requested_by word bytes = if is_of_cluster word then bytes else 0
+
+-- of a cut, word by word
+abbrev pub requested_in : List Word → List ℕ → List ℕ
+requested_in words cut = map (λ pair. requested_by pair.0 pair.1) (zip words cut)
+
+-- of so many bytes that the word with this number has
+abbrev pub requested_at : List Word → ℕ → ℕ → ℕ
+requested_at words number bytes = option_map_or (λ word. requested_by word bytes) (slice_get words number) 0
+
 -- A round.
 
--- the cluster of each turn, in the order of turns; what is outstanding of each cluster before the credits of a round, and
--- what is left after them; and the places of the turns that were pending when the round was settled
+-- the tables; what is outstanding of each word before the credits of a round, and what is left after them; and the places of
+-- the turns that were pending when the round was settled
 pub record Asking : Type 0 where
-  pub numbers : List ℕ
+  pub tables : Tables
   pub outstanding : List ℕ
   pub left : List ℕ
   pub pending : List ℕ
@@ -55,52 +70,53 @@ pub record Asking : Type 0 where
 -- before round 0
 abbrev pub nobody_asks : Tables → Asking
 nobody_asks t = record {
-  numbers = numbers_of (turns_of t);
-  outstanding = replicate (length (clusters_of t)) 0;
-  left = replicate (length (clusters_of t)) 0;
+  tables = t;
+  outstanding = replicate (length (words_of t)) 0;
+  left = replicate (length (words_of t)) 0;
   pending = [];
 }
 
--- a cluster asks for so many bytes more
+-- a word has so many bytes more
 abbrev pub more_of : ℕ → ℕ → List ℕ → List ℕ
-more_of cluster bytes counts = set counts cluster (slice_index counts cluster + bytes)
+more_of number bytes counts = set counts number (slice_index counts number + bytes)
 
+-- the cluster of the word with this number asks for so many bytes more; a word of activity asks for nothing
 abbrev pub asked_more : ℕ → ℕ → Asking → Asking
-asked_more cluster bytes a = record {
-  numbers = a.numbers;
-  outstanding = more_of cluster bytes a.outstanding;
-  left = more_of cluster bytes a.left;
+asked_more number bytes a = record {
+  tables = a.tables;
+  outstanding = more_of number (requested_at (words_of a.tables) number bytes) a.outstanding;
+  left = more_of number (requested_at (words_of a.tables) number bytes) a.left;
   pending = a.pending;
 }
 
--- each cluster asks for the bytes of a cut
-abbrev pub with_cut : List ℕ → List ℕ → List ℕ
-with_cut counts cut = map (λ pair. pair.0 + pair.1) (zip counts cut)
+-- each cluster asks for the bytes that a cut has of its word
+abbrev pub with_cut : Tables → List ℕ → List ℕ → List ℕ
+with_cut t counts cut = map (λ pair. pair.0 + pair.1) (zip counts (requested_in (words_of t) cut))
 
 abbrev pub all_asked_more : List ℕ → Asking → Asking
 all_asked_more cut a = record {
-  numbers = a.numbers;
-  outstanding = with_cut a.outstanding cut;
-  left = with_cut a.left cut;
+  tables = a.tables;
+  outstanding = with_cut a.tables a.outstanding cut;
+  left = with_cut a.tables a.left cut;
   pending = a.pending;
 }
 
--- so many bytes of a cluster were granted
+-- so many bytes of the word with this number were granted
 abbrev pub credited : ℕ → ℕ → Asking → Asking
-credited cluster bytes a = record {
-  numbers = a.numbers;
+credited number bytes a = record {
+  tables = a.tables;
   outstanding = a.outstanding;
-  left = set a.left cluster (slice_index a.left cluster - bytes);
+  left = set a.left number (slice_index a.left number - bytes);
   pending = a.pending;
 }
 
 -- the round is over: what is left is outstanding
 abbrev pub settled : Asking → Asking
 settled a = record {
-  numbers = a.numbers;
+  tables = a.tables;
   outstanding = a.left;
   left = a.left;
-  pending = pending_places a.outstanding a.left a.numbers;
+  pending = pending_places a.outstanding a.left (numbers_of (turns_of a.tables));
 }
 
 -- The plan of those who ask.
@@ -139,3 +155,10 @@ AskersClaim = (t : Tables) (outstanding : List ℕ) (known allowances : List (Op
 abbrev pub TurnsPass : Type 0
 TurnsPass = (passes : ℕ → Bool) (turns : List Turn) →
     turns_at turns (places_from passes 0 (numbers_of turns)) ≡ filter (λ turn. passes turn.number) turns
+
+-- A cut adds to what is outstanding of each cluster's word, and leaves that of other words as it is.
+abbrev pub CutsAreOfClusters : Type 0
+CutsAreOfClusters = (t : Tables) (counts cut : List ℕ) (number : ℕ) (word : Word) →
+    slice_get (words_of t) number ≡ Some word → number < length counts → number < length cut →
+    slice_index (with_cut t counts cut) number ≡
+    slice_index counts number + requested_by word (slice_index cut number)

@@ -7,7 +7,7 @@ use Rattle.us_flows.specs.Tables.{Tables, header_bytes}
 use Rattle.us_flows.specs.Clusters.{Turn}
 use Rattle.us_split.specs.Plans.{Planned, max_burst_bytes}
 
--- the SID cluster that a claim is of: its number among all clusters, the place of its flow in the table, the flow's id,
+-- the SID cluster that a claim is of: the number of its word, the place of its flow in the table, the flow's id,
 -- and its place in the flow
 pub record Claimant : Type 0 where
   pub cluster : ℕ

@@ -4,13 +4,13 @@ use Rattle.us_slots.specs.Bursts.{coded_length, burst_cost}
 use Rattle.us_slots.specs.Capacities.{greatest_up_to, capacity_of}
 use Rattle.us_slots.specs.Examples.{base_profile, bursts_with}
 use Rattle.us_flows.specs.declared.channels.Channel.{Channel}
-use Rattle.us_flows.specs.declared.flows.SchedulingType.TheVariants.{BestEffort}
+use Rattle.us_flows.specs.declared.flows.SchedulingType.TheVariants.{ActivityDetection, BestEffort}
 use Rattle.us_flows.specs.Tables.{FlowTable, Tables}
 use Rattle.us_flows.specs.Clusters.{turns_of}
 use Rattle.us_split.specs.Divisions.{divided}
 use Rattle.us_split.specs.Plans.{weights, shares_of, cost_on, after_turn, plan_of, after_plan, more_shares, after_both, second_of, two_passes, plan_for, reserved_for}
 use Rattle.us_split.specs.Claims.{Claim, claims_from, all_claims, share_of}
-use Rattle.us_split.specs.Asking.{asking, asking_in, claims_at, places_from, plan_of_askers, pending_places}
+use Rattle.us_split.specs.Asking.{asked_more, asking, asking_in, claims_at, nobody_asks, numbers_of, places_from, plan_of_askers, pending_places, with_cut}
 
 -- what these computations unfold
 unfoldable all_steps : ⊤
@@ -157,7 +157,7 @@ both_reserved = (refl, refl)
 
 -- Claims.
 
--- a claim of this turn at this position, of the cluster of this number, with this SID, share, minislots and IUC
+-- a claim of this turn at this position, of the cluster whose word has this number, with this SID, share, minislots and IUC
 abbrev claim : ℕ → ℕ → ℕ → ℕ → ℕ → ℕ → ℕ → Claim
 claim turn position number sid share slots iuc = record {
   claimant = record { cluster = number; place = 0; flow = 1; list = number };
@@ -206,13 +206,37 @@ looked_up = (refl, refl, refl, refl)
 
 -- Who asks.
 
--- clusters 2, 0 and 1 in the order of turns: the first of these turns asks, and the last one; and the second is pending, where
--- cluster 1 was credited 5 bytes, and cluster 2 all that was outstanding
+-- words 2, 0 and 1 in the order of turns: the first of these turns asks, and the last one; and the second is pending, where
+-- word 1 was credited 5 bytes, and word 2 all that was outstanding
 three_turns :
     (asking (0 ∷ 9 ∷ 7 ∷ []) (2 ∷ 0 ∷ 1 ∷ []) ≡ 0 ∷ 2 ∷ []) ×
     (pending_places (4 ∷ 9 ∷ 7 ∷ []) (4 ∷ 4 ∷ 0 ∷ []) (2 ∷ 0 ∷ 1 ∷ []) ≡ 1 ∷ [])
 unfolding places_from
 three_turns = (refl, refl)
+
+-- between two flows of best effort one that tells its activity
+abbrev with_activity : Tables
+with_activity = record {
+  round_ticks = 320;
+  lead_ticks = 160;
+  channels = channel 1 ∷ [];
+  flows =
+      flow (1 ∷ []) ((291 ∷ []) ∷ []) ∷
+      record (flow (1 ∷ []) ((292 ∷ []) ∷ [])) { id = 2; kind = ActivityDetection } ∷
+      record (flow (1 ∷ []) ((293 ∷ []) ∷ [])) { id = 3; priority = 5 } ∷ [];
+  stations = [];
+}
+
+-- words 1 and 2 are of activity. What a cut has of them isn't outstanding, nor is what is added to one of them; the turns are
+-- of words 3 and 0, and both ask
+activity_between :
+    (with_cut with_activity (5 ∷ 0 ∷ 0 ∷ 7 ∷ []) (1 ∷ 1 ∷ 2 ∷ 4 ∷ []) ≡ 6 ∷ 0 ∷ 0 ∷ 11 ∷ []) ×
+    ((asked_more 2 9 (nobody_asks with_activity)).outstanding ≡ 0 ∷ 0 ∷ 0 ∷ 0 ∷ []) ×
+    ((asked_more 3 9 (nobody_asks with_activity)).outstanding ≡ 0 ∷ 0 ∷ 0 ∷ 9 ∷ []) ×
+    (numbers_of (turns_of with_activity) ≡ 3 ∷ 0 ∷ []) ×
+    (asking_in with_activity (6 ∷ 0 ∷ 0 ∷ 11 ∷ []) ≡ 0 ∷ 1 ∷ [])
+unfolding all_steps places_from
+activity_between = (refl, refl, refl, refl, refl)
 
 -- the second cluster alone asks, and claims as it does among all turns
 second_asks :

@@ -188,7 +188,7 @@ ledger_of t allowances idle = record {
   allowances = allowances;
 }
 
--- the plan of a round: of the bytes outstanding of each cluster, the allowances and the reserves by flow, and the idle minislots
+-- the plan of a round: of the bytes outstanding of each word, the allowances and the reserves by flow, and the idle minislots
 -- by channel
 unfoldable pub plan_for : Tables → List ℕ → List (Option ℕ) → List ℕ → List ℕ → List Planned
 plan_for t outstanding allowances reserves idle =

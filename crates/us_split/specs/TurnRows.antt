@@ -97,7 +97,7 @@ with_shares row shares partial = record {
 unfoldable pub with_row : TurnRow → ℕ → PartialPlan → PartialPlan
 with_row row bytes partial = with_shares row (shares_in row bytes partial) partial
 
--- the same of a turn by its place, of the bytes that are outstanding of each cluster,
+-- the same of a turn by its place, of the bytes that are outstanding of each word,
 abbrev pub with_row_if : Option TurnRow → List ℕ → PartialPlan → PartialPlan
 with_row_if None outstanding partial = partial
 with_row_if (Some row) outstanding partial =

@@ -8,7 +8,7 @@ use us_slots::Iuc;
 /// The SID cluster that a claim is of.
 #[derive(Clone, Copy)]
 pub struct Claimant {
-    /// Its number among all clusters that make requests.
+    /// The number of its word.
     pub cluster: u16,
     /// The place of its flow among the flows.
     pub place: u16,

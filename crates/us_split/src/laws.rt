@@ -1,6 +1,6 @@
 //! Laws of plans, of their claims and of those who ask, each as the contract of a function that does nothing.
 
-ghost use Rattle.us_split.specs.Asking.{AskersClaim, TurnsPass};
+ghost use Rattle.us_split.specs.Asking.{AskersClaim, CutsAreOfClusters, TurnsPass};
 ghost use Rattle.us_split.specs.Laws.{ClaimsAreOfTurns, ClustersClaimOnce, OnePassDoes};
 
 /// Each claim of a plan is of a turn of the tables: of its cluster, with its header, and with the cluster's SID on the
@@ -22,6 +22,11 @@ pub fn askers_claim()
 /// The turns at the places of those that pass are the turns that pass.
 pub fn turns_pass()
     ensures { TurnsPass }
+{}
+
+/// A cut adds to what is outstanding of each cluster's word, and leaves that of words of activity as it is.
+pub fn cuts_are_of_clusters()
+    ensures { CutsAreOfClusters }
 {}
 
 /// Where nothing is reserved, a plan is made in one pass.

@@ -49,7 +49,10 @@ mod laws;
 pub use asking::Askers;
 pub use claims::{Claim, Claimant};
 pub use divisions::{MAX_CHANNELS_OF_FLOW, divide};
-pub use laws::{askers_claim, claims_are_of_turns, clusters_claim_once, one_pass_does, turns_pass};
+pub use laws::{
+    askers_claim, claims_are_of_turns, clusters_claim_once, cuts_are_of_clusters, one_pass_does,
+    turns_pass,
+};
 pub use planner::Planner;
 pub use planning::plan;
 pub use plans::Plan;

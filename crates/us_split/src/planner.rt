@@ -1,6 +1,6 @@
 ghost use Rattle.std.specs.Prelude.{◌≡◌, ℕ, List, Option, [], ◌-◌, length, map, slice_index, slice_index_or, IfOk, OnOk};
 ghost use Rattle.std.specs.List.{AllByRecursion};
-ghost use Rattle.us_flows.specs.Clusters.{clusters_of, turns_of};
+ghost use Rattle.us_flows.specs.Clusters.{turns_of, words_of};
 ghost use Rattle.us_split.specs.Plans.{IsIdle, plan_for, reserved_for};
 ghost use Rattle.us_split.specs.Claims.{AreClaims, all_claims};
 ghost use Rattle.us_split.specs.PlanLaws.{AreWithinReserves, IsLawfulPlan};
@@ -84,7 +84,7 @@ impl Planner {
         reserves: &mut [u64],
         idle: &[u32],
     ) -> Result<(), NoMemory>
-        requires clusters { length outstanding.now ≡ length (clusters_of self.old.tables) }
+        requires words { length outstanding.now ≡ length (words_of self.old.tables) }
         requires flows { length allowances.old ≡ length self.old.tables.flows }
         requires idle { IsIdle self.old.tables idle.now }
         requires askers { askers.now ≡ asking_in self.old.tables outstanding.now }

@@ -1,5 +1,5 @@
 ghost use Rattle.std.specs.Prelude.{◌≡◌, ℕ, ◌<◌, ◌-◌, [], length, map, slice_index, slice_index_or, IfOk};
-ghost use Rattle.us_flows.specs.Clusters.{clusters_of};
+ghost use Rattle.us_flows.specs.Clusters.{words_of};
 ghost use Rattle.us_flows.specs.Lawful.{AreTables};
 ghost use Rattle.us_split.specs.Plans.{IsIdle, plan_for, reserved_for};
 ghost use Rattle.us_split.specs.Claims.{AreClaims, all_claims, share_of};
@@ -15,9 +15,9 @@ use us_slots::NoMemory;
 
 /// Plans a round: how many bytes each turn may send on each of its flow's channels.
 ///
-/// `outstanding` has the bytes of each SID cluster, by number; `allowances` what the bucket of each flow allows, in
-/// table order, `None` where it has no limit; `reserves` what is reserved for each flow, 0 where nothing is listed; `idle`
-/// the idle minislots of each channel, in table order.
+/// `outstanding` has the bytes of each SID cluster, at the number of its word; `allowances` what the bucket of each flow
+/// allows, in table order, `None` where it has no limit; `reserves` what is reserved for each flow, 0 where nothing is
+/// listed; `idle` the idle minislots of each channel, in table order.
 ///
 /// First each turn asks for the outstanding bytes of its cluster, as far as its flow's reserve and allowance go, and
 /// they are divided over its channels by what these can carry in the minislots that the turns before it left. So a flow
@@ -32,7 +32,7 @@ pub fn plan(
     reserves: &[u64],
     idle: &[u32],
 ) -> Result<Plan, NoMemory>
-    requires clusters { length outstanding.now ≡ length (clusters_of config.now) }
+    requires words { length outstanding.now ≡ length (words_of config.now) }
     requires flows { length allowances.now ≡ length config.now.flows }
     requires idle { IsIdle config.now idle.now }
     ensures value { IfOk result (λ plan. plan.claims ≡

@@ -76,7 +76,7 @@ impl TurnRow {
         self.asker
     }
 
-    /// The number of its cluster.
+    /// The number of its cluster's word.
     pub(crate) fn cluster(&self) -> usize
         ensures { result ≡ self.now.asker.claimant.cluster }
     {

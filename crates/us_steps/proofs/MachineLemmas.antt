@@ -1,12 +1,15 @@
 -- That a machine and its tally go through the same steps.
 use Rattle.std.proofs.Common.{◌≡◌, ℕ, zero, suc, Bool, true, false, not, ◌&&◌, ◌||◌, if◌then◌else◌, List, [], ◌∷◌, length, map, replicate, get_or, slice_set, Option, Some, None, refl, ap, sym, ◌∙◌}
-use Rattle.std.specs.Prelude.{slice_get, option_map, option_and_then}
+use Rattle.std.specs.Prelude.{slice_get, zip, option_map, option_and_then}
+use Rattle.std.proofs.lemmas.List.{length-map}
 use Rattle.us_requests.specs.declared.asks.Ask.{Ask}
-use Rattle.us_channel.specs.Channels.{Filled}
+use Rattle.us_flows.specs.declared.channels.Channel.{Channel}
+use Rattle.us_calendar.specs.Calendars.{Calendar}
+use Rattle.us_channel.specs.Channels.{fill}
 use Rattle.us_round.specs.Rounds.{State, begun, fills_of}
 use Rattle.us_steps.specs.declared.steps.Step.{Step}
 use Rattle.us_steps.specs.declared.steps.Step.TheVariants as step
-use Rattle.us_steps.specs.Machines.{Stand, Home, Out, Done, Machine, opening_machine, with_row, without_word, with_channel, placed, opened, built, was_opened, is_built, any_open, after_step, are_set, is_done, run}
+use Rattle.us_steps.specs.Machines.{Stand, Home, Out, Done, Machine, opening_machine, with_row, without_word, with_channel, filled_by, placed, opened, built, was_opened, is_built, any_open, after_step, are_set, is_done, run}
 use Rattle.us_steps.specs.Tallies as tallies
 use Rattle.us_steps.specs.Tallies.{Tally, tally_of, opening_tally, after}
 
@@ -69,15 +72,16 @@ unfolding after_step after
 open-tally s rows m channel = by (slice_get m.channels channel) refl
   where
     by : (found : Option Stand) → slice_get m.channels channel ≡ found →
-        option_map tally_of (option_map (with_channel m channel) (option_and_then opened found))
+        option_map tally_of (option_map (with_channel m channel) (option_and_then (opened s m.cut) found))
         ≡ (if get_or (map was_opened m.channels) channel true then None else Some (tallies.with_open (tally_of m) channel))
     by None is = rw (no-flag was_opened m.channels channel true is) refl
-    by (Some (Home f)) is =
+    by (Some (Home c calendar)) is =
+        let out : Stand = Out (filled_by s m.cut c calendar) in
         rw (
-          found-flag was_opened m.channels channel true (Home f) is,
-          set-flag was_opened m.channels channel (Out f),
-          kept-flag is_built m.channels channel (Home f) (Out f) is refl,
-          now-open m.channels channel (Home f) (Out f) is refl,
+          found-flag was_opened m.channels channel true (Home c calendar) is,
+          set-flag was_opened m.channels channel out,
+          kept-flag is_built m.channels channel (Home c calendar) out is refl,
+          now-open m.channels channel (Home c calendar) out is refl,
         ) refl
     by (Some (Out f)) is = rw (found-flag was_opened m.channels channel true (Out f) is) refl
     by (Some (Done b)) is = rw (found-flag was_opened m.channels channel true (Done b) is) refl
@@ -92,7 +96,7 @@ built-tally s rows m channel = by (slice_get m.channels channel) refl
         ≡ (if not (get_or (map was_opened m.channels) channel false) || get_or (map is_built m.channels) channel true
         then None else Some (tallies.with_built (tally_of m) channel))
     by None is = rw (no-flag was_opened m.channels channel false is) refl
-    by (Some (Home f)) is = rw (found-flag was_opened m.channels channel false (Home f) is) refl
+    by (Some (Home c calendar)) is = rw (found-flag was_opened m.channels channel false (Home c calendar) is) refl
     by (Some (Out f)) is =
         let done : Stand = Done (placed (begun s m.cut) f) in
         rw (
@@ -139,7 +143,7 @@ and-false false = refl
 both-set : (channels : List Stand) →
     (are_set (map was_opened channels) && are_set (map is_built channels)) ≡ are_set (map is_built channels)
 both-set [] = refl
-both-set (Home f ∷ channels) = refl
+both-set (Home c calendar ∷ channels) = refl
 both-set (Out f ∷ channels) = and-false (are_set (map was_opened channels))
 both-set (Done b ∷ channels) = both-set channels
 
@@ -170,21 +174,25 @@ run-tally s rows m (next ∷ steps) = by (after_step s rows m next) refl (λ aft
 
 -- The beginning.
 
-fresh-flags : (g : Stand → Bool) (fs : List Filled) → ((f : Filled) → g (Home f) ≡ false) →
-    map g (map (λ f. Home f) fs) ≡ replicate (length fs) false
+fresh-flags : (g : Stand → Bool) (pairs : List (Channel × Calendar)) →
+    ((c : Channel) (calendar : Calendar) → g (Home c calendar) ≡ false) →
+    map g (map (λ pair. Home pair.0 pair.1) pairs) ≡ replicate (length pairs) false
 fresh-flags g [] each = refl
-fresh-flags g (f ∷ fs) each =
-    ap (λ flag. flag ∷ map g (map (λ f. Home f) fs)) (each f) ∙ ap (λ flags. false ∷ flags) (fresh-flags g fs each)
+fresh-flags g (pair ∷ pairs) each =
+    ap (λ flag. flag ∷ map g (map (λ pair. Home pair.0 pair.1) pairs)) (each pair.0 pair.1)
+    ∙ ap (λ flags. false ∷ flags) (fresh-flags g pairs each)
 
-none-open : (fs : List Filled) → any_open (map (λ f. Home f) fs) ≡ false
+none-open : (pairs : List (Channel × Calendar)) → any_open (map (λ pair. Home pair.0 pair.1) pairs) ≡ false
 none-open [] = refl
-none-open (f ∷ fs) = none-open fs
+none-open (pair ∷ pairs) = none-open pairs
 
 pub opening-is : (s : State) (words : List ℕ) (rows : ℕ) →
     tally_of (opening_machine s words rows) ≡ opening_tally words rows (length (fills_of s))
 opening-is s words rows =
+    let pairs : List (Channel × Calendar) = zip s.tables.channels s.calendars in
     rw (
-      fresh-flags was_opened (fills_of s) (λ f. refl),
-      fresh-flags is_built (fills_of s) (λ f. refl),
-      none-open (fills_of s),
+      fresh-flags was_opened pairs (λ c calendar. refl),
+      fresh-flags is_built pairs (λ c calendar. refl),
+      none-open pairs,
+      length-map pairs (λ pair. fill s.tables s.round pair.0 pair.1),
     ) refl

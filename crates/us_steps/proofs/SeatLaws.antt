@@ -119,7 +119,7 @@ goes-after s asks seats q m next (step.Take word by) ready once to =
       took = omega (arith, sum, cut-more m.cut m.words word q inside);
     })
 goes-after s asks seats q m next (step.Open channel) ready once to =
-    stands-still asks seats q m next channel (option_and_then opened (slice_get m.channels channel)) to
+    stands-still asks seats q m next channel (option_and_then (opened s m.cut) (slice_get m.channels channel)) to
 goes-after s asks seats q m next (step.Built channel) ready once to =
     stands-still asks seats q m next channel (option_and_then (built (begun s m.cut)) (slice_get m.channels channel)) to
 
@@ -235,7 +235,7 @@ same-ends s rows (step.Add row by ∷ steps) m seats =
 same-ends s rows (step.Take word by ∷ steps) m seats =
     one-word s rows m seats steps word by (any_open m.channels || get_or m.taken word true) (same-ends s rows steps)
 same-ends s rows (step.Open channel ∷ steps) m seats =
-    one-channel s rows m seats steps channel (option_and_then opened (slice_get m.channels channel)) (same-ends s rows steps)
+    one-channel s rows m seats steps channel (option_and_then (opened s m.cut) (slice_get m.channels channel)) (same-ends s rows steps)
 same-ends s rows (step.Built channel ∷ steps) m seats =
     one-channel s rows m seats steps channel (option_and_then (built (begun s m.cut)) (slice_get m.channels channel))
     (same-ends s rows steps)

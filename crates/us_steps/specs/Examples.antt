@@ -4,9 +4,10 @@ use Rattle.std.specs.List.{AllByRecursion}
 use Rattle.std.proofs.Common.{arith}
 use Rattle.us_requests.specs.declared.asks.Ask.{Ask}
 use Rattle.us_steps.specs.Steps.{adds, builds, count, cut_of, left_of, IsComplete}
-use Rattle.us_channel.specs.Channels.{Filled}
+use Rattle.us_flows.specs.declared.channels.Channel.{Channel}
+use Rattle.us_calendar.specs.Calendars.{Calendar}
 use Rattle.us_round.specs.Rounds.{State, begun}
-use Rattle.us_steps.specs.Machines.{Stand, Home, Done, Machine, no_seats, placed, after_step, run}
+use Rattle.us_steps.specs.Machines.{Stand, Home, Done, Machine, no_seats, filled_by, placed, after_step, run}
 use Rattle.us_steps.specs.Plays.{cuts_of, words_after}
 use Rattle.us_steps.specs.Laws.{IsSeated, all_added, all_took}
 use Rattle.us_steps.specs.declared.steps.Step.{Step}
@@ -65,53 +66,53 @@ added_twice all =
 -- The machine.
 
 -- the word has so many bytes, and the one channel is at home
-abbrev start : ℕ → Filled → Machine
-start word f = record {
+abbrev start : ℕ → Channel → Calendar → Machine
+start word c calendar = record {
   words = word ∷ [];
   cut = 0 ∷ [];
   seats = no_seats;
   added = false ∷ false ∷ [];
   taken = false ∷ [];
-  channels = Home f ∷ [];
+  channels = Home c calendar ∷ [];
 }
 
 -- the cut, the words and the channels in the end
-abbrev ends : State → Filled → List Step → Option (List ℕ × List ℕ × List Stand)
-ends s f steps = option_map (λ (m : Machine). (m.cut, m.words, m.channels)) (run s rows (start 0 f) steps)
+abbrev ends : State → Channel → Calendar → List Step → Option (List ℕ × List ℕ × List Stand)
+ends s c calendar steps = option_map (λ (m : Machine). (m.cut, m.words, m.channels)) (run s rows (start 0 c calendar) steps)
 
--- the channel is built for the cut that stands in the list
-goes_on : (s : State) (f : Filled) →
-    (ends s f in_time ≡ Some (1200 ∷ [], 0 ∷ [], Done (placed (begun s (1200 ∷ [])) f) ∷ [])) ×
-    (ends s f one_late ≡ Some (700 ∷ [], 500 ∷ [], Done (placed (begun s (700 ∷ [])) f) ∷ []))
+-- the channel is filled and built for the cut that stands in the list
+goes_on : (s : State) (c : Channel) (calendar : Calendar) →
+    (ends s c calendar in_time ≡ Some (1200 ∷ [], 0 ∷ [], Done (placed (begun s (1200 ∷ [])) (filled_by s (1200 ∷ []) c calendar)) ∷ [])) ×
+    (ends s c calendar one_late ≡ Some (700 ∷ [], 500 ∷ [], Done (placed (begun s (700 ∷ [])) (filled_by s (700 ∷ []) c calendar)) ∷ []))
 unfolding run after_step
-goes_on s f = (refl, refl)
+goes_on s c calendar = (refl, refl)
 
 -- the machine stops where a channel isn't built, or is built twice, or at home; where a row is added twice, or isn't there;
 -- and where a word is taken once a channel is out
-stops : (s : State) (f : Filled) →
-    (ends s f not_built ≡ None) ×
-    (ends s f (step.Add 1 4 ∷ step.Add 0 3 ∷ step.Take 0 3 ∷ step.Open 0 ∷ step.Built 0 ∷ step.Built 0 ∷ []) ≡ None) ×
-    (ends s f (step.Add 1 4 ∷ step.Add 0 3 ∷ step.Take 0 3 ∷ step.Built 0 ∷ step.Open 0 ∷ []) ≡ None) ×
-    (ends s f twice ≡ None) ×
-    (ends s f (step.Add 2 4 ∷ in_time) ≡ None) ×
-    (ends s f (step.Add 1 4 ∷ step.Add 0 3 ∷ step.Open 0 ∷ step.Take 0 3 ∷ step.Built 0 ∷ []) ≡ None)
+stops : (s : State) (c : Channel) (calendar : Calendar) →
+    (ends s c calendar not_built ≡ None) ×
+    (ends s c calendar (step.Add 1 4 ∷ step.Add 0 3 ∷ step.Take 0 3 ∷ step.Open 0 ∷ step.Built 0 ∷ step.Built 0 ∷ []) ≡ None) ×
+    (ends s c calendar (step.Add 1 4 ∷ step.Add 0 3 ∷ step.Take 0 3 ∷ step.Built 0 ∷ step.Open 0 ∷ []) ≡ None) ×
+    (ends s c calendar twice ≡ None) ×
+    (ends s c calendar (step.Add 2 4 ∷ in_time) ≡ None) ×
+    (ends s c calendar (step.Add 1 4 ∷ step.Add 0 3 ∷ step.Open 0 ∷ step.Take 0 3 ∷ step.Built 0 ∷ []) ≡ None)
 unfolding run after_step
-stops s f = (refl, refl, refl, refl, refl, refl)
+stops s c calendar = (refl, refl, refl, refl, refl, refl)
 
 -- what seats 3 and 4 added to the word, and what seat 3 took of it
-seats_tell : (s : State) (f : Filled) →
+seats_tell : (s : State) (c : Channel) (calendar : Calendar) →
     option_map {U = ℕ × ℕ × ℕ} (λ (m : Machine). (m.seats.added 3 0, m.seats.added 4 0, m.seats.took 3 0))
-    (run s rows (start 0 f) one_late) ≡ Some (500, 700, 700)
+    (run s rows (start 0 c calendar) one_late) ≡ Some (500, 700, 700)
 unfolding run after_step
-seats_tell s f = refl
+seats_tell s c calendar = refl
 
 -- of a word that had 30 bytes, both together added 1200 and took 730, and 500 are left
 seated : AllByRecursion (IsSeated (3 ∷ 4 ∷ [])) one_late
 seated = (refl, (refl, (tt, (refl, (tt, tt)))))
 
-balance : (s : State) (f : Filled) →
+balance : (s : State) (c : Channel) (calendar : Calendar) →
     option_map {U = ℕ × ℕ × ℕ}
     (λ (m : Machine). (all_added (3 ∷ 4 ∷ []) m 0, all_took (3 ∷ 4 ∷ []) m 0, slice_index m.words 0))
-    (run s rows (start 30 f) one_late) ≡ Some (1200, 730, 500)
+    (run s rows (start 30 c calendar) one_late) ≡ Some (1200, 730, 500)
 unfolding run after_step
-balance s f = refl
+balance s c calendar = refl

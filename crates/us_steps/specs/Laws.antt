@@ -96,7 +96,7 @@ PlaysAreRounds = (t : Tables) (words : List ℕ) (plays : List Play) →
     (run_of (opening t) words plays ≡ map (out_of t) (schedule (opening t) (cuts_of words plays)))
     × (state_after (opening t) words plays ≡ final (opening t) (cuts_of words plays))
 
--- all cuts of a cluster and what is left in its word are what its word had at first, and all its rows
+-- all cuts of a word and what is left in it are what it had at first, and all its rows
 abbrev pub NothingIsLost : Type 0
 NothingIsLost = (channels : ℕ) (words : List ℕ) (plays : List Play) (q : ℕ) →
     AllByRecursion (λ (p : Play). IsComplete (length p.rows) (length words) channels p.steps) plays → q < length words →

@@ -1,4 +1,4 @@
--- The steps of a round, one by one: rows of requests are added to the words of their clusters, each word is taken into the
+-- The steps of a round, one by one: rows of requests and marks are added to their words, each word is taken into the
 -- cut, and each channel is opened and built. A seat is who adds or takes; its number plays no part in what is answered.
 use Rattle.std.specs.Prelude.{◌≡◌, ℕ, suc, ◌+◌, ◌<◌, ◌==◌, Bool, true, false, if◌then◌else◌, List, [], ◌∷◌, length, map, slice_index, slice_get, Option, Some, None}
 use Rattle.std.specs.List.{AllByRecursion, range_with_len}
@@ -90,7 +90,7 @@ pub record IsComplete (rows words channels : ℕ) (steps : List Step) : Type 0 w
 
 -- Cuts.
 
--- the bytes that a row asks for of a cluster
+-- the bytes that a row has for a word
 abbrev pub bytes_for : ℕ → Ask → ℕ
 bytes_for q ask = if ask.cluster == q then ask.bytes else 0
 
@@ -98,14 +98,14 @@ abbrev pub bytes_in : ℕ → Option Ask → ℕ
 bytes_in q None = 0
 bytes_in q (Some ask) = bytes_for q ask
 
--- the bytes that a step adds to a cluster's word
+-- the bytes that a step adds to a word
 abbrev pub added_by : List Ask → ℕ → Step → ℕ
 added_by rows q (step.Add row seat) = bytes_in q (slice_get rows row)
 added_by rows q (step.Take word seat) = 0
 added_by rows q (step.Open channel) = 0
 added_by rows q (step.Built channel) = 0
 
--- a cluster is cut what its word has, and the bytes of its rows that are added before its word is taken,
+-- of a word is cut what it has, and the bytes of its rows that are added before it is taken,
 abbrev pub cut_at : List ℕ → List Ask → List Step → ℕ → ℕ
 cut_at words rows steps q = slice_index words q + total (added_by rows q) (ahead (takes q) steps)
 
@@ -113,7 +113,7 @@ cut_at words rows steps q = slice_index words q + total (added_by rows q) (ahead
 abbrev pub left_at : List Ask → List Step → ℕ → ℕ
 left_at rows steps q = total (added_by rows q) (behind (takes q) steps)
 
--- of all clusters, in the order of their numbers
+-- of all words, in the order of their numbers
 unfoldable pub cut_of : List ℕ → List Ask → List Step → List ℕ
 cut_of words rows steps = map (cut_at words rows steps) (range_with_len 0 (length words))
 

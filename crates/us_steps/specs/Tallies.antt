@@ -7,7 +7,7 @@ use Rattle.us_steps.specs.Machines.{Machine, raised, are_set, was_opened, is_bui
 use Rattle.us_steps.specs.declared.steps.Step.{Step}
 use Rattle.us_steps.specs.declared.steps.Step.TheVariants as step
 
--- the word and the cut of each cluster; which rows were added and which words taken; which channels were opened and which
+-- each word and its cut; which rows were added and which words taken; which channels were opened and which
 -- built, a channel being at home before it is opened, and out until it is built; whether any channel was opened
 pub record Tally : Type 0 where
   pub words : List ℕ
@@ -30,7 +30,7 @@ opening_tally words rows channels = record {
   settled = false;
 }
 
--- a row's bytes are added to its cluster's word,
+-- a row's bytes are added to its word,
 abbrev pub with_row : List Ask → Tally → ℕ → Tally
 with_row rows l row = record {
   words = raised l.words (slice_get rows row);
@@ -111,7 +111,7 @@ tally_of m = record {
 
 -- What stays so from step to step.
 
--- the bytes of the rows of a cluster that aren't added yet
+-- the bytes of the rows of a word that aren't added yet
 abbrev pub unadded : ℕ → List Ask → List Bool → ℕ
 unadded q [] flags = 0
 unadded q (row ∷ rows) [] = 0

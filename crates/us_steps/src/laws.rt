@@ -24,7 +24,7 @@ pub fn plays_are_rounds()
     ensures { PlaysAreRounds }
 {}
 
-/// The cuts of a cluster and what is left in its word are what its word had at first, and all its rows.
+/// The cuts of a word and what is left in it are what it had at first, and all its rows.
 pub fn nothing_is_lost()
     ensures { NothingIsLost }
 {}

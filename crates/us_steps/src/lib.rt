@@ -2,7 +2,7 @@
 //! a complete list makes the round of the cut that stands in it.
 //!
 //! ```
-//! // two rows are added, the word of their cluster is taken, and the one channel is given to a worker and built
+//! // two rows are added, their word is taken, and the one channel is given to a worker and built
 //! let add = |row| Step::Add { row, seat: 0 };
 //! let steps = [add(1), add(0), Step::Take { word: 0, seat: 0 }, Step::Open { channel: 0 }, Step::Built { channel: 0 }];
 //! // None if something were missing, or done twice; else the state that the next round starts from, what is left in the

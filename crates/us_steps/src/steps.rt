@@ -1,7 +1,7 @@
 /// A step of a round. A seat is who adds or takes: its number plays no part in what is answered.
 #[derive(Clone, Copy, Debug, PartialEq, Eq, Hash)]
 pub enum Step {
-    /// The bytes of a row are added to the word of its cluster.
+    /// The bytes of a row are added to its word.
     Add {
         /// The place of the row among all rows.
         row: usize,
@@ -10,7 +10,7 @@ pub enum Step {
     },
     /// What a word has moves into the cut, and the word is 0 then.
     Take {
-        /// The number of the word's cluster.
+        /// The number of the word.
         word: usize,
         /// Who takes it.
         seat: usize,

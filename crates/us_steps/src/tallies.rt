@@ -104,7 +104,7 @@ impl Tally {
         }
     }
 
-    /// Adds the bytes of a row to the word of its cluster, unless it was added.
+    /// Adds the bytes of a row to its word, unless it was added.
     fn add(&mut self, rows: &[Ask], row: usize) -> bool
         requires ready { IsReady rows.now self.old }
         ensures { (if get_or self.old.added row true then None else Some (spec.with_row rows.now self.old row))
@@ -244,7 +244,7 @@ fn are_set(flags: &[bool]) -> bool
     true
 }
 
-/// Adds the bytes of a row to the word of its cluster.
+/// Adds the bytes of a row to its word.
 fn raise(words: &mut [u64], ask: Ask)
     requires inside { ask.cluster < length words.old }
     requires room { slice_index words.old ask.cluster + ask.bytes < 2 ^ 64 }

@@ -1,6 +1,6 @@
 ghost use Rattle.std.specs.Prelude.{◌≡◌, ◌≤◌, length, IfOk, OnOk};
 
-use crate::{Calendar, Settled};
+use crate::{Calendar, Kind, Settled};
 use std::alloc::{AllocError, Global};
 use std::process::Abort;
 use us_flows::Config;
@@ -20,6 +20,9 @@ pub(super) struct Case<'a> {
     /// The flows and stations.
     pub(super) tables: &'a str,
     pub(super) rounds: u32,
+    /// What a flow with activity detection, which has words 0 and 1, tells in each round: `s` that it is silent, `a` that it
+    /// is active, `b` both; else nothing.
+    pub(super) marks: &'a str,
     pub(super) answer: &'a str,
 }
 
@@ -33,11 +36,12 @@ pub(super) fn compare(rt: &impl Abort, alloc: Global, cases: &[Case<'_>]) {
     }
 }
 
-/// What is settled, for each round in which something is; none where the tables are refused, or memory is.
+/// What is settled, for each round in which something is, and then whether flow 1 is active, if its activity is detected.
+/// None where the tables are refused, or memory is.
 pub(super) fn answer_of(alloc: Global, case: &Case<'_>) -> Option<String> {
     let mut answer = String::new(alloc);
     let config = config_of(alloc, case.tables)?;
-    match run(alloc, &mut answer, &config, case.rounds) {
+    match run(alloc, &mut answer, &config, case) {
         Ok(()) => Some(answer),
         Err(_) => None,
     }
@@ -53,16 +57,35 @@ pub(super) fn config_of(alloc: Global, tables: &str) -> Option<Config> {
 }
 
 /// The rounds of a case.
-fn run(alloc: Global, answer: &mut String, config: &Config, rounds: u32) -> Result<(), NoMemory> {
+fn run(
+    alloc: Global,
+    answer: &mut String,
+    config: &Config,
+    case: &Case<'_>,
+) -> Result<(), NoMemory> {
     if config.channels().len() == 0 {
         return Ok(());
     }
     let len = config.map_len(&config.channels()[0]);
     let mut calendar = Calendar::new(alloc, config, 0)?;
-    for _ in 0..rounds {
-        next(alloc, answer, &mut calendar, len)?;
+    for round in 0..case.rounds {
+        let cut = cut_of(case.marks, round);
+        next(alloc, answer, &mut calendar, &cut, len)?;
+    }
+    if let Some(active) = calendar.activity(1) {
+        write!(answer, "active {active}")?;
     }
     Ok(())
+}
+
+/// The cut of words 0 and 1 in a round.
+fn cut_of(marks: &str, round: u32) -> [u64; 2] {
+    match marks.as_bytes().get(round as usize).copied() {
+        Some(b's') => [1, 0],
+        Some(b'a') => [0, 1],
+        Some(b'b') => [1, 1],
+        _ => [0, 0],
+    }
 }
 
 /// The next round of a calendar.
@@ -70,13 +93,14 @@ fn next(
     alloc: Global,
     answer: &mut String,
     calendar: &mut Calendar,
+    cut: &[u64],
     len: u32,
 ) -> Result<(), NoMemory>
     requires { (calendar.old.pace.len ≡ len) × (len ≤ 4096) }
     ensures { OnOk result (calendar.new.pace ≡ calendar.old.pace) }
 {
     let round = calendar.next_round();
-    let settled = settled_next(alloc, calendar, len)?;
+    let settled = settled_next(alloc, calendar, cut, len)?;
     if settled.len() > 0 {
         write!(answer, "{round}: ")?;
         tell(answer, &settled)?;
@@ -84,12 +108,13 @@ fn next(
     Ok(())
 }
 
-/// What the next round settles: nothing where it might end too late for a run, of 2^26 ticks, since a MAP has 4,096 at
+/// What the next round settles, with this cut: nothing where it might end too late for a run, of 2^26 ticks, since a MAP has 4,096 at
 /// most.
 #[tactic(auto, using(crate::proofs::RunTimes::run_facts))]
 pub(super) fn settled_next(
     alloc: Global,
     calendar: &mut Calendar,
+    cut: &[u64],
     len: u32,
 ) -> Result<Vec<Settled>, NoMemory>
     requires { (calendar.old.pace.len ≡ len) × (len ≤ 4096) }
@@ -100,7 +125,7 @@ pub(super) fn settled_next(
         return Ok(Vec::new(alloc));
     }
     let mut board = board_of(alloc, len)?;
-    calendar.run(alloc, round, &mut board)
+    calendar.run(alloc, round, cut, &mut board)
 }
 
 /// A board whose last 10 minislots are for contention, where it has 160.
@@ -128,18 +153,30 @@ fn tell(answer: &mut String, settled: &[Settled]) -> Result<(), AllocError> {
 /// Of each the id, the interval and the place in it, and the minislots.
 pub(super) fn tell_all(answer: &mut String, settled: &[Settled]) -> Result<(), AllocError> {
     for one in settled {
-        match one {
-            Settled::Granted {
-                kind,
-                id,
-                i,
-                k,
-                start,
-                slots,
-                ..
-            } => write!(answer, "{kind:?} {id} {i}.{k} {start}+{slots}, ")?,
-            Settled::Missed { kind, id, i, k } => write!(answer, "{kind:?} {id} {i}.{k} missed, ")?,
-        }
+        tell_one(answer, one)?;
     }
     Ok(())
+}
+
+/// Of one that was granted also the IUC, where it may be a grant or a poll.
+fn tell_one(answer: &mut String, one: &Settled) -> Result<(), AllocError> {
+    match one {
+        Settled::Granted {
+            kind,
+            id,
+            i,
+            k,
+            start,
+            slots,
+            owner,
+        } => {
+            write!(answer, "{kind:?} {id} {i}.{k} {start}+{slots}")?;
+            if *kind == Kind::Activity {
+                let iuc = owner.iuc().number();
+                write!(answer, " iuc {iuc}")?;
+            }
+            write!(answer, ", ")
+        }
+        Settled::Missed { kind, id, i, k } => write!(answer, "{kind:?} {id} {i}.{k} missed, "),
+    }
 }

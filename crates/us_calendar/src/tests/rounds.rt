@@ -17,6 +17,7 @@ grant_bytes = 16
 grants_per_interval = 1
 ",
     rounds: 7,
+    marks: "",
     answer: "0: Unsolicited 1 0.0 missed, 5: Unsolicited 1 1.0 missed, ",
 };
 
@@ -35,6 +36,7 @@ grant_bytes = 16
 grants_per_interval = 1
 ",
     rounds: 3,
+    marks: "",
     answer: "1: Unsolicited 1 0.0 0+1, ",
 };
 
@@ -53,6 +55,7 @@ grant_bytes = 16
 grants_per_interval = 101
 ",
     rounds: 2,
+    marks: "",
     answer: "0: Unsolicited 1 0.0 0+1, Unsolicited 1 0.1 1+1, Unsolicited 1 0.2 2+1, .. 101, \
         Unsolicited 1 0.98 98+1, Unsolicited 1 0.99 missed, Unsolicited 1 0.100 missed, ",
 };
@@ -83,6 +86,7 @@ interval_us = 10000
 jitter_us = 500
 ",
     rounds: 6,
+    marks: "",
     answer: "0: RealTimePoll 2 0.0 0+2, Station 1 0.0 2+4, 5: RealTimePoll 2 1.0 0+2, Station 1 1.0 2+4, ",
 };
 
@@ -112,6 +116,7 @@ grant_bytes = 16
 grants_per_interval = 1
 ",
     rounds: 33,
+    marks: "",
     answer: "0: Unsolicited 1 0.0 0+1, Unsolicited 2 0.0 1+1, 15: Unsolicited 1 1.0 0+1, 16: Unsolicited 2 1.0 0+1, \
         30: Unsolicited 1 2.0 0+1, 32: Unsolicited 2 2.0 0+1, ",
 };

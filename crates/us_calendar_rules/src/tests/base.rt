@@ -45,6 +45,9 @@ interval_us = 100000
 jitter_us = 1000
 ";
 
+/// A trace of no request.
+const NO_ROWS: &str = "tick,channel,sid,units\n";
+
 /// The lines of the poll and of the station.
 pub(super) const OTHERS: &str = "\
 G,0,1,station,1,0,0,5,4,0,4,0
@@ -75,8 +78,19 @@ pub(super) fn compare(rt: &impl Abort, alloc: Global, cases: &[Case<'_>]) {
 
 /// The same with other tables beside the channels.
 pub(super) fn compare_by(rt: &impl Abort, alloc: Global, tables: &str, cases: &[Case<'_>]) {
+    compare_run(rt, alloc, tables, NO_ROWS, cases);
+}
+
+/// And with a trace.
+pub(super) fn compare_run(
+    rt: &impl Abort,
+    alloc: Global,
+    tables: &str,
+    rows: &str,
+    cases: &[Case<'_>],
+) {
     for case in cases {
-        let answer = judge_by(alloc, tables, case.lines);
+        let answer = judge_run(alloc, tables, rows, case.lines);
         assert_eq!(rt; answer, Some(case.answer.map(at)), "{}", case.name);
     }
 }
@@ -92,13 +106,13 @@ fn at((round, channel, third): (u64, u64, u64)) -> Place {
 
 /// Where these lines break the rule; nothing where they can't be judged, as where memory is refused.
 pub(super) fn judge(alloc: Global, lines: &[&str]) -> Option<Option<Place>> {
-    judge_by(alloc, TABLES, lines)
+    judge_run(alloc, TABLES, NO_ROWS, lines)
 }
 
-/// The same with other tables beside the channels.
-fn judge_by(alloc: Global, tables: &str, lines: &[&str]) -> Option<Option<Place>> {
+/// The same with other tables beside the channels, and a trace.
+fn judge_run(alloc: Global, tables: &str, rows: &str, lines: &[&str]) -> Option<Option<Place>> {
     let config = config_of(alloc, tables)?;
-    let trace = empty_trace(alloc, &config)?;
+    let trace = trace_of(alloc, &config, rows)?;
     let judged = judged_of(alloc, lines)?;
     calendar_lines_breach(alloc, &config, &trace, &judged).ok()
 }
@@ -119,9 +133,9 @@ fn text_of(alloc: Global, tables: &str) -> Result<String, AllocError> {
     Ok(text)
 }
 
-/// The trace of no request, for its 3 rounds.
-fn empty_trace(alloc: Global, config: &Config) -> Option<Trace> {
-    let mut source = FromRead::new(&b"tick,channel,sid,units\n"[..]);
+/// The trace of a text, for its 3 rounds.
+fn trace_of(alloc: Global, config: &Config, rows: &str) -> Option<Trace> {
+    let mut source = FromRead::new(rows.as_bytes());
     if config.rounds_fit(3) {
         Trace::read(alloc, &mut source, config, 3).ok()
     } else {

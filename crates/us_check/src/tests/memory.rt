@@ -1,13 +1,17 @@
-use super::base::{MAPS, REPORT, same, verdict_on};
-use crate::{CheckFault, Verdict};
+use super::base::{MAPS, REPORT, broken, same, verdict_on};
+use super::stored::{REPORT_OF_TWO_OWNERS, TWO_OWNERS};
+use crate::{CheckFault, Rule, Verdict};
 
 /// Run by `tools/refuse-memory` too, where each allocation is refused in turn. A refused one is answered as want of
 /// memory, and never as another verdict or fault.
 #[test]
 fn refused_memory(rt: HostRuntime) {
-    let found = verdict_on(rt.alloc(), &MAPS, REPORT);
-    if let Err(CheckFault::NoMemory) = found {
-        return;
+    let stored: (&[u8], &str, _) = (&MAPS, REPORT, Ok(Verdict::Holds));
+    let changed = broken(Rule::Minislots, 1, 1, 150);
+    for (maps, report, wanted) in [stored, (&TWO_OWNERS, REPORT_OF_TWO_OWNERS, changed)] {
+        let found = verdict_on(rt.alloc(), maps, report);
+        if found != Err(CheckFault::NoMemory) {
+            same(&rt, &found, &wanted, report);
+        }
     }
-    same(&rt, &found, &Ok(Verdict::Holds), "the stored run");
 }

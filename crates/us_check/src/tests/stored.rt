@@ -11,7 +11,7 @@ fn stored_run_holds(rt: HostRuntime) {
 }
 
 /// Reports with one thing changed, and which rule that breaks where.
-static REPORTS: [(&str, Rule, u64, u64, u64); 6] = [
+static REPORTS: [(&str, Rule, u64, u64, u64); 9] = [
     ("F,1,0,0,-\nU,0,0,0\n", Rule::Minislots, 1, 1, 0),
     (
         "M,0,1,station,7,0,0\nG,1,1,req,1,0,0,291,10,0,32,1000\nF,1,0,0,-\nU,0,0,0\n",
@@ -47,6 +47,28 @@ static REPORTS: [(&str, Rule, u64, u64, u64); 6] = [
         2,
         0,
         0,
+    ),
+    // an A line of a flow that makes requests, one that goes before the U line, which lacks, and one behind an F line that lacks
+    (
+        "G,1,1,req,1,0,0,291,10,0,32,1000\nF,1,0,0,-\nA,1,1\nU,0,0,0\n",
+        Rule::Credits,
+        2,
+        0,
+        1,
+    ),
+    (
+        "G,1,1,req,1,0,0,291,10,0,32,1000\nF,1,0,0,-\nA,7,0\n",
+        Rule::Credits,
+        2,
+        0,
+        7,
+    ),
+    (
+        "G,1,1,req,1,0,0,291,10,0,32,1000\nA,0,1\nU,0,0,0\n",
+        Rule::Credits,
+        2,
+        0,
+        1,
     ),
 ];
 
@@ -101,25 +123,26 @@ fn changed_maps_break_a_rule(rt: HostRuntime) -> Result<(), AllocError> {
     Ok(())
 }
 
-/// A grant at the end of the MAP, over its contention reserve.
-static OVERLAPPING: [u8; 34] = [
-    0, 0, 0, 1, 0, 28, 1, 0, 3, 0, 0, 0, 0, 160, 0, 0, 0, 80, 2, 6, 3, 8, 0xff, 0xfc, 0x40, 0,
-    0x04, 0x8e, 0x80, 0x80, 0, 1, 0xc0, 160,
+/// A grant at the end of the second MAP, over its contention reserve,
+pub(super) static TWO_OWNERS: [u8; 68] = [
+    0, 0, 0, 0, 0, 28, 1, 0, 3, 0, 0, 0, 0, 0, 0, 0, 0, 0, 2, 6, 3, 8, 0xff, 0xfc, 0x40, 0, 0xff,
+    0xfc, 0x40, 150, 0, 1, 0xc0, 160, 0, 0, 0, 1, 0, 28, 1, 0, 3, 0, 0, 0, 0, 160, 0, 0, 0, 80, 2,
+    6, 3, 8, 0xff, 0xfc, 0x40, 0, 0x04, 0x8e, 0x80, 0x80, 0, 1, 0xc0, 160,
 ];
 
+/// and the report with it.
+pub(super) static REPORT_OF_TWO_OWNERS: &str =
+    "G,1,1,req,1,0,0,291,10,128,32,1000\nF,1,0,0,-\nU,0,0,0\n";
+
 #[test]
-fn two_owners(rt: HostRuntime) -> Result<(), AllocError> {
-    let mut maps = Vec::from_slice(rt.alloc(), &MAPS[..34])?;
-    maps.extend_from_slice(&OVERLAPPING)?;
-    let report = "G,1,1,req,1,0,0,291,10,128,32,1000\nF,1,0,0,-\nU,0,0,0\n";
-    let found = verdict_on(rt.alloc(), &maps, report);
+fn two_owners(rt: HostRuntime) {
+    let found = verdict_on(rt.alloc(), &TWO_OWNERS, REPORT_OF_TWO_OWNERS);
     same(
         &rt,
         &found,
         &broken(Rule::Minislots, 1, 1, 150),
         "the start of the reserve",
     );
-    Ok(())
 }
 
 /// The tables of the stored run, where its flow may have 999 bytes at once.

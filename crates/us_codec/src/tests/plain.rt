@@ -141,6 +141,25 @@ fn kind_of(answer: Result<bool, MapFault>) -> usize {
     }
 }
 
+/// Each byte of the base body, set to 0 and to 255.
+#[test]
+fn every_byte(rt: HostRuntime) {
+    for place in 0..28usize {
+        let shift = 24 - 8 * (place % 4);
+        for byte in [0u32, 0xff] {
+            let mut words = BASE;
+            words[place / 4] = words[place / 4] & !(0xff << shift) | byte << shift;
+            let found = answer(rt.alloc(), &words);
+            same(
+                &rt,
+                &(words, found),
+                &(words, plain_answer(&words)),
+                "a byte",
+            );
+        }
+    }
+}
+
 #[test]
 fn plain_program_agrees(rt: HostRuntime) {
     let mut seed = 1;

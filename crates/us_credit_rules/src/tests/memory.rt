@@ -1,7 +1,8 @@
 use super::base::{Rule, judge};
 use us_lawful::Place;
 
-/// So many lines that what is kept of them grows several times; a cluster without its F line, and no U line.
+/// So many lines that what is kept of them grows several times; a cluster without its F line, a flow without its A line,
+/// and no U line.
 const REPORT: &str = "\
 G,2,1,req,7,0,0,301,9,0,2,20
 G,2,2,req,7,0,0,300,9,0,2,20
@@ -11,13 +12,17 @@ G,1,2,req,7,1,0,302,9,0,2,20
 G,1,2,req,7,0,0,300,9,0,2,500
 F,1,0,1000,-
 F,7,0,80,0
+A,5,1
+A,6,1
+A,8,1
 ";
 
 /// A rule, and where that fails first.
-static CASES: [(Rule, (u64, u64, u64)); 4] = [
+static CASES: [(Rule, (u64, u64, u64)); 5] = [
     (Rule::Rates, (1, 0, 7)),
     (Rule::Credits, (1, 2, 7)),
     (Rule::Finals, (3, 0, 7)),
+    (Rule::Activities, (3, 0, 9)),
     (Rule::Counts, (3, 0, 0)),
 ];
 

@@ -1,5 +1,5 @@
 use super::base::{Case, Doubling, map_case, numbers_to, same, tell};
-use crate::{CrewFault, OpenGate, map_alone};
+use crate::{CrewFault, OpenGate, Phase, map_alone};
 use std::test::Fail;
 
 pub(super) const DOUBLED: Case<'static> = Case {
@@ -7,7 +7,16 @@ pub(super) const DOUBLED: Case<'static> = Case {
     numbers: 5,
     most: u64::MAX,
     workers: 3,
+    phase: Phase::Build,
     answer: "[2, 4, 6, 8, 10]",
+};
+
+/// Items 2, 3 and 4 are refused.
+pub(super) const REFUSED: Case<'static> = Case {
+    name: "the first that is refused",
+    most: 2,
+    answer: "CR3: item 2: 3",
+    ..DOUBLED
 };
 
 static CASES: &[Case<'static>] = &[
@@ -41,18 +50,20 @@ static CASES: &[Case<'static>] = &[
         ..DOUBLED
     },
     Case {
-        name: "the first that is refused",
-        numbers: 4,
-        most: 2,
-        workers: 4,
-        answer: "CR3: item 2: 3",
+        workers: 1,
+        ..REFUSED
     },
     Case {
-        name: "the first that is refused, by one worker",
-        numbers: 4,
-        most: 2,
-        workers: 1,
-        answer: "CR3: item 2: 3",
+        workers: 2,
+        ..REFUSED
+    },
+    Case {
+        workers: 4,
+        ..REFUSED
+    },
+    Case {
+        workers: 16,
+        ..REFUSED
     },
 ];
 
@@ -69,7 +80,7 @@ fn answers_and_faults(rt: HostRuntime) -> Result<(), Fail> {
 /// The calling thread alone answers the same.
 #[test]
 fn answers_alone(rt: HostRuntime) -> Result<(), Fail> {
-    for (most, wanted) in [(u64::MAX, DOUBLED.answer), (2, "CR3: item 2: 3")] {
+    for (most, wanted) in [(u64::MAX, DOUBLED.answer), (REFUSED.most, REFUSED.answer)] {
         let numbers = numbers_to(rt.alloc(), DOUBLED.numbers)?;
         let answer = map_alone(rt.alloc(), &Doubling { most }, numbers);
         let told = tell(rt.alloc(), &answer)?;

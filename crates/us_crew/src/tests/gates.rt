@@ -1,8 +1,8 @@
 ghost use Rattle.std.specs.Prelude.{⊤};
 
 use super::answers::DOUBLED;
-use super::base::{Case, map_case, same, tell};
-use crate::{Gate, Phase};
+use super::base::{Case, PHASES, map_case, same, tell};
+use crate::{Gate, OpenGate, Phase};
 use std::sync::atomic::{AtomicBool, AtomicUsize, Ordering};
 use std::test::Fail;
 use std::thread::yield_now;
@@ -42,34 +42,42 @@ impl Gate for Meeting {
     }
 }
 
-/// Four numbers by four workers.
-const FOUR: Case<'static> = Case {
-    name: "four workers",
-    numbers: 4,
-    workers: 4,
-    answer: "[2, 4, 6, 8]",
-    ..DOUBLED
-};
-
-/// Each of four workers is held before its item until all four are.
+/// As many workers as there may be, with a number each: each is held before its item until all are, in each phase.
 #[test]
 fn workers_meet(rt: HostRuntime) -> Result<(), Fail> {
-    let gate = Meeting::new(4, 100_000_000);
-    let answer = map_case(&rt, rt.alloc(), &FOUR, &gate)?;
-    let told = tell(rt.alloc(), &answer)?;
-    same(&rt, FOUR.name, told.as_str(), FOUR.answer);
-    assert!(&rt; !gate.missed.load(Ordering::SeqCst), "a worker came alone");
+    let case = Case {
+        numbers: 64,
+        workers: 1,
+        ..DOUBLED
+    };
+    let answer = map_case(&rt, rt.alloc(), &case, &OpenGate)?;
+    let wanted = tell(rt.alloc(), &answer)?;
+    for phase in PHASES {
+        let gate = Meeting::new(64, 100_000_000);
+        let case = Case {
+            workers: 64,
+            phase: *phase,
+            ..case
+        };
+        let answer = map_case(&rt, rt.alloc(), &case, &gate)?;
+        let told = tell(rt.alloc(), &answer)?;
+        same(&rt, "64 workers", told.as_str(), wanted.as_str());
+        assert!(&rt; !gate.missed.load(Ordering::SeqCst), "a worker came alone");
+    }
     Ok(())
 }
 
 /// One worker never meets another, and enters for each item all the same.
 #[test]
 fn one_worker_is_alone(rt: HostRuntime) -> Result<(), Fail> {
-    let gate = Meeting::new(4, 1_000);
-    let case = Case { workers: 1, ..FOUR };
+    let gate = Meeting::new(2, 1_000);
+    let case = Case {
+        workers: 1,
+        ..DOUBLED
+    };
     let answer = map_case(&rt, rt.alloc(), &case, &gate)?;
     let told = tell(rt.alloc(), &answer)?;
-    same(&rt, "one worker", told.as_str(), FOUR.answer);
+    same(&rt, "one worker", told.as_str(), DOUBLED.answer);
     assert!(&rt; gate.missed.load(Ordering::SeqCst), "one worker met others");
     Ok(())
 }

@@ -1,5 +1,5 @@
-use super::answers::DOUBLED;
-use super::base::{Case, map_case, same, tell};
+use super::answers::{DOUBLED, REFUSED};
+use super::base::{Case, same};
 use super::kept_base::{Doing, Done, kept_round, opened};
 use crate::{Crew, OpenGate, beside};
 use std::alloc::{AllocError, Global};
@@ -49,20 +49,11 @@ fn kept_answers(rt: HostRuntime) -> Result<(), Fail> {
     Ok(())
 }
 
-/// A fault is that which workers of one call answer.
+/// A fault is that of the first item that is refused, as where workers are started anew.
 #[test]
 fn kept_faults(rt: HostRuntime) -> Result<(), Fail> {
     for workers in [1, 2, 4, 16] {
-        let case = Case {
-            name: "refused",
-            most: 2,
-            workers,
-            answer: "CR3: item 2: 3",
-            ..DOUBLED
-        };
-        let owned = map_case(&rt, rt.alloc(), &case, &OpenGate)?;
-        let told = tell(rt.alloc(), &owned)?;
-        same(&rt, case.name, told.as_str(), case.answer);
+        let case = Case { workers, ..REFUSED };
         kept_case(&rt, rt.alloc(), &case)?;
     }
     Ok(())
@@ -72,7 +63,9 @@ fn kept_faults(rt: HostRuntime) -> Result<(), Fail> {
 #[test]
 fn nobody_at_the_posts(rt: HostRuntime) -> Result<(), Fail> {
     let (mut crew, posts) = opened(rt.alloc(), 4)?;
-    three_rounds(&rt, &mut crew, rt.alloc(), &DOUBLED)?;
+    for case in [&DOUBLED, &REFUSED] {
+        three_rounds(&rt, &mut crew, rt.alloc(), case)?;
+    }
     drop(crew);
     for post in posts {
         post.serve();

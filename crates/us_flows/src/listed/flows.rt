@@ -5,10 +5,10 @@ ghost use Rattle.std.specs.Map.{values_of};
 ghost use Rattle.indexmap.specs.IndexMap.{insert_all, insert_entry};
 ghost use Rattle.us_flows.specs.Tables.{FlowTable, sids_of};
 ghost use Rattle.us_flows.specs.Ranges.{max_flows, max_clusters_of_flow};
-ghost use Rattle.us_flows.specs.Clusters.{requesting, found_among};
+ghost use Rattle.us_flows.specs.Clusters.{words_in, found_among};
 ghost use Rattle.us_flows.specs.Checks.{has_flow, is_taken, same_sid, repeats};
 ghost use Rattle.us_flows.specs.Lawful.{AreApart};
-ghost use Rattle.us_flows.specs.Listed.{AreIndexed, asks, asked_from};
+ghost use Rattle.us_flows.specs.Listed.{AreIndexed, asks, asked_of};
 
 use crate::flows::{Flow, SchedulingType};
 use crate::found::Found;
@@ -21,8 +21,8 @@ pub(crate) struct Flows {
     map: IndexMap<u16, Flow>,
     /// What each SID asks for, by its channel and itself.
     sids: IndexMap<(u8, u16), Found>,
-    /// How many SID clusters make requests.
-    clusters: u16,
+    /// How many words they have.
+    words: u16,
 }
 
 impl Model for Flows {
@@ -30,7 +30,7 @@ impl Model for Flows {
 
     ghost view = { λ f. values_of f.map.entries };
 
-    ghost invariant = { λ f. AreIndexed f.map.entries f.sids.entries f.clusters };
+    ghost invariant = { λ f. AreIndexed f.map.entries f.sids.entries f.words };
 }
 
 /// Gives the flows up. It is written out so that it is one step wherever they end.
@@ -39,7 +39,7 @@ impl Drop for Flows {
         let Flows {
             map: _,
             sids: _,
-            clusters: _,
+            words: _,
         } = self;
     }
 }
@@ -52,7 +52,7 @@ impl Flows {
         Flows {
             map: IndexMap::new(alloc),
             sids: IndexMap::new(alloc),
-            clusters: 0,
+            words: 0,
         }
     }
 
@@ -99,12 +99,12 @@ impl Flows {
         self.map.values().as_slice()
     }
 
-    /// How many SID clusters make requests.
-    pub(crate) fn clusters(&self) -> usize
-        ensures value { result ≡ length (flat_map requesting self.now) }
+    /// How many words they have.
+    pub(crate) fn words(&self) -> usize
+        ensures value { result ≡ length (flat_map words_in self.now) }
         ensures few { result ≤ 2 * length self.now }
     {
-        self.clusters as usize
+        self.words as usize
     }
 
     /// What a SID asks for on a channel.
@@ -124,18 +124,14 @@ impl Flows {
         requires clusters { length flow.clusters ≤ max_clusters_of_flow }
         ensures { IfOk result (λ flows. flows ≡ self ++ flow ∷ []) }
     {
-        let Flows {
-            map,
-            sids,
-            clusters,
-        } = self;
-        let more = requesting_clusters(&flow);
-        let sids = indexed(sids, &flow, clusters)?;
+        let Flows { map, sids, words } = self;
+        let more = flow.words() as u16;
+        let sids = indexed(sids, &flow, words)?;
         let map = inserted(map, flow)?;
         Ok(Flows {
             map,
             sids,
-            clusters: clusters + more,
+            words: words + more,
         })
     }
 }
@@ -149,43 +145,28 @@ fn inserted(mut map: IndexMap<u16, Flow>, flow: Flow) -> Result<IndexMap<u16, Fl
     Ok(map)
 }
 
-/// An index with the SIDs of one more flow, of which the first cluster has this number. It is taken and given back for
-/// the same reason: what holds part of a flow's SIDs is of no use.
+/// An index with the SIDs of one more flow, of which the first word has this number. It is taken and given back for the
+/// same reason: what holds part of a flow's SIDs is of no use.
 fn indexed(
     mut sids: IndexMap<(u8, u16), Found>,
     flow: &Flow,
     number: u16,
 ) -> Result<IndexMap<(u8, u16), Found>, AllocError>
     requires { number + length flow.now.clusters ≤ 65535 }
-    ensures { IfOk result (λ more. more.entries ≡ insert_all same_sid sids.entries
-        (asked_from (asks flow.now.kind) number flow.now.channels flow.now.clusters)) }
+    ensures { IfOk result (λ more. more.entries ≡ insert_all same_sid sids.entries (asked_of number flow.now)) }
 {
     index_flow(&mut sids, flow, number)?;
     Ok(sids)
 }
 
-/// How many clusters of a flow make requests.
-fn requesting_clusters(flow: &Flow) -> u16
-    requires { length flow.now.clusters ≤ 2 }
-    ensures value { result ≡ length (requesting flow.now) }
-    ensures few { result ≤ 2 }
-{
-    if flow.kind.makes_requests() {
-        flow.clusters().len() as u16
-    } else {
-        0
-    }
-}
-
-/// Puts the SIDs of a flow into the index, of which the first cluster has this number.
+/// Puts the SIDs of a flow into the index, of which the first word has this number.
 fn index_flow(
     sids: &mut IndexMap<(u8, u16), Found>,
     flow: &Flow,
     number: u16,
 ) -> Result<(), AllocError>
     requires { number + length flow.now.clusters ≤ 65535 }
-    ensures { OnOk result (sids.new.entries ≡ insert_all same_sid sids.old.entries
-        (asked_from (asks flow.now.kind) number flow.now.channels flow.now.clusters)) }
+    ensures { OnOk result (sids.new.entries ≡ insert_all same_sid sids.old.entries (asked_of number flow.now)) }
 {
     let mut list = 0;
     for cluster in &flow.clusters {
@@ -193,7 +174,7 @@ fn index_flow(
             sids,
             &flow.channels,
             cluster,
-            found_by(flow.kind, number + list),
+            found_by(flow.kind, number, number + list),
         )?;
         list += 1;
     }
@@ -216,13 +197,16 @@ fn index_cluster(
     Ok(())
 }
 
-/// What the SIDs of a cluster ask for, which has this number if it makes requests.
-fn found_by(kind: SchedulingType, number: u16) -> Found
-    ensures { result ≡ asks kind number }
+/// What the SIDs of a cluster ask for, by the number of the flow's first word, and that of the cluster's if it makes
+/// requests.
+fn found_by(kind: SchedulingType, first: u16, number: u16) -> Found
+    ensures { result ≡ asks kind first number }
 {
-    if kind.makes_requests() {
-        Found::Cluster(number)
-    } else {
-        Found::Unsolicited
+    match kind {
+        SchedulingType::BestEffort
+        | SchedulingType::NonRealTimePolling
+        | SchedulingType::RealTimePolling => Found::Cluster(number),
+        SchedulingType::ActivityDetection => Found::Activity(first),
+        SchedulingType::UnsolicitedGrant => Found::Unsolicited,
     }
 }

@@ -1,10 +1,10 @@
-use super::{lookups, min_rates, turns};
+use super::{activity, lookups, min_rates, turns};
 use crate::{Config, ConfigFault};
 use std::alloc::Global;
 use std::test::Fail;
 
-/// A configuration of two channels, a flow of each type and two stations. No line but a header is there twice, so that
-/// a change names its place by the line. The MAPs of the channels have 320 and 160 minislots.
+/// A configuration of two channels, a flow of each of types 2, 3, 4 and 6, and two stations. No line but a header is there
+/// twice, so that a change names its place by the line. The MAPs of the channels have 320 and 160 minislots.
 const BIG: &str = r#"round_ticks = 640
 lead_ticks = 300
 
@@ -122,12 +122,14 @@ burst = 3044~unit = 4~headers = true~ -> ";
 pub enum Asked {
     /// `ok`, or its fault: `C1`, or `C8 channel 0` where that names a table.
     Fault,
-    /// How many clusters it has, and all that SIDs ask for on some channels.
+    /// How many words it has, and all that SIDs ask for on some channels.
     Sids,
     /// The turns of a round.
     Turns,
     /// The minimum rate of each flow.
     MinRates,
+    /// How many words it has.
+    Words,
 }
 
 /// Looks at changes of a configuration, each a line `ANSWER | OLD -> NEW`, and fails with those that are answered
@@ -223,6 +225,7 @@ fn tell_asked(answer: &mut String, asked: Asked, config: &Config) -> Result<(), 
         Asked::Sids => lookups::tell_sids(answer, config)?,
         Asked::Turns => turns::tell_turns(answer, config)?,
         Asked::MinRates => min_rates::tell_min_rates(answer, config)?,
+        Asked::Words => activity::tell_words(answer, config)?,
     }
     Ok(())
 }

@@ -1,15 +1,20 @@
-use super::base::{Asked, check, same, tell};
+use super::activity::TELLING;
+use super::base::{Asked, changed, check, same, tell};
 use crate::MAX_CONFIG_BYTES;
 use std::alloc::Global;
 use std::test::Fail;
 use us_samples::base;
 
-/// Writes a configuration of so many channels, flows and stations, each with ids from 1 on. The flows are on channel 1,
-/// with their ids as SIDs.
-fn write_sized(text: &mut String, channels: u32, flows: u32, stations: u32) -> Result<(), Fail> {
-    let (top, rest) = base()
-        .split_once("[[channel]]\nid = 1")
-        .ok_or("no channel")?;
+/// Writes a configuration of so many channels, flows and stations, each with ids from 1 on, and else as in this one. The
+/// flows are on channel 1, with their ids as SIDs.
+fn write_sized(
+    text: &mut String,
+    base: &str,
+    channels: u32,
+    flows: u32,
+    stations: u32,
+) -> Result<(), Fail> {
+    let (top, rest) = base.split_once("[[channel]]\nid = 1").ok_or("no channel")?;
     let (channel, flow) = rest.split_once("[[flow]]\nid = 1").ok_or("no flow")?;
     let (front, end) = flow.split_once("291").ok_or("no SID")?;
     text.push_str(top)?;
@@ -38,7 +43,7 @@ fn check_sized(
     lines: &str,
 ) -> Result<(), Fail> {
     let mut text = String::new(alloc);
-    write_sized(&mut text, channels, flows, stations)?;
+    write_sized(&mut text, base(), channels, flows, stations)?;
     check(alloc, Asked::Fault, text.as_str(), "", lines)
 }
 
@@ -62,6 +67,19 @@ C6 flow 1023 | clusters = [[1024]] -> clusters = [[1023]]";
 fn most_tables(rt: HostRuntime) -> Result<(), Fail> {
     check_sized(rt.alloc(), 16, 1, 256, MOST_CHANNELS)?;
     check_sized(rt.alloc(), 1, 1_024, 0, MOST_FLOWS)
+}
+
+/// Of 1,024 flows that tell their activity: as many words as there may be, and with a flow more too many.
+const MOST_WORDS: &str = "\
+2048 words | id = 1~ -> id = 1~
+C3 top 0 | [[flow]] -> [[flow]]~[[flow]]";
+
+#[test]
+fn most_words(rt: HostRuntime) -> Result<(), Fail> {
+    let telling = changed(rt.alloc(), base(), TELLING)?;
+    let mut text = String::new(rt.alloc());
+    write_sized(&mut text, telling.as_str(), 1, 1_024, 0)?;
+    check(rt.alloc(), Asked::Words, text.as_str(), "", MOST_WORDS)
 }
 
 /// A text of as many bytes as there may be, and one more.

@@ -4,8 +4,8 @@ use std::alloc::AllocError;
 use std::test::Fail;
 use us_samples::base;
 
-/// Writes the turns of a round, each as the places of its flow and of its cluster in it, with the cluster's number:
-/// `2.0.1`.
+/// Writes the turns of a round, each as the places of its flow and of its cluster in it, with the number of the cluster's
+/// word: `2.0.1`.
 pub fn tell_turns(out: &mut String, config: &Config) -> Result<(), AllocError> {
     out.push_str("turns")?;
     for turn in config.turns() {

@@ -51,13 +51,14 @@ impl Intake {
         self.table.shared.split_seat::<CutOff<B>>(token)
     }
 
-    /// One step that keeps the words: two parts are made one. A load tells then what the account says of it.
+    /// Two steps that keep the words: two parts are made one, and a load, of which this is the one place, tells what the
+    /// account says of it.
     pub(super) fn merge(&self, token: &mut Seat<(), Part>, other: Seat<(), Part>)
         requires own { (token.old.table_id ≡ self.now.id) × (other.table_id ≡ self.now.id) }
         requires bare { (token.old.me.1 ≡ []) × (other.me.1 ≡ []) }
         requires some { (1 ≤ token.old.me.0.quota) × (1 ≤ other.me.0.quota) }
         ensures own { token.new.table_id ≡ token.old.table_id }
-        ensures part { token.new.me ≡ (spec.joined_part token.old.me.0 other.me.0, []) }
+        ensures part { token.new.me ≡ (spec.part_after_look (spec.joined_part token.old.me.0 other.me.0), []) }
         ensures known { Known token.new.me.0 }
     {
         self.table.shared.join_seat::<Merged>(token, other);

@@ -4,36 +4,61 @@ use super::base::same;
 use crate::{Intake, IntakeFault, Seat};
 use std::alloc::Global;
 
-/// Splits a seat and joins the two again. Where memory is wanting, the seat comes back.
-fn split_and_join(alloc: Global, intake: &Intake, seat: Seat) -> (Seat, Option<IntakeFault>)
-    requires { seat.intake ≡ intake.now }
-    ensures { result.0.intake ≡ intake.now }
+/// Submits 500 and 700 bytes by two seats, which are joined. Where memory for the second one is refused, the first one
+/// goes on and submits both.
+fn submit_both(alloc: Global, intake: &Intake, seat: Seat) -> Seat
+    requires { (seat.intake ≡ intake.now) × (intake.now.clusters ≡ 1) }
+    ensures { result.intake ≡ intake.now }
 {
     match intake.split(alloc, seat, 4_000) {
-        Ok((first, second)) => (intake.join(first, second), None),
-        Err((seat, fault)) => (seat, Some(fault)),
+        Ok((mut first, mut second)) => {
+            let _ = intake.submit(&mut first, 0, 500);
+            let _ = intake.submit(&mut second, 0, 700);
+            intake.join(first, second)
+        }
+        Err((mut seat, _)) => {
+            let _ = intake.submit(&mut seat, 0, 500);
+            let _ = intake.submit(&mut seat, 0, 700);
+            seat
+        }
     }
 }
 
-/// An intake's life, and the first fault that it met.
-fn life(alloc: Global) -> Option<IntakeFault> {
-    let (intake, seat) = match Intake::open(alloc, 3, 10_000) {
-        Ok(opened) => opened,
-        Err(fault) => return Some(fault),
-    };
-    let (seat, fault) = split_and_join(alloc, &intake, seat);
-    if !seat.is_whole(&intake) {
-        return Some(IntakeFault::BadQuota);
+/// Cuts the one cluster twice. None: the seat isn't whole.
+fn cut_twice(intake: &Intake, seat: &mut Seat) -> Option<(u64, u64)>
+    requires { (seat.old.intake ≡ intake.now) × (intake.now.clusters ≡ 1) }
+    ensures { seat.new.intake ≡ intake.now }
+{
+    let (mut first, mut second) = ([0u64], [0u64]);
+    if !seat.is_whole(intake) {
+        return None;
     }
-    fault.or(intake.close(alloc, seat).err())
+    intake.cut(seat, &mut first);
+    intake.cut(seat, &mut second);
+    Some((first[0], second[0]))
+}
+
+/// Whether an intake's life comes to what it has to, or its fault.
+fn life(alloc: Global) -> Result<bool, IntakeFault> {
+    let (intake, seat) = Intake::open(alloc, 1, 10_000)?;
+    let mut seat = submit_both(alloc, &intake, seat);
+    let cuts = cut_twice(&intake, &mut seat);
+    if !seat.is_whole(&intake) {
+        return Ok(false);
+    }
+    let closing = intake.close(alloc, seat)?;
+    let tallies = [&closing.left, &closing.submitted, &closing.taken];
+    let found = tallies.map(|tally| tally.first().copied());
+    Ok(cuts == Some((1_200, 0)) && found == [Some(0), Some(1_200), Some(1_200)])
 }
 
 /// Run by `tools/refuse-memory` too, where each allocation is refused in turn. A refused one is answered as
-/// want of memory, and after a split the seat is whole still.
+/// want of memory, but a refused split leaves the seat as it was.
 #[test]
 fn refused_memory(rt: HostRuntime) {
     match life(rt.alloc()) {
-        None | Some(IntakeFault::NoMemory) => (),
-        Some(_) => same(&rt, "another fault", "want of memory"),
+        Ok(true) | Err(IntakeFault::NoMemory) => (),
+        Ok(false) => same(&rt, "other bytes", "1,200 bytes, all taken"),
+        Err(_) => same(&rt, "another fault", "want of memory"),
     }
 }

@@ -2,7 +2,7 @@ use super::base::{Case, FIRST, compare, count_of, same};
 use crate::{ReportFault, report_rows};
 use std::alloc::Global;
 use std::fmt;
-use us_round::{EntryWord, FinalState, Grant, Row, TraceCounts};
+use us_round::{EntryWord, FinalActivity, FinalState, Grant, Row, TraceCounts};
 
 /// The report of the stored run.
 static STORED: [u8; 51] = *b"G,1,1,req,1,0,0,291,10,0,32,1000\nF,1,0,0,-\nU,0,0,0\n";
@@ -89,8 +89,28 @@ fn every_byte(rt: HostRuntime) {
     }
 }
 
+/// A lines: of a flow that is active, of one that is silent, and of one whose last number says neither.
+#[test]
+fn activities(rt: HostRuntime) {
+    let wanted = [
+        Row::Activity(FinalActivity { flow: 1, active: 1 }),
+        Row::Activity(FinalActivity {
+            flow: 65_535,
+            active: 0,
+        }),
+        Row::Activity(FinalActivity {
+            flow: 0,
+            active: u64::MAX,
+        }),
+    ];
+    match report_rows(rt.alloc(), b"A,1,1\nA,65535,0\nA,0,18446744073709551615\n") {
+        Ok(rows) => same(&rt, &rows.as_slice(), &wanted.as_slice(), "rows"),
+        Err(fault) => same(&rt, &Some(fault), &None, "rows"),
+    }
+}
+
 /// Lines that are none, alone, before others and behind them.
-static LINES: [Case; 24] = [
+static LINES: [Case; 30] = [
     ("", Ok(0)),
     ("G,1\n", FIRST),
     ("M,0,1,req,1,0,0\n", FIRST),
@@ -108,6 +128,12 @@ static LINES: [Case; 24] = [
     ("U;0;0;0\n", FIRST),
     ("u,0,0,0\n", FIRST),
     ("A,0,0,0\n", FIRST),
+    ("A,0\n", FIRST),
+    ("A,1,01\n", FIRST),
+    ("A,1,-\n", FIRST),
+    ("A,1,18446744073709551616\n", FIRST),
+    ("a,1,1\n", FIRST),
+    ("U,0,0,0\nA,1,1\nA,1\n", Err(ReportFault::Line(3))),
     ("U,0,0,0\nU,0,0,0\nU,0,0\n", Err(ReportFault::Line(3))),
     ("U,0,0,0\nM,0,1,req,1,0,0\nG,1\n", Err(ReportFault::Line(2))),
     ("M,5,1,ugs,1,1\n", FIRST),

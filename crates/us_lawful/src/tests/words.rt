@@ -3,13 +3,15 @@ use crate::report_rows;
 use us_round::{EntryWord, MissedOccurrence, Row};
 
 /// Each word, in a G line and in an M line.
-static WORDS: [Case; 10] = [
+static WORDS: [Case; 12] = [
     ("G,0,1,ugs,1,0,0,291,11,0,2,0\n", Ok(1)),
+    ("G,0,1,ad,1,0,0,291,11,0,2,0\n", Ok(1)),
     ("G,0,1,rtp,1,0,0,291,1,0,2,0\n", Ok(1)),
     ("G,0,1,nrtp,1,0,0,291,1,0,2,0\n", Ok(1)),
     ("G,0,1,station,1,0,0,5,4,2,4,0\n", Ok(1)),
     ("G,0,1,req,1,0,0,291,10,0,32,1000\n", Ok(1)),
     ("M,0,1,ugs,1,0,0\n", Ok(1)),
+    ("M,0,1,ad,1,0,0\n", Ok(1)),
     ("M,0,1,rtp,1,0,0\n", Ok(1)),
     ("M,0,1,nrtp,1,0,0\n", Ok(1)),
     ("M,0,1,station,1,0,0\n", Ok(1)),
@@ -17,10 +19,13 @@ static WORDS: [Case; 10] = [
 ];
 
 /// Words that are none.
-static OTHERS: [Case; 8] = [
+static OTHERS: [Case; 11] = [
     ("M,0,1,UGS,1,0,0\n", FIRST),
     ("M,0,1,ug,1,0,0\n", FIRST),
     ("M,0,1,ugss,1,0,0\n", FIRST),
+    ("M,0,1,a,1,0,0\n", FIRST),
+    ("M,0,1,ads,1,0,0\n", FIRST),
+    ("M,0,1,AD,1,0,0\n", FIRST),
     ("M,0,1,nrt,1,0,0\n", FIRST),
     ("M,0,1,rtps,1,0,0\n", FIRST),
     ("M,0,1,stations,1,0,0\n", FIRST),
@@ -49,6 +54,7 @@ fn missed(entry: EntryWord) -> Row {
 /// An occurrence missed of each entry.
 const MISSED: &str = "\
 M,9,2,ugs,3,4,5
+M,9,2,ad,3,4,5
 M,9,2,rtp,3,4,5
 M,9,2,nrtp,3,4,5
 M,9,2,station,3,4,5
@@ -58,6 +64,7 @@ M,9,2,station,3,4,5
 fn missed_of_each_word(rt: HostRuntime) {
     let wanted = [
         missed(EntryWord::Unsolicited),
+        missed(EntryWord::Activity),
         missed(EntryWord::RealTimePoll),
         missed(EntryWord::NonRealTimePoll),
         missed(EntryWord::Station),

@@ -17,14 +17,19 @@ pub(super) fn same(rt: &impl Abort, name: &str, found: &str, wanted: &str) {
     assert_eq!(rt; found, wanted, "{name}");
 }
 
-/// One flow, of one channel or of two.
+/// One flow, of one channel, or of two of the 16 that there may be.
 pub(super) const ONE: &str = "channels = [1]\nclusters = [[291]]";
 
-pub(super) const TWO: &str = "channels = [1, 2]\nclusters = [[291, 292]]";
+pub(super) const SIXTEEN: &str = "channels = [1, 16]\nclusters = [[291, 292]]";
 
 pub(super) const NONE: &str = "";
 
-/// A scheduler of two channels, with the flow of these channels and clusters.
+/// A call with two grants in each round, or with a poll while it is silent, and no other flow.
+pub(super) const CALL: &str =
+    "[[flow]]\nid = 1\ntype = 5\nchannels = [1]\nclusters = [[513]]\nstart_us = 0\n\
+    interval_us = 2000\njitter_us = 1000\ngrant_bytes = 16\ngrants_per_interval = 2\n";
+
+/// A scheduler of a channel or of 16, with the flow of these channels and clusters, or with the call.
 pub(super) fn open(
     alloc: Global,
     flow: &str,
@@ -45,11 +50,13 @@ pub(super) fn open(
 
 fn text_of(alloc: Global, flow: &str) -> Result<String, AllocError> {
     let mut text = String::new(alloc);
-    let channels = if flow == TWO { 2 } else { 1 };
+    let channels = if flow == SIXTEEN { 16 } else { 1 };
     for id in 1..=channels {
         put_channel(&mut text, id)?;
     }
-    if flow != NONE {
+    if flow == CALL {
+        text.push_str(flow)?;
+    } else if flow != NONE {
         write!(
             text,
             "[[flow]]\nid = 1\ntype = 2\n{flow}\npriority = 0\nrate = 0\nburst = 3044\nunit = 4\nheaders = true\n"

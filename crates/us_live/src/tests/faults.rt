@@ -33,7 +33,7 @@ fn openings(rt: HostRuntime) -> Result<(), AllocError> {
 
 const OPENINGS: &str = "\
 LV1: no rounds, or more than a run has ticks for
-LV2: no cluster makes requests
+LV2: no flow makes requests or tells its activity
 LV3: the quota is none that can be given
 LV3: the quota is none that can be given
 opened

@@ -1,15 +1,36 @@
-ghost use Rattle.std.specs.Prelude.{◌≡◌, ◌≤◌};
+ghost use Rattle.std.specs.Prelude.{◌≡◌, ◌≤◌, IfSome};
 ghost use Rattle.us_live.specs.Lives.{Feeds};
 
 use super::base::{ONE, open, same};
+use super::threads::logged_and_left;
 use crate::{Live, LiveFault};
 use std::alloc::Global;
 use std::thread::Threads;
 use us_crew::OpenGate;
-use us_intake::{Intake, Seat};
+use us_intake::{Intake, IntakeFault, Seat};
 
-/// Submits and makes a round, over and over, until a fault comes. Whether the log has the rounds that were answered, and
-/// the fault is the end of all rounds, or want of memory and then LV4.
+/// A seat that is split off submits 1,000 bytes and is joined. Where memory is wanting for it, the seat comes back, and
+/// submits them itself.
+fn submit(alloc: Global, live: &Live, intake: &Intake, seat: Seat) -> Option<Seat>
+    requires feeds { Feeds live.now intake.now seat }
+    requires some { 1 ≤ intake.now.clusters }
+    ensures { IfSome result (λ whole. Feeds live.now intake.now whole) }
+{
+    match intake.split(alloc, seat, 4_000) {
+        Ok((first, mut second)) => {
+            intake.submit(&mut second, 0, 1_000).ok()?;
+            Some(intake.join(first, second))
+        }
+        Err((mut seat, IntakeFault::NoMemory)) => {
+            intake.submit(&mut seat, 0, 1_000).ok()?;
+            Some(seat)
+        }
+        Err(_) => None,
+    }
+}
+
+/// Asks for a round by no worker, and then makes rounds until a fault comes. Whether the log has those that were
+/// answered, and the fault is the end of both rounds, or want of memory and then LV4.
 fn all_rounds<H: Threads + Sync>(
     threads: &H,
     alloc: Global,
@@ -18,14 +39,16 @@ fn all_rounds<H: Threads + Sync>(
     seat: &mut Seat,
 ) -> bool
     requires feeds { Feeds live.old intake.now seat.old }
-    requires some { 1 ≤ intake.now.clusters }
     ensures { seat.new.intake ≡ intake.now }
 {
-    for made in 0..4_usize {
-        let _ = intake.submit(seat, 0, 1_000);
+    let refused = live.next_round(threads, alloc, intake, seat, 0, &OpenGate);
+    if refused.err() != Some(LiveFault::Workers) {
+        return false;
+    }
+    for made in 0..3_usize {
         match live.next_round(threads, alloc, intake, seat, 1, &OpenGate) {
             Ok(_) => (),
-            Err(LiveFault::Done) => return made == 3 && live.cut_log().len() == 3,
+            Err(LiveFault::Done) => return made == 2 && live.cut_log().len() == 2,
             Err(fault) => {
                 let again = live.next_round(threads, alloc, intake, seat, 1, &OpenGate);
                 return fault == LiveFault::NoMemory
@@ -39,18 +62,26 @@ fn all_rounds<H: Threads + Sync>(
 
 /// Whether a scheduler's life is as it has to be, whatever memory there is.
 fn is_sound<H: Threads + Sync>(alloc: Global, threads: &H) -> bool {
-    let (mut live, intake, mut seat) = match open(alloc, ONE, 3, 10_000) {
+    let (mut live, intake, seat) = match open(alloc, ONE, 2, 10_000) {
         Ok(opened) => opened,
         Err(fault) => return fault == LiveFault::NoMemory,
+    };
+    let Some(mut seat) = submit(alloc, &live, &intake, seat) else {
+        return false;
     };
     if !all_rounds(threads, alloc, &mut live, &intake, &mut seat) || !seat.is_whole(&intake) {
         return false;
     }
     match intake.close(alloc, seat) {
         Ok(closed) => {
+            let log = live.cut_log();
+            let stands = log.is_empty() || logged_and_left(log, &closed.left) == 1_000;
             let both = closed.left.iter().zip(closed.taken.iter());
-            both.map(|(left, taken)| left.wrapping_add(*taken))
-                .eq(closed.submitted.iter().copied())
+            stands
+                && closed.submitted.first() == Some(&1_000)
+                && both
+                    .map(|(left, taken)| left.wrapping_add(*taken))
+                    .eq(closed.submitted.iter().copied())
         }
         Err(_) => true,
     }

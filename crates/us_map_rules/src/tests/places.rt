@@ -2,7 +2,7 @@ use super::base::{place_of, same};
 use crate::MapsFault;
 use std::alloc::{AllocError, Global};
 use us_lawful::Place;
-use us_round::{EntryWord, FinalState, Grant, MissedOccurrence, Row, TraceCounts};
+use us_round::{EntryWord, FinalActivity, FinalState, Grant, MissedOccurrence, Row, TraceCounts};
 
 /// The channels of the run of 2 rounds, in the order of its table.
 const CHANNELS: [u8; 2] = [5, 2];
@@ -37,13 +37,14 @@ fn missed_at(round: u64, channel: u64) -> Row {
 }
 
 /// The lines that a report ends with, which are of no round.
-const ENDS: [Row; 2] = [
+const ENDS: [Row; 3] = [
     Row::Final(FinalState {
         flow: 9,
         cluster: 0,
         outstanding: 0,
         units: None,
     }),
+    Row::Activity(FinalActivity { flow: 9, active: 9 }),
     Row::Counts(TraceCounts {
         unknown: 9,
         not_requestable: 9,

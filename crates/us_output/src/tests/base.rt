@@ -7,7 +7,7 @@ ghost use Rattle.us_calendar.specs.Calendars as calendars;
 ghost use Rattle.us_output.specs.Leftovers.{IsBuiltFor, StartsInside};
 
 use super::lines::{tell_line, tell_words};
-use crate::{ChannelWithText, final_rows, round_out};
+use crate::{ChannelWithText, activity_rows, final_rows, round_out};
 use std::alloc::{AllocError, Global};
 use std::process::Abort;
 use us_bucket::Bucket;
@@ -55,6 +55,9 @@ headers = true
 const OUTSTANDING: [u64; 3] = [1_000, 2_500, 5];
 
 const LEFT: [u64; 3] = [0, 500, 5];
+
+/// What is told of each flow's activity: the second one is silent.
+pub(super) const TOLD: [Option<bool>; 3] = [None, Some(false), None];
 
 /// The one comparison of these tests.
 pub(super) fn same(rt: &impl Abort, name: &str, found: &str, wanted: &str) {
@@ -115,6 +118,9 @@ fn tell_finals(alloc: Global, answer: &mut String, config: &Config) -> Result<()
         buckets.push(Bucket::full(flow.rate(), flow.burst()))?;
     }
     for row in &final_rows(alloc, config, &LEFT, &buckets)? {
+        tell_line(answer, row)?;
+    }
+    for row in &activity_rows(alloc, config, &TOLD)? {
         tell_line(answer, row)?;
     }
     Ok(())

@@ -12,7 +12,7 @@ pub(super) const ANSWER: &str =
     "G,0,1,Requested,1,0,0,291,10,0,32,1000 G,0,1,Unsolicited,2,0,0,513,11,70,1,0 \
     G,0,1,Requested,1,1,0,292,10,71,63,2000 M,0,1,Unsolicited,2,0,1 \
     048e8000 fffc4020 0806c046 04928047 fffc4086 fffc4096 0001c0a0 049680a0 \
-    F,1,0,0,None F,1,1,500,None F,3,0,5,Some(1948160000) ";
+    F,1,0,0,None F,1,1,500,None F,3,0,5,Some(1948160000) A,2,0 ";
 
 /// A line, as a report tells it, but for the word of its entry and its units.
 pub(super) fn tell_line(answer: &mut String, row: &Row) -> Result<(), AllocError> {
@@ -30,6 +30,7 @@ pub(super) fn tell_line(answer: &mut String, row: &Row) -> Result<(), AllocError
             write!(answer, "F,{},{},", f.flow, f.cluster)?;
             write!(answer, "{},{:?} ", f.outstanding, f.units)
         }
+        Row::Activity(a) => write!(answer, "A,{},{} ", a.flow, a.active),
         Row::Counts(counts) => write!(answer, "{counts:?} "),
     }
 }

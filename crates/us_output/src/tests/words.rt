@@ -1,9 +1,12 @@
-use crate::{EntryWord, FinalState, Grant, MissedOccurrence, Row, Scratch, TraceCounts, push_rows};
+use crate::{
+    EntryWord, FinalActivity, FinalState, Grant, MissedOccurrence, Row, Scratch, TraceCounts,
+    push_rows,
+};
 use std::alloc::Global;
 use us_slots::NoMemory;
 
 /// A line of each kind.
-const ROWS: [Row; 5] = [
+const ROWS: [Row; 7] = [
     Row::Granted(Grant {
         round: 1,
         channel: 1,
@@ -37,6 +40,11 @@ const ROWS: [Row; 5] = [
         outstanding: 7_838,
         units: Some(0),
     }),
+    Row::Activity(FinalActivity { flow: 2, active: 0 }),
+    Row::Activity(FinalActivity {
+        flow: 65_535,
+        active: u64::MAX,
+    }),
     Row::Counts(TraceCounts {
         unknown: 0,
         not_requestable: 0,
@@ -44,8 +52,9 @@ const ROWS: [Row; 5] = [
     }),
 ];
 
-const ENTRIES: [EntryWord; 5] = [
+const ENTRIES: [EntryWord; 6] = [
     EntryWord::Unsolicited,
+    EntryWord::Activity,
     EntryWord::RealTimePoll,
     EntryWord::NonRealTimePoll,
     EntryWord::Station,
@@ -57,8 +66,11 @@ G,1,1,req,1,0,0,291,10,0,32,1000
 M,5,1,ugs,1,1,0
 F,1,0,0,-
 F,1,0,7838,0
+A,2,0
+A,65535,18446744073709551615
 U,0,0,18446744073709551615
 M,9,2,ugs,3,4,5
+M,9,2,ad,3,4,5
 M,9,2,rtp,3,4,5
 M,9,2,nrtp,3,4,5
 M,9,2,station,3,4,5

@@ -1,5 +1,6 @@
 ghost use Rattle.std.specs.Prelude.{◌≡◌, ⊤, IfOk};
 ghost use Rattle.us_flows.specs.Tables.{Tables};
+ghost use Rattle.us_crew.specs.declared.gates.Phase.TheVariants as phase;
 ghost use Rattle.us_replay.specs.Collecting.{CanGather, CanSubmit, seat_after_asks};
 
 use super::Doers;
@@ -27,9 +28,10 @@ impl<'a, 'b, G: Gate> Doers<'a> for Alone<'b, G> {
     }
 }
 
-/// Submits asks with the seat itself, in the calling thread: none is split off, and no memory is taken.
+/// Submits asks with the seat itself, in the calling thread: none is split off, and no memory is taken. What the seat needs is
+/// known only once the gate was entered for the first chunk.
 pub(super) fn gather_alone<G: Gate>(intake: &Intake, seat: Seat, asks: &[Ask], gate: &G) -> Seat
-    requires { CanSubmit intake.now seat asks.now }
+    requires { G.entered gate.now phase.Collect 0 → CanSubmit intake.now seat asks.now }
     ensures { result ≡ seat_after_asks seat asks.now }
 {
     gate.enter(Phase::Collect, 0);

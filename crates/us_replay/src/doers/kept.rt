@@ -1,5 +1,6 @@
-ghost use Rattle.std.specs.Prelude.{◌≡◌, ◌≤◌, ⊤, IfOk, Ok};
+ghost use Rattle.std.specs.Prelude.{◌≡◌, ◌≤◌, ⊤, min, IfOk, Ok};
 ghost use Rattle.us_flows.specs.Tables.{Tables};
+ghost use Rattle.us_crew.specs.declared.gates.Phase.TheVariants as phase;
 ghost use Rattle.us_crew.specs.Items.{AreAccepted};
 ghost use Rattle.us_crew.specs.Values.{values_of};
 ghost use Rattle.us_round.specs.Hands.{CanBuild, CanFill, built_at, filled_at};
@@ -74,7 +75,7 @@ impl<'a, G: Gate> Hands for Kept<'a, G> {
         channels: Vec<ChannelWithText>,
     ) -> Result<Vec<ChannelWithText>, NoMemory>
         requires known { self.old.config.now ≡ work.now.config.now }
-        requires ready { AreAccepted (λ _. ⊤) (CanFill work.now) channels.items }
+        requires ready { AreAccepted (G.entered self.old.gate.now phase.Fill) (CanFill work.now) channels.items }
         ensures value { IfOk result (λ all. all.items ≡ values_of (filled_at work.now) channels.items) }
         ensures same { (t : Tables) → self.old.config.now ≡ t → self.new.config.now ≡ t }
     {
@@ -98,7 +99,7 @@ impl<'a, G: Gate> Hands for Kept<'a, G> {
         work: &Building<'_>,
         channels: Vec<ChannelWithText>,
     ) -> Result<Vec<ChannelWithText>, NoMemory>
-        requires claims { AreAccepted (λ _. ⊤) (CanBuild work.now) channels.items }
+        requires claims { AreAccepted (G.entered self.old.gate.now phase.Build) (CanBuild work.now) channels.items }
         ensures value { IfOk result (λ all. all.items ≡ values_of (built_at work.now) channels.items) }
         ensures same { (t : Tables) → self.old.config.now ≡ t → self.new.config.now ≡ t }
     {
@@ -127,7 +128,7 @@ impl<'a, G: Gate> Doers<'a> for Kept<'a, G> {
         ensures seat { IfOk result (λ after. after ≡ seat_after_asks seat asks.now) }
         ensures same { (t : Tables) → self.old.config.now ≡ t → self.new.config.now ≡ t }
     {
-        let parts = asks.len().min(self.crew.workers() + 1);
+        let parts = chunks_for(asks.len(), self.crew.workers() + 1);
         if parts == 1 {
             return Ok(gather_alone(intake, seat, asks, self.gate));
         }
@@ -144,6 +145,14 @@ impl<'a, G: Gate> Doers<'a> for Kept<'a, G> {
         ))?;
         Ok(join_all(intake, seat, seats))
     }
+}
+
+/// How many chunks so many asks are collected in: one for each worker, the calling thread among them, or for each ask where
+/// these are fewer.
+fn chunks_for(asks: usize, workers: usize) -> usize
+    ensures { result ≡ min asks workers }
+{
+    asks.min(workers)
 }
 
 /// The answers for all items, or want of memory.

@@ -1,8 +1,7 @@
 ghost use Rattle.std.specs.Prelude.{◌≡◌, ⊤, IfOk};
-ghost use Rattle.us_crew.specs.Items.{AreAccepted};
 ghost use Rattle.us_crew.specs.Values.{values_of};
 ghost use Rattle.us_round.specs.Hands.{CanBuild, built_at};
-ghost use Rattle.us_replay.specs.Doing.{CanPlace, placed};
+ghost use Rattle.us_replay.specs.Doing.{AreLaden, CanPlace, placed};
 
 use std::alloc::Global;
 use us_crew::Work;
@@ -39,15 +38,14 @@ impl Work<Laden, ChannelWithText, NoMemory> for Placing {
     }
 }
 
-/// The channels, each with a copy of its claims.
+/// The channels, each with a copy of its claims. Where a channel may be built, these may be placed on it.
 pub(super) fn laden(
     alloc: Global,
     work: &Building<'_>,
     channels: Vec<ChannelWithText>,
 ) -> Result<Vec<Laden>, NoMemory>
-    requires { AreAccepted (λ _. ⊤) (CanBuild work.now) channels.items }
     ensures ready { IfOk result (λ all.
-        AreAccepted (λ _. ⊤) (λ _ item. CanPlace item.0 item.1.items) all.items) }
+        AreLaden (CanBuild work.now) (λ item. CanPlace item.0 item.1.items) channels.items all.items) }
     ensures value { IfOk result (λ all.
         values_of (λ _ item. placed item.0 item.1.items) all.items ≡ values_of (built_at work.now) channels.items) }
 {

@@ -22,8 +22,8 @@ pub(super) struct WithCrew<'a, 'm, 'r, D, W1, W2> {
 
 impl<'a, 'm, 'r, D: Doers<'a> + Drop, W1: Sink, W2: Sink> Meanwhile
     for WithCrew<'a, 'm, 'r, D, W1, W2> {
-    ghost use Rattle.std.specs.Prelude.{◌≡◌, false, length};
-    ghost use Rattle.us_flows.specs.Clusters.{clusters_of};
+    ghost use Rattle.std.specs.Prelude.{◌≡◌, true, false, length, OnOk};
+    ghost use Rattle.us_flows.specs.Clusters.{words_of};
     ghost use Rattle.us_replay.specs.Endings.{blames_maps, blames_report};
     ghost use Rattle.us_replay.specs.Progress.{EndsAs, IsTraceFor, grown, opening_progress};
 
@@ -31,13 +31,14 @@ impl<'a, 'm, 'r, D: Doers<'a> + Drop, W1: Sink, W2: Sink> Meanwhile
     type Output = (Result<Summary, RunFault>, &'m mut W1, &'r mut W2);
 
     ghost can_run = { λ t. IsTraceFor t.config.now t.trace.now × D.knows t.doers t.config.now
-        × (t.progress ≡ opening_progress (length (clusters_of t.config.now)))
+        × (t.progress ≡ opening_progress (length (words_of t.config.now)))
         × (W1.failed t.maps.now ≡ false) × (W2.failed t.report.now ≡ false) };
 
     ghost gives = { λ t r. (r.1.ghost_name ≡ t.maps.ghost_name) × (r.2.ghost_name ≡ t.report.ghost_name)
         × EndsAs t.config.now t.trace.now (grown (W1.contents t.maps.now) (W1.contents r.1.now))
         (grown (W2.contents t.report.now) (W2.contents r.2.now)) r.0
-        × (W1.failed r.1.now ≡ blames_maps r.0) × (W2.failed r.2.now ≡ blames_report r.0) };
+        × (W1.failed r.1.now ≡ blames_maps r.0) × (W2.failed r.2.now ≡ blames_report r.0)
+        × OnOk r.0 ((W1.flushed r.1.now ≡ true) × (W2.flushed r.2.now ≡ true)) };
 
     /// The crew ends with the run, so that its workers leave.
     // The doers are a parameter, so that they can be given up here: what holds a gate that is a parameter can't be.

@@ -44,7 +44,7 @@ impl<'a> Model for Progress<'a> {
 }
 
 impl<'a> Progress<'a> {
-    /// Before round 0 of so many clusters, with what was opened for them.
+    /// Before round 0 of so many words, with what was opened for them.
     pub(crate) fn opening(
         alloc: Global,
         clusters: usize,
@@ -82,7 +82,7 @@ impl<'a> Progress<'a> {
         self.collector.collect(alloc, asks, doers)
     }
 
-    /// What each cluster newly asks for.
+    /// What is newly told by each word.
     pub(crate) fn cut(&self) -> &[u64]
         ensures { result.now ≡ self.now.cut }
     {

@@ -1,4 +1,4 @@
-ghost use Rattle.std.specs.Prelude.{◌≡◌, false};
+ghost use Rattle.std.specs.Prelude.{◌≡◌, true, false, OnOk};
 ghost use Rattle.us_replay.specs.Endings.{blames_maps, blames_report, ended};
 ghost use Rattle.us_replay.specs.Replays.{Growth};
 ghost use Rattle.us_replay.specs.Progress.{Sent, Flushed};
@@ -45,6 +45,7 @@ pub(crate) fn flush<W1: Sink, W2: Sink>(
         Flushed done to_maps to_report (ended result) }
     ensures maps_failed { W1.failed maps.new ≡ blames_maps result }
     ensures report_failed { W2.failed report.new ≡ blames_report result }
+    ensures reached { OnOk result ((W1.flushed maps.new ≡ true) × (W2.flushed report.new ≡ true)) }
 {
     match maps.flush() {
         Ok(()) => {}

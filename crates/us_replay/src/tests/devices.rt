@@ -73,17 +73,18 @@ pub(super) fn stuck_writer(wanted: &'static [u8]) -> FakeWriter {
     stuck
 }
 
-/// A reader that gives 5 bytes a call, and fails at the end of its text if it is to. It counts the calls at its end.
+/// A reader that gives `piece` bytes a call, and fails at the end of its text if it is to. It counts the calls at its end.
 #[derive(Clone, Copy)]
 pub(super) struct FakeReader<'a> {
     left: &'a [u8],
+    pub(super) piece: usize,
     fails: bool,
     pub(super) ends: usize,
 }
 
 impl<'a> Read for FakeReader<'a> {
     fn read(&mut self, buf: &mut [u8]) -> io::Result<usize> {
-        let count = self.left.len().min(5).min(buf.len());
+        let count = self.left.len().min(self.piece).min(buf.len());
         if count == 0 {
             self.ends = self.ends.saturating_add(1);
             if self.fails {
@@ -96,9 +97,11 @@ impl<'a> Read for FakeReader<'a> {
     }
 }
 
+/// A reader that gives 5 bytes a call.
 pub(super) fn reader(left: &[u8], fails: bool) -> FakeReader<'_> {
     FakeReader {
         left,
+        piece: 5,
         fails,
         ends: 0,
     }

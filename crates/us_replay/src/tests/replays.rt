@@ -1,6 +1,4 @@
-use super::base::{
-    BONDED_MAPS, BONDED_REPORT, BONDED_TRACE, MAPS, REPORT, TRACE, base, bonded, same,
-};
+use super::base::{MAPS, REPORT, TRACE, base, same};
 use super::devices::{FakeReader, FakeWriter, reader, short_writer, stuck_writer, writer};
 use crate::{RunFault, Summary, replay};
 use std::alloc::Global;
@@ -41,11 +39,12 @@ fn deeds(writer: FromWrite<FakeWriter>) -> Deeds {
     )
 }
 
-/// A replay of 2 rounds by so many workers on these devices.
+/// A replay of so many rounds by so many workers on these devices.
 pub(super) fn outcome(
     threads: &(impl Threads + Sync),
     alloc: Global,
     config: &Config,
+    rounds: u32,
     workers: usize,
     gate: &(impl Gate + Sync),
     trace: FakeReader<'_>,
@@ -60,7 +59,7 @@ pub(super) fn outcome(
         alloc,
         config,
         &mut trace,
-        2,
+        rounds,
         workers,
         gate,
         &mut maps,
@@ -85,7 +84,7 @@ fn expect(
     wanted: Outcome,
 ) {
     let found = match base(alloc) {
-        Ok(config) => Some(outcome(rt, alloc, &config, 1, &OpenGate, trace, maps, report)),
+        Ok(config) => Some(outcome(rt, alloc, &config, 2, 1, &OpenGate, trace, maps, report)),
         Err(_) => None,
     };
     same(rt, &found, &Some(wanted), "outcome");
@@ -150,53 +149,18 @@ fn flushes_that_fail(rt: HostRuntime) {
     expect(&rt, rt.alloc(), reader(TRACE, false), maps, report, wanted);
 }
 
-/// The whole trace, and fronts of it that are none: that the trace failed comes first.
+/// A trace that fails at each of its reads, of one byte and of five: that it failed comes before what it has.
 #[test]
 fn trace_that_fails(rt: HostRuntime) {
     let unused = (false, 0, true, 0, 0);
     let fault = RunFault::Trace(TraceFault::Read);
-    for text in [
-        TRACE,
-        b"tick,channel,sid,units\n0,1,291",
-        b"tick,channel,sid,units",
-        b"",
-    ] {
-        let (maps, report) = (writer(MAPS, 100), writer(REPORT, 100));
-        let wanted = (Err(fault), (true, 1), unused, unused);
-        expect(&rt, rt.alloc(), reader(text, true), maps, report, wanted);
-    }
-}
-
-/// Whether the bonded run by so many workers answers what it may where memory is refused, and blames no device.
-fn is_right(
-    threads: &(impl Threads + Sync),
-    alloc: Global,
-    config: &Config,
-    workers: usize,
-) -> bool {
-    let (maps, report) = (writer(BONDED_MAPS, 100), writer(BONDED_REPORT, 100));
-    let trace = reader(BONDED_TRACE, false);
-    let (answer, trace, maps, report) = outcome(
-        threads, alloc, config, workers, &OpenGate, trace, maps, report,
-    );
-    let blameless = !trace.0 && !maps.0 && !report.0;
-    let as_wanted = maps.2 && report.2;
-    let right = match answer {
-        Ok(summary) => summary.granted == 5,
-        Err(RunFault::NoMemory(done)) => done <= 2,
-        Err(fault) => fault == RunFault::Trace(TraceFault::NoMemory),
-    };
-    blameless && as_wanted && right
-}
-
-/// Run by `tools/refuse-memory` too, where each allocation is refused in turn.
-#[test]
-fn refused_memory(rt: HostRuntime) {
-    let Ok(config) = bonded(rt.alloc()) else {
-        return;
-    };
-    for workers in [1, 2, 3] {
-        let right = is_right(&rt, rt.alloc(), &config, workers);
-        same(&rt, &right, &true, "without memory");
+    for piece in [1, 5] {
+        for end in 0..TRACE.len() + 1 {
+            let mut trace = reader(&TRACE[..end], true);
+            trace.piece = piece;
+            let (maps, report) = (writer(MAPS, 100), writer(REPORT, 100));
+            let wanted = (Err(fault), (true, 1), unused, unused);
+            expect(&rt, rt.alloc(), trace, maps, report, wanted);
+        }
     }
 }

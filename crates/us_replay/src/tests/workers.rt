@@ -33,7 +33,7 @@ pub(super) fn expect(
     let trace = reader(BONDED_TRACE, false);
     let (maps, report) = (writer(BONDED_MAPS, 100), writer(BONDED_REPORT, 100));
     let found = match bonded(alloc) {
-        Ok(config) => Some(outcome(rt, alloc, &config, workers, gate, trace, maps, report)),
+        Ok(config) => Some(outcome(rt, alloc, &config, 2, workers, gate, trace, maps, report)),
         Err(_) => None,
     };
     same(rt, &found, &Some(wanted), "workers");

@@ -68,6 +68,12 @@ pub(super) const HEADER: Repeated<'static> = Repeated {
     reads: 0,
 };
 
+/// The header of the second version, and no request.
+pub(super) const HEADER_WITH_KIND: Repeated<'static> = Repeated {
+    text: b"tick,channel,sid,units,kind\n",
+    ..HEADER
+};
+
 /// A run of 4 rounds with the base configuration.
 pub(super) const BASE: Case<'static> = Case {
     name: "no requests",
@@ -218,6 +224,70 @@ rate = 0
 burst = 3044
 unit = 1
 headers = false
+";
+
+/// On one channel two flows that tell their activity, the first and the last, and between them one with a cluster and one
+/// with unsolicited grants at all times.
+pub(super) const TALKING_FLOWS: &str = "
+[[channel]]
+id = 1
+minislot_log2 = 0
+rate_log2 = 5
+ucd_count = 0
+ranging_backoff = [2, 6]
+data_backoff = [3, 8]
+request_minislots = 2
+contention_minislots = 0
+maintenance_minislots = 0
+maintenance_every = 1
+station_minislots = 4
+long = { bits = 4, preamble = 24, guard = 8, fec_t = 0, fec_k = 200, shortened = false }
+short = { bits = 4, preamble = 24, guard = 8, fec_t = 0, fec_k = 200, shortened = false, max_minislots = 10 }
+unsolicited = { bits = 4, preamble = 24, guard = 8, fec_t = 0, fec_k = 200, shortened = false }
+
+[[flow]]
+id = 1
+type = 5
+channels = [1]
+clusters = [[700]]
+start_us = 0
+interval_us = 20000
+jitter_us = 500
+grant_bytes = 64
+grants_per_interval = 1
+
+[[flow]]
+id = 2
+type = 2
+channels = [1]
+clusters = [[291]]
+priority = 0
+rate = 0
+burst = 3044
+unit = 4
+headers = true
+
+[[flow]]
+id = 3
+type = 6
+channels = [1]
+clusters = [[701]]
+start_us = 0
+interval_us = 20000
+jitter_us = 500
+grant_bytes = 64
+grants_per_interval = 1
+
+[[flow]]
+id = 4
+type = 5
+channels = [1]
+clusters = [[702]]
+start_us = 0
+interval_us = 20000
+jitter_us = 500
+grant_bytes = 64
+grants_per_interval = 1
 ";
 
 /// Reads the trace of each case, and compares what is answered.

@@ -68,7 +68,7 @@ static RECORDS: [Case<'static>; 11] = [
             last: b"0,1,9\n0,1,9,1\n",
             ..REQUESTS
         },
-        answer: "TR2: record 1000001 has not four fields",
+        answer: "TR2: record 1000001 has not as many fields as the header",
         ..BASE
     },
     Case {
@@ -78,7 +78,7 @@ static RECORDS: [Case<'static>; 11] = [
             last: b"0,1,9,x\n0,1,9,1\n",
             ..REQUESTS
         },
-        answer: "TR3: record 1000001 has a field that is no number in its range",
+        answer: "TR3: record 1000001 has a field that is no number in its range, or is a mark with units",
         ..BASE
     },
     Case {
@@ -96,7 +96,7 @@ static RECORDS: [Case<'static>; 11] = [
             text: b"tick,channel,sid,units\n0,1,9\n",
             ..REQUESTS
         },
-        answer: "TR2: record 2 has not four fields",
+        answer: "TR2: record 2 has not as many fields as the header",
         ..BASE
     },
     Case {
@@ -105,7 +105,7 @@ static RECORDS: [Case<'static>; 11] = [
             text: b"tick,channel,sid,units\n0,1,9,x\n",
             ..REQUESTS
         },
-        answer: "TR3: record 2 has a field that is no number in its range",
+        answer: "TR3: record 2 has a field that is no number in its range, or is a mark with units",
         ..BASE
     },
     Case {

@@ -25,16 +25,38 @@ const REQUESTS: &[u8] = b"tick,channel,sid,units
 0294967295,0000000255,0000016383,0000065535
 ";
 
+/// The same of kinds, which may have leading zeros.
+#[test]
+fn kinds(rt: HostRuntime) -> Result<(), Fail> {
+    let requests = requests_in(rt.alloc(), MARKS)?;
+    let found = format!(in rt.alloc(); "{requests:?}")?;
+    same(&rt, "kinds", found.as_str(), KINDS);
+    Ok(())
+}
+
+const MARKS: &[u8] = b"tick,channel,sid,units,kind
+7,1,291,10,0
+7,1,291,0,00
+8,1,291,0,01
+9,1,291,0,0000000002
+";
+
+const KINDS: &str = "[\
+    Request { tick: 7, channel: 1, sid: 291, units: 10, kind: Request }, \
+    Request { tick: 7, channel: 1, sid: 291, units: 0, kind: Request }, \
+    Request { tick: 8, channel: 1, sid: 291, units: 0, kind: Silent }, \
+    Request { tick: 9, channel: 1, sid: 291, units: 0, kind: Active }]";
+
 const VALUES: &str = "[\
-    Request { tick: 0, channel: 0, sid: 0, units: 0 }, \
-    Request { tick: 4294967295, channel: 0, sid: 0, units: 0 }, \
-    Request { tick: 0, channel: 255, sid: 0, units: 0 }, \
-    Request { tick: 0, channel: 0, sid: 16383, units: 0 }, \
-    Request { tick: 0, channel: 0, sid: 0, units: 65535 }, \
-    Request { tick: 4294967295, channel: 255, sid: 16383, units: 65535 }, \
-    Request { tick: 0, channel: 0, sid: 0, units: 0 }, \
-    Request { tick: 7, channel: 1, sid: 291, units: 10 }, \
-    Request { tick: 294967295, channel: 255, sid: 16383, units: 65535 }] \
+    Request { tick: 0, channel: 0, sid: 0, units: 0, kind: Request }, \
+    Request { tick: 4294967295, channel: 0, sid: 0, units: 0, kind: Request }, \
+    Request { tick: 0, channel: 255, sid: 0, units: 0, kind: Request }, \
+    Request { tick: 0, channel: 0, sid: 16383, units: 0, kind: Request }, \
+    Request { tick: 0, channel: 0, sid: 0, units: 65535, kind: Request }, \
+    Request { tick: 4294967295, channel: 255, sid: 16383, units: 65535, kind: Request }, \
+    Request { tick: 0, channel: 0, sid: 0, units: 0, kind: Request }, \
+    Request { tick: 7, channel: 1, sid: 291, units: 10, kind: Request }, \
+    Request { tick: 294967295, channel: 255, sid: 16383, units: 65535, kind: Request }] \
     TR6: out of memory";
 
 #[test]

@@ -16,7 +16,7 @@ pub(super) fn same(rt: &impl Abort, name: &str, found: &str, wanted: &str) {
     assert_eq!(rt; found, wanted, "{name}");
 }
 
-/// A run, in which clusters ask for bytes in round 1 only.
+/// A run, in which clusters ask for bytes and flows are marked in rounds 1 and 2 only.
 #[derive(Clone, Copy)]
 pub(super) struct Case<'a> {
     pub(super) name: &'a str,
@@ -33,8 +33,10 @@ pub(super) struct Case<'a> {
     /// Whether lines are told whole, and MAPs by the words of their elements.
     pub(super) whole: bool,
     pub(super) rounds: u32,
-    /// The bytes that the first cluster asks for, and each other one.
+    /// The bytes of the first word in round 1, and of each other one,
     pub(super) asks: (u64, u64),
+    /// and the same in round 2.
+    pub(super) asks_next: (u64, u64),
     pub(super) answer: &'a str,
 }
 
@@ -105,15 +107,14 @@ fn push_flow(text: &mut String, id: u16, two_clusters: bool) -> Result<(), Alloc
     }
 }
 
-/// What each cluster asks for in a round.
-fn cut_of(
-    alloc: Global,
-    case: &Case<'_>,
-    number: u32,
-    clusters: usize,
-) -> Result<Vec<u64>, NoMemory> {
-    let (first, others) = if number == 1 { case.asks } else { (0, 0) };
-    let mut cut = vec![in alloc; others; clusters]?;
+/// The cut of a round.
+fn cut_of(alloc: Global, case: &Case<'_>, number: u32, words: usize) -> Result<Vec<u64>, NoMemory> {
+    let (first, others) = match number {
+        1 => case.asks,
+        2 => case.asks_next,
+        _ => (0, 0),
+    };
+    let mut cut = vec![in alloc; others; words]?;
     if let Some(bytes) = cut.get_mut(0) {
         *bytes = first;
     }
@@ -130,10 +131,10 @@ fn run<H: Threads + Sync, G: Gate + Sync>(
     workers: usize,
     gate: &G,
 ) -> Result<(), RoundFault> {
-    let clusters = config.clusters();
+    let words = config.clusters();
     let mut state = State::new(alloc, config)?;
     for number in 0..case.rounds {
-        let cut = cut_of(alloc, case, number, clusters)?;
+        let cut = cut_of(alloc, case, number, words)?;
         let (next, out) = next_round(threads, alloc, state, &cut, workers, gate)?;
         state = next;
         if case.whole {
@@ -148,7 +149,7 @@ fn run<H: Threads + Sync, G: Gate + Sync>(
 }
 
 /// The round of a state, if it may be made.
-fn next_round<H: Threads + Sync, G: Gate + Sync>(
+pub(super) fn next_round<H: Threads + Sync, G: Gate + Sync>(
     threads: &H,
     alloc: Global,
     state: State,
@@ -166,7 +167,7 @@ fn next_round<H: Threads + Sync, G: Gate + Sync>(
     }
 }
 
-/// Whether what is outstanding and asked for is below 2^62 of each cluster.
+/// Whether what is outstanding and what a cut has are below 2^62 of each word.
 fn have_room(outstanding: &[u64], cut: &[u64]) -> bool
     ensures { IsTrue result → AllByRecursion (λ pair. pair.0 + pair.1 < 2 ^ 62) (zip outstanding.now cut.now) }
 {
@@ -215,7 +216,8 @@ fn tell_rows(answer: &mut String, rows: &[Row]) -> Result<(), NoMemory> {
     Ok(())
 }
 
-/// Of a grant its channel, start, minislots and credit; of a final line what is outstanding, and the units.
+/// Of a grant its channel, start, minislots and credit; of a final line what is outstanding, and the units, or the flow and
+/// whether it is active.
 fn tell_row(answer: &mut String, row: &Row) -> Result<(), AllocError> {
     match row {
         Row::Granted(g) => write!(
@@ -224,6 +226,7 @@ fn tell_row(answer: &mut String, row: &Row) -> Result<(), AllocError> {
             g.channel, g.start, g.slots, g.credit
         ),
         Row::Final(state) => write!(answer, "left {} {:?}, ", state.outstanding, state.units),
+        Row::Activity(state) => write!(answer, "flow {} active {}, ", state.flow, state.active),
         _ => write!(answer, "{row:?}, "),
     }
 }

@@ -20,6 +20,7 @@ headers = true",
     whole: false,
     rounds: 2,
     asks: (8000, 2000),
+    asks_next: (0, 0),
     answer: "0: MAP 3 0; MAP 3 0; 1: 1 0+126 4000, 1 126+24 744, 2 0+126 4000, 2 126+24 744, MAP 4 0; MAP 4 0; \
         left 0 None, left 512 None, ",
 };

@@ -1,6 +1,6 @@
 ghost use Rattle.std.specs.Prelude.{⊤};
 
-use super::base::{answer_of, same};
+use super::base::{Case, answer_of, same};
 use super::rounds::BONDED;
 use std::sync::atomic::{AtomicBool, AtomicUsize, Ordering};
 use std::test::Fail;
@@ -22,8 +22,7 @@ fn numbers_of_workers(rt: HostRuntime) -> Result<(), Fail> {
     Ok(())
 }
 
-/// A gate that holds each of two channels until both have entered, for at most so many turns: in each phase of each
-/// round.
+/// A gate that holds each of 16 channels until all have entered, for at most so many turns: in each phase of each round.
 #[derive(Drop)]
 struct Meeting {
     fills: AtomicUsize,
@@ -40,11 +39,11 @@ impl Meeting {
         }
     }
 
-    /// Waits until both of two have entered: the first finds an even number, and the second the odd one above it.
+    /// Waits until all of 16 have entered: the last of them finds the number that ends in four ones.
     fn meet(&self, entered: &AtomicUsize) {
-        let second = entered.fetch_add(1, Ordering::SeqCst) | 1;
+        let last = entered.fetch_add(1, Ordering::SeqCst) | 15;
         for _ in 0..100_000_000_u64 {
-            if entered.load(Ordering::SeqCst) > second {
+            if entered.load(Ordering::SeqCst) > last {
                 return;
             }
             yield_now();
@@ -65,17 +64,24 @@ impl Gate for Meeting {
     }
 }
 
-/// Each of two channels is held by its worker until the other is, in phase `Fill` and in phase `Build`.
+/// As many channels as there may be.
+const ALL_CHANNELS: Case<'static> = Case {
+    channels: 16,
+    ..BONDED
+};
+
+/// Each of 16 channels is held by its worker until all are, in phase `Fill` and in phase `Build`.
 #[test]
 fn workers_meet(rt: HostRuntime) -> Result<(), Fail> {
     let gate = Meeting::new();
-    let answer = answer_of(&rt, rt.alloc(), &BONDED, 2, &gate)?;
-    same(&rt, "two workers", answer.as_str(), BONDED.answer);
+    let wanted = answer_of(&rt, rt.alloc(), &ALL_CHANNELS, 1, &OpenGate)?;
+    let answer = answer_of(&rt, rt.alloc(), &ALL_CHANNELS, 16, &gate)?;
+    same(&rt, "16 workers", answer.as_str(), wanted.as_str());
     let entered = (
         gate.fills.load(Ordering::SeqCst),
         gate.builds.load(Ordering::SeqCst),
     );
-    let met = entered == (4, 4) && !gate.missed.load(Ordering::SeqCst);
+    let met = entered == (32, 32) && !gate.missed.load(Ordering::SeqCst);
     assert!(&rt; met, "a worker came alone, or not at all");
     Ok(())
 }

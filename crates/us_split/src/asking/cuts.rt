@@ -1,17 +1,17 @@
 ghost use Rattle.std.specs.Prelude.{◌≡◌, ◌≤◌, length, replicate};
 ghost use Rattle.std.specs.Bool.{OnTrue};
-ghost use Rattle.us_split.specs.Askers.{AskNothing};
+ghost use Rattle.us_split.specs.Askers.{HasNothing};
 
-/// How many clusters are looked at together.
+/// How many words are looked at together.
 const TOGETHER: usize = 8;
 
-/// The first cluster from this one on that asks for bytes in a cut: as many as there are clusters, where none does. Most
-/// clusters ask for none in a round.
+/// The first word from this one on that has bytes in a cut: as many as there are words, where none has. Most words have none
+/// in a round.
 pub(super) fn first_in_cut(cut: &[u64], from: usize) -> usize
     requires { from ≤ length cut.now }
     ensures order { from ≤ result }
     ensures inside { result ≤ length cut.now }
-    ensures none { AskNothing cut.now from result }
+    ensures none { HasNothing cut.now from result }
 {
     let mut at = past_idle(cut, from);
     while at < cut.len() && cut[at] == 0 {
@@ -20,12 +20,12 @@ pub(super) fn first_in_cut(cut: &[u64], from: usize) -> usize
     at
 }
 
-/// Passes clusters that ask for nothing, eight at a time.
+/// Passes words that have nothing, eight at a time.
 fn past_idle(cut: &[u64], from: usize) -> usize
     requires { from ≤ length cut.now }
     ensures order { from ≤ result }
     ensures inside { result ≤ length cut.now }
-    ensures none { AskNothing cut.now from result }
+    ensures none { HasNothing cut.now from result }
 {
     let mut at = from;
     while TOGETHER <= cut.len() - at && are_idle(&cut[at..at + TOGETHER]) {
@@ -34,7 +34,7 @@ fn past_idle(cut: &[u64], from: usize) -> usize
     at
 }
 
-/// Whether eight clusters ask for nothing.
+/// Whether eight words have nothing.
 fn are_idle(cut: &[u64]) -> bool
     ensures { OnTrue result (cut.now ≡ replicate 8 0) }
 {

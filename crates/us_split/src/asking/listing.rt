@@ -28,7 +28,7 @@ fn first_from(list: &[u16], place: u16) -> usize
     list.partition_point(|other| *other < place)
 }
 
-/// The bytes of the cluster whose turn stands at a place.
+/// The bytes of the word whose turn stands at a place.
 fn bytes_of(bytes: &[u64], numbers: &[u16], place: u16) -> u64
     requires place { place < length numbers.now }
     requires numbers { AllByRecursion (λ n. n < length bytes.now) numbers.now }

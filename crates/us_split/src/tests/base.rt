@@ -20,13 +20,25 @@ burst = 3044
 unit = 4
 ";
 
+/// A flow that tells its activity, which has two words and no turn.
+pub const ACTIVITY: &str = "type = 5
+id = 2
+channels = [1]
+clusters = [[513]]
+start_us = 0
+interval_us = 2000
+jitter_us = 1000
+grant_bytes = 16
+grants_per_interval = 2
+";
+
 /// A round to plan.
 #[derive(Clone, Copy)]
 pub struct Case<'a> {
     pub name: &'a str,
     /// The ids go from 1 to this.
     pub channels: u8,
-    /// Each flow but for what all have.
+    /// Each flow, but for what all of best effort have.
     pub flows: &'a [&'a str],
     pub outstanding: &'a [u64],
     pub allowances: &'a [Option<u64>],
@@ -45,7 +57,8 @@ fn text_of(alloc: Global, case: &Case<'_>) -> Result<String, AllocError> {
         put_channel(&mut text, id)?;
     }
     for flow in case.flows {
-        write!(text, "[[flow]]\n{flow}\n{FLOW}")?;
+        let rest = if flow.starts_with("type") { "" } else { FLOW };
+        write!(text, "[[flow]]\n{flow}\n{rest}")?;
     }
     Ok(text)
 }

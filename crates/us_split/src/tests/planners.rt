@@ -1,6 +1,4 @@
-ghost use Rattle.std.specs.Prelude.{◌≡◌, length, IfOk};
-ghost use Rattle.us_flows.specs.Clusters.{clusters_of, turns_of};
-ghost use Rattle.us_split.specs.Asking.{numbers_of};
+ghost use Rattle.std.specs.Prelude.{◌≡◌, IfOk};
 
 use super::base::{Case, config_of, is_idle, same, tell_list};
 use super::plans::CASES;
@@ -10,26 +8,24 @@ use std::test::Fail;
 use us_flows::Config;
 use us_slots::NoMemory;
 
-/// Who asks in a round, of bytes outstanding by cluster.
+/// Who asks in a round, of bytes by word.
 fn askers_of(alloc: Global, config: &Config, outstanding: &[u64]) -> Result<Askers, NoMemory>
-    ensures numbers { IfOk result (λ askers. askers.numbers ≡ numbers_of (turns_of config.now)) }
-    ensures clusters { IfOk result (λ askers. length askers.outstanding ≡ length (clusters_of config.now)) }
+    ensures { IfOk result (λ askers. askers.tables ≡ config.now) }
 {
     let mut askers = Askers::new(alloc, config)?;
-    for cluster in 0..outstanding.len() {
-        ask(&mut askers, cluster, outstanding[cluster]);
+    for word in 0..outstanding.len() {
+        ask(&mut askers, word, outstanding[word]);
     }
     Ok(askers)
 }
 
-/// A cluster asks for bytes, if there is such a cluster and they are few enough.
-fn ask(askers: &mut Askers, cluster: usize, bytes: u64)
-    ensures numbers { askers.new.numbers ≡ askers.old.numbers }
-    ensures clusters { length askers.new.outstanding ≡ length askers.old.outstanding }
+/// A word has bytes, if there is such a word and they are few enough.
+fn ask(askers: &mut Askers, word: usize, bytes: u64)
+    ensures { askers.new.tables ≡ askers.old.tables }
 {
     let before = askers.outstanding();
-    if cluster < before.len() && before[cluster] < 1 << 61 && bytes < 1 << 61 {
-        askers.add(cluster, bytes);
+    if word < before.len() && before[word] < 1 << 61 && bytes < 1 << 61 {
+        askers.add(word, bytes);
     }
 }
 

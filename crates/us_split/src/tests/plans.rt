@@ -1,4 +1,4 @@
-use super::base::{Case, config_of, is_reserved, plan_of, same, tell};
+use super::base::{ACTIVITY, Case, config_of, is_reserved, plan_of, same, tell};
 use std::test::Fail;
 
 /// A flow with two clusters on two channels, and segment headers.
@@ -118,6 +118,29 @@ headers = false",
         reserves: &[],
         idle: &[150],
         reserved: &[0, 0],
+        answer: "0: 0 292 4016 126 10, 1 291 744 24 10",
+    },
+    Case {
+        name: "activity between flows, of which nothing is planned",
+        channels: 1,
+        flows: &[
+            "id = 1
+channels = [1]
+clusters = [[291]]
+priority = 0
+headers = true",
+            ACTIVITY,
+            "id = 3
+channels = [1]
+clusters = [[292]]
+priority = 5
+headers = false",
+        ],
+        outstanding: &[5000, 1, 1, 4016],
+        allowances: &[None, None, Some(1_000_000)],
+        reserves: &[0, 700, 0],
+        idle: &[150],
+        reserved: &[0, 0, 0],
         answer: "0: 0 292 4016 126 10, 1 291 744 24 10",
     },
     Case {

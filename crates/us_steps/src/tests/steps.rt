@@ -8,23 +8,30 @@ use us_round::{RoundFault, RoundOut, State};
 use us_samples::base;
 use us_slots::NoMemory;
 
+/// Seat 0 adds the row of 500 bytes, or that of 700.
+const ADD_500: Step = Step::Add { row: 0, seat: 0 };
+
+const ADD_700: Step = Step::Add { row: 1, seat: 0 };
+
 const TAKE: Step = Step::Take { word: 0, seat: 0 };
 
 const OPEN: Step = Step::Open { channel: 0 };
 
 const BUILT: Step = Step::Built { channel: 0 };
 
-/// The round in which a row of 500 bytes comes too late: 700 bytes are granted, 23 minislots.
+/// Steps by which all rows are in the cut, and the round: 1,200 bytes are granted, 39 minislots.
+static WHOLE_STEPS: [Step; 5] = [ADD_700, ADD_500, TAKE, OPEN, BUILT];
+
+const WHOLE: &str = "round 0, elements at 0 39 150 160; left [0]";
+
+/// Those by which the row of 500 bytes comes too late: 700 bytes are granted, 23 minislots.
+static LATE_STEPS: [Step; 5] = [ADD_700, TAKE, OPEN, ADD_500, BUILT];
+
 const LATE: &str = "round 0, elements at 0 23 150 160; left [500]";
 
 /// The one comparison of these tests.
 fn same(rt: &impl Abort, name: &str, found: &str, wanted: &str) {
     assert_eq!(rt; found, wanted, "{name}");
-}
-
-/// Seat 0 adds this row.
-const fn add(row: usize) -> Step {
-    Step::Add { row, seat: 0 }
 }
 
 /// What the first round of the base configuration comes to by these steps, with rows of 500 and 700 bytes.
@@ -91,18 +98,13 @@ fn tell_play(answer: &mut String, words: &[u64], out: &RoundOut) -> Result<(), N
 
 #[test]
 fn worked_steps(rt: HostRuntime) -> Result<(), Fail> {
-    let whole = answer_of(rt.alloc(), &[add(1), add(0), TAKE, OPEN, BUILT])?;
-    same(
-        &rt,
-        "all rows",
-        whole.as_str(),
-        "round 0, elements at 0 39 150 160; left [0]",
-    );
-    let late = answer_of(rt.alloc(), &[add(1), TAKE, OPEN, add(0), BUILT])?;
+    let whole = answer_of(rt.alloc(), &WHOLE_STEPS)?;
+    same(&rt, "all rows", whole.as_str(), WHOLE);
+    let late = answer_of(rt.alloc(), &LATE_STEPS)?;
     same(&rt, "a late row", late.as_str(), LATE);
-    let open = answer_of(rt.alloc(), &[add(1), add(0), TAKE, OPEN])?;
+    let open = answer_of(rt.alloc(), &[ADD_700, ADD_500, TAKE, OPEN])?;
     same(&rt, "a channel that isn't built", open.as_str(), "");
-    let twice = answer_of(rt.alloc(), &[add(1), add(0), add(0), TAKE, OPEN, BUILT])?;
+    let twice = answer_of(rt.alloc(), &[ADD_700, ADD_500, ADD_500, TAKE, OPEN, BUILT])?;
     same(&rt, "a row that is added twice", twice.as_str(), "");
     Ok(())
 }
@@ -111,10 +113,12 @@ fn worked_steps(rt: HostRuntime) -> Result<(), Fail> {
 /// memory.
 #[test]
 fn refused_memory(rt: HostRuntime) {
-    // else it was refused to the answer's text
-    if let Ok(answer) = answer_of(rt.alloc(), &[add(1), TAKE, OPEN, add(0), BUILT]) {
-        if !answer.as_str().ends_with("out of memory") {
-            same(&rt, "a late row", answer.as_str(), LATE);
+    for (steps, wanted) in [(&WHOLE_STEPS, WHOLE), (&LATE_STEPS, LATE)] {
+        // else it was refused to the answer's text
+        if let Ok(answer) = answer_of(rt.alloc(), steps) {
+            if !answer.as_str().ends_with("out of memory") {
+                same(&rt, "a play", answer.as_str(), wanted);
+            }
         }
     }
 }

@@ -2,7 +2,8 @@ use Rattle.std.proofs.Common.{◌≡◌, ◌+◌, ◌<◌, [], ◌∷◌, ◌++�
 use Rattle.std.proofs.lemmas.List.{length-append}
 use Rattle.std.specs.List.{AllByRecursion}
 use Rattle.us_flows.proofs.TurnLemmas.{all-append}
-use Rattle.us_calendar.specs.Kept.{IsEntryState, state_from}
+use Rattle.us_calendar.specs.Kept.{IsEntryState}
+use Rattle.us_calendar.specs.Settling.{opening_state}
 use Rattle.us_calendar.specs.Agendas.{IsAgenda, IsPut}
 use Rattle.us_calendar.proofs.NotedLemmas.{one_noted, states_more}
 use Rattle.us_calendar.proofs.RunLaws.{lent}
@@ -26,8 +27,8 @@ loop-entry-preserved c =
     let back = lent l.near.items new_near l.near.len l.near.ok.0
     (omega (arith, agenda.lists, l.invariant.agenda.lists)) in
     record {
-      states = states_more (λ e. state_from e 0) c.args.entries.now l.entry-index c.entry-item.result
-          c.new-state.result old c.push.new.self.items (map (λ e. state_from e 0) c.args.entries.now)
+      states = states_more opening_state c.args.entries.now l.entry-index c.entry-item.result
+          c.new-state.result old c.push.new.self.items (map opening_state c.args.entries.now)
           c.loop-entry-test.true c.entry-item.is c.new-state.ensures.value items l.invariant.states;
       count = subst (λ rs. length rs ≡ l.entry-index + 1) (sym items)
           (omega (arith, l.invariant.count, length-append old (c.new-state.result ∷ [])));

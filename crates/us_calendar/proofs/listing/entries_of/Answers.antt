@@ -2,7 +2,7 @@ use Rattle.std.proofs.Common.{◌++◌, rules, IsPermutation, filter_map, subst,
 use Rattle.std.proofs.lemmas.Fn.{always_returns_same}
 use Rattle.us_flows.specs.Lawful.{IsFlow, IsStation}
 use Rattle.std.specs.List.{AllByRecursion}
-use Rattle.us_calendar.specs.Entries.{rank_of, entry_of_flow, entry_of_station}
+use Rattle.us_calendar.specs.Entries.{rank_of, with_words, entry_of_flow, entry_of_station}
 use Rattle.us_calendar.proofs.OrderLemmas.{entries-are, entries-few}
 use Rattle.us_calendar.proofs.listing.entries_of.Goals as goal
 
@@ -20,9 +20,9 @@ returns-clause-value c =
     let channel = c.args.channel.now in
     let list = c.in_ok-push_stations.ensures ∙
     ap (λ es. es ++ filter_map (entry_of_station channel) c.stations.result.now)
-    (c.in_ok-push_flows.ensures ∙ ap (λ es. es ++ filter_map (entry_of_flow channel) c.flows.result.now)
-    c.new-entries.ensures.items ∙ ap (λ fs. filter_map (entry_of_flow channel) fs) c.flows.ensures.value) ∙
-    ap (λ ss. filter_map (entry_of_flow channel) t.flows ++ filter_map (entry_of_station channel) ss)
+    (c.in_ok-push_flows.ensures ∙ ap (λ es. es ++ filter_map (entry_of_flow channel) (with_words 0 c.flows.result.now))
+    c.new-entries.ensures.items ∙ ap (λ fs. filter_map (entry_of_flow channel) (with_words 0 fs)) c.flows.ensures.value) ∙
+    ap (λ ss. filter_map (entry_of_flow channel) (with_words 0 t.flows) ++ filter_map (entry_of_station channel) ss)
     c.stations.ensures.value in
     let moved = subst (λ es. IsPermutation es c.sort_unstable_by_key.new.self.items) list
     c.sort_unstable_by_key.ensures.permutation in
@@ -36,9 +36,9 @@ returns-clause-few c =
     let channel = c.args.channel.now in
     let list = c.in_ok-push_stations.ensures ∙
     ap (λ es. es ++ filter_map (entry_of_station channel) c.stations.result.now)
-    (c.in_ok-push_flows.ensures ∙ ap (λ es. es ++ filter_map (entry_of_flow channel) c.flows.result.now)
-    c.new-entries.ensures.items ∙ ap (λ fs. filter_map (entry_of_flow channel) fs) c.flows.ensures.value) ∙
-    ap (λ ss. filter_map (entry_of_flow channel) t.flows ++ filter_map (entry_of_station channel) ss)
+    (c.in_ok-push_flows.ensures ∙ ap (λ es. es ++ filter_map (entry_of_flow channel) (with_words 0 c.flows.result.now))
+    c.new-entries.ensures.items ∙ ap (λ fs. filter_map (entry_of_flow channel) (with_words 0 fs)) c.flows.ensures.value) ∙
+    ap (λ ss. filter_map (entry_of_flow channel) (with_words 0 t.flows) ++ filter_map (entry_of_station channel) ss)
     c.stations.ensures.value in
     let moved = subst (λ es. IsPermutation es c.sort_unstable_by_key.new.self.items) list
     c.sort_unstable_by_key.ensures.permutation in

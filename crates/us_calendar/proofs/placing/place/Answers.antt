@@ -1,4 +1,4 @@
-use Rattle.std.proofs.Common.{◌≡◌, subst, ap}
+use Rattle.std.proofs.Common.{subst}
 use Rattle.us_holes.specs.Placements.{IsPlacedAt, HasNoRoom}
 use Rattle.us_calendar.specs.Kept.{number_of}
 use Rattle.us_calendar.proofs.SpotLemmas.{spot-at, spot-none}
@@ -8,17 +8,16 @@ pub returns-in-At-clause-value : goal.returns-in-At-clause-value
 returns-in-At-clause-value c =
     let ends = c.in_ok-from.ensures.some in
     let says = c.in-At.ensures.says in
-    let same : c.entry.inside.slots ≡ c.args.entry.now.slots = ap (λ e. e.slots) c.entry.view_is in
     let placed = subst (λ slots. IsPlacedAt c.args.board.now c.in_ok-from.from c.in_ok-from.to slots c.in-At.start)
-    same says.1 in
-    spot-at c.args.span.now.pace c.args.span.now.round c.args.entry.now (number_of c.args.entry.now c.args.next)
-    c.in_ok-from.from c.in_ok-from.to c.in-At.start c.args.board.now ends.2 ends.1 placed
+    c.slots_of-slots.ensures.value says.1 in
+    spot-at c.args.span.now.pace c.args.span.now.round c.args.entry.now c.args.active
+    (number_of c.args.entry.now c.args.next) c.in_ok-from.from c.in_ok-from.to c.in-At.start c.args.board.now ends.2
+    ends.1 placed
 
 pub returns-in-NoRoom-clause-value : goal.returns-in-NoRoom-clause-value
 returns-in-NoRoom-clause-value c =
     let ends = c.in_ok-from.ensures.some in
-    let same : c.entry.inside.slots ≡ c.args.entry.now.slots = ap (λ e. e.slots) c.entry.view_is in
-    let room = subst (λ slots. HasNoRoom c.args.board.now c.in_ok-from.from c.in_ok-from.to slots) same
-    c.in-NoRoom.ensures.says in
-    spot-none c.args.span.now.pace c.args.span.now.round c.args.entry.now (number_of c.args.entry.now c.args.next)
-    c.in_ok-from.from c.in_ok-from.to c.args.board.now ends.2 room
+    let room = subst (λ slots. HasNoRoom c.args.board.now c.in_ok-from.from c.in_ok-from.to slots)
+    c.slots_of-slots.ensures.value c.in-NoRoom.ensures.says in
+    spot-none c.args.span.now.pace c.args.span.now.round c.args.entry.now c.args.active
+    (number_of c.args.entry.now c.args.next) c.in_ok-from.from c.in_ok-from.to c.args.board.now ends.2 room

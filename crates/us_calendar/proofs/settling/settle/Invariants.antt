@@ -1,5 +1,5 @@
-use Rattle.std.proofs.Common.{◌-◌, ◌^◌}
-use Rattle.us_calendar.specs.Kept.{IsTimed, number_of}
+use Rattle.std.proofs.Common.{◌≡◌, ◌-◌, ◌^◌, ◌≤◌, ◌⊎◌}
+use Rattle.us_calendar.specs.Kept.{IsTimed, number_of, speaks_of}
 use Rattle.us_calendar.proofs.SettleLemmas.{Reached}
 use Rattle.us_calendar.proofs.settling.settle.Given as goal
 
@@ -7,9 +7,10 @@ use Rattle.us_calendar.proofs.settling.settle.Given as goal
 abbrev pub invariant-loop-next : goal.invariant-loop-next
 invariant-loop-next l = record {
   timed : IsTimed l.entry l.next;
+  begins : l.span.end ≤ l.next.ideal → (l.next ≡ l.fn.first) ⊎ (l.next.k ≡ 0);
   reached :
-      Reached l.span.pace l.span.round l.entry (number_of l.entry l.fn.first) l.fn.board l.fn.settled.items
-      (number_of l.entry l.next) l.board l.settled.items;
+      Reached l.span.pace l.span.round l.entry (speaks_of l.kinds) (number_of l.entry l.fn.first) l.fn.board
+      l.fn.settled.items (number_of l.entry l.next) l.board l.settled.items;
 }
 
 abbrev pub decreases-loop-next : goal.decreases-loop-next

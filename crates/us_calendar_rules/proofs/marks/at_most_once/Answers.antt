@@ -8,11 +8,11 @@ pub returns-in-Some : goal.returns-in-Some
 returns-in-Some c =
     let marks = c.args.marks.now in
     let at = c.first_from.result in
-    let mark = c.mark_of-mark.result in
+    let mark = c.mark_at-mark.result in
     let inside : at + 1 < length marks = ltb-true (at + 1) (length marks) (sym c.in-Some.ensures.lookup.0) in
     let second : get_or marks (at + 1) 0 ≡ c.in-Some.second.now =
     sym (get_or_default_zero marks (at + 1) c.in-Some.second.now inside) ∙ sym c.in-Some.ensures.lookup.1 in
-    subst (λ v. not (c.in-Some.second.now == mark) ≡ nat_le (times_in v marks) 1) c.mark_of-mark.ensures.value (
+    subst (λ v. not (c.in-Some.second.now == mark) ≡ nat_le (times_in v marks) 1) c.mark_at-mark.ensures.value (
     elim (cases_eq c.in-Some.second.now mark) [
       | inl same ↦
           ap not (eq-eqb c.in-Some.second.now mark same)
@@ -26,8 +26,8 @@ pub returns-in-None : goal.returns-in-None
 returns-in-None c =
     let marks = c.args.marks.now in
     let at = c.first_from.result in
-    let mark = c.mark_of-mark.result in
+    let mark = c.mark_at-mark.result in
     let past = ltb-false (at + 1) (length marks) (sym c.in-None.ensures.lookup.0) in
-    subst (λ v. true ≡ nat_le (times_in v marks) 1) c.mark_of-mark.ensures.value
+    subst (λ v. true ≡ nat_le (times_in v marks) 1) c.mark_at-mark.ensures.value
     (sym (at_most_once marks c.requires.rising mark at c.first_from.ensures
     (λ inside. absurd (omega (arith, inside, past)))))

@@ -3,8 +3,9 @@ use Rattle.std.specs.Option.{is_some}
 use Rattle.us_output.specs.declared.rows.FinalState.{FinalState}
 use Rattle.us_breaches.specs.Breaches.{IsFirstFailure}
 use Rattle.us_breaches.proofs.BreachLemmas.{all_done, at_test, one_more}
-use Rattle.us_credit_rules.specs.Seats.{number_of}
-use Rattle.us_credit_rules.specs.LastLines.{IsStrange, end_place}
+use Rattle.us_credit_rules.specs.Seats.{place_of}
+use Rattle.us_credit_rules.specs.Ends.{end_place}
+use Rattle.us_credit_rules.specs.LastLines.{IsStrange}
 use Rattle.us_credit_rules.proofs.finals.first_strange.Goals as goal
 
 pub loop-state-preserved : goal.loop-state-preserved
@@ -16,10 +17,10 @@ loop-state-preserved c =
     let i = c.loop-state.state-index in
     let d : FinalState = record { flow = 0; cluster = 0; outstanding = 0; units = None } in
     let f : FinalState = get_or finals i d in
-    let known : c.is_some-known.result ≡ is_some (number_of f.flow f.cluster turns) =
-    c.is_some-known.ensures ∙ ap is_some c.number.ensures in
+    let known : c.is_some-known.result ≡ is_some (place_of f.flow f.cluster turns) =
+    c.is_some-known.ensures ∙ ap is_some c.place.ensures in
     let one : IsFirstFailure channels (IsStrange rounds turns f) c.unless.result =
-    rw (c.unless.ensures, known) (at_test channels (end_place rounds f.flow) (is_some (number_of f.flow f.cluster turns))) in
+    rw (c.unless.ensures, known) (at_test channels (end_place rounds f.flow) (is_some (place_of f.flow f.cluster turns))) in
     rw c.earlier-first.ensures
     (one_more channels (IsStrange rounds turns) finals i f d c.loop-state.first c.unless.result c.loop-state-test.true refl
     c.loop-state.invariant one)

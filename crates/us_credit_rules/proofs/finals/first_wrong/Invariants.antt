@@ -4,7 +4,7 @@ use Rattle.us_breaches.specs.Breaches.{IsFirstFailure, Any}
 use Rattle.us_credit_rules.specs.LastLines.{IsWrong}
 use Rattle.us_credit_rules.proofs.finals.first_wrong.Given as goal
 
-abbrev pub invariant-loop-seat : goal.invariant-loop-seat
-invariant-loop-seat l =
+abbrev pub invariant-loop-place : goal.invariant-loop-place
+invariant-loop-place l =
     IsFirstFailure l.config.channels
-    (Any (IsWrong (run_in l.config l.trace) l.lines) (take l.seat-index l.seat-items)) l.first
+    (Any (IsWrong (run_in l.config l.trace) l.lines) (take l.place l.seat-items)) l.first

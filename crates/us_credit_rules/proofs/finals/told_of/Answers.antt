@@ -18,7 +18,7 @@ tell-requires c =
     let f = get_or c.args.finals.now c.loop-state.state-index state_default in
     omega (
       arith,
-      number_below f.flow f.cluster c.in-Some.number c.args.seats.now (sym c.in-Some.ensures),
+      number_below f.flow f.cluster c.in-Some.place c.args.seats.now (sym c.in-Some.ensures),
       c.from.ensures,
       ap length c.deref_mut.ensures.value,
       c.loop-state.invariant.all,
@@ -29,9 +29,9 @@ loop-state-init c =
     let count = ap length c.all.ensures in
     record {
       all = ap length c.in_ok-told.ensures ∙ length-replicate (length c.all.result.now) Nothing ∙ count;
-      each = λ number inside.
-          ap (λ told. get_or told number Nothing) c.in_ok-told.ensures
-          ∙ ap (λ n. get_or (replicate n Nothing) number Nothing) count ∙ none_told c.args.seats.now number inside;
+      each = λ place inside.
+          ap (λ told. get_or told place Nothing) c.in_ok-told.ensures
+          ∙ ap (λ n. get_or (replicate n Nothing) place Nothing) count ∙ none_told c.args.seats.now place inside;
     }
 
 pub loop-state-preserved : goal.loop-state-preserved
@@ -40,15 +40,15 @@ loop-state-preserved c =
     let finals = c.args.finals.now in
     let i = c.loop-state.state-index in
     let told = c.loop-state.told.items in
-    elim c.match-number.branch [
+    elim c.match-place.branch [
       | in-Some w ↦
           let f = get_or finals i state_default in
-          let k = w.in-Some.number in
+          let k = w.in-Some.place in
           let more : Told = told_more f (get_or told k Nothing) in
           let is : w.tell.new.told ≡ set told k more =
           w.tell.ensures
           ∙ ap₂ (λ these n. set these n (told_more f (get_or these n Nothing))) w.deref_mut.ensures.value w.from.ensures in
-          let items : c.match-number.told.items ≡ set told k more =
+          let items : c.match-place.told.items ≡ set told k more =
           ap (λ v. v.items) w.told-is
           ∙ with_items_is c.loop-state.told w.tell.new.told
           (ap length is ∙ length-set told k more ∙ sym c.loop-state.told.ok.0)
@@ -57,24 +57,24 @@ loop-state-preserved c =
           omega (arith, number_below f.flow f.cluster k turns (sym w.in-Some.ensures), c.loop-state.invariant.all) in
           record {
             all = ap length items ∙ length-set told k more ∙ c.loop-state.invariant.all;
-            each = λ number inside.
-                ap (λ these. get_or these number Nothing) items
+            each = λ place inside.
+                ap (λ these. get_or these place Nothing) items
                 ∙ told_set turns finals i k state_default told c.loop-state-test.true (sym w.in-Some.ensures) room
-                c.loop-state.invariant.each number inside;
+                c.loop-state.invariant.each place inside;
           }
       | in_default w ↦
           record {
             all = ap (λ v. length v.items) w.told-is ∙ c.loop-state.invariant.all;
-            each = λ number inside.
-                ap (λ v. get_or v.items number Nothing) w.told-is
+            each = λ place inside.
+                ap (λ v. get_or v.items place Nothing) w.told-is
                 ∙ told_kept turns finals i state_default told c.loop-state-test.true (sym w.in_default.ensures)
-                c.loop-state.invariant.each number inside;
+                c.loop-state.invariant.each place inside;
           }
     ]
 
 pub returns : goal.returns
 returns c =
     fill_by_all (told_at c.args.seats.now c.args.finals.now) c.loop-state.told.items (length c.args.seats.now) Nothing
-    c.loop-state.invariant.all (λ number inside. c.loop-state.invariant.each number inside
-    ∙ ap (λ finals. told_at c.args.seats.now finals number)
+    c.loop-state.invariant.all (λ place inside. c.loop-state.invariant.each place inside
+    ∙ ap (λ finals. told_at c.args.seats.now finals place)
     (take_all c.loop-state.state-index c.args.finals.now c.loop-state-test.false))

@@ -7,6 +7,6 @@ abbrev pub invariant-loop-state : goal.invariant-loop-state
 invariant-loop-state l = record {
   all : length l.told.items ≡ length l.seats;
   each :
-      (number : ℕ) → number < length l.seats →
-      get_or l.told.items number Nothing ≡ told_at l.seats (take l.state-index l.finals) number;
+      (place : ℕ) → place < length l.seats →
+      get_or l.told.items place Nothing ≡ told_at l.seats (take l.state-index l.finals) place;
 }

@@ -1,4 +1,4 @@
-use Rattle.std.proofs.Common.{◌≡◌, ◌++◌, List, IsPermutation, filter_map, ap, ap₂, subst, ◌∙◌}
+use Rattle.std.proofs.Common.{◌++◌, List, IsPermutation, filter_map, ap, ap₂, subst, ◌∙◌}
 use Rattle.us_credit_rules.specs.declared.moves.Move.{Move}
 use Rattle.us_credit_rules.specs.Moves.{cluster_move, moves_told}
 use Rattle.us_credit_rules.proofs.MoveLemmas.{cluster_moves_inside, sorted_moves}

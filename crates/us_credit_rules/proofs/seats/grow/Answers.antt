@@ -6,18 +6,18 @@ use Rattle.us_credit_rules.proofs.seats.grow.Goals as goal
 pub loop-code-init : goal.loop-code-init
 loop-code-init c = record {
   same = λ code. refl;
-  long = omega (arith, c.len-code.ensures, c.args.numbers.now.ok.0);
+  long = omega (arith, c.len-code.ensures, c.args.places.now.ok.0);
 }
 
 pub loop-code-preserved : goal.loop-code-preserved
 loop-code-preserved c = record {
   same = λ code.
-      ap (λ these. get_or these code None) c.in_ok-push.ensures.items ∙ room_more c.loop-code.numbers.items code
+      ap (λ these. get_or these code None) c.in_ok-push.ensures.items ∙ room_more c.loop-code.places.items code
       ∙ c.loop-code.invariant.same code;
   long = omega (
     arith,
     ap length c.in_ok-push.ensures.items,
-    length-append c.loop-code.numbers.items (None ∷ []),
+    length-append c.loop-code.places.items (None ∷ []),
     c.loop-code.invariant.long,
   );
 }

@@ -3,19 +3,12 @@ use Rattle.us_flows.specs.Clusters.{IsTurnIn}
 use Rattle.us_lawful.specs.Runs.{run_in}
 use Rattle.us_breaches.specs.Breaches.{IsFirstFailure}
 use Rattle.us_breaches.proofs.BreachLemmas.{all_done, one_more}
-use Rattle.us_credit_rules.proofs.SeatLemmas.{seat_known, seat_small}
+use Rattle.us_credit_rules.proofs.SeatLemmas.{seat_known}
 use Rattle.us_credit_rules.proofs.SumLemmas.{sum_first, sum_test, sums_first}
 use Rattle.us_credit_rules.proofs.sums.first_sum.Goals as goal
 
-pub cluster_sum-requires-clause-number : goal.cluster_sum-requires-clause-number
-cluster_sum-requires-clause-number c =
-    let t = c.args.config.now in
-    (seat_small t c.seat-item.result c.channels.ensures.lawful
-    (seat_known t c.all-seat-items.result.now c.loop-seat.seat-index c.seat-item.result
-    (c.all-seat-items.ensures ∙ c.seats.ensures ∙ c.requires.seats) c.loop-seat-test.true c.seat-item.is)).0
-
-pub cluster_sum-requires-clause-moves : goal.cluster_sum-requires-clause-moves
-cluster_sum-requires-clause-moves c = rw (c.of_clusters-clusters.ensures, c.rounds-rounds.ensures.value) c.requires.clusters_ordered
+pub cluster_sum-requires : goal.cluster_sum-requires
+cluster_sum-requires c = rw (c.of_clusters-clusters.ensures, c.rounds-rounds.ensures.value) c.requires.clusters_ordered
 
 pub loop-seat-preserved : goal.loop-seat-preserved
 loop-seat-preserved c =

@@ -4,8 +4,8 @@ use Rattle.us_replay.proofs.MadeLemmas.{is-made, room-for}
 use Rattle.us_replay.proofs.SumLemmas.{length-cut}
 use Rattle.us_replay.proofs.replays.make_round.Goals as goal
 
-pub step-requires-clause-clusters : goal.step-requires-clause-clusters
-step-requires-clause-clusters g c =
+pub step-requires-clause-words : goal.step-requires-clause-words
+step-requires-clause-words g c =
     ap length (c.cut.ensures ∙ ap (λ p. p.cut) c.in_ok-take_asks.ensures.collected) ∙
     length-cut (length c.args.progress.now.cut) c.args.asks.now ∙ c.requires.ready.clusters
 

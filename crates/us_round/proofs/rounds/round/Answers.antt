@@ -28,8 +28,8 @@ returns-clause-few g c =
 
 pub step-requires-clause-hands : goal.step-requires-clause-hands
 step-requires-clause-hands g c = (
-  (λ work channels ready. ((ready, search (sendable, rules)), λ answered told. told.1)),
-  (λ work channels ready. ((ready, search (sendable, rules)), λ answered told. told.1)),
+  (λ work channels ready. (((λ place item is entered. ready place item is tt), search (sendable, rules)), λ answered told. told.1)),
+  (λ work channels ready. (((λ place item is entered. ready place item is tt), search (sendable, rules)), λ answered told. told.1)),
 )
 
 pub returns-clause-workers : goal.returns-clause-workers

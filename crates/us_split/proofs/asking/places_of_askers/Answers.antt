@@ -7,7 +7,7 @@ places_asking-requires-clause-few c =
     let turns = turn_numbers c.args.config.now c.requires.lawful in
     omega (arith, ap length c.deref.ensures.value, ap length c.in_ok-numbers.ensures, turns.few)
 
-pub places_asking-requires-clause-clusters : goal.places_asking-requires-clause-clusters
-places_asking-requires-clause-clusters c =
+pub places_asking-requires-clause-words : goal.places_asking-requires-clause-words
+places_asking-requires-clause-words c =
     let turns = turn_numbers c.args.config.now c.requires.lawful in
-    rw (c.deref.ensures.value, c.in_ok-numbers.ensures, c.requires.clusters) turns.below
+    rw (c.deref.ensures.value, c.in_ok-numbers.ensures, c.requires.words) turns.below

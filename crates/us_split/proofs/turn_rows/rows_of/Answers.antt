@@ -1,7 +1,7 @@
 use Rattle.std.proofs.Common.{◌≡◌, ◌<◌, ◌++◌, [], ◌∷◌, ℕ, ◌+◌, ◌≤◌, length, drop, get_or, ap, ◌∙◌, sym, subst, append_assoc, append-nil, arith}
 use Rattle.std.proofs.lemmas.List.{drop_all}
 use Rattle.std.proofs.lemmas.List.Elements.{All-from_recursion}
-use Rattle.us_flows.specs.Clusters.{clusters_of, turns_of}
+use Rattle.us_flows.specs.Clusters.{turns_of, words_of}
 use Rattle.us_flows.specs.declared.turns.Turn as places
 use Rattle.us_split.specs.PartialPlans.{IsTurnOf}
 use Rattle.us_split.specs.TurnRows.{row_of, rows_from}
@@ -30,7 +30,7 @@ new-requires-clause-small c =
     let at = turn_of c.args.config.now c.turns-turns.result.now c.loop-place.place blank c.turns-turns.ensures.value c.loop-place-test.true in
     turn_small c.args.config.now (get_or c.turns-turns.result.now c.loop-place.place blank) c.loop-place.place
     c.turns-turns.ensures.lawful at
-    (All-from_recursion (λ turn. turn.cluster < length (clusters_of c.args.config.now)) c.turns-turns.result.now
+    (All-from_recursion (λ turn. turn.cluster < length (words_of c.args.config.now)) c.turns-turns.result.now
     c.turns-turns.ensures.numbers c.loop-place.place blank c.loop-place-test.true)
 
 pub new-requires-clause-few : goal.new-requires-clause-few

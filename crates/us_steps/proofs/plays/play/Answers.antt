@@ -8,10 +8,10 @@ use Rattle.us_steps.proofs.plays.play.Goals as goal
 pub tallied-requires-clause-room : goal.tallied-requires-clause-room
 tallied-requires-clause-room c = λ q below. omega (arith, c.requires.room q below)
 
-pub round_alone-requires-clause-clusters : goal.round_alone-requires-clause-clusters
-round_alone-requires-clause-clusters c =
+pub round_alone-requires-clause-words : goal.round_alone-requires-clause-words
+round_alone-requires-clause-words c =
     let told = rw c.in-Some.is at c.in_ok-cut.ensures in
-    rw (c.deref.ensures.value, told.1) (cut-long c.args.rows.now c.args.words.now c.args.steps.now ∙ c.requires.clusters)
+    rw (c.deref.ensures.value, told.1) (cut-long c.args.rows.now c.args.words.now c.args.steps.now ∙ c.requires.words)
 
 pub round_alone-requires-clause-room : goal.round_alone-requires-clause-room
 round_alone-requires-clause-room c =

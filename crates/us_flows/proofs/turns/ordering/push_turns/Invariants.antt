@@ -1,9 +1,9 @@
-use Rattle.std.proofs.Common.{◌≡◌, ◌++◌, length, drop}
+use Rattle.std.proofs.Common.{◌≡◌, ◌+◌, ◌++◌, drop}
 use Rattle.us_flows.specs.Ranks.{cluster_turns}
 use Rattle.us_flows.proofs.turns.ordering.push_turns.Given as goal
 
 -- what is left to put in leads to the same
 abbrev pub invariant-loop-list : goal.invariant-loop-list
 invariant-loop-list l =
-    l.turns.items ++ cluster_turns l.place (length l.turns.items) l.list (drop l.list l.flow.clusters) ≡
-    l.fn.turns.items ++ cluster_turns l.place (length l.fn.turns.items) 0 l.flow.clusters
+    l.turns.items ++ cluster_turns l.place (l.number + l.list) l.list (drop l.list l.flow.clusters) ≡
+    l.fn.turns.items ++ cluster_turns l.place l.number 0 l.flow.clusters

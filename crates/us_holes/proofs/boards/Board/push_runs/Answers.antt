@@ -10,4 +10,4 @@ returns-clause-value c =
     let told = ap (λ assigned. runs_between 0 assigned f.len) c.deref.ensures.value
     ∙ runs_are 0 f.assigned.items f.len c.self.invariant.0.order
     ∙ ap (λ board. runs_of board.cells) c.self.view_is in
-    on_ok_weaker c.push_runs.result (λ is. is ∙ ap (λ more. c.args.found.now.items ++ more) told) c.push_runs.ensures
+    on_ok_weaker c.push_runs.result (λ is. is ∙ ap (λ more. c.args.found.now.items ++ more) told) c.push_runs.ensures.runs

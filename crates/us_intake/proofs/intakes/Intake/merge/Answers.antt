@@ -22,5 +22,6 @@ load-requires c =
       c.join_seat.ensures.0 ∙ c.requires.own.0 ∙ sym (ap (λ (x : Intake). x.id) c.self.view_is),
       c.self.invariant.known.some_clusters,
       look_step i.table.shared.key i.table.shared.table_id.slots c.join_seat.new.seat.id 0 c.join_seat.new.seat.me
-          (ap (λ m. m.1) me ∙ c.requires.bare.0) (omega (arith, ap (λ m. m.0.quota) me, c.requires.some.0)),
+          (ap (λ m. m.1) me ∙ c.requires.bare.0) (ap (λ m. m.0.looks) me)
+          (omega (arith, ap (λ m. m.0.quota) me, c.requires.some.0)),
     )

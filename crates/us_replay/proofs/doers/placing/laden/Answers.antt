@@ -9,7 +9,7 @@ pub loop-channel-init : goal.loop-channel-init
 loop-channel-init c =
     let rest = c.into_iter-rest.ensures.rest in
     let made = c.in_ok-all.ensures.items in
-    rw (rest, made) (search rules, none-made _ _ _ _ c.args.channels.items c.requires, search rules)
+    rw (rest, made) (search rules, none-made _ _ _ _ c.args.channels.items, search rules)
 
 pub loop-channel-preserved : goal.loop-channel-preserved
 loop-channel-preserved c =

@@ -1,4 +1,3 @@
-use Rattle.std.proofs.Common.{Ok}
 use Rattle.csv.specs.Records.{fields_of}
 use Rattle.us_requests.proofs.RecordLemmas.{read-left}
 use Rattle.us_requests.proofs.readers.RecordReader.read.Goals as goal

@@ -12,7 +12,7 @@ place_claims-requires g c =
     (c.requires.claims c.loop-place.place c.index_mut.result.now
     (next_at (built_at c.args.work.now) c.loop-place.place c.args.channels.items c.loop-place.channels.items
     c.index_mut.result.now c.loop-place.invariant
-    (omega (arith, c.loop-place-test.true, c.len-place-end.ensures, c.args.channels.ok.0)) c.index_mut.ensures.value) tt)
+    (omega (arith, c.loop-place-test.true, c.len-place-end.ensures, c.args.channels.ok.0)) c.index_mut.ensures.value) c.enter.ensures)
 
 pub loop-place-preserved : goal.loop-place-preserved
 loop-place-preserved g c =

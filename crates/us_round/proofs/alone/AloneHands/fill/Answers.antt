@@ -8,28 +8,28 @@ fill-requires-clause-channel g c =
     (c.requires.ready c.loop-place.place c.index_mut.result.now
     (next_at (filled_at c.args.work.now) c.loop-place.place c.args.channels.items c.loop-place.channels.items
     c.index_mut.result.now c.loop-place.invariant
-    (omega (arith, c.loop-place-test.true, c.len-place-end.ensures, c.args.channels.ok.0)) c.index_mut.ensures.value) tt).channel
+    (omega (arith, c.loop-place-test.true, c.len-place-end.ensures, c.args.channels.ok.0)) c.index_mut.ensures.value) c.enter.ensures).channel
 
 pub fill-requires-clause-pace : goal.fill-requires-clause-pace
 fill-requires-clause-pace g c =
     (c.requires.ready c.loop-place.place c.index_mut.result.now
     (next_at (filled_at c.args.work.now) c.loop-place.place c.args.channels.items c.loop-place.channels.items
     c.index_mut.result.now c.loop-place.invariant
-    (omega (arith, c.loop-place-test.true, c.len-place-end.ensures, c.args.channels.ok.0)) c.index_mut.ensures.value) tt).pace
+    (omega (arith, c.loop-place-test.true, c.len-place-end.ensures, c.args.channels.ok.0)) c.index_mut.ensures.value) c.enter.ensures).pace
 
 pub fill-requires-clause-next : goal.fill-requires-clause-next
 fill-requires-clause-next g c =
     (c.requires.ready c.loop-place.place c.index_mut.result.now
     (next_at (filled_at c.args.work.now) c.loop-place.place c.args.channels.items c.loop-place.channels.items
     c.index_mut.result.now c.loop-place.invariant
-    (omega (arith, c.loop-place-test.true, c.len-place-end.ensures, c.args.channels.ok.0)) c.index_mut.ensures.value) tt).next
+    (omega (arith, c.loop-place-test.true, c.len-place-end.ensures, c.args.channels.ok.0)) c.index_mut.ensures.value) c.enter.ensures).next
 
 pub fill-requires-clause-time : goal.fill-requires-clause-time
 fill-requires-clause-time g c =
     (c.requires.ready c.loop-place.place c.index_mut.result.now
     (next_at (filled_at c.args.work.now) c.loop-place.place c.args.channels.items c.loop-place.channels.items
     c.index_mut.result.now c.loop-place.invariant
-    (omega (arith, c.loop-place-test.true, c.len-place-end.ensures, c.args.channels.ok.0)) c.index_mut.ensures.value) tt).time
+    (omega (arith, c.loop-place-test.true, c.len-place-end.ensures, c.args.channels.ok.0)) c.index_mut.ensures.value) c.enter.ensures).time
 
 pub loop-place-preserved : goal.loop-place-preserved
 loop-place-preserved g c =

@@ -3,7 +3,7 @@ use Rattle.std.proofs.lemmas.List.{take_all}
 use Rattle.us_flows.specs.Tables.{FlowTable}
 use Rattle.us_bucket.specs.Levels.{full}
 use Rattle.us_bucket.specs.RoundBuckets.{full_at_first}
-use Rattle.us_round.specs.Buckets.{at_first, levels_in}
+use Rattle.us_round.specs.Buckets.{levels_in}
 use Rattle.us_round.proofs.BucketLemmas.{reserves_before, reserve_levels, told}
 use Rattle.us_round.proofs.buckets.Buckets.full_reserves.Goals as goal
 

@@ -26,5 +26,5 @@ returns-clause-value c =
     let kept = kept_too a c.self.inside.kept.value c.as_mut.ensures.value c.self.invariant in
     let told : core_in a ≡ c.args.self.now = ap core_in c.as_mut.ensures.value ∙ c.self.view_is in
     closed_value a.config a.round a.askers c.credit_all.new.askers c.settle.new.self a.buckets c.credit_all.new.buckets
-    a.reserves a.planner c.args.built.now kept.settled kept.numbers c.credit_all.ensures.credited c.settle.ensures
+    a.reserves a.planner c.args.built.now kept.settled kept.tables c.credit_all.ensures.credited c.settle.ensures
     ∙ ap (λ s. credited_core s c.args.built.now) told

@@ -5,7 +5,7 @@ use Rattle.std.proofs.lemmas.List.{length-map, with_items_is}
 use Rattle.us_flows.specs.Clusters.{turns_of}
 use Rattle.us_flows.specs.Turns.{turn_at}
 use Rattle.us_bucket.specs.Levels.{bytes_in, reserve_in}
-use Rattle.us_split.specs.Asking.{AgreeOn, asking, asking_in, turns_at}
+use Rattle.us_split.specs.Asking.{AgreeOn, asking_in, numbers_of, turns_at}
 use Rattle.us_round.specs.Cores.{IsRoom, planned_core}
 use Rattle.us_round.proofs.AskingLemmas.{askers_inside, flows_inside}
 use Rattle.us_round.proofs.CoreLemmas.{core_in, kept_too, claims_over, planned_kept, planned_value, reserves_over}
@@ -17,8 +17,8 @@ pub allow-requires-clause-places : goal.allow-requires-clause-places
 allow-requires-clause-places c =
     let a = c.as_mut.result.now in
     let kept = kept_too a c.self.inside.kept.value c.as_mut.ensures.value c.self.invariant in
-    askers_inside a.config c.turns-turns.result.now a.askers.outstanding a.askers.numbers c.asking-asking.result.now
-    c.turns-turns.ensures.value kept.numbers c.asking-asking.ensures
+    askers_inside a.config c.turns-turns.result.now a.askers.outstanding (numbers_of (turns_of a.askers.tables))
+    c.asking-asking.result.now c.turns-turns.ensures.value (ap (λ t. numbers_of (turns_of t)) kept.tables) c.asking-asking.ensures
 
 pub allow-requires-clause-flows : goal.allow-requires-clause-flows
 allow-requires-clause-flows c =
@@ -31,8 +31,8 @@ pub reserve-requires-clause-places : goal.reserve-requires-clause-places
 reserve-requires-clause-places c =
     let a = c.as_mut.result.now in
     let kept = kept_too a c.self.inside.kept.value c.as_mut.ensures.value c.self.invariant in
-    askers_inside a.config c.turns-turns.result.now a.askers.outstanding a.askers.numbers c.asking-asking.result.now
-    c.turns-turns.ensures.value kept.numbers c.asking-asking.ensures
+    askers_inside a.config c.turns-turns.result.now a.askers.outstanding (numbers_of (turns_of a.askers.tables))
+    c.asking-asking.result.now c.turns-turns.ensures.value (ap (λ t. numbers_of (turns_of t)) kept.tables) c.asking-asking.ensures
 
 pub reserve-requires-clause-flows : goal.reserve-requires-clause-flows
 reserve-requires-clause-flows c =
@@ -59,8 +59,8 @@ pub leave-requires-clause-places : goal.leave-requires-clause-places
 leave-requires-clause-places c =
     let a = c.as_mut.result.now in
     let kept = kept_too a c.self.inside.kept.value c.as_mut.ensures.value c.self.invariant in
-    askers_inside a.config c.turns-turns.result.now a.askers.outstanding a.askers.numbers c.asking-asking.result.now
-    c.turns-turns.ensures.value kept.numbers c.asking-asking.ensures
+    askers_inside a.config c.turns-turns.result.now a.askers.outstanding (numbers_of (turns_of a.askers.tables))
+    c.asking-asking.result.now c.turns-turns.ensures.value (ap (λ t. numbers_of (turns_of t)) kept.tables) c.asking-asking.ensures
 
 pub leave-requires-clause-flows : goal.leave-requires-clause-flows
 leave-requires-clause-flows c =
@@ -115,7 +115,7 @@ returns c =
     long c.allow.ensures.allowed c.reserve.ensures) in
     let same = subst (λ x. map (turn_at x) turns ≡ map Some (turns_of x)) (sym kept.planner) c.turns-turns.ensures.value in
     let asks : these ≡ asking_in t outstanding =
-    c.asking-asking.ensures ∙ ap₂ (λ os ns. asking os ns) (sym c.outstanding.ensures.value) kept.numbers
+    c.asking-asking.ensures ∙ ap₂ (λ os x. asking_in x os) (sym c.outstanding.ensures.value) kept.tables
     ∙ ap (λ x. asking_in x outstanding) (sym kept.planner) in
     let leaves = left-is t turns outstanding allowed a.reserves.levels free noted c.plan.new.reserves these same asks
     (kept.reserves.flows ∙ sym kept.buckets.flows ∙ sym (length-map a.buckets.levels bytes_in)) c.reserve.ensures

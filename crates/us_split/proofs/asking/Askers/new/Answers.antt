@@ -1,31 +1,30 @@
-use Rattle.std.proofs.Common.{length, slice_get, ap, sym, ◌∙◌, subst, arith}
-use Rattle.us_split.specs.Askers.{AreOnce}
+use Rattle.std.proofs.Common.{None, length, ap, ◌∙◌, subst, arith}
+use Rattle.std.specs.Prelude.{slice_index_or}
+use Rattle.us_split.specs.Askers.{IsPlaceOf}
 use Rattle.us_split.proofs.AskerStepLemmas.{askers-new}
 use Rattle.us_split.proofs.TurnNumberLemmas.{turn_numbers}
 use Rattle.us_split.proofs.asking.Askers.new.Goals as goal
 
 pub places_of-requires-clause-few : goal.places_of-requires-clause-few
 places_of-requires-clause-few c =
-    let turns = turn_numbers c.args.config.now c.clusters-clusters.ensures.lawful in
+    let turns = turn_numbers c.args.config.now c.clusters-words.ensures.lawful in
     omega (arith, ap length c.deref.ensures.value, ap length c.in_ok-numbers.ensures, turns.few)
 
 pub places_of-requires-clause-below : goal.places_of-requires-clause-below
 places_of-requires-clause-below c =
-    let turns = turn_numbers c.args.config.now c.clusters-clusters.ensures.lawful in
-    rw (c.deref.ensures.value, c.in_ok-numbers.ensures, c.clusters-clusters.ensures.value) turns.below
-
-pub places_of-requires-clause-once : goal.places_of-requires-clause-once
-places_of-requires-clause-once c =
-    let turns = turn_numbers c.args.config.now c.clusters-clusters.ensures.lawful in
-    subst AreOnce (sym (c.deref.ensures.value ∙ c.in_ok-numbers.ensures)) turns.once
+    let turns = turn_numbers c.args.config.now c.clusters-words.ensures.lawful in
+    rw (c.deref.ensures.value, c.in_ok-numbers.ensures, c.clusters-words.ensures.value) turns.below
 
 pub invariant_of-result : goal.invariant_of-result
 invariant_of-result c =
+    let t = c.args.config.now in
     let numbers = c.in_ok-numbers.numbers in
-    rw (c.in_ok-outstanding.ensures, c.in_ok-left.ensures, c.in_ok-asking.ensures.items, c.clusters-clusters.ensures.value) (
-    askers-new c.args.config.now numbers.items c.in_ok-places.places.items _ _ c.clusters-clusters.ensures.lawful
-    c.in_ok-numbers.ensures (c.in_ok-places.ensures.one_each ∙ c.clusters-clusters.ensures.value)
-    (λ place n at. c.in_ok-places.ensures.found place n (ap (λ ns. slice_get ns place) c.deref.ensures.value ∙ at))
+    let words = c.clusters-words.ensures.value in
+    rw (c.of.ensures, c.in_ok-outstanding.ensures, c.in_ok-left.ensures, c.in_ok-asking.ensures.items, words) (
+    askers-new t numbers.items c.in_ok-places.places.items _ _ c.clusters-words.ensures.lawful
+    c.in_ok-numbers.ensures (c.in_ok-places.ensures.one_each ∙ words)
+    (λ n below. subst (λ ns. IsPlaceOf ns n (slice_index_or c.in_ok-places.places.items n None)) c.deref.ensures.value
+    (c.in_ok-places.ensures.found n (omega (arith, below, words))))
     (omega (arith, numbers.ok.0, c.len.ensures, c.in_ok-asking.ensures.capacity))
     (omega (arith, numbers.ok.0, c.len-2.ensures, c.in_ok-pending.ensures.capacity))
     )

@@ -1,7 +1,8 @@
 use Rattle.std.proofs.Common.{◌≡◌, length, ap, ap₂, sym, refl, ◌∙◌, subst, filter, vec_capacity, arith}
 use Rattle.std.specs.Vec.{with_items}
 use Rattle.std.specs.Prelude.{slice_index}
-use Rattle.us_split.specs.Asking.{asks, settled, pending_places, is_pending}
+use Rattle.us_flows.specs.Clusters.{turns_of}
+use Rattle.us_split.specs.Asking.{asks, settled, pending_places, is_pending, numbers_of}
 use Rattle.us_split.specs.Askers.{AreAskers}
 use Rattle.us_split.proofs.AskerLemmas.{places-few}
 use Rattle.us_split.proofs.AskerStepLemmas.{askers-settled, copied, listed-below, same_asking, pending-is}
@@ -54,9 +55,9 @@ invariant_of-self c =
     let a = c.self.inside in
     let kept = c.drop_answered.ensures.items ∙ ap₂ (λ ns ls. filter (λ at. asks ls (slice_index ns at)) a.asking.items)
     c.deref-5.ensures.value c.deref-6.ensures.value in
-    subst (λ bytes. AreAskers a.numbers.items a.places.items bytes a.left.items c.drop_answered.new.list.items
+    subst (λ bytes. AreAskers a.tables.value a.numbers.items a.places.items bytes a.left.items c.drop_answered.new.list.items
     (vec_capacity c.drop_answered.new.list) (vec_capacity c.note_pending.new.pending)) (sym (brought c)) (
-    askers-settled a.numbers.items a.places.items a.outstanding.items a.left.items a.asking.items
+    askers-settled a.tables.value a.numbers.items a.places.items a.outstanding.items a.left.items a.asking.items
     c.drop_answered.new.list.items _ _ _ _ c.self.invariant kept
     (omega (arith, c.drop_answered.ensures.capacity)) (omega (arith, c.note_pending.ensures.capacity))
     )
@@ -68,11 +69,13 @@ returns c =
     ap (filter (λ at. is_pending c.deref-3.result.now c.deref-4.result.now (slice_index c.deref-2.result.now at))) c.deref.ensures.value ∙
     ap (λ ns. filter (λ at. is_pending c.deref-3.result.now c.deref-4.result.now (slice_index ns at)) a.asking.items) c.deref-2.ensures.value ∙
     ap₂ (λ os ls. filter (λ at. is_pending os ls (slice_index a.numbers.items at)) a.asking.items) c.deref-3.ensures.value c.deref-4.ensures.value ∙
-    pending-is a.numbers.items a.outstanding.items a.left.items a.asking.items c.self.invariant.bytes c.self.invariant.listed in
+    pending-is a.numbers.items a.outstanding.items a.left.items a.asking.items c.self.invariant.bytes c.self.invariant.listed ∙
+    ap (pending_places a.outstanding.items a.left.items) c.self.invariant.of_turns in
     same_asking (record {
-      numbers = a.numbers.items;
+      tables = a.tables.value;
       outstanding = (with_items a.outstanding c.copy_from_slice.new.self).items;
       left = a.left.items;
       pending = c.note_pending.new.pending.items;
-    }) a.numbers.items a.left.items a.left.items (pending_places a.outstanding.items a.left.items a.numbers.items) refl (brought c)
-    refl noted ∙ ap settled c.self.view_is
+    }) a.tables.value a.left.items a.left.items
+    (pending_places a.outstanding.items a.left.items (numbers_of (turns_of a.tables.value))) refl (brought c) refl noted ∙
+    ap settled c.self.view_is

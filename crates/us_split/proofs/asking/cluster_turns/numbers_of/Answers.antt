@@ -1,9 +1,10 @@
 use Rattle.std.proofs.Common.{◌<◌, ap, ◌∙◌, length, map, arith}
 use Rattle.std.proofs.lemmas.List.{take_all}
 use Rattle.std.proofs.lemmas.List.Elements.{All-from_recursion}
-use Rattle.us_flows.specs.Clusters.{clusters_of, turns_of}
+use Rattle.us_flows.specs.Clusters.{turns_of, words_of}
 use Rattle.us_flows.specs.declared.turns.Turn as places
-use Rattle.us_split.proofs.TurnAtLemmas.{few_clusters, numbers_are}
+use Rattle.us_flows.proofs.WordLemmas.{few_words-tables}
+use Rattle.us_split.proofs.TurnAtLemmas.{numbers_are}
 use Rattle.us_split.proofs.asking.cluster_turns.numbers_of.Goals as goal
 
 abbrev blank : places.Turn
@@ -13,9 +14,9 @@ pub overflow_cast-turn : goal.overflow_cast-turn
 overflow_cast-turn c =
     let t = c.args.config.now in
     let lawful = c.turns-turns.ensures.lawful in
-    let below = All-from_recursion (λ turn. turn.cluster < length (clusters_of t)) c.turns-turns.result.now
+    let below = All-from_recursion (λ turn. turn.cluster < length (words_of t)) c.turns-turns.result.now
     c.turns-turns.ensures.numbers c.loop-turn.turn-index blank c.loop-turn-test.true in
-    omega (arith, below, few_clusters t t.flows lawful.flows, lawful.few_flows)
+    omega (arith, below, few_words-tables t lawful)
 
 pub returns : goal.returns
 returns c =

@@ -9,7 +9,7 @@ use Rattle.us_split.specs.TurnRows.{IsPlanning, first_pass, last_pass, partial_o
 use Rattle.us_split.proofs.ClaimLemmas.{plan_for-claims}
 use Rattle.us_split.proofs.RowTwoPassLemmas.{claims_of_round, reserves_of_round}
 use Rattle.us_split.proofs.TwoPassLaws.{plan_for-lawful, reserved-within}
-use Rattle.us_split.proofs.RowPlanLemmas.{askers_ready, clusters_ready, idle_within, own_length, planning_after, rows_ready, told}
+use Rattle.us_split.proofs.RowPlanLemmas.{askers_ready, words_ready, idle_within, own_length, planning_after, rows_ready, told}
 use Rattle.us_split.proofs.planner.Planner.plan.Goals as goal
 
 abbrev tables_in : Planner → Tables
@@ -43,7 +43,7 @@ plan_passes-requires-clause-clusters c =
     let is : IsPlanning t c.self.inside.rows.items c.self.inside.channels.items =
     told c.self.inside.tables.value t c.self.inside.rows.items c.self.inside.channels.items
     (ap tables_in c.self.view_is) c.self.invariant in
-    clusters_ready t c.deref.result.now (length c.args.outstanding.now) (c.deref.ensures.value ∙ is.turns) c.requires.clusters
+    words_ready t c.deref.result.now (length c.args.outstanding.now) (c.deref.ensures.value ∙ is.turns) c.requires.words
 
 pub plan_passes-requires-clause-askers : goal.plan_passes-requires-clause-askers
 plan_passes-requires-clause-askers c =

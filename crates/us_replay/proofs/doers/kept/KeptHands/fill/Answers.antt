@@ -5,7 +5,7 @@ use Rattle.us_replay.proofs.LadenLemmas.{passed}
 use Rattle.us_replay.proofs.doers.kept.KeptHands.fill.Goals as goal
 
 pub map_kept-requires : goal.map_kept-requires
-map_kept-requires g c = rw c.requires.known (λ place item is entered. c.requires.ready place item is tt)
+map_kept-requires g c = rw c.requires.known (λ place item is entered. c.requires.ready place item is entered)
 
 pub returns-clause-value : goal.returns-clause-value
 returns-clause-value g c =

@@ -1,0 +1,28 @@
+-- What was done stays done where standard output keeps what it took.
+use Rattle.std.proofs.Common.{ℕ, List, Option, None, Some, string_bytes}
+use Rattle.std.specs.Io.KnownBytes.{Keeps}
+use Rattle.us_slots.proofs.DeviceLemmas.{appends_keep}
+use Rattle.mapsim.specs.declared.orders.Order.{Order}
+use Rattle.mapsim.specs.declared.orders.Order.TheVariants as order
+use Rattle.mapsim.specs.declared.statuses.Status.{Status}
+use Rattle.mapsim.specs.Orders.{Does}
+use Rattle.mapsim.specs.Printouts.{Prints}
+
+prints_kept : (rounds : ℕ) (told before between after : Option (List ℕ)) → Prints rounds told before between →
+    Keeps between after → Prints rounds told before after
+prints_kept rounds None before between after printed kept = tt
+prints_kept rounds (Some text) before between after (printout, is, took) kept =
+    (printout, is, appends_keep before between after printout took kept)
+
+pub does_kept : (o : Order) (told before between after : Option (List ℕ)) (ends : Status) →
+    Does o told before between ends → Keeps between after → Does o told before after ends
+does_kept (order.Replay files) told before between after ends (done, line, is, took) kept =
+    (done, line, is, appends_keep before between after line took kept)
+does_kept (order.Check files) told before between after ends (line, is, took) kept =
+    (line, is, appends_keep before between after line took kept)
+does_kept (order.Dump path) told before between after ends (done, file, dump, is, took) kept =
+    (done, file, dump, is, appends_keep before between after dump took kept)
+does_kept (order.Pipe rounds workers) told before between after ends (done, printed) kept =
+    (done, prints_kept rounds told before between after printed kept)
+does_kept (order.Help text) told before between after ends (done, took) kept =
+    (done, appends_keep before between after (string_bytes text) took kept)

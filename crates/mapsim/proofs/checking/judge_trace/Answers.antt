@@ -1,0 +1,7 @@
+use Rattle.mapsim.proofs.VerdictLemmas.{judged_of_trace}
+use Rattle.mapsim.proofs.checking.judge_trace.Goals as goal
+
+pub returns-clause-verdict : goal.returns-clause-verdict
+returns-clause-verdict g c =
+    judged_of_trace c.args.config.now c.args.order.now.rounds c.in_ok-trace.trace _ _ c.judge_maps.result
+    c.requires.fits c.in_ok-trace.ensures.read c.judge_maps.ensures.verdict

@@ -1,0 +1,104 @@
+ghost use Rattle.std.specs.Prelude.{⊤};
+
+use super::base::{BONDED_MAPS, BONDED_REPORT, BONDED_TRACE, bonded, same};
+use super::devices::{reader, writer};
+use super::replays::outcome;
+use std::alloc::Global;
+use std::process::Abort;
+use std::sync::atomic::{AtomicU64, Ordering};
+use std::thread::Threads;
+use us_crew::{Gate, Phase};
+
+/// How often the gate is entered for each item of collecting, of filling and of building: each has a hexadecimal digit,
+/// the first one the last.
+type Entries = (u64, u64, u64);
+
+/// A gate that holds nobody and counts.
+#[derive(Drop)]
+struct Counting {
+    collect: AtomicU64,
+    fill: AtomicU64,
+    build: AtomicU64,
+}
+
+impl Counting {
+    fn new() -> Counting {
+        Counting {
+            collect: AtomicU64::new(0),
+            fill: AtomicU64::new(0),
+            build: AtomicU64::new(0),
+        }
+    }
+
+    fn seen(&self) -> Entries {
+        (
+            self.collect.load(Ordering::SeqCst),
+            self.fill.load(Ordering::SeqCst),
+            self.build.load(Ordering::SeqCst),
+        )
+    }
+}
+
+impl Gate for Counting {
+    ghost entered = { λ _ _ _. ⊤ };
+
+    fn enter(&self, phase: Phase, index: usize) {
+        let count = match phase {
+            Phase::Collect => &self.collect,
+            Phase::Fill => &self.fill,
+            Phase::Build => &self.build,
+        };
+        count.fetch_add(1 << (4 * index.min(15)), Ordering::SeqCst);
+    }
+}
+
+/// A request, and five of the same clusters and bytes as the two of the bonded run.
+const ONE: &[u8] = b"tick,channel,sid,units\n0,1,257,2000\n";
+
+const FIVE: &[u8] = b"tick,channel,sid,units
+0,1,257,1000
+0,2,258,600
+0,1,257,400
+0,2,274,300
+0,1,273,200
+";
+
+/// Traces of the bonded run, all of whose requests are of one round, numbers of workers, and the entries of 2 rounds over 2
+/// channels. There are as many chunks as workers, or requests if these are fewer.
+static ENTRIES: [(&[u8], usize, Entries); 8] = [
+    (ONE, 1, (0x1, 0x22, 0x22)),
+    (ONE, 2, (0x1, 0x22, 0x22)),
+    (ONE, 16, (0x1, 0x22, 0x22)),
+    (BONDED_TRACE, 1, (0x1, 0x22, 0x22)),
+    (BONDED_TRACE, 16, (0x11, 0x22, 0x22)),
+    (FIVE, 1, (0x1, 0x22, 0x22)),
+    (FIVE, 2, (0x11, 0x22, 0x22)),
+    (FIVE, 16, (0x11111, 0x22, 0x22)),
+];
+
+/// How the gate is entered in a replay of a trace over 2 rounds of the bonded run.
+fn entries(
+    threads: &(impl Threads + Sync),
+    alloc: Global,
+    trace: &[u8],
+    workers: usize,
+) -> Entries {
+    let gate = Counting::new();
+    if let Ok(config) = bonded(alloc) {
+        let (maps, report) = (writer(BONDED_MAPS, 100), writer(BONDED_REPORT, 100));
+        let trace = reader(trace, false);
+        let _ = outcome(
+            threads, alloc, &config, 2, workers, &gate, trace, maps, report,
+        );
+    }
+    gate.seen()
+}
+
+/// Each item is entered for once, whoever does it.
+#[test]
+fn entered_once_for_each_item(rt: HostRuntime) {
+    for &(trace, workers, wanted) in &ENTRIES {
+        let found = entries(&rt, rt.alloc(), trace, workers);
+        same(&rt, &(workers, found), &(workers, wanted), "entries");
+    }
+}

@@ -1,0 +1,128 @@
+"""A library that is loaded before the C library, and refuses a program what it asks for: an allocation, or reads or writes
+of one of its files and streams. It is compiled by `cc`, and told what to refuse by variables of the environment:
+
+  REFUSED   the number of the allocation that is refused, from 1 on
+  COUNTED   a file of 8 bytes, in which allocations are counted as they come: not every program ends in a way that runs a
+            destructor
+  DEVICE    input, output, error or the name of a file, without its folder: each read and each write of it moves one byte
+  ROOM      bytes that the device moves. A read or write behind them is refused: by a fault, or by 0 bytes where TAKES_NONE
+            is set too
+"""
+import shutil
+import subprocess
+
+SOURCE = r"""
+#define _GNU_SOURCE
+#include <dlfcn.h>
+#include <errno.h>
+#include <fcntl.h>
+#include <stdio.h>
+#include <stdlib.h>
+#include <string.h>
+#include <sys/mman.h>
+#include <unistd.h>
+
+static void *(*real_malloc)(size_t);
+static void *(*real_realloc)(void *, size_t);
+static int (*real_posix_memalign)(void **, size_t, size_t);
+static void *(*real_aligned_alloc)(size_t, size_t);
+static ssize_t (*real_read)(int, void *, size_t);
+static ssize_t (*real_write)(int, const void *, size_t);
+static long here, *so_far = &here, refused = -1, room = -1, moved;
+static const char *device;
+static int counts, takes_none;
+
+static void find(void) {
+    real_malloc = dlsym(RTLD_NEXT, "malloc");
+    real_realloc = dlsym(RTLD_NEXT, "realloc");
+    real_posix_memalign = dlsym(RTLD_NEXT, "posix_memalign");
+    real_aligned_alloc = dlsym(RTLD_NEXT, "aligned_alloc");
+    real_read = dlsym(RTLD_NEXT, "read");
+    real_write = dlsym(RTLD_NEXT, "write");
+}
+
+__attribute__((constructor)) static void begin(void) {
+    const char *at = getenv("REFUSED"), *name = getenv("COUNTED"), *bytes = getenv("ROOM");
+    find();
+    device = getenv("DEVICE");
+    takes_none = getenv("TAKES_NONE") != 0;
+    if (at) refused = atol(at);
+    if (bytes) room = atol(bytes);
+    if (name) {
+        void *counter = mmap(0, sizeof(long), PROT_READ | PROT_WRITE, MAP_SHARED, open(name, O_RDWR), 0);
+        if (counter != MAP_FAILED) so_far = counter;
+    }
+    counts = 1;
+}
+
+static int is_refused(void) {
+    if (!real_malloc) find();
+    return counts && __atomic_add_fetch(so_far, 1, __ATOMIC_SEQ_CST) == refused;
+}
+
+void *malloc(size_t size) {
+    if (is_refused()) { errno = ENOMEM; return 0; }
+    return real_malloc(size);
+}
+
+void *realloc(void *old, size_t size) {
+    if (is_refused()) { errno = ENOMEM; return 0; }
+    return real_realloc(old, size);
+}
+
+int posix_memalign(void **found, size_t align, size_t size) {
+    return is_refused() ? ENOMEM : real_posix_memalign(found, align, size);
+}
+
+void *aligned_alloc(size_t align, size_t size) {
+    if (is_refused()) { errno = ENOMEM; return 0; }
+    return real_aligned_alloc(align, size);
+}
+
+static int is_device(int fd) {
+    static const char *const streams[] = {"input", "output", "error"};
+    char link[40], path[4096];
+    if (!device || fd < 0) return 0;
+    if (fd < 3) return !strcmp(device, streams[fd]);
+    snprintf(link, sizeof link, "/proc/self/fd/%d", fd);
+    ssize_t length = readlink(link, path, sizeof path - 1);
+    path[length < 0 ? 0 : length] = 0;
+    const char *name = strrchr(path, '/');
+    return name && !strcmp(device, name + 1);
+}
+
+/* Only one thread of a program reads or writes. */
+static ssize_t counted(ssize_t bytes) {
+    if (bytes > 0) moved += bytes;
+    return bytes;
+}
+
+ssize_t read(int fd, void *to, size_t count) {
+    if (!count || !is_device(fd)) return real_read(fd, to, count);
+    if (moved == room) { errno = EIO; return -1; }
+    return counted(real_read(fd, to, 1));
+}
+
+ssize_t write(int fd, const void *from, size_t count) {
+    if (!count || !is_device(fd)) return real_write(fd, from, count);
+    if (moved == room) { errno = ENOSPC; return takes_none ? 0 : -1; }
+    return counted(real_write(fd, from, 1));
+}
+
+ssize_t __write(int fd, const void *from, size_t count) {
+    return write(fd, from, count);
+}
+"""
+
+
+def compiler():
+    """The path of `cc`, None where it isn't there."""
+    return shutil.which("cc")
+
+
+def library(folder):
+    """The path of the library, which is compiled into this folder."""
+    path = f"{folder}/refusing.so"
+    words = [compiler(), "-shared", "-fPIC", "-O1", "-x", "c", "-o", path, "-", "-ldl"]
+    subprocess.run(words, input=SOURCE.encode(), check=True)
+    return path
