@@ -26,7 +26,7 @@ TOKEN = re.compile(
 )
 BETWEEN = {"comment", "blank", "end"}
 # what a text has to have of them to be one of 1.1 alone
-NEWER = re.compile(r"\\[ex]|\{[^}]*\n|,[ \t]*\}|[0-9]:[0-9]|0000-")
+NEWER = re.compile(r"\\[ex]|\{|[0-9]:[0-9]|0000-")
 ESCAPE = re.compile(r"\\(?:(e)|x([0-9A-Fa-f]{2})|.)", re.DOTALL)
 NO_SECONDS = re.compile(r"(?<![0-9:+-])([0-9]{2}:[0-9]{2})(?![0-9:.])")
 LEAP_SECOND = re.compile(r"(?<![0-9:+-])([0-9]{2}:[0-9]{2}):60(?![0-9:])")
