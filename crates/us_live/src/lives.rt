@@ -44,6 +44,10 @@ impl Live {
     /// most `quota` bytes in all; with the intake's first seat, which has them all and takes. LV1: the rounds don't fit
     /// into a run; LV2: there is no word, since no flow makes requests or tells its activity; LV3: the quota is 0, or
     /// 2^62 or more; LV7: want of memory. The first of these is answered, and the configuration is given up then.
+    ///
+    /// A flow that tells its activity is marked as silent by a byte, or more, that is submitted to its first word
+    /// (`Found::Activity` of `us_flows`), and as active by one to the next word. A mark counts against the quota, and asks
+    /// for nothing.
     pub fn open(
         alloc: Global,
         config: Config,
