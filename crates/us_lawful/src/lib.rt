@@ -1,7 +1,7 @@
 //! Lawful output: the rules by which the MAPs and the lines of a run are judged, whoever made them.
 //!
 //! A rule says at a place what has to hold there. No rule knows of plans, or of how places are chosen. What the rules are
-//! stands in `specs/`, in the order of its `Lib.antt`; no call judges by them yet. `report_rows` reads a report back.
+//! stands in `specs/`, in the order of its `Lib.antt`; `us_check` judges by them. `report_rows` reads a report back.
 //!
 //! ```
 //! let rows = report_rows(alloc, b"U,0,0,0\n")?; // one row: all requests of the trace were asks
