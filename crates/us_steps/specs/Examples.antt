@@ -45,6 +45,24 @@ next_cut :
 unfolding cuts_of words_after cut_of left_of
 next_cut = (refl, refl)
 
+-- The two words of a call: word 0 for its marks as silent, word 1 for those as active.
+abbrev marks : List Ask
+marks = record { cluster = 0; bytes = 1 } ∷ record { cluster = 1; bytes = 1 } ∷ []
+
+abbrev both_marked : List Step
+both_marked = step.Add 1 0 ∷ step.Add 0 0 ∷ step.Take 0 0 ∷ step.Take 1 0 ∷ step.Open 0 ∷ step.Built 0 ∷ []
+
+-- the same, but the mark as active comes behind the Take of its word
+abbrev active_late : List Step
+active_late = step.Add 0 0 ∷ step.Take 1 0 ∷ step.Add 1 0 ∷ step.Take 0 0 ∷ step.Open 0 ∷ step.Built 0 ∷ []
+
+-- both marks are cut; or the late one is left in its word
+two_words :
+    (cut_of (0 ∷ 0 ∷ []) marks both_marked ≡ 1 ∷ 1 ∷ []) × (left_of (0 ∷ 0 ∷ []) marks both_marked ≡ 0 ∷ 0 ∷ []) ×
+    (cut_of (0 ∷ 0 ∷ []) marks active_late ≡ 1 ∷ 0 ∷ []) × (left_of (0 ∷ 0 ∷ []) marks active_late ≡ 0 ∷ 1 ∷ [])
+unfolding cut_of left_of
+two_words = (refl, refl, refl, refl)
+
 -- a list in which a channel isn't built isn't complete,
 abbrev not_built : List Step
 not_built = step.Add 1 4 ∷ step.Add 0 3 ∷ step.Take 0 3 ∷ step.Open 0 ∷ []

@@ -1,3 +1,4 @@
 //! What no clause says: worked lists of steps, and each allocation refused in turn.
 
+mod marks;
 mod steps;

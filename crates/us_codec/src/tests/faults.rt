@@ -4,13 +4,13 @@ use crate::{Head, MapFault, decode};
 use std::alloc::{AllocError, Global};
 
 /// The fault of a body in words, `None` where it is read.
-fn fault_of(alloc: Global, words: &[u32]) -> Result<Option<MapFault>, AllocError> {
+pub(super) fn fault_of(alloc: Global, words: &[u32]) -> Result<Option<MapFault>, AllocError> {
     let bytes = bytes_of(alloc, words)?;
     Ok(decode(alloc, &bytes).err())
 }
 
 /// Bodies in words, each with its first fault, if it has one.
-static BODIES: [(Option<MapFault>, &[u32]); 17] = [
+pub(super) static BODIES: [(Option<MapFault>, &[u32]); 17] = [
     // the Null alone, of a MAP without minislots
     (None, &[0x0100_0100, 0, 0, 0, 0x0001_c000]),
     // a pending behind it

@@ -1,7 +1,9 @@
 use super::base::{count_of, same};
+use super::faults::{BODIES, fault_of};
 use super::files::{TWO_RECORDS, count_of_records};
 use super::limits::count_built;
 use crate::{MapFault, decode};
+use std::alloc::Global;
 
 /// Whether this count is answered, or want of memory.
 fn is_count_or_refused(answer: Result<usize, MapFault>, count: usize) -> bool {
@@ -25,4 +27,31 @@ fn refused_memory(rt: HostRuntime) {
         is_count_or_refused(found, 1),
     ];
     same(&rt, &answers, &[true; 3], "read, built, found");
+}
+
+/// Whether a body in words is answered by this fault, or by none where it is read; or memory was wanting, for it or for its
+/// bytes.
+fn is_fault_or_refused(alloc: Global, words: &[u32], fault: Option<MapFault>) -> bool {
+    match fault_of(alloc, words) {
+        Ok(found) => found == fault || found == Some(MapFault::NoMemory),
+        Err(_) => true,
+    }
+}
+
+/// The same with faulty bodies, and a maps file that is cut: none is answered by another fault than with ample memory, but
+/// for want of memory. One that ends in the first six bytes of a record is cut whatever memory there is.
+#[test]
+fn refused_memory_of_faults(rt: HostRuntime) {
+    let alloc = rt.alloc();
+    for (fault, words) in &BODIES {
+        let found = is_fault_or_refused(alloc, words, *fault);
+        same(&rt, &(words, found), &(words, true), "bodies");
+    }
+    let cut = match count_of_records(alloc, &TWO_RECORDS[..71]) {
+        Ok(_) => false,
+        Err(fault) => fault == MapFault::RecordCut || fault == MapFault::NoMemory,
+    };
+    same(&rt, &cut, &true, "a cut record");
+    let early = count_of_records(alloc, &TWO_RECORDS[..5]);
+    same(&rt, &early, &Err(MapFault::RecordCut), "a cut head");
 }

@@ -8,6 +8,7 @@ use std::alloc::Global;
 use std::thread::Threads;
 use us_crew::OpenGate;
 use us_intake::{Intake, IntakeFault, Seat};
+use us_round::RoundOut;
 
 /// A seat that is split off submits 1,000 bytes and is joined. Where memory is wanting for it, the seat comes back, and
 /// submits them itself.
@@ -29,8 +30,22 @@ fn submit(alloc: Global, live: &Live, intake: &Intake, seat: Seat) -> Option<Sea
     }
 }
 
-/// Asks for a round by no worker, and then makes rounds until a fault comes. Whether the log has those that were
-/// answered, and the fault is the end of both rounds, or want of memory and then LV4.
+/// Where the elements of the rounds start. The first grants the 1,000 bytes.
+static OFFSETS: [&[u16]; 2] = [&[0, 32, 150, 160], &[0, 150, 160]];
+
+/// Whether an answer is the round behind so many others.
+fn is_round(out: &RoundOut, made: usize) -> bool {
+    match (out.maps(), OFFSETS.get(made)) {
+        ([map], Some(offsets)) => {
+            let found = map.elements().iter().map(|element| element.offset());
+            out.round() as usize == made && found.eq(offsets.iter().copied())
+        }
+        _ => false,
+    }
+}
+
+/// Asks for a round by no worker, and then makes rounds until a fault comes. Whether each is the round that it has to be,
+/// the log has those that were answered, and the fault is the end of both rounds, or want of memory and then LV4.
 fn all_rounds<H: Threads + Sync>(
     threads: &H,
     alloc: Global,
@@ -47,7 +62,8 @@ fn all_rounds<H: Threads + Sync>(
     }
     for made in 0..3_usize {
         match live.next_round(threads, alloc, intake, seat, 1, &OpenGate) {
-            Ok(_) => (),
+            Ok(out) if is_round(&out, made) => (),
+            Ok(_) => return false,
             Err(LiveFault::Done) => return made == 2 && live.cut_log().len() == 2,
             Err(fault) => {
                 let again = live.next_round(threads, alloc, intake, seat, 1, &OpenGate);

@@ -30,7 +30,7 @@ static LATE_STEPS: [Step; 5] = [ADD_700, TAKE, OPEN, ADD_500, BUILT];
 const LATE: &str = "round 0, elements at 0 23 150 160; left [500]";
 
 /// The one comparison of these tests.
-fn same(rt: &impl Abort, name: &str, found: &str, wanted: &str) {
+pub(super) fn same(rt: &impl Abort, name: &str, found: &str, wanted: &str) {
     assert_eq!(rt; found, wanted, "{name}");
 }
 
@@ -85,7 +85,11 @@ fn tell_first(
 }
 
 /// Where the elements of the round's MAPs start, and what is left in the words.
-fn tell_play(answer: &mut String, words: &[u64], out: &RoundOut) -> Result<(), NoMemory> {
+pub(super) fn tell_play(
+    answer: &mut String,
+    words: &[u64],
+    out: &RoundOut,
+) -> Result<(), NoMemory> {
     write!(answer, "round {}, elements at", out.round())?;
     for map in out.maps() {
         for element in map.elements() {
