@@ -1,4 +1,4 @@
-ghost use Rattle.std.specs.Prelude.{◌≡◌, ◌↔◌, ◌⊎◌, ℕ, ◌<◌, ◌≤◌, true, false, length, option_map, Err, IfOk, OnOk, IfErr};
+ghost use Rattle.std.specs.Prelude.{◌≡◌, ◌↔◌, ◌⊎◌, ℕ, ◌<◌, ◌≤◌, true, false, length, option_map, Err, IfOk, OnOk, IfErr, is_ok};
 ghost use Rattle.std.specs.List.{AllByRecursion};
 ghost use Rattle.us_flows.specs.Tables;
 ghost use Rattle.us_flows.specs.Clusters.{words_of};
@@ -71,6 +71,11 @@ pub fn replay<H: Threads + Sync, R: Source, W1: Sink, W2: Sink, G: Gate + Sync>(
     ensures maps_failed { W1.failed maps.new ≡ blames_maps result }
     ensures report_failed { W2.failed report.new ≡ blames_report result }
     ensures flushed { OnOk result ((W1.flushed maps.new ≡ true) × (W2.flushed report.new ≡ true)) }
+    ensures maps_unflushed { W1.failed maps.new ≡ true → W1.flushed maps.new ≡ false }
+    ensures report_unflushed { W2.failed report.new ≡ true → W2.flushed report.new ≡ false }
+    ensures maps_flushed { W1.flushed maps.old ≡ false → blames_report result ≡ false →
+        W1.flushed maps.new ≡ is_ok result }
+    ensures report_flushed { W2.flushed report.old ≡ false → W2.flushed report.new ≡ is_ok result }
 {
     check_run(config, rounds, workers)?;
     let trace = Trace::read(alloc, trace, config, rounds)?;
@@ -116,6 +121,11 @@ fn run<H: Threads + Sync, W1: Sink, W2: Sink, G: Gate + Sync>(
     ensures maps_failed { W1.failed maps.new ≡ blames_maps result }
     ensures report_failed { W2.failed report.new ≡ blames_report result }
     ensures flushed { OnOk result ((W1.flushed maps.new ≡ true) × (W2.flushed report.new ≡ true)) }
+    ensures maps_unflushed { W1.failed maps.new ≡ true → W1.flushed maps.new ≡ false }
+    ensures report_unflushed { W2.failed report.new ≡ true → W2.flushed report.new ≡ false }
+    ensures maps_flushed { W1.flushed maps.old ≡ false → blames_report result ≡ false →
+        W1.flushed maps.new ≡ is_ok result }
+    ensures report_flushed { W2.flushed report.old ≡ false → W2.flushed report.new ≡ is_ok result }
 {
     let Ok((intake, seat)) = open_intake(alloc, config.clusters()) else {
         return Err(RunFault::NoMemory(0));
@@ -149,6 +159,11 @@ fn run_with<'a, H: Threads + Sync, W1: Sink, W2: Sink, G: Gate + Sync>(
     ensures maps_failed { W1.failed maps.new ≡ blames_maps result }
     ensures report_failed { W2.failed report.new ≡ blames_report result }
     ensures flushed { OnOk result ((W1.flushed maps.new ≡ true) × (W2.flushed report.new ≡ true)) }
+    ensures maps_unflushed { W1.failed maps.new ≡ true → W1.flushed maps.new ≡ false }
+    ensures report_unflushed { W2.failed report.new ≡ true → W2.flushed report.new ≡ false }
+    ensures maps_flushed { W1.flushed maps.old ≡ false → blames_report result ≡ false →
+        W1.flushed maps.new ≡ is_ok result }
+    ensures report_flushed { W2.flushed report.old ≡ false → W2.flushed report.new ≡ is_ok result }
 {
     let Ok(mut progress) = Progress::opening(alloc, config.clusters(), intake, seat) else {
         return Err(RunFault::NoMemory(0));
@@ -192,6 +207,11 @@ fn run_kept<'a, H: Threads + Sync, W1: Sink, W2: Sink, G: Gate + Sync>(
     ensures maps_failed { W1.failed maps.new ≡ blames_maps result }
     ensures report_failed { W2.failed report.new ≡ blames_report result }
     ensures flushed { OnOk result ((W1.flushed maps.new ≡ true) × (W2.flushed report.new ≡ true)) }
+    ensures maps_unflushed { W1.failed maps.new ≡ true → W1.flushed maps.new ≡ false }
+    ensures report_unflushed { W2.failed report.new ≡ true → W2.flushed report.new ≡ false }
+    ensures maps_flushed { W1.flushed maps.old ≡ false → blames_report result ≡ false →
+        W1.flushed maps.new ≡ is_ok result }
+    ensures report_flushed { W2.flushed report.old ≡ false → W2.flushed report.new ≡ is_ok result }
 {
     let Ok((kept, posts)) = open_crew(alloc, config, gate, workers) else {
         return Err(RunFault::NoMemory(0));
@@ -231,6 +251,11 @@ fn run_by<'a, D: Doers<'a>, W1: Sink, W2: Sink>(
     ensures maps_failed { W1.failed maps.new ≡ blames_maps result }
     ensures report_failed { W2.failed report.new ≡ blames_report result }
     ensures flushed { OnOk result ((W1.flushed maps.new ≡ true) × (W2.flushed report.new ≡ true)) }
+    ensures maps_unflushed { W1.failed maps.new ≡ true → W1.flushed maps.new ≡ false }
+    ensures report_unflushed { W2.failed report.new ≡ true → W2.flushed report.new ≡ false }
+    ensures maps_flushed { W1.flushed maps.old ≡ false → blames_report result ≡ false →
+        W1.flushed maps.new ≡ is_ok result }
+    ensures report_flushed { W2.flushed report.old ≡ false → W2.flushed report.new ≡ is_ok result }
 {
     let Ok(state) = opened(alloc, config) else {
         return Err(RunFault::NoMemory(0));
@@ -273,6 +298,11 @@ fn run_on<'a, D: Doers<'a>, W1: Sink, W2: Sink>(
     ensures maps_failed { W1.failed maps.new ≡ blames_maps result }
     ensures report_failed { W2.failed report.new ≡ blames_report result }
     ensures flushed { OnOk result ((W1.flushed maps.new ≡ true) × (W2.flushed report.new ≡ true)) }
+    ensures maps_unflushed { W1.failed maps.new ≡ true → W1.flushed maps.new ≡ false }
+    ensures report_unflushed { W2.failed report.new ≡ true → W2.flushed report.new ≡ false }
+    ensures maps_flushed { W1.flushed maps.old ≡ false → blames_report result ≡ false →
+        W1.flushed maps.new ≡ is_ok result }
+    ensures report_flushed { W2.flushed report.old ≡ false → W2.flushed report.new ≡ is_ok result }
 {
     let mut state = state;
     let rounds = trace.rounds();

@@ -7,6 +7,7 @@ mod entries;
 mod faults;
 mod gates;
 mod long;
+mod marks;
 mod memory;
 mod replays;
 mod workers;

@@ -22,7 +22,7 @@ pub(super) struct WithCrew<'a, 'm, 'r, D, W1, W2> {
 
 impl<'a, 'm, 'r, D: Doers<'a> + Drop, W1: Sink, W2: Sink> Meanwhile
     for WithCrew<'a, 'm, 'r, D, W1, W2> {
-    ghost use Rattle.std.specs.Prelude.{◌≡◌, true, false, length, OnOk};
+    ghost use Rattle.std.specs.Prelude.{◌≡◌, true, false, length, OnOk, is_ok};
     ghost use Rattle.us_flows.specs.Clusters.{words_of};
     ghost use Rattle.us_replay.specs.Endings.{blames_maps, blames_report};
     ghost use Rattle.us_replay.specs.Progress.{EndsAs, IsTraceFor, grown, opening_progress};
@@ -38,7 +38,11 @@ impl<'a, 'm, 'r, D: Doers<'a> + Drop, W1: Sink, W2: Sink> Meanwhile
         × EndsAs t.config.now t.trace.now (grown (W1.contents t.maps.now) (W1.contents r.1.now))
         (grown (W2.contents t.report.now) (W2.contents r.2.now)) r.0
         × (W1.failed r.1.now ≡ blames_maps r.0) × (W2.failed r.2.now ≡ blames_report r.0)
-        × OnOk r.0 ((W1.flushed r.1.now ≡ true) × (W2.flushed r.2.now ≡ true)) };
+        × OnOk r.0 ((W1.flushed r.1.now ≡ true) × (W2.flushed r.2.now ≡ true))
+        × (W1.failed r.1.now ≡ true → W1.flushed r.1.now ≡ false)
+        × (W2.failed r.2.now ≡ true → W2.flushed r.2.now ≡ false)
+        × (W1.flushed t.maps.now ≡ false → blames_report r.0 ≡ false → W1.flushed r.1.now ≡ is_ok r.0)
+        × (W2.flushed t.report.now ≡ false → W2.flushed r.2.now ≡ is_ok r.0) };
 
     /// The crew ends with the run, so that its workers leave.
     // The doers are a parameter, so that they can be given up here: what holds a gate that is a parameter can't be.

@@ -7,6 +7,7 @@ use std::alloc::Global;
 use std::process::Abort;
 use std::thread::Threads;
 use us_crew::OpenGate;
+use us_flows::ConfigFault;
 use us_requests::{Trace, TraceFault};
 use us_slots::FromRead;
 
@@ -30,19 +31,23 @@ fn refused(fault: RunFault, ends: usize) -> Option<Outcome> {
 /// Compares what the bonded run by so many workers comes to with the whole outcome, or where memory was refused with that
 /// of its fault.
 fn expect(rt: &(impl Abort + Threads + Sync), alloc: Global, workers: usize) {
-    // else memory was refused to the tables
-    if let Ok(config) = bonded(alloc) {
-        let trace = reader(BONDED_TRACE, false);
-        let (maps, report) = (writer(BONDED_MAPS, 100), writer(BONDED_REPORT, 100));
-        let found = outcome(
-            rt, alloc, &config, 2, workers, &OpenGate, trace, maps, report,
-        );
-        let wanted = match found.0 {
-            Ok(_) => Some(BONDED_OUTCOME),
-            Err(fault) => refused(fault, found.1.1),
-        };
-        same(rt, &Some(found), &wanted, "without memory");
-    }
+    let config = match bonded(alloc) {
+        Ok(config) => config,
+        Err(fault) => {
+            same(rt, &fault, &ConfigFault::NoMemory, "the tables");
+            return;
+        }
+    };
+    let trace = reader(BONDED_TRACE, false);
+    let (maps, report) = (writer(BONDED_MAPS, 100), writer(BONDED_REPORT, 100));
+    let found = outcome(
+        rt, alloc, &config, 2, workers, &OpenGate, trace, maps, report,
+    );
+    let wanted = match found.0 {
+        Ok(_) => Some(BONDED_OUTCOME),
+        Err(fault) => refused(fault, found.1.1),
+    };
+    same(rt, &Some(found), &wanted, "without memory");
 }
 
 /// Run by `tools/refuse-memory` too, where each allocation is refused in turn.

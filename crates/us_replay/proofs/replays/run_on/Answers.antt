@@ -74,6 +74,8 @@ loop-done-preserved g c =
       c.in_ok-send.ensures.maps_failed,
       c.in_ok-send.ensures.report_failed,
       c.make_round.ensures.same _ c.loop-done.invariant.5,
+      λ before. c.in_ok-send.ensures.maps_still_unflushed (c.loop-done.invariant.6 before),
+      λ before. c.in_ok-send.ensures.report_still_unflushed (c.loop-done.invariant.7 before),
     )
 
 pub returns-in_default-take_last-clause-ends : goal.returns-in_default-take_last-clause-ends

@@ -10,4 +10,6 @@ invariant-loop-done g l =
     TookRounds (output_in l.fn.state.tables l.trace) l.done
     (grown (g.W1.Sink.contents l.fn.maps) (g.W1.Sink.contents l.maps))
     (grown (g.W2.Sink.contents l.fn.report) (g.W2.Sink.contents l.report)) ×
-    (g.W1.Sink.failed l.maps ≡ false) × (g.W2.Sink.failed l.report ≡ false) × g.D.Hands.knows l.doers l.fn.state.tables
+    (g.W1.Sink.failed l.maps ≡ false) × (g.W2.Sink.failed l.report ≡ false) × g.D.Hands.knows l.doers l.fn.state.tables ×
+    (g.W1.Sink.flushed l.fn.maps ≡ false → g.W1.Sink.flushed l.maps ≡ false) ×
+    (g.W2.Sink.flushed l.fn.report ≡ false → g.W2.Sink.flushed l.report ≡ false)
