@@ -4,3 +4,4 @@ pub mod OrderLemmas
 pub mod PrintoutLemmas
 pub mod SummaryLemmas
 pub mod VerdictLemmas
+pub mod WholeLemmas

@@ -2,6 +2,8 @@
 use Rattle.std.specs.Prelude.{◌≡◌, ◌≢◌, ◌⊎◌, ℕ, List, ◌∷◌, ◌++◌, length, map, flat_map, Option, Err, ⊤}
 use Rattle.std.specs.List.{AllByRecursion}
 use Rattle.std.specs.Io.KnownBytes.{Appends}
+use Rattle.us_slots.specs.Devices.{AppendsFront}
+use Rattle.us_codec.specs.Bodies.{MapBody, SpellsMap}
 use Rattle.us_codec.specs.declared.faults.MapFault.{MapFault}
 use Rattle.us_codec.specs.declared.faults.MapFault.TheVariants as map_fault
 use Rattle.us_codec.specs.Faults.{decode_answer}
@@ -9,6 +11,7 @@ use Rattle.us_codec.specs.MapsFiles.{Piece, IsPiece, EndsInside, maps_file}
 use Rattle.us_lawful.specs.declared.judged.RoundMap.{RoundMap}
 use Rattle.us_lawful.specs.Lawful.{IsRoundMap}
 use Rattle.us_lawful.specs.Texts.{record_of}
+use Rattle.mapsim.specs.declared.faults.Stream.TheVariants as stream
 use Rattle.mapsim.specs.declared.faults.Fault.{Fault}
 use Rattle.mapsim.specs.declared.faults.Fault.TheVariants as fault
 use Rattle.mapsim.specs.MapLines.{lines_of}
@@ -24,6 +27,20 @@ pub record IsDump (file text : List ℕ) : Type 0 where
   pub spelled : file ≡ maps_file (map record_of maps)
   pub lines : text ≡ flat_map map_text maps
 
+-- a maps file is made of MAPs
+pub record HasDump (file : List ℕ) : Type 0 where
+  pub dump : List ℕ
+  pub dumped : IsDump file dump
+
+-- a maps file begins with the records of MAPs, and a text has the lines of these
+pub record BeginsDump (file text : List ℕ) : Type 0 where
+  pub maps : List RoundMap
+  pub lawful : AllByRecursion IsRoundMap maps
+  pub others : List Piece
+  pub each : AllByRecursion IsPiece others
+  pub spelled : file ≡ maps_file (map record_of maps ++ others)
+  pub lines : text ≡ flat_map map_text maps
+
 -- a maps file has a body with this fault, in the record with this index, and a text has the lines of the MAPs before it
 pub record IsDumpBefore (file : List ℕ) (index : ℕ) (f : MapFault) (text : List ℕ) : Type 0 where
   pub maps : List RoundMap
@@ -36,17 +53,22 @@ pub record IsDumpBefore (file : List ℕ) (index : ℕ) (f : MapFault) (text : L
   pub answer : decode_answer bad.body ≡ Err f
   pub lines : text ≡ flat_map map_text maps
 
--- What was printed where a fault ended it. Of want of memory, and of devices that fail, this says nothing.
+-- What was printed where a fault ended it. Of want of memory this says nothing, and no fault of a MAP is one.
 
--- of the body of one record: nothing
-abbrev pub EndsBody : List ℕ → ℕ → Option (List ℕ) → Option (List ℕ) → Fault → Type 0
-EndsBody body index before after (fault.Map f at) =
-    (at ≡ index) × (f ≢ map_fault.NoMemory → decode_answer body ≡ Err f) × (after ≡ before)
-EndsBody body index before after _ = ⊤
+-- of one record: nothing where its body has a fault, and fewer than all of its lines where standard output failed
+abbrev pub EndsRecord : Piece → ℕ → Option (List ℕ) → Option (List ℕ) → Fault → Type 0
+EndsRecord p index before after (fault.Map f at) =
+    (at ≡ index) × (f ≢ map_fault.NoMemory) × (decode_answer p.body ≡ Err f) × (after ≡ before)
+EndsRecord p index before after (fault.Device stream.Output) =
+    (body : MapBody) × SpellsMap p.body body × AppendsFront before after (lines_of p.round body.head.channel body.elements)
+EndsRecord p index before after _ = ⊤
 
--- of a file: nothing where it ends inside a record, and else the lines of the MAPs before the body with that fault
+-- of a file: nothing where it ends inside a record, and else the lines of the MAPs before the body with that fault; where
+-- standard output failed, fewer than all of the lines of the MAPs up to some
 abbrev pub EndsDump : List ℕ → Option (List ℕ) → Option (List ℕ) → Fault → Type 0
-EndsDump file before after (fault.Map f index) = f ≢ map_fault.NoMemory →
+EndsDump file before after (fault.Map f index) = (f ≢ map_fault.NoMemory) × (
     ((f ≡ map_fault.RecordCut) × EndsInside file × (after ≡ before))
-    ⊎ ((text : List ℕ) × IsDumpBefore file index f text × Appends before after text)
+    ⊎ ((text : List ℕ) × IsDumpBefore file index f text × Appends before after text))
+EndsDump file before after (fault.Device stream.Output) =
+    (text : List ℕ) × BeginsDump file text × AppendsFront before after text
 EndsDump file before after _ = ⊤

@@ -1,13 +1,18 @@
 -- What an order does: what is printed, and the status that it gives.
-use Rattle.std.specs.Prelude.{◌≡◌, ℕ, List, string_bytes, Option, ⊤}
+use Rattle.std.specs.Prelude.{◌≡◌, ℕ, ◌⊎◌, List, string_bytes, Option}
 use Rattle.std.specs.Io.KnownBytes.{Appends}
+use Rattle.us_slots.specs.Devices.{AppendsFront}
+use Rattle.mapsim.specs.declared.faults.Stream.TheVariants as stream
 use Rattle.mapsim.specs.declared.faults.Fault.{Fault}
+use Rattle.mapsim.specs.declared.faults.Fault.TheVariants as fault
 use Rattle.mapsim.specs.declared.orders.Order.{Order}
 use Rattle.mapsim.specs.declared.orders.Order.TheVariants as order
 use Rattle.mapsim.specs.declared.statuses.Status.{Status}
 use Rattle.mapsim.specs.declared.statuses.Status.TheVariants as status
-use Rattle.mapsim.specs.Dumps.{IsDump}
+use Rattle.mapsim.specs.Inputs.{IsReplayFault, IsCheckFault}
+use Rattle.mapsim.specs.Dumps.{IsDump, EndsDump}
 use Rattle.mapsim.specs.Printouts.{Prints, Stops}
+use Rattle.mapsim.specs.Statuses.{status_of}
 use Rattle.mapsim.specs.SummaryLines.{IsSummaryOf}
 use Rattle.mapsim.specs.VerdictLines.{IsVerdictOf}
 
@@ -27,10 +32,24 @@ Does (order.Pipe rounds workers) told before after ends =
 Does (order.Help text) told before after ends =
     (ends ≡ status.Done) × Appends before after (string_bytes text)
 
--- a fault may end an order early
-abbrev pub MayEnd : Order → Option (List ℕ) → Fault → Type 0
-MayEnd (order.Pipe rounds workers) told f = Stops rounds workers told f
-MayEnd _ told f = ⊤
+-- a fault may end an order early, and what the output took then
+abbrev pub EndsEarly : Order → Option (List ℕ) → Option (List ℕ) → Option (List ℕ) → Fault → Type 0
+EndsEarly (order.Replay files) told before after f = IsReplayFault files.workers f
+EndsEarly (order.Check files) told before after f = IsCheckFault f
+EndsEarly (order.Dump path) told before after f = (file : List ℕ) × EndsDump file before after f
+EndsEarly (order.Pipe rounds workers) told before after f = Stops rounds workers told before after f
+EndsEarly (order.Help text) told before after f =
+    (f ≡ fault.Device stream.Output) × AppendsFront before after (string_bytes text)
+
+-- or behind all that it does, where the output can't be flushed
+abbrev pub MayEnd : Order → Option (List ℕ) → Option (List ℕ) → Option (List ℕ) → Fault → Type 0
+MayEnd o told before after f = EndsEarly o told before after f
+    ⊎ ((f ≡ fault.Device stream.Output) × (ends : Status) × Does o told before after ends)
+
+-- how a replay of standard input ends, for two rounds by one worker: done, or as a fault says that may end it
+abbrev pub EndsWithoutWords : Option (List ℕ) → Option (List ℕ) → Option (List ℕ) → Status → Type 0
+EndsWithoutWords told before after ends =
+    (ends ≡ status.Done) ⊎ ((f : Fault) × MayEnd (order.Pipe 2 1) told before after f × (ends ≡ status_of f))
 
 -- the line of a verdict was printed that says that a rule is broken
 abbrev pub PrintsBroken : Option (List ℕ) → Option (List ℕ) → Type 0

@@ -1,8 +1,10 @@
 -- A replay of standard input (ours): which texts can be replayed, what is printed of one, and why one is refused.
-use Rattle.std.specs.Prelude.{◌≡◌, ℕ, ◌<◌, ◌⊎◌, true, false, List, ◌++◌, length, Option, None, Some, Ok, Err, IfSome, ⊤}
+use Rattle.std.specs.Prelude.{◌≡◌, ◌≢◌, ℕ, ◌<◌, ◌⊎◌, true, false, List, ◌++◌, length, Option, None, Some, Ok, Err, IfSome, ⊤}
 use Rattle.std.specs.Io.KnownBytes.{Appends}
+use Rattle.us_slots.specs.Devices.{AppendsFront}
 use Rattle.us_flows.specs.Tables.{Tables, rounds_fit}
 use Rattle.us_flows.specs.Answers.{Answers}
+use Rattle.us_requests.specs.declared.faults.TraceFault.TheVariants as trace_faults
 use Rattle.us_requests.specs.Texts.{trace_fault}
 use Rattle.us_requests.specs.Readings.{Reads}
 use Rattle.us_replay.specs.declared.faults.RunFault.TheVariants as run
@@ -13,6 +15,7 @@ use Rattle.mapsim.specs.declared.faults.Fault.{Fault}
 use Rattle.mapsim.specs.declared.faults.Fault.TheVariants as fault
 use Rattle.mapsim.specs.Marks.{IsMark, IsSplit}
 use Rattle.mapsim.specs.Dumps.{IsDump}
+use Rattle.mapsim.specs.Inputs.{IsPipeFault}
 
 -- the most bytes of the input
 abbrev pub max_input_bytes : ℕ
@@ -43,13 +46,14 @@ pub record IsPrintout (rounds : ℕ) (text printout : List ℕ) : Type 0 where
   pub dumped : IsDump maps dump
   pub whole : printout ≡ dump ++ report
 
--- why a replay of these tables and of this trace by so many workers is refused, or memory was wanting
+-- why a replay of these tables and of this trace by so many workers is refused, or memory was wanting. A trace in memory
+-- has no device that fails
 abbrev pub RefusesTrace : Tables → ℕ → ℕ → List ℕ → Fault → Type 0
 RefusesTrace t rounds workers trace (fault.Run run.Rounds) = rounds_fit t rounds ≡ false
 RefusesTrace t rounds workers trace (fault.Run run.Workers) =
     (rounds_fit t rounds ≡ true) × ((workers ≡ 0) ⊎ (64 < workers))
 RefusesTrace t rounds workers trace (fault.Run (run.Trace reason)) =
-    (rounds_fit t rounds ≡ true) × Reads t rounds (Some trace) (Err reason)
+    (reason ≢ trace_faults.Read) × (rounds_fit t rounds ≡ true) × Reads t rounds (Some trace) (Err reason)
 RefusesTrace t rounds workers trace (fault.Run (run.NoMemory done)) = ⊤
 RefusesTrace t rounds workers trace fault.NoMemory = ⊤
 RefusesTrace t rounds workers trace _ = ⊥
@@ -72,14 +76,23 @@ abbrev pub Prints : ℕ → Option (List ℕ) → Option (List ℕ) → Option (
 Prints rounds told before after =
     IfSome told (λ text. (printout : List ℕ) × IsPrintout rounds text printout × Appends before after printout)
 
--- where the input tells its text, a fault comes of that. A stream that fails is another clause's
-abbrev pub Stops : ℕ → ℕ → Option (List ℕ) → Fault → Type 0
-Stops rounds workers told (fault.Device stream.Input) = ⊤
-Stops rounds workers told (fault.Device stream.Output) = ⊤
-Stops rounds workers told (fault.Map f index) = ⊤
-Stops rounds workers told fault.Pipe =
+-- the same, of fewer than all its bytes, from the front
+abbrev pub PrintsFront : ℕ → Option (List ℕ) → Option (List ℕ) → Option (List ℕ) → Type 0
+PrintsFront rounds told before after =
+    IfSome told (λ text. (printout : List ℕ) × IsPrintout rounds text printout × AppendsFront before after printout)
+
+-- where the input tells its text, a fault comes of that, and an output that failed took a front of what is printed. When a
+-- stream fails is another clause's
+abbrev pub ComesOf : ℕ → ℕ → Option (List ℕ) → Option (List ℕ) → Option (List ℕ) → Fault → Type 0
+ComesOf rounds workers told before after (fault.Device stream.Input) = ⊤
+ComesOf rounds workers told before after (fault.Device stream.Output) = PrintsFront rounds told before after
+ComesOf rounds workers told before after fault.Pipe =
     IfSome told (λ text. (max_input_bytes < length text) ⊎ Refuses rounds workers text fault.Pipe)
-Stops rounds workers told f = IfSome told (λ text. Refuses rounds workers text f)
+ComesOf rounds workers told before after f = IfSome told (λ text. Refuses rounds workers text f)
+
+-- a fault may end a replay of standard input, and comes of its text
+abbrev pub Stops : ℕ → ℕ → Option (List ℕ) → Option (List ℕ) → Option (List ℕ) → Fault → Type 0
+Stops rounds workers told before after f = IsPipeFault f × ComesOf rounds workers told before after f
 
 -- a fault that comes before anything is printed
 abbrev pub IsEarly : Fault → Type 0

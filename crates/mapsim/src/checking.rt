@@ -1,10 +1,11 @@
-ghost use Rattle.std.specs.Prelude.{◌≡◌, ◌≢◌, ◌↔◌, ℕ, List, [], ◌∷◌, ◌++◌, true, false, None, Some, Err, IfOk, IfErr, OnOk};
+ghost use Rattle.std.specs.Prelude.{◌≡◌, ◌↔◌, ◌⊎◌, ℕ, List, [], ◌∷◌, ◌++◌, true, false, None, Some, Ok, Err, IfOk, IfErr, IfSome, OnOk};
 ghost use Rattle.std.specs.Io.KnownBytes.{Appends};
+ghost use Rattle.us_flows.specs.Answers.{Answers};
 ghost use Rattle.us_flows.specs.Tables.{rounds_fit};
 ghost use Rattle.us_lawful.specs.Runs.{run_in};
 ghost use Rattle.us_check.specs.Verdicts.{verdict_text};
 ghost use Rattle.us_replay.specs.declared.faults.RunFault.TheVariants as run;
-ghost use Rattle.mapsim.specs.Inputs.{IsJudgeFault, IsPrintFault};
+ghost use Rattle.mapsim.specs.Inputs.{IsCheckFault, IsConfigFault, IsJudgeFault, IsLineFault};
 ghost use Rattle.mapsim.specs.Statuses as statuses;
 ghost use Rattle.mapsim.specs.VerdictLines.{IsJudged, IsVerdict, IsVerdictOf};
 ghost use Rattle.mapsim.specs.declared.faults.Fault.TheVariants as fault;
@@ -34,13 +35,28 @@ pub fn check_files<R: Files, O: Sink>(
     requires { O.failed output.old ≡ false }
     ensures printed { IfOk result (λ status. (line : List ℕ) × IsVerdictOf order.now.rounds status line ×
         Appends (O.contents output.old) (O.contents output.new) line) }
-    ensures input { IfErr result (λ f. f ≢ fault.Device stream.Input) }
+    ensures fault { IfErr result IsCheckFault }
     ensures output { (O.failed output.new ≡ true) ↔ (result ≡ Err (fault.Device stream.Output)) }
 {
-    let config = read_config(rt, alloc, order.config)?;
+    let mut config = open_at(rt, order.config, Stream::Config)?;
+    let config = config_of(alloc, order, &mut config)?;
     let verdict = judge_files(rt, alloc, &config, order)?;
     print_verdict(alloc, verdict, output)?;
     Ok(verdict_status(verdict))
+}
+
+/// The configuration, from the order's file of it.
+fn config_of<S: Source>(
+    alloc: Global,
+    order: &FileCheck<'_>,
+    config: &mut FileAt<'_, S>,
+) -> Result<Config, Fault>
+    requires at { config.old.path.now ≡ order.now.config.now }
+    requires ready { S.failed config.old.device ≡ false }
+    ensures accepted { IfOk result (λ t. IfSome (S.remaining config.old.device) (λ text. Answers text (Ok t))) }
+    ensures fault { IfErr result IsConfigFault }
+{
+    read_config(alloc, &mut config.device)
 }
 
 /// The verdict on the files of an order. RU1 is answered before the trace is opened.
@@ -52,7 +68,7 @@ fn judge_files<R: Files>(
 ) -> Result<Verdict, Fault>
     ensures verdict { IfOk result (IsVerdict config.now order.now.rounds None None None) }
     ensures rounds { (result ≡ Err (fault.Run run.Rounds)) ↔ (rounds_fit config.now order.now.rounds ≡ false) }
-    ensures fault { IfErr result (λ f. (f ≢ fault.Device stream.Input) × (f ≢ fault.Device stream.Output)) }
+    ensures fault { IfErr result (λ f. (f ≡ fault.Run run.Rounds) ⊎ IsJudgeFault f) }
 {
     if !config.rounds_fit(order.rounds) {
         return Err(Fault::Run(RunFault::Rounds));
@@ -127,7 +143,7 @@ fn print_verdict<O: Sink>(alloc: Global, verdict: Verdict, output: &mut O) -> Re
     ensures printed { OnOk result
         (Appends (O.contents output.old) (O.contents output.new) (verdict_text verdict ++ 10 ∷ [])) }
     ensures output { (O.failed output.new ≡ true) ↔ (result ≡ Err (fault.Device stream.Output)) }
-    ensures fault { IfErr result IsPrintFault }
+    ensures fault { IfErr result IsLineFault }
 {
     let line = format!(in alloc; "{verdict}\n")?;
     print(output, line.as_str().as_bytes())

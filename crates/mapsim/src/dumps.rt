@@ -1,9 +1,10 @@
 ghost use Rattle.std.specs.Prelude.{◌≡◌, ◌↔◌, ◌≤◌, ℕ, List, length, slice_range, true, false, Err, IfErr, OnOk};
 ghost use Rattle.std.specs.Io.KnownBytes.{Appends};
 ghost use Rattle.us_codec.specs.Bodies.{MapBody, SpellsMap};
+ghost use Rattle.us_codec.specs.MapsFiles.{piece_at};
 ghost use Rattle.mapsim.specs.MapLines.{lines_of};
 ghost use Rattle.mapsim.specs.Inputs.{IsPrintFault};
-ghost use Rattle.mapsim.specs.Dumps.{IsDump, EndsBody, EndsDump};
+ghost use Rattle.mapsim.specs.Dumps.{IsDump, EndsRecord, EndsDump};
 ghost use Rattle.mapsim.specs.declared.faults.Fault.TheVariants as fault;
 ghost use Rattle.mapsim.specs.declared.faults.Stream.TheVariants as stream;
 
@@ -11,11 +12,12 @@ use crate::faults::Fault;
 use crate::map_lines::map_lines;
 use crate::printing::print;
 use std::alloc::Global;
-use us_codec::{Record, decode, records};
+use us_codec::{MapFault, Record, decode, records};
 use us_slots::Sink;
 
 /// Prints the lines of each MAP of a maps file. The whole file is looked at for its records (M11) before the first line; a
-/// body that has a fault (M1 to M9, with the index of its record) is met behind the lines of the MAPs before it.
+/// body that has a fault (M1 to M9, with the index of its record) is met behind the lines of the MAPs before it. Want of
+/// memory is none of a MAP.
 pub fn print_maps<O: Sink>(alloc: Global, file: &[u8], output: &mut O) -> Result<(), Fault>
     requires { O.failed output.old ≡ false }
     ensures printed { OnOk result ((dump : List ℕ) × IsDump file.now dump ×
@@ -26,6 +28,7 @@ pub fn print_maps<O: Sink>(alloc: Global, file: &[u8], output: &mut O) -> Result
 {
     let records = match records(alloc, file) {
         Ok(records) => records,
+        Err(MapFault::NoMemory) => return Err(Fault::NoMemory),
         Err(fault) => return Err(Fault::Map(fault, 0)),
     };
     for (index, record) in records.iter().enumerate() {
@@ -48,7 +51,7 @@ fn print_record<O: Sink>(
         Appends (O.contents output.old) (O.contents output.new)
         (lines_of place.round map.head.channel map.elements)) }
     ensures ended { IfErr result
-        (EndsBody (slice_range file.now place.from place.to) index (O.contents output.old) (O.contents output.new)) }
+        (EndsRecord (piece_at file.now place) index (O.contents output.old) (O.contents output.new)) }
     ensures failed { (O.failed output.new ≡ true) ↔ (result ≡ Err (fault.Device stream.Output)) }
     ensures fault { IfErr result IsPrintFault }
 {
@@ -57,6 +60,7 @@ fn print_record<O: Sink>(
             let lines = map_lines(alloc, place.round, &map)?;
             print(output, lines.as_str().as_bytes())
         }
+        Err(MapFault::NoMemory) => Err(Fault::NoMemory),
         Err(fault) => Err(Fault::Map(fault, index)),
     }
 }

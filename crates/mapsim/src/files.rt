@@ -1,5 +1,6 @@
-ghost use Rattle.std.specs.Prelude.{◌≡◌, ◌⊎◌, ◌↔◌, ◌<◌, length, true, false, Err, IfOk, IfErr, IfSome};
+ghost use Rattle.std.specs.Prelude.{◌≡◌, ◌⊎◌, ◌↔◌, ◌<◌, length, true, false, Ok, Err, IfOk, IfErr, IfSome};
 ghost use Rattle.us_flows.specs.declared.faults.ConfigFault.TheVariants as config;
+ghost use Rattle.us_flows.specs.Answers.{Answers};
 ghost use Rattle.mapsim.specs.Inputs.{IsConfigFault};
 ghost use Rattle.mapsim.specs.declared.faults.Fault.TheVariants as fault;
 ghost use Rattle.mapsim.specs.declared.faults.Stream.TheVariants as stream;
@@ -11,12 +12,13 @@ use std::rt::Files;
 use us_flows::{Config, ConfigFault, MAX_CONFIG_BYTES};
 use us_slots::{ReadFault, Source, read_all};
 
-/// The configuration in a file.
-pub fn read_config<R: Files>(rt: &R, alloc: Global, path: &str) -> Result<Config, Fault>
-    ensures { IfErr result IsConfigFault }
+/// The configuration that a device has.
+pub fn read_config<S: Source>(alloc: Global, source: &mut S) -> Result<Config, Fault>
+    requires { S.failed source.old ≡ false }
+    ensures accepted { IfOk result (λ t. IfSome (S.remaining source.old) (λ text. Answers text (Ok t))) }
+    ensures fault { IfErr result IsConfigFault }
 {
-    let mut file = open_at(rt, path, Stream::Config)?;
-    let text = text_from(alloc, &mut file.device)?;
+    let text = text_from(alloc, source)?;
     Ok(Config::read(alloc, &text)?)
 }
 

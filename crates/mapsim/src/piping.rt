@@ -1,10 +1,12 @@
 ghost use Rattle.std.specs.Prelude.{◌≡◌, ◌↔◌, ◌<◌, ◌≤◌, ℕ, length, true, false, Err, IfOk, IfErr, IfSome, OnOk, IsErrAnd};
 ghost use Rattle.mapsim.specs.Marks.{IsMark};
+ghost use Rattle.mapsim.specs.Dumps.{HasDump};
 ghost use Rattle.mapsim.specs.Inputs.{IsInputFault, fault_in_memory};
 ghost use Rattle.mapsim.specs.Printouts.{Gives, IsEarly, Prints, Refuses, RefusesTrace, Replays, Stops, max_input_bytes};
 ghost use Rattle.mapsim.specs.declared.faults.Fault.TheVariants as fault;
 ghost use Rattle.mapsim.specs.declared.faults.Stream.TheVariants as stream;
 
+use crate::bytes::Bytes;
 use crate::dumps::print_maps;
 use crate::faults::{Fault, Stream};
 use crate::marks::split_at_mark;
@@ -15,7 +17,7 @@ use std::thread::Threads;
 use us_crew::OpenGate;
 use us_flows::Config;
 use us_replay::{RunFault, replay};
-use us_slots::{FromRead, FromWrite, ReadFault, Sink, Source, read_all};
+use us_slots::{FromWrite, ReadFault, Sink, Source, read_all};
 
 /// The most bytes of the input (ours).
 const MAX_INPUT_BYTES: usize = 37_748_740;
@@ -34,7 +36,8 @@ pub fn pipe<H: Threads + Sync, I: Source, O: Sink>(
     ensures printed { OnOk result
         (Prints rounds (I.remaining input.old) (O.contents output.old) (O.contents output.new)) }
     ensures workers { OnOk result ((1 ≤ workers) × (workers ≤ 64)) }
-    ensures stopped { IfErr result (Stops rounds workers (I.remaining input.old)) }
+    ensures stopped { IfErr result (Stops rounds workers (I.remaining input.old)
+        (O.contents output.old) (O.contents output.new)) }
     ensures early { IsErrAnd result IsEarly → output.new ≡ output.old }
     ensures unmarked { IfSome (I.remaining input.old) (λ text.
         ((at : ℕ) → ¬ IsMark text at) → IsErrAnd result IsInputFault) }
@@ -80,6 +83,7 @@ fn replay_text<H: Threads + Sync>(
     text: &[u8],
 ) -> Result<Texts, Fault>
     ensures replayed { IfOk result (λ texts. Replays rounds text.now texts.maps.items texts.report.items) }
+    ensures lawful { IfOk result (λ texts. HasDump texts.maps.items) }
     ensures workers { OnOk result ((1 ≤ workers) × (workers ≤ 64)) }
     ensures refused { IfErr result (Refuses rounds workers text.now) }
 {
@@ -91,7 +95,7 @@ fn replay_text<H: Threads + Sync>(
 }
 
 /// Replays the text of a trace.
-#[tactic(auto, using(crate::proofs::PrintoutLemmas::gives, crate::proofs::PrintoutLemmas::refuses_trace))]
+#[tactic(auto, using(crate::proofs::PrintoutLemmas::gives, crate::proofs::PrintoutLemmas::dumped, crate::proofs::PrintoutLemmas::refuses_trace))]
 fn replay_trace<H: Threads + Sync>(
     threads: &H,
     alloc: Global,
@@ -101,6 +105,7 @@ fn replay_trace<H: Threads + Sync>(
     trace: &[u8],
 ) -> Result<Texts, Fault>
     ensures given { IfOk result (λ texts. Gives config.now rounds trace.now texts.maps.items texts.report.items) }
+    ensures lawful { IfOk result (λ texts. HasDump texts.maps.items) }
     ensures workers { OnOk result ((1 ≤ workers) × (workers ≤ 64)) }
     ensures refused { IfErr result (RefusesTrace config.now rounds workers trace.now) }
 {
@@ -110,7 +115,7 @@ fn replay_trace<H: Threads + Sync>(
         threads,
         alloc,
         config,
-        &mut FromRead::new(trace),
+        &mut Bytes { rest: trace },
         rounds,
         workers,
         &OpenGate,

@@ -1,9 +1,10 @@
 ghost use Rattle.std.specs.Prelude.{◌≡◌, ◌↔◌, ◌⊎◌, ◌<◌, length, true, false, Ok, Err, IfOk, OnOk, IfErr};
 ghost use Rattle.mapsim.specs.Statuses.{status_of};
-ghost use Rattle.mapsim.specs.Printouts.{Prints, Stops};
-ghost use Rattle.mapsim.specs.Orders.{Does, MayEnd, PrintsBroken};
+ghost use Rattle.mapsim.specs.Printouts.{Prints, PrintsFront};
+ghost use Rattle.mapsim.specs.Orders.{Does, EndsEarly, EndsWithoutWords, MayEnd, PrintsBroken};
 ghost use Rattle.mapsim.specs.declared.faults.Fault.TheVariants as fault;
 ghost use Rattle.mapsim.specs.declared.faults.Stream.TheVariants as stream;
+ghost use Rattle.mapsim.specs.declared.orders.Order.TheVariants as order;
 
 use crate::checking::check_files;
 use crate::dumping::dump_file;
@@ -35,6 +36,13 @@ where
     // Without words it prints what the input gives in two rounds.
     ensures printed { result ≡ Status.Done → length words.now < 2 →
         Prints 2 (I.remaining input.old) (O.contents output.old) (O.contents output.new) }
+    // Else it ends as a fault says that comes of the input's text,
+    ensures ended { length words.now < 2 →
+        EndsWithoutWords (I.remaining input.old) (O.contents output.old) (O.contents output.new) result }
+    // and where the output failed, it took a front of what is printed, or all of it before it was flushed.
+    ensures cut_off { O.failed output.new ≡ true → length words.now < 2 →
+        PrintsFront 2 (I.remaining input.old) (O.contents output.old) (O.contents output.new)
+        ⊎ Prints 2 (I.remaining input.old) (O.contents output.old) (O.contents output.new) }
     // It ends as broken where it printed such a verdict.
     ensures broken { result ≡ Status.Broken → PrintsBroken (O.contents output.old) (O.contents output.new) }
     ensures input_failed { I.failed input.new ≡ true → result ≡ Status.DeviceFailed }
@@ -69,9 +77,10 @@ where
     O: Sink,
     requires input_ready { I.failed input.old ≡ false }
     requires output_ready { O.failed output.old ≡ false }
-    ensures printed { length words.now < 2 → OnOk result
-        (Prints 2 (I.remaining input.old) (O.contents output.old) (O.contents output.new)) }
-    ensures stopped { length words.now < 2 → IfErr result (Stops 2 1 (I.remaining input.old)) }
+    ensures done { length words.now < 2 → IfOk result
+        (Does (order.Pipe 2 1) (I.remaining input.old) (O.contents output.old) (O.contents output.new)) }
+    ensures stopped { length words.now < 2 → IfErr result
+        (MayEnd (order.Pipe 2 1) (I.remaining input.old) (O.contents output.old) (O.contents output.new)) }
     ensures broken { result ≡ Ok Status.Broken →
         PrintsBroken (O.contents output.old) (O.contents output.new) }
     ensures input_failed { I.failed input.new ≡ true → result ≡ Err (fault.Device stream.Input) }
@@ -99,7 +108,8 @@ where
     requires output_ready { O.failed output.old ≡ false }
     ensures done { IfOk result
         (Does order.now (I.remaining input.old) (O.contents output.old) (O.contents output.new)) }
-    ensures stopped { IfErr result (MayEnd order.now (I.remaining input.old)) }
+    ensures stopped { IfErr result
+        (MayEnd order.now (I.remaining input.old) (O.contents output.old) (O.contents output.new)) }
     ensures input_failed { I.failed input.new ≡ true → result ≡ Err (fault.Device stream.Input) }
     ensures output_failed { (O.failed output.new ≡ true) ↔ (result ≡ Err (fault.Device stream.Output)) }
     ensures flushed { OnOk result (O.flushed output.new ≡ true) }
@@ -126,7 +136,8 @@ where
     requires output_ready { O.failed output.old ≡ false }
     ensures done { IfOk result
         (Does order.now (I.remaining input.old) (O.contents output.old) (O.contents output.new)) }
-    ensures stopped { IfErr result (MayEnd order.now (I.remaining input.old)) }
+    ensures stopped { IfErr result
+        (EndsEarly order.now (I.remaining input.old) (O.contents output.old) (O.contents output.new)) }
     ensures input_failed { I.failed input.new ≡ true → result ≡ Err (fault.Device stream.Input) }
     ensures output_failed { (O.failed output.new ≡ true) ↔ (result ≡ Err (fault.Device stream.Output)) }
 {

@@ -1,7 +1,10 @@
-ghost use Rattle.std.specs.Prelude.{◌≡◌, ◌≢◌, ◌↔◌, ◌≤◌, ℕ, List, [], ◌∷◌, ◌++◌, true, false, Err, IfOk, IfErr, OnOk};
+ghost use Rattle.std.specs.Prelude.{◌≡◌, ◌≢◌, ◌↔◌, ◌⊎◌, ◌<◌, ◌≤◌, ℕ, List, [], ◌∷◌, ◌++◌, true, false, Ok, Err, IfOk, IfErr, IfSome, OnOk};
 ghost use Rattle.std.specs.Io.KnownBytes.{Appends};
+ghost use Rattle.us_flows.specs.Answers.{Answers};
+ghost use Rattle.us_flows.specs.Tables.{rounds_fit};
+ghost use Rattle.us_replay.specs.declared.faults.RunFault.TheVariants as run;
 ghost use Rattle.us_replay.specs.Replays.{Growth, Replayed};
-ghost use Rattle.mapsim.specs.Inputs.{IsPrintFault};
+ghost use Rattle.mapsim.specs.Inputs.{IsConfigFault, IsLineFault, IsReplayFault};
 ghost use Rattle.mapsim.specs.SummaryLines.{IsSummaryOf, summary_line};
 ghost use Rattle.mapsim.specs.declared.faults.Fault.TheVariants as fault;
 ghost use Rattle.mapsim.specs.declared.faults.Stream.TheVariants as stream;
@@ -31,12 +34,27 @@ pub fn replay_files<R: Files + Threads + Sync, O: Sink>(
     ensures printed { OnOk result ((line : List ℕ) × IsSummaryOf order.now.rounds line ×
         Appends (O.contents output.old) (O.contents output.new) line) }
     ensures workers { OnOk result ((1 ≤ order.now.workers) × (order.now.workers ≤ 64)) }
-    ensures input { IfErr result (λ f. f ≢ fault.Device stream.Input) }
+    ensures fault { IfErr result (IsReplayFault order.now.workers) }
     ensures output { (O.failed output.new ≡ true) ↔ (result ≡ Err (fault.Device stream.Output)) }
 {
-    let config = read_config(rt, alloc, order.config)?;
+    let mut config = open_at(rt, order.config, Stream::Config)?;
+    let config = config_of(alloc, order, &mut config)?;
     let summary = replay_trace(rt, alloc, &config, order)?;
     print_summary(alloc, summary, output)
+}
+
+/// The configuration, from the order's file of it.
+fn config_of<S: Source>(
+    alloc: Global,
+    order: &FileReplay<'_>,
+    config: &mut FileAt<'_, S>,
+) -> Result<Config, Fault>
+    requires at { config.old.path.now ≡ order.now.config.now }
+    requires ready { S.failed config.old.device ≡ false }
+    ensures accepted { IfOk result (λ t. IfSome (S.remaining config.old.device) (λ text. Answers text (Ok t))) }
+    ensures fault { IfErr result IsConfigFault }
+{
+    read_config(alloc, &mut config.device)
 }
 
 /// Replays a trace from a file into files.
@@ -48,7 +66,8 @@ fn replay_trace<R: Files + Threads + Sync>(
 ) -> Result<Summary, Fault>
     ensures summary { IfOk result (λ summary. IsSummaryOf order.now.rounds (summary_line summary ++ 10 ∷ [])) }
     ensures workers { OnOk result ((1 ≤ order.now.workers) × (order.now.workers ≤ 64)) }
-    ensures fault { IfErr result (λ f. (f ≢ fault.Device stream.Input) × (f ≢ fault.Device stream.Output)) }
+    ensures rounds { (result ≡ Err (fault.Run run.Rounds)) ↔ (rounds_fit config.now order.now.rounds ≡ false) }
+    ensures fault { IfErr result (λ f. IsReplayFault order.now.workers f × (f ≢ fault.Device stream.Output)) }
 {
     check_run(config, order.rounds, order.workers)?;
     let mut trace = open_at(rt, order.trace, Stream::Trace)?;
@@ -75,10 +94,13 @@ fn replay_at<H: Threads + Sync, S: Source, W1: Sink, W2: Sink>(
     requires trace_ready { S.failed trace.old.device ≡ false }
     requires maps_ready { W1.failed maps.old.device ≡ false }
     requires report_ready { W2.failed report.old.device ≡ false }
-    ensures { let to_maps : Growth = record { before = W1.contents maps.old.device; after = W1.contents maps.new.device } in
+    ensures replayed { let to_maps : Growth =
+        record { before = W1.contents maps.old.device; after = W1.contents maps.new.device } in
         let to_report : Growth =
         record { before = W2.contents report.old.device; after = W2.contents report.new.device } in
         Replayed config.now order.now.rounds (S.remaining trace.old.device) to_maps to_report result }
+    ensures rounds { (result ≡ Err RunFault.Rounds) ↔ (rounds_fit config.now order.now.rounds ≡ false) }
+    ensures workers { result ≡ Err RunFault.Workers → (order.now.workers ≡ 0) ⊎ (64 < order.now.workers) }
 {
     replay(
         threads,
@@ -99,7 +121,7 @@ fn print_summary<O: Sink>(alloc: Global, summary: Summary, output: &mut O) -> Re
     ensures printed { OnOk result
         (Appends (O.contents output.old) (O.contents output.new) (summary_line summary ++ 10 ∷ [])) }
     ensures output { (O.failed output.new ≡ true) ↔ (result ≡ Err (fault.Device stream.Output)) }
-    ensures fault { IfErr result IsPrintFault }
+    ensures fault { IfErr result IsLineFault }
 {
     let line = format!(in alloc; "{}\n", SummaryLine(summary))?;
     print(output, line.as_str().as_bytes())
