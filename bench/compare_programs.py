@@ -7,20 +7,17 @@ maps files, reports and whole runs, in status, both streams and files.
   --program FILE       the program (crates/mapsim/out/mapsim)
   --processes N        processes (as many as there are processors)
   --kind KIND          inputs of this kind alone, in place of a mixture: KINDS
-  --without-activity   passes over all that has to do with flows of type 5, for a program that doesn't know them
 
 An input is made of its number alone, whatever else is asked for but a kind. Where the two answers differ, a line names
 the number, and what was run is left in a folder `programs-NUMBER` of the system's folder for temporary files. The last
 lines count the answers of the second program by kind: `ok`, what `check` prints, or the code of a fault; and behind
-them inputs, differences and inputs passed over. Stopped by hand, it counts what it has compared. Status 0: no answers
-differed; 1: some did.
+them inputs and differences. Stopped by hand, it counts what it has compared. Status 0: no answers differed; 1: some did.
 """
 import argparse
 import collections
 import multiprocessing
 import os
 import pathlib
-import re
 import signal
 import sys
 import tempfile
@@ -31,24 +28,12 @@ from damaged_inputs import KINDS, input_of
 PROGRAM = pathlib.Path(__file__).resolve().parent.parent / "crates/mapsim/out/mapsim"
 MEMORY = pathlib.Path("/dev/shm")
 FILES = ["config", "trace", "maps", "report"]
-OF_TYPE_5 = rb"type\W*\w*(5|101)"
-OF_ACTIVITY = {
-    "input": re.compile(OF_TYPE_5 + rb"|kind"), "config": re.compile(OF_TYPE_5), "trace": re.compile(rb"kind"),
-    "report": re.compile(rb"ad,|A,"),
-}
 SECONDS = 120
 # inputs that a process compares before it tells of them
 CHUNK = 250
 SHOWN = 300
 # what is counted beside the answers of each kind
-DIFFER, PASSED_OVER = "differences", "passed over"
-
-
-def has_activity(one):
-    """Whether a program that doesn't know flows of type 5 may tell otherwise of an input."""
-    # quotes may stand inside a name
-    texts = [(name, text.replace(b'"', b"")) for name, text in one.files.items() if name in OF_ACTIVITY]
-    return any(OF_ACTIVITY[name].search(text) for name, text in texts)
+DIFFER = "differences"
 
 
 def found_of(one, program, folder):
@@ -107,9 +92,6 @@ def compare(first, last, given, folder):
             counts[DIFFER] += 1
             lines.append(f"ERROR {number} {fault!r}")
             continue
-        if given.without_activity and has_activity(one):
-            counts[PASSED_OVER] += 1
-            continue
         found = found_of(one, given.program, folder)
         counts[kind, word_of(one.answer)] += 1
         if found != wanted_of(one):
@@ -158,7 +140,7 @@ def told(counts):
         if here:
             inputs += sum(here.values())
             yield f"{kind} {sum(here.values())}: " + ", ".join(f"{word} {here[word]}" for word in sorted(here))
-    yield f"inputs {inputs} differences {counts[DIFFER]} passed over {counts[PASSED_OVER]}"
+    yield f"inputs {inputs} differences {counts[DIFFER]}"
 
 
 def main():
@@ -169,7 +151,6 @@ def main():
     words.add_argument("--program", type=pathlib.Path, default=PROGRAM, metavar="FILE")
     words.add_argument("--processes", type=int, default=len(os.sched_getaffinity(0)), metavar="N")
     words.add_argument("--kind", choices=KINDS)
-    words.add_argument("--without-activity", action="store_true")
     given = words.parse_args()
     given.program = given.program.resolve(strict=True)
     began = time.monotonic()
