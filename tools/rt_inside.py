@@ -1,7 +1,8 @@
 """What tools/try-edits takes of the insides of the command `rt`.
 
 `rt` tries the edits of must-fail/ alone. To judge other edits as the gate does, this page loads the program `rt` as a
-module, and calls its functions. It is the one place that knows them, and was written for rattle-kit-13f. It relies on:
+module, and calls its functions. It is the one place that knows them, and was written for rattle-kit-13f and rattle-kit-13b.
+It relies on:
 
   KIT                                     the folder of the kit, with the file KIT-ID, whose first line names it
   rtlib.PARTS                             the folders of a crate that a check reads
@@ -14,7 +15,8 @@ module, and calls its functions. It is the one place that knows them, and was wr
   read_edit(edit, folder)                 the texts of the files that an edit changes, and else why it can't be applied
   unread(line, changed)                   whether a line says that a file of these paths could not be read
   checked(crate, texts, flags, kept)      a finished check, over what `kept` holds, with `returncode` and `stdout`
-  must_fail(crate, edit, flags, kept)     what a try comes to (REFUSED, AT_LIMIT or something else), and what to say
+  must_fail(crate, edit, flags, kept)     what a try comes to, and what to say. It comes to REFUSED, AT_LIMIT or something
+                                          else; in the earlier kit, which has neither name, to True where it is refused
   processors(), free()                    processors, and bytes of free memory
 
 Where the kit differs, the program ends with one line that says in what.
@@ -26,15 +28,15 @@ import os
 import shutil
 import sys
 
-WRITTEN_FOR = "rattle-kit-13f"
-NAMES = ("KIT", "REFUSED", "AT_LIMIT", "rtlib.PARTS")
+WRITTEN_FOR = "rattle-kit-13f and rattle-kit-13b"
+NAMES = ("KIT", "rtlib.PARTS")
 # Each function with the names of its first parameters.
 FUNCTIONS = {
     "rtlib.crates_below": ("top",),
     "rtlib.Crate.below": ("self",),
     "rtlib.Crate.build_rlib": ("self", "flags", "anew"),
     "rtlib.Crate.is_built": ("self",),
-    "rtlib.Crate.stamp": ("crate",),
+    "rtlib.Crate.stamp": (),
     "rtlib.files_of": ("folder",),
     "rtlib.guarded": (),
     "read_edit": ("edit", "folder"),
@@ -89,6 +91,7 @@ def loaded():
 
 rt = loaded()
 PARTS = rt.rtlib.PARTS
+REFUSED = [outcome for name in ("REFUSED", "AT_LIMIT") if (outcome := getattr(rt, name, None)) is not None] or [True]
 
 
 def kit():
@@ -152,7 +155,7 @@ def proof_of(crate, kept):
 def refusal_of(crate, edit, kept=None):
     """Whether the prover refuses the crate with an edit, as the gate counts it, and what to say."""
     outcome, said = rt.must_fail(crate, edit, FLAGS, kept)
-    return outcome in (rt.REFUSED, rt.AT_LIMIT), said.replace("must-fail ", "", 1)
+    return outcome in REFUSED, said.replace("must-fail ", "", 1)
 
 
 def end_together():
