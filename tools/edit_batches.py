@@ -1,23 +1,26 @@
 """Which edits one check can try together, and what it says of each.
 
-Edits go together where each changes the body of a function of its own, and none of these bodies names the function of another
-edit. Of a function that is called the prover takes what its contract says, so no such change can make the proof of another
-function fail: where the prover refuses a function that one of them changed, it refuses that edit. What a check doesn't say so
-plainly is left to a check of its own.
+Edits go together where each changes the body of a function of its own. Of a function that is called the prover takes what its
+contract says, so no such change can make a goal of another function fail: where the prover can't show a goal of a function that
+one of them changed, it refuses that edit. That a function calls one which isn't proved is no goal of its own, and doesn't
+count. What a check doesn't say so plainly is left to a check of its own.
 """
 import collections
 import re
 
 import rt_inside
 
-# The lines that an edit changes in a file, by number; and the function in whose body they stand: its name, its first and last
-# line, and its text as changed.
-Change = collections.namedtuple("Change", "edit path lines function first last body")
+# The lines that an edit changes in a file, by number; and the function in whose body they stand: its name, its first line,
+# which an attribute may be, and its last one.
+Change = collections.namedtuple("Change", "edit path lines function first last")
 
 FUNCTION = re.compile(r"(\s*)(?:pub(?:\([a-z]+\))? )?(?:unsafe |const )*fn (\w+)")
+ATTRIBUTE = re.compile(r"\s*#\[")
 CLAUSE = re.compile(r"\s*(?:requires|ensures|ghost|where)\b")
+# What is said of a line that names what an edit took away, and so says little of the contract.
+NAMES = re.compile(r"has no field|is not in scope|has no `|was not admitted")
 # Most edits of one check.
-MOST = 10
+MOST = 16
 
 
 def function_at(lines, number):
@@ -32,6 +35,8 @@ def function_at(lines, number):
     last = next((at for at in range(first + 1, len(lines)) if lines[at] in (indent + "}", indent + "{}")), None)
     body = next((at for at in range(first, number)
                  if lines[at].rstrip().endswith("{") and not CLAUSE.match(lines[at])), None)
+    while first > 0 and ATTRIBUTE.match(lines[first - 1]):
+        first -= 1
     return (name, first, last) if last and body is not None and body < number < last else None
 
 
@@ -51,15 +56,12 @@ def change_of(edit, folder):
     place = places.pop() if len(places) == 1 else None
     if not place:
         return None
-    name, first, last = place
-    return Change(edit, path, changed, name, first, last, "\n".join(after[first:last + 1]))
+    return Change(edit, path, changed, *place)
 
 
-def are_apart(one, other):
-    def names(body, function):
-        return re.search(rf"\b{function}\b", body)
-
-    return not names(one.body, other.function) and not names(other.body, one.function)
+def function_of(change):
+    """The function whose body an edit changes, by its file and its first line."""
+    return change.path, change.first
 
 
 def batches(edits, folder):
@@ -67,7 +69,8 @@ def batches(edits, folder):
     changes = [change_of(edit, folder) for edit in edits]
     lists = []
     for change in filter(None, changes):
-        room = next((it for it in lists if len(it) < MOST and all(are_apart(change, other) for other in it)), None)
+        room = next((it for it in lists if len(it) < MOST and all(function_of(change) != function_of(other) for other in it)),
+                    None)
         if room is None:
             lists.append([change])
         else:
@@ -96,10 +99,23 @@ def refused_in(crate, changes, said):
     failed = [line.split(": ")[0][3:] for line in lines if line.startswith("fn ") and not line.endswith(": proved")]
     found = {}
     for change in changes:
-        module = "::".join([crate.name, *change.path[len("src/"):-len(".rt")].split("/")]).removesuffix("::lib")
-        own = re.compile(rf"{module}(::[A-Z]\w*)?::{change.function}")
-        at = re.compile(rf"(?:note: )?{re.escape(change.path)}:(\d+):\d+: ")
-        told = [line for line in lines if at.match(line) and change.first < int(at.match(line)[1]) <= change.last + 1]
-        if told and any(own.fullmatch(name) for name in failed):
-            found[change.edit] = told[0]
+        told = next((line for line in lines if tells_of(change, line)), None)
+        if told and any(name_in(crate, change).fullmatch(name) for name in failed):
+            found[change.edit] = told
     return found
+
+
+def name_in(crate, change):
+    """What the prover calls the function whose body an edit changes."""
+    module = "::".join([crate.name, *change.path[len("src/"):-len(".rt")].split("/")]).removesuffix("::lib")
+    return re.compile(rf"{module}(::[A-Z]\w*)?::{change.function}")
+
+
+def tells_of(change, line):
+    """Whether a line tells a goal of that function that isn't shown: at the function, or in the files of its proof."""
+    at = re.match(rf"(?:note: )?{re.escape(change.path)}:(\d+):\d+: ", line)
+    if at:
+        return change.first < int(at[1]) <= change.last + 1
+    folder = change.path[len("src/"):-len(".rt")].removesuffix("lib")
+    proof = re.match(rf"\./proofs/{re.escape(folder)}/?(?:[A-Z]\w*/)?{change.function}/\w+\.antt:\d+:\d+: error: ", line)
+    return bool(proof) and not NAMES.search(line)
