@@ -3,6 +3,7 @@ pub mod PartLemmas
 pub mod PendingLemmas
 pub mod OrderLemmas
 pub mod SinkLemmas
+pub mod SpotLemmas
 pub mod FinalLemmas
 pub mod LineLemmas
 pub mod OutputLaws
