@@ -9,7 +9,7 @@ ghost use Rattle.us_output.specs.Outputs as spec;
 
 use crate::channels_with_text::ChannelWithText;
 use crate::lines::{FRONT_BYTES, LINE_BYTES, front_of, push_granted, push_line, push_missed};
-use crate::orders::{Spot, line_at, missed_at, order_lines};
+use crate::orders::{LineOrder, Spot, line_at, missed_at, order_lines};
 use crate::rows::Row;
 use crate::scratch::Scratch;
 use crate::tallies::LineTally;
@@ -86,11 +86,11 @@ fn push_written(
     }
     if let Some(ahead) = part.ahead(round) {
         text.extend_from_slice(&ahead.lines)?;
-        return Ok(ahead.ordered.len());
+        return Ok(ahead.order.spots.len());
     }
-    let Scratch { spots, line, .. } = scratch;
-    push_all(text, spots, line, round, channel)?;
-    Ok(spots.len())
+    let Scratch { order, line, .. } = scratch;
+    push_all(text, order, line, round, channel)?;
+    Ok(order.spots.len())
 }
 
 /// Whether nothing was settled or granted on a channel, so that it has no line.
@@ -100,21 +100,21 @@ fn is_quiet(part: &ChannelRound) -> bool
     part.settled().is_empty() && part.grants().is_empty()
 }
 
-/// Adds the lines of a channel. In `ordered` are left the spots of its G lines.
+/// Adds the lines of a channel. In `order` are left the spots of its G lines.
 pub(crate) fn push_all(
     text: &mut Vec<u8>,
-    ordered: &mut Vec<Spot>,
+    order: &mut LineOrder,
     line: &mut [u8; LINE_BYTES],
     round: u32,
     part: &ChannelRound,
 ) -> Result<(), NoMemory>
-    ensures ordered { OnOk result (AreInside part.now → ordered.new.items ≡ ordered_spots part.now) }
+    ensures ordered { OnOk result (AreInside part.now → order.new.spots.items ≡ ordered_spots part.now) }
     ensures lines { OnOk result
         (AreInside part.now → text.new.items ≡ text.old.items ++ lines (spec.rows_on round part.now)) }
     ensures fields { OnOk result (AreInside part.now → AllByRecursion HasFields (spec.rows_on round part.now)) }
 {
-    order_lines(ordered, part)?;
-    push_all_granted(text, line, round, part, ordered)?;
+    order_lines(order, part)?;
+    push_all_granted(text, line, round, part, &order.spots)?;
     push_all_missed(text, line, round, part.channel(), part.settled())?;
     Ok(())
 }
