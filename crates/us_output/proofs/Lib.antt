@@ -3,6 +3,8 @@ pub mod PartLemmas
 pub mod PendingLemmas
 pub mod OrderLemmas
 pub mod SinkLemmas
+pub mod SpotLemmas
+pub mod NoteLemmas
 pub mod FinalLemmas
 pub mod LineLemmas
 pub mod OutputLaws

@@ -29,7 +29,8 @@ mod pairs;
 // Who is pending.
 mod pendings;
 
-// From grants to lines, by where they start.
+// From grants to lines, by where they start: put in one after another, or noted by minislot.
+mod notes;
 mod orders;
 
 // What texts keep.
