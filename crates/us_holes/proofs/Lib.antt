@@ -7,6 +7,8 @@ pub mod CellLemmas
 pub mod PutLemmas
 pub mod HoleLemmas
 pub mod RankLemmas
+pub mod KeyLemmas
+pub mod RiseLemmas
 pub mod KeptLemmas
 pub mod PlacingLemmas
 pub mod EndLemmas

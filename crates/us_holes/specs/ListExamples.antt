@@ -3,7 +3,7 @@ use Rattle.std.specs.Prelude.{◌≡◌, ℕ, List, [], ◌∷◌, Some, refl}
 use Rattle.us_holes.specs.Boards.{Owner, Assignment}
 use Rattle.us_holes.specs.Examples.{broadcast, grant, granted}
 use Rattle.us_holes.specs.Runs.{runs_of, runs_from, runs_between}
-use Rattle.us_holes.specs.Lists.{cells_of, board_of, place_among, put, Hole, holes_of, fit, narrowed_at, place_for, rank, rank_narrowed, first_in}
+use Rattle.us_holes.specs.Lists.{cells_of, board_of, place_among, put, Hole, holes_of, fit, narrowed_at, place_for, rank, rank_narrowed, key_of, hole_of_key, first_in}
 
 abbrev assignment : ℕ → ℕ → Owner → Assignment
 assignment start slots owner = record { start = start; slots = slots; owner = owner }
@@ -46,6 +46,12 @@ ranked_again : rank_narrowed (hole 2 3) 3 1 (hole 2 3 ∷ hole 8 3 ∷ hole 0 1 
     hole 8 3 ∷ hole 0 1 ∷ hole 2 1 ∷ hole 4 1 ∷ []
 unfolding place_for
 ranked_again = refl
+
+as_number : key_of (hole 2 3) ≡ 262141
+as_number = refl
+
+as_hole : hole_of_key 262141 ≡ hole 2 3
+as_hole = refl
 
 first_ranked : first_in (hole 2 3 ∷ hole 8 3 ∷ []) ≡ Some (2, 3)
 first_ranked = refl

@@ -1,5 +1,5 @@
 -- Inside the crate, and of no use to a reader of the promise: a board as its assignments and the holes between them.
-use Rattle.std.specs.Prelude.{◌≡◌, ℕ, zero, suc, ◌+◌, ◌-◌, ◌<◌, ◌≤◌, nat_le, nat_lt, nat_eq, ◌==◌, max, Bool, ◌&&◌, ◌||◌, if◌then◌else◌, List, [], ◌∷◌, ◌++◌, length, take, drop, replicate, slice_index_or, Option, Some, None}
+use Rattle.std.specs.Prelude.{◌≡◌, ℕ, zero, suc, ◌+◌, ◌*◌, ◌-◌, ◌/◌, ◌%◌, ◌<◌, ◌≤◌, nat_le, nat_lt, nat_eq, ◌==◌, max, Bool, ◌&&◌, ◌||◌, if◌then◌else◌, List, [], ◌∷◌, ◌++◌, length, take, drop, replicate, slice_index_or, Option, Some, None}
 use Rattle.std.specs.List.{insert, remove}
 use Rattle.us_holes.specs.Boards.{Owner, Holder, Board, Assignment, max_assignments, free_count}
 use Rattle.us_holes.specs.Runs.{end_of, InOrder}
@@ -110,6 +110,18 @@ rise_in from to ranked = if nat_lt from to then rise (hole_from from to) ranked 
 -- what is left of a hole in its place
 abbrev pub rank_narrowed : Hole → ℕ → ℕ → List Hole → List Hole
 rank_narrowed hole start slots ranked = rise_in hole.start start (rise_in (start + slots) (hole_end hole) (lift hole ranked))
+
+-- each stands where it would be put
+unfoldable pub InRank : List Hole → Type 0
+InRank [] = Unit {0}
+InRank (one ∷ more) = (place_for one more ≡ 0) × InRank more
+
+-- a hole as one number, of which the greater is before the other
+abbrev pub key_of : Hole → ℕ
+key_of hole = hole.slots * 65536 + (65535 - hole.start)
+
+abbrev pub hole_of_key : ℕ → Hole
+hole_of_key key = record { start = 65535 - key % 65536; slots = key / 65536 }
 
 abbrev pub first_in : List Hole → Option (ℕ × ℕ)
 first_in [] = None

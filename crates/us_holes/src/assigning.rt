@@ -5,13 +5,14 @@ ghost use Rattle.us_holes.specs.Runs as runs;
 
 use crate::assignments::{self, Assignment};
 use crate::holes::{self, Hole};
+use crate::rank_keys::RankKey;
 use crate::ranks;
 
 /// Adds an assignment that takes its minislots from the hole at a place. It needs no memory.
 pub(crate) fn assign(
     assigned: &mut Vec<Assignment>,
     holes: &mut Vec<Hole>,
-    ranked: &mut Vec<Hole>,
+    ranked: &mut Vec<RankKey>,
     place: usize,
     one: Assignment,
 )

@@ -11,6 +11,7 @@ use crate::assignments::{Assignment, push_some};
 use crate::holes::{self, Hole};
 use crate::owners::Owner;
 use crate::placements::Placed;
+use crate::rank_keys::RankKey;
 use crate::ranks;
 use crate::runs::{Run, push_runs};
 use std::alloc::Global;
@@ -32,7 +33,7 @@ pub struct Board {
 
     // what is idle between them, by start, and the same again, the longest first
     holes: Vec<Hole>,
-    ranked: Vec<Hole>,
+    ranked: Vec<RankKey>,
 
     // how many minislots there are, and how many of them are idle
     len: u32,
@@ -58,7 +59,7 @@ impl Board {
     {
         let assigned = Vec::with_capacity(alloc, MAX_ASSIGNMENTS as usize)?;
         let holes = holes::whole(alloc, len)?;
-        let ranked = holes::whole(alloc, len)?;
+        let ranked = ranks::whole(alloc, len)?;
         Ok(Board {
             assigned,
             holes,
@@ -80,7 +81,7 @@ impl Board {
         push_some(&mut self.assigned, 0, head, first);
         push_some(&mut self.assigned, to, tail, last);
         holes::refill(&mut self.holes, head, to);
-        holes::refill(&mut self.ranked, head, to);
+        ranks::refill(&mut self.ranked, head, to);
         self.free = to - head;
     }
 

@@ -62,7 +62,7 @@ impl Hole {
 }
 
 /// The most holes of a board: one more than assignments.
-const MAX_HOLES: usize = MAX_ASSIGNMENTS as usize + 1;
+pub(crate) const MAX_HOLES: usize = MAX_ASSIGNMENTS as usize + 1;
 
 /// The one hole of an idle board of `len` minislots, and room for as many holes as a board may have.
 pub(crate) fn whole(alloc: Global, len: u32) -> Result<Vec<Hole>, NoMemory>
@@ -143,7 +143,7 @@ fn put_for_last(holes: &mut [Hole], place: usize, hole: Hole)
 }
 
 /// Puts a hole at a place, and moves those from there on one further. It needs no memory.
-pub(crate) fn put_at(holes: &mut Vec<Hole>, place: usize, hole: Hole)
+fn put_at(holes: &mut Vec<Hole>, place: usize, hole: Hole)
     requires place { place ≤ vec_len holes.old }
     requires room { vec_len holes.old < vec_capacity holes.old }
     ensures items { holes.new.items ≡ insert holes.old.items place hole }

@@ -22,7 +22,8 @@ mod assignments;
 // Idle minislots between them, by start.
 mod holes;
 
-// The same by length.
+// The same by length, each as one number.
+mod rank_keys;
 mod ranks;
 
 // One more assignment in all three.
