@@ -5,6 +5,8 @@ pub mod BoardLemmas
 pub mod FitLemmas
 pub mod CellLemmas
 pub mod PutLemmas
+pub mod FoundLemmas
+pub mod WalkLemmas
 pub mod HoleLemmas
 pub mod RankLemmas
 pub mod KeyLemmas

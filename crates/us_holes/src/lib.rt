@@ -16,8 +16,9 @@ mod owners;
 // What becomes of an assignment that is to be placed.
 mod placements;
 
-// Assignments by start.
+// An assignment, and all of a board by start.
 mod assignments;
+mod placed;
 
 // Idle minislots between them, by start.
 mod holes;
