@@ -4,6 +4,7 @@ ghost use Rattle.us_holes.specs.Boards as spec;
 ghost use Rattle.us_holes.specs.Lists as lists;
 
 use crate::boards::MAX_ASSIGNMENTS;
+use crate::shifting;
 use std::alloc::Global;
 use std::marker::Model;
 use us_slots::NoMemory;
@@ -12,17 +13,26 @@ use us_slots::NoMemory;
 #[derive(Clone, Copy)]
 pub(crate) struct Hole {
     start: u16,
-    slots: u16,
+    end: u16,
 }
 
 impl Model for Hole {
+    ghost use Rattle.std.specs.Prelude.{◌≡◌, ◌+◌, ◌-◌, ◌≤◌};
+    ghost use Rattle.std.proofs.Common.{arith};
+    ghost use Rattle.us_holes.specs.Boards as spec;
+    ghost use Rattle.us_holes.specs.Lists as lists;
+
     ghost Value = { lists.Hole };
 
-    ghost view = { λ h. record { start = h.start; slots = h.slots } };
+    ghost view = { λ h. lists.hole_from h.start h.end };
 
-    ghost invariant = { λ h. h.start + h.slots ≤ spec.max_minislots };
+    ghost invariant = { λ h. (h.start ≤ h.end) × (h.end ≤ spec.max_minislots) };
 
-    ghost inverse = { λ h. record { start = h.start; slots = h.slots } };
+    ghost inverse = { λ h. record { start = h.start; end = lists.hole_end h } };
+
+    ghost inverse_ok = { λ h known.
+        let end : h.start + (h.end - h.start) ≡ h.end = omega (arith, known.0) in
+        λ i. record { start = h.start; end = end i } };
 }
 
 impl Hole {
@@ -34,7 +44,7 @@ impl Hole {
     {
         Hole {
             start: from as u16,
-            slots: (to - from) as u16,
+            end: to as u16,
         }
     }
 
@@ -49,7 +59,7 @@ impl Hole {
     pub(crate) fn slots(self) -> u32
         ensures { result ≡ self.slots }
     {
-        self.slots as u32
+        self.end() - self.start()
     }
 
     /// The minislot behind it.
@@ -57,7 +67,7 @@ impl Hole {
         ensures value { result ≡ lists.hole_end self }
         ensures inside { lists.hole_end self ≤ spec.max_minislots }
     {
-        self.start() + self.slots()
+        self.end as u32
     }
 }
 
@@ -173,6 +183,6 @@ pub(crate) fn narrow(holes: &mut Vec<Hole>, place: usize, start: u32, slots: u32
     } else if end < last {
         holes[place] = Hole::between(end, last);
     } else {
-        let _ = holes.remove(place);
+        shifting::take_out(holes, place);
     }
 }

@@ -20,8 +20,9 @@ mod placements;
 mod assignments;
 mod placed;
 
-// Idle minislots between them, by start.
+// Idle minislots between them, by start, and how one is taken out of a list.
 mod holes;
+mod shifting;
 
 // The same by length, each as one number.
 mod rank_keys;
