@@ -5,10 +5,11 @@ use Rattle.us_holes.specs.Placements.{placed, IsPlacedAt, HasNoRoom}
 use Rattle.us_holes.specs.declared.placements.Placed.TheVariants as answer
 use Rattle.us_holes.specs.declared.boards.Board.TheInside.{Inside}
 use Rattle.us_holes.specs.Runs.{InOrder}
-use Rattle.us_holes.specs.Lists.{cells_of, board_of, put, fit, HasAt, narrowed_at, rank, AreLists}
+use Rattle.us_holes.specs.Lists.{cells_of, board_of, put, AreApart, fit, HasAt, narrowed_at, rank, AreLists}
 use Rattle.us_holes.proofs.FitLemmas.{not_full, placed-at, says-at, placed-none}
 use Rattle.us_holes.proofs.CellLemmas.{cells_length}
 use Rattle.us_holes.proofs.PutLemmas.{order_within}
+use Rattle.us_holes.proofs.HoleLemmas.{holes_apart}
 use Rattle.us_holes.proofs.KeptLemmas.{kept_few, kept_length, kept_found, kept_none, kept_put, kept_assigned, kept_free}
 
 abbrev pub AreFields : Inside → Type 0
@@ -16,6 +17,9 @@ AreFields f = AreLists f.assigned f.holes.items f.ranked.items f.len f.free
 
 abbrev pub board_in : Inside → Board
 board_in f = board_of f.assigned f.len
+
+pub fields_apart : (f : Inside) → AreFields f → AreApart 0 f.holes.items
+fields_apart f lists = rw lists.between (holes_apart 0 f.assigned f.len lists.order)
 
 -- The lists with a search's answer,
 pub record IsPlacing (f : Inside) (before : Board) (from to place : ℕ) (one : Assignment) : Type 0 where

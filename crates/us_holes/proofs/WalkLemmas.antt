@@ -4,9 +4,9 @@ use Rattle.std.proofs.lemmas.Bool.{cases_lt, lt-ltb, le-ltb, eqb-true, eq-eqb, n
 use Rattle.std.proofs.lemmas.List.{append_assoc, append-nil}
 use Rattle.us_holes.specs.Boards.{Assignment}
 use Rattle.us_holes.specs.Runs.{Run, end_of, InOrder, run_of, runs_between}
-use Rattle.us_holes.specs.Lists.{beginning, Hole, hole_end, hole_from, holes_of, first_begins, run_of_hole}
+use Rattle.us_holes.specs.Lists.{beginning, Hole, hole_end, hole_from, holes_of, AreApart, first_begins, run_of_hole}
 use Rattle.us_holes.proofs.CellLemmas.{ordered_end}
-use Rattle.us_holes.proofs.HoleLemmas.{AreApart, holes_apart}
+use Rattle.us_holes.proofs.HoleLemmas.{holes_apart}
 
 -- No more runs than two for each assignment, and one.
 pub runs_few : (from : ℕ) (assigned : List Assignment) (to : ℕ) → length (runs_between from assigned to) ≤ 2 * length assigned + 1

@@ -91,6 +91,11 @@ abbrev pub first_begins : List Hole → ℕ → Bool
 first_begins [] start = false
 first_begins (hole ∷ more) start = nat_eq hole.start start
 
+-- each has a minislot and ends before the next begins, and the first begins at `from` or behind
+unfoldable pub AreApart : ℕ → List Hole → Type 0
+AreApart from [] = Unit {0}
+AreApart from (hole ∷ more) = (from ≤ hole.start) × (0 < hole.slots) × AreApart (hole_end hole) more
+
 -- a hole has this start in it, not behind the window, and as many minislots from there on
 abbrev pub fits_in : Hole → ℕ → ℕ → ℕ → Bool
 fits_in hole start to slots = nat_le start to && nat_le (start + slots) (hole_end hole)

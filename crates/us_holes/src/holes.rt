@@ -100,13 +100,29 @@ pub(crate) fn refill(holes: &mut Vec<Hole>, from: u32, to: u32)
     }
 }
 
+/// How many of the first holes are passed four by four, since the last of four ends before `slots` minislots from `from` on
+/// do, and so do those before it.
+fn passed_by_four(holes: &[Hole], from: u32, to: u32, slots: u32) -> usize
+    requires { lists.AreApart 0 holes.now }
+    ensures value { lists.fit result from to slots (drop result holes.now) ≡ lists.fit 0 from to slots holes.now }
+    ensures inside { result ≤ length holes.now }
+{
+    let least = from as u64 + slots as u64;
+    let mut at = 0;
+    while at + 4 <= holes.len() && (holes[at + 3].end() as u64) < least {
+        at += 4;
+    }
+    at
+}
+
 /// How many of the first holes end before `slots` minislots from `from` on do, so that none has room in the window.
 #[tactic(auto, unfolding(crate::specs::Lists::fit), using(crate::proofs::HoleLemmas::ends_early))]
 fn passed(holes: &[Hole], from: u32, to: u32, slots: u32) -> usize
+    requires { lists.AreApart 0 holes.now }
     ensures { lists.fit result from to slots (drop result holes.now) ≡ lists.fit 0 from to slots holes.now }
 {
     let least = from as u64 + slots as u64;
-    for i in 0..holes.len() {
+    for i in passed_by_four(holes, from, to, slots)..holes.len() {
         let one = holes[i];
         if one.end() as u64 >= least {
             return i;
@@ -115,24 +131,21 @@ fn passed(holes: &[Hole], from: u32, to: u32, slots: u32) -> usize
     holes.len()
 }
 
-/// Whether `slots` minislots fit in the hole from its first start on that is no earlier than `from`, and this start is
-/// no later than `to`.
-fn fits_in(hole: Hole, from: u32, to: u32, slots: u32) -> bool
-    ensures { result ≡ lists.fits_in hole (max from hole.start) to slots }
-{
-    let start = from.max(hole.start());
-    start <= to && start as u64 + slots as u64 <= hole.end() as u64
-}
-
 /// The first hole where `slots` minislots fit from a start from `from` to `to` on: its place, and the least such start.
 #[tactic(auto, unfolding(crate::specs::Lists::fit))]
 pub(crate) fn earliest(holes: &[Hole], from: u32, to: u32, slots: u32) -> Option<(usize, u32)>
+    requires { lists.AreApart 0 holes.now }
     ensures { result ≡ lists.fit 0 from to slots holes.now }
 {
     for i in passed(holes, from, to, slots)..holes.len() {
         let hole = holes[i];
-        if fits_in(hole, from, to, slots) {
-            return Some((i, from.max(hole.start())));
+        let start = from.max(hole.start());
+        if start > to {
+            // those behind it begin later yet
+            return None;
+        }
+        if start as u64 + slots as u64 <= hole.end() as u64 {
+            return Some((i, start));
         }
     }
     None

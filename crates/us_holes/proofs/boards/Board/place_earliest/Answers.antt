@@ -1,7 +1,10 @@
 use Rattle.std.proofs.Common.{◌∙◌, refl, sym}
 use Rattle.us_holes.specs.Boards.{Assignment}
-use Rattle.us_holes.proofs.PlacingLemmas.{placing, refusing}
+use Rattle.us_holes.proofs.PlacingLemmas.{fields_apart, placing, refusing}
 use Rattle.us_holes.proofs.boards.Board.place_earliest.Goals as goal
+
+pub earliest-requires : goal.earliest-requires
+earliest-requires c = rw c.deref.ensures.value (fields_apart c.self.inside c.self.invariant.0)
 
 pub new-one-requires : goal.new-one-requires
 new-one-requires c =
