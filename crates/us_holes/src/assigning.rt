@@ -31,6 +31,6 @@ pub(crate) fn assign(
 {
     let hole = holes[place];
     ranks::narrow(ranked, hole, one.start(), one.slots());
-    holes::narrow(holes, place, one.start(), one.slots());
+    holes::narrow(holes, place, hole, one.start(), one.slots());
     assigned.put(one);
 }

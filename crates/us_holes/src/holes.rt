@@ -178,14 +178,14 @@ fn put_at(holes: &mut Vec<Hole>, place: usize, hole: Hole)
 }
 
 /// Takes the `slots` minislots from `start` on out of the hole at a place. It needs no memory.
-pub(crate) fn narrow(holes: &mut Vec<Hole>, place: usize, start: u32, slots: u32)
+pub(crate) fn narrow(holes: &mut Vec<Hole>, place: usize, hole: Hole, start: u32, slots: u32)
     requires place { place < vec_len holes.old }
+    requires there { hole ≡ slice_index_or holes.old.items place hole }
     requires room { vec_len holes.old < vec_capacity holes.old }
-    requires inside { (hole : lists.Hole) → start + slots ≤ lists.hole_end (slice_index_or holes.old.items place hole) }
+    requires inside { start + slots ≤ lists.hole_end hole }
     ensures items { holes.new.items ≡ lists.narrowed_at place start slots holes.old.items }
     ensures capacity { vec_capacity holes.old ≤ vec_capacity holes.new }
 {
-    let hole = holes[place];
     let (first, last) = (hole.start(), hole.end());
     let end = start + slots;
     if first < start {
