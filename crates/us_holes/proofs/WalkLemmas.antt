@@ -1,12 +1,17 @@
 -- A walk along a board by minislots: at each, a hole begins or an assignment does.
-use Rattle.std.proofs.Common.{◌≡◌, ℕ, zero, suc, ◌+◌, ◌*◌, ◌<◌, ◌≤◌, nat_eq, List, [], ◌∷◌, ◌++◌, length, drop, get_or, true, false, Some, IsSome, refl, ap, sym, subst, ◌∙◌, inl, inr, arith}
+use Rattle.std.proofs.Common.{◌≡◌, ℕ, zero, suc, ◌+◌, ◌*◌, ◌<◌, ◌≤◌, nat_eq, Bool, List, [], ◌∷◌, ◌++◌, length, drop, get_or, true, false, Some, IsSome, refl, ap, sym, subst, ◌∙◌, inl, inr, arith}
 use Rattle.std.proofs.lemmas.Bool.{cases_lt, lt-ltb, le-ltb, eqb-true, eq-eqb, ne_eqb}
 use Rattle.std.proofs.lemmas.List.{append_assoc, append-nil}
 use Rattle.us_holes.specs.Boards.{Assignment}
 use Rattle.us_holes.specs.Runs.{Run, end_of, InOrder, run_of, runs_between}
-use Rattle.us_holes.specs.Lists.{beginning, Hole, hole_end, hole_from, holes_of, AreApart, first_begins, run_of_hole}
+use Rattle.us_holes.specs.Lists.{beginning, Hole, hole_end, hole_from, holes_of, AreApart, first_start, run_of_hole}
 use Rattle.us_holes.proofs.CellLemmas.{ordered_end}
 use Rattle.us_holes.proofs.HoleLemmas.{holes_apart}
+
+-- the first of these holes begins at a minislot
+abbrev first_begins : List Hole → ℕ → Bool
+first_begins [] start = false
+first_begins (hole ∷ more) start = nat_eq hole.start start
 
 -- No more runs than two for each assignment, and one.
 pub runs_few : (from : ℕ) (assigned : List Assignment) (to : ℕ) → length (runs_between from assigned to) ≤ 2 * length assigned + 1
@@ -172,6 +177,23 @@ begins_inside [] (suc number) start t = let no : false ≡ true = t in absurd cc
 begins_inside (hole ∷ holes) zero start t = omega arith
 begins_inside (hole ∷ holes) (suc number) start t = omega (arith, begins_inside holes number start t)
 
+-- It begins here where none of the minislots before it is left.
+first_above : (from len : ℕ) (more : List Assignment) (hole : Hole) (holes : List Hole) → InOrder from more len →
+    hole ∷ holes ≡ holes_of from more len → from ≤ hole.start
+first_above from len more hole holes order rest =
+    let apart : AreApart from (hole ∷ holes) = rw (sym rest) at (holes_apart from more len order) in
+    starts from hole holes apart
+
+idle_here : (assigned : List Assignment) (holes : List Hole) (len from : ℕ) (found all : List Run) → from < len →
+    first_start holes len ≤ from → IsWalked assigned holes len from found all → first_begins holes from ≡ true
+idle_here assigned [] len from found all some below walked = absurd (omega (arith, some, below))
+idle_here assigned (hole ∷ holes) len from found all some below walked =
+    eq-eqb hole.start from (omega (arith, below, first_above from len walked.more hole holes walked.order walked.rest))
+
+held_here : (holes : List Hole) (len from : ℕ) → from < first_start holes len → first_begins holes from ≡ false
+held_here [] len from above = refl
+held_here (hole ∷ holes) len from above = ne_eqb hole.start from (λ same. omega (arith, same, above))
+
 -- A step of the walk.
 pub record IsStep (assigned : List Assignment) (holes : List Hole) (len from end : ℕ) (found all : List Run) (run : Run) : Type 0 where
   pub later : from < end
@@ -179,10 +201,11 @@ pub record IsStep (assigned : List Assignment) (holes : List Hole) (len from end
   pub room : length found < length all
 
 pub hole_step : (assigned : List Assignment) (holes : List Hole) (len from next : ℕ) (found all : List Run) (hole : Hole) →
-    from < len → first_begins (drop next holes) from ≡ true → hole ≡ get_or holes next hole →
+    from < len → first_start (drop next holes) len ≤ from → hole ≡ get_or holes next hole →
     IsWalked assigned (drop next holes) len from found all →
     IsStep assigned (drop (next + 1) holes) len from (hole_end hole) found all (run_of_hole hole)
-hole_step assigned holes len from next found all hole some begins is walked =
+hole_step assigned holes len from next found all hole some below is walked =
+    let begins = idle_here assigned (drop next holes) len from found all some below walked in
     let front = drop_front holes next hole (begins_inside holes next from begins) is in
     let number : next + 1 ≡ suc next = omega arith in
     let rest = drop (suc next) holes in
@@ -196,16 +219,16 @@ hole_step assigned holes len from next found all hole some begins is walked =
     })
 
 pub held_there : (assigned : List Assignment) (holes : List Hole) (len from : ℕ) (found all : List Run) → from < len →
-    first_begins holes from ≡ false → IsWalked assigned holes len from found all → IsSome (beginning from assigned)
-held_there assigned holes len from found all some none walked =
-    let held = walk_held assigned holes len from found all some none walked in
+    from < first_start holes len → IsWalked assigned holes len from found all → IsSome (beginning from assigned)
+held_there assigned holes len from found all some above walked =
+    let held = walk_held assigned holes len from found all some (held_here holes len from above) walked in
     rw held.is refl
 
 pub held_step : (assigned : List Assignment) (holes : List Hole) (len from : ℕ) (found all : List Run) (one : Assignment) →
-    from < len → first_begins holes from ≡ false → Some one ≡ beginning from assigned →
+    from < len → from < first_start holes len → Some one ≡ beginning from assigned →
     IsWalked assigned holes len from found all → IsStep assigned holes len from (end_of one) found all (run_of one)
-held_step assigned holes len from found all one some none is walked =
-    let held = walk_held assigned holes len from found all some none walked in
+held_step assigned holes len from found all one some above is walked =
+    let held = walk_held assigned holes len from found all some (held_here holes len from above) walked in
     let both : Some one ≡ Some held.one = is ∙ held.is in
     let same : held.one ≡ one = cc in
     subst (λ one. IsStep assigned holes len from (end_of one) found all (run_of one)) same (record {

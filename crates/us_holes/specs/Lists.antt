@@ -1,5 +1,5 @@
 -- Inside the crate, and of no use to a reader of the promise: a board as its assignments and the holes between them.
-use Rattle.std.specs.Prelude.{◌≡◌, ℕ, zero, suc, ◌+◌, ◌*◌, ◌-◌, ◌/◌, ◌%◌, ◌<◌, ◌≤◌, nat_le, nat_lt, nat_eq, ◌==◌, max, Bool, false, ◌&&◌, ◌||◌, if◌then◌else◌, List, [], ◌∷◌, ◌++◌, length, take, drop, replicate, slice_index_or, Option, Some, None}
+use Rattle.std.specs.Prelude.{◌≡◌, ℕ, zero, suc, ◌+◌, ◌*◌, ◌-◌, ◌/◌, ◌%◌, ◌<◌, ◌≤◌, nat_le, nat_lt, nat_eq, ◌==◌, max, Bool, ◌&&◌, ◌||◌, if◌then◌else◌, List, [], ◌∷◌, ◌++◌, length, take, drop, replicate, slice_index_or, Option, Some, None}
 use Rattle.std.specs.List.{insert, remove}
 use Rattle.us_holes.specs.Boards.{Owner, Holder, Board, Assignment, max_assignments, max_minislots, free_count}
 use Rattle.us_holes.specs.Runs.{Run, end_of, InOrder}
@@ -86,10 +86,10 @@ holes_of from (one ∷ more) to = hole_in from one.start ++ holes_of (end_of one
 abbrev pub run_of_hole : Hole → Run
 run_of_hole hole = record { start = hole.start; len = hole.slots; owner = None }
 
--- the first of these holes begins at a minislot
-abbrev pub first_begins : List Hole → ℕ → Bool
-first_begins [] start = false
-first_begins (hole ∷ more) start = nat_eq hole.start start
+-- where the first of these holes begins; where there is none, the end
+abbrev pub first_start : List Hole → ℕ → ℕ
+first_start [] to = to
+first_start (hole ∷ more) to = hole.start
 
 -- each has a minislot and ends before the next begins, and the first begins at `from` or behind
 unfoldable pub AreApart : ℕ → List Hole → Type 0

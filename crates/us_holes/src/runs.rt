@@ -73,11 +73,15 @@ impl Run {
     }
 }
 
-/// Whether a hole of this number begins at a minislot.
-fn begins_at(holes: &[Hole], number: usize, start: u32) -> bool
-    ensures { result ≡ lists.first_begins (drop number holes.now) start }
+/// Where the hole of a number begins; `len` where there is none.
+fn start_of(holes: &[Hole], number: usize, len: u32) -> u32
+    ensures { result ≡ lists.first_start (drop number holes.now) len }
 {
-    number < holes.len() && holes[number].start() == start
+    if number < holes.len() {
+        holes[number].start()
+    } else {
+        len
+    }
 }
 
 /// Adds the runs of a board of `len` minislots with these assignments and the holes between them. Room for as many as there
@@ -100,16 +104,18 @@ pub(crate) fn push_runs(
     found.reserve_exact(2 * assigned.len() + 1)?;
     let mut from = 0;
     let mut next = 0;
+    let mut idle_from = start_of(holes, next, len);
     while from < len {
-        if begins_at(holes, next, from) {
+        if from < idle_from {
+            let one = assigned.beginning_at(from);
+            found.push_reserved(Run::of(one));
+            from = one.end();
+        } else {
             let hole = holes[next];
             found.push_reserved(Run::idle(hole));
             from = hole.end();
             next += 1;
-        } else {
-            let one = assigned.beginning_at(from);
-            found.push_reserved(Run::of(one));
-            from = one.end();
+            idle_from = start_of(holes, next, len);
         }
     }
     Ok(())
