@@ -341,7 +341,9 @@ fn put_entry(line: &mut [u8; LINE_BYTES], end: usize, entry: EntryWord) -> usize
     ensures start { result ≤ LINE_BYTES }
     ensures line { drop result line.new ≡ 44 ∷ (spec.word_text entry ++ drop end line.old) }
 {
-    let _start = put_text(line, end, word_of(entry));
+    let (first, last) = word_of(entry);
+    let middle = put_four_bytes(line, end, last);
+    let _start = put_four_bytes(line, middle, first);
     end - bytes_of(entry)
 }
 
@@ -455,6 +457,25 @@ fn put_longer(line: &mut [u8; LINE_BYTES], end: usize, number: u64) -> usize
     ensures line { drop result line.new ≡ decimal number ++ drop end line.old }
 {
     itoa::write_digits(number, line, end)
+}
+
+/// Puts four bytes before what stands from `end` on, which are read before the first is put: so both are a move.
+#[inline(always)]
+pub(crate) fn put_four_bytes(
+    line: &mut [u8; LINE_BYTES],
+    end: usize,
+    bytes: (u8, u8, u8, u8),
+) -> usize
+    requires room { 4 ≤ end }
+    requires end { end ≤ LINE_BYTES }
+    ensures start { result + 4 ≡ end }
+    ensures line { drop result line.new ≡ bytes.0 ∷ bytes.1 ∷ bytes.2 ∷ bytes.3 ∷ drop end line.old }
+{
+    let (first, second, third, fourth) = bytes;
+    let start = put_byte(line, end, fourth);
+    let start = put_byte(line, start, third);
+    let start = put_byte(line, start, second);
+    put_byte(line, start, first)
 }
 
 /// Puts a byte before what stands from `end` on.

@@ -1,7 +1,7 @@
 ghost use Rattle.std.specs.Prelude.{◌≡◌, ◌+◌, ◌/◌, ◌%◌, ◌<◌, ◌≤◌, ◌∷◌, ◌++◌, length, drop};
 ghost use Rattle.std.specs.Fmt.{decimal};
 
-use crate::lines::{LINE_BYTES, put_byte};
+use crate::lines::{LINE_BYTES, put_four_bytes};
 
 /// For each number below 1,000 how many bytes a comma and its digits are, and then three digits, of which the first may be 0.
 static THREES: [u8; 4000] = *b"\
@@ -98,12 +98,7 @@ pub(crate) fn put_three(line: &mut [u8; LINE_BYTES], end: usize, number: u64) ->
     ensures line { drop result line.new ≡
         (48 + number / 100) ∷ (48 + number % 100 / 10) ∷ (48 + number % 10) ∷ drop end line.old }
 {
-    let (bytes, hundreds, tens, ones) = three_of(number);
-    let start = put_byte(line, end, ones);
-    let start = put_byte(line, start, tens);
-    let start = put_byte(line, start, hundreds);
-    let _before = put_byte(line, start, bytes);
-    start
+    put_four_bytes(line, end, three_of(number)) + 1
 }
 
 /// How many digits a number below 1,000 has.

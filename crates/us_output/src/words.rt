@@ -1,4 +1,4 @@
-ghost use Rattle.std.specs.Prelude.{◌≡◌, ◌+◌, ◌-◌, ◌∷◌, length, drop};
+ghost use Rattle.std.specs.Prelude.{◌≡◌, ◌+◌, ◌-◌, [], ◌∷◌, length, drop};
 ghost use Rattle.us_output.specs.Lines.{word_text};
 
 use crate::rows::EntryWord;
@@ -17,10 +17,13 @@ pub(crate) fn bytes_of(entry: EntryWord) -> usize
 
 /// Eight bytes that end with a comma and the word of an entry.
 #[inline(always)]
-pub(crate) fn word_of(entry: EntryWord) -> &'static [u8]
-    ensures len { length result.now ≡ 8 }
-    ensures word { drop (7 - length (word_text entry)) result.now ≡ 44 ∷ word_text entry }
+pub(crate) fn word_of(entry: EntryWord) -> ((u8, u8, u8, u8), (u8, u8, u8, u8))
+    ensures { drop (7 - length (word_text entry))
+        (result.0.0 ∷ result.0.1 ∷ result.0.2 ∷ result.0.3 ∷ result.1.0 ∷ result.1.1 ∷ result.1.2 ∷ result.1.3 ∷ []) ≡ 44 ∷ word_text entry }
 {
     let at = entry as usize * 9 + 1;
-    &WORDS[at..at + 8]
+    (
+        (WORDS[at], WORDS[at + 1], WORDS[at + 2], WORDS[at + 3]),
+        (WORDS[at + 4], WORDS[at + 5], WORDS[at + 6], WORDS[at + 7]),
+    )
 }
