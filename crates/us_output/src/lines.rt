@@ -431,8 +431,7 @@ fn put_digits(line: &mut [u8; LINE_BYTES], end: usize, number: u64) -> usize
 }
 
 /// Puts a number of more than three digits. With up to six it is put three at a time.
-#[cold]
-#[inline(never)]
+#[inline(always)]
 fn put_long(line: &mut [u8; LINE_BYTES], end: usize, number: u64) -> usize
     requires long { 1000 ≤ number }
     requires room { FIELD_BYTES ≤ end }
@@ -449,6 +448,8 @@ fn put_long(line: &mut [u8; LINE_BYTES], end: usize, number: u64) -> usize
 }
 
 /// Puts a number of any size.
+#[cold]
+#[inline(never)]
 fn put_longer(line: &mut [u8; LINE_BYTES], end: usize, number: u64) -> usize
     requires room { FIELD_BYTES ≤ end }
     requires end { end ≤ LINE_BYTES }
