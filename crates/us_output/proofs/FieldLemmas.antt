@@ -1,5 +1,5 @@
 -- The table of numbers below 1,000, and the digits of these numbers.
-use Rattle.std.proofs.Common.{◌≡◌, ℕ, zero, suc, ◌+◌, ◌-◌, ◌*◌, ◌/◌, ◌%◌, ◌<◌, ◌≤◌, ◌⊎◌, inl, inr, Bool, true, false, ◌&&◌, T, eqb, List, [], ◌∷◌, ◌++◌, length, drop, get_or, cond, ltb, refl, ap, sym, ◌∙◌, arith, eqb→eq, append_assoc, ◌^◌}
+use Rattle.std.proofs.Common.{◌≡◌, ℕ, zero, suc, ◌+◌, ◌-◌, ◌*◌, ◌/◌, ◌%◌, ◌<◌, ◌≤◌, inl, inr, Bool, true, false, ◌&&◌, T, eqb, List, [], ◌∷◌, ◌++◌, length, drop, get_or, cond, ltb, refl, ap, sym, ◌∙◌, arith, eqb→eq, append_assoc, ◌^◌}
 use Rattle.std.specs.Fmt.{decimal}
 use Rattle.std.proofs.lemmas.Bool.{cases_lt}
 use Rattle.std.proofs.lemmas.Bool.Decides.{nat_tests}

@@ -15,11 +15,12 @@ pub(crate) fn bytes_of(entry: EntryWord) -> usize
     usize::from(WORDS[entry as usize * 9])
 }
 
-/// Eight bytes that end with a comma and the word of an entry.
+/// Eight bytes that end with a comma and the word of an entry, as two fours.
 #[inline(always)]
 pub(crate) fn word_of(entry: EntryWord) -> ((u8, u8, u8, u8), (u8, u8, u8, u8))
     ensures { drop (7 - length (word_text entry))
-        (result.0.0 ∷ result.0.1 ∷ result.0.2 ∷ result.0.3 ∷ result.1.0 ∷ result.1.1 ∷ result.1.2 ∷ result.1.3 ∷ []) ≡ 44 ∷ word_text entry }
+        (result.0.0 ∷ result.0.1 ∷ result.0.2 ∷ result.0.3 ∷
+        result.1.0 ∷ result.1.1 ∷ result.1.2 ∷ result.1.3 ∷ []) ≡ 44 ∷ word_text entry }
 {
     let at = entry as usize * 9 + 1;
     (

@@ -1,4 +1,4 @@
-use Rattle.std.proofs.Common.{◌≡◌, ◌+◌, ◌∷◌, drop, ap, sym, ◌∙◌, refl}
+use Rattle.std.proofs.Common.{drop, ap, sym, ◌∙◌, refl}
 use Rattle.std.proofs.lemmas.List.{drop-drop}
 use Rattle.us_output.proofs.threes.put_three.Goals as goal
 
