@@ -1,4 +1,4 @@
-pub mod PairLemmas
+pub mod FieldLemmas
 pub mod PartLemmas
 pub mod PendingLemmas
 pub mod OrderLemmas

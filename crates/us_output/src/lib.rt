@@ -24,7 +24,8 @@ mod rows;
 // their text, and that their numbers have 64 bits.
 mod fields;
 mod lines;
-mod pairs;
+mod threes;
+mod words;
 
 // Who is pending.
 mod pendings;
