@@ -4,7 +4,8 @@ use Rattle.std.proofs.lemmas.Bool.{cases_lt, lt-ltb, le-ltb, eq-eqb, ne_eqb}
 use Rattle.std.proofs.lemmas.List.{append-nil}
 use Rattle.us_holes.specs.Boards.{Owner, Board, Assignment, empty_board, assign, assign_some, ends_held}
 use Rattle.us_holes.specs.Lists.{board_of, place_among, put, hole_from, hole_in, HasAt, narrowed_at, AreLists, one_from}
-use Rattle.us_holes.proofs.PutLemmas.{put_later}
+use Rattle.us_holes.specs.Runs.{InOrder}
+use Rattle.us_holes.proofs.PutLemmas.{put_later, order_within}
 use Rattle.us_holes.specs.declared.boards.Board.TheInside.{Inside}
 use Rattle.us_holes.proofs.KeptLemmas.{empty_lists, empty_kept, kept_length, kept_range, kept_put, kept_assigned, rank_of_one}
 use Rattle.us_holes.proofs.PlacingLemmas.{AreFields, board_in}
@@ -133,9 +134,9 @@ pub record HasEnds (f : Inside) (before : Board) (head tail : ℕ) : Type 0 wher
 pub has_ends : (f : Inside) (before : Board) (head tail : ℕ) → AreFields f → board_in f ≡ before →
     head + tail ≤ length before.cells → HasEnds f before head tail
 has_ends f before head tail lists is room =
-    let range = kept_range f.assigned.items f.holes.items f.ranked.items f.len f.free lists in
+    let range = kept_range f.assigned f.holes.items f.ranked.items f.len f.free lists in
     let len : f.len ≡ length before.cells =
-    kept_length f.assigned.items f.holes.items f.ranked.items f.len f.free lists ∙ ap (λ board. length board.cells) is in
+    kept_length f.assigned f.holes.items f.ranked.items f.len f.free lists ∙ ap (λ board. length board.cells) is in
     record { some = range.0; most = range.1; few = omega (arith, room, len); len = len }
 
 pub ends_kept : (len head tail : ℕ) (first last : Owner) → 1 ≤ len → len ≤ 4096 → head + tail ≤ len →
@@ -148,3 +149,13 @@ ends_kept len head tail first last some most few =
 pub ends_told : (len head tail : ℕ) (first last : Owner) → 1 ≤ len → len ≤ 4096 → head + tail ≤ len →
     board_of (one_from 0 head first ++ one_from (len - tail) tail last) len ≡ ends_held len head first tail last
 ends_told len head tail first last some most few = (tail_held len head tail first last some most few).told
+
+pub head_ordered : (len head : ℕ) (first : Owner) → 1 ≤ len → len ≤ 4096 → head ≤ len → InOrder 0 (one_from 0 head first) 4096
+head_ordered len head first some most few =
+    order_within 0 (one_from 0 head first) len 4096 (head_held len head first some most few).lists.order most
+
+pub ends_ordered : (len head tail : ℕ) (first last : Owner) → 1 ≤ len → len ≤ 4096 → head + tail ≤ len →
+    InOrder 0 (one_from 0 head first ++ one_from (len - tail) tail last) 4096
+ends_ordered len head tail first last some most few =
+    order_within 0 (one_from 0 head first ++ one_from (len - tail) tail last) len 4096
+    (ends_kept len head tail first last some most few).order most

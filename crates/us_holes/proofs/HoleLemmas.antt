@@ -1,11 +1,11 @@
 -- Holes: where an assignment fits, and what it leaves of them.
-use Rattle.std.proofs.Common.{◌≡◌, ℕ, zero, suc, ◌+◌, ◌-◌, ◌<◌, ◌≤◌, nat_le, max, List, [], ◌∷◌, ◌++◌, length, get_or, set, true, false, Some, None, refl, ap, sym, ◌∙◌, inl, inr, arith}
+use Rattle.std.proofs.Common.{◌≡◌, ℕ, zero, suc, ◌+◌, ◌-◌, ◌<◌, ◌≤◌, nat_le, max, List, [], ◌∷◌, ◌++◌, length, drop, get_or, set, true, false, Some, None, refl, ap, sym, ◌∙◌, inl, inr, arith}
 use Rattle.std.specs.List.{insert, remove}
 use Rattle.std.proofs.lemmas.Bool.{cases_Bool, cases_lt, false_from_ne_true, and_parts, and_from, leb-true, le-leb, lt-ltb, le-ltb}
-use Rattle.std.proofs.lemmas.List.{append-nil}
+use Rattle.std.proofs.lemmas.List.{append-nil, get_or-drop, length-drop, drop-drop, drop_more}
 use Rattle.us_holes.specs.Boards.{Assignment}
 use Rattle.us_holes.specs.Runs.{end_of, InOrder}
-use Rattle.us_holes.specs.Lists.{put, Hole, hole_end, hole_from, hole_in, holes_of, fits_in, fit, HasAt, narrowed_at}
+use Rattle.us_holes.specs.Lists.{put, Hole, hole_end, hole_from, hole_in, holes_of, AreApart, fits_in, fit, HasAt, narrowed_at}
 use Rattle.us_holes.proofs.CellLemmas.{HasRoom, room_inside, hole_alone}
 use Rattle.us_holes.proofs.PutLemmas.{put_first, put_later, put_alone}
 
@@ -54,10 +54,6 @@ narrowed_whole (one ∷ more) (suc place) start slots hole inside is none nil =
     ap (λ holes. one ∷ holes) (narrowed_whole more place start slots hole (omega (arith, inside)) is none nil)
 
 -- Holes by start.
-unfoldable pub AreApart : ℕ → List Hole → Type 0
-AreApart from [] = Unit {0}
-AreApart from (hole ∷ more) = (from ≤ hole.start) × (0 < hole.slots) × AreApart (hole_end hole) more
-
 apart_before : (from later : ℕ) (holes : List Hole) → from ≤ later → AreApart later holes → AreApart from holes
 unfolding AreApart
 apart_before from later [] before h = tt
@@ -135,6 +131,70 @@ pub ends_early : (hole : Hole) (from to slots : ℕ) → hole_end hole < from + 
 ends_early hole from to slots early =
     false_from_ne_true (fits_in hole (max from hole.start) to slots)
     (λ h. let known = fits_here hole (max from hole.start) to slots h in omega (arith, known.1, early))
+
+-- and if the last of several ends too early all of them do.
+ends_before : (from : ℕ) (holes : List Hole) (number : ℕ) (hole : Hole) → AreApart from holes → number < length holes →
+    hole ≡ get_or holes number hole → from ≤ hole_end hole
+unfolding AreApart
+ends_before from [] number hole apart inside is = absurd (omega (arith, inside))
+ends_before from (one ∷ more) zero hole apart inside is =
+    let end : hole_end hole ≡ hole_end one = ap (λ hole. hole_end hole) is in
+    omega (arith, end, apart.0)
+ends_before from (one ∷ more) (suc number) hole apart inside is =
+    omega (arith, apart.0, ends_before (hole_end one) more number hole apart.2 (omega (arith, inside)) is)
+
+passed_all : (at place number from to slots : ℕ) (holes : List Hole) (hole : Hole) → AreApart at holes →
+    number < length holes → hole ≡ get_or holes number hole → hole_end hole < from + slots →
+    fit (place + suc number) from to slots (drop (suc number) holes) ≡ fit place from to slots holes
+unfolding fit AreApart
+passed_all at place number from to slots [] hole apart inside is early = absurd (omega (arith, inside))
+passed_all at place zero from to slots (one ∷ more) hole apart inside is early =
+    let end : hole_end hole ≡ hole_end one = ap (λ hole. hole_end hole) is in
+    rw (ends_early one from to slots (omega (arith, end, early))) refl
+passed_all at place (suc number) from to slots (one ∷ more) hole apart inside is early =
+    let behind = ends_before (hole_end one) more number hole apart.2 (omega (arith, inside)) is in
+    let next : place + suc (suc number) ≡ place + 1 + suc number = omega arith in
+    rw (ends_early one from to slots (omega (arith, behind, early)), next)
+    (passed_all (hole_end one) (place + 1) number from to slots more hole apart.2 (omega (arith, inside)) is early)
+
+apart_from : (from first : ℕ) (holes : List Hole) → AreApart from holes → AreApart from (drop first holes)
+unfolding AreApart
+apart_from from zero holes apart = apart
+apart_from from (suc first) [] apart = apart
+apart_from from (suc first) (one ∷ more) apart =
+    apart_before from (hole_end one) (drop first more) (omega (arith, apart.0)) (apart_from (hole_end one) first more apart.2)
+
+pub passed_from : (first number from to slots : ℕ) (holes : List Hole) (hole : Hole) → AreApart 0 holes →
+    first + number < length holes → hole ≡ get_or holes (first + number) hole → hole_end hole < from + slots →
+    fit (first + suc number) from to slots (drop (first + suc number) holes) ≡ fit first from to slots (drop first holes)
+passed_from first number from to slots holes hole apart inside is early =
+    rw (sym (drop-drop (suc number) first holes))
+    (passed_all 0 first number from to slots (drop first holes) hole (apart_from 0 first holes apart)
+    (omega (arith, inside, length-drop first holes)) (is ∙ sym (get_or-drop first holes number hole)) early)
+
+-- A hole that begins behind the window has none, and nor has any behind it.
+pub begins_late : (at place from to slots : ℕ) (holes : List Hole) → AreApart at holes → to < max from at →
+    None ≡ fit place from to slots holes
+unfolding fit AreApart
+begins_late at place from to slots [] apart late = refl
+begins_late at place from to slots (one ∷ more) apart late =
+    let not : fits_in one (max from one.start) to slots ≡ false =
+    false_from_ne_true (fits_in one (max from one.start) to slots)
+    (λ h. let known = fits_here one (max from one.start) to slots h in omega (arith, known.0, late, apart.0)) in
+    rw not (begins_late (hole_end one) (place + 1) from to slots more apart.2 (omega (arith, late, apart.0)))
+
+later : (at : ℕ) (hole : Hole) (holes : List Hole) → AreApart at (hole ∷ holes) → AreApart hole.start (hole ∷ holes)
+unfolding AreApart
+later at hole holes apart = (omega arith, apart.1, apart.2)
+
+pub late_from : (first from to slots : ℕ) (holes : List Hole) (hole : Hole) → AreApart 0 holes → first < length holes →
+    hole ≡ get_or holes first hole → to < max from hole.start → None ≡ fit first from to slots (drop first holes)
+late_from first from to slots holes hole apart inside is late =
+    let front : drop first holes ≡ hole ∷ drop (first + 1) holes =
+    drop_more holes first hole inside ∙ ap (λ one. one ∷ drop (first + 1) holes) (sym is) in
+    let apart : AreApart 0 (hole ∷ drop (first + 1) holes) = rw front at (apart_from 0 first holes apart) in
+    rw front (begins_late hole.start first from to slots (hole ∷ drop (first + 1) holes)
+    (later 0 hole (drop (first + 1) holes) apart) late)
 
 fits_not : (hole : Hole) (from to slots at : ℕ) → fits_in hole (max from hole.start) to slots ≡ false → from ≤ at →
     at ≤ to → hole.start ≤ at → at + slots ≤ hole_end hole → ⊥

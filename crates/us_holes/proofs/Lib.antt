@@ -5,8 +5,12 @@ pub mod BoardLemmas
 pub mod FitLemmas
 pub mod CellLemmas
 pub mod PutLemmas
+pub mod FoundLemmas
+pub mod WalkLemmas
 pub mod HoleLemmas
 pub mod RankLemmas
+pub mod KeyLemmas
+pub mod RiseLemmas
 pub mod KeptLemmas
 pub mod PlacingLemmas
 pub mod EndLemmas

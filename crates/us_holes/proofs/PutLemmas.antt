@@ -118,7 +118,7 @@ put_cells from (other ∷ more) to one order some h =
           ))
     ]
 
-put_length : (one : Assignment) (assigned : List Assignment) → length (put one assigned) ≡ length assigned + 1
+pub put_length : (one : Assignment) (assigned : List Assignment) → length (put one assigned) ≡ length assigned + 1
 unfolding place_among
 put_length one [] = refl
 put_length one (other ∷ more) = elim (cases_lt one.start other.start) [

@@ -1,8 +1,8 @@
 -- Inside the crate, and of no use to a reader of the promise: a board as its assignments and the holes between them.
-use Rattle.std.specs.Prelude.{◌≡◌, ℕ, zero, suc, ◌+◌, ◌-◌, ◌<◌, ◌≤◌, nat_le, nat_lt, nat_eq, ◌==◌, max, Bool, ◌&&◌, ◌||◌, if◌then◌else◌, List, [], ◌∷◌, ◌++◌, length, take, drop, replicate, slice_index_or, Option, Some, None}
+use Rattle.std.specs.Prelude.{◌≡◌, ℕ, zero, suc, ◌+◌, ◌*◌, ◌-◌, ◌/◌, ◌%◌, ◌<◌, ◌≤◌, nat_le, nat_lt, nat_eq, ◌==◌, max, Bool, ◌&&◌, ◌||◌, if◌then◌else◌, List, [], ◌∷◌, ◌++◌, length, take, drop, replicate, slice_index_or, Option, Some, None}
 use Rattle.std.specs.List.{insert, remove}
-use Rattle.us_holes.specs.Boards.{Owner, Holder, Board, Assignment, max_assignments, free_count}
-use Rattle.us_holes.specs.Runs.{end_of, InOrder}
+use Rattle.us_holes.specs.Boards.{Owner, Holder, Board, Assignment, max_assignments, max_minislots, free_count}
+use Rattle.us_holes.specs.Runs.{Run, end_of, InOrder}
 use Rattle.us_holes.specs.Kept.{IsBoard}
 
 -- Assignments by start.
@@ -27,6 +27,35 @@ place_among start (one ∷ more) = if nat_lt start one.start then 0 else suc (pl
 -- one more
 abbrev pub put : Assignment → List Assignment → List Assignment
 put one assigned = insert assigned (place_among one.start assigned) one
+
+-- several, one after another
+unfoldable pub put_all : List Assignment → List Assignment → List Assignment
+put_all assigned [] = assigned
+put_all assigned (one ∷ more) = put_all (put one assigned) more
+
+-- assignments in the order in which they were put, by start
+abbrev pub by_start : List Assignment → List Assignment
+by_start placed = put_all [] placed
+
+-- the one that begins at a minislot
+unfoldable pub beginning : ℕ → List Assignment → Option Assignment
+beginning start [] = None
+beginning start (one ∷ more) = if nat_eq one.start start then Some one else beginning start more
+
+-- the number at the first minislot of an assignment is that of its place
+pub record IsFound (one : Assignment) (placed : List Assignment) (numbers : List ℕ) : Type 0 where
+  pub inside : slice_index_or numbers one.start 0 < length placed
+  pub is : (none : Assignment) → one ≡ slice_index_or placed (slice_index_or numbers one.start 0) none
+
+unfoldable pub AreFound : List Assignment → List Assignment → List ℕ → Type 0
+AreFound [] placed numbers = Unit {0}
+AreFound (one ∷ more) placed numbers = IsFound one placed numbers × AreFound more placed numbers
+
+-- What is kept of assignments.
+pub record AreKept (placed : List Assignment) (numbers : List ℕ) : Type 0 where
+  pub minislots : length numbers ≡ max_minislots
+  pub order : InOrder 0 (by_start placed) max_minislots
+  pub found : AreFound (by_start placed) placed numbers
 
 -- an assignment, where it has a minislot
 abbrev pub one_from : ℕ → ℕ → Owner → List Assignment
@@ -53,6 +82,19 @@ hole_in from to = if nat_lt from to then hole_from from to ∷ [] else []
 unfoldable pub holes_of : ℕ → List Assignment → ℕ → List Hole
 holes_of from [] to = hole_in from to
 holes_of from (one ∷ more) to = hole_in from one.start ++ holes_of (end_of one) more to
+
+abbrev pub run_of_hole : Hole → Run
+run_of_hole hole = record { start = hole.start; len = hole.slots; owner = None }
+
+-- where the first of these holes begins; where there is none, the end
+abbrev pub first_start : List Hole → ℕ → ℕ
+first_start [] to = to
+first_start (hole ∷ more) to = hole.start
+
+-- each has a minislot and ends before the next begins, and the first begins at `from` or behind
+unfoldable pub AreApart : ℕ → List Hole → Type 0
+AreApart from [] = Unit {0}
+AreApart from (hole ∷ more) = (from ≤ hole.start) × (0 < hole.slots) × AreApart (hole_end hole) more
 
 -- a hole has this start in it, not behind the window, and as many minislots from there on
 abbrev pub fits_in : Hole → ℕ → ℕ → ℕ → Bool
@@ -111,6 +153,18 @@ rise_in from to ranked = if nat_lt from to then rise (hole_from from to) ranked 
 abbrev pub rank_narrowed : Hole → ℕ → ℕ → List Hole → List Hole
 rank_narrowed hole start slots ranked = rise_in hole.start start (rise_in (start + slots) (hole_end hole) (lift hole ranked))
 
+-- each stands where it would be put
+unfoldable pub InRank : List Hole → Type 0
+InRank [] = Unit {0}
+InRank (one ∷ more) = (place_for one more ≡ 0) × InRank more
+
+-- a hole as one number, of which the greater is before the other
+abbrev pub key_of : Hole → ℕ
+key_of hole = hole.slots * 65536 + (65535 - hole.start)
+
+abbrev pub hole_of_key : ℕ → Hole
+hole_of_key key = record { start = 65535 - key % 65536; slots = key / 65536 }
+
 abbrev pub first_in : List Hole → Option (ℕ × ℕ)
 first_in [] = None
 first_in (hole ∷ more) = Some (hole.start, hole.slots)
@@ -124,7 +178,6 @@ pub record AreLists (assigned : List Assignment) (holes ranked : List Hole) (len
   pub idle : free ≡ free_count (cells_of 0 assigned len)
 
 -- There is room for one hole more than assignments, wherever these are.
-pub record HaveRoom (for_assigned for_holes for_ranked : ℕ) : Type 0 where
-  pub assigned : max_assignments ≤ for_assigned
+pub record HaveRoom (for_holes for_ranked : ℕ) : Type 0 where
   pub holes : max_assignments + 1 ≤ for_holes
   pub ranked : max_assignments + 1 ≤ for_ranked

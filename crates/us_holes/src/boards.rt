@@ -7,10 +7,12 @@ ghost use Rattle.us_holes.specs.Placements as placements;
 ghost use Rattle.us_holes.specs.Runs as runs;
 
 use crate::assigning::assign;
-use crate::assignments::{Assignment, push_some};
+use crate::assignments::Assignment;
 use crate::holes::{self, Hole};
 use crate::owners::Owner;
+use crate::placed::Assignments;
 use crate::placements::Placed;
+use crate::rank_keys::RankKey;
 use crate::ranks;
 use crate::runs::{Run, push_runs};
 use std::alloc::Global;
@@ -28,11 +30,11 @@ pub const MAX_ASSIGNMENTS: u32 = 100;
 #[derive(Drop)]
 pub struct Board {
     // by start
-    assigned: Vec<Assignment>,
+    assigned: Assignments,
 
     // what is idle between them, by start, and the same again, the longest first
     holes: Vec<Hole>,
-    ranked: Vec<Hole>,
+    ranked: Vec<RankKey>,
 
     // how many minislots there are, and how many of them are idle
     len: u32,
@@ -42,10 +44,10 @@ pub struct Board {
 impl Model for Board {
     ghost Value = { spec.Board };
 
-    ghost view = { λ b. lists.board_of b.assigned.items b.len };
+    ghost view = { λ b. lists.board_of b.assigned b.len };
 
-    ghost invariant = { λ b. lists.AreLists b.assigned.items b.holes.items b.ranked.items b.len b.free
-        × lists.HaveRoom (vec_capacity b.assigned) (vec_capacity b.holes) (vec_capacity b.ranked) };
+    ghost invariant = { λ b. lists.AreLists b.assigned b.holes.items b.ranked.items b.len b.free
+        × lists.HaveRoom (vec_capacity b.holes) (vec_capacity b.ranked) };
 }
 
 impl Board {
@@ -56,9 +58,9 @@ impl Board {
         requires most { len ≤ MAX_MINISLOTS }
         ensures { IfOk result (λ board. board ≡ spec.empty_board len) }
     {
-        let assigned = Vec::with_capacity(alloc, MAX_ASSIGNMENTS as usize)?;
+        let assigned = Assignments::new(alloc)?;
         let holes = holes::whole(alloc, len)?;
-        let ranked = holes::whole(alloc, len)?;
+        let ranked = ranks::whole(alloc, len)?;
         Ok(Board {
             assigned,
             holes,
@@ -77,10 +79,10 @@ impl Board {
     {
         let to = self.len - tail;
         self.assigned.clear();
-        push_some(&mut self.assigned, 0, head, first);
-        push_some(&mut self.assigned, to, tail, last);
+        self.assigned.put_some(0, head, first);
+        self.assigned.put_some(to, tail, last);
         holes::refill(&mut self.holes, head, to);
-        holes::refill(&mut self.ranked, head, to);
+        ranks::refill(&mut self.ranked, head, to);
         self.free = to - head;
     }
 
@@ -186,6 +188,6 @@ impl Board {
             max (vec_capacity found.old) (vec_len found.old + (2 * self.now.standing + 1))) }
         ensures spared { vec_len found.old + (2 * self.now.standing + 1) ≤ vec_capacity found.old → IsOk result }
     {
-        push_runs(found, &self.assigned, self.len)
+        push_runs(found, &self.assigned, &self.holes, self.len)
     }
 }

@@ -4,6 +4,7 @@ ghost use Rattle.us_holes.specs.Boards as spec;
 ghost use Rattle.us_holes.specs.Lists as lists;
 
 use crate::boards::MAX_ASSIGNMENTS;
+use crate::shifting;
 use std::alloc::Global;
 use std::marker::Model;
 use us_slots::NoMemory;
@@ -12,17 +13,26 @@ use us_slots::NoMemory;
 #[derive(Clone, Copy)]
 pub(crate) struct Hole {
     start: u16,
-    slots: u16,
+    end: u16,
 }
 
 impl Model for Hole {
+    ghost use Rattle.std.specs.Prelude.{◌≡◌, ◌+◌, ◌-◌, ◌≤◌};
+    ghost use Rattle.std.proofs.Common.{arith};
+    ghost use Rattle.us_holes.specs.Boards as spec;
+    ghost use Rattle.us_holes.specs.Lists as lists;
+
     ghost Value = { lists.Hole };
 
-    ghost view = { λ h. record { start = h.start; slots = h.slots } };
+    ghost view = { λ h. lists.hole_from h.start h.end };
 
-    ghost invariant = { λ h. h.start + h.slots ≤ spec.max_minislots };
+    ghost invariant = { λ h. (h.start ≤ h.end) × (h.end ≤ spec.max_minislots) };
 
-    ghost inverse = { λ h. record { start = h.start; slots = h.slots } };
+    ghost inverse = { λ h. record { start = h.start; end = lists.hole_end h } };
+
+    ghost inverse_ok = { λ h known.
+        let end : h.start + (h.end - h.start) ≡ h.end = omega (arith, known.0) in
+        λ i. record { start = h.start; end = end i } };
 }
 
 impl Hole {
@@ -34,7 +44,7 @@ impl Hole {
     {
         Hole {
             start: from as u16,
-            slots: (to - from) as u16,
+            end: to as u16,
         }
     }
 
@@ -49,7 +59,7 @@ impl Hole {
     pub(crate) fn slots(self) -> u32
         ensures { result ≡ self.slots }
     {
-        self.slots as u32
+        self.end() - self.start()
     }
 
     /// The minislot behind it.
@@ -57,12 +67,12 @@ impl Hole {
         ensures value { result ≡ lists.hole_end self }
         ensures inside { lists.hole_end self ≤ spec.max_minislots }
     {
-        self.start() + self.slots()
+        self.end as u32
     }
 }
 
 /// The most holes of a board: one more than assignments.
-const MAX_HOLES: usize = MAX_ASSIGNMENTS as usize + 1;
+pub(crate) const MAX_HOLES: usize = MAX_ASSIGNMENTS as usize + 1;
 
 /// The one hole of an idle board of `len` minislots, and room for as many holes as a board may have.
 pub(crate) fn whole(alloc: Global, len: u32) -> Result<Vec<Hole>, NoMemory>
@@ -90,13 +100,33 @@ pub(crate) fn refill(holes: &mut Vec<Hole>, from: u32, to: u32)
     }
 }
 
+/// How many of the first holes are passed four by four, since the last of four ends before `slots` minislots from `from` on
+/// do, and so do those before it.
+fn passed_by_four(holes: &[Hole], from: u32, to: u32, slots: u32) -> usize
+    requires { lists.AreApart 0 holes.now }
+    ensures value { lists.fit result from to slots (drop result holes.now) ≡ lists.fit 0 from to slots holes.now }
+    ensures inside { result ≤ length holes.now }
+{
+    // few are passed sooner one by one
+    if holes.len() < 8 {
+        return 0;
+    }
+    let least = from as u64 + slots as u64;
+    let mut at = 0;
+    while at + 4 <= holes.len() && (holes[at + 3].end() as u64) < least {
+        at += 4;
+    }
+    at
+}
+
 /// How many of the first holes end before `slots` minislots from `from` on do, so that none has room in the window.
 #[tactic(auto, unfolding(crate::specs::Lists::fit), using(crate::proofs::HoleLemmas::ends_early))]
 fn passed(holes: &[Hole], from: u32, to: u32, slots: u32) -> usize
+    requires { lists.AreApart 0 holes.now }
     ensures { lists.fit result from to slots (drop result holes.now) ≡ lists.fit 0 from to slots holes.now }
 {
     let least = from as u64 + slots as u64;
-    for i in 0..holes.len() {
+    for i in passed_by_four(holes, from, to, slots)..holes.len() {
         let one = holes[i];
         if one.end() as u64 >= least {
             return i;
@@ -105,24 +135,21 @@ fn passed(holes: &[Hole], from: u32, to: u32, slots: u32) -> usize
     holes.len()
 }
 
-/// Whether `slots` minislots fit in the hole from its first start on that is no earlier than `from`, and this start is
-/// no later than `to`.
-fn fits_in(hole: Hole, from: u32, to: u32, slots: u32) -> bool
-    ensures { result ≡ lists.fits_in hole (max from hole.start) to slots }
-{
-    let start = from.max(hole.start());
-    start <= to && start as u64 + slots as u64 <= hole.end() as u64
-}
-
 /// The first hole where `slots` minislots fit from a start from `from` to `to` on: its place, and the least such start.
 #[tactic(auto, unfolding(crate::specs::Lists::fit))]
 pub(crate) fn earliest(holes: &[Hole], from: u32, to: u32, slots: u32) -> Option<(usize, u32)>
+    requires { lists.AreApart 0 holes.now }
     ensures { result ≡ lists.fit 0 from to slots holes.now }
 {
     for i in passed(holes, from, to, slots)..holes.len() {
         let hole = holes[i];
-        if fits_in(hole, from, to, slots) {
-            return Some((i, from.max(hole.start())));
+        let start = from.max(hole.start());
+        if start > to {
+            // those behind it begin later yet
+            return None;
+        }
+        if start as u64 + slots as u64 <= hole.end() as u64 {
+            return Some((i, start));
         }
     }
     None
@@ -143,7 +170,7 @@ fn put_for_last(holes: &mut [Hole], place: usize, hole: Hole)
 }
 
 /// Puts a hole at a place, and moves those from there on one further. It needs no memory.
-pub(crate) fn put_at(holes: &mut Vec<Hole>, place: usize, hole: Hole)
+fn put_at(holes: &mut Vec<Hole>, place: usize, hole: Hole)
     requires place { place ≤ vec_len holes.old }
     requires room { vec_len holes.old < vec_capacity holes.old }
     ensures items { holes.new.items ≡ insert holes.old.items place hole }
@@ -155,14 +182,14 @@ pub(crate) fn put_at(holes: &mut Vec<Hole>, place: usize, hole: Hole)
 }
 
 /// Takes the `slots` minislots from `start` on out of the hole at a place. It needs no memory.
-pub(crate) fn narrow(holes: &mut Vec<Hole>, place: usize, start: u32, slots: u32)
+pub(crate) fn narrow(holes: &mut Vec<Hole>, place: usize, hole: Hole, start: u32, slots: u32)
     requires place { place < vec_len holes.old }
+    requires there { hole ≡ slice_index_or holes.old.items place hole }
     requires room { vec_len holes.old < vec_capacity holes.old }
-    requires inside { (hole : lists.Hole) → start + slots ≤ lists.hole_end (slice_index_or holes.old.items place hole) }
+    requires inside { start + slots ≤ lists.hole_end hole }
     ensures items { holes.new.items ≡ lists.narrowed_at place start slots holes.old.items }
     ensures capacity { vec_capacity holes.old ≤ vec_capacity holes.new }
 {
-    let hole = holes[place];
     let (first, last) = (hole.start(), hole.end());
     let end = start + slots;
     if first < start {
@@ -173,6 +200,6 @@ pub(crate) fn narrow(holes: &mut Vec<Hole>, place: usize, start: u32, slots: u32
     } else if end < last {
         holes[place] = Hole::between(end, last);
     } else {
-        let _ = holes.remove(place);
+        shifting::take_out(holes, place);
     }
 }

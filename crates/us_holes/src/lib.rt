@@ -16,13 +16,16 @@ mod owners;
 // What becomes of an assignment that is to be placed.
 mod placements;
 
-// Assignments by start.
+// An assignment, and all of a board by start.
 mod assignments;
+mod placed;
 
-// Idle minislots between them, by start.
+// Idle minislots between them, by start, and how one is taken out of a list.
 mod holes;
+mod shifting;
 
-// The same by length.
+// The same by length, each as one number.
+mod rank_keys;
 mod ranks;
 
 // One more assignment in all three.

@@ -1,9 +1,12 @@
-ghost use Rattle.std.specs.Prelude.{◌≡◌, ◌+◌, ◌*◌, ◌<◌, ◌≤◌, ◌++◌, max, OnOk, IsOk, length, vec_len, vec_capacity};
-ghost use Rattle.us_holes.specs.Boards.{max_assignments};
+ghost use Rattle.std.specs.Prelude.{◌≡◌, ◌+◌, ◌*◌, ◌≤◌, ◌++◌, max, drop, OnOk, IsOk, length, vec_len, vec_capacity};
+ghost use Rattle.us_holes.specs.Boards.{max_assignments, max_minislots};
+ghost use Rattle.us_holes.specs.Lists as lists;
 ghost use Rattle.us_holes.specs.Runs as spec;
 
 use crate::assignments::Assignment;
+use crate::holes::Hole;
 use crate::owners::Owner;
+use crate::placed::Assignments;
 use std::marker::Model;
 use us_slots::NoMemory;
 
@@ -57,33 +60,42 @@ impl Run {
             owner: Some(one.owner()),
         }
     }
-}
 
-/// Adds the idle run from `from` to `to`, where there are such minislots. It needs no memory.
-fn push_idle(found: &mut Vec<Run>, from: u32, to: u32)
-    requires room { vec_len found.old < vec_capacity found.old }
-    ensures runs { found.new.items ≡ found.old.items ++ spec.idle_run from to }
-    ensures len { vec_len found.new ≤ vec_len found.old + 1 }
-    ensures room { vec_capacity found.new ≡ vec_capacity found.old }
-{
-    if from < to {
-        found.push_reserved(Run {
-            start: from,
-            len: to - from,
+    /// The run of a hole.
+    fn idle(hole: Hole) -> Run
+        ensures { result ≡ lists.run_of_hole hole }
+    {
+        Run {
+            start: hole.start(),
+            len: hole.slots(),
             owner: None,
-        });
+        }
     }
 }
 
-/// Adds the runs of a board of `len` minislots with these assignments. Room for as many as there may be is taken before the
-/// first is added.
-#[tactic(auto, unfolding(crate::specs::Runs::runs_between))]
+/// Where the hole of a number begins; `len` where there is none.
+fn start_of(holes: &[Hole], number: usize, len: u32) -> u32
+    ensures { result ≡ lists.first_start (drop number holes.now) len }
+{
+    if number < holes.len() {
+        holes[number].start()
+    } else {
+        len
+    }
+}
+
+/// Adds the runs of a board of `len` minislots with these assignments and the holes between them. Room for as many as there
+/// may be is taken before the first is added.
 pub(crate) fn push_runs(
     found: &mut Vec<Run>,
-    assigned: &[Assignment],
+    assigned: &Assignments,
+    holes: &[Hole],
     len: u32,
 ) -> Result<(), NoMemory>
-    requires { length assigned.now ≤ max_assignments }
+    requires few { length assigned.now ≤ max_assignments }
+    requires most { len ≤ max_minislots }
+    requires order { spec.InOrder 0 assigned.now len }
+    requires between { holes.now ≡ lists.holes_of 0 assigned.now len }
     ensures runs { OnOk result (found.new.items ≡ found.old.items ++ spec.runs_between 0 assigned.now len) }
     ensures room { OnOk result (vec_capacity found.new ≡
         max (vec_capacity found.old) (vec_len found.old + (2 * length assigned.now + 1))) }
@@ -91,12 +103,20 @@ pub(crate) fn push_runs(
 {
     found.reserve_exact(2 * assigned.len() + 1)?;
     let mut from = 0;
-    for i in 0..assigned.len() {
-        let one = assigned[i];
-        push_idle(found, from, one.start());
-        found.push_reserved(Run::of(one));
-        from = one.end();
+    let mut next = 0;
+    let mut idle_from = start_of(holes, next, len);
+    while from < len {
+        if from < idle_from {
+            let one = assigned.beginning_at(from);
+            found.push_reserved(Run::of(one));
+            from = one.end();
+        } else {
+            let hole = holes[next];
+            found.push_reserved(Run::idle(hole));
+            from = hole.end();
+            next += 1;
+            idle_from = start_of(holes, next, len);
+        }
     }
-    push_idle(found, from, len);
     Ok(())
 }

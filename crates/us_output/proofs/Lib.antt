@@ -1,8 +1,10 @@
-pub mod PairLemmas
+pub mod FieldLemmas
 pub mod PartLemmas
 pub mod PendingLemmas
 pub mod OrderLemmas
 pub mod SinkLemmas
+pub mod SpotLemmas
+pub mod NoteLemmas
 pub mod FinalLemmas
 pub mod LineLemmas
 pub mod OutputLaws

@@ -1,6 +1,6 @@
 -- Lines, as the text of a round has them.
 use Rattle.std.proofs.Common.{◌≡◌, ℕ, ◌+◌, ◌^◌, ◌<◌, ◌≤◌, Bool, List, [], ◌∷◌, ◌++◌, length, map, flat_map, get_or, drop, append_assoc, refl, ap, ap₂, ◌∙◌, sym, arith}
-use Rattle.std.specs.Prelude.{cond, count_by, filter, not}
+use Rattle.std.specs.Prelude.{cond, count_by, filter, filter_map, not}
 use Rattle.std.proofs.lemmas.List.{drop_more, length-append, length-map}
 use Rattle.std.proofs.lemmas.List.Sums.{count_by-le-length, sum_by-append, sum_by-cons}
 use Rattle.std.specs.List.{AllByRecursion}
@@ -15,7 +15,7 @@ use Rattle.us_output.specs.Outputs.{is_granted as settled_granted}
 use Rattle.us_output.specs.Files.{is_granted, is_missed, lines, round_lines}
 use Rattle.us_output.specs.Leftovers.{AreInside}
 use Rattle.us_output.specs.Lines.{text_of}
-use Rattle.us_output.specs.Orders.{grant_line, in_order, line_row, missed_of, ordered_lines, settled_lines}
+use Rattle.us_output.specs.Orders.{grant_line, in_order, line_row, missed_of, ordered_lines, granted_line}
 use Rattle.us_output.specs.declared.orders.GrantLine.{GrantLine}
 use Rattle.us_output.specs.declared.rows.Row.{Row}
 use Rattle.us_output.proofs.LineLemmas.{both_parts, lines_of}
@@ -123,7 +123,7 @@ empty (x ∷ xs) none = absurd (omega (arith, none))
 
 pub quiet_order : (b : Built) → length b.settled ≡ 0 → length b.grants ≡ 0 → ordered_lines b ≡ []
 quiet_order b settled grants =
-    ap₂ (λ s g. in_order (λ (line : GrantLine). line.start) (length b.board.cells) (flat_map settled_lines s ++ map grant_line g))
+    ap₂ (λ s g. in_order (λ (line : GrantLine). line.start) (length b.board.cells) (filter_map granted_line s ++ map grant_line g))
     (empty b.settled settled) (empty b.grants grants) ∙
     in_order-none (λ (line : GrantLine). line.start) (length b.board.cells)
 

@@ -12,7 +12,7 @@ use Rattle.us_channel.specs.Channels.{Built}
 use Rattle.us_output.specs.Files.{lines}
 use Rattle.us_output.specs.Leftovers.{AreInside}
 use Rattle.us_output.specs.Lines.{HasFields}
-use Rattle.us_output.specs.Orders.{ordered_lines}
+use Rattle.us_output.specs.Orders.{ordered_spots}
 use Rattle.us_output.specs.Outputs.{rows_on}
 use Rattle.us_output.specs.declared.ahead.Ahead.{Ahead}
 
@@ -25,6 +25,6 @@ pub record AreOf (round : ℕ) (b : Built) (ahead : Ahead) : Type 0 where
   pub runs : ahead.runs.items ≡ runs_of b.board.cells
   pub few : length (runs_of b.board.cells) ≤ 2 * max_assignments + 1
   pub elements : take (4 * length ahead.runs.items) ahead.elements ≡ words_of b.channel (runs_of b.board.cells)
-  pub ordered : AreInside b → ahead.ordered.items ≡ ordered_lines b
+  pub ordered : AreInside b → ahead.order.spots.items ≡ ordered_spots b
   pub lines : AreInside b → ahead.lines.items ≡ lines (rows_on round b)
   pub fields : AreInside b → AllByRecursion HasFields (rows_on round b)

@@ -6,11 +6,11 @@ ghost use Rattle.us_output.specs.Ahead as spec;
 ghost use Rattle.us_output.specs.Files.{lines};
 ghost use Rattle.us_output.specs.Leftovers.{AreInside};
 ghost use Rattle.us_output.specs.Lines.{HasFields};
-ghost use Rattle.us_output.specs.Orders.{ordered_lines};
+ghost use Rattle.us_output.specs.Orders.{ordered_spots};
 ghost use Rattle.us_output.specs.Outputs.{rows_on};
 
 use crate::lines::LINE_BYTES;
-use crate::orders::GrantLine;
+use crate::orders::LineOrder;
 use crate::records::{RECORD_BYTES, list_runs, put_runs};
 use crate::texts::push_all;
 use std::alloc::Global;
@@ -30,7 +30,7 @@ pub(crate) struct Ahead {
     pub elements: [u8; RECORD_BYTES],
 
     // the G lines in order, and the text of all lines
-    pub ordered: Vec<GrantLine>,
+    pub order: LineOrder,
     pub lines: Vec<u8>,
 
     // the bytes in which a line is put together
@@ -44,7 +44,7 @@ impl Drop for Ahead {
             round: _,
             runs: _,
             elements: _,
-            ordered: _,
+            order: _,
             lines: _,
             line: _,
         } = self;
@@ -60,7 +60,7 @@ impl Ahead {
             round: None,
             runs: Vec::new(alloc),
             elements: [0; RECORD_BYTES],
-            ordered: Vec::new(alloc),
+            order: LineOrder::new(alloc),
             lines: Vec::new(alloc),
             line: [0; LINE_BYTES],
         }
@@ -94,7 +94,7 @@ impl Ahead {
 
     /// Writes the lines.
     fn write_lines(&mut self, channel: &ChannelRound, round: u32) -> Result<(), NoMemory>
-        ensures ordered { OnOk result (AreInside channel.now → self.new.ordered.items ≡ ordered_lines channel.now) }
+        ensures ordered { OnOk result (AreInside channel.now → self.new.order.spots.items ≡ ordered_spots channel.now) }
         ensures lines { OnOk result (AreInside channel.now → self.new.lines.items ≡ lines (rows_on round channel.now)) }
         ensures fields { OnOk result (AreInside channel.now → AllByRecursion HasFields (rows_on round channel.now)) }
         ensures round { self.new.round ≡ self.old.round }
@@ -104,7 +104,7 @@ impl Ahead {
         self.lines.clear();
         push_all(
             &mut self.lines,
-            &mut self.ordered,
+            &mut self.order,
             &mut self.line,
             round,
             channel,

@@ -24,12 +24,14 @@ mod rows;
 // their text, and that their numbers have 64 bits.
 mod fields;
 mod lines;
-mod pairs;
+mod threes;
+mod words;
 
 // Who is pending.
 mod pendings;
 
-// From grants to lines, by where they start.
+// From grants to lines, by where they start: put in one after another, or noted by minislot.
+mod notes;
 mod orders;
 
 // What texts keep.

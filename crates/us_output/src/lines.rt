@@ -5,10 +5,11 @@ ghost use Rattle.us_output.specs.Lines.{HasFields};
 ghost use Rattle.us_output.specs.declared.rows.Row.TheVariants as rows;
 
 use crate::fields::{read_activity, read_counts, read_final, read_grant, read_missed};
-use crate::pairs::put_pair;
 use crate::rows::{
     EntryWord, FinalActivity, FinalState, Grant, MissedOccurrence, Row, TraceCounts,
 };
+use crate::threes::{put_short, put_three};
+use crate::words::{bytes_of, word_of};
 use std::alloc::AllocError;
 
 /// The bytes in which a line is put together, more than any line has: a letter, ten numbers, a word of seven letters behind a
@@ -21,9 +22,9 @@ const FEED: usize = LINE_BYTES - 1;
 /// The most bytes of a comma and a number: the greatest has twenty digits.
 const FIELD_BYTES: usize = 21;
 
-/// The bytes in which the front of a channel's G lines is kept. A letter and two numbers have no more, and a copy of all is
-/// three moves.
-pub(crate) const FRONT_BYTES: usize = 48;
+/// The bytes in which the front of a channel's G lines is kept: a letter, and behind commas a round of ten digits and a
+/// channel of three. A copy of all is a move.
+pub(crate) const FRONT_BYTES: usize = 16;
 
 /// Adds a row's line, with its line feed. What stood in `line` doesn't matter: each line is put together there from its last
 /// byte to its first, as digits are found, and then copied once.
@@ -340,25 +341,21 @@ fn put_entry(line: &mut [u8; LINE_BYTES], end: usize, entry: EntryWord) -> usize
     ensures start { result ≤ LINE_BYTES }
     ensures line { drop result line.new ≡ 44 ∷ (spec.word_text entry ++ drop end line.old) }
 {
-    match entry {
-        EntryWord::Unsolicited => put_text(line, end, b",ugs"),
-        EntryWord::Activity => put_text(line, end, b",ad"),
-        EntryWord::RealTimePoll => put_text(line, end, b",rtp"),
-        EntryWord::NonRealTimePoll => put_text(line, end, b",nrtp"),
-        EntryWord::Station => put_text(line, end, b",station"),
-        EntryWord::Requested => put_text(line, end, b",req"),
-    }
+    let (first, last) = word_of(entry);
+    let middle = put_four_bytes(line, end, last);
+    let _start = put_four_bytes(line, middle, first);
+    end - bytes_of(entry)
 }
 
 /// Puts a text before what stands from `end` on. Inlined, as a text of known length takes a move or two.
 #[inline(always)]
-fn put_text<const N: usize>(line: &mut [u8; LINE_BYTES], end: usize, text: &[u8; N]) -> usize
-    requires room { N ≤ end }
+fn put_text(line: &mut [u8; LINE_BYTES], end: usize, text: &[u8]) -> usize
+    requires room { length text.now ≤ end }
     requires end { end ≤ LINE_BYTES }
-    ensures start { result + N ≡ end }
+    ensures start { result + length text.now ≡ end }
     ensures line { drop result line.new ≡ text.now ++ drop end line.old }
 {
-    let start = end - N;
+    let start = end - text.len();
     line[start..end].copy_from_slice(text);
     start
 }
@@ -433,29 +430,27 @@ fn put_digits(line: &mut [u8; LINE_BYTES], end: usize, number: u64) -> usize
     }
 }
 
-/// Puts a number of up to three digits.
+/// Puts a number of more than three digits. With up to six it is put three at a time.
 #[inline(always)]
-fn put_short(line: &mut [u8; LINE_BYTES], end: usize, number: u64) -> usize
-    requires short { number < 1000 }
-    requires room { 3 ≤ end }
+fn put_long(line: &mut [u8; LINE_BYTES], end: usize, number: u64) -> usize
+    requires long { 1000 ≤ number }
+    requires room { FIELD_BYTES ≤ end }
     requires end { end ≤ LINE_BYTES }
     ensures start { result < end }
-    ensures size { end ≤ result + 3 }
+    ensures size { end < result + FIELD_BYTES }
     ensures line { drop result line.new ≡ decimal number ++ drop end line.old }
 {
-    if number < 10 {
-        return put_byte(line, end, b'0' + number as u8);
+    if number >= 1_000_000 {
+        return put_longer(line, end, number);
     }
-    if number < 100 {
-        return put_pair(line, end, number);
-    }
-    let start = put_pair(line, end, number % 100);
-    put_byte(line, start, b'0' + (number / 100) as u8)
+    let start = put_three(line, end, number % 1_000);
+    put_short(line, start, number / 1_000)
 }
 
 /// Puts a number of any size.
+#[cold]
 #[inline(never)]
-fn put_long(line: &mut [u8; LINE_BYTES], end: usize, number: u64) -> usize
+fn put_longer(line: &mut [u8; LINE_BYTES], end: usize, number: u64) -> usize
     requires room { FIELD_BYTES ≤ end }
     requires end { end ≤ LINE_BYTES }
     ensures start { result < end }
@@ -463,6 +458,25 @@ fn put_long(line: &mut [u8; LINE_BYTES], end: usize, number: u64) -> usize
     ensures line { drop result line.new ≡ decimal number ++ drop end line.old }
 {
     itoa::write_digits(number, line, end)
+}
+
+/// Puts four bytes before what stands from `end` on, which are read before the first is put: so both are a move.
+#[inline(always)]
+pub(crate) fn put_four_bytes(
+    line: &mut [u8; LINE_BYTES],
+    end: usize,
+    bytes: (u8, u8, u8, u8),
+) -> usize
+    requires room { 4 ≤ end }
+    requires end { end ≤ LINE_BYTES }
+    ensures start { result + 4 ≡ end }
+    ensures line { drop result line.new ≡ bytes.0 ∷ bytes.1 ∷ bytes.2 ∷ bytes.3 ∷ drop end line.old }
+{
+    let (first, second, third, fourth) = bytes;
+    let start = put_byte(line, end, fourth);
+    let start = put_byte(line, start, third);
+    let start = put_byte(line, start, second);
+    put_byte(line, start, first)
 }
 
 /// Puts a byte before what stands from `end` on.

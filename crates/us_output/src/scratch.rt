@@ -1,5 +1,5 @@
 use crate::lines::LINE_BYTES;
-use crate::orders::GrantLine;
+use crate::orders::LineOrder;
 use crate::records::RECORD_BYTES;
 use std::alloc::Global;
 use us_holes::Run;
@@ -11,8 +11,8 @@ pub struct Scratch {
     pub(crate) runs: Vec<Run>,
     pub(crate) sids: Vec<u16>,
 
-    // the G lines of a channel
-    pub(crate) lines: Vec<GrantLine>,
+    // the G lines of a channel, by where they start
+    pub(crate) order: LineOrder,
 
     pub(crate) record: [u8; RECORD_BYTES],
     pub(crate) line: [u8; LINE_BYTES],
@@ -24,7 +24,7 @@ impl Drop for Scratch {
         let Scratch {
             runs: _,
             sids: _,
-            lines: _,
+            order: _,
             record: _,
             line: _,
         } = self;
@@ -37,7 +37,7 @@ impl Scratch {
         Scratch {
             runs: Vec::new(alloc),
             sids: Vec::new(alloc),
-            lines: Vec::new(alloc),
+            order: LineOrder::new(alloc),
             record: [0; RECORD_BYTES],
             line: [0; LINE_BYTES],
         }

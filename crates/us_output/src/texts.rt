@@ -4,12 +4,12 @@ ghost use Rattle.std.specs.List.{AllByRecursion};
 ghost use Rattle.us_output.specs.Files.{lines, is_granted, is_missed};
 ghost use Rattle.us_output.specs.Leftovers.{AreInside};
 ghost use Rattle.us_output.specs.Lines.{HasFields, numbers};
-ghost use Rattle.us_output.specs.Orders.{line_row, missed_of, ordered_lines};
+ghost use Rattle.us_output.specs.Orders.{line_row, lines_at, missed_of, ordered_lines, ordered_spots};
 ghost use Rattle.us_output.specs.Outputs as spec;
 
 use crate::channels_with_text::ChannelWithText;
 use crate::lines::{FRONT_BYTES, LINE_BYTES, front_of, push_granted, push_line, push_missed};
-use crate::orders::{GrantLine, missed_at, order_lines};
+use crate::orders::{LineOrder, Spot, line_at, missed_at, order_lines};
 use crate::rows::Row;
 use crate::scratch::Scratch;
 use crate::tallies::LineTally;
@@ -86,11 +86,11 @@ fn push_written(
     }
     if let Some(ahead) = part.ahead(round) {
         text.extend_from_slice(&ahead.lines)?;
-        return Ok(ahead.ordered.len());
+        return Ok(ahead.order.spots.len());
     }
-    let Scratch { lines, line, .. } = scratch;
-    push_all(text, lines, line, round, channel)?;
-    Ok(lines.len())
+    let Scratch { order, line, .. } = scratch;
+    push_all(text, order, line, round, channel)?;
+    Ok(order.spots.len())
 }
 
 /// Whether nothing was settled or granted on a channel, so that it has no line.
@@ -100,21 +100,21 @@ fn is_quiet(part: &ChannelRound) -> bool
     part.settled().is_empty() && part.grants().is_empty()
 }
 
-/// Adds the lines of a channel. In `ordered` are left those of grants.
+/// Adds the lines of a channel. In `order` are left the spots of its G lines.
 pub(crate) fn push_all(
     text: &mut Vec<u8>,
-    ordered: &mut Vec<GrantLine>,
+    order: &mut LineOrder,
     line: &mut [u8; LINE_BYTES],
     round: u32,
     part: &ChannelRound,
 ) -> Result<(), NoMemory>
-    ensures ordered { OnOk result (AreInside part.now → ordered.new.items ≡ ordered_lines part.now) }
+    ensures ordered { OnOk result (AreInside part.now → order.new.spots.items ≡ ordered_spots part.now) }
     ensures lines { OnOk result
         (AreInside part.now → text.new.items ≡ text.old.items ++ lines (spec.rows_on round part.now)) }
     ensures fields { OnOk result (AreInside part.now → AllByRecursion HasFields (spec.rows_on round part.now)) }
 {
-    order_lines(ordered, part)?;
-    push_all_granted(text, line, round, part.channel(), ordered)?;
+    order_lines(order, part)?;
+    push_all_granted(text, line, round, part, &order.spots)?;
     push_all_missed(text, line, round, part.channel(), part.settled())?;
     Ok(())
 }
@@ -129,27 +129,29 @@ fn missed_lines(part: &ChannelRound, granted: usize) -> usize
     part.settled().len() - (granted - part.grants().len())
 }
 
-/// Adds G lines. Where there are none, their front isn't put together.
+/// Adds the G lines at some spots. Where there are none, their front isn't put together.
 #[tactic(auto, unfolding(crate::specs::Files::lines))]
 fn push_all_granted(
     text: &mut Vec<u8>,
     line: &mut [u8; LINE_BYTES],
     round: u32,
-    channel: &Channel,
-    granted: &[GrantLine],
+    part: &ChannelRound,
+    spots: &[Spot],
 ) -> Result<(), NoMemory>
     ensures lines { OnOk result
-        (text.new.items ≡ text.old.items ++ lines (map (line_row round channel.now) granted.now)) }
-    ensures fields { OnOk result (AllByRecursion HasFields (map (line_row round channel.now) granted.now)) }
+        (text.new.items ≡ text.old.items ++ lines (map (line_row round part.now.channel) (lines_at part.now spots.now))) }
+    ensures fields { OnOk result
+        (AllByRecursion HasFields (map (line_row round part.now.channel) (lines_at part.now spots.now))) }
 {
-    if granted.is_empty() {
+    if spots.is_empty() {
         return Ok(());
     }
-    let (front, begin) = front_of(line, round, channel.id);
-    push_behind_front(text, line, &front, begin, round, channel, granted)
+    let (front, begin) = front_of(line, round, part.channel().id);
+    push_behind_front(text, line, &front, begin, round, part, spots)
 }
 
-/// Adds G lines that begin with what stands in `front` from `begin` on.
+/// Adds G lines that begin with what stands in `front` from `begin` on. Each is told straight from what was settled or granted
+/// at its spot.
 // `lines` is closed elsewhere, as in `push_rows`: only here is it the texts of rows.
 #[tactic(auto, unfolding(crate::specs::Files::lines))]
 fn push_behind_front(
@@ -158,17 +160,23 @@ fn push_behind_front(
     front: &[u8; FRONT_BYTES],
     begin: usize,
     round: u32,
-    channel: &Channel,
-    granted: &[GrantLine],
+    part: &ChannelRound,
+    spots: &[Spot],
 ) -> Result<(), NoMemory>
     requires begin { begin ≤ FRONT_BYTES }
-    requires front { drop begin front.now ≡ 71 ∷ numbers (round ∷ channel.now.id ∷ []) }
+    requires front { drop begin front.now ≡ 71 ∷ numbers (round ∷ part.now.channel.id ∷ []) }
     ensures lines { OnOk result
-        (text.new.items ≡ text.old.items ++ lines (map (line_row round channel.now) granted.now)) }
-    ensures fields { OnOk result (AllByRecursion HasFields (map (line_row round channel.now) granted.now)) }
+        (text.new.items ≡ text.old.items ++ lines (map (line_row round part.now.channel) (lines_at part.now spots.now))) }
+    ensures fields { OnOk result
+        (AllByRecursion HasFields (map (line_row round part.now.channel) (lines_at part.now spots.now))) }
 {
-    for one in granted {
-        push_granted(text, line, front, begin, &one.grant(round, channel))?;
+    let channel = part.channel();
+    let settled = part.settled();
+    let grants = part.grants();
+    for spot in spots {
+        if let Some(granted) = line_at(settled, grants, *spot) {
+            push_granted(text, line, front, begin, &granted.grant(round, channel))?;
+        }
     }
     Ok(())
 }

@@ -3,13 +3,15 @@ use std::alloc::Global;
 use us_slots::NoMemory;
 
 /// Numbers of four digits and more, up to the greatest.
-const LONG: [u64; 9] = [
+const LONG: [u64; 11] = [
     1_200,
     9_999,
     10_000,
     99_999,
     100_000,
     65_535,
+    999_999,
+    1_000_000,
     4_294_967_295,
     10_000_000_000,
     u64::MAX,

@@ -1,12 +1,15 @@
-use Rattle.std.proofs.Common.{◌≡◌, ◌∙◌, length, ap, sym, arith, rules}
+use Rattle.std.proofs.Common.{◌≡◌, ◌∙◌, length, ap, arith, rules}
 use Rattle.us_holes.proofs.RankLemmas.{ranked_there, rank_length, rank_of_narrowed}
+use Rattle.us_holes.proofs.RiseLemmas.{rank_in_rank}
 use Rattle.us_holes.proofs.assigning.assign.Goals as goal
 
 pub narrow-requires-clause-there : goal.narrow-requires-clause-there
 narrow-requires-clause-there c =
-    let there = ranked_there c.args.holes.now.items c.args.place c.index-hole.result.now c.requires.has.inside (search rules) in
-    let here = rw (sym c.requires.by_rank) at there in
-    omega (arith, here)
+    rw c.requires.by_rank
+    (ranked_there c.args.holes.now.items c.args.place c.index-hole.result.now c.requires.has.inside (search rules))
+
+pub narrow-requires-clause-order : goal.narrow-requires-clause-order
+narrow-requires-clause-order c = rw c.requires.by_rank (rank_in_rank c.args.holes.now.items)
 
 pub narrow-requires-clause-room : goal.narrow-requires-clause-room
 narrow-requires-clause-room c =

@@ -4,6 +4,7 @@ use Rattle.us_output.specs.Files.{lines}
 use Rattle.us_output.specs.Lines.{HasFields}
 use Rattle.us_output.specs.Orders.{line_row, missed_of, ordered_lines}
 use Rattle.us_output.proofs.OrderLemmas.{rows_are}
+use Rattle.us_output.proofs.SpotLemmas.{spots_tell}
 use Rattle.us_output.proofs.PartLemmas.{all_append}
 use Rattle.us_output.proofs.TextLemmas.{lines_append}
 use Rattle.us_output.proofs.texts.push_all.Goals as goal
@@ -16,9 +17,9 @@ returns-clause-lines c inside =
     let granted = map (line_row round b.channel) (ordered_lines b) in
     let missed = missed_of round b.channel b.settled in
     let first : c.push_all_granted.new.text.items ≡ old ++ lines granted =
-    rw (c.channel.ensures, c.deref.ensures.value, c.in_ok-order_lines.ensures inside) at c.in_ok-push_all_granted.ensures.lines in
+    rw (c.deref.ensures.value, c.in_ok-order_lines.ensures inside, spots_tell b) at c.in_ok-push_all_granted.ensures.lines in
     let then : c.push_all_missed.new.text.items ≡ c.push_all_granted.new.text.items ++ lines missed =
-    rw (c.channel-2.ensures, c.settled.ensures) at c.in_ok-push_all_missed.ensures.lines in
+    rw (c.channel.ensures, c.settled.ensures) at c.in_ok-push_all_missed.ensures.lines in
     then ∙ ap (λ text. text ++ lines missed) first ∙ append_assoc old (lines granted) (lines missed) ∙
     ap (λ text. old ++ text) (sym (lines_append granted missed) ∙ ap lines (rows_are round b))
 
@@ -28,5 +29,5 @@ returns-clause-fields c inside =
     let round = c.args.round in
     subst (λ rows. AllByRecursion HasFields rows) (rows_are round b)
     (all_append HasFields (map (line_row round b.channel) (ordered_lines b)) (missed_of round b.channel b.settled)
-    (rw (c.channel.ensures, c.deref.ensures.value, c.in_ok-order_lines.ensures inside) at c.in_ok-push_all_granted.ensures.fields)
-    (rw (c.channel-2.ensures, c.settled.ensures) at c.in_ok-push_all_missed.ensures.fields))
+    (rw (c.deref.ensures.value, c.in_ok-order_lines.ensures inside, spots_tell b) at c.in_ok-push_all_granted.ensures.fields)
+    (rw (c.channel.ensures, c.settled.ensures) at c.in_ok-push_all_missed.ensures.fields))

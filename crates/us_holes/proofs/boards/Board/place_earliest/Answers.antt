@@ -1,7 +1,10 @@
 use Rattle.std.proofs.Common.{◌∙◌, refl, sym}
 use Rattle.us_holes.specs.Boards.{Assignment}
-use Rattle.us_holes.proofs.PlacingLemmas.{kept_order, placing, refusing}
+use Rattle.us_holes.proofs.PlacingLemmas.{fields_apart, placing, refusing}
 use Rattle.us_holes.proofs.boards.Board.place_earliest.Goals as goal
+
+pub earliest-requires : goal.earliest-requires
+earliest-requires c = rw c.deref.ensures.value (fields_apart c.self.inside c.self.invariant.0)
 
 pub new-one-requires : goal.new-one-requires
 new-one-requires c =
@@ -18,7 +21,11 @@ assign-requires-clause-holes c =
     is.few
 
 pub assign-requires-clause-order : goal.assign-requires-clause-order
-assign-requires-clause-order c = kept_order c.self.inside c.self.invariant.0
+assign-requires-clause-order c =
+    let one : Assignment = record { start = c.in-Some.start; slots = c.args.slots; owner = c.args.owner } in
+    let is = placing c.self.inside c.args.self.now c.args.from c.args.to c.in-Some.place one c.self.invariant.0 c.self.view_is
+    (sym c.is_full.ensures ∙ c.if-is_full.false) c.requires.some (rw c.deref.ensures.value at c.in-Some.ensures) in
+    rw c.new-one.ensures is.order
 
 pub assign-requires-clause-has : goal.assign-requires-clause-has
 assign-requires-clause-has c =
