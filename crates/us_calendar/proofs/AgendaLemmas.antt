@@ -1,5 +1,5 @@
 -- What is due in a round has its turn, in the order of entries, and nothing else needs one.
-use Rattle.std.proofs.Common.{◌≡◌, ◌≢◌, ℕ, zero, suc, ◌+◌, ◌-◌, ◌/◌, ◌%◌, ◌<◌, ◌≤◌, List, [], ◌∷◌, ◌++◌, length, map, max, drop, Some, None, slice_get, get_or, refl, ap, ap₂, subst, sym, ◌∙◌, inl, inr, append_assoc, arith}
+use Rattle.std.proofs.Common.{◌≡◌, ◌≢◌, ℕ, zero, suc, ◌+◌, ◌-◌, ◌/◌, ◌%◌, ◌<◌, ◌≤◌, ◌⊎◌, List, [], ◌∷◌, ◌++◌, length, map, max, drop, Some, None, slice_get, get_or, refl, ap, ap₂, subst, sym, ◌∙◌, inl, inr, append_assoc, arith}
 use Rattle.std.specs.List.{AllByRecursion}
 use Rattle.std.proofs.Math.ListN.{set, length-set}
 use Rattle.std.proofs.lemmas.List.{append-nil, length-drop, get_or-drop}
@@ -10,9 +10,11 @@ use Rattle.us_calendar.specs.Settling.{EntryState, SettledEntry, settle_state, a
 use Rattle.us_calendar.specs.Calendars.{Ran, run_entries}
 use Rattle.us_calendar.specs.declared.settled.Settled.{Settled}
 use Rattle.us_calendar.specs.Kept.{IsEntryState, IsQuiet}
-use Rattle.us_calendar.specs.Agendas.{IsAgenda, IsToday, IsLater, IsNoted, IsNotedFor, IsPut, IsBrought, IsRising, due_at, key_of, list_of}
+use Rattle.us_calendar.specs.Agendas.{IsAgenda, IsToday, IsLater, IsNoted, IsNotedFor, IsPut, IsBrought, IsIdle, IsRising, due_at, key_of, list_of}
 use Rattle.us_calendar.proofs.EntryStateLemmas.{quiet_before}
-use Rattle.us_calendar.proofs.NearLemmas.{Noted, Changed, is_noted, is_changed}
+use Rattle.us_calendar.proofs.KeyLemmas.{none_noted_in}
+use Rattle.us_calendar.proofs.PlacesLemmas.{noted-here, noted-behind, noted-first}
+use Rattle.us_calendar.proofs.NearLemmas.{Noted, Changed, is_noted, is_changed, none_filled, none_out}
 use Rattle.us_calendar.proofs.RunLemmas.{run_from, run_past, skip_to, run_step, the_some}
 
 pub set_same : (states : List EntryState) (p : ℕ) (state : EntryState) → p < length states → slice_get (set states p state) p ≡ Some state
@@ -40,31 +42,25 @@ within (first ∷ states) (suc p) state is = omega (arith, within states p state
 
 -- how far a round has come, from what it began with
 pub record Going (pace : Pace) (round : ℕ) (old_states : List EntryState) (old_board : Board) (old_told : List Settled)
-    (states : List EntryState) (board : Board) (told : List Settled) (near : List (List ℕ)) (far : List ℕ)
-    (passed count : ℕ) : Type 0 where
+    (states : List EntryState) (board : Board) (told : List Settled) (near : List (List ℕ)) (far : List ℕ) : Type 0 where
   pub from : ℕ
   pub same_states : (run_from pace round from states board).states ≡ (run_entries pace round old_states old_board).states
   pub same_board : (run_from pace round from states board).board ≡ (run_entries pace round old_states old_board).board
   pub same_told :
       told ++ (run_from pace round from states board).settled ≡ old_told ++ (run_entries pace round old_states old_board).settled
-  pub agenda : IsAgenda pace round from states near far passed
-  pub many : count ≡ length (list_of near round)
-  pub within : passed ≤ count
+  pub agenda : IsAgenda pace round from states near far
   pub len : length board.cells ≡ length old_board.cells
   pub known : AllByRecursion IsEntryState states
 
 pub going-starts : (pace : Pace) (round : ℕ) (states : List EntryState) (board : Board) (told : List Settled)
-    (near : List (List ℕ)) (far : List ℕ) (count : ℕ) → IsAgenda pace round 0 states near far 0 →
-    count ≡ length (list_of near round) → AllByRecursion IsEntryState states →
-    Going pace round states board told states board told near far 0 count
-going-starts pace round states board told near far count agenda many known = record {
+    (near : List (List ℕ)) (far : List ℕ) → IsAgenda pace round 0 states near far → AllByRecursion IsEntryState states →
+    Going pace round states board told states board told near far
+going-starts pace round states board told near far agenda known = record {
   from = 0;
   same_states = refl;
   same_board = refl;
   same_told = refl;
   agenda = agenda;
-  many = many;
-  within = omega arith;
   len = refl;
   known = known;
 }
@@ -76,19 +72,17 @@ known_at (first ∷ states) zero state all is = subst IsEntryState (the_some fir
 known_at (first ∷ states) (suc p) state all is = known_at states p state all.1 is
 
 module _ (pace : Pace) (round : ℕ) (old_states : List EntryState) (old_board : Board) (old_told : List Settled)
-    (states : List EntryState) (board : Board) (told : List Settled) (near : List (List ℕ)) (far : List ℕ) (passed count : ℕ)
-    (g : Going pace round old_states old_board old_told states board told near far passed count) where
+    (states : List EntryState) (board : Board) (told : List Settled) (near : List (List ℕ)) (far : List ℕ)
+    (g : Going pace round old_states old_board old_told states board told near far) where
   -- an entry of which nothing is due in the round
   idle_quiet : (i : ℕ) (state : EntryState) → slice_get states i ≡ Some state → round < due_at pace state →
       IsQuiet pace round state
   idle_quiet i state is later = quiet_before pace state round (known_at states i state g.known is) later
 
   -- Where nothing more is noted for the round, it is over:
-  module _ (over : passed ≡ count) where
+  module _ (over : list_of near round ≡ []) where
     none : (place : ℕ) → IsToday pace round g.from states place → ⊥
-    none place is =
-        let noted = g.agenda.all_today place is in
-        absurd (omega (arith, over, g.many, noted.1, noted.2))
+    none place is = none_noted_in 0 place (subst (λ l. IsNoted l 0 place) over (g.agenda.all_today place is))
 
     pub rest_idle : (i : ℕ) (state : EntryState) → g.from ≤ i → slice_get states i ≡ Some state → round < due_at pace state
     rest_idle i state low is = elim (cases_lt round (due_at pace state)) [
@@ -228,7 +222,7 @@ module _ (pace : Pace) (round : ℕ) (old_states : List EntryState) (old_board :
                 )
           ]
 
-      pub ends_agenda : IsAgenda pace (round + 1) 0 states new_near new_far 0
+      pub ends_agenda : IsAgenda pace (round + 1) 0 states new_near new_far
       ends_agenda = record {
         few = g.agenda.few;
         lists = now.lists;
@@ -254,10 +248,13 @@ module _ (pace : Pace) (round : ℕ) (old_states : List EntryState) (old_board :
             still_later r q low (g.agenda.all_later r q (last_turn r q is));
       }
 
-  -- else the next that is noted has its turn:
-  module _ (place : ℕ) (more : passed < count) (place_is : place ≡ get_or (list_of near round) passed 0) where
+  -- else the first that is noted has its turn:
+  module _ (place : ℕ) (list : List ℕ) (list_is : list_of near round ≡ place ∷ list) where
     turn : IsToday pace round g.from states place
-    turn = g.agenda.today place (passed, omega arith, omega (arith, more, g.many), sym place_is)
+    turn = g.agenda.today place (subst (λ l. IsNoted l 0 place) (sym list_is) (noted-here place list))
+
+    rising : IsRising (place ∷ list)
+    rising = subst IsRising list_is (g.agenda.rising round)
 
     pub place_within : place < length states
     place_within = within states place turn.state turn.there
@@ -266,15 +263,43 @@ module _ (pace : Pace) (round : ℕ) (old_states : List EntryState) (old_board :
     place_few = omega (arith, place_within, g.agenda.few)
 
     -- nothing is due of the entries before it
-    no_smaller : (q : ℕ) → IsNoted (list_of near round) passed q → place ≤ q
-    no_smaller q is = elim (cases_eq passed is.0) [
-      | inl same ↦
-          let level : get_or (list_of near round) passed 0 ≡ get_or (list_of near round) is.0 0 =
-          ap (λ i. get_or (list_of near round) i 0) same in
-          omega (arith, level, place_is, is.3)
-      | inr other ↦
-          let above = g.agenda.rising round passed is.0 (omega (arith, is.1, other)) is.2 in
-          omega (arith, above, place_is, is.3)
+    later_place : (q : ℕ) → IsNoted list 0 q → place < q
+    later_place q is = omega (arith, rising 0 (suc is.0) (omega arith) (omega (arith, is.2)), is.3)
+
+    this_or_later : (q : ℕ) → IsNoted (list_of near round) 0 q → (place ≡ q) ⊎ IsNoted list 0 q
+    this_or_later q is =
+        let there = subst (λ l. IsNoted l 0 q) list_is is in
+        noted-first place list q there.0 there.2 there.3
+
+    no_smaller : (q : ℕ) → IsNoted (list_of near round) 0 q → place ≤ q
+    no_smaller q is = elim (this_or_later q is) [
+      | inl same ↦ omega (arith, same)
+      | inr other ↦ omega (arith, later_place q other)
+    ]
+
+    -- it is taken,
+    list_rises : IsRising list
+    list_rises i j low inside = rising (suc i) (suc j) (omega (arith, low)) (omega (arith, inside))
+
+    abbrev taken : List (List ℕ)
+    taken = set near (round % 16) list
+
+    now_taken : Changed near round list taken
+    now_taken = is_changed near round list g.agenda.lists g.agenda.rising list_rises
+
+    stays_taken : (r : ℕ) → round < r → r < round + 16 → list_of taken r ≡ list_of near r
+    stays_taken r low high = now_taken.there r (λ e. omega (arith, low, high, e))
+
+    taken_was : (r q : ℕ) → round < r → IsNotedFor taken far round r q → IsNotedFor near far round r q
+    taken_was r q low is = elim is [
+      | inr late ↦ inr late
+      | inl early ↦ inl (early.0, subst (λ l. IsNoted l 0 q) (stays_taken r low early.0) early.1)
+    ]
+
+    taken_still : (r q : ℕ) → round < r → IsNotedFor near far round r q → IsNotedFor taken far round r q
+    taken_still r q low is = elim is [
+      | inr late ↦ inr late
+      | inl early ↦ inl (early.0, subst (λ l. IsNoted l 0 q) (sym (stays_taken r low early.0)) early.1)
     ]
 
     skipped : (i : ℕ) (other : EntryState) → g.from ≤ i → i < place → slice_get states i ≡ Some other →
@@ -292,7 +317,7 @@ module _ (pace : Pace) (round : ℕ) (old_states : List EntryState) (old_board :
         (now_is : now ≡ (settle_state pace round state board).board)
         (told_is : told_now ≡ told ++ map (told_as state.entry) (settle_state pace round state board).settlements)
         (at_is : at ≡ max (round + 1) (due_at pace state_now))
-        (put : IsPut near far round at place new_near new_far) where
+        (put : IsPut taken far round at place new_near new_far) where
       step : run_from pace round g.from states board ≡
           (let one : SettledEntry = settle_state pace round state board in
           let rest : Ran = run_from pace round (suc place) (set states place (after_settling (end_of pace round) state one.settlements)) one.board in
@@ -314,21 +339,19 @@ module _ (pace : Pace) (round : ℕ) (old_states : List EntryState) (old_board :
       same = ap₂ (λ r b. run_from pace round (suc place) (set states place r) b) state_now_is now_is
 
       -- and what is noted then
-      noted_now : Noted near far round at place new_near new_far
+      noted_now : Noted taken far round at place new_near new_far
       noted_now =
-          is_noted near far round at place g.agenda.lists g.agenda.rising g.agenda.far_rising place_few
+          is_noted taken far round at place now_taken.lists now_taken.rising g.agenda.far_rising place_few
           (omega (arith, at_is)) new_near new_far put
 
-      same_today : list_of new_near round ≡ list_of near round
-      same_today = noted_now.today (omega (arith, at_is))
+      same_today : list_of new_near round ≡ list
+      same_today = noted_now.today (omega (arith, at_is)) ∙ now_taken.here round refl
 
-      today_new : (q : ℕ) → IsNoted (list_of new_near round) (passed + 1) q →
-          IsToday pace round (suc place) (set states place state_now) q
+      today_new : (q : ℕ) → IsNoted (list_of new_near round) 0 q → IsToday pace round (suc place) (set states place state_now) q
       today_new q noted =
-          let is = subst (λ l. IsNoted l (passed + 1) q) same_today noted in
-          let old = g.agenda.today q (is.0, omega (arith, is.1), is.2, is.3) in
-          let above = g.agenda.rising round passed is.0 (omega (arith, is.1)) is.2 in
-          let further : suc place ≤ q = omega (arith, above, place_is, is.3) in
+          let is = subst (λ l. IsNoted l 0 q) same_today noted in
+          let old = g.agenda.today q (subst (λ l. IsNoted l 0 q) (sym list_is) (noted-behind place list q is)) in
+          let further = later_place q is in
           record {
             state = old.state;
             there = set_other states place q state_now (λ e. omega (arith, further, e)) ∙ old.there;
@@ -337,7 +360,7 @@ module _ (pace : Pace) (round : ℕ) (old_states : List EntryState) (old_board :
           }
 
       all_today_new : (q : ℕ) → IsToday pace round (suc place) (set states place state_now) q →
-          IsNoted (list_of new_near round) (passed + 1) q
+          IsNoted (list_of new_near round) 0 q
       all_today_new q is =
           let other : place ≢ q = λ e. omega (arith, is.waits, e) in
           let noted = g.agenda.all_today q (record {
@@ -346,14 +369,10 @@ module _ (pace : Pace) (round : ℕ) (old_states : List EntryState) (old_board :
             waits = omega (arith, is.waits, turn.waits);
             due = is.due;
           }) in
-          let further : passed + 1 ≤ noted.0 = elim (cases_eq passed noted.0) [
-            | inr not ↦ omega (arith, noted.1, not)
-            | inl first ↦
-                let level : get_or (list_of near round) passed 0 ≡ get_or (list_of near round) noted.0 0 =
-                ap (λ i. get_or (list_of near round) i 0) first in
-                absurd (other (omega (arith, level, place_is, noted.3)))
-          ] in
-          subst (λ l. IsNoted l (passed + 1) q) (sym same_today) (noted.0, further, noted.2, noted.3)
+          elim (this_or_later q noted) [
+            | inl same ↦ absurd (other same)
+            | inr later ↦ subst (λ l. IsNoted l 0 q) (sym same_today) later
+          ]
 
       -- an entry that was noted for a later round isn't this one
       elsewhere : (r q : ℕ) → IsLater pace round g.from states r q → place ≢ q
@@ -373,7 +392,7 @@ module _ (pace : Pace) (round : ℕ) (old_states : List EntryState) (old_board :
           idle = λ behind. let here = new.1 in absurd (omega (arith, behind, here));
         }
         | inr old ↦
-            let was = g.agenda.later r q low old in
+            let was = g.agenda.later r q low (taken_was r q low old) in
             record {
               state = was.state;
               there = set_other states place q state_now (elsewhere r q was) ∙ was.there;
@@ -393,7 +412,7 @@ module _ (pace : Pace) (round : ℕ) (old_states : List EntryState) (old_board :
             (subst (λ p. IsNotedFor new_near new_far round at p) here noted_now.now)
         | inr other ↦
             let was = sym (set_other states place q state_now other) ∙ is.there in
-            noted_now.still r q (omega (arith, is.next)) (g.agenda.all_later r q (record {
+            noted_now.still r q (omega (arith, is.next)) (taken_still r q (omega (arith, is.next)) (g.agenda.all_later r q (record {
               state = is.state;
               there = was;
               next = is.next;
@@ -401,11 +420,11 @@ module _ (pace : Pace) (round : ℕ) (old_states : List EntryState) (old_board :
                 | inl before ↦ skipped q is.state low before was
                 | inr after ↦ is.idle (omega (arith, after, other))
               ];
-            }))
+            })))
       ]
 
       pub going-step : length now.cells ≡ length board.cells → IsEntryState state_now →
-          Going pace round old_states old_board old_told (set states place state_now) now told_now new_near new_far (passed + 1) count
+          Going pace round old_states old_board old_told (set states place state_now) now told_now new_near new_far
       going-step len is_state =
           let settlements = map (told_as state.entry) (settle_state pace round state board).settlements in
           let rest : Ran =
@@ -429,8 +448,35 @@ module _ (pace : Pace) (round : ℕ) (old_states : List EntryState) (old_board :
               later = later_new;
               all_later = all_later_new;
             };
-            many = g.many ∙ ap length (sym same_today);
-            within = omega (arith, more);
             len = len ∙ g.len;
             known = set_known states place state_now g.known is_state;
           }
+
+      pub going-smaller : length (list_of new_near round) < length (list_of near round)
+      going-smaller = omega (arith, ap length same_today, ap length list_is)
+
+-- A round that has nothing to do leaves all as it is.
+module _ (pace : Pace) (round : ℕ) (states : List EntryState) (board : Board) (told : List Settled) (near : List (List ℕ))
+    (far : List ℕ) (agenda : IsAgenda pace round 0 states near far) (known : AllByRecursion IsEntryState states)
+    (idle : IsIdle near far round) where
+  starts : Going pace round states board told states board told near far
+  starts = going-starts pace round states board told near far agenda known
+
+  pub idle_states : states ≡ (run_entries pace round states board).states
+  idle_states = ends_states pace round states board told states board told near far starts idle.0
+
+  pub idle_board : board ≡ (run_entries pace round states board).board
+  idle_board = ends_board pace round states board told states board told near far starts idle.0
+
+  pub idle_told : told ≡ told ++ (run_entries pace round states board).settled
+  idle_told = ends_told pace round states board told states board told near far starts idle.0
+
+  pub idle_agenda : IsAgenda pace (round + 1) 0 states near far
+  idle_agenda = ends_agenda pace round states board told states board told near far starts idle.0 near far (record {
+    count = 0;
+    parted = idle.1;
+    list = [];
+    filled = none_filled far;
+    near_is = sym (ap (set near (round % 16)) (sym idle.0) ∙ none_out near round);
+    far_is = refl;
+  })

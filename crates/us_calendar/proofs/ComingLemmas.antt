@@ -104,10 +104,10 @@ unfolding coming
 coming-none e speaks end n is late = ap (filter (comes e speaks)) (due-none e end n is late)
 
 -- one that doesn't come is passed,
-filter-out : (p : ℕ → Bool) (n : ℕ) (ns : List ℕ) → p n ≡ false → filter p (n ∷ ns) ≡ filter p ns
+pub filter-out : (p : ℕ → Bool) (n : ℕ) (ns : List ℕ) → p n ≡ false → filter p (n ∷ ns) ≡ filter p ns
 filter-out p n ns isnt = rw isnt refl
 
-filter-in : (p : ℕ → Bool) (n : ℕ) (ns : List ℕ) → p n ≡ true → filter p (n ∷ ns) ≡ n ∷ filter p ns
+pub filter-in : (p : ℕ → Bool) (n : ℕ) (ns : List ℕ) → p n ≡ true → filter p (n ∷ ns) ≡ n ∷ filter p ns
 filter-in p n ns is = rw is refl
 
 coming-pass : (e : Entry) (speaks : ℕ → Bool) (end n : ℕ) → HasWindows e → comes e speaks n ≡ false →
@@ -160,7 +160,7 @@ coming-all e speaks end n =
 
 -- what is settled then are the first ones
 
-range-plus : (from a b at total : ℕ) → at ≡ from + a → total ≡ a + b →
+pub range-plus : (from a b at total : ℕ) → at ≡ from + a → total ≡ a + b →
     range_with_len from total ≡ range_with_len from a ++ range_with_len at b
 range-plus from zero b at total at_is total_is = ap₂ range_with_len (omega (arith, at_is)) (omega (arith, total_is))
 range-plus from (suc a) b at zero at_is total_is = absurd (omega (arith, total_is))

@@ -188,9 +188,9 @@ module _ (cut : List ℕ) (pace : Pace) (round from : ℕ) (states : List EntryS
         idle = λ low. let idle = is.idle low in omega (arith, idle, same);
       }
 
-  pub agenda_heard : (near : List (List ℕ)) (far : List ℕ) (passed : ℕ) → IsAgenda pace round from states near far passed →
-      IsAgenda pace round from (map (heard cut) states) near far passed
-  agenda_heard near far passed agenda = record {
+  pub agenda_heard : (near : List (List ℕ)) (far : List ℕ) → IsAgenda pace round from states near far →
+      IsAgenda pace round from (map (heard cut) states) near far
+  agenda_heard near far agenda = record {
     few = omega (arith, agenda.few, length-map states (heard cut));
     lists = agenda.lists;
     rising = agenda.rising;

@@ -1,5 +1,5 @@
 -- What is noted: numbers that rise.
-use Rattle.std.proofs.Common.{◌≡◌, ℕ, ◌+◌, ◌-◌, ◌<◌, ◌≤◌, ◌⊎◌, List, [], length, get_or, Ok, Err, refl, ap, sym, ◌∙◌, inl, inr, subst, arith}
+use Rattle.std.proofs.Common.{◌≡◌, ℕ, ◌+◌, ◌-◌, ◌<◌, ◌≤◌, ◌⊎◌, List, [], length, get_or, Ok, Err, ap, sym, ◌∙◌, inl, inr, subst, arith}
 use Rattle.std.specs.List.{insert}
 use Rattle.std.specs.List.Sorted.{IsBinarySearchResult}
 use Rattle.std.specs.Ordering.{nat_cmp}
@@ -144,25 +144,20 @@ module _ (old : List ℕ) (at key : ℕ) (rising : IsRising old) (parted : IsPar
     )
   ]
 
--- where the first ones are those that are not above a number: it is the last of them,
-pub stands_there : (old : List ℕ) (key at : ℕ) → IsParted old at (key + 1) → 0 < at → get_or old (at - 1) 0 ≡ key →
-    IsNotedIn old key old
-stands_there old key at parted some is =
-    inl ((at - 1, omega arith, omega (arith, some, parted.inside), is), refl)
-
--- or comes behind them
+-- where the first ones are those that are not above a number, and none is that number, it comes behind them
 pub fits_there : (old : List ℕ) (key at : ℕ) → IsRising old → IsParted old at (key + 1) →
     (0 < at → get_or old (at - 1) 0 ≡ key → ⊥) → IsNotedIn old key (insert old at key)
-fits_there old key at rising parted differs =
-    inr (
-      at,
-      record { inside = parted.inside; below = below; above = λ i high inside. let is = parted.above i high inside in omega (arith, is) },
-      refl,
-      λ noted. elim (cases_lt noted.0 at) [
-        | inl low ↦ let is = below noted.0 low in absurd (omega (arith, is, noted.3))
-        | inr high ↦ let is = parted.above noted.0 high noted.2 in absurd (omega (arith, is, noted.3))
-      ],
-    )
+fits_there old key at rising parted differs = record {
+  rising = insert_rises old at key rising parted_there fresh;
+  was = insert_was old at key rising parted_there fresh;
+  still = insert_still old at key rising parted_there fresh;
+  now = (
+    at,
+    omega arith,
+    omega (arith, parted.inside, long old at key rising parted_there fresh),
+    here old at key rising parted_there fresh,
+  );
+}
   where
     last : 0 < at → get_or old (at - 1) 0 < key
     last some =
@@ -181,30 +176,15 @@ fits_there old key at rising parted differs =
           rw here (last (omega (arith, low)))
     ]
 
--- what a list has once a number is noted in it
-pub record Put (old : List ℕ) (key : ℕ) (new : List ℕ) : Type 0 where
-  pub rising : IsRising new
-  pub was : (q : ℕ) → IsNoted new 0 q → (q ≡ key) ⊎ IsNoted old 0 q
-  pub still : (q : ℕ) → IsNoted old 0 q → IsNoted new 0 q
-  pub now : IsNoted new 0 key
+    parted_there : IsParted old at key
+    parted_there = record {
+      inside = parted.inside;
+      below = below;
+      above = λ i high inside. let is = parted.above i high inside in omega (arith, is);
+    }
 
-pub is_put : (old : List ℕ) (key : ℕ) (new : List ℕ) → IsRising old → IsNotedIn old key new → Put old key new
-is_put old key new rising put = elim put [
-  | inl there ↦
-      subst (Put old key) (sym there.1)
-      (record { rising = rising; was = λ q noted. inr noted; still = λ q noted. noted; now = there.0 })
-  | inr fresh ↦
-      let at = fresh.0 in
-      let parted = fresh.1 in
-      subst (Put old key) (sym fresh.2) (record {
-        rising = insert_rises old at key rising parted fresh.3;
-        was = insert_was old at key rising parted fresh.3;
-        still = insert_still old at key rising parted fresh.3;
-        now = (
-          at,
-          omega arith,
-          omega (arith, parted.inside, long old at key rising parted fresh.3),
-          here old at key rising parted fresh.3,
-        );
-      })
-]
+    fresh : IsNoted old 0 key → ⊥
+    fresh noted = elim (cases_lt noted.0 at) [
+      | inl low ↦ let is = below noted.0 low in absurd (omega (arith, is, noted.3))
+      | inr high ↦ let is = parted.above noted.0 high noted.2 in absurd (omega (arith, is, noted.3))
+    ]

@@ -5,6 +5,7 @@ pub mod TimedLemmas
 pub mod SettleLemmas
 pub mod SpotLemmas
 pub mod EntryStateLemmas
+pub mod PlacesLemmas
 pub mod KeyLemmas
 pub mod NearLemmas
 pub mod RunLemmas

@@ -1,12 +1,12 @@
 -- What is noted of entries, in the lists of near rounds and behind them, and what noting one more makes of it.
-use Rattle.std.proofs.Common.{◌≡◌, ◌≢◌, ℕ, zero, suc, ◌+◌, ◌%◌, ◌<◌, ◌≤◌, ◌⊎◌, List, [], ◌∷◌, length, get_or, refl, ap, sym, ◌∙◌, inl, inr, subst, arith}
+use Rattle.std.proofs.Common.{◌≡◌, ◌≢◌, ℕ, zero, suc, ◌+◌, ◌%◌, ◌<◌, ◌≤◌, ◌⊎◌, List, [], ◌∷◌, ◌++◌, length, get_or, refl, ap, ap₂, sym, ◌∙◌, inl, inr, subst, arith}
 use Rattle.std.proofs.Math.ListN.{set}
 use Rattle.std.specs.List.{AllByRecursion}
-use Rattle.std.proofs.lemmas.List.{length-set, get_or-set_other}
+use Rattle.std.proofs.lemmas.List.{length-set, get_or-set_other, set-get_or, set-set, set_comm}
 use Rattle.std.proofs.lemmas.Grind.{get_or-set_at}
 use Rattle.std.proofs.lemmas.Bool.{cases_eq}
-use Rattle.us_calendar.specs.Agendas.{IsFilled, IsRising, IsNoted, IsNotedIn, IsNotedFor, IsPut, key_of, list_of}
-use Rattle.us_calendar.proofs.KeyLemmas.{Put, is_put, none_rise}
+use Rattle.us_calendar.specs.Agendas.{IsFilled, IsRising, IsNoted, IsNotedIn, IsNotedFor, IsPut, IsTaken, key_of, list_of, with_taken}
+use Rattle.us_calendar.proofs.KeyLemmas.{none_rise}
 
 -- two keys are one only where round and place are
 pub same_place : (at place now other : ℕ) → place < 2048 → other < 2048 → key_of at place ≡ key_of now other → place ≡ other
@@ -78,11 +78,8 @@ module _ (near : List (List ℕ)) (far : List ℕ) (round at place : ℕ) (many 
     (rising : (r : ℕ) → IsRising (list_of near r)) (far_rising : IsRising far) (inside : place < 2048) (from : round ≤ at) where
   -- in the list of a near round
   module _ (list : List ℕ) (soon : at < round + 16) (noted : IsNotedIn (list_of near at) place list) where
-    put : Put (list_of near at) place list
-    put = is_put (list_of near at) place list (rising at) noted
-
     changed : Changed near at list (set near (at % 16) list)
-    changed = is_changed near at list many rising put.rising
+    changed = is_changed near at list many rising noted.rising
 
     near_was : (r q : ℕ) → round ≤ r → IsNotedFor (set near (at % 16) list) far round r q →
         ((r ≡ at) × (q ≡ place)) ⊎ IsNotedFor near far round r q
@@ -94,7 +91,7 @@ module _ (near : List (List ℕ)) (far : List ℕ) (round at place : ℕ) (many 
             inr (inl (early.0, subst (λ l. IsNoted l 0 q) same early.1))
         | inl here ↦
             let same = changed.here r (ap (λ n. n % 16) here) in
-            elim (put.was q (subst (λ l. IsNoted l 0 q) same early.1)) [
+            elim (noted.was q (subst (λ l. IsNoted l 0 q) same early.1)) [
               | inl new ↦ inl (here, new)
               | inr old ↦ inr (inl (early.0, subst (λ n. IsNoted (list_of near n) 0 q) (sym here) old))
             ]
@@ -112,7 +109,7 @@ module _ (near : List (List ℕ)) (far : List ℕ) (round at place : ℕ) (many 
             let same = changed.here r (ap (λ n. n % 16) here) in
             inl (
               early.0,
-              subst (λ l. IsNoted l 0 q) (sym same) (put.still q (subst (λ n. IsNoted (list_of near n) 0 q) here early.1)),
+              subst (λ l. IsNoted l 0 q) (sym same) (noted.still q (subst (λ n. IsNoted (list_of near n) 0 q) here early.1)),
             )
       ]
     ]
@@ -126,17 +123,14 @@ module _ (near : List (List ℕ)) (far : List ℕ) (round at place : ℕ) (many 
       today = λ behind. changed.there round (apart round round at (omega arith) (omega arith) from soon (λ e. omega (arith, behind, e)));
       was = near_was;
       still = near_still;
-      now = inl (soon, subst (λ l. IsNoted l 0 place) (sym (changed.here at refl)) put.now);
+      now = inl (soon, subst (λ l. IsNoted l 0 place) (sym (changed.here at refl)) noted.now);
     }
 
   -- or with its round among all others
   module _ (keys : List ℕ) (late : round + 16 ≤ at) (noted : IsNotedIn far (key_of at place) keys) where
-    put_far : Put far (key_of at place) keys
-    put_far = is_put far (key_of at place) keys far_rising noted
-
     far_was : (r q : ℕ) → q < 2048 → IsNoted keys 0 (key_of r q) →
         ((r ≡ at) × (q ≡ place)) ⊎ IsNoted far 0 (key_of r q)
-    far_was r q low is = elim (put_far.was (key_of r q) is) [
+    far_was r q low is = elim (noted.was (key_of r q) is) [
       | inl new ↦ inl (same_round r q at place low inside new, same_place r q at place low inside new)
       | inr old ↦ inr old
     ]
@@ -145,7 +139,7 @@ module _ (near : List (List ℕ)) (far : List ℕ) (round at place : ℕ) (many 
     noted_far = record {
       lists = many;
       rising = rising;
-      far_rising = put_far.rising;
+      far_rising = noted.rising;
       far_late = λ all r q low is. elim (far_was r q low is) [
         | inl new ↦ let same = new.0 in omega (arith, same, late)
         | inr old ↦ all r q low old
@@ -160,9 +154,9 @@ module _ (near : List (List ℕ)) (far : List ℕ) (round at place : ℕ) (many 
       ];
       still = λ r q low is. elim is [
         | inl early ↦ inl early
-        | inr other ↦ inr (other.0, other.1, put_far.still (key_of r q) other.2)
+        | inr other ↦ inr (other.0, other.1, noted.still (key_of r q) other.2)
       ];
-      now = inr (late, inside, put_far.now);
+      now = inr (late, inside, noted.now);
     }
 
   pub is_noted : (new_near : List (List ℕ)) (new_far : List ℕ) → IsPut near far round at place new_near new_far →
@@ -187,16 +181,15 @@ none_filled keys = record {
 pub one_filled : (keys : List ℕ) (count : ℕ) (list new : List ℕ) → IsFilled keys count list →
     IsNotedIn list (get_or keys count 0 % 2048) new → IsFilled keys (count + 1) new
 one_filled keys count list new is noted =
-    let put = is_put list (get_or keys count 0 % 2048) new is.rising noted in
     record {
-      rising = put.rising;
-      was = λ place there. elim (put.was place there) [
+      rising = noted.rising;
+      was = λ place there. elim (noted.was place there) [
         | inl here ↦ (count, omega arith, sym here)
         | inr old ↦ let from = is.was place old in (from.0, omega (arith, from.1), from.2)
       ];
       still = λ i low. elim (cases_eq i count) [
-        | inl last ↦ subst (λ n. IsNoted new 0 (get_or keys n 0 % 2048)) (sym last) put.now
-        | inr other ↦ put.still (get_or keys i 0 % 2048) (is.still i (omega (arith, low, other)))
+        | inl last ↦ subst (λ n. IsNoted new 0 (get_or keys n 0 % 2048)) (sym last) noted.now
+        | inr other ↦ noted.still (get_or keys i 0 % 2048) (is.still i (omega (arith, low, other)))
       ];
     }
 
@@ -223,3 +216,65 @@ pub all_cleared : (near : List (List ℕ)) → ((i : ℕ) → i < length near �
 all_cleared [] none = tt
 all_cleared (list ∷ near) none =
     (none 0 (omega arith), all_cleared near (λ i inside. none (suc i) (omega (arith, inside))))
+
+-- where the first ones of a round's list are out of it
+
+pub none_out : (near : List (List ℕ)) (round : ℕ) → with_taken [] near round ≡ near
+none_out near round = set-get_or near (round % 16) []
+
+pub out_list : (near : List (List ℕ)) (round : ℕ) (taken : List ℕ) → length near ≡ 16 →
+    list_of (with_taken taken near round) round ≡ taken ++ list_of near round
+out_list near round taken many = list_here near (taken ++ list_of near round) round round many refl
+
+-- the first of them is taken,
+pub taken_first : (near : List (List ℕ)) (round place : ℕ) (taken left : List ℕ) → length near ≡ 16 →
+    taken ≡ place ∷ left → IsTaken (with_taken taken near round) round place (with_taken left near round)
+taken_first near round place taken left many is = (
+  left ++ list_of near round,
+  out_list near round taken many ∙ ap (λ l. l ++ list_of near round) is,
+  sym (set-set near (round % 16) (taken ++ list_of near round) (left ++ list_of near round)),
+)
+
+-- or the first of those that come out then,
+module _ (near : List (List ℕ)) (round : ℕ) (out list : List ℕ) (many : length near ≡ 16)
+    (parts : list_of near round ≡ out ++ list) where
+  pub taken_next : (place : ℕ) (taken left : List ℕ) → taken ≡ [] → out ≡ place ∷ left →
+      IsTaken (with_taken taken near round) round place (with_taken left (set near (round % 16) list) round)
+  taken_next place taken left none is = (
+    left ++ list,
+    out_list near round taken many ∙ ap₂ (λ t l. t ++ l) none (parts ∙ ap (λ o. o ++ list) is),
+    ap (λ l. set (set near (round % 16) list) (round % 16) (left ++ l)) (list_here near list round round many refl) ∙
+        set-set near (round % 16) list (left ++ list) ∙
+        sym (set-set near (round % 16) (taken ++ list_of near round) (left ++ list)),
+  )
+
+  -- and where there is none, nothing is out
+  pub none_next : (taken : List ℕ) → taken ≡ [] → out ≡ [] → list ≡ [] →
+      (list_of (set near (round % 16) list) round ≡ []) × (set near (round % 16) list ≡ with_taken taken near round)
+  none_next taken none empty over = (
+    list_here near list round round many refl ∙ over,
+    ap (set near (round % 16)) (sym (ap₂ (λ t l. t ++ l) none (parts ∙ ap (λ o. o ++ list) empty))),
+  )
+
+-- noting an entry for a later round leaves them as they are
+pub put_behind : (near : List (List ℕ)) (far : List ℕ) (round at place : ℕ) (new_near : List (List ℕ)) (new_far taken : List ℕ) →
+    round < at → IsPut near far round at place new_near new_far →
+    IsPut (with_taken taken near round) far round at place (with_taken taken new_near round) new_far
+put_behind near far round at place new_near new_far taken later put = elim put [
+  | inr late ↦ inr (late.0, ap (λ n. with_taken taken n round) late.1, late.2)
+  | inl soon ↦
+      let list = soon.2.0 in
+      let other = apart round round at (omega arith) (omega arith) (omega (arith, later)) soon.0 (λ e. omega (arith, later, e)) in
+      let back : at % 16 ≢ round % 16 = λ e. other (sym e) in
+      inl (
+        soon.0,
+        soon.1,
+        (
+          list,
+          subst (λ l. IsNotedIn l place list) (sym (list_there near (taken ++ list_of near round) round at back)) soon.2.1,
+          ap (λ n. with_taken taken n round) soon.2.2 ∙
+              ap (λ l. set (set near (at % 16) list) (round % 16) (taken ++ l)) (list_there near list at round other) ∙
+              set_comm near (at % 16) (round % 16) list (taken ++ list_of near round) back,
+        ),
+      )
+]

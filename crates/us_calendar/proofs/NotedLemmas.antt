@@ -43,7 +43,7 @@ module _ (pace : Pace) (round : ℕ) (near : List (List ℕ)) (far : List ℕ) (
   not_far : (q : ℕ) → IsNoted far 0 q → ⊥
   not_far q is = none_noted_in 0 q (subst (λ l. IsNoted l 0 q) none_far is)
 
-  pub none_noted : IsAgenda pace round 0 [] near far 0
+  pub none_noted : IsAgenda pace round 0 [] near far
   none_noted = record {
     few = omega arith;
     lists = many;
@@ -62,7 +62,7 @@ module _ (pace : Pace) (round : ℕ) (near : List (List ℕ)) (far : List ℕ) (
 -- one more entry
 module _ (pace : Pace) (states : List EntryState) (state : EntryState) (at : ℕ) (near : List (List ℕ)) (far : List ℕ)
     (new_near : List (List ℕ)) (new_far : List ℕ) (room : length states < 1280)
-    (agenda : IsAgenda pace 0 0 states near far 0) (at_is : at ≡ max 0 (due_at pace state))
+    (agenda : IsAgenda pace 0 0 states near far) (at_is : at ≡ max 0 (due_at pace state))
     (put : IsPut near far 0 at (length states) new_near new_far) where
   now : Noted near far 0 at (length states) new_near new_far
   now =
@@ -144,7 +144,7 @@ module _ (pace : Pace) (states : List EntryState) (state : EntryState) (at : ℕ
         (subst (λ n. IsNotedFor new_near new_far 0 n (length states)) when now.now)
   ]
 
-  pub one_noted : IsAgenda pace 0 0 (states ++ state ∷ []) new_near new_far 0
+  pub one_noted : IsAgenda pace 0 0 (states ++ state ∷ []) new_near new_far
   one_noted = record {
     few = omega (arith, length-append states (state ∷ []), room);
     lists = now.lists;

@@ -142,7 +142,7 @@ pub run_kept : (calendar : Calendar) (now : List EntryState) (next len lists fro
     (near new_near : List (List ℕ)) (far new_far : List ℕ) → IsKept calendar near far from to →
     now ≡ (run_entries calendar.pace calendar.next_round calendar.states board).states → AllByRecursion IsEntryState now →
     len ≡ length calendar.states → lists ≡ length near →
-    next ≡ calendar.next_round + 1 → IsAgenda calendar.pace next 0 now new_near new_far 0 →
+    next ≡ calendar.next_round + 1 → IsAgenda calendar.pace next 0 now new_near new_far →
     IsKept (record {
       pace = calendar.pace;
       next_round = next;
@@ -184,21 +184,21 @@ hear_kept calendar cut now len from to near far kept now_is states len_is =
     let many : length now ≡ length calendar.states = ap length now_is ∙ length-map calendar.states (heard cut) in
     let back = lent calendar.states now len len_is many in
     let settled = ap settled_by now_is ∙ settled_heard cut calendar.states in
-    let agenda = agenda_heard cut calendar.pace calendar.next_round 0 calendar.states near far 0 kept.agenda in
+    let agenda = agenda_heard cut calendar.pace calendar.next_round 0 calendar.states near far kept.agenda in
     subst (λ rs. IsKept (record { pace = calendar.pace; next_round = calendar.next_round; states = rs }) near far from to)
     (sym back) (record {
       known = record { len = kept.known.len; ticks = kept.known.ticks; settled = omega (arith, settled, kept.known.settled) };
       few = omega (arith, kept.few, many);
       states = states;
       heard = subst (λ ss. AreHeard ss from to) (sym now_is) (heard_now cut calendar.states from to kept.heard);
-      agenda = subst (λ ss. IsAgenda calendar.pace calendar.next_round 0 ss near far 0) (sym now_is) agenda;
+      agenda = subst (λ ss. IsAgenda calendar.pace calendar.next_round 0 ss near far) (sym now_is) agenda;
     })
 
 -- before round 0 too
 pub opening_kept : (pace : Pace) (states : List EntryState) (es : List Entry) (near : List (List ℕ)) (far : List ℕ)
     (from to : ℕ) → 1 ≤ pace.len → pace.len * minislot_ticks pace.time ≤ 4096 → states ≡ map opening_state es →
     length es ≤ 1280 → AllByRecursion IsEntryState states → AreHeard states from to →
-    IsAgenda pace 0 0 states near far 0 →
+    IsAgenda pace 0 0 states near far →
     IsKept (record { pace = pace; next_round = 0; states = states }) near far from to
 opening_kept pace states es near far from to some ticks states_are few all are agenda =
     let many : length states ≡ length es = ap length states_are ∙ length-map es opening_state in

@@ -1,7 +1,6 @@
 -- What is noted of the entries of a calendar: the round in which each is due next. Of this round and of each of the 15
 -- behind it there is a list of the entries that are due in it; all others stand in one list, with their rounds.
-use Rattle.std.specs.Prelude.{◌≡◌, ℕ, ◌+◌, ◌*◌, ◌/◌, ◌%◌, ◌<◌, ◌≤◌, ◌⊎◌, max, List, [], length, drop, Some, slice_get, slice_index, slice_index_or, slice_set}
-use Rattle.std.specs.List.{insert}
+use Rattle.std.specs.Prelude.{◌≡◌, ℕ, ◌+◌, ◌*◌, ◌/◌, ◌%◌, ◌<◌, ◌≤◌, ◌⊎◌, max, List, [], ◌∷◌, ◌++◌, length, drop, Some, slice_get, slice_index, slice_index_or, slice_set}
 use Rattle.us_calendar.specs.Occurrences.{Pace, ideal, end_of}
 use Rattle.us_calendar.specs.Settling.{EntryState}
 
@@ -37,10 +36,12 @@ pub record IsParted (numbers : List ℕ) (count end : ℕ) : Type 0 where
   pub below : (i : ℕ) → i < count → slice_index numbers i < end
   pub above : (i : ℕ) → count ≤ i → i < length numbers → end ≤ slice_index numbers i
 
--- a number that stands there already is left there; another one comes between those below it and those above it
-abbrev pub IsNotedIn : List ℕ → ℕ → List ℕ → Type 0
-IsNotedIn old number new = (IsNoted old 0 number × (new ≡ old)) ⊎
-    ((at : ℕ) × IsParted old at number × (new ≡ insert old at number) × (IsNoted old 0 number → ⊥))
+-- what a list has once a number is noted in it: that one, and what it had
+pub record IsNotedIn (old : List ℕ) (number : ℕ) (new : List ℕ) : Type 0 where
+  pub rising : IsRising new
+  pub was : (other : ℕ) → IsNoted new 0 other → (other ≡ number) ⊎ IsNoted old 0 other
+  pub still : (other : ℕ) → IsNoted old 0 other → IsNoted new 0 other
+  pub now : IsNoted new 0 number
 
 -- in round `round` or before it, the entry at a place is noted for round `at`
 abbrev pub IsNotedFor : List (List ℕ) → List ℕ → ℕ → ℕ → ℕ → Type 0
@@ -66,17 +67,16 @@ pub record IsLater (pace : Pace) (round from : ℕ) (states : List EntryState) (
   pub next : at ≡ max (round + 1) (due_at pace state)
   pub idle : from ≤ place → round < due_at pace state
 
--- What is noted in a round, where `passed` of its list have had their turn: each entry for the one round in which it has its
--- next turn, and nothing else.
-pub record IsAgenda (pace : Pace) (round from : ℕ) (states : List EntryState) (near : List (List ℕ)) (far : List ℕ)
-    (passed : ℕ) : Type 0 where
+-- What is noted in a round: each entry for the one round in which it has its next turn, and nothing else.
+pub record IsAgenda (pace : Pace) (round from : ℕ) (states : List EntryState) (near : List (List ℕ)) (far : List ℕ) :
+    Type 0 where
   pub few : length states ≤ places
   pub lists : length near ≡ near_rounds
   pub rising : (at : ℕ) → IsRising (list_of near at)
   pub far_rising : IsRising far
   pub far_late : (at place : ℕ) → place < places → IsNoted far 0 (key_of at place) → round + near_rounds ≤ at
-  pub today : (place : ℕ) → IsNoted (list_of near round) passed place → IsToday pace round from states place
-  pub all_today : (place : ℕ) → IsToday pace round from states place → IsNoted (list_of near round) passed place
+  pub today : (place : ℕ) → IsNoted (list_of near round) 0 place → IsToday pace round from states place
+  pub all_today : (place : ℕ) → IsToday pace round from states place → IsNoted (list_of near round) 0 place
   pub later : (at place : ℕ) → round < at → IsNotedFor near far round at place → IsLater pace round from states at place
   pub all_later : (at place : ℕ) → IsLater pace round from states at place → IsNotedFor near far round at place
 
@@ -86,6 +86,15 @@ IsPut near far round at place new_near new_far =
     ((at < round + near_rounds) × (new_far ≡ far) × ((list : List ℕ) × IsNotedIn (list_of near at) place list
     × (new_near ≡ slice_set near (index_of at) list)))
     ⊎ ((round + near_rounds ≤ at) × (new_near ≡ near) × IsNotedIn far (key_of at place) new_far)
+
+-- the first place that is noted for a round is taken
+abbrev pub IsTaken : List (List ℕ) → ℕ → ℕ → List (List ℕ) → Type 0
+IsTaken near round place new_near = (list : List ℕ) × (list_of near round ≡ place ∷ list)
+    × (new_near ≡ slice_set near (index_of round) list)
+
+-- what is noted where the first ones of a round's list are out of it, which are to be taken before the others
+abbrev pub with_taken : List ℕ → List (List ℕ) → ℕ → List (List ℕ)
+with_taken taken near round = slice_set near (index_of round) (taken ++ list_of near round)
 
 -- a list has the places of the first keys, and nothing else
 pub record IsFilled (keys : List ℕ) (count : ℕ) (list : List ℕ) : Type 0 where
@@ -102,3 +111,7 @@ pub record IsBrought (near : List (List ℕ)) (far : List ℕ) (round : ℕ) (ne
   pub filled : IsFilled far count list
   pub near_is : new_near ≡ slice_set near (index_of round) list
   pub far_is : new_far ≡ drop count far
+
+-- nothing is noted for a round, and nothing for the round 16 behind it
+abbrev pub IsIdle : List (List ℕ) → List ℕ → ℕ → Type 0
+IsIdle near far round = (list_of near round ≡ []) × IsParted far 0 (key_of (round + near_rounds + 1) 0)

@@ -100,4 +100,4 @@ pub record IsKept (calendar : Calendar) (near : List (List ℕ)) (far : List ℕ
   pub few : length calendar.states ≤ 1280
   pub states : AllByRecursion IsEntryState calendar.states
   pub heard : AreHeard calendar.states from to
-  pub agenda : IsAgenda calendar.pace calendar.next_round 0 calendar.states near far 0
+  pub agenda : IsAgenda calendar.pace calendar.next_round 0 calendar.states near far

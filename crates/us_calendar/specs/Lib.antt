@@ -17,6 +17,8 @@ pub mod Calendars
 pub mod Runs
 -- what is noted of entries that are due later
 pub mod Agendas
+-- sets of places, as bits
+pub mod PlaceSets
 -- how a calendar is kept
 pub mod Kept
 -- laws of settling

@@ -12,6 +12,7 @@ use crate::heard_entries::{HeardPlaces, activity_among, hear_all};
 use crate::listing::entries_of;
 use crate::near_rounds::clear_all;
 use crate::paces::Pace;
+use crate::places::Places;
 use crate::rising::Rising;
 use crate::settled::Settled;
 use crate::spans::Span;
@@ -27,8 +28,8 @@ pub struct Calendar {
     next_round: u32,
     states: Vec<EntryState>,
 
-    // the places of the entries that are due in one of the next 16 rounds, a list for each round
-    near: Vec<Rising>,
+    // the places of the entries that are due in one of the next 16 rounds, a set for each round
+    near: Vec<Places>,
 
     // rounds and places of all others
     far: Rising,

@@ -14,7 +14,8 @@ pub(crate) fn key_of(round: u32, place: usize) -> u64
 
 /// The place of the entry that is noted so.
 pub(crate) fn place_of(key: u64) -> usize
-    ensures { result ≡ key % spec.places }
+    ensures value { result ≡ key % spec.places }
+    ensures inside { result < spec.places }
 {
     (key % PLACES) as usize
 }

@@ -53,6 +53,9 @@ mod keys;
 // Numbers in order.
 mod rising;
 
+// Places in order, as bits.
+mod places;
+
 // What is noted for the next rounds.
 mod near_rounds;
 

@@ -1,8 +1,10 @@
-ghost use Rattle.std.specs.Prelude.{◌≡◌, ◌+◌, ◌<◌, ◌≤◌, ◌^◌, [], length, slice_index, IfOk, OnOk};
+ghost use Rattle.std.specs.Prelude.{◌≡◌, ◌+◌, ◌<◌, ◌≤◌, ◌^◌, [], length, IfNone, IfOk, IfSome, OnOk};
+ghost use Rattle.std.specs.Bool.{OnTrue, OnFalse};
 ghost use Rattle.std.specs.List.{AllByRecursion};
 ghost use Rattle.us_calendar.specs.Agendas as spec;
 
 use crate::keys::{key_of, place_of};
+use crate::places::{Places, WordPlaces};
 use crate::rising::Rising;
 use std::alloc::Global;
 use us_slots::NoMemory;
@@ -19,19 +21,19 @@ fn index_of(round: u32) -> usize
 }
 
 /// Lists of the first rounds, in which nothing is noted.
-pub(crate) fn no_lists(alloc: Global) -> Result<Vec<Rising>, NoMemory>
+pub(crate) fn no_lists(alloc: Global) -> Result<Vec<Places>, NoMemory>
     ensures many { IfOk result (λ near. length near.items ≡ spec.near_rounds) }
     ensures none { IfOk result (λ near. AllByRecursion (λ list. list ≡ []) near.items) }
 {
     let mut near = Vec::with_capacity(alloc, NEAR_ROUNDS as usize)?;
     for _ in 0..NEAR_ROUNDS {
-        near.push(Rising::new(alloc))?;
+        near.push(Places::new())?;
     }
     Ok(near)
 }
 
 /// Nothing is noted any more.
-pub(crate) fn clear_all(near: &mut [Rising])
+pub(crate) fn clear_all(near: &mut [Places])
     ensures many { length near.new ≡ length near.old }
     ensures none { AllByRecursion (λ list. list ≡ []) near.new }
 {
@@ -40,26 +42,39 @@ pub(crate) fn clear_all(near: &mut [Rising])
     }
 }
 
-/// How many are noted for a round.
-pub(crate) fn count_of(near: &[Rising], round: u32) -> usize
-    requires { length near.now ≡ spec.near_rounds }
-    ensures { result ≡ length (spec.list_of near.now round) }
+/// Whether a round has nothing to do: nothing is noted for it, and where it ends nothing comes to its list.
+pub(crate) fn is_idle(near: &[Places], far: &Rising, round: u32) -> bool
+    requires lists { length near.now ≡ spec.near_rounds }
+    requires early { round + spec.near_rounds + 1 < 2 ^ 32 }
+    ensures idle { OnTrue result (spec.IsIdle near.now far.now round) }
+    ensures busy { OnFalse result (spec.IsIdle near.now far.now round → ⊥) }
 {
-    near[index_of(round)].len()
+    if !near[index_of(round)].is_empty() {
+        return false;
+    }
+    far.is_from(key_of(round + NEAR_ROUNDS + 1, 0))
 }
 
-/// The place of one of the entries that are noted for a round.
-pub(crate) fn place_at(near: &[Rising], round: u32, at: usize) -> usize
-    requires lists { length near.now ≡ spec.near_rounds }
-    requires inside { at < length (spec.list_of near.now round) }
-    ensures { result ≡ slice_index (spec.list_of near.now round) at }
+/// Takes the first of the places that are noted for a round: of those that are out of its list, and then of the list. Those of
+/// a word come out of it together, so that most are taken without a look at the list.
+pub(crate) fn take_next(taken: &mut WordPlaces, near: &mut [Places], round: u32) -> Option<usize>
+    requires { length near.old ≡ spec.near_rounds }
+    ensures some { IfSome result (λ place. spec.IsTaken (spec.with_taken taken.old near.old round) round place
+        (spec.with_taken taken.new near.new round)) }
+    ensures none { IfNone result
+        ((spec.list_of near.new round ≡ []) × (near.new ≡ spec.with_taken taken.old near.old round)) }
+    ensures lists { length near.new ≡ length near.old }
 {
-    near[index_of(round)].get(at) as usize
+    if let Some(place) = taken.take_first() {
+        return Some(place);
+    }
+    *taken = near[index_of(round)].take_word();
+    taken.take_first()
 }
 
 /// Notes the entry at a place for round `at`, in round `round` or before it.
 pub(crate) fn note(
-    near: &mut [Rising],
+    near: &mut [Places],
     far: &mut Rising,
     round: u32,
     at: u32,
@@ -71,35 +86,34 @@ pub(crate) fn note(
     ensures { OnOk result (spec.IsPut near.old far.old round at place near.new far.new) }
 {
     if at - round < NEAR_ROUNDS {
-        near[index_of(at)].note(place as u64)?;
+        near[index_of(at)].note(place);
         return Ok(());
     }
     far.note(key_of(at, place))?;
     Ok(())
 }
 
-/// Ends a round: its list is that of the round 16 behind it from here on.
-pub(crate) fn bring(near: &mut [Rising], far: &mut Rising, round: u32) -> Result<(), NoMemory>
+/// Ends a round, for which nothing is noted any more: its list is that of the round 16 behind it from here on.
+pub(crate) fn bring(near: &mut [Places], far: &mut Rising, round: u32)
     requires lists { length near.old ≡ spec.near_rounds }
     requires early { round + spec.near_rounds + 1 < 2 ^ 32 }
-    ensures { OnOk result (spec.IsBrought near.old far.old round near.new far.new) }
+    requires over { spec.list_of near.old round ≡ [] }
+    ensures { spec.IsBrought near.old far.old round near.new far.new }
 {
     let count = far.count_below(key_of(round + NEAR_ROUNDS + 1, 0));
-    fill(&mut near[index_of(round)], far, count)?;
+    fill(&mut near[index_of(round)], far, count);
     far.drop_first(count);
-    Ok(())
 }
 
-/// Has the places of the first keys alone in a list.
-fn fill(list: &mut Rising, far: &Rising, count: usize) -> Result<(), NoMemory>
-    requires { count ≤ length far.now }
-    ensures { OnOk result (spec.IsFilled far.now count list.new) }
+/// Puts the places of the first keys in a list that has none.
+fn fill(list: &mut Places, far: &Rising, count: usize)
+    requires none { list.old ≡ [] }
+    requires inside { count ≤ length far.now }
+    ensures { spec.IsFilled far.now count list.new }
 {
-    list.clear();
     let mut at = 0;
     while at < count {
-        list.note(place_of(far.get(at)) as u64)?;
+        list.note(place_of(far.get(at)));
         at += 1;
     }
-    Ok(())
 }

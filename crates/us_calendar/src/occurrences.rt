@@ -10,8 +10,8 @@ use crate::entries::Entry;
 pub(crate) struct Occurrence {
     /// The number of the interval.
     pub(crate) i: u32,
-    /// The place among the grants of the interval.
-    pub(crate) k: u8,
+    /// The place among the grants of the interval, at most 126. It is as wide as its neighbours, so that a copy has no gap.
+    pub(crate) k: u32,
     /// When it is ideal, in quarter microseconds.
     pub(crate) ideal: u32,
 }
@@ -41,7 +41,7 @@ impl Occurrence {
         ensures timed { IsTimed entry.now result }
         ensures comes { ((active && (result.ideal == self.ideal)) || (result.k == 0)) ≡ true }
     {
-        let grants = entry.grants;
+        let grants = u32::from(entry.grants);
         if active && self.k + 1 < grants {
             Occurrence {
                 i: self.i,

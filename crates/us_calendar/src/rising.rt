@@ -1,4 +1,5 @@
 ghost use Rattle.std.specs.Prelude.{◌≡◌, ℕ, ◌+◌, ◌-◌, ◌<◌, ◌≤◌, List, [], length, drop, slice_index, OnErr, OnOk, vec_len};
+ghost use Rattle.std.specs.Bool.{OnTrue, OnFalse};
 ghost use Rattle.std.specs.List.{insert, remove};
 ghost use Rattle.us_calendar.specs.Agendas.{IsRising, IsNotedIn, IsParted};
 
@@ -51,12 +52,23 @@ impl Rising {
         self.numbers[at]
     }
 
+    /// Whether none is below a number.
+    pub(crate) fn is_from(&self, end: u64) -> bool
+        ensures none { OnTrue result (IsParted self.now 0 end) }
+        ensures some { OnFalse result (IsParted self.now 0 end → ⊥) }
+    {
+        if self.numbers.is_empty() {
+            return true;
+        }
+        end <= self.numbers[0]
+    }
+
     /// How many are below a number: the first ones.
     pub(crate) fn count_below(&self, end: u64) -> usize
         ensures { IsParted self.now result end }
     {
-        // mostly there are none, and the first one says so
-        if self.numbers.is_empty() || end <= self.numbers[0] {
+        // mostly there are none
+        if self.is_from(end) {
             return 0;
         }
         match self.numbers.binary_search(&end) {

@@ -114,7 +114,7 @@ fn told(
             kind: entry.kind,
             id: entry.id,
             i: next.i,
-            k: next.k,
+            k: next.k as u8,
             start,
             slots: entry.slots_of(active),
             owner: entry.owner_of(active),
@@ -125,7 +125,7 @@ fn told(
                     kind: entry.kind,
                     id: entry.id,
                     i: next.i,
-                    k: next.k,
+                    k: next.k as u8,
                 })
             } else {
                 None

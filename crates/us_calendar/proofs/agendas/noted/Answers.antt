@@ -35,7 +35,7 @@ loop-entry-preserved c =
       known = subst (AllByRecursion IsEntryState) (sym items)
           (all-append IsEntryState old (c.new-state.result ∷ []) l.invariant.known (c.new-state.ensures.known, tt));
       agenda = subst
-          (λ rs. IsAgenda pace 0 0 rs (take l.near.len (new_near ++ drop (length new_near) l.near.items)) new_far 0)
+          (λ rs. IsAgenda pace 0 0 rs (take l.near.len (new_near ++ drop (length new_near) l.near.items)) new_far)
           (sym items)
-          (subst (λ n. IsAgenda pace 0 0 (old ++ c.new-state.result ∷ []) n new_far 0) (sym back) agenda);
+          (subst (λ n. IsAgenda pace 0 0 (old ++ c.new-state.result ∷ []) n new_far) (sym back) agenda);
     }

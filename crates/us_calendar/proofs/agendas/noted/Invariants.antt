@@ -10,5 +10,5 @@ invariant-loop-entry l = record {
   states : l.states.items ++ map opening_state (drop l.entry-index l.entries) ≡ map opening_state l.entries;
   count : length l.states.items ≡ l.entry-index;
   known : AllByRecursion IsEntryState l.states.items;
-  agenda : IsAgenda l.span.pace 0 0 l.states.items l.near.items l.far 0;
+  agenda : IsAgenda l.span.pace 0 0 l.states.items l.near.items l.far;
 }

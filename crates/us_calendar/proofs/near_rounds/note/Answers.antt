@@ -17,7 +17,7 @@ returns-then-at-round-lt-NEAR_ROUNDS c =
       refl,
       (
         new,
-        subst (λ list. IsNotedIn list c.args.place new) old c.in_ok-note.ensures,
+        subst (λ list. IsNotedIn list c.args.place new) old c.note.ensures,
         ap (λ i. set near i new) index_is,
       ),
     )

@@ -1,7 +1,7 @@
 use Rattle.std.proofs.Common.{◌≡◌, ◌+◌, ◌-◌, ◌<◌, get_or, ◌∙◌, subst, arith}
 use Rattle.std.proofs.lemmas.List.{get_or_default}
 use Rattle.us_calendar.specs.Agendas.{IsNotedIn, IsParted}
-use Rattle.us_calendar.proofs.KeyLemmas.{fits_there, is_put}
+use Rattle.us_calendar.proofs.KeyLemmas.{fits_there}
 use Rattle.us_calendar.proofs.rising.Rising.note.Goals.{else-at-gt0-via-then-at-gt0+else-index-number, else-at-gt0-via-else-at-gt0}
 use Rattle.us_calendar.proofs.rising.Rising.note.Goals as goal
 
@@ -20,8 +20,7 @@ noted c =
     rw c.in_ok-put_at.ensures.put (fits_there old c.args.number at c.self.invariant parted differs)
 
 pub invariant_of-self-2 : goal.invariant_of-self-2
-invariant_of-self-2 c =
-    (is_put c.self.inside.numbers.items c.args.number c.put_at.new.numbers.items c.self.invariant (noted c)).rising
+invariant_of-self-2 c = (noted c).rising
 
 pub returns : goal.returns
 returns c = subst (λ xs. IsNotedIn xs c.args.number c.put_at.new.numbers.items) c.self.view_is (noted c)
