@@ -1,5 +1,5 @@
 -- What claims are granted, one after another.
-use Rattle.std.proofs.Common.{◌≡◌, ℕ, ◌+◌, ◌<◌, ◌≤◌, ◌++◌, List, [], ◌∷◌, length, drop, get_or, Option, Some, None, refl, ap, sym, ◌∙◌, append_assoc}
+use Rattle.std.proofs.Common.{◌≡◌, ℕ, ◌+◌, ◌<◌, ◌≤◌, ◌++◌, List, [], ◌∷◌, length, drop, get_or, Option, Some, None, refl, ap, sym, ◌∙◌, append_assoc, arith}
 use Rattle.std.proofs.lemmas.List.{drop_more, drop_all, append-nil}
 use Rattle.std.specs.Prelude.{option_to_list}
 use Rattle.us_slots.specs.Bursts.{ChannelBursts}
@@ -45,3 +45,10 @@ unfolding grants_of assign_all
 build_end b claims place board grants all end past granted assigned =
     let none : drop place claims ≡ [] = drop_all place claims past in
     (sym (append-nil grants) ∙ rw none at granted, rw none at assigned)
+
+-- without a claim nothing is
+pub build_none : (b : ChannelBursts) (claims : List Claim) (board : Board) → length claims ≡ 0 →
+    ([] ≡ grants_of b board claims) × (board ≡ assign_all board (assignments (grants_of b board claims)))
+unfolding grants_of assign_all
+build_none b [] board none = (refl, refl)
+build_none b (claim ∷ rest) board none = absurd (omega (arith, none))

@@ -1,4 +1,4 @@
-ghost use Rattle.std.specs.Prelude.{◌≡◌, ◌*◌, ◌++◌, ◌≤◌, length, option_to_list, vec_capacity, vec_len};
+ghost use Rattle.std.specs.Prelude.{◌≡◌, ◌*◌, ◌++◌, ◌≤◌, [], length, option_to_list, vec_capacity, vec_len};
 ghost use Rattle.std.specs.List.{AllByRecursion};
 ghost use Rattle.us_slots.specs.Times.{minislot_ticks};
 ghost use Rattle.us_holes.specs.Boards.{assign_all, max_assignments};
@@ -12,7 +12,8 @@ use us_slots::MAX_MAP_TICKS;
 use us_split::Claim;
 
 /// Grants claims on a channel, one after another. The list, which has room for as many grants as a MAP has assignments,
-/// gets these in place of what it had.
+/// gets these in place of what it had. Where nothing is claimed, nothing is called.
+#[inline(always)]
 pub(crate) fn grant_all(
     channel: &Channel,
     claims: &[Claim],
@@ -28,6 +29,23 @@ pub(crate) fn grant_all(
     ensures room { max_assignments ≤ vec_capacity grants.new }
 {
     grants.clear();
+    if !claims.is_empty() {
+        grant_each(channel, claims, board, grants);
+    }
+}
+
+/// Grants each of these claims, into a list that is empty.
+#[inline(never)]
+fn grant_each(channel: &Channel, claims: &[Claim], board: &mut Board, grants: &mut Vec<PlacedClaim>)
+    requires claims { AllByRecursion (IsClaimOn channel.now) claims.now }
+    requires ticks { length board.old.cells * minislot_ticks channel.now.bursts.time ≤ MAX_MAP_TICKS }
+    requires none { grants.old.items ≡ [] }
+    requires room { max_assignments ≤ vec_capacity grants.old }
+    ensures grants { grants.new.items ≡ grants_of channel.now.bursts board.old claims.now }
+    ensures board { board.new ≡ assign_all board.old (assignments (grants_of channel.now.bursts board.old claims.now)) }
+    ensures len { length board.new.cells ≡ length board.old.cells }
+    ensures room { max_assignments ≤ vec_capacity grants.new }
+{
     for claim in claims {
         grant_one(channel, claim, board, grants);
     }

@@ -40,7 +40,7 @@ pub use channel_rounds::ChannelRound;
 pub use laws::{
     boards_are_built, grants_are_of_claims, grants_fit, placed_have_minislots, reserves_fit,
 };
-pub use mapping::{element_of, head_of, map_of, pending_of};
+pub use mapping::{element_of, gap_of, head_of, map_of, pending_of};
 pub use placing::PlacedClaim;
 
 #[cfg(test)]

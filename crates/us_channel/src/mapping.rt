@@ -111,19 +111,32 @@ fn elements_in(
     Ok(elements)
 }
 
-/// The element of a run: of its owner, or a gap, which is a broadcast request where one fits.
+/// The element of a run: of its owner, or of nobody's minislots.
 pub fn element_of(channel: &Channel, run: Run) -> Element
     requires { run.start < 2 ^ 14 }
     ensures value { result ≡ spec.run_element channel.now run }
     ensures other { result.iuc ≢ codes.null }
     ensures fields { IsMapElement result }
 {
-    let (sid, iuc) = match run.owner() {
-        Some(owner) => (owner.sid(), owner.iuc()),
-        None if run.len() >= u32::from(channel.request_minislots) => (BROADCAST, Iuc::request()),
-        None => (NOBODY, Iuc::request()),
+    match run.owner() {
+        Some(owner) => Element::from_fields(owner.sid(), owner.iuc(), run.start() as u16),
+        None => gap_of(channel, run),
+    }
+}
+
+/// The element of an idle run: a broadcast request where one fits.
+pub fn gap_of(channel: &Channel, run: Run) -> Element
+    requires { run.start < 2 ^ 14 }
+    ensures value { result ≡ spec.gap channel.now run.start run.len }
+    ensures other { result.iuc ≢ codes.null }
+    ensures fields { IsMapElement result }
+{
+    let sid = if run.len() >= u32::from(channel.request_minislots) {
+        BROADCAST
+    } else {
+        NOBODY
     };
-    Element::from_fields(sid, iuc, run.start() as u16)
+    Element::from_fields(sid, Iuc::request(), run.start() as u16)
 }
 
 /// The data grant pending of a SID, at the MAP's length.

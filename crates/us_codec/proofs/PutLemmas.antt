@@ -1,7 +1,7 @@
 -- What is written, element by element.
 use Rattle.std.proofs.Common.{◌≡◌, ℕ, ◌+◌, ◌*◌, ◌<◌, ◌≤◌, List, [], ◌∷◌, ◌++◌, length, take, drop, get_or, append_assoc, append-nil, refl, ap, sym, ◌∙◌, arith}
 use Rattle.std.specs.Int.{to_be_bytes, w32}
-use Rattle.std.proofs.lemmas.List.{length-append, take_all, take_at, take_more, length-take-le, take-append-drop}
+use Rattle.std.proofs.lemmas.List.{length-append, take_all, take_at, take_more, length-take-le}
 use Rattle.std.proofs.lemmas.Slice.{drop-append-drop}
 use Rattle.std.proofs.lemmas.Grind.{flat_map-append}
 use Rattle.us_codec.specs.Elements.{MapElement, word_of}
@@ -20,50 +20,6 @@ put-step old out new done bytes at next is long behind put =
     ap (λ n. drop n old) behind in
     let front : take at out ≡ done = ap (λ bs. take at bs) is ∙ take_at done (drop at old) at long in
     put ∙ ap (λ bs. bs ++ bytes ++ drop (at + length bytes) out) front ∙ ap (λ rest. done ++ bytes ++ rest) past
-
-pub four-bytes : (bs : List ℕ) → length bs ≡ 4 → bs ≡ get_or bs 0 0 ∷ get_or bs 1 0 ∷ get_or bs 2 0 ∷ get_or bs 3 0 ∷ []
-four-bytes (a ∷ b ∷ c ∷ d ∷ []) four = refl
-four-bytes [] four = absurd (omega (arith, four))
-four-bytes (a ∷ []) four = absurd (omega (arith, four))
-four-bytes (a ∷ b ∷ []) four = absurd (omega (arith, four))
-four-bytes (a ∷ b ∷ c ∷ []) four = absurd (omega (arith, four))
-four-bytes (a ∷ b ∷ c ∷ d ∷ e ∷ rest) four = absurd (omega (arith, four))
-
--- a byte is put behind what is done
-byte-step : (old out new done : List ℕ) (byte at next : ℕ) → out ≡ done ++ drop at old → length done ≡ at →
-    at + 1 ≡ next → new ≡ take at out ++ (byte ∷ drop (at + 1) out) →
-    new ≡ (done ++ byte ∷ []) ++ drop next old
-byte-step old out new done byte at next is long behind put =
-    put-step old out new done (byte ∷ []) at next is long behind
-    (put ∙ sym (append_assoc (take at out) (byte ∷ []) (drop (at + 1) out)))
-
--- four bytes were put one by one
-pub four-put : (old one two three new bytes : List ℕ) (at a b c d : ℕ) → bytes ≡ a ∷ b ∷ c ∷ d ∷ [] →
-    at + 4 ≤ length old → one ≡ take at old ++ (a ∷ drop (at + 1) old) →
-    two ≡ take (at + 1) one ++ (b ∷ drop (at + 1 + 1) one) →
-    three ≡ take (at + 2) two ++ (c ∷ drop (at + 2 + 1) two) →
-    new ≡ take (at + 3) three ++ (d ∷ drop (at + 3 + 1) three) →
-    new ≡ take at old ++ bytes ++ drop (at + length bytes) old
-four-put old one two three new bytes at a b c d is room put-a put-b put-c put-d =
-    let done : List ℕ = take at old in
-    let long : length done ≡ at = length-take-le at old (omega (arith, room)) in
-    let first : one ≡ (done ++ a ∷ []) ++ drop (at + 1) old =
-    byte-step old old one done a at (at + 1) (sym (take-append-drop at old)) long refl put-a in
-    let long-a : length (done ++ a ∷ []) ≡ at + 1 = omega (arith, length-append done (a ∷ []), long) in
-    let second : two ≡ (done ++ a ∷ [] ++ b ∷ []) ++ drop (at + 2) old =
-    byte-step old one two (done ++ a ∷ []) b (at + 1) (at + 2) first long-a (omega arith) put-b in
-    let long-b : length (done ++ a ∷ [] ++ b ∷ []) ≡ at + 2 =
-    omega (arith, length-append (done ++ a ∷ []) (b ∷ []), long-a) in
-    let third : three ≡ (done ++ a ∷ [] ++ b ∷ [] ++ c ∷ []) ++ drop (at + 3) old =
-    byte-step old two three (done ++ a ∷ [] ++ b ∷ []) c (at + 2) (at + 3) second long-b (omega arith) put-c in
-    let long-c : length (done ++ a ∷ [] ++ b ∷ [] ++ c ∷ []) ≡ at + 3 =
-    omega (arith, length-append (done ++ a ∷ [] ++ b ∷ []) (c ∷ []), long-b) in
-    let last : new ≡ (done ++ a ∷ [] ++ b ∷ [] ++ c ∷ [] ++ d ∷ []) ++ drop (at + 4) old =
-    byte-step old three new (done ++ a ∷ [] ++ b ∷ [] ++ c ∷ []) d (at + 3) (at + 4) third long-c (omega arith) put-d in
-    let joined : done ++ a ∷ [] ++ b ∷ [] ++ c ∷ [] ++ d ∷ [] ≡ done ++ (a ∷ b ∷ c ∷ d ∷ []) =
-    rw (append_assoc done (a ∷ []) (b ∷ []), append_assoc done (a ∷ b ∷ []) (c ∷ []), append_assoc done (a ∷ b ∷ c ∷ []) (d ∷ [])) refl in
-    last ∙ ap (λ front. front ++ drop (at + 4) old) joined ∙
-    ap (λ bs. done ++ bs ++ drop (at + length bs) old) (sym is)
 
 words-more : (es : List MapElement) (i : ℕ) (d : MapElement) → i < length es →
     element_bytes (take (i + 1) es) ≡ element_bytes (take i es) ++ to_be_bytes w32 (word_of (get_or es i d))

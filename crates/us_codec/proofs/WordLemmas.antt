@@ -1,7 +1,7 @@
 -- Elements and their bytes: each gives the other.
 use Rattle.std.proofs.Common.{◌≡◌, ℕ, zero, suc, ◌+◌, ◌*◌, ◌/◌, ◌%◌, ◌^◌, ◌<◌, List, [], ◌∷◌, ◌++◌, length, get_or, refl, ap, ◌∙◌, arith}
 use Rattle.std.specs.List.{AllByRecursion}
-use Rattle.std.specs.Int.{to_be_bytes, from_be_bytes, w32}
+use Rattle.std.specs.Int.{to_be_bytes, from_be_bytes, w16, w32}
 use Rattle.std.proofs.lemmas.Nat.{be_bytes_4, from_be_bytes-to_be_bytes_4}
 use Rattle.us_codec.specs.Elements.{MapElement, IsMapElement, word_of, element_of}
 use Rattle.us_codec.specs.Bodies.{element_bytes}
@@ -85,3 +85,15 @@ pub length-element_bytes : (es : List MapElement) → length (element_bytes es) 
 unfolding element_bytes
 length-element_bytes [] = refl
 length-element_bytes (e ∷ es) = let more : length (element_bytes es) ≡ 4 * length es = length-element_bytes es in omega arith
+
+-- the bytes of an element, a half of two after another
+pub halves : (e : MapElement) (high low : ℕ) → IsMapElement e → high ≡ e.sid * 4 + e.iuc / 4 →
+    low ≡ e.iuc % 4 * 2 ^ 14 + e.offset → to_be_bytes w32 (word_of e) ≡ to_be_bytes w16 high ++ to_be_bytes w16 low
+unfolding word_of
+halves e high low h is-high is-low =
+    let word : ℕ = e.sid * 2 ^ 18 + e.iuc * 2 ^ 14 + e.offset in
+    let first : word / 2 ^ 24 % 256 ≡ high / 256 % 256 = omega (arith, h.sid, h.iuc, h.offset, is-high) in
+    let second : word / 2 ^ 16 % 256 ≡ high % 256 = omega (arith, h.sid, h.iuc, h.offset, is-high) in
+    let third : word / 256 % 256 ≡ low / 256 % 256 = omega (arith, h.sid, h.iuc, h.offset, is-low) in
+    let fourth : word % 256 ≡ low % 256 = omega (arith, h.sid, h.iuc, h.offset, is-low) in
+    rw (first, second, third, fourth) refl

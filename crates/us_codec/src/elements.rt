@@ -1,4 +1,5 @@
 ghost use Rattle.std.specs.Prelude.{◌≡◌, ◌^◌, ◌<◌, ◌≤◌, SomeIff};
+ghost use Rattle.std.specs.Int.{to_be_bytes, w32};
 ghost use Rattle.us_codec.specs.Elements.{MapElement, IsMapElement, word_of, element_of, null_at};
 ghost use Rattle.us_codec.specs.Faults.{ends_list, is_pending};
 
@@ -22,6 +23,12 @@ const SID_SHIFT: u32 = 18;
 
 /// The place of the IUC in them (the standard's).
 const IUC_SHIFT: u32 = 14;
+
+/// How many numbers the low bits of an IUC have that stand in the second half of an element's bytes, beside the offset.
+const LOW_IUCS: u16 = 4;
+
+/// How many offsets there are.
+const OFFSETS: u16 = 0x4000;
 
 /// An information element of a MAP: to whom minislots are assigned, what for, and from where on. It ends where the next
 /// one begins.
@@ -123,6 +130,20 @@ impl Element {
     {
         let iuc = u32::from(self.iuc.number());
         (u32::from(self.sid) << SID_SHIFT) + (iuc << IUC_SHIFT) + u32::from(self.offset)
+    }
+
+    /// The same as bytes, a half of two after another: the SID and the high bits of the IUC, then its low bits and the offset.
+    /// So an element of a fixed SID and IUC has one half that is known beforehand.
+    #[inline(always)]
+    pub(crate) fn bytes(self) -> [u8; 4]
+        ensures { result ≡ to_be_bytes w32 (word_of self) }
+    {
+        let iuc = u16::from(self.iuc.number());
+        let high = self.sid * LOW_IUCS + iuc / LOW_IUCS;
+        let low = iuc % LOW_IUCS * OFFSETS + self.offset;
+        let [first, second] = high.to_be_bytes();
+        let [third, fourth] = low.to_be_bytes();
+        [first, second, third, fourth]
     }
 
     /// The element of 32 bits.

@@ -1,4 +1,4 @@
-ghost use Rattle.std.specs.Prelude.{◌≡◌, ◌+◌, ◌*◌, ◌<◌, ◌≤◌, ◌∷◌, ◌++◌, length, take, drop};
+ghost use Rattle.std.specs.Prelude.{◌≡◌, ◌+◌, ◌*◌, ◌<◌, ◌≤◌, ◌++◌, length, take, drop};
 ghost use Rattle.std.specs.Int.{to_be_bytes, w32};
 ghost use Rattle.us_codec.specs.Elements.{word_of};
 ghost use Rattle.us_codec.specs.Bodies.{MapBody, IsMapBody, front, spelling, max_body_bytes};
@@ -50,8 +50,7 @@ pub fn put_element(out: &mut [u8], at: usize, element: Element)
     ensures { out.new ≡
         take at out.old ++ to_be_bytes w32 (word_of element) ++ drop (at + ELEMENT_BYTES) out.old }
 {
-    let word = element.word();
-    put(out, at, word.to_be_bytes());
+    put(out, at, element.bytes());
 }
 
 /// Puts the sixteen bytes before `count` elements to the front of `out`. Reserved is 0.
@@ -65,23 +64,24 @@ fn put_front(out: &mut [u8], head: &Head, count: u8)
     put(out, 12, head.backoffs);
 }
 
-/// Puts four bytes into `out` from `at` on, one by one: so they are stored at once, where a copy of a slice would first ask
-/// whether the two overlap.
+/// Puts four bytes into `out` from `at` on.
+#[inline(always)]
 fn put(out: &mut [u8], at: usize, bytes: [u8; 4])
     requires { at + 4 ≤ length out.old }
     ensures { out.new ≡ take at out.old ++ bytes ++ drop (at + length bytes) out.old }
 {
-    let [first, second, third, fourth] = bytes;
-    put_byte(out, at, first);
-    put_byte(out, at + 1, second);
-    put_byte(out, at + 2, third);
-    put_byte(out, at + 3, fourth);
+    put_whole(&mut out[at..at + 4], bytes);
 }
 
-/// Puts a byte into `out` at `at`.
-fn put_byte(out: &mut [u8], at: usize, byte: u8)
-    requires { at < length out.old }
-    ensures { out.new ≡ take at out.old ++ (byte ∷ drop (at + 1) out.old) }
+/// Puts four bytes where four stand, as one: so they are stored at once, where a copy of a slice would first ask whether the
+/// two overlap.
+#[inline(always)]
+fn put_whole(place: &mut [u8], bytes: [u8; 4])
+    requires { length place.old ≡ 4 }
+    ensures { place.new ≡ bytes }
 {
-    out[at] = byte;
+    let Some(four) = place.as_mut_array() else {
+        unreachable!()
+    };
+    *four = bytes;
 }

@@ -1,17 +1,11 @@
 -- A walk along a board by minislots: at each, a hole begins or an assignment does.
-use Rattle.std.proofs.Common.{◌≡◌, ℕ, zero, suc, ◌+◌, ◌*◌, ◌<◌, ◌≤◌, nat_eq, Bool, List, [], ◌∷◌, ◌++◌, length, drop, get_or, true, false, Some, IsSome, refl, ap, sym, subst, ◌∙◌, inl, inr, arith}
-use Rattle.std.proofs.lemmas.Bool.{cases_lt, lt-ltb, le-ltb, eqb-true, eq-eqb, ne_eqb}
-use Rattle.std.proofs.lemmas.List.{append_assoc, append-nil}
+use Rattle.std.proofs.Common.{◌≡◌, ℕ, zero, suc, ◌+◌, ◌*◌, ◌<◌, ◌≤◌, List, [], ◌∷◌, length, ◌^◌, drop, get_or, Some, IsSome, refl, ap, sym, subst, ◌∙◌, inl, inr, arith}
+use Rattle.std.proofs.lemmas.Bool.{cases_lt, lt-ltb, le-ltb, eq-eqb, ne_eqb}
 use Rattle.us_holes.specs.Boards.{Assignment}
 use Rattle.us_holes.specs.Runs.{Run, end_of, InOrder, run_of, runs_between}
-use Rattle.us_holes.specs.Lists.{beginning, Hole, hole_end, hole_from, holes_of, AreApart, first_start, run_of_hole}
+use Rattle.us_holes.specs.Lists.{beginning, begun_from, by_start, runs_left, Hole, hole_end, hole_from, holes_of, AreApart, AreKept, IsWalk, first_start, run_of_hole}
 use Rattle.us_holes.proofs.CellLemmas.{ordered_end}
 use Rattle.us_holes.proofs.HoleLemmas.{holes_apart}
-
--- the first of these holes begins at a minislot
-abbrev first_begins : List Hole → ℕ → Bool
-first_begins [] start = false
-first_begins (hole ∷ more) start = nat_eq hole.start start
 
 -- No more runs than two for each assignment, and one.
 pub runs_few : (from : ℕ) (assigned : List Assignment) (to : ℕ) → length (runs_between from assigned to) ≤ 2 * length assigned + 1
@@ -25,214 +19,296 @@ runs_few from (one ∷ more) to = elim (cases_lt from one.start) [
   | inr none ↦ rw (le-ltb from one.start none) (omega (arith, runs_few (end_of one) more to))
 ]
 
--- What is walked: the runs so far and those of the rest are all, and the rest is known by its minislot.
-pub record IsWalked (assigned : List Assignment) (holes : List Hole) (len from : ℕ) (found all : List Run) : Type 0 where
-  pub more : List Assignment
-  pub order : InOrder from more len
-  pub same : (at : ℕ) → from ≤ at → beginning at assigned ≡ beginning at more
-  pub rest : holes ≡ holes_of from more len
-  pub runs : found ++ runs_between from more len ≡ all
+-- There is one for each assignment, and one for each hole.
+pub runs_number : (from : ℕ) (assigned : List Assignment) (to : ℕ) →
+    length (runs_between from assigned to) ≡ length assigned + length (holes_of from assigned to)
+unfolding runs_between holes_of
+runs_number from [] to = elim (cases_lt from to) [
+  | inl some ↦ rw (lt-ltb from to some) refl
+  | inr none ↦ rw (le-ltb from to none) refl
+]
+runs_number from (one ∷ more) to = elim (cases_lt from one.start) [
+  | inl some ↦ rw (lt-ltb from one.start some) (omega (arith, runs_number (end_of one) more to))
+  | inr none ↦ rw (le-ltb from one.start none) (omega (arith, runs_number (end_of one) more to))
+]
 
-pub walk_begun : (assigned : List Assignment) (holes : List Hole) (len : ℕ) (found : List Run) → InOrder 0 assigned len →
-    holes ≡ holes_of 0 assigned len → IsWalked assigned holes len 0 found (found ++ runs_between 0 assigned len)
-walk_begun assigned holes len found order between =
-    record { more = assigned; order = order; same = λ at above. refl; rest = between; runs = refl }
+-- Those that begin at a minislot or behind it: from the first minislot on they are all,
+pub all_begun : (assigned : List Assignment) → begun_from 0 assigned ≡ assigned
+unfolding begun_from
+all_begun [] = refl
+all_begun (one ∷ more) = rw (le-ltb one.start 0 (omega arith)) refl
 
-pub walk_done : (assigned : List Assignment) (holes : List Hole) (len from : ℕ) (found all : List Run) → len ≤ from →
-    IsWalked assigned holes len from found all → found ≡ all
-unfolding InOrder runs_between
-walk_done assigned holes len from found all past walked = at_end walked.more walked.order walked.runs
-  where
-    at_end : (more : List Assignment) → InOrder from more len → found ++ runs_between from more len ≡ all → found ≡ all
-    at_end [] order runs = sym (append-nil found) ∙ rw (le-ltb from len past) at runs
-    at_end (one ∷ more) order runs =
-        absurd (omega (arith, past, order.0, order.1, ordered_end (end_of one) more len order.2))
+-- and where all begin there or behind, too;
+begun_all : (from : ℕ) (assigned : List Assignment) (to : ℕ) → InOrder from assigned to → begun_from from assigned ≡ assigned
+unfolding begun_from InOrder
+begun_all from [] to order = refl
+begun_all from (one ∷ more) to order = rw (le-ltb one.start from order.0) refl
 
--- A hole that begins here is walked,
-abbrev front : Hole → List Hole → Hole
-front none [] = none
-front none (hole ∷ holes) = hole
+-- none more is passed by from the minislot where the first of them begins,
+begun_at_first : (from : ℕ) (assigned : List Assignment) (one : Assignment) (more : List Assignment) →
+    begun_from from assigned ≡ one ∷ more → from ≤ one.start → begun_from one.start assigned ≡ one ∷ more
+unfolding begun_from
+begun_at_first from [] one more is above = absurd (cc)
+begun_at_first from (other ∷ others) one more is above = elim (cases_lt other.start from) [
+  | inl before ↦
+      rw (lt-ltb other.start one.start (omega (arith, before, above)))
+      (begun_at_first from others one more (rw (lt-ltb other.start from before) at is) above)
+  | inr behind ↦
+      let is : other ∷ others ≡ one ∷ more = rw (le-ltb other.start from behind) at is in
+      let same : other ≡ one = cc in
+      let start : other.start ≡ one.start = ap (λ a. a.start) same in
+      rw (le-ltb other.start one.start (omega (arith, start))) is
+]
 
-front_is : (one other : Hole) (holes others : List Hole) → one ∷ holes ≡ other ∷ others → one ≡ other
-front_is one other holes others same = ap (λ holes. front one holes) same
+-- where there is none there is none further on,
+begun_none : (from to : ℕ) (assigned : List Assignment) → from ≤ to → begun_from from assigned ≡ [] → begun_from to assigned ≡ []
+unfolding begun_from
+begun_none from to [] above is = refl
+begun_none from to (other ∷ others) above is = elim (cases_lt other.start from) [
+  | inl before ↦
+      rw (lt-ltb other.start to (omega (arith, before, above)))
+      (begun_none from to others above (rw (lt-ltb other.start from before) at is))
+  | inr behind ↦
+      let is : other ∷ others ≡ [] = rw (le-ltb other.start from behind) at is in
+      absurd (cc)
+]
 
-behind_is : (one other : Hole) (holes others : List Hole) → one ∷ holes ≡ other ∷ others → holes ≡ others
-behind_is one other holes others same = ap (λ holes. drop 1 holes) same
+-- and behind the first of them there are the others.
+begun_behind : (from : ℕ) (assigned : List Assignment) (one : Assignment) (more : List Assignment) (to : ℕ) →
+    begun_from from assigned ≡ one ∷ more → from ≤ one.start → 0 < one.slots → InOrder (end_of one) more to →
+    begun_from (end_of one) assigned ≡ more
+unfolding begun_from
+begun_behind from [] one more to is above some order = absurd (cc)
+begun_behind from (other ∷ others) one more to is above some order = elim (cases_lt other.start from) [
+  | inl before ↦
+      rw (lt-ltb other.start (end_of one) (omega (arith, before, above)))
+      (begun_behind from others one more to (rw (lt-ltb other.start from before) at is) above some order)
+  | inr behind ↦
+      let is : other ∷ others ≡ one ∷ more = rw (le-ltb other.start from behind) at is in
+      let same : other ≡ one = cc in
+      let rest : others ≡ more = cc in
+      let start : other.start ≡ one.start = ap (λ a. a.start) same in
+      rw (lt-ltb other.start (end_of one) (omega (arith, start, some)), rest) (begun_all (end_of one) more to order)
+]
 
-starts : (from : ℕ) (hole : Hole) (holes : List Hole) → AreApart from (hole ∷ holes) → from ≤ hole.start
-unfolding AreApart
-starts from hole holes apart = apart.0
+-- The first of them is found where it begins.
+begins_first : (from : ℕ) (assigned : List Assignment) (one : Assignment) (more : List Assignment) →
+    begun_from from assigned ≡ one ∷ more → one.start ≡ from → beginning from assigned ≡ Some one
+unfolding begun_from beginning
+begins_first from [] one more is here = absurd (cc)
+begins_first from (other ∷ others) one more is here = elim (cases_lt other.start from) [
+  | inl before ↦
+      rw (ne_eqb other.start from (λ same. omega (arith, same, before)))
+      (begins_first from others one more (rw (lt-ltb other.start from before) at is) here)
+  | inr behind ↦
+      let is : other ∷ others ≡ one ∷ more = rw (le-ltb other.start from behind) at is in
+      let same : other ≡ one = cc in
+      let start : other.start ≡ from = ap (λ a. a.start) same ∙ here in
+      rw (eq-eqb other.start from start) (ap (λ a. Some a) same)
+]
 
-walk_hole : (assigned : List Assignment) (hole : Hole) (holes : List Hole) (len from : ℕ) (found all : List Run) →
-    from < len → hole.start ≡ from → IsWalked assigned (hole ∷ holes) len from found all →
-    (from < hole_end hole) × IsWalked assigned holes len (hole_end hole) (found ++ run_of_hole hole ∷ []) all
-unfolding InOrder holes_of runs_between
-walk_hole assigned hole holes len from found all some begins walked =
-    step walked.more walked.order walked.same walked.rest walked.runs
-  where
-    step : (more : List Assignment) → InOrder from more len →
-        ((at : ℕ) → from ≤ at → beginning at assigned ≡ beginning at more) → hole ∷ holes ≡ holes_of from more len →
-        found ++ runs_between from more len ≡ all →
-        (from < hole_end hole) × IsWalked assigned holes len (hole_end hole) (found ++ run_of_hole hole ∷ []) all
-    step [] order same rest runs =
-        let rest : hole ∷ holes ≡ hole_from from len ∷ [] = rw (lt-ltb from len some) at rest in
-        let hole_is = front_is hole (hole_from from len) holes [] rest in
-        let end : hole_end hole ≡ len = ap (λ hole. hole_end hole) hole_is ∙ omega (arith, some) in
-        let last = le-ltb (hole_end hole) len (omega (arith, end)) in (
-          omega (arith, end, some),
-          record {
-            more = [];
-            order = omega (arith, end);
-            same = λ at above. same at (omega (arith, above, end, some));
-            rest = behind_is hole (hole_from from len) holes [] rest ∙ rw last refl;
-            runs = rw last (append-nil (found ++ run_of_hole hole ∷ [])
-                ∙ ap (λ hole. found ++ run_of_hole hole ∷ []) hole_is ∙ rw (lt-ltb from len some) at runs);
-          },
-        )
-    step (one ∷ more) order same rest runs = elim (cases_lt from one.start) [
-      | inl gap ↦
-          let rest : hole ∷ holes ≡ hole_from from one.start ∷ holes_of (end_of one) more len = rw (lt-ltb from one.start gap) at rest in
-          let hole_is = front_is hole (hole_from from one.start) holes (holes_of (end_of one) more len) rest in
-          let end : hole_end hole ≡ one.start = ap (λ hole. hole_end hole) hole_is ∙ omega (arith, gap) in
-          let last = le-ltb (hole_end hole) one.start (omega (arith, end)) in (
-            omega (arith, end, gap),
-            record {
-              more = one ∷ more;
-              order = (omega (arith, end), order.1, order.2);
-              same = λ at above. same at (omega (arith, above, end, gap));
-              rest = behind_is hole (hole_from from one.start) holes (holes_of (end_of one) more len) rest ∙ rw last refl;
-              runs = rw last (append_assoc found (run_of_hole hole ∷ []) (run_of one ∷ runs_between (end_of one) more len)
-                  ∙ ap (λ hole. found ++ run_of_hole hole ∷ run_of one ∷ runs_between (end_of one) more len) hole_is
-                  ∙ rw (lt-ltb from one.start gap) at runs);
-            },
-          )
-      | inr none ↦
-          let rest : hole ∷ holes ≡ holes_of (end_of one) more len = rw (le-ltb from one.start none) at rest in
-          let apart : AreApart (end_of one) (hole ∷ holes) = rw (sym rest) at (holes_apart (end_of one) more len order.2) in
-          absurd (omega (arith, starts (end_of one) hole holes apart, begins, order.0, order.1))
-    ]
+-- A walk as it begins.
+pub walk_begun : (placed : List Assignment) (numbers : List ℕ) (holes : List Hole) (len : ℕ) → AreKept placed numbers →
+    len ≤ 4096 → InOrder 0 (by_start placed) len → holes ≡ holes_of 0 (by_start placed) len →
+    IsWalk placed numbers holes len 0 0 (first_start (drop 0 holes) len)
+walk_begun placed numbers holes len kept most order between =
+    let all = all_begun (by_start placed) in
+    record {
+      kept = kept;
+      most = most;
+      order = rw all order;
+      rest = rw all between;
+      idle = refl;
+    }
 
--- and where none does an assignment begins.
-record IsHeld (assigned : List Assignment) (holes : List Hole) (len from : ℕ) (found all : List Run) : Type 0 where
+-- A step of the walk: a run is handed out, and it goes on where that ends.
+pub record IsStep (placed : List Assignment) (numbers : List ℕ) (holes : List Hole) (len from end next idle_from : ℕ) (run : Run) : Type 0 where
+  pub inside : run.start < 4096
+  pub walk : IsWalk placed numbers holes len end next idle_from
+  pub runs : runs_left placed from len ≡ run ∷ runs_left placed end len
+
+-- Where no hole begins an assignment does.
+record IsHeld (placed : List Assignment) (numbers : List ℕ) (holes : List Hole) (len from next idle_from : ℕ) : Type 0 where
   one : Assignment
-  is : beginning from assigned ≡ Some one
-  later : from < end_of one
-  walked : IsWalked assigned holes len (end_of one) (found ++ run_of one ∷ []) all
+  is : beginning from (by_start placed) ≡ Some one
+  start : one.start ≡ from
+  inside : end_of one ≤ len
+  step : IsStep placed numbers holes len from (end_of one) next idle_from (run_of one)
 
-here_is : (from : ℕ) → nat_eq from from ≡ false → ⊥
-here_is from f = let same : true ≡ false = sym (eq-eqb from from refl) ∙ f in cc
-
-walk_held : (assigned : List Assignment) (holes : List Hole) (len from : ℕ) (found all : List Run) → from < len →
-    first_begins holes from ≡ false → IsWalked assigned holes len from found all →
-    IsHeld assigned holes len from found all
-unfolding InOrder holes_of runs_between beginning
-walk_held assigned holes len from found all some none walked =
-    step walked.more walked.order walked.same walked.rest walked.runs
+walk_held : (placed : List Assignment) (numbers : List ℕ) (holes : List Hole) (len from next idle_from : ℕ) →
+    from < idle_from → IsWalk placed numbers holes len from next idle_from →
+    IsHeld placed numbers holes len from next idle_from
+unfolding InOrder holes_of runs_between
+walk_held placed numbers holes len from next idle_from before walk =
+    step (begun_from from (by_start placed)) refl walk.order walk.rest
   where
-    step : (more : List Assignment) → InOrder from more len →
-        ((at : ℕ) → from ≤ at → beginning at assigned ≡ beginning at more) → holes ≡ holes_of from more len →
-        found ++ runs_between from more len ≡ all → IsHeld assigned holes len from found all
-    step [] order same rest runs =
-        absurd (here_is from (rw (rest, lt-ltb from len some) at none))
-    step (one ∷ more) order same rest runs = elim (cases_lt from one.start) [
-      | inl gap ↦ absurd (here_is from (rw (rest, lt-ltb from one.start gap) at none))
+    step : (left : List Assignment) → begun_from from (by_start placed) ≡ left → InOrder from left len →
+        drop next holes ≡ holes_of from left len → IsHeld placed numbers holes len from next idle_from
+    step [] is order rest = elim (cases_lt from len) [
+      | inl gap ↦
+          let rest : drop next holes ≡ hole_from from len ∷ [] = rw (lt-ltb from len gap) at rest in
+          let first : idle_from ≡ from = walk.idle ∙ ap (λ holes. first_start holes len) rest in
+          absurd (omega (arith, before, first))
+      | inr none ↦
+          let rest : drop next holes ≡ [] = rw (le-ltb from len none) at rest in
+          let first : idle_from ≡ len = walk.idle ∙ ap (λ holes. first_start holes len) rest in
+          absurd (omega (arith, before, first, none))
+    ]
+    step (one ∷ more) is order rest = elim (cases_lt from one.start) [
+      | inl gap ↦
+          let rest : drop next holes ≡ hole_from from one.start ∷ holes_of (end_of one) more len =
+          rw (lt-ltb from one.start gap) at rest in
+          let first : idle_from ≡ from = walk.idle ∙ ap (λ holes. first_start holes len) rest in
+          absurd (omega (arith, before, first))
       | inr behind ↦
           let here : one.start ≡ from = omega (arith, order.0, behind) in
+          let left = begun_behind from (by_start placed) one more len is order.0 order.1 order.2 in
           record {
             one = one;
-            is = same from (omega arith) ∙ rw (eq-eqb one.start from here) refl;
-            later = omega (arith, here, order.1);
-            walked = record {
-              more = more;
-              order = order.2;
-              same = λ at above. same at (omega (arith, above, here)) ∙ rw (ne_eqb one.start at (λ e. omega (arith, e, above, order.1))) refl;
-              rest = rw (le-ltb from one.start behind) at rest;
-              runs = append_assoc found (run_of one ∷ []) (runs_between (end_of one) more len)
-                  ∙ rw (le-ltb from one.start behind) at runs;
+            is = begins_first from (by_start placed) one more is here;
+            start = here;
+            inside = ordered_end (end_of one) more len order.2;
+            step = record {
+              inside = omega (arith, order.1, walk.most, ordered_end (end_of one) more len order.2);
+              walk = record {
+                kept = walk.kept;
+                most = walk.most;
+                order = rw left order.2;
+                rest = rw left (rw (le-ltb from one.start behind) at rest);
+                idle = walk.idle;
+              };
+              runs = rw (is, left, le-ltb from one.start behind) refl;
             };
           }
     ]
 
--- There is room for each run that is walked.
-longer : (found : List Run) (run : Run) (rest : List Run) → length found < length ((found ++ run ∷ []) ++ rest)
-longer [] run rest = omega arith
-longer (other ∷ found) run rest = omega (arith, longer found run rest)
+pub held_there : (placed : List Assignment) (numbers : List ℕ) (holes : List Hole) (len from next idle_from : ℕ) →
+    from < idle_from → IsWalk placed numbers holes len from next idle_from →
+    (from < 4096) × IsSome (beginning from (by_start placed))
+held_there placed numbers holes len from next idle_from before walk =
+    let held = walk_held placed numbers holes len from next idle_from before walk in
+    (omega (arith, held.start, held.step.inside), rw held.is refl)
 
-walk_room : (assigned : List Assignment) (holes : List Hole) (len from : ℕ) (found all : List Run) (run : Run) →
-    IsWalked assigned holes len from (found ++ run ∷ []) all → length found < length all
-walk_room assigned holes len from found all run walked =
-    rw walked.runs at (longer found run (runs_between from walked.more len))
+pub record IsHeldStep (placed : List Assignment) (numbers : List ℕ) (holes : List Hole) (len from next idle_from : ℕ) (one : Assignment) : Type 0 where
+  pub small : from + one.slots < 2 ^ 32
+  pub step : IsStep placed numbers holes len from (from + one.slots) next idle_from (run_of one)
 
--- The hole of a number is the first of those from there on.
+pub held_step : (placed : List Assignment) (numbers : List ℕ) (holes : List Hole) (len from next idle_from : ℕ) (one : Assignment) →
+    from < idle_from → Some one ≡ beginning from (by_start placed) → IsWalk placed numbers holes len from next idle_from →
+    IsHeldStep placed numbers holes len from next idle_from one
+held_step placed numbers holes len from next idle_from one before is walk =
+    let held = walk_held placed numbers holes len from next idle_from before walk in
+    let both : Some one ≡ Some held.one = is ∙ held.is in
+    let same : held.one ≡ one = cc in
+    let end : end_of held.one ≡ from + held.one.slots = omega (arith, held.start) in
+    subst (λ one. IsHeldStep placed numbers holes len from next idle_from one) same (record {
+      small = omega (arith, end, held.inside, walk.most);
+      step = rw end at held.step;
+    })
+
+-- Where one does it is walked.
 drop_front : (holes : List Hole) (number : ℕ) (hole : Hole) → number < length holes → hole ≡ get_or holes number hole →
     drop number holes ≡ hole ∷ drop (suc number) holes
 drop_front [] number hole inside is = absurd (omega (arith, inside))
 drop_front (one ∷ holes) zero hole inside is = rw is refl
 drop_front (one ∷ holes) (suc number) hole inside is = drop_front holes number hole (omega (arith, inside)) is
 
-begins_inside : (holes : List Hole) (number start : ℕ) → first_begins (drop number holes) start ≡ true →
-    number < length holes
-begins_inside [] zero start t = let no : false ≡ true = t in absurd cc
-begins_inside [] (suc number) start t = let no : false ≡ true = t in absurd cc
-begins_inside (hole ∷ holes) zero start t = omega arith
-begins_inside (hole ∷ holes) (suc number) start t = omega (arith, begins_inside holes number start t)
+starts : (from : ℕ) (hole : Hole) (holes : List Hole) → AreApart from (hole ∷ holes) → from ≤ hole.start
+unfolding AreApart
+starts from hole holes apart = apart.0
 
--- It begins here where none of the minislots before it is left.
-first_above : (from len : ℕ) (more : List Assignment) (hole : Hole) (holes : List Hole) → InOrder from more len →
-    hole ∷ holes ≡ holes_of from more len → from ≤ hole.start
-first_above from len more hole holes order rest =
-    let apart : AreApart from (hole ∷ holes) = rw (sym rest) at (holes_apart from more len order) in
-    starts from hole holes apart
+pub hole_step : (placed : List Assignment) (numbers : List ℕ) (holes : List Hole) (len from next idle_from : ℕ) (hole : Hole) →
+    idle_from ≤ from → next < length holes → hole ≡ get_or holes next hole →
+    IsWalk placed numbers holes len from next idle_from →
+    IsStep placed numbers holes len from (hole_end hole) (next + 1) (first_start (drop (next + 1) holes) len) (run_of_hole hole)
+unfolding InOrder holes_of runs_between
+hole_step placed numbers holes len from next idle_from hole behind inside hole_is walk =
+    step (begun_from from (by_start placed)) refl walk.order (sym front ∙ walk.rest)
+  where
+    front : drop next holes ≡ hole ∷ drop (next + 1) holes
+    front = rw (add_one_is next) (drop_front holes next hole inside hole_is)
+      where
+        add_one_is : (n : ℕ) → n + 1 ≡ suc n
+        add_one_is n = omega arith
 
-idle_here : (assigned : List Assignment) (holes : List Hole) (len from : ℕ) (found all : List Run) → from < len →
-    first_start holes len ≤ from → IsWalked assigned holes len from found all → first_begins holes from ≡ true
-idle_here assigned [] len from found all some below walked = absurd (omega (arith, some, below))
-idle_here assigned (hole ∷ holes) len from found all some below walked =
-    eq-eqb hole.start from (omega (arith, below, first_above from len walked.more hole holes walked.order walked.rest))
+    begins : idle_from ≡ hole.start
+    begins = walk.idle ∙ ap (λ holes. first_start holes len) front
 
-held_here : (holes : List Hole) (len from : ℕ) → from < first_start holes len → first_begins holes from ≡ false
-held_here [] len from above = refl
-held_here (hole ∷ holes) len from above = ne_eqb hole.start from (λ same. omega (arith, same, above))
+    step : (left : List Assignment) → begun_from from (by_start placed) ≡ left → InOrder from left len →
+        hole ∷ drop (next + 1) holes ≡ holes_of from left len →
+        IsStep placed numbers holes len from (hole_end hole) (next + 1) (first_start (drop (next + 1) holes) len) (run_of_hole hole)
+    step [] is order rest = elim (cases_lt from len) [
+      | inl gap ↦
+          let rest : hole ∷ drop (next + 1) holes ≡ hole_from from len ∷ [] = rw (lt-ltb from len gap) at rest in
+          let same : hole ≡ hole_from from len = cc in
+          let none : drop (next + 1) holes ≡ [] = cc in
+          let start : hole.start ≡ from = ap (λ hole. hole.start) same in
+          let end : hole_end hole ≡ len = ap (λ hole. hole_end hole) same ∙ omega (arith, gap) in
+          let left = begun_none from (hole_end hole) (by_start placed) (omega (arith, end, gap)) is in
+          let last = le-ltb (hole_end hole) len (omega (arith, end)) in
+          record {
+            inside = omega (arith, start, gap, walk.most);
+            walk = record {
+              kept = walk.kept;
+              most = walk.most;
+              order = rw left (omega (arith, end));
+              rest = rw left (none ∙ rw last refl);
+              idle = refl;
+            };
+            runs = rw (is, left, last, lt-ltb from len gap) (ap (λ hole. run_of_hole hole ∷ []) (sym same));
+          }
+      | inr none ↦
+          let rest : hole ∷ drop (next + 1) holes ≡ [] = rw (le-ltb from len none) at rest in
+          absurd (cc)
+    ]
+    step (one ∷ more) is order rest = elim (cases_lt from one.start) [
+      | inl gap ↦
+          let rest : hole ∷ drop (next + 1) holes ≡ hole_from from one.start ∷ holes_of (end_of one) more len =
+          rw (lt-ltb from one.start gap) at rest in
+          let same : hole ≡ hole_from from one.start = cc in
+          let others : drop (next + 1) holes ≡ holes_of (end_of one) more len = cc in
+          let start : hole.start ≡ from = ap (λ hole. hole.start) same in
+          let end : hole_end hole ≡ one.start = ap (λ hole. hole_end hole) same ∙ omega (arith, gap) in
+          let left : begun_from (hole_end hole) (by_start placed) ≡ one ∷ more =
+          rw end (begun_at_first from (by_start placed) one more is order.0) in
+          let last = le-ltb (hole_end hole) one.start (omega (arith, end)) in
+          record {
+            inside = omega (arith, start, gap, order.1, walk.most, ordered_end (end_of one) more len order.2);
+            walk = record {
+              kept = walk.kept;
+              most = walk.most;
+              order = rw left (omega (arith, end), order.1, order.2);
+              rest = rw left (others ∙ rw last refl);
+              idle = refl;
+            };
+            runs = rw (is, left, last, lt-ltb from one.start gap)
+                (ap (λ hole. run_of_hole hole ∷ run_of one ∷ runs_between (end_of one) more len) (sym same));
+          }
+      | inr none ↦
+          let rest : hole ∷ drop (next + 1) holes ≡ holes_of (end_of one) more len = rw (le-ltb from one.start none) at rest in
+          let apart : AreApart (end_of one) (hole ∷ drop (next + 1) holes) = rw (sym rest) at (holes_apart (end_of one) more len order.2) in
+          absurd (omega (arith, starts (end_of one) hole (drop (next + 1) holes) apart, begins, behind, order.0, order.1))
+    ]
 
--- A step of the walk.
-pub record IsStep (assigned : List Assignment) (holes : List Hole) (len from end : ℕ) (found all : List Run) (run : Run) : Type 0 where
-  pub later : from < end
-  pub walked : IsWalked assigned holes len end (found ++ run ∷ []) all
-  pub room : length found < length all
+-- Behind the last hole and the last assignment it is done.
+drop_past : (holes : List Hole) (number : ℕ) → length holes ≤ number → drop number holes ≡ []
+drop_past [] zero past = refl
+drop_past [] (suc number) past = refl
+drop_past (hole ∷ holes) zero past = absurd (omega (arith, past))
+drop_past (hole ∷ holes) (suc number) past = drop_past holes number (omega (arith, past))
 
-pub hole_step : (assigned : List Assignment) (holes : List Hole) (len from next : ℕ) (found all : List Run) (hole : Hole) →
-    from < len → first_start (drop next holes) len ≤ from → hole ≡ get_or holes next hole →
-    IsWalked assigned (drop next holes) len from found all →
-    IsStep assigned (drop (next + 1) holes) len from (hole_end hole) found all (run_of_hole hole)
-hole_step assigned holes len from next found all hole some below is walked =
-    let begins = idle_here assigned (drop next holes) len from found all some below walked in
-    let front = drop_front holes next hole (begins_inside holes next from begins) is in
-    let number : next + 1 ≡ suc next = omega arith in
-    let rest = drop (suc next) holes in
-    let first : first_begins (hole ∷ rest) from ≡ true = rw front at begins in
-    let walked : IsWalked assigned (hole ∷ rest) len from found all = rw front at walked in
-    let on = walk_hole assigned hole rest len from found all some (eqb-true hole.start from first) walked in
-    rw number (record {
-      later = on.0;
-      walked = on.1;
-      room = walk_room assigned rest len (hole_end hole) found all (run_of_hole hole) on.1;
-    })
+pub walk_done : (placed : List Assignment) (numbers : List ℕ) (holes : List Hole) (len from next idle_from : ℕ) →
+    idle_from ≤ from → length holes ≤ next → IsWalk placed numbers holes len from next idle_from →
+    runs_left placed from len ≡ []
+unfolding InOrder runs_between
+walk_done placed numbers holes len from next idle_from behind past walk =
+    at_end (begun_from from (by_start placed)) walk.order
+  where
+    last : len ≤ from
+    last = let first : idle_from ≡ len = walk.idle ∙ ap (λ holes. first_start holes len) (drop_past holes next past) in
+        omega (arith, first, behind)
 
-pub held_there : (assigned : List Assignment) (holes : List Hole) (len from : ℕ) (found all : List Run) → from < len →
-    from < first_start holes len → IsWalked assigned holes len from found all → IsSome (beginning from assigned)
-held_there assigned holes len from found all some above walked =
-    let held = walk_held assigned holes len from found all some (held_here holes len from above) walked in
-    rw held.is refl
-
-pub held_step : (assigned : List Assignment) (holes : List Hole) (len from : ℕ) (found all : List Run) (one : Assignment) →
-    from < len → from < first_start holes len → Some one ≡ beginning from assigned →
-    IsWalked assigned holes len from found all → IsStep assigned holes len from (end_of one) found all (run_of one)
-held_step assigned holes len from found all one some above is walked =
-    let held = walk_held assigned holes len from found all some (held_here holes len from above) walked in
-    let both : Some one ≡ Some held.one = is ∙ held.is in
-    let same : held.one ≡ one = cc in
-    subst (λ one. IsStep assigned holes len from (end_of one) found all (run_of one)) same (record {
-      later = held.later;
-      walked = held.walked;
-      room = walk_room assigned holes len (end_of held.one) found all (run_of held.one) held.walked;
-    })
+    at_end : (left : List Assignment) → InOrder from left len → runs_between from left len ≡ []
+    at_end [] order = rw (le-ltb from len last) refl
+    at_end (one ∷ more) order =
+        absurd (omega (arith, last, order.0, order.1, ordered_end (end_of one) more len order.2))

@@ -1,11 +1,19 @@
 -- Inside the crate, and of no use to a reader of the promise: a board as its assignments and the holes between them.
-use Rattle.std.specs.Prelude.{◌≡◌, ℕ, zero, suc, ◌+◌, ◌*◌, ◌-◌, ◌/◌, ◌%◌, ◌<◌, ◌≤◌, nat_le, nat_lt, nat_eq, ◌==◌, max, Bool, ◌&&◌, ◌||◌, if◌then◌else◌, List, [], ◌∷◌, ◌++◌, length, take, drop, replicate, slice_index_or, Option, Some, None}
+use Rattle.std.specs.Prelude.{◌≡◌, ℕ, zero, suc, ◌+◌, ◌*◌, ◌-◌, ◌/◌, ◌%◌, ◌^◌, ◌<◌, ◌≤◌, nat_le, nat_lt, nat_eq, ◌==◌, max, Bool, ◌&&◌, ◌||◌, if◌then◌else◌, List, [], ◌∷◌, ◌++◌, length, take, drop, replicate, slice_index_or, Option, Some, None}
 use Rattle.std.specs.List.{insert, remove}
 use Rattle.us_holes.specs.Boards.{Owner, Holder, Board, Assignment, max_assignments, max_minislots, free_count}
-use Rattle.us_holes.specs.Runs.{Run, end_of, InOrder}
+use Rattle.us_holes.specs.Runs.{Run, end_of, InOrder, runs_between}
 use Rattle.us_holes.specs.Kept.{IsBoard}
 
 -- Assignments by start.
+
+-- an assignment that is kept as a word, with SID, IUC and start in 14, 4 and 14 bits, and by how many minislots it has
+abbrev pub assignment_of : ℕ → ℕ → Assignment
+assignment_of word slots = record {
+  start = word % 2 ^ 14;
+  slots = slots;
+  owner = record { sid = word / 2 ^ 18; iuc = word / 2 ^ 14 % 2 ^ 4 };
+}
 
 abbrev pub its_holder : Assignment → Holder
 its_holder one = record { start = one.start; owner = one.owner }
@@ -181,3 +189,22 @@ pub record AreLists (assigned : List Assignment) (holes ranked : List Hole) (len
 pub record HaveRoom (for_holes for_ranked : ℕ) : Type 0 where
   pub holes : max_assignments + 1 ≤ for_holes
   pub ranked : max_assignments + 1 ≤ for_ranked
+
+-- A walk along a board.
+
+-- the assignments that begin at a minislot or behind it
+unfoldable pub begun_from : ℕ → List Assignment → List Assignment
+begun_from from [] = []
+begun_from from (one ∷ more) = if nat_lt one.start from then begun_from from more else one ∷ more
+
+-- the runs from a minislot on, of assignments in the order in which they were put
+abbrev pub runs_left : List Assignment → ℕ → ℕ → List Run
+runs_left placed from len = runs_between from (begun_from from (by_start placed)) len
+
+-- What it knows where it stands: a run begins there, or the board ends, and the next hole has this number.
+pub record IsWalk (placed : List Assignment) (numbers : List ℕ) (holes : List Hole) (len from next idle_from : ℕ) : Type 0 where
+  pub kept : AreKept placed numbers
+  pub most : len ≤ max_minislots
+  pub order : InOrder from (begun_from from (by_start placed)) len
+  pub rest : drop next holes ≡ holes_of from (begun_from from (by_start placed)) len
+  pub idle : idle_from ≡ first_start (drop next holes) len

@@ -14,7 +14,8 @@ use crate::placed::Assignments;
 use crate::placements::Placed;
 use crate::rank_keys::RankKey;
 use crate::ranks;
-use crate::runs::{Run, push_runs};
+use crate::run_walks::RunWalk;
+use crate::runs::Run;
 use std::alloc::Global;
 use std::marker::Model;
 use us_slots::NoMemory;
@@ -188,6 +189,28 @@ impl Board {
             max (vec_capacity found.old) (vec_len found.old + (2 * self.now.standing + 1))) }
         ensures spared { vec_len found.old + (2 * self.now.standing + 1) ≤ vec_capacity found.old → IsOk result }
     {
-        push_runs(found, &self.assigned, &self.holes, self.len)
+        found.reserve_exact(2 * self.assigned.len() + 1)?;
+        let mut walk = self.walk();
+        while let Some(run) = walk.next() {
+            found.push_reserved(run);
+        }
+        Ok(())
+    }
+
+    /// How many runs there are: one for each assignment, and one for each hole.
+    pub fn run_count(&self) -> usize
+        ensures value { result ≡ length (runs.runs_of self.now.cells) }
+        ensures few { result ≤ 2 * spec.max_assignments + 1 }
+    {
+        self.assigned.len() + self.holes.len()
+    }
+
+    /// The runs, as `runs` gives them, one after another. It needs no memory.
+    pub fn walk(&self) -> RunWalk
+        ensures value { result ≡ runs.runs_of self.now.cells }
+        ensures few { length (runs.runs_of self.now.cells) ≤ 2 * self.now.standing + 1 }
+    {
+        let (placed, numbers) = self.assigned.lent();
+        RunWalk::along(placed, numbers, &self.holes, self.len)
     }
 }

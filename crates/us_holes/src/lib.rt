@@ -31,8 +31,11 @@ mod ranks;
 // One more assignment in all three.
 mod assigning;
 
-// Minislots side by side with one holder.
+// Minislots side by side with one holder,
 mod runs;
+
+// and all of them one after another.
+mod run_walks;
 
 // The board, which keeps these lists.
 mod boards;
@@ -44,6 +47,7 @@ pub use boards::{Board, MAX_ASSIGNMENTS, MAX_MINISLOTS};
 pub use laws::assignments_stand_in_order;
 pub use owners::Owner;
 pub use placements::Placed;
+pub use run_walks::RunWalk;
 pub use runs::Run;
 
 #[cfg(test)]

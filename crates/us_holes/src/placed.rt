@@ -76,12 +76,22 @@ impl Assignments {
         }
     }
 
-    /// The one that begins at a minislot, where one does.
-    pub(crate) fn beginning_at(&self, start: u32) -> Assignment
-        requires inside { start < spec.max_minislots }
-        requires there { IsSome (lists.beginning start self.now) }
-        ensures { Some result ≡ lists.beginning start self.now }
+    /// Lent for a walk along them: as they were put, and the place of each by the minislot at which it begins.
+    pub(crate) fn lent(&self) -> (&[Assignment], &[u8])
+        ensures value { lists.by_start result.0.now ≡ self.now }
+        ensures kept { lists.AreKept result.0.now result.1.now }
     {
-        self.placed[self.numbers[start as usize] as usize]
+        (&self.placed, &self.numbers)
     }
+}
+
+/// The one of these assignments that begins at a minislot, where one does.
+#[inline(always)]
+pub(crate) fn beginning_at(placed: &[Assignment], numbers: &[u8], start: u32) -> Assignment
+    requires kept { lists.AreKept placed.now numbers.now }
+    requires inside { start < spec.max_minislots }
+    requires there { IsSome (lists.beginning start (lists.by_start placed.now)) }
+    ensures { Some result ≡ lists.beginning start (lists.by_start placed.now) }
+{
+    placed[numbers[start as usize] as usize]
 }

@@ -12,3 +12,4 @@ pub mod OwnerLemmas
 pub mod MapLemmas
 pub mod RecordLemmas
 pub mod TextLemmas
+pub mod PageLemmas

@@ -184,3 +184,14 @@ pub all_next : (P : Built → Type 0) (channels : List Built) (i : ℕ) (b d : B
     AllByRecursion P (drop (i + 1) channels) → AllByRecursion P channels
 all_next P channels i b d within is so_far one more =
     so_far (rw (drop_more channels i d within) (rw is at one, more))
+
+-- Where G lines are all that was settled and granted nothing was missed.
+pub none_missed : (round : ℕ) (b : Built) → AreInside b → length b.settled + length b.grants ≤ length (ordered_lines b) →
+    missed_of round b.channel b.settled ≡ []
+none_missed round b inside whole =
+    let granted : List Row = map (line_row round b.channel) (ordered_lines b) in
+    let missed : List Row = missed_of round b.channel b.settled in
+    let rows : length (granted ++ missed) ≡ length (rows_on round b) = ap length (rows_are round b) in
+    let parts : length (granted ++ missed) ≡ length granted + length missed = length-append granted missed in
+    let one : length granted ≡ length (ordered_lines b) = length-map (ordered_lines b) (line_row round b.channel) in
+    empty missed (omega (arith, lines_of round b inside, rows, parts, one, whole))

@@ -22,9 +22,9 @@ words_of c runs = flat_map (λ run. to_be_bytes w32 (word_of (run_element c run)
 
 -- the texts are those of a channel in this round
 pub record AreOf (round : ℕ) (b : Built) (ahead : Ahead) : Type 0 where
-  pub runs : ahead.runs.items ≡ runs_of b.board.cells
-  pub few : length (runs_of b.board.cells) ≤ 2 * max_assignments + 1
-  pub elements : take (4 * length ahead.runs.items) ahead.elements ≡ words_of b.channel (runs_of b.board.cells)
+  pub runs : ahead.runs ≡ length (runs_of b.board.cells)
+  pub few : ahead.runs ≤ 2 * max_assignments + 1
+  pub elements : take (4 * ahead.runs) ahead.elements ≡ words_of b.channel (runs_of b.board.cells)
   pub ordered : AreInside b → ahead.order.spots.items ≡ ordered_spots b
   pub lines : AreInside b → ahead.lines.items ≡ lines (rows_on round b)
   pub fields : AreInside b → AllByRecursion HasFields (rows_on round b)

@@ -9,14 +9,13 @@ ghost use Rattle.us_output.specs.Lines.{HasFields};
 ghost use Rattle.us_output.specs.Orders.{ordered_spots};
 ghost use Rattle.us_output.specs.Outputs.{rows_on};
 
-use crate::lines::LINE_BYTES;
+use crate::lines::PAGE_BYTES;
 use crate::orders::LineOrder;
-use crate::records::{RECORD_BYTES, list_runs, put_runs};
+use crate::records::{RECORD_BYTES, put_runs};
 use crate::texts::push_all;
 use std::alloc::Global;
 use us_channel::ChannelRound;
 use us_codec::ELEMENT_BYTES;
-use us_holes::Run;
 use us_slots::NoMemory;
 
 /// What of a round's texts needs one channel alone, written by whoever has it: the elements of its board's runs, and its
@@ -25,16 +24,16 @@ pub(crate) struct Ahead {
     // the round of which they are; `None` where the channel has gone on since
     pub round: Option<u32>,
 
-    // the runs of the board, and their elements as the first bytes
-    pub runs: Vec<Run>,
+    // how many runs the board has, and their elements as the first bytes
+    pub runs: usize,
     pub elements: [u8; RECORD_BYTES],
 
     // the G lines in order, and the text of all lines
     pub order: LineOrder,
     pub lines: Vec<u8>,
 
-    // the bytes in which a line is put together
-    pub line: [u8; LINE_BYTES],
+    // the bytes in which lines are put together
+    pub page: [u8; PAGE_BYTES],
 }
 
 /// Gives the lists up. It is written out so that it is one step wherever a channel ends.
@@ -46,7 +45,7 @@ impl Drop for Ahead {
             elements: _,
             order: _,
             lines: _,
-            line: _,
+            page: _,
         } = self;
     }
 }
@@ -58,11 +57,11 @@ impl Ahead {
     {
         Ahead {
             round: None,
-            runs: Vec::new(alloc),
+            runs: 0,
             elements: [0; RECORD_BYTES],
             order: LineOrder::new(alloc),
             lines: Vec::new(alloc),
-            line: [0; LINE_BYTES],
+            page: [0; PAGE_BYTES],
         }
     }
 
@@ -73,23 +72,22 @@ impl Ahead {
         ensures none { IfErr result (λ _. self.new.round ≡ None) }
     {
         self.round = None;
-        self.write_elements(channel)?;
+        self.write_elements(channel);
         self.write_lines(channel, round)?;
         self.round = Some(round);
         Ok(())
     }
 
     /// Writes the elements.
-    fn write_elements(&mut self, channel: &ChannelRound) -> Result<(), NoMemory>
-        ensures runs { OnOk result (self.new.runs.items ≡ runs_of channel.now.board.cells) }
-        ensures few { OnOk result (length (runs_of channel.now.board.cells) ≤ 2 * max_assignments + 1) }
-        ensures elements { OnOk result (take (4 * length self.new.runs.items) self.new.elements ≡
-            spec.words_of channel.now.channel (runs_of channel.now.board.cells)) }
+    fn write_elements(&mut self, channel: &ChannelRound)
+        ensures runs { self.new.runs ≡ length (runs_of channel.now.board.cells) }
+        ensures few { self.new.runs ≤ 2 * max_assignments + 1 }
+        ensures elements { take (4 * self.new.runs) self.new.elements ≡
+            spec.words_of channel.now.channel (runs_of channel.now.board.cells) }
         ensures round { self.new.round ≡ self.old.round }
     {
-        list_runs(&mut self.runs, channel.board())?;
-        put_runs(&mut self.elements, 0, channel.channel(), &self.runs);
-        Ok(())
+        self.runs = channel.board().run_count();
+        put_runs(&mut self.elements, 0, channel.channel(), channel.board());
     }
 
     /// Writes the lines.
@@ -105,7 +103,7 @@ impl Ahead {
         push_all(
             &mut self.lines,
             &mut self.order,
-            &mut self.line,
+            &mut self.page,
             round,
             channel,
         )?;
@@ -114,9 +112,9 @@ impl Ahead {
 
     /// The elements, as bytes.
     pub(crate) fn elements(&self) -> &[u8]
-        requires { 4 * length self.now.runs.items ≤ RECORD_BYTES }
-        ensures { result.now ≡ take (4 * length self.now.runs.items) self.now.elements }
+        requires { 4 * self.now.runs ≤ RECORD_BYTES }
+        ensures { result.now ≡ take (4 * self.now.runs) self.now.elements }
     {
-        &self.elements[..ELEMENT_BYTES * self.runs.len()]
+        &self.elements[..ELEMENT_BYTES * self.runs]
     }
 }

@@ -34,6 +34,10 @@ mod pendings;
 mod notes;
 mod orders;
 
+// Many lines of a channel, put together in a page.
+mod fronts;
+mod pages;
+
 // What texts keep.
 mod scratch;
 

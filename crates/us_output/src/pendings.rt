@@ -149,6 +149,10 @@ pub(crate) fn list_sids(
     ensures bits { OnOk result (AllByRecursion (λ sid. sid < 2 ^ 14) sids.new.items) }
 {
     sids.clear();
+    // mostly nobody is
+    if pendings.is_empty() {
+        return Ok(());
+    }
     sids.reserve(MAX_PENDINGS)?;
     for pending in pendings {
         if sids.len() == MAX_PENDINGS {

@@ -1,4 +1,4 @@
-ghost use Rattle.std.specs.Prelude.{◌≡◌, ◌+◌, ◌*◌, ◌^◌, ◌<◌, ◌≤◌, ◌++◌, length, take, flat_map, IfOk, OnOk};
+ghost use Rattle.std.specs.Prelude.{◌≡◌, ◌+◌, ◌*◌, ◌^◌, ◌<◌, ◌≤◌, ◌++◌, length, take, flat_map, OnOk};
 ghost use Rattle.std.specs.List.{AllByRecursion};
 ghost use Rattle.std.specs.Int.{to_be_bytes, w16, w32};
 ghost use Rattle.us_codec.specs.Elements.{word_of};
@@ -17,7 +17,7 @@ ghost use Rattle.us_output.specs.Outputs.{AreWithinLimits, out_of};
 use crate::channels_with_text::ChannelWithText;
 use crate::pendings::{PendingSid, list_sids};
 use crate::scratch::Scratch;
-use us_channel::{element_of, head_of, pending_of};
+use us_channel::{gap_of, head_of, pending_of};
 use us_codec::{
     ELEMENT_BYTES, Element, HEAD_BYTES, Head, MAX_BODY_BYTES, front_bytes, put_element,
 };
@@ -69,17 +69,12 @@ fn push_record(
         OnOk result (text.new.items ≡ text.old.items ++ record_bytes piece) }
     ensures limits { OnOk result (spec.IsWithinLimits config.now round pendings.now part.now) }
 {
-    let Scratch {
-        runs,
-        sids,
-        record,
-        ..
-    } = scratch;
+    let Scratch { sids, record, .. } = scratch;
     let channel = part.channel_round().channel();
     list_sids(sids, pendings, channel.id)?;
     let len = part.channel_round().board().len() as u16;
     let head = head_of(config, channel, round);
-    let end = put_granted(record, runs, round, &head, part, 1 + sids.len())?;
+    let end = put_granted(record, round, &head, part, 1 + sids.len());
     let end = put_next(record, end, Element::null_at(len));
     let end = put_pendings(record, end, sids, len);
     push_first(text, record, end)?;
@@ -90,41 +85,25 @@ fn push_record(
 /// elements of the runs. Where they were written ahead, these are copied.
 fn put_granted(
     out: &mut [u8; RECORD_BYTES],
-    runs: &mut Vec<Run>,
     round: u32,
     head: &Head,
     part: &ChannelWithText,
     more: usize,
-) -> Result<usize, NoMemory>
+) -> usize
     requires more { more ≤ 1 + max_pendings }
-    ensures room { IfOk result (λ end. end + ELEMENT_BYTES * more ≤ RECORD_BYTES) }
-    ensures few { OnOk result (length (runs_of part.now.board.cells) ≤ 2 * max_assignments + 1) }
-    ensures bytes { IfOk result (λ end. take end out.new ≡
+    ensures room { result + ELEMENT_BYTES * more ≤ RECORD_BYTES }
+    ensures few { length (runs_of part.now.board.cells) ≤ 2 * max_assignments + 1 }
+    ensures bytes { take result out.new ≡
         (to_be_bytes w32 round ++ to_be_bytes w16 (16 + 4 * (length (runs_of part.now.board.cells) + more))
         ++ front head.now (length (runs_of part.now.board.cells) + more))
-        ++ words_of part.now.channel (runs_of part.now.board.cells)) }
+        ++ words_of part.now.channel (runs_of part.now.board.cells) }
 {
-    if let Some(ahead) = part.ahead(round) {
-        let end = put_opening(out, round, head, ahead.runs.len() + more);
-        return Ok(put_some(out, end, ahead.elements()));
-    }
     let channel = part.channel_round();
-    list_runs(runs, channel.board())?;
-    let end = put_opening(out, round, head, runs.len() + more);
-    Ok(put_runs(out, end, channel.channel(), runs))
-}
-
-/// Lists the runs of a board. What stood in the list is dropped.
-pub(crate) fn list_runs(runs: &mut Vec<Run>, board: &Board) -> Result<(), NoMemory>
-    ensures runs { OnOk result (runs.new.items ≡ runs_of board.now.cells) }
-    ensures few { OnOk result (length (runs_of board.now.cells) ≤ 2 * max_assignments + 1) }
-    ensures starts { OnOk result (AllByRecursion (λ run. run.start < 2 ^ 14) (runs_of board.now.cells)) }
-{
-    // Asked for what it tells of a board: how long it is at most.
-    let _ = board.len();
-    runs.clear();
-    board.push_runs(runs)?;
-    Ok(())
+    let end = put_opening(out, round, head, channel.board().run_count() + more);
+    match part.ahead(round) {
+        Some(ahead) => put_some(out, end, ahead.elements()),
+        None => put_runs(out, end, channel.channel(), channel.board()),
+    }
 }
 
 /// Adds the bytes before `end`.
@@ -144,29 +123,51 @@ fn put_opening(out: &mut [u8; RECORD_BYTES], round: u32, head: &Head, count: usi
         to_be_bytes w32 round ++ to_be_bytes w16 (16 + 4 * count) ++ front head.now count }
 {
     let length = (HEAD_BYTES + ELEMENT_BYTES * count) as u16;
-    let end = put_bytes(out, 0, &round.to_be_bytes());
-    let end = put_bytes(out, end, &length.to_be_bytes());
-    put_bytes(out, end, &front_bytes(head, count as u8))
+    let end = put_bytes(out, 0, round.to_be_bytes());
+    let end = put_bytes(out, end, length.to_be_bytes());
+    put_bytes(out, end, front_bytes(head, count as u8))
 }
 
-/// Puts the element of each run behind what stands before `at`.
+/// Puts the element of each run of a board behind what stands before `at`.
 pub(crate) fn put_runs(
     out: &mut [u8; RECORD_BYTES],
     at: usize,
     channel: &Channel,
-    runs: &[Run],
+    board: &Board,
 ) -> usize
-    requires room { at + ELEMENT_BYTES * length runs.now ≤ RECORD_BYTES }
-    requires starts { AllByRecursion (λ run. run.start < 2 ^ 14) runs.now }
-    ensures end { result ≡ at + ELEMENT_BYTES * length runs.now }
-    ensures bytes { take result out.new ≡ take at out.old
-        ++ flat_map (λ run. to_be_bytes w32 (word_of (run_element channel.now run))) runs.now }
+    requires room { at + ELEMENT_BYTES * length (runs_of board.now.cells) ≤ RECORD_BYTES }
+    ensures end { result ≡ at + ELEMENT_BYTES * length (runs_of board.now.cells) }
+    ensures bytes { take result out.new ≡ take at out.old ++ words_of channel.now (runs_of board.now.cells) }
 {
     let mut end = at;
-    for run in runs {
-        end = put_next(out, end, element_of(channel, *run));
+    let mut runs = board.walk();
+    while let Some(run) = runs.next() {
+        end = put_run(out, end, channel, run);
     }
     end
+}
+
+/// Puts the element of a run behind what stands before `at`. Those of assignments are put by themselves: so each is moved as
+/// the board keeps it, and not put together of what it is first taken apart to.
+#[inline(always)]
+fn put_run(out: &mut [u8; RECORD_BYTES], at: usize, channel: &Channel, run: Run) -> usize
+    requires room { at + ELEMENT_BYTES ≤ RECORD_BYTES }
+    requires start { run.start < 2 ^ 14 }
+    ensures end { result ≡ at + ELEMENT_BYTES }
+    ensures bytes { take result out.new ≡
+        take at out.old ++ to_be_bytes w32 (word_of (run_element channel.now run)) }
+{
+    match run.owner() {
+        Some(owner) => {
+            let start = run.start() as u16;
+            put_next(
+                out,
+                at,
+                Element::from_fields(owner.sid(), owner.iuc(), start),
+            )
+        }
+        None => put_next(out, at, gap_of(channel, run)),
+    }
 }
 
 /// Puts a data grant pending for each of these SIDs, at the MAP's length, behind what stands before `at`.
@@ -209,12 +210,25 @@ fn put_some(out: &mut [u8; RECORD_BYTES], at: usize, bytes: &[u8]) -> usize
 
 /// The same of so many bytes as are known beforehand.
 #[inline(always)]
-fn put_bytes<const N: usize>(out: &mut [u8; RECORD_BYTES], at: usize, bytes: &[u8; N]) -> usize
+fn put_bytes<const N: usize>(out: &mut [u8; RECORD_BYTES], at: usize, bytes: [u8; N]) -> usize
     requires { at + N ≤ RECORD_BYTES }
     ensures end { result ≡ at + N }
-    ensures bytes { take result out.new ≡ take at out.old ++ bytes.now }
+    ensures bytes { take result out.new ≡ take at out.old ++ bytes.entry }
 {
     let end = at + N;
-    out[at..end].copy_from_slice(bytes);
+    put_whole(&mut out[at..end], bytes);
     end
+}
+
+/// Puts some bytes where as many stand, as one: so they are stored at once, where a copy of a slice would first ask whether
+/// the two overlap.
+#[inline(always)]
+fn put_whole<const N: usize>(place: &mut [u8], bytes: [u8; N])
+    requires { length place.old ≡ N }
+    ensures { place.new ≡ bytes.entry }
+{
+    let Some(whole) = place.as_mut_array() else {
+        unreachable!()
+    };
+    *whole = bytes;
 }

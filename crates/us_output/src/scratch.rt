@@ -1,10 +1,10 @@
-use crate::lines::LINE_BYTES;
+use crate::lines::PAGE_BYTES;
 use crate::orders::LineOrder;
 use crate::records::RECORD_BYTES;
 use std::alloc::Global;
 use us_holes::Run;
 
-/// What is kept from round to round for the texts of rounds: lists, and the bytes in which a record or a line is put
+/// What is kept from round to round for the texts of rounds: lists, and the bytes in which a record or lines are put
 /// together. What stands in it never matters.
 pub struct Scratch {
     // the runs of a board, and the SIDs that are pending on its channel
@@ -15,7 +15,7 @@ pub struct Scratch {
     pub(crate) order: LineOrder,
 
     pub(crate) record: [u8; RECORD_BYTES],
-    pub(crate) line: [u8; LINE_BYTES],
+    pub(crate) page: [u8; PAGE_BYTES],
 }
 
 /// Gives the lists up. It is written out so that it is one step wherever texts end.
@@ -26,7 +26,7 @@ impl Drop for Scratch {
             sids: _,
             order: _,
             record: _,
-            line: _,
+            page: _,
         } = self;
     }
 }
@@ -39,7 +39,7 @@ impl Scratch {
             sids: Vec::new(alloc),
             order: LineOrder::new(alloc),
             record: [0; RECORD_BYTES],
-            line: [0; LINE_BYTES],
+            page: [0; PAGE_BYTES],
         }
     }
 }

@@ -1,21 +1,23 @@
-ghost use Rattle.std.specs.Prelude.{◌≡◌, ◌+◌, ◌^◌, ◌<◌, ◌≤◌, [], ◌∷◌, ◌++◌, length, drop, flat_map, map, count_by, IfOk, OnOk};
+ghost use Rattle.std.specs.Prelude.{◌≡◌, ◌+◌, ◌^◌, ◌<◌, ◌≤◌, ◌++◌, length, flat_map, map, count_by, IfOk, IfSome, OnOk};
 ghost use Rattle.std.specs.Bool.{OnTrue};
 ghost use Rattle.std.specs.List.{AllByRecursion};
 ghost use Rattle.us_output.specs.Files.{lines, is_granted, is_missed};
 ghost use Rattle.us_output.specs.Leftovers.{AreInside};
-ghost use Rattle.us_output.specs.Lines.{HasFields, numbers};
-ghost use Rattle.us_output.specs.Orders.{line_row, lines_at, missed_of, ordered_lines, ordered_spots};
+ghost use Rattle.us_output.specs.Lines.{HasFields};
+ghost use Rattle.us_output.specs.Orders.{line_at, line_row, lines_at, missed_of, ordered_lines, ordered_spots};
+ghost use Rattle.us_output.specs.Pages.{IsFit, IsMissedFit, granted_text, missed_text};
 ghost use Rattle.us_output.specs.Outputs as spec;
 
 use crate::channels_with_text::ChannelWithText;
-use crate::lines::{FRONT_BYTES, LINE_BYTES, front_of, push_granted, push_line, push_missed};
-use crate::orders::{LineOrder, Spot, line_at, missed_at, order_lines};
+use crate::fronts::Front;
+use crate::lines::{PAGE_BYTES, PAGE_LINES, push_line};
+use crate::orders::{LineOrder, Spot, order_lines};
+use crate::pages::{put_all_missed, put_spots};
 use crate::rows::Row;
 use crate::scratch::Scratch;
 use crate::tallies::LineTally;
 use us_calendar::Settled;
-use us_channel::ChannelRound;
-use us_flows::Channel;
+use us_channel::{ChannelRound, PlacedClaim};
 use us_slots::NoMemory;
 
 /// Adds the lines of a round, and counts them: channels in table order, and on each the grants by their start, then what
@@ -44,7 +46,7 @@ pub fn push_lines(
     Ok(())
 }
 
-/// Adds the lines of a channel, and counts them.
+/// Adds the lines of a channel, and counts them. In many rounds there are none, and then nothing is called.
 fn push_part(
     text: &mut Vec<u8>,
     scratch: &mut Scratch,
@@ -62,13 +64,16 @@ fn push_part(
     ensures missed { OnOk result
         (tally.new.missed ≡ tally.old.missed + count_by is_missed (spec.rows_on round part.now)) }
 {
+    let channel = part.channel_round();
+    if is_quiet(channel) {
+        return Ok(());
+    }
     let granted = push_written(text, scratch, round, part)?;
-    tally.add(granted, missed_lines(part.channel_round(), granted));
+    tally.add(granted, missed_lines(channel, granted));
     Ok(())
 }
 
-/// Adds the lines of a channel, and answers how many of them are of grants. Lines that were written ahead are copied. In many
-/// rounds there are none, and then nothing is called.
+/// Adds the lines of a channel, and answers how many of them are of grants. Lines that were written ahead are copied.
 fn push_written(
     text: &mut Vec<u8>,
     scratch: &mut Scratch,
@@ -80,16 +85,12 @@ fn push_written(
     ensures fields { OnOk result (AllByRecursion HasFields (spec.rows_on round part.now)) }
     ensures granted { IfOk result (λ granted. granted ≡ length (ordered_lines part.now)) }
 {
-    let channel = part.channel_round();
-    if is_quiet(channel) {
-        return Ok(0);
-    }
     if let Some(ahead) = part.ahead(round) {
         text.extend_from_slice(&ahead.lines)?;
         return Ok(ahead.order.spots.len());
     }
-    let Scratch { order, line, .. } = scratch;
-    push_all(text, order, line, round, channel)?;
+    let Scratch { order, page, .. } = scratch;
+    push_all(text, order, page, round, part.channel_round())?;
     Ok(order.spots.len())
 }
 
@@ -104,7 +105,7 @@ fn is_quiet(part: &ChannelRound) -> bool
 pub(crate) fn push_all(
     text: &mut Vec<u8>,
     order: &mut LineOrder,
-    line: &mut [u8; LINE_BYTES],
+    page: &mut [u8; PAGE_BYTES],
     round: u32,
     part: &ChannelRound,
 ) -> Result<(), NoMemory>
@@ -114,8 +115,8 @@ pub(crate) fn push_all(
     ensures fields { OnOk result (AreInside part.now → AllByRecursion HasFields (spec.rows_on round part.now)) }
 {
     order_lines(order, part)?;
-    push_all_granted(text, line, round, part, &order.spots)?;
-    push_all_missed(text, line, round, part.channel(), part.settled())?;
+    push_all_granted(text, page, round, part, &order.spots)?;
+    push_all_missed(text, page, round, part, order.spots.len())?;
     Ok(())
 }
 
@@ -129,11 +130,10 @@ fn missed_lines(part: &ChannelRound, granted: usize) -> usize
     part.settled().len() - (granted - part.grants().len())
 }
 
-/// Adds the G lines at some spots. Where there are none, their front isn't put together.
-#[tactic(auto, unfolding(crate::specs::Files::lines))]
+/// Adds the G lines at some spots.
 fn push_all_granted(
     text: &mut Vec<u8>,
-    line: &mut [u8; LINE_BYTES],
+    page: &mut [u8; PAGE_BYTES],
     round: u32,
     part: &ChannelRound,
     spots: &[Spot],
@@ -143,61 +143,75 @@ fn push_all_granted(
     ensures fields { OnOk result
         (AllByRecursion HasFields (map (line_row round part.now.channel) (lines_at part.now spots.now))) }
 {
-    if spots.is_empty() {
-        return Ok(());
-    }
-    let (front, begin) = front_of(line, round, part.channel().id);
-    push_behind_front(text, line, &front, begin, round, part, spots)
+    let front = Front::new(page, b'G', round, part.channel().id);
+    push_spots(text, page, &front, part.settled(), part.grants(), spots)?;
+    Ok(())
 }
 
-/// Adds G lines that begin with what stands in `front` from `begin` on. Each is told straight from what was settled or granted
-/// at its spot.
-// `lines` is closed elsewhere, as in `push_rows`: only here is it the texts of rows.
-#[tactic(auto, unfolding(crate::specs::Files::lines))]
-fn push_behind_front(
+/// Adds G lines that begin with a front, a page of them at a time. Each is told straight from what was settled or granted at
+/// its spot.
+fn push_spots(
     text: &mut Vec<u8>,
-    line: &mut [u8; LINE_BYTES],
-    front: &[u8; FRONT_BYTES],
-    begin: usize,
-    round: u32,
-    part: &ChannelRound,
+    page: &mut [u8; PAGE_BYTES],
+    front: &Front,
+    settled: &[Settled],
+    grants: &[PlacedClaim],
     spots: &[Spot],
 ) -> Result<(), NoMemory>
-    requires begin { begin ≤ FRONT_BYTES }
-    requires front { drop begin front.now ≡ 71 ∷ numbers (round ∷ part.now.channel.id ∷ []) }
-    ensures lines { OnOk result
-        (text.new.items ≡ text.old.items ++ lines (map (line_row round part.now.channel) (lines_at part.now spots.now))) }
-    ensures fields { OnOk result
-        (AllByRecursion HasFields (map (line_row round part.now.channel) (lines_at part.now spots.now))) }
+    ensures lines { OnOk result (text.new.items ≡ text.old.items ++
+        flat_map (λ spot. granted_text front.now (line_at settled.now grants.now spot)) spots.now) }
+    ensures fit { OnOk result (AllByRecursion (λ spot. IfSome (line_at settled.now grants.now spot) IsFit) spots.now) }
 {
-    let channel = part.channel();
-    let settled = part.settled();
-    let grants = part.grants();
-    for spot in spots {
-        if let Some(granted) = line_at(settled, grants, *spot) {
-            push_granted(text, line, front, begin, &granted.grant(round, channel))?;
-        }
+    let mut from = 0;
+    while from < spots.len() {
+        let to = from + (spots.len() - from).min(PAGE_LINES);
+        let start = put_spots(page, front, settled, grants, &spots[from..to]);
+        text.extend_from_slice(&page[start..])?;
+        from = to;
     }
     Ok(())
 }
 
-/// Adds the M lines of what a calendar settled.
-#[tactic(auto, unfolding(crate::specs::Files::lines))]
+/// Adds the M lines of a channel that has so many G lines. Where these are all that was settled and granted nothing was
+/// missed, and no M line is looked for.
 fn push_all_missed(
     text: &mut Vec<u8>,
-    line: &mut [u8; LINE_BYTES],
+    page: &mut [u8; PAGE_BYTES],
     round: u32,
-    channel: &Channel,
+    part: &ChannelRound,
+    granted: usize,
+) -> Result<(), NoMemory>
+    ensures lines { OnOk result (AreInside part.now → granted ≡ length (ordered_lines part.now) →
+        text.new.items ≡ text.old.items ++ lines (missed_of round part.now.channel part.now.settled)) }
+    ensures fields { OnOk result (AreInside part.now → granted ≡ length (ordered_lines part.now) →
+        AllByRecursion HasFields (missed_of round part.now.channel part.now.settled)) }
+{
+    let settled = part.settled();
+    if granted == settled.len() + part.grants().len() {
+        return Ok(());
+    }
+    let front = Front::new(page, b'M', round, part.channel().id);
+    push_missed(text, page, &front, settled)?;
+    Ok(())
+}
+
+/// Adds M lines that begin with a front, a page of what was settled at a time.
+fn push_missed(
+    text: &mut Vec<u8>,
+    page: &mut [u8; PAGE_BYTES],
+    front: &Front,
     settled: &[Settled],
 ) -> Result<(), NoMemory>
     ensures lines { OnOk result
-        (text.new.items ≡ text.old.items ++ lines (missed_of round channel.now settled.now)) }
-    ensures fields { OnOk result (AllByRecursion HasFields (missed_of round channel.now settled.now)) }
+        (text.new.items ≡ text.old.items ++ flat_map (missed_text front.now) settled.now) }
+    ensures fit { OnOk result (AllByRecursion IsMissedFit settled.now) }
 {
-    for one in settled {
-        if let Some(missed) = missed_at(round, channel, *one) {
-            push_missed(text, line, &missed)?;
-        }
+    let mut from = 0;
+    while from < settled.len() {
+        let to = from + (settled.len() - from).min(PAGE_LINES);
+        let start = put_all_missed(page, front, &settled[from..to]);
+        text.extend_from_slice(&page[start..])?;
+        from = to;
     }
     Ok(())
 }
@@ -209,9 +223,9 @@ pub fn push_rows(text: &mut Vec<u8>, scratch: &mut Scratch, rows: &[Row]) -> Res
     ensures lines { OnOk result (text.new.items ≡ text.old.items ++ lines rows.now) }
     ensures fields { OnOk result (AllByRecursion HasFields rows.now) }
 {
-    let Scratch { line, .. } = scratch;
+    let Scratch { page, .. } = scratch;
     for row in rows {
-        push_line(text, line, row)?;
+        push_line(text, page, row)?;
     }
     Ok(())
 }

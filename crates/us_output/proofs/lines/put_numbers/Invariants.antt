@@ -5,7 +5,7 @@ use Rattle.us_output.proofs.lines.put_numbers.Given as goal
 -- the numbers that were put, and the room for those that are left
 abbrev pub invariant-loop-left : goal.invariant-loop-left
 invariant-loop-left l =
-    (drop l.start l.line ≡ spec.numbers (drop l.left l.numbers) ++ drop l.end l.fn.line) ×
+    (drop l.start l.page ≡ spec.numbers (drop l.left l.numbers) ++ drop l.end l.fn.page) ×
     (l.left ≤ length l.numbers) ×
     (21 * l.left ≤ l.start) ×
     (l.start ≤ l.end) ×

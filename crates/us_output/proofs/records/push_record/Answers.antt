@@ -19,13 +19,13 @@ returns-clause-record c =
     rw is at c.head_of-head.ensures.value in
     let put = record_joined c.args.config.now c.args.round c.args.pendings.now b c.head_of-head.result c.len-len.result
     count runs c.list_sids.new.sids.items []
-    opening (take c.in_ok-end.end c.put_granted.new.out)
+    opening (take c.put_granted-end.result c.put_granted-end.new.out)
     (take c.put_next-end.result c.put_next-end.new.out) (take c.put_pendings-end.result c.put_pendings-end.new.out)
     head c.head_of-head.ensures.lawful.four
     (rw (c.board.ensures, c.channel_round-2.ensures) at c.len-len.ensures.value ∙ c.requires.built.len) refl
     (rw is at c.in_ok-list_sids.ensures.value)
     (omega (arith, c.len.ensures, c.list_sids.new.sids.ok.0))
-    refl c.in_ok-end.ensures.bytes
+    refl c.put_granted-end.ensures.bytes
     (rw c.null_at.ensures at c.put_next-end.ensures.bytes)
     (rw c.deref.ensures.value at c.put_pendings-end.ensures.bytes) in
     c.in_ok-push_first.ensures ∙ ap (λ bytes. c.args.text.now.items ++ bytes) put
@@ -38,6 +38,6 @@ returns-clause-limits c =
     let head : c.head_of-head.result ≡ head_of c.args.config.now c.args.round b.channel =
     rw is at c.head_of-head.ensures.value in
     within c.args.config.now c.args.round c.args.pendings.now b c.list_sids.new.sids.items
-    (rw (c.board.ensures, c.channel_round-2.ensures) at c.len-len.ensures.known) c.in_ok-end.ensures.few
+    (rw (c.board.ensures, c.channel_round-2.ensures) at c.len-len.ensures.known) c.put_granted-end.ensures.few
     (rw head at c.head_of-head.ensures.lawful.four) (rw is at c.in_ok-list_sids.ensures.value)
     c.in_ok-list_sids.ensures.few
