@@ -1,7 +1,7 @@
 -- Refills of several rounds are one refill.
-use Rattle.std.proofs.Common.{◌≡◌, ℕ, zero, suc, ◌+◌, ◌-◌, ◌*◌, min, ap, sym, ◌∙◌, arith}
+use Rattle.std.proofs.Common.{◌≡◌, ℕ, zero, suc, ◌+◌, ◌-◌, ◌*◌, ◌≤◌, min, ap, ap₂, sym, ◌∙◌, arith}
 use Rattle.us_bucket.specs.Levels.{Level, IsLevel, cap, refilled}
-use Rattle.us_bucket.specs.RoundBuckets.{after_rounds, RefillsAreOne, RoundsAreOneRefill, NextRoundRefills, BringingKeepsLevels}
+use Rattle.us_bucket.specs.RoundBuckets.{Kept, after_rounds, brought_to, RefillsAreOne, RoundsAreOneRefill, NextRoundRefills, BringingKeepsLevels}
 
 -- levels of one flow with as many units are one level
 pub same_level : (l : Level) (a b : ℕ) → a ≡ b →
@@ -49,3 +49,11 @@ bringing-keeps ticks round later kept before after =
     let count : later - round + (round - kept.as_of) ≡ later - kept.as_of = omega arith in
     rounds-join ticks (later - round) (round - kept.as_of) kept.level
     ∙ ap (λ n. after_rounds ticks n kept.level) count
+
+-- a bucket that stands as of a round is brought up to it
+pub stands : (ticks round : ℕ) (kept : Kept) → kept.as_of ≤ round → round ≤ kept.as_of → kept ≡ brought_to ticks round kept
+unfolding after_rounds
+stands ticks round kept before there =
+    let none : round - kept.as_of ≡ 0 = omega (arith, there) in
+    let same : kept.as_of ≡ round = omega (arith, before, there) in
+    ap₂ (λ n as_of. record { level = after_rounds ticks n kept.level; as_of = as_of }) (sym none) same

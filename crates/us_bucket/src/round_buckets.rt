@@ -43,14 +43,17 @@ impl RoundBucket {
         bucket
     }
 
-    /// Brings the bucket up to `round`, as [`RoundBucket::level_in`] has it.
+    /// Brings the bucket up to `round`, as [`RoundBucket::level_in`] has it. Where it stands as of that round nothing is reckoned.
+    #[tactic(auto, using(crate::proofs::RoundLemmas::stands))]
     pub fn refill_to(&mut self, round: u32, ticks: u32)
         requires later { self.old.as_of ≤ round }
         requires fits { (round - self.old.as_of) * ticks ≤ MAX_REFILL_TICKS }
         ensures { self.new ≡ brought_to ticks round self.old }
     {
-        self.bucket = self.level_in(round, ticks);
-        self.as_of = round;
+        if self.as_of < round {
+            self.bucket = self.level_in(round, ticks);
+            self.as_of = round;
+        }
     }
 
     /// The whole bytes in the bucket in the round as of which it stands, `None` where the rate is 0 and there is no limit.

@@ -1,9 +1,10 @@
 -- Who asks in a cut: words that have nothing are passed, since nothing changes with them.
-use Rattle.std.proofs.Common.{◌≡◌, ℕ, zero, suc, ◌+◌, ◌-◌, ◌<◌, ◌≤◌, List, length, get_or, take, drop, replicate, zip, sym, ap, ◌∙◌, subst, inl, inr, arith}
+use Rattle.std.proofs.Common.{◌≡◌, ℕ, zero, suc, ◌+◌, ◌-◌, ◌<◌, ◌≤◌, List, [], ◌∷◌, ◌++◌, bit_or, length, refl, get_or, take, drop, replicate, zip, sym, ap, ◌∙◌, subst, inl, inr, arith}
 use Rattle.std.specs.Prelude.{slice_index}
 use Rattle.std.specs.List.{AllByRecursion}
 use Rattle.std.proofs.lemmas.Bool.{cases_lt}
-use Rattle.std.proofs.lemmas.List.{get_or-drop, get_or-take, get_or-replicate}
+use Rattle.std.proofs.lemmas.Nat.{le_or_l, le_or_r}
+use Rattle.std.proofs.lemmas.List.{length-append, get_or-drop, get_or-take, get_or-replicate}
 use Rattle.us_flows.specs.Clusters.{Word}
 use Rattle.us_split.specs.Asking.{requested_in}
 use Rattle.us_split.specs.Askers.{HasNothing}
@@ -23,6 +24,20 @@ idle_more cut from at count none idle = λ word above below. elim (cases_lt word
       sym (get_or-take count (drop at cut) place 0 here) ∙ ap (λ xs. get_or xs place 0) idle ∙
       get_or-replicate count place 0 0 here
 ]
+
+-- one word more of which no bit is set
+pub idle-push : (words : List ℕ) (bits bytes : ℕ) → (bits ≡ 0 → words ≡ replicate (length words) 0) → bit_or bits bytes ≡ 0 →
+    words ++ bytes ∷ [] ≡ replicate (length (words ++ bytes ∷ [])) 0
+idle-push words bits bytes idle none =
+    let before : bits ≡ 0 = omega (arith, le_or_l bits bytes, none) in
+    let here : bytes ≡ 0 = omega (arith, le_or_r bits bytes, none) in
+    let more : suc (length words) ≡ length (words ++ bytes ∷ []) = omega (arith, length-append words (bytes ∷ [])) in
+    ap (λ n. words ++ n ∷ []) here ∙ ap (λ l. l ++ 0 ∷ []) (idle before) ∙ one-more (length words) ∙
+    ap (λ n. replicate n 0) more
+  where
+    one-more : (n : ℕ) → replicate {A = ℕ} n 0 ++ 0 ∷ [] ≡ replicate (suc n) 0
+    one-more zero = refl
+    one-more (suc n) = ap (λ l. 0 ∷ l) (one-more n)
 
 -- where a cut has nothing, nothing is requested
 pub none-requested : (words : List Word) (cut : List ℕ) (from to : ℕ) → HasNothing cut from to →

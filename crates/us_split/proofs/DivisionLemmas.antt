@@ -2,16 +2,22 @@
 use Rattle.std.proofs.Common.{◌≡◌, ℕ, zero, suc, ◌+◌, ◌-◌, ◌*◌, ◌/◌, ◌%◌, ◌<◌, ◌≤◌, min, List, [], ◌∷◌, ◌++◌, length, map, take, drop, set, get_or, zip, Bool, true, false, ◌==◌, ◌||◌, not, nat_lt, nat_le, if◌then◌else◌, refl, sym, ap, ap₂, ◌∙◌, subst, inl, inr, lt-ltb, le-ltb, ne_eqb, append_assoc, arith}
 use Rattle.std.specs.Prelude.{slice_index, sum}
 use Rattle.std.specs.List.{AllByRecursion}
+use Rattle.std.proofs.Math.Seq.{take-append_seam}
 use Rattle.std.proofs.lemmas.Bool.{cases_lt}
 use Rattle.std.proofs.lemmas.Nat.{mul-le, mod_below, div-add-mod'}
 use Rattle.std.proofs.lemmas.List.{drop_more, length-map, map-append, take_more, take_more_set}
-use Rattle.std.proofs.lemmas.List.Sums.{sum_by-cons, sum_by-le}
+use Rattle.std.proofs.lemmas.List.Sums.{sum_by-append, sum_by-cons, sum_by-le}
 use Rattle.std.proofs.lemmas.List.Elements.{All-from_recursion}
 use Rattle.us_split.specs.Divisions.{topped_up, divided}
 
 -- a sum of a list with one more in front
 pub sum-cons : (x : ℕ) (xs : List ℕ) → sum (x ∷ xs) ≡ x + sum xs
 sum-cons x xs = sum_by-cons (λ y. y) x xs
+
+-- and of one whose next number is written
+pub sum_more : (xs : List ℕ) (i x : ℕ) → i < length xs → sum (take (i + 1) (set xs i x)) ≡ sum (take i xs) + x
+sum_more xs i x lt =
+    omega (arith, ap sum (take_more_set xs i x lt), sum_by-append (λ y. y) (take i xs) (x ∷ []), sum-cons x [])
 
 -- steps of `topped_up`
 
@@ -119,6 +125,14 @@ part_within bytes total w h = elim (cases_lt w (bytes * w / total)) [
       let scaled : bytes * w ≤ total * w = mul-le bytes w total w (omega arith) (omega arith) in
       absurd (omega (arith, part_bounds bytes total w h))
 ]
+
+-- a product of few bytes and a weight has 32 bits
+pub few_product : (bytes total w : ℕ) → bytes < total → total < 65536 → w ≤ total → bytes * w < 4294967296
+few_product bytes total w below few within =
+    let product : bytes * w ≤ 65535 * 65535 = mul-le bytes w 65535 65535 (omega arith) (omega arith) in
+    omega arith
+
+pub ruleset few_facts = (few_product, part_within)
 
 pub proportions-parts : (bytes total : ℕ) (ws : List ℕ) → bytes < total → AreParts (proportions bytes total ws)
 proportions-parts bytes total [] h = tt
@@ -252,13 +266,30 @@ left_more f left i ws d lt =
     let sums : sum (map f (get_or ws i d ∷ drop (i + 1) ws)) ≡ f (get_or ws i d) + sum (map f (drop (i + 1) ws)) = sum-cons (f (get_or ws i d)) (map f (drop (i + 1) ws)) in
     rw (at, sums) (omega arith)
 
--- The code's two walks: parts first, and then a byte more for some.
+-- and that is enough for it and for those behind it
+pub left_enough : (f : ℕ → ℕ) (left i : ℕ) (ws : List ℕ) → i < length ws → sum (map f (drop i ws)) ≤ left →
+    (f (get_or ws i 0) ≤ left) × (sum (map f (drop (i + 1) ws)) ≤ left - f (get_or ws i 0))
+left_enough f left i ws lt enough =
+    let at : drop i ws ≡ get_or ws i 0 ∷ drop (i + 1) ws = drop_more ws i 0 lt in
+    let sums : sum (map f (get_or ws i 0 ∷ drop (i + 1) ws)) ≡ f (get_or ws i 0) + sum (map f (drop (i + 1) ws)) = sum-cons (f (get_or ws i 0)) (map f (drop (i + 1) ws)) in
+    let there : sum (map f (drop i ws)) ≡ f (get_or ws i 0) + sum (map f (drop (i + 1) ws)) = ap (λ xs. sum (map f xs)) at ∙ sums in
+    (omega (arith, there, enough), omega (arith, there, enough))
 
-pub parts_within : (bytes total : ℕ) (ws : List ℕ) (k : ℕ) → bytes < total →
-    slice_index (map (λ w. bytes * w / total) ws) k ≤ slice_index ws k
-parts_within bytes total [] k h = omega arith
-parts_within bytes total (w ∷ ws) zero h = part_within bytes total w h
-parts_within bytes total (w ∷ ws) (suc k) h = parts_within bytes total ws k h
+-- all parts together are no more than the bytes
+pub parts-fit : (bytes total : ℕ) (ws : List ℕ) → total ≡ sum ws → bytes < total →
+    sum (map (λ w. bytes * w / total) ws) ≤ bytes
+parts-fit bytes total ws is h =
+    let fits = (left_over-fits bytes ws (omega (arith, is, h))).0 in
+    let same : sum (parts_in (proportions bytes (sum ws) ws)) ≡ sum (map (λ w. bytes * w / sum ws) ws) = ap sum (parts_of bytes (sum ws) ws) in
+    let there : sum (map (λ w. bytes * w / total) ws) ≡ sum (map (λ w. bytes * w / sum ws) ws) = ap (λ n. sum (map (λ w. bytes * w / n) ws)) is in
+    omega (arith, fits, same, there)
+
+-- no byte more, where none is left
+pub topped-nothing : (f : ℕ → ℕ) (ws : List ℕ) → topped_up 0 (map (λ w. (f w, w)) ws) ≡ map f ws
+topped-nothing f [] = refl
+topped-nothing f (w ∷ ws) = ap (λ xs. f w ∷ xs) (topped-nothing f ws)
+
+-- The code's two walks: parts first, and then a byte more for some.
 
 -- one part more
 pub parts_more : (f : ℕ → ℕ) (parts ws : List ℕ) (i part : ℕ) → i < length ws → i < length parts →
@@ -309,5 +340,13 @@ topped_more f shares ws all left i more inside within are is before =
     append_assoc (take i shares) ((part + more) ∷ []) (topped_up (left - more) rest) ∙
     ap (λ xs. take i shares ++ xs) (sym (topped_step left part w more rest is)) ∙
     ap (λ ps. take i shares ++ topped_up left ps) (sym first) ∙ before
+
+-- fewer bytes than all weights are given whole
+pub fewer-given : (bytes : ℕ) (ws shares rest : List ℕ) → shares ≡ divided bytes ws → bytes < sum ws →
+    bytes ≡ sum (take (length ws) (shares ++ rest))
+fewer-given bytes ws shares rest is below =
+    let long : length shares ≡ length ws = ap length is ∙ divided-length bytes ws in
+    let first : take (length ws) (shares ++ rest) ≡ shares = subst (λ n. take n (shares ++ rest) ≡ shares) long (take-append_seam shares rest) in
+    omega (arith, ap sum first, ap sum is, divided-sum bytes ws, below)
 
 pub ruleset division_facts = (few_weights, divided-length)

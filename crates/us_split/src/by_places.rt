@@ -1,4 +1,4 @@
-ghost use Rattle.std.specs.Prelude.{◌≡◌, ℕ, ◌+◌, ◌*◌, ◌<◌, ◌≤◌, length, map, zip, slice_index, IfOk, OnOk};
+ghost use Rattle.std.specs.Prelude.{◌≡◌, ℕ, ◌+◌, ◌*◌, ◌<◌, ◌≤◌, length, map, zip, sum, slice_index, IfOk, OnOk};
 ghost use Rattle.std.specs.List.{AllByRecursion};
 ghost use Rattle.us_slots.specs.Times.{minislot_ticks};
 ghost use Rattle.us_flows.specs.Ranges.{max_channels_of_flow, max_round_ticks};
@@ -33,17 +33,29 @@ fn weight_of(channels: &[ChannelPlan], place: usize, header: u32) -> u32
     channels[place].weight(header)
 }
 
-/// Writes the most bytes that the channels at these seats can carry behind a header.
-pub(crate) fn weigh_at(channels: &[ChannelPlan], seats: &[Seat], header: u32, weights: &mut [u32])
+/// Writes the most bytes that the channels at these seats can carry behind a header, and answers all of them together.
+#[tactic(auto, using(crate::proofs::DivisionLemmas::sum_more))]
+pub(crate) fn weigh_at(
+    channels: &[ChannelPlan],
+    seats: &[Seat],
+    header: u32,
+    weights: &mut [u32],
+) -> u64
     requires inside { AllByRecursion (λ seat. seat.place < length channels.now) seats.now }
+    requires few { length seats.now ≤ max_channels_of_flow }
     requires same_length { length weights.old ≡ length seats.now }
     requires header { header ≤ segment_header_bytes }
     ensures value { weights.new ≡ map (λ seat. weight_at header channels.now seat.place) seats.now }
     ensures bursts { (k : ℕ) → slice_index weights.new k + header ≤ max_burst_bytes }
+    ensures total { result ≡ sum weights.new }
 {
+    let mut total = 0;
     for i in 0..seats.len() {
-        weights[i] = weight_of(channels, usize::from(seats[i].place), header);
+        let weight = weight_of(channels, usize::from(seats[i].place), header);
+        weights[i] = weight;
+        total += u64::from(weight);
     }
+    total
 }
 
 /// Claims a share on the channel at this place, if it is above 0.
@@ -68,6 +80,7 @@ fn put_one(
 }
 
 /// Claims shares at these seats, one after another.
+#[inline(always)]
 pub(crate) fn put_all(
     channels: &mut [ChannelPlan],
     asker: Asker,

@@ -1,5 +1,4 @@
 ghost use Rattle.std.specs.Prelude.{◌≡◌, ◌+◌, ◌*◌, ◌≤◌, [], slice_index, Some, IfOk, OnOk};
-ghost use Rattle.std.specs.List.{All};
 ghost use Rattle.us_slots.specs.Times.{minislot_ticks};
 ghost use Rattle.us_flows.specs.Ranges.{max_round_ticks};
 ghost use Rattle.us_flows.specs.Tables.{segment_header_bytes};
@@ -7,7 +6,7 @@ ghost use Rattle.us_split.specs.Plans.{weight, share_cost, max_burst_bytes};
 ghost use Rattle.us_slots.specs.Capacities.{capacity_of};
 ghost use Rattle.us_split.specs.PartialPlans as spec;
 ghost use Rattle.us_split.specs.TurnRows.{IsTable};
-ghost use Rattle.us_split.specs.KnownCosts.{IsCost};
+ghost use Rattle.us_split.specs.KnownCosts.{AreCosts};
 ghost use Rattle.us_split.specs.PartialPlans.{budget_in, returned, taken, with_claim};
 
 use crate::claims::{Claim, Claimant};
@@ -50,7 +49,7 @@ impl Model for ChannelPlan {
     ghost view = { λ c. record { channel = c.channel; slots = c.slots; claims = c.claims.items } };
 
     ghost invariant = { λ c. (c.slots * minislot_ticks c.channel.bursts.time ≤ max_round_ticks)
-        × IsTable c.channel.bursts c.carries.items × All (IsCost c.channel.bursts) c.costs.items };
+        × IsTable c.channel.bursts c.carries.items × AreCosts c.channel.bursts c.costs.items };
 }
 
 /// Gives all lists up. It is written out so that it is one step wherever a channel's plan ends.
@@ -122,12 +121,22 @@ impl ChannelPlan {
     {
         match self.carries.get(self.slots as usize) {
             Some(bytes) => *bytes,
-            None => capacity(
-                self.channel.bursts.time(),
-                self.channel.bursts.long(),
-                self.slots,
-            ),
+            None => self.reckoned(),
         }
+    }
+
+    /// The same of minislots that stand in no table. That is seldom, so its code stands apart.
+    #[cold]
+    #[inline(never)]
+    fn reckoned(&self) -> u32
+        ensures value { result ≡ capacity_of self.now.channel.bursts.time self.now.channel.bursts.long self.now.slots }
+        ensures burst { result ≤ max_burst_bytes }
+    {
+        capacity(
+            self.channel.bursts.time(),
+            self.channel.bursts.long(),
+            self.slots,
+        )
     }
 
     /// Claims a share, and takes off the minislots that it costs.

@@ -33,18 +33,18 @@ pub struct Claim {
     pub claimant: Claimant,
     /// The place of its turn among the turns of a round.
     pub turn: u16,
+    /// The bytes of a segment header there.
+    pub header: u8,
     /// The place of the channel among those of the flow.
     pub position: u8,
     /// The SID of the cluster on the channel.
     pub sid: u16,
-    /// The bytes of a segment header there.
-    pub header: u8,
+    /// Whether a grant is a short or a long data grant.
+    pub iuc: Iuc,
     /// The bytes that are planned there, without the header.
     pub share: u32,
     /// The minislots of a grant of both.
     pub slots: u32,
-    /// Whether that is a short or a long data grant.
-    pub iuc: Iuc,
 }
 
 impl Model for Claim {

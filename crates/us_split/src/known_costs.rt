@@ -1,7 +1,6 @@
 ghost use Rattle.std.specs.Prelude.{◌≡◌, ◌<◌, ◌≤◌, length, IfOk};
-ghost use Rattle.std.specs.List.{All};
 ghost use Rattle.us_slots.specs.Bursts as bursts_spec;
-ghost use Rattle.us_split.specs.KnownCosts.{IsCost};
+ghost use Rattle.us_split.specs.KnownCosts.{AreCosts};
 ghost use Rattle.us_split.specs.Plans.{max_burst_bytes};
 
 use std::alloc::Global;
@@ -21,7 +20,7 @@ pub(crate) struct KnownCost {
 
 /// Places for the costs of a channel's bursts. What no bytes cost stands at each of them first.
 pub(crate) fn first_costs(alloc: Global, bursts: &BurstSet) -> Result<Vec<KnownCost>, NoMemory>
-    ensures { IfOk result (λ costs. All (IsCost bursts.now) costs.items) }
+    ensures { IfOk result (λ costs. AreCosts bursts.now costs.items) }
 {
     let (slots, iuc) = grant_cost(bursts, 0);
     let first = KnownCost {
@@ -36,14 +35,11 @@ pub(crate) fn first_costs(alloc: Global, bursts: &BurstSet) -> Result<Vec<KnownC
 /// stand there from then on.
 pub(crate) fn cost_of(costs: &mut Vec<KnownCost>, bursts: &BurstSet, bytes: u32) -> (u32, Iuc)
     requires bytes { bytes ≤ max_burst_bytes }
-    requires known { All (IsCost bursts.now) costs.old.items }
+    requires known { AreCosts bursts.now costs.old.items }
     ensures value { result ≡ bursts_spec.grant_cost bursts.now bytes }
-    ensures known { All (IsCost bursts.now) costs.new.items }
+    ensures known { AreCosts bursts.now costs.new.items }
 {
     let place = bytes as usize % KEPT;
-    if place >= costs.len() {
-        return grant_cost(bursts, bytes);
-    }
     let known = costs[place];
     if known.bytes == bytes {
         (known.slots, known.iuc)
@@ -52,13 +48,15 @@ pub(crate) fn cost_of(costs: &mut Vec<KnownCost>, bursts: &BurstSet, bytes: u32)
     }
 }
 
-/// Reckons what a data grant of so many bytes costs, and notes it at a place.
+/// Reckons what a data grant of so many bytes costs, and notes it at a place. That is seldom, so its code stands apart.
+#[cold]
+#[inline(never)]
 fn note_cost(costs: &mut Vec<KnownCost>, place: usize, bursts: &BurstSet, bytes: u32) -> (u32, Iuc)
     requires place { place < length costs.old.items }
     requires bytes { bytes ≤ max_burst_bytes }
-    requires known { All (IsCost bursts.now) costs.old.items }
+    requires known { AreCosts bursts.now costs.old.items }
     ensures value { result ≡ bursts_spec.grant_cost bursts.now bytes }
-    ensures known { All (IsCost bursts.now) costs.new.items }
+    ensures known { AreCosts bursts.now costs.new.items }
 {
     let (slots, iuc) = grant_cost(bursts, bytes);
     costs[place] = KnownCost { bytes, slots, iuc };

@@ -69,24 +69,34 @@ fn some_reserved(rows: &[TurnRow], askers: &[u16], reserves: &[u64]) -> bool
     false
 }
 
-/// So many bytes, divided over the channels of a turn.
-fn shares_of(row: &TurnRow, bytes: u64, channels: &[ChannelPlan]) -> Shares
+/// Divides so many bytes over the channels of a turn. The weights are written beside the shares, so that neither is moved.
+#[inline(always)]
+fn share_out(
+    row: &TurnRow,
+    bytes: u64,
+    channels: &[ChannelPlan],
+    weights: &mut Shares,
+    shares: &mut Shares,
+)
     requires inside { AllByRecursion (λ seat. seat.place < length channels.now) row.now.seats }
     requires header { row.now.asker.header ≤ segment_header_bytes }
-    ensures value { result ≡ shares_at row.now bytes channels.now }
-    ensures bursts { (k : ℕ) → slice_index result k + row.now.asker.header ≤ max_burst_bytes }
-    ensures one_each { length result ≡ length row.now.seats }
+    ensures value { shares.new ≡ shares_at row.now bytes channels.now }
+    ensures bursts { (k : ℕ) → slice_index shares.new k + row.now.asker.header ≤ max_burst_bytes }
+    ensures one_each { length shares.new ≡ length row.now.seats }
 {
-    let weights = Shares::weights_at(channels, row.seats(), row.header());
-    Shares::divided(bytes, &weights)
+    weights.weigh(channels, row.seats(), row.header());
+    shares.divide(bytes, weights);
 }
 
-/// Plans a turn of so many outstanding bytes. What its shares take is no longer there for the turns after it.
+/// Plans a turn of so many outstanding bytes. What its shares take is no longer there for the turns after it. Weights and
+/// shares are written where those of the turn before stand.
 fn plan_row(
     row: &TurnRow,
     outstanding: u64,
     channels: &mut [ChannelPlan],
     allowances: &mut [Option<u64>],
+    weights: &mut Shares,
+    shares: &mut Shares,
 ) -> Result<(), NoMemory>
     requires row { IsRowWithin (length allowances.old) (length channels.old) row.now }
     ensures plan { OnOk result (partial_of channels.new allowances.new ≡
@@ -98,7 +108,7 @@ fn plan_row(
     if demand == 0 {
         return Ok(());
     }
-    let shares = shares_of(row, demand, channels);
+    share_out(row, demand, channels, weights, shares);
     put_all(channels, row.asker(), row.seats(), shares.bytes())?;
     spend(allowances, row.flow(), shares.total());
     Ok(())
@@ -120,9 +130,12 @@ fn plan_rows(
     ensures kept { map (λ c. c.channel) channels.new ≡ map (λ c. c.channel) channels.old }
     ensures flows { length allowances.new ≡ length allowances.old }
 {
+    let mut weights = Shares::none(0);
+    let mut shares = Shares::none(0);
     for place in askers {
         let row = &rows[usize::from(*place)];
-        plan_row(row, outstanding[row.cluster()], channels, allowances)?;
+        let bytes = outstanding[row.cluster()];
+        plan_row(row, bytes, channels, allowances, &mut weights, &mut shares)?;
     }
     Ok(())
 }
@@ -151,7 +164,9 @@ fn plan_first(
     if demand == 0 {
         return row.no_shares();
     }
-    let shares = shares_of(row, demand, channels);
+    let mut weights = Shares::none(0);
+    let mut shares = Shares::none(0);
+    share_out(row, demand, channels, &mut weights, &mut shares);
     let total = shares.total();
     take_all(channels, row.asker().header, row.seats(), shares.bytes());
     spend(allowances, row.flow(), total);
@@ -204,9 +219,12 @@ fn more_of(row: &TurnRow, first: &Shares, bytes: u64, channels: &[ChannelPlan]) 
     ensures bursts { (k : ℕ) → slice_index first.now k + slice_index result k + row.now.asker.header ≤ max_burst_bytes }
     ensures one_each { length result ≡ length row.now.seats }
 {
-    let weights = Shares::weights_at(channels, row.seats(), row.header());
-    let left = weights.beside(first);
-    Shares::divided(bytes, &left)
+    let mut whole = Shares::none(0);
+    whole.weigh(channels, row.seats(), row.header());
+    let left = whole.beside(first);
+    let mut more = Shares::none(0);
+    more.divide(bytes, &left);
+    more
 }
 
 /// Plans a turn of so many outstanding bytes beside its first shares, once its channels have their costs back.

@@ -8,15 +8,17 @@ ghost use Rattle.us_split.specs.TurnRows.{weight_at};
 
 use crate::by_places::weigh_at;
 use crate::channel_plans::ChannelPlan;
-use crate::divisions::{MAX_CHANNELS_OF_FLOW, divide, sum_of};
+use crate::divisions::{MAX_CHANNELS_OF_FLOW, sum_of, top_up};
 use crate::turn_rows::Seat;
 use std::marker::Model;
 
-/// Bytes for each channel of a flow, in the flow's order: what it can carry, or its share. It has no memory of its own.
+/// Bytes for each channel of a flow, in the flow's order: what it can carry, or its share; and all of them together. It has
+/// no memory of its own.
 #[derive(Drop)]
 pub(crate) struct Shares {
     bytes: [u32; MAX_CHANNELS_OF_FLOW],
     count: usize,
+    total: u64,
 }
 
 impl Model for Shares {
@@ -24,7 +26,8 @@ impl Model for Shares {
 
     ghost view = { λ shares. take shares.count shares.bytes };
 
-    ghost invariant = { λ shares. shares.count ≤ max_channels_of_flow };
+    ghost invariant = { λ shares. (shares.count ≤ max_channels_of_flow)
+        × (shares.total ≡ sum (take shares.count shares.bytes)) };
 }
 
 impl Shares {
@@ -40,7 +43,7 @@ impl Shares {
     pub(crate) fn total(&self) -> u64
         ensures { result ≡ sum self.now }
     {
-        sum_of(self.bytes())
+        self.total
     }
 
     /// No bytes, for so many channels.
@@ -51,37 +54,51 @@ impl Shares {
         Shares {
             bytes: [0; MAX_CHANNELS_OF_FLOW],
             count,
+            total: 0,
         }
     }
 
-    /// The bytes that the channels at these seats can carry behind a header.
-    pub(crate) fn weights_at(channels: &[ChannelPlan], seats: &[Seat], header: u32) -> Shares
+    /// The first so many of these bytes.
+    fn of(bytes: [u32; MAX_CHANNELS_OF_FLOW], count: usize) -> Shares
+        requires { count ≤ max_channels_of_flow }
+        ensures { result ≡ take count bytes }
+    {
+        let total = sum_of(&bytes[..count]);
+        Shares {
+            bytes,
+            count,
+            total,
+        }
+    }
+
+    /// Has the bytes that the channels at these seats can carry behind a header.
+    pub(crate) fn weigh(&mut self, channels: &[ChannelPlan], seats: &[Seat], header: u32)
         requires inside { AllByRecursion (λ seat. seat.place < length channels.now) seats.now }
         requires few { length seats.now ≤ max_channels_of_flow }
         requires header { header ≤ segment_header_bytes }
-        ensures value { result ≡ map (λ seat. weight_at header channels.now seat.place) seats.now }
-        ensures bursts { (k : ℕ) → slice_index result k + header ≤ max_burst_bytes }
+        ensures value { self.new ≡ map (λ seat. weight_at header channels.now seat.place) seats.now }
+        ensures bursts { (k : ℕ) → slice_index self.new k + header ≤ max_burst_bytes }
     {
-        let mut bytes = [0; MAX_CHANNELS_OF_FLOW];
-        weigh_at(channels, seats, header, &mut bytes[..seats.len()]);
-        Shares {
-            bytes,
-            count: seats.len(),
-        }
+        let count = seats.len();
+        self.total = weigh_at(channels, seats, header, &mut self.bytes[..count]);
+        self.count = count;
     }
 
-    /// So many bytes, divided over these weights.
-    pub(crate) fn divided(bytes: u64, weights: &Shares) -> Shares
+    /// Has so many bytes, divided over these weights.
+    pub(crate) fn divide(&mut self, bytes: u64, weights: &Shares)
         requires bursts { AllByRecursion (λ weight. weight ≤ max_burst_bytes) weights.now }
-        ensures value { result ≡ divided bytes weights.now }
+        ensures value { self.new ≡ divided bytes weights.now }
     {
-        let weights = weights.bytes();
-        let mut parts = [0; MAX_CHANNELS_OF_FLOW];
-        divide(bytes, weights, &mut parts[..weights.len()]);
-        Shares {
-            bytes: parts,
-            count: weights.len(),
+        if bytes >= weights.total {
+            self.bytes = weights.bytes;
+            self.count = weights.count;
+            self.total = weights.total;
+            return;
         }
+        let all = weights.bytes();
+        top_up(bytes, weights.total, all, &mut self.bytes[..all.len()]);
+        self.count = all.len();
+        self.total = bytes;
     }
 
     /// What is left of these bytes beside others, channel by channel.
@@ -91,10 +108,7 @@ impl Shares {
     {
         let mut bytes = [0; MAX_CHANNELS_OF_FLOW];
         take_off(self.bytes(), others.bytes(), &mut bytes[..self.count]);
-        Shares {
-            bytes,
-            count: self.count,
-        }
+        Shares::of(bytes, self.count)
     }
 
     /// These bytes and others, channel by channel.
@@ -105,10 +119,7 @@ impl Shares {
     {
         let mut bytes = [0; MAX_CHANNELS_OF_FLOW];
         add_up(self.bytes(), others.bytes(), &mut bytes[..self.count]);
-        Shares {
-            bytes,
-            count: self.count,
-        }
+        Shares::of(bytes, self.count)
     }
 }
 

@@ -34,9 +34,9 @@ fn past_idle(cut: &[u64], from: usize) -> usize
     at
 }
 
-/// Whether eight words have nothing.
+/// Whether these words have nothing: then no bit is set in any of them, and all are looked at by one test.
 fn are_idle(cut: &[u64]) -> bool
-    ensures { OnTrue result (cut.now ≡ replicate 8 0) }
+    ensures { OnTrue result (cut.now ≡ replicate (length cut.now) 0) }
 {
-    matches!(cut, [0, 0, 0, 0, 0, 0, 0, 0])
+    cut.iter().fold(0, |bits, bytes| bits | *bytes) == 0
 }

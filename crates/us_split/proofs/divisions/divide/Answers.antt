@@ -1,7 +1,7 @@
 use Rattle.std.proofs.Common.{◌≡◌, ◌≤◌, ap, ◌∙◌, sym, arith}
 use Rattle.std.specs.Prelude.{sum, slice_index}
 use Rattle.us_split.specs.Divisions.{divided}
-use Rattle.us_split.proofs.DivisionLemmas.{divided-all, divided-sum, divided-within, top_up-divided}
+use Rattle.us_split.proofs.DivisionLemmas.{divided-all, divided-sum, divided-within}
 use Rattle.us_split.proofs.divisions.divide.Goals as goal
 
 all_weights : (c : goal.After-slice_known-then-bytes-total-1) →
@@ -12,9 +12,7 @@ all_weights c =
 
 topped : (c : goal.After-slice_known-else-bytes-total-1) →
     c.top_up.new.shares ≡ divided c.args.bytes c.args.weights.now
-topped c =
-    c.top_up.ensures ∙
-    top_up-divided c.args.bytes c.sum_of-total.result c.args.weights.now c.sum_of-total.ensures c.if-bytes-total.false
+topped c = c.top_up.ensures
 
 pub returns-then-bytes-total-clause-value : goal.returns-then-bytes-total-clause-value
 returns-then-bytes-total-clause-value c = all_weights c

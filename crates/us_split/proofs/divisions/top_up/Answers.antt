@@ -1,8 +1,8 @@
-use Rattle.std.proofs.Common.{ℕ, List, ◌++◌, ◌+◌, ◌-◌, ◌*◌, ◌/◌, ◌<◌, get_or, set, take, drop, length, map, ap, ◌∙◌, arith}
+use Rattle.std.proofs.Common.{ℕ, List, ◌++◌, ◌+◌, ◌-◌, ◌*◌, ◌/◌, ◌<◌, ◌≤◌, get_or, set, take, drop, length, map, ap, ◌∙◌, sym, append-nil, arith}
 use Rattle.std.specs.Prelude.{sum}
-use Rattle.std.proofs.lemmas.List.{drop-set-lt}
+use Rattle.std.proofs.lemmas.List.{drop-set-lt, drop_all, take_all, take-append-drop}
 use Rattle.us_split.specs.Divisions.{topped_up}
-use Rattle.us_split.proofs.DivisionLemmas.{next_part, topped_more}
+use Rattle.us_split.proofs.DivisionLemmas.{next_part, top_up-divided, topped-nothing, topped_more}
 use Rattle.us_split.proofs.divisions.top_up.Goals as goal
 
 pub loop-i-preserved : goal.loop-i-preserved
@@ -24,3 +24,29 @@ loop-i-preserved c =
       parts = drop-set-lt (i + 1) shares i (get_or shares i 0 + more) (omega arith) ∙
           (next_part f shares ws i inside within c.loop-i.invariant.parts).1;
     }
+
+-- none is left, so the other channels get their parts
+pub returns-then-left-eq0 : goal.returns-then-left-eq0
+returns-then-left-eq0 c =
+    let f : ℕ → ℕ = λ w. c.args.bytes * w / c.args.total in
+    let i : ℕ = c.loop-i.i in
+    let ws : List ℕ = drop i c.args.weights.now in
+    let shares : List ℕ = c.loop-i.shares in
+    sym (take-append-drop i shares) ∙
+    ap (λ xs. take i shares ++ xs) (c.loop-i.invariant.parts ∙ sym (topped-nothing f ws)) ∙
+    ap (λ n. take i shares ++ topped_up n (map (λ w. (f w, w)) ws)) (sym c.if-left-eq0.true) ∙
+    c.loop-i.invariant.topped ∙
+    top_up-divided c.args.bytes c.args.total c.args.weights.now c.requires.total c.requires.below
+
+pub returns : goal.returns
+returns c =
+    let f : ℕ → ℕ = λ w. c.args.bytes * w / c.args.total in
+    let i : ℕ = c.loop-i.i in
+    let ws : List ℕ = c.args.weights.now in
+    let shares : List ℕ = c.loop-i.shares in
+    let past : length ws ≤ i = omega arith in
+    let over : length shares ≤ i = omega (arith, c.loop-i.auto.shares, c.requires.same_length) in
+    sym (take_all i shares over) ∙ sym (append-nil (take i shares)) ∙
+    ap (λ rest. take i shares ++ topped_up c.loop-i.left (map (λ w. (f w, w)) rest)) (sym (drop_all i ws past)) ∙
+    c.loop-i.invariant.topped ∙
+    top_up-divided c.args.bytes c.args.total ws c.requires.total c.requires.below

@@ -13,11 +13,11 @@ returns-then-demand-eq0-clause-plan c =
 
 pub returns-clause-plan : goal.returns-clause-plan
 returns-clause-plan c =
-    shares_planned c.args.row.now c.args.outstanding c.demand_of-demand.result c.total.result c.shares_of-shares.result
+    shares_planned c.args.row.now c.args.outstanding c.demand_of-demand.result c.total.result c.share_out.new.shares
     c.args.channels.now c.put_all.new.channels c.args.allowances.now c.spend.new.allowances
     (c.demand_of-demand.ensures ∙
     ap (λ place. at_most (slice_index_or c.args.allowances.now place None) c.args.outstanding) c.flow.ensures)
-    c.shares_of-shares.ensures.value
+    c.share_out.ensures.value
     (c.in_ok-put_all.ensures.shares ∙
     ap₂ (λ asker seats. put_from asker 0 seats c.bytes.result.now c.args.channels.now) c.asker.ensures c.seats.ensures.value ∙
     ap (λ shares. put_from c.args.row.now.asker 0 c.args.row.now.seats shares c.args.channels.now) c.bytes.ensures.value)
