@@ -158,6 +158,13 @@ same_tally (x ∷ one) (y ∷ other) len h =
     ap (λ n. n ∷ one) (h 0 (omega arith))
     ∙ ap (λ l. y ∷ l) (same_tally one other (omega arith) (λ cluster lt. h (suc cluster) (omega arith)))
 
+-- where nothing is added, nothing changes
+pub nothing-added : (one other : List ℕ) → length one ≡ length other →
+    ((cluster : ℕ) → slice_index other cluster ≡ 0) → one ≡ added one other
+nothing-added one other same none =
+    same_tally one (added one other) (sym (length-added one other same))
+    (λ cluster lt. omega (arith, index-added one other cluster, none cluster))
+
 past-take : (tally : List ℕ) (at : ℕ) → slice_index (take at tally) at ≡ 0
 past-take [] zero = refl
 past-take [] (suc at) = refl

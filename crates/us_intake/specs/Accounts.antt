@@ -58,8 +58,8 @@ pub record Account (terms : Terms) (words : List ℕ) (parts : List Part) : Type
   -- each seat stands, or a join has spent it
   pub seats : (seat : ℕ) (part : Part) → slice_get parts seat ≡ Some part → (part ≡ spent_part) ⊎ Stands terms part
 
--- What the steps make of a seat's part: opening, `submit`, the `swap` of one word by `cut`, splitting, joining, and the
--- load behind a join.
+-- What the steps make of a seat's part: opening, `submit`, the `swap` of one word by `take` or `cut`, splitting, joining,
+-- and the load behind a join.
 
 abbrev pub first_part : Terms → Part
 first_part terms =

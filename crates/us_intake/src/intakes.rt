@@ -7,7 +7,7 @@ use crate::accounts::{Bytes, Kept, Part, Terms};
 use crate::closing::{Closing, read_words};
 use crate::faults::IntakeFault;
 use crate::seats::Seat;
-use crate::tallies::{add_to, empty_tallies};
+use crate::tallies::{add_taken, add_to, empty_tallies};
 use atomic_table::Table;
 use std::alloc::Global;
 use std::marker::{Brand, Model};
@@ -112,21 +112,22 @@ impl Intake {
         ensures whole { spec.IsWhole seat.old → seat.new.taken ≡ seat.new.submitted }
     {
         for at in 0..seat.taken.len() {
-            cuts[at] = self.take_word(seat, at);
+            cuts[at] = self.take(seat, at as u16);
         }
     }
 
-    /// Takes what the word of a cluster holds.
-    fn take_word(&self, seat: &mut Seat, at: usize) -> u64
+    /// Takes what the word of a cluster holds, by one `swap`. It needs no memory.
+    pub fn take(&self, seat: &mut Seat, cluster: u16) -> u64
         requires own { seat.old.intake ≡ self.now }
-        requires there { at < self.now.clusters }
+        requires there { cluster < self.now.clusters }
         requires takes { seat.old.takes ≡ true }
-        ensures seat { seat.new ≡ spec.seat_after_take seat.old at result }
+        ensures seat { seat.new ≡ spec.seat_after_take seat.old cluster result }
         ensures known { spec.IsSeat seat.new }
-        ensures least { slice_index seat.new.submitted at ≤ slice_index seat.new.taken at }
-        ensures whole { spec.IsWhole seat.old → slice_index seat.new.taken at ≡ slice_index seat.new.submitted at }
+        ensures least { slice_index seat.new.submitted cluster ≤ slice_index seat.new.taken cluster }
+        ensures whole { spec.IsWhole seat.old → slice_index seat.new.taken cluster ≡ slice_index seat.new.submitted cluster }
     {
-        let found = self.take(&mut seat.token, at);
+        let at = usize::from(cluster);
+        let found = self.swap(&mut seat.token, at);
         seat.taken[at] += found;
         found
     }
@@ -204,7 +205,7 @@ impl Intake {
         one.spent += spent;
         one.takes |= takes;
         add_to(&mut one.submitted, &submitted);
-        add_to(&mut one.taken, &taken);
+        add_taken(&mut one.taken, takes, &taken);
         one
     }
 

@@ -1,4 +1,4 @@
-ghost use Rattle.std.specs.Prelude.{◌≡◌, ◌+◌, ◌^◌, ◌<◌, sum, length, IfOk, vec_len};
+ghost use Rattle.std.specs.Prelude.{◌≡◌, ℕ, ◌+◌, ◌^◌, ◌<◌, false, sum, length, slice_index, IfOk, vec_len};
 ghost use Rattle.us_intake.specs.Tallies as spec;
 
 use std::alloc::Global;
@@ -24,6 +24,18 @@ pub(crate) fn add_to(tally: &mut Vec<u64>, other: &Vec<u64>)
     ensures { tally.new.items ≡ spec.added tally.old.items other.now.items }
 {
     add_each(tally, other);
+}
+
+/// Adds what one seat took to what another did. One that doesn't take took nothing, so that nothing is added then.
+pub(crate) fn add_taken(tally: &mut Vec<u64>, takes: bool, other: &Vec<u64>)
+    requires row { vec_len tally.old ≡ vec_len other.now }
+    requires fits { sum tally.old.items + sum other.now.items < 2 ^ 64 }
+    requires idle { takes ≡ false → (cluster : ℕ) → slice_index other.now.items cluster ≡ 0 }
+    ensures { tally.new.items ≡ spec.added tally.old.items other.now.items }
+{
+    if takes {
+        add_to(tally, other);
+    }
 }
 
 fn add_each(tally: &mut [u64], other: &[u64])

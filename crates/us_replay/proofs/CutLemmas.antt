@@ -55,7 +55,7 @@ same-but f g from (suc n) (suc i) v at same =
     (same-but f g (from + 1) n i v (λ j e. at j (omega (arith, e))) (λ j h. same j (λ e. h (omega (arith, e)))))
 
 -- each ask names a cluster that is there
-known-at : (n : ℕ) (asks : List Ask) (i : ℕ) (d : Ask) → AllByRecursion (λ ask. ask.cluster < n) asks →
+pub known-at : (n : ℕ) (asks : List Ask) (i : ℕ) (d : Ask) → AllByRecursion (λ ask. ask.cluster < n) asks →
     i < length asks → (get_or asks i d).cluster < n
 known-at n [] i d known below = absurd (omega (arith, below))
 known-at n (ask ∷ asks) zero d known below = known.0

@@ -2,6 +2,7 @@ pub mod CutLemmas
 pub mod SumLemmas
 pub mod CollectingLemmas
 pub mod ChunkLemmas
+pub mod TakingLemmas
 pub mod SettledLemmas
 pub mod RoundLemmas
 pub mod MadeLemmas

@@ -1,52 +1,61 @@
--- Between rounds: the seat is whole and took all that was submitted, so what it cuts is what was asked for since.
-use Rattle.std.proofs.Common.{◌≡◌, ℕ, ◌+◌, List, length, replicate, sum, ap, sym, subst, ◌∙◌, arith, Option, Some}
+-- Between rounds: the seat is whole and took all that was submitted, so what it takes is what was asked for since.
+use Rattle.std.proofs.Common.{◌≡◌, ℕ, ◌+◌, ◌<◌, List, length, replicate, sum, ap, sym, subst, ◌∙◌, arith, Option, None, Some}
+use Rattle.std.specs.List.{AllByRecursion}
 use Rattle.us_intake.specs.Tallies.{added}
-use Rattle.us_intake.specs.Seats.{Intake, Seat, seat_after_cut, spent, IsWhole}
+use Rattle.us_intake.specs.Seats.{Intake, Seat, spent}
 use Rattle.us_intake.proofs.TallyLemmas.{sum-added, sum-empty, length-added}
 use Rattle.us_requests.specs.declared.asks.Ask.{Ask}
 use Rattle.us_requests.specs.Cuts.{cut_of}
-use Rattle.us_replay.specs.Collecting.{AreSettled, Collector, IsSettled, collected_by, run_quota, seat_after_asks, with_asks}
+use Rattle.us_replay.specs.Collecting.{AreAsks, AreSettled, Collector, IsDue, IsSettled, IsTold, collected_by, seat_after_asks, seat_after_takes, with_asks}
 use Rattle.us_replay.proofs.CutLemmas.{cut-none}
 use Rattle.us_replay.proofs.SumLemmas.{length-cut}
-use Rattle.us_replay.proofs.CollectingLemmas.{added-same, no-items}
+use Rattle.us_replay.proofs.CollectingLemmas.{are-known, no-items}
+use Rattle.us_replay.proofs.TakingLemmas.{clear-is-told, cut-is-told}
 
--- the seat that was cut, and is settled again
+-- once the asks of a round were submitted
+pub due-here : (clusters : ℕ) (intake : Intake) (seat full : Seat) (asks : List Ask) → IsSettled clusters intake seat →
+    full ≡ seat_after_asks seat asks → AreAsks clusters asks → IsDue full asks
+due-here clusters intake seat full asks settled full_is are =
+    let whole : seat.quota ≡ seat.intake.quota =
+    settled.whole ∙ sym settled.quota_is ∙ sym (ap (λ (i : Intake). i.quota) settled.own) in
+    let n : seat.intake.clusters ≡ clusters = ap (λ (i : Intake). i.clusters) settled.own ∙ settled.clusters_are in
+    subst (λ (s : Seat). IsDue s asks) (sym full_is) (record {
+      whole = whole;
+      takes = settled.takes;
+      row = ap length settled.even ∙ settled.row ∙ sym n;
+      known = subst (λ m. AllByRecursion (λ (ask : Ask). ask.cluster < m) asks) (sym n) (are-known clusters asks are);
+      due = ap (λ l. added l (cut_of seat.intake.clusters asks)) (sym settled.even);
+    })
+
+-- the seat that took what was submitted, and is settled again
 pub record IsNext (clusters : ℕ) (intake : Intake) (seat next : Seat) (asks : List Ask) (cut : List ℕ) : Type 0 where
-  pub settled : IsSettled clusters intake next
+  pub settled : IsSettled (length cut) intake next
   pub cut_is : cut ≡ cut_of clusters asks
   pub more : spent next ≡ spent seat + sum (cut_of clusters asks)
 
 pub next-settled : (clusters : ℕ) (intake : Intake) (seat full next : Seat) (asks : List Ask) (cut : List ℕ) →
-    IsSettled clusters intake seat → full ≡ seat_after_asks seat asks → next ≡ seat_after_cut full cut →
-    (IsWhole full → next.taken ≡ next.submitted) → length cut ≡ clusters → IsNext clusters intake seat next asks cut
-next-settled clusters intake seat full next asks cut settled full_is next_is even row =
+    IsSettled clusters intake seat → full ≡ seat_after_asks seat asks → next ≡ seat_after_takes full asks →
+    cut ≡ cut_of intake.clusters asks → IsNext clusters intake seat next asks cut
+next-settled clusters intake seat full next asks cut settled full_is next_is cut_is =
     let n : seat.intake.clusters ≡ clusters = ap (λ (i : Intake). i.clusters) settled.own ∙ settled.clusters_are in
+    let is : next ≡ seat_after_takes (seat_after_asks seat asks) asks =
+    next_is ∙ ap (λ (s : Seat). seat_after_takes s asks) full_is in
     let submitted : next.submitted ≡ added seat.submitted (cut_of clusters asks) =
-    ap (λ (s : Seat). s.submitted) next_is ∙ ap (λ (s : Seat). s.submitted) full_is ∙
-    ap (λ m. added seat.submitted (cut_of m asks)) n in
-    let taken : next.taken ≡ added seat.submitted cut =
-    ap (λ (s : Seat). s.taken) next_is ∙ ap (λ (s : Seat). added s.taken cut) full_is ∙ ap (λ l. added l cut) settled.even in
-    let own : next.intake ≡ intake =
-    ap (λ (s : Seat). s.intake) next_is ∙ ap (λ (s : Seat). s.intake) full_is ∙ settled.own in
-    let quota : next.quota ≡ run_quota =
-    ap (λ (s : Seat). s.quota) next_is ∙ ap (λ (s : Seat). s.quota) full_is ∙ settled.whole in
-    let whole : IsWhole full =
-    ap (λ (s : Seat). s.quota) full_is ∙ settled.whole ∙ sym settled.quota_is ∙
-    sym (ap (λ (i : Intake). i.quota) (ap (λ (s : Seat). s.intake) full_is ∙ settled.own)) in
+    ap (λ (s : Seat). s.submitted) is ∙ ap (λ m. added seat.submitted (cut_of m asks)) n in
     let its : length (cut_of clusters asks) ≡ length seat.submitted = length-cut clusters asks ∙ sym settled.row in
-    let all : next.taken ≡ next.submitted = even whole in
+    let is_cut : cut ≡ cut_of clusters asks = cut_is ∙ ap (λ m. cut_of m asks) settled.clusters_are in
+    let each : clusters ≡ length cut = sym (ap length is_cut ∙ length-cut clusters asks) in
     record {
       settled = record {
-        clusters_are = settled.clusters_are;
+        clusters_are = settled.clusters_are ∙ each;
         quota_is = settled.quota_is;
-        own = own;
-        whole = quota;
-        takes = ap (λ (s : Seat). s.takes) next_is ∙ ap (λ (s : Seat). s.takes) full_is ∙ settled.takes;
-        row = ap length submitted ∙ length-added seat.submitted (cut_of clusters asks) (sym its) ∙ settled.row;
-        even = all;
+        own = ap (λ (s : Seat). s.intake) is ∙ settled.own;
+        whole = ap (λ (s : Seat). s.quota) is ∙ settled.whole;
+        takes = ap (λ (s : Seat). s.takes) is ∙ settled.takes;
+        row = ap length submitted ∙ length-added seat.submitted (cut_of clusters asks) (sym its) ∙ settled.row ∙ each;
+        even = ap (λ (s : Seat). s.taken) is ∙ sym (ap (λ (s : Seat). s.submitted) is);
       };
-      cut_is = added-same seat.submitted cut (cut_of clusters asks) (row ∙ sym settled.row) its
-          (sym taken ∙ all ∙ submitted);
+      cut_is = is_cut;
       more = ap sum submitted ∙ sum-added seat.submitted (cut_of clusters asks);
     }
 
@@ -55,6 +64,25 @@ pub settled-here : (clusters : ℕ) (intakes : Option Intake) (seats : Option Se
     AreSettled clusters intakes seats → intakes ≡ Some intake → seats ≡ Some seat → IsSettled clusters intake seat
 settled-here clusters intakes seats intake seat are intake_is seat_is =
     subst (λ s. AreSettled clusters (Some intake) s) seat_is (subst (λ i. AreSettled clusters i seats) intake_is are)
+
+-- with no seat nothing is asked of the intake
+pub none-settled : (clusters : ℕ) (intakes : Option Intake) (seats : Option Seat) → seats ≡ None →
+    AreSettled clusters intakes seats
+none-settled clusters intakes seats is = subst (λ s. AreSettled clusters intakes s) (sym is) tt
+
+-- what a collector whose value this is was asked for
+pub asks-here : (value here : Collector) (asks : List Ask) → value ≡ here → AreAsks (length here.cut) asks →
+    AreAsks (length value.cut) asks
+asks-here value here asks is are = subst (λ (c : Collector). AreAsks (length c.cut) asks) (sym is) are
+
+-- a cut has something only of words that its asks name, and so has one that is clear
+pub clear-told : (clusters : ℕ) (asks : List Ask) (cut : List ℕ) → AreAsks clusters asks → cut ≡ replicate clusters 0 →
+    IsTold asks cut
+clear-told clusters asks cut are is = clear-is-told clusters asks cut (are-known clusters asks are) is
+
+pub cut-told : (clusters : ℕ) (asks : List Ask) (cut : List ℕ) → AreAsks clusters asks → cut ≡ cut_of clusters asks →
+    IsTold asks cut
+cut-told clusters asks cut are is = cut-is-told clusters asks cut (are-known clusters asks are) is
 
 pub collected-here : (seats : Option Seat) (seat : Seat) → seats ≡ Some seat → collected_by seats ≡ spent seat
 collected-here seats seat is = ap collected_by is

@@ -1,10 +1,10 @@
 -- How the requests of a round are collected: chunks of asks, the seats that submit them, and what stands between rounds.
-use Rattle.std.specs.Prelude.{◌≡◌, ℕ, ◌+◌, ◌*◌, ◌<◌, ◌≤◌, ⊤, true, List, [], ◌∷◌, length, replicate, sum, Option, Some, None}
+use Rattle.std.specs.Prelude.{◌≡◌, ℕ, ◌+◌, ◌*◌, ◌<◌, ◌≤◌, ⊤, true, List, [], ◌∷◌, ◌++◌, length, map, replicate, slice_index, sum, Option, Some, None}
 use Rattle.std.specs.List.{AllByRecursion}
 use Rattle.us_intake.specs.Tallies.{added}
-use Rattle.us_intake.specs.Seats.{Intake, Seat, new_seat, joined_seat, spent}
+use Rattle.us_intake.specs.Seats.{Intake, Seat, IsWhole, new_seat, joined_seat, spent}
 use Rattle.us_requests.specs.declared.asks.Ask.{Ask}
-use Rattle.us_requests.specs.Cuts.{cut_of}
+use Rattle.us_requests.specs.Cuts.{asked, cut_of}
 use Rattle.us_requests.specs.Traces.{max_ask, max_asked, max_asks}
 
 -- Chunks.
@@ -55,6 +55,28 @@ abbrev pub joined_seats : Seat → List Seat → Seat
 joined_seats seat [] = seat
 joined_seats seat (other ∷ others) = joined_seats (joined_seat seat other) others
 
+-- Taking.
+
+-- a whole seat that took all that was submitted but these asks
+pub record IsDue (seat : Seat) (asks : List Ask) : Type 0 where
+  pub whole : IsWhole seat
+  pub takes : seat.takes ≡ true
+  pub row : length seat.taken ≡ seat.intake.clusters
+  pub known : AllByRecursion (λ ask. ask.cluster < seat.intake.clusters) asks
+  pub due : seat.submitted ≡ added seat.taken (cut_of seat.intake.clusters asks)
+
+-- the seat that took all that was submitted, by one swap for each of these asks, of the word that it names
+abbrev pub seat_after_takes : Seat → List Ask → Seat
+seat_after_takes seat asks = record {
+  intake = seat.intake;
+  quota = seat.quota;
+  takes = seat.takes;
+  submitted = seat.submitted;
+  taken = seat.submitted;
+  additions = seat.additions;
+  swapped = seat.swapped ++ map (λ ask. ask.cluster) asks;
+}
+
 -- Between rounds.
 
 -- the bytes that may be submitted in a run: one more than the asks of a trace can name
@@ -65,6 +87,11 @@ run_quota = max_asked + 1
 pub record Collector : Type 0 where
   pub cut : List ℕ
   pub collected : ℕ
+
+-- only words that these asks name have something in a cut
+pub record IsTold (asks : List Ask) (cut : List ℕ) : Type 0 where
+  pub known : AllByRecursion (λ ask. ask.cluster < length cut) asks
+  pub only : (word : ℕ) → asked asks word ≡ 0 → slice_index cut word ≡ 0
 
 -- before round 0 of so many words
 abbrev pub opening_collector : ℕ → Collector

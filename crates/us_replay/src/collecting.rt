@@ -1,9 +1,10 @@
-//! How the requests of a round are collected: workers submit them to an intake, each with a seat of its own, and the
-//! intake is cut once all seats are one again.
+//! How the requests of a round are collected: workers submit them to an intake, each with a seat of its own, and what they
+//! submitted is taken once all seats are one again.
 
-ghost use Rattle.std.specs.Prelude.{◌≡◌, ◌+◌, ◌≤◌, true, length, vec_len, IfOk, OnOk, option_map};
+ghost use Rattle.std.specs.Prelude.{◌≡◌, ◌+◌, ◌≤◌, length, replicate, IfOk, OnOk, option_map};
 ghost use Rattle.us_flows.specs.Tables.{Tables};
-ghost use Rattle.us_intake.specs.Seats.{IsWhole, first_seat, seat_after_cut};
+ghost use Rattle.us_intake.specs.Seats.{first_seat};
+ghost use Rattle.us_requests.specs.Cuts.{cut_of};
 ghost use Rattle.us_requests.specs.Traces.{max_asked, max_asks};
 ghost use Rattle.us_replay.specs.Collecting as spec;
 
@@ -28,19 +29,24 @@ const RUN_QUOTA: u64 = 1_048_560_000_001;
 #[derive(Drop)]
 pub(crate) struct Collector<'a> {
     cut: Vec<u64>,
+
+    // the asks of the last round: only words that these name have something in the cut
+    last: &'a [Ask],
+
     intake: Option<&'a Intake>,
     seat: Option<Seat>,
 }
 
 impl<'a> Model for Collector<'a> {
     ghost use Rattle.std.specs.Prelude.{length, option_map};
-    ghost use Rattle.us_replay.specs.Collecting.{AreSettled, Collector, collected_by};
+    ghost use Rattle.us_replay.specs.Collecting.{AreSettled, Collector, IsTold, collected_by};
 
     ghost Value = { Collector };
 
     ghost view = { λ c. record { cut = c.cut.items; collected = collected_by c.seat } };
 
-    ghost invariant = { λ c. AreSettled (length c.cut.items) (option_map (λ i. i.now) c.intake) c.seat };
+    ghost invariant = { λ c. AreSettled (length c.cut.items) (option_map (λ i. i.now) c.intake) c.seat
+        × IsTold c.last.now c.cut.items };
 }
 
 impl<'a> Collector<'a> {
@@ -55,7 +61,12 @@ impl<'a> Collector<'a> {
         ensures { IfOk result (λ c. c ≡ spec.opening_collector clusters) }
     {
         let cut = vec![in alloc; 0; clusters]?;
-        Ok(Collector { cut, intake, seat })
+        Ok(Collector {
+            cut,
+            last: &[],
+            intake,
+            seat,
+        })
     }
 
     /// Has the asks of the next round collected. After want of memory nothing is said of what stands here.
@@ -71,8 +82,9 @@ impl<'a> Collector<'a> {
         ensures collected { OnOk result (self.new ≡ spec.with_asks self.old asks.now) }
         ensures same { (t : Tables) → D.knows doers.old t → D.knows doers.new t }
     {
+        clear(&mut self.cut, self.last);
+        self.last = asks;
         if asks.is_empty() {
-            self.cut.fill(0);
             return Ok(());
         }
         // With no word nobody asks, so where there is no seat, memory was wanting before.
@@ -80,7 +92,7 @@ impl<'a> Collector<'a> {
             return Err(NoMemory);
         };
         let mut seat = doers.gather(alloc, intake, seat, asks)?;
-        cut_words(intake, &mut seat, &mut self.cut);
+        take_asked(intake, &mut seat, asks, &mut self.cut);
         self.seat = Some(seat);
         Ok(())
     }
@@ -93,16 +105,28 @@ impl<'a> Collector<'a> {
     }
 }
 
-/// Takes what an intake's words hold, into a list of numbers that is there.
-fn cut_words(intake: &Intake, seat: &mut Seat, cut: &mut Vec<u64>)
-    requires own { seat.old.intake ≡ intake.now }
-    requires row { vec_len cut.old ≡ intake.now.clusters }
-    requires takes { seat.old.takes ≡ true }
-    ensures seat { seat.new ≡ seat_after_cut seat.old cut.new.items }
-    ensures row { length cut.new.items ≡ intake.now.clusters }
-    ensures whole { IsWhole seat.old → seat.new.taken ≡ seat.new.submitted }
+/// Clears a cut in which only words that these asks name have something: no other word is looked at.
+fn clear(cut: &mut Vec<u64>, asks: &[Ask])
+    requires { spec.IsTold asks.now cut.old.items }
+    ensures { cut.new.items ≡ replicate (length cut.old.items) 0 }
 {
-    intake.cut(seat, cut);
+    for ask in asks {
+        cut[usize::from(ask.cluster)] = 0;
+    }
+}
+
+/// Takes what was submitted for these asks out of an intake, into a cut that is clear: by one `swap` for each ask, of the word
+/// that it names. All else was taken before, so other words hold nothing, nor does a word that is named again.
+fn take_asked(intake: &Intake, seat: &mut Seat, asks: &[Ask], cut: &mut Vec<u64>)
+    requires own { seat.old.intake ≡ intake.now }
+    requires clear { cut.old.items ≡ replicate intake.now.clusters 0 }
+    requires due { spec.IsDue seat.old asks.now }
+    ensures cut { cut.new.items ≡ cut_of intake.now.clusters asks.now }
+    ensures seat { seat.new ≡ spec.seat_after_takes seat.old asks.now }
+{
+    for ask in asks {
+        cut[usize::from(ask.cluster)] += intake.take(seat, ask.cluster);
+    }
 }
 
 /// Opens what the requests and marks of so many words are collected with: none where there are no words.

@@ -24,7 +24,7 @@ impl Intake {
     }
 
     /// One `swap`: what the word held is in the seat's part at once, and nothing in the word.
-    pub(super) fn take(&self, token: &mut Seat<(), Part>, at: usize) -> u64
+    pub(super) fn swap(&self, token: &mut Seat<(), Part>, at: usize) -> u64
         requires own { token.old.table_id ≡ self.now.id }
         requires bare { token.old.me.1 ≡ [] }
         requires there { at < self.now.clusters }

@@ -22,9 +22,9 @@ loop-at-init c =
 pub loop-at-preserved : goal.loop-at-preserved
 loop-at-preserved c =
     let clusters = ap (λ (i : Intake). i.clusters) c.requires.own in
-    let took = c.take_word.ensures in (
+    let took = c.take.ensures in (
       c.loop-at.invariant.0,
-      cut_more c.args.seat.now c.loop-at.seat c.take_word.new.seat c.loop-at.at c.take_word.result c.loop-at.cuts
+      cut_more c.args.seat.now c.loop-at.seat c.take.new.seat c.loop-at.at c.take.result c.loop-at.cuts
           c.loop-at.invariant.1
           (omega (arith, c.loop-at-test.true, c.loop-at.invariant.0, clusters))
           (omega (arith, c.loop-at.auto.cuts, c.requires.row, clusters))

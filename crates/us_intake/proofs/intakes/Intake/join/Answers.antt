@@ -13,6 +13,6 @@ invariant_of-one c =
     one.token.me other.token.me
     one.quota one.spent other.quota other.spent one.takes other.takes one.submitted.items one.taken.items
     other.submitted.items other.taken.items
-    c.add_to.new.tally.items c.add_to-2.new.tally.items
+    c.add_to.new.tally.items c.add_taken.new.tally.items
     c.one.invariant c.other.invariant c.merge.ensures.own words c.merge.ensures.part c.merge.ensures.known
-    c.add_to.ensures c.add_to-2.ensures
+    c.add_to.ensures c.add_taken.ensures

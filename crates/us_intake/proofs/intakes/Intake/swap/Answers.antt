@@ -1,7 +1,7 @@
 use Rattle.std.proofs.Common.{ap, sym, ◌∙◌, arith}
 use Rattle.us_intake.specs.Seats.{Intake}
 use Rattle.us_intake.proofs.TableLemmas.{swap_step}
-use Rattle.us_intake.proofs.intakes.Intake.take.Goals as goal
+use Rattle.us_intake.proofs.intakes.Intake.swap.Goals as goal
 
 pub swap-requires : goal.swap-requires
 swap-requires c =
