@@ -3,7 +3,7 @@ use std::thread::yield_now;
 
 /// So many turns are spun before each further one gives the processor to others (ours): an answer mostly comes sooner,
 /// and on a busy machine whoever spins longer holds up the one that it waits for.
-const SPUN_TURNS: u32 = 100;
+const SPUN_TURNS: u32 = 20;
 
 /// How long one has waited for something.
 #[derive(Clone, Copy)]
