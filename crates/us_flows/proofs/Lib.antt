@@ -2,6 +2,7 @@ pub mod DocumentLemmas
 pub mod ShapeLemmas
 pub mod ChannelLemmas
 pub mod FlowLemmas
+pub mod FoundLemmas
 pub mod StationLemmas
 pub mod PairLemmas
 pub mod CheckLemmas

@@ -35,6 +35,8 @@ pub mod Codes
 pub mod Places
 -- what faults are told as
 pub mod Texts
--- inside the crate, and of no use to a reader of the promise: what an index of SIDs holds, and what turns are sorted by
+-- inside the crate, and of no use to a reader of the promise: what a walk over a flow's table
+-- finds, what an index of SIDs holds, and what turns are sorted by
+pub mod KeyValues
 pub mod Listed
 pub mod Ranks

@@ -13,7 +13,7 @@ pub(crate) fn value_at<'a>(table: &'a Table, key: &str) -> Option<&'a Value>
 }
 
 /// A whole number from 0 on; 0 for all other values.
-fn number_of(value: &Value) -> u64
+pub(crate) fn number_of(value: &Value) -> u64
     ensures { result ≡ Documents.number_of (view value.now) }
 {
     match value.as_integer() {
@@ -82,12 +82,19 @@ pub(crate) fn u32_at(table: &Table, key: &str) -> u32
     number_at(table, key) as u32
 }
 
+/// True or false; false for all other values.
+pub(crate) fn flag_of(value: &Value) -> bool
+    ensures { result ≡ Documents.flag_of (view value.now) }
+{
+    value.as_bool().unwrap_or(false)
+}
+
 /// The truth of a key.
 pub(crate) fn flag_at(table: &Table, key: &str) -> bool
     ensures { result ≡ Documents.flag_at key.now (table_view table.now) }
 {
     match value_at(table, key) {
-        Some(value) => value.as_bool().unwrap_or(false),
+        Some(value) => flag_of(value),
         None => false,
     }
 }

@@ -11,17 +11,20 @@ ghost use Rattle.us_flows.specs.Reading;
 ghost use Rattle.us_flows.specs.Reading.{kind_at};
 ghost use Rattle.us_flows.specs.Answers.{Judged};
 
-use crate::documents::{
-    flag_at, items_at, items_of, number_at, u8_at, u8_of, u16_at, u16_of, u32_at, value_at,
-};
+use crate::documents::{items_of, u8_of, u16_of};
 use crate::faults::{ConfigFault, Place, TOP, TableName};
 use crate::flow_grants::grants_fault;
 use crate::flow_names::{names_fault, sids_of};
-use crate::flows::{Flow, SchedulingType};
+use crate::flow_values::FlowValues;
+use crate::flows::Flow;
+use crate::key_places::{
+    BURST, CHANNELS, CLUSTERS, GRANT_BYTES, GRANTS_PER_INTERVAL, HEADERS, ID, INTERVAL_US,
+    JITTER_US, MIN_RATE, PRIORITY, RATE, START_US, TYPE, UNIT,
+};
 use crate::listed::{Channels, Flows};
-use crate::shapes::{flow_lacks, flow_strays, is_type};
+use crate::shapes::is_type;
 use std::alloc::{AllocError, Global};
-use toml::{Table, Value};
+use toml::Value;
 
 /// The flows of a list, or their first fault.
 pub(crate) fn flows_of(
@@ -56,7 +59,8 @@ fn pushed_flow(
 {
     match value.as_table() {
         Some(table) => {
-            let flow = flow_in(alloc, round_ticks, channels, &flows, table)?;
+            let values = FlowValues::new(table);
+            let flow = flow_in(alloc, round_ticks, channels, &flows, &values)?;
             Ok(flows.pushed(flow)?)
         }
         None => Err(ConfigFault::Range(TOP)),
@@ -70,13 +74,13 @@ fn flow_in(
     round_ticks: u32,
     channels: &Channels,
     earlier: &Flows,
-    table: &Table,
+    values: &FlowValues<'_>,
 ) -> Result<Flow, ConfigFault>
     requires { length earlier.now < 2 ^ 32 }
-    ensures judged { Judged result (flow_fault round_ticks channels.now earlier.now (table_view table.now))
-        (λ flow. flow ≡ Reading.flow_of (table_view table.now)) }
+    ensures judged { Judged result (flow_fault round_ticks channels.now earlier.now (table_view values.now))
+        (λ flow. flow ≡ Reading.flow_of (table_view values.now)) }
     // The shape is judged before memory is taken.
-    ensures early { IfSome (first_of (flow_shape (Checks.flow_place earlier.now) (table_view table.now)))
+    ensures early { IfSome (first_of (flow_shape (Checks.flow_place earlier.now) (table_view values.now)))
         (λ fault. result ≡ Err fault) }
     // Its names are apart from those of the flows before it, and it has few clusters.
     ensures names { IfOk result (λ flow.
@@ -87,10 +91,10 @@ fn flow_in(
         table: TableName::Flow,
         index: earlier.len() as u32,
     };
-    if let Some(fault) = shape_fault(place, table) {
+    if let Some(fault) = shape_fault(place, values) {
         return Err(fault);
     }
-    let flow = flow_of(alloc, table)?;
+    let flow = flow_of(alloc, values)?;
     let sids = sids_of(alloc, &flow)?;
     if let Some(fault) = names_fault(place, channels, earlier, &flow, &sids) {
         return Err(fault);
@@ -102,10 +106,11 @@ fn flow_in(
 }
 
 /// The first fault in the shape of a flow's table, of which the type is looked at first.
-fn shape_fault(place: Place, table: &Table) -> Option<ConfigFault>
-    ensures { result ≡ first_of (flow_shape place (table_view table.now)) }
+#[tactic(auto, unfolding(crate::specs::Keys::all_flow_keys))]
+fn shape_fault(place: Place, values: &FlowValues<'_>) -> Option<ConfigFault>
+    ensures { result ≡ first_of (flow_shape place (table_view values.now)) }
 {
-    match value_at(table, "type") {
+    match values.value(TYPE) {
         Some(kind) => {
             if !is_type(kind) {
                 return Some(ConfigFault::Range(place));
@@ -113,53 +118,40 @@ fn shape_fault(place: Place, table: &Table) -> Option<ConfigFault>
         }
         None => return Some(ConfigFault::Missing(place)),
     }
-    let kind = kind_at(table);
-    if flow_lacks(kind, table) {
+    if values.lacks() {
         return Some(ConfigFault::Missing(place));
     }
-    if flow_strays(kind, table) {
+    if values.strays() {
         return Some(ConfigFault::Range(place));
     }
     None
 }
 
-/// The scheduling type of a flow's table.
-fn kind_at(table: &Table) -> SchedulingType
-    ensures { result ≡ Reading.kind_at (table_view table.now) }
-{
-    match number_at(table, "type") {
-        3 => SchedulingType::NonRealTimePolling,
-        4 => SchedulingType::RealTimePolling,
-        5 => SchedulingType::ActivityDetection,
-        6 => SchedulingType::UnsolicitedGrant,
-        _ => SchedulingType::BestEffort,
-    }
-}
-
 /// The flow of a table whose shape has no fault.
-fn flow_of(alloc: Global, table: &Table) -> Result<Flow, AllocError>
-    requires whole { Shapes.lacks (flow_keys (kind_at (table_view table.now))) (table_view table.now) ≡ false }
-    requires ranged { Shapes.strays (flow_keys (kind_at (table_view table.now))) (table_view table.now) ≡ false }
-    ensures { IfOk result (λ flow. flow ≡ Reading.flow_of (table_view table.now)) }
+#[tactic(auto, unfolding(crate::specs::Keys::all_flow_keys))]
+fn flow_of(alloc: Global, values: &FlowValues<'_>) -> Result<Flow, AllocError>
+    requires whole { Shapes.lacks (flow_keys (kind_at (table_view values.now))) (table_view values.now) ≡ false }
+    requires ranged { Shapes.strays (flow_keys (kind_at (table_view values.now))) (table_view values.now) ≡ false }
+    ensures { IfOk result (λ flow. flow ≡ Reading.flow_of (table_view values.now)) }
 {
-    let channels = ids_of(alloc, items_at(table, "channels"))?;
-    let clusters = clusters_of(alloc, items_at(table, "clusters"))?;
+    let channels = ids_of(alloc, values.items(CHANNELS))?;
+    let clusters = clusters_of(alloc, values.items(CLUSTERS))?;
     Ok(Flow {
-        id: u16_at(table, "id"),
-        kind: kind_at(table),
+        id: values.u16(ID),
+        kind: values.kind(),
         channels,
         clusters,
-        priority: u8_at(table, "priority"),
-        rate: u32_at(table, "rate"),
-        burst: u32_at(table, "burst"),
-        min_rate: u32_at(table, "min_rate"),
-        unit: u8_at(table, "unit"),
-        headers: flag_at(table, "headers"),
-        start_us: u32_at(table, "start_us"),
-        interval_us: u32_at(table, "interval_us"),
-        jitter_us: u32_at(table, "jitter_us"),
-        grant_bytes: u16_at(table, "grant_bytes"),
-        grants_per_interval: u8_at(table, "grants_per_interval"),
+        priority: values.u8(PRIORITY),
+        rate: values.u32(RATE),
+        burst: values.u32(BURST),
+        min_rate: values.u32(MIN_RATE),
+        unit: values.u8(UNIT),
+        headers: values.flag(HEADERS),
+        start_us: values.u32(START_US),
+        interval_us: values.u32(INTERVAL_US),
+        jitter_us: values.u32(JITTER_US),
+        grant_bytes: values.u16(GRANT_BYTES),
+        grants_per_interval: values.u8(GRANTS_PER_INTERVAL),
     })
 }
 

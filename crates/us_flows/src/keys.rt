@@ -1,4 +1,4 @@
-ghost use Rattle.std.specs.Prelude.{◌≡◌};
+ghost use Rattle.std.specs.Prelude.{◌≡◌, length};
 ghost use Rattle.us_flows.specs.Keys.{keys_of, typed_keys_of, has_key, top_keys, channel_keys, profile_keys, short_keys, all_flow_keys, station_keys};
 
 use crate::flows::SchedulingType;
@@ -109,8 +109,11 @@ static PROFILE_KEYS: [Key; 7] = [
     ("max_minislots", Rule::Number(1, MAX_SHORT_MINISLOTS)),
 ];
 
+/// How many keys there are of all flows.
+pub(crate) const FLOW_KEY_COUNT: usize = 17;
+
 /// The keys of all flows.
-static FLOW_KEYS: [FlowKey; 17] = [
+static FLOW_KEYS: [FlowKey; FLOW_KEY_COUNT] = [
     ("id", Types::All, Rule::Number(1, MAX_ID)),
     ("type", Types::All, Rule::Type),
     (
@@ -206,7 +209,8 @@ pub(crate) fn short_keys() -> &'static [Key]
 /// The keys of all flows.
 #[tactic(auto, unfolding(crate::specs::Keys::all_flow_keys))]
 pub(crate) fn all_flow_keys() -> &'static [FlowKey]
-    ensures { typed_keys_of result.now ≡ all_flow_keys }
+    ensures keys { typed_keys_of result.now ≡ all_flow_keys }
+    ensures count { length result.now ≡ 17 }
 {
     FLOW_KEYS.as_slice()
 }

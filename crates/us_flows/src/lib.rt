@@ -57,6 +57,12 @@ mod limits;
 // Channels, read and judged.
 mod channel_tables;
 
+// Where the keys of flows stand among all of them.
+mod key_places;
+
+// The values of a flow's keys, found in one walk.
+mod flow_values;
+
 // Flows, read and judged: their tables,
 mod flow_tables;
 

@@ -44,32 +44,8 @@ fn allows(keys: &[Key], name: &str, value: &Value) -> bool
     false
 }
 
-/// Whether the table of a flow of this type lacks a key that it has to have.
-pub(crate) fn flow_lacks(kind: SchedulingType, table: &Table) -> bool
-    ensures { result ≡ Shapes.lacks (flow_keys kind) (table_view table.now) }
-{
-    for (name, types, rule) in all_flow_keys() {
-        if types.have(kind) && value_at(table, name).is_none() && !is_optional(*rule) {
-            return true;
-        }
-    }
-    false
-}
-
-/// Whether the table of a flow of this type has a key that isn't listed, or one whose value breaks its rule.
-pub(crate) fn flow_strays(kind: SchedulingType, table: &Table) -> bool
-    ensures { result ≡ Shapes.strays (flow_keys kind) (table_view table.now) }
-{
-    for (name, value) in table {
-        if !flow_allows(kind, name, value) {
-            return true;
-        }
-    }
-    false
-}
-
 /// Whether a flow of this type has a key, and the value keeps its rule.
-fn flow_allows(kind: SchedulingType, name: &str, value: &Value) -> bool
+pub(crate) fn flow_allows(kind: SchedulingType, name: &str, value: &Value) -> bool
     ensures { result ≡ Shapes.allows (flow_keys kind) name.now (view value.now) }
 {
     for (listed, types, rule) in all_flow_keys() {
@@ -81,7 +57,7 @@ fn flow_allows(kind: SchedulingType, name: &str, value: &Value) -> bool
 }
 
 /// Whether a key of this rule may be left out.
-fn is_optional(rule: Rule) -> bool
+pub(crate) fn is_optional(rule: Rule) -> bool
     ensures { result ≡ Shapes.is_optional rule }
 {
     match rule {
@@ -92,7 +68,7 @@ fn is_optional(rule: Rule) -> bool
 }
 
 /// Whether a value keeps a rule.
-fn keeps(rule: Rule, value: &Value) -> bool
+pub(crate) fn keeps(rule: Rule, value: &Value) -> bool
     ensures { result ≡ Shapes.keeps rule (view value.now) }
 {
     match rule {

@@ -12,6 +12,8 @@ pub mod SearchLemmas
 pub mod TextLemmas
 -- clusters, bytes and rounds of asks
 pub mod AskLemmas
+-- SIDs that are kept
+pub mod KnownLemmas
 -- requests, filed as asks and counts
 pub mod FilingLemmas
 -- what the asks of a trace add up to

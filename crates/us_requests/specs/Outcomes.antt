@@ -1,11 +1,13 @@
 -- Inside the crate: what becomes of a request of a trace, and what it adds to the asks and counts.
 use Rattle.std.specs.Prelude.{◌≡◌, ℕ, ◌+◌, ◌<◌, ◌≤◌, List, [], ◌∷◌, map, length, Some, None}
+use Rattle.std.specs.List.{AllByRecursion}
 use Rattle.us_flows.specs.Tables.{Tables}
 use Rattle.us_flows.specs.Clusters.{flow_of_word, words_of, lookup}
 use Rattle.us_flows.specs.declared.found.Found.{Found}
 use Rattle.us_requests.specs.declared.placed.PlacedAsk.{PlacedAsk}
 use Rattle.us_requests.specs.declared.asks.Ask.{Ask}
 use Rattle.us_requests.specs.declared.asks.Counts.{Counts}
+use Rattle.us_requests.specs.declared.known_sids.KnownSid.{KnownSid}
 use Rattle.us_requests.specs.declared.outcomes.Outcome.{Outcome}
 use Rattle.us_requests.specs.declared.outcomes.Outcome.TheVariants as outcome
 use Rattle.us_requests.specs.Asks.{Request, round_of_tick, ask_for, ask_of, asks_at, counts_of}
@@ -14,6 +16,11 @@ use Rattle.us_requests.specs.Traces.{of_round, max_asks}
 -- the bytes of a unit of the requests by each word
 abbrev pub units_of : Tables → List ℕ
 units_of t = map (λ word. (flow_of_word word).unit) (words_of t)
+
+-- SIDs that are kept, each with what it asks for on its channel
+pub record AreKnown (t : Tables) (known : List KnownSid) : Type 0 where
+  pub count : length known ≡ 4096
+  pub found : AllByRecursion (λ k. k.found ≡ lookup t k.channel k.sid) known
 
 -- what becomes of a request
 abbrev pub Becomes : Tables → ℕ → Request → Outcome → Type 0

@@ -37,6 +37,9 @@ mod texts;
 // An ask in its round.
 mod placed;
 
+// What SIDs ask for, kept.
+mod known_sids;
+
 // What becomes of a request.
 mod outcomes;
 

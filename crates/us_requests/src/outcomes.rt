@@ -1,4 +1,6 @@
 ghost use Rattle.std.specs.Prelude.{◌≡◌};
+ghost use Rattle.us_flows.specs.Clusters.{lookup};
+ghost use Rattle.us_flows.specs.Lawful.{AreTables};
 ghost use Rattle.us_requests.specs.Asks.{round_of_tick};
 ghost use Rattle.us_requests.specs.Outcomes.{Becomes, units_of};
 
@@ -20,13 +22,22 @@ pub(crate) enum Outcome {
     Asked(PlacedAsk),
 }
 
-/// What becomes of a request in a run of so many rounds, given the bytes of a unit of the requests by each word.
+/// What becomes of a request in a run of so many rounds, given what was found of its SID and the bytes of a unit of the
+/// requests by each word.
 #[tactic(auto, using(crate::proofs::AskLemmas::words))]
-pub(crate) fn outcome_of(config: &Config, units: &[u8], rounds: u32, request: &Request) -> Outcome
-    requires { units.now ≡ units_of config.now }
+pub(crate) fn outcome_of(
+    config: &Config,
+    units: &[u8],
+    rounds: u32,
+    request: &Request,
+    found: Option<Found>,
+) -> Outcome
+    requires lawful { AreTables config.now }
+    requires units { units.now ≡ units_of config.now }
+    requires found { found ≡ lookup config.now request.now.channel request.now.sid }
     ensures { Becomes config.now rounds request.now result }
 {
-    let found = match config.lookup(request.channel, request.sid) {
+    let found = match found {
         Some(found) => found,
         None => return Outcome::Unknown,
     };

@@ -11,6 +11,7 @@ use crate::asks::{Ask, Counts};
 use crate::by_round::AsksByRound;
 use crate::faults::TraceFault;
 use crate::filing::Filed;
+use crate::known_sids::{found_of, known_sids};
 use crate::outcomes::outcome_of;
 use crate::requests::Request;
 use crate::texts::requests_in;
@@ -116,9 +117,11 @@ fn file_all(
     ensures lawful { AreTables config.now }
 {
     let units = units_of(alloc, config)?;
+    let mut known = known_sids(alloc, config)?;
     let mut filed = Filed::new(alloc);
     for request in requests {
-        filed.add(outcome_of(config, &units, rounds, request))?;
+        let found = found_of(config, &mut known, request.channel, request.sid);
+        filed.add(outcome_of(config, &units, rounds, request, found))?;
     }
     Ok(filed)
 }

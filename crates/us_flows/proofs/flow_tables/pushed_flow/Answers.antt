@@ -9,9 +9,10 @@ use Rattle.us_flows.proofs.flow_tables.pushed_flow.Goals as goal
 pub returns-in_err-flow-in-Some : goal.returns-in_err-flow-in-Some
 returns-in_err-flow-in-Some c =
     let passed = err_from_is_err_and c.from_residual.result c.from_residual.ensures.1 in
+    let judged = rw c.new-values.ensures at c.in_err-flow-in-Some.ensures.judged in
     rw (passed.1, passed.2) (
     refused_table Reading.flow_of (flow_fault c.args.round_ticks c.args.channels.now) c.args.flows (view c.args.value.now) (table_view c.in-Some.table.now)
-    c.in_err-flow-in-Some.field-0.0 _ _ c.in-Some.ensures c.in_err-flow-in-Some.ensures.judged
+    c.in_err-flow-in-Some.field-0.0 _ _ c.in-Some.ensures judged
     )
 
 pub returns-in-None : goal.returns-in-None
@@ -19,6 +20,7 @@ returns-in-None c = no_table Reading.flow_of (flow_fault c.args.round_ticks c.ar
 
 pub returns-in_ok-pushed-in-Some : goal.returns-in_ok-pushed-in-Some
 returns-in_ok-pushed-in-Some c =
+    let judged = rw c.new-values.ensures at c.in_ok-flow-in-Some.ensures.judged in
     let all = accepted_table Reading.flow_of (flow_fault c.args.round_ticks c.args.channels.now) c.args.flows (view c.args.value.now) (table_view c.in-Some.table.now)
-    c.in_ok-flow-in-Some.flow c.in-Some.ensures c.in_ok-flow-in-Some.ensures.judged.0 c.in_ok-flow-in-Some.ensures.judged.1 in
+    c.in_ok-flow-in-Some.flow c.in-Some.ensures judged.0 judged.1 in
     (all.0, c.in_ok-pushed-in-Some.ensures ∙ all.1)

@@ -12,6 +12,7 @@ loop-request-init c =
       omega (arith, ap (λ counts. counts.unknown) none),
       omega (arith, ap (λ counts. counts.not_requestable) none),
       omega (arith, ap (λ counts. counts.late) none),
+      c.in_ok-known.ensures,
     )
 
 pub loop-request-preserved : goal.loop-request-preserved
@@ -24,7 +25,7 @@ loop-request-preserved c =
     let filed = request-filed c.args.config.now c.args.rounds requests (drop (i + 1) requests) q l.filed.asks.items
     c.add.new.self.asks.items l.filed.counts c.outcome_of.result part c.outcome_of.ensures c.in_ok-add.ensures.asks in
     let rise = counts-rise c.outcome_of.result l.filed.counts i l.invariant.1 l.invariant.2 l.invariant.3 in
-    rw c.in_ok-add.ensures.counts (filed, rise.0, rise.1, rise.2)
+    rw c.in_ok-add.ensures.counts (filed, rise.0, rise.1, rise.2, c.found_of-found.ensures.known)
 
 pub returns-clause-filed : goal.returns-clause-filed
 returns-clause-filed c =
