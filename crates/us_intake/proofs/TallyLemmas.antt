@@ -1,6 +1,6 @@
 -- Tallies: their bytes by cluster, and in all.
-use Rattle.std.proofs.Common.{◌≡◌, ◌≢◌, ℕ, zero, suc, ◌+◌, ◌<◌, ◌≤◌, cond, eqb, List, [], ◌∷◌, length, set, replicate, sum, sum_by, slice_index, refl, ap, sym, ◌∙◌, take, add-one, inl, inr, arith, eq-eqb, ne_eqb, get_or-set_same, get_or-set_other}
-use Rattle.std.proofs.lemmas.Bool.{cases_eq}
+use Rattle.std.proofs.Common.{◌≡◌, ◌≢◌, ℕ, zero, suc, ◌+◌, ◌<◌, ◌≤◌, ◌||◌, Bool, true, false, cond, eqb, List, [], ◌∷◌, length, set, replicate, sum, sum_by, slice_index, refl, ap, sym, ◌∙◌, take, add-one, inl, inr, arith, eq-eqb, ne_eqb, get_or-set_same, get_or-set_other}
+use Rattle.std.proofs.lemmas.Bool.{cases_eq, true≢false, false≢true}
 use Rattle.std.proofs.lemmas.List.{length-replicate, set-get_or}
 use Rattle.std.proofs.lemmas.List.Sums.{sum_by-cons, sum_by-set}
 use Rattle.us_intake.specs.Tallies.{empty_tally, raised, added}
@@ -164,6 +164,46 @@ pub nothing-added : (one other : List ℕ) → length one ≡ length other →
 nothing-added one other same none =
     same_tally one (added one other) (sym (length-added one other same))
     (λ cluster lt. omega (arith, index-added one other cluster, none cluster))
+
+-- in either order the same
+pub added-turned : (one other : List ℕ) → length one ≡ length other → added one other ≡ added other one
+added-turned one other same =
+    same_tally (added one other) (added other one)
+    (omega (arith, length-added one other same, length-added other one (sym same), same))
+    (λ cluster lt. omega (arith, index-added one other cluster, index-added other one cluster))
+
+pub empty-added : (clusters : ℕ) (tally : List ℕ) → length tally ≡ clusters → added (empty_tally clusters) tally ≡ tally
+empty-added clusters tally same =
+    added-turned (empty_tally clusters) tally (omega (arith, length-empty clusters, same))
+    ∙ sym (nothing-added tally (empty_tally clusters) (omega (arith, length-empty clusters, same))
+    (index-empty clusters))
+
+-- What two seats took, as the lists that those of them keep that take.
+pub joined_taken : (takes its_takes : Bool) (taken its_taken all one other : List ℕ) → length one ≡ length other →
+    (takes ≡ true → taken ≡ one) → (takes ≡ false → taken ≡ []) →
+    (takes ≡ false → (cluster : ℕ) → slice_index one cluster ≡ 0) →
+    (its_takes ≡ true → its_taken ≡ other) → (its_takes ≡ false → (cluster : ℕ) → slice_index other cluster ≡ 0) →
+    (its_takes ≡ true → all ≡ added its_taken taken) → (its_takes ≡ false → all ≡ taken) →
+    (takes || its_takes ≡ true → all ≡ added one other) × (takes || its_takes ≡ false → all ≡ [])
+joined_taken true true taken its_taken all one other same keeps none idle its its_idle both alone =
+    (
+      λ e. both refl ∙ ap (λ l. added l taken) (its refl) ∙ ap (λ l. added other l) (keeps refl)
+          ∙ added-turned other one (sym same),
+      λ e. absurd (true≢false e),
+    )
+joined_taken true false taken its_taken all one other same keeps none idle its its_idle both alone =
+    (
+      λ e. alone refl ∙ keeps refl ∙ nothing-added one other same (its_idle refl),
+      λ e. absurd (true≢false e),
+    )
+joined_taken false true taken its_taken all one other same keeps none idle its its_idle both alone =
+    (
+      λ e. both refl ∙ ap (λ l. added l taken) (its refl) ∙ ap (λ l. added other l) (none refl) ∙ added-nil other
+          ∙ nothing-added other one (sym same) (idle refl) ∙ added-turned other one (sym same),
+      λ e. absurd (true≢false e),
+    )
+joined_taken false false taken its_taken all one other same keeps none idle its its_idle both alone =
+    (λ e. absurd (false≢true e), λ e. alone refl ∙ none refl)
 
 past-take : (tally : List ℕ) (at : ℕ) → slice_index (take at tally) at ≡ 0
 past-take [] zero = refl

@@ -1,5 +1,5 @@
 -- How the code's seats and intakes are kept.
-use Rattle.std.specs.Prelude.{◌≡◌, ℕ, Bool, false, List, [], sum}
+use Rattle.std.specs.Prelude.{◌≡◌, ℕ, Bool, true, false, List, [], sum}
 use Rattle.atomic_table.specs.Seated.{TableId}
 use Rattle.atomic_table.specs.Table.{Me}
 use Rattle.us_intake.specs.Seats.{Intake, Seat, IsIntake, IsSeat}
@@ -18,15 +18,16 @@ seat_at id part =
       swapped = part.swapped;
     }
 
--- the seat's fields are what its part in the account says, and where it was joined, a load has looked at it
-pub record IsInside {S : Type 0} (id : TableId) (me : Me S Part) (quota bytes_spent : ℕ) (takes : Bool) (submitted
-    taken : List ℕ) : Type 0 where
+-- the seat's fields are what its part in the account says, of which it keeps what was submitted as one number, and what
+-- was taken where it takes; and where it was joined, a load has looked at it
+pub record IsInside {S : Type 0} (id : TableId) (me : Me S Part) (quota bytes_spent : ℕ) (takes : Bool)
+    (taken : List ℕ) : Type 0 where
   pub bare : me.1 ≡ []
   pub same_quota : quota ≡ me.0.quota
   pub same_spent : bytes_spent ≡ sum me.0.submitted
   pub same_takes : takes ≡ me.0.takes
-  pub same_submitted : submitted ≡ me.0.submitted
-  pub same_taken : taken ≡ me.0.taken
+  pub same_taken : takes ≡ true → taken ≡ me.0.taken
+  pub no_taken : takes ≡ false → taken ≡ []
   pub looked : me.0.looks ≡ false
   pub known : IsSeat (seat_at id me.0)
 

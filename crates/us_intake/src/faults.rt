@@ -1,7 +1,6 @@
 use std::alloc::AllocError;
 use std::fmt;
 use thiserror::Error;
-use us_slots::NoMemory;
 
 /// Why an intake was not opened or closed, a seat not split, or bytes not submitted.
 #[derive(Clone, Copy, Debug, PartialEq, Eq, Error)]
@@ -61,17 +60,6 @@ impl From<AllocError> for IntakeFault {
     ghost from_gives = { λ _ given. given ≡ fault.NoMemory };
 
     fn from(_refused: AllocError) -> IntakeFault {
-        IntakeFault::NoMemory
-    }
-}
-
-impl From<NoMemory> for IntakeFault {
-    ghost use Rattle.std.specs.Prelude.{◌≡◌};
-    ghost use Rattle.us_intake.specs.declared.faults.IntakeFault.TheVariants as fault;
-
-    ghost from_gives = { λ _ given. given ≡ fault.NoMemory };
-
-    fn from(_refused: NoMemory) -> IntakeFault {
         IntakeFault::NoMemory
     }
 }

@@ -1,13 +1,13 @@
 ghost use Rattle.std.specs.Prelude.{◌≡◌, ℕ, ◌+◌, ◌^◌, ◌<◌, ◌≤◌, ◌⊎◌, ◌↔◌, true, length, sum, slice_index, IfOk, IfErr, OnOk, OnErr, Err, vec_len};
 ghost use Rattle.us_intake.specs.Seats as spec;
-ghost use Rattle.us_intake.specs.Tallies.{empty_tally, added};
+ghost use Rattle.us_intake.specs.Tallies.{added};
 ghost use Rattle.us_intake.specs.declared.faults.IntakeFault.TheVariants as fault;
 
 use crate::accounts::{Bytes, Kept, Part, Terms};
 use crate::closing::{Closing, read_words};
 use crate::faults::IntakeFault;
 use crate::seats::Seat;
-use crate::tallies::{add_taken, add_to, empty_tallies};
+use crate::tallies::{add_up, join_taken};
 use atomic_table::Table;
 use std::alloc::Global;
 use std::marker::{Brand, Model};
@@ -55,14 +55,13 @@ impl Intake {
             return Err(IntakeFault::BadQuota);
         }
         let clusters = usize::from(clusters);
-        let (submitted, taken) = empty_tallies(alloc, clusters)?;
-        let (table, token) = Table::of_words(alloc, &submitted, &Terms { clusters, quota })?;
+        let taken = vec![in alloc; 0u64; clusters]?;
+        let (table, token) = Table::of_words(alloc, &taken, &Terms { clusters, quota })?;
         let seat = Seat {
             token,
             quota,
             spent: 0,
             takes: true,
-            submitted,
             taken,
         };
         Ok((Intake { table, quota }, seat))
@@ -94,9 +93,7 @@ impl Intake {
         if bytes > seat.quota - seat.spent {
             return Err(IntakeFault::QuotaSpent);
         }
-        let at = usize::from(cluster);
-        self.add(&mut seat.token, at, bytes);
-        seat.submitted[at] += bytes;
+        self.add(&mut seat.token, usize::from(cluster), bytes);
         seat.spent += bytes;
         Ok(())
     }
@@ -132,8 +129,8 @@ impl Intake {
         found
     }
 
-    /// Splits a seat that may submit `quota` bytes off another one. I2: there are no such bytes, they are all of the
-    /// seat's, or more than it has left; I3: want of memory. With either the seat comes back as it was.
+    /// Splits a seat that may submit `quota` bytes off another one. I2, with which the seat comes back as it was: there are
+    /// no such bytes, they are all of the seat's, or more than it has left. It needs no memory.
     pub fn split(
         &self,
         alloc: Global,
@@ -145,32 +142,21 @@ impl Intake {
             × (both.1 ≡ spec.new_seat seat.intake quota)) }
         ensures bad { (result ≡ Err (seat, fault.BadQuota)) ↔ spec.IsBadSplit seat quota }
         ensures same { IfErr result (λ given. given.0 ≡ seat) }
-        ensures faults { IfErr result (λ given. (given.1 ≡ fault.BadQuota) ⊎ (given.1 ≡ fault.NoMemory)) }
+        ensures faults { IfErr result (λ given. given.1 ≡ fault.BadQuota) }
     {
         if quota == 0 || quota >= seat.quota || quota > seat.quota - seat.spent {
             return Err((seat, IntakeFault::BadQuota));
         }
-        match empty_tallies(alloc, seat.taken.len()) {
-            Ok((submitted, taken)) => Ok(self.divide::<Brand>(seat, quota, submitted, taken)),
-            Err(_) => Err((seat, IntakeFault::NoMemory)),
-        }
+        Ok(self.divide::<Brand>(alloc, seat, quota))
     }
 
-    /// Splits a seat, for which there are lists.
-    fn divide<B: Bytes>(
-        &self,
-        mut seat: Seat,
-        quota: u64,
-        submitted: Vec<u64>,
-        taken: Vec<u64>,
-    ) -> (Seat, Seat)
+    /// Splits a seat that has so many bytes left, and more.
+    fn divide<B: Bytes>(&self, alloc: Global, mut seat: Seat, quota: u64) -> (Seat, Seat)
         requires own { seat.intake ≡ self.now }
         requires named { quota ≡ B.bytes }
         requires some { 1 ≤ quota }
         requires less { quota < seat.quota }
         requires within { spec.spent seat + quota ≤ seat.quota }
-        requires submitted { submitted.items ≡ empty_tally seat.intake.clusters }
-        requires taken { taken.items ≡ empty_tally seat.intake.clusters }
         ensures rest { result.0 ≡ spec.seat_after_split seat quota }
         ensures new { result.1 ≡ spec.new_seat seat.intake quota }
     {
@@ -181,8 +167,7 @@ impl Intake {
             quota,
             spent: 0,
             takes: false,
-            submitted,
-            taken,
+            taken: Vec::new(alloc),
         };
         (seat, new)
     }
@@ -197,15 +182,13 @@ impl Intake {
             quota,
             spent,
             takes,
-            submitted,
             taken,
         } = other;
         self.merge(&mut one.token, token);
         one.quota += quota;
         one.spent += spent;
         one.takes |= takes;
-        add_to(&mut one.submitted, &submitted);
-        add_taken(&mut one.taken, takes, &taken);
+        join_taken(&mut one.taken, takes, taken);
         one
     }
 
@@ -220,18 +203,19 @@ impl Intake {
         ensures faults { IfErr result (λ given. given ≡ fault.NoMemory) }
     {
         let mut left = vec![in alloc; 0u64; seat.taken.len()]?;
+        let mut submitted = vec![in alloc; 0u64; seat.taken.len()]?;
         let Seat {
             token,
             quota: _,
             spent: _,
             takes: _,
-            submitted,
             taken,
         } = seat;
         let Intake { table, quota: _ } = self;
         let table = table.close_with(token);
         read_words(&mut left, &table);
         table.free();
+        add_up(&mut submitted, &taken, &left);
         Ok(Closing {
             left,
             submitted,

@@ -13,7 +13,8 @@ pub struct Seat {
     pub(crate) quota: u64,
     pub(crate) spent: u64,
     pub(crate) takes: bool,
-    pub(crate) submitted: Vec<u64>,
+
+    // by cluster; a seat that doesn't take keeps no list
     pub(crate) taken: Vec<u64>,
 }
 
@@ -26,8 +27,7 @@ impl Model for Seat {
 
     ghost view = { λ s. seat_at s.token.table_id s.token.me.0 };
 
-    ghost invariant = { λ s. IsInside s.token.table_id s.token.me s.quota s.spent s.takes s.submitted.items
-        s.taken.items };
+    ghost invariant = { λ s. IsInside s.token.table_id s.token.me s.quota s.spent s.takes s.taken.items };
 }
 
 impl Seat {

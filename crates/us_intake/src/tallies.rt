@@ -1,45 +1,42 @@
-ghost use Rattle.std.specs.Prelude.{◌≡◌, ℕ, ◌+◌, ◌^◌, ◌<◌, false, sum, length, slice_index, IfOk, vec_len};
+ghost use Rattle.std.specs.Prelude.{◌≡◌, ◌+◌, ◌^◌, ◌<◌, ◌≤◌, true, false, sum, length, vec_len};
 ghost use Rattle.us_intake.specs.Tallies as spec;
 
-use std::alloc::Global;
-use us_slots::NoMemory;
-
-/// Two tallies of nothing.
-pub(crate) fn empty_tallies(
-    alloc: Global,
-    clusters: usize,
-) -> Result<(Vec<u64>, Vec<u64>), NoMemory>
-    ensures { IfOk result (λ both. (both.0.items ≡ spec.empty_tally clusters)
-        × (both.1.items ≡ spec.empty_tally clusters)) }
-{
-    let one = vec![in alloc; 0u64; clusters]?;
-    let other = vec![in alloc; 0u64; clusters]?;
-    Ok((one, other))
-}
-
-/// Adds one tally to another, cluster by cluster.
-pub(crate) fn add_to(tally: &mut Vec<u64>, other: &Vec<u64>)
-    requires row { vec_len tally.old ≡ vec_len other.now }
+/// Adds one tally to another that is no shorter, cluster by cluster.
+fn add_to(tally: &mut Vec<u64>, other: &Vec<u64>)
+    requires row { vec_len other.now ≤ vec_len tally.old }
     requires fits { sum tally.old.items + sum other.now.items < 2 ^ 64 }
     ensures { tally.new.items ≡ spec.added tally.old.items other.now.items }
 {
     add_each(tally, other);
 }
 
-/// Adds what one seat took to what another did. One that doesn't take took nothing, so that nothing is added then.
-pub(crate) fn add_taken(tally: &mut Vec<u64>, takes: bool, other: &Vec<u64>)
-    requires row { vec_len tally.old ≡ vec_len other.now }
-    requires fits { sum tally.old.items + sum other.now.items < 2 ^ 64 }
-    requires idle { takes ≡ false → (cluster : ℕ) → slice_index other.now.items cluster ≡ 0 }
-    ensures { tally.new.items ≡ spec.added tally.old.items other.now.items }
+/// Adds two tallies up to an empty one.
+pub(crate) fn add_up(tally: &mut Vec<u64>, one: &Vec<u64>, other: &Vec<u64>)
+    requires empty { tally.old.items ≡ spec.empty_tally (vec_len one.now) }
+    requires row { vec_len other.now ≡ vec_len one.now }
+    requires fits { sum one.now.items + sum other.now.items < 2 ^ 64 }
+    ensures { tally.new.items ≡ spec.added one.now.items other.now.items }
+{
+    add_to(tally, one);
+    add_to(tally, other);
+}
+
+/// Joins what another seat took to what one did. A seat that doesn't take took nothing, and has no list: since one seat of
+/// an intake takes, one of the two lists is empty, but nothing here knows that.
+pub(crate) fn join_taken(taken: &mut Vec<u64>, takes: bool, mut other: Vec<u64>)
+    requires row { takes ≡ true → vec_len taken.old ≤ vec_len other }
+    requires fits { sum other.items + sum taken.old.items < 2 ^ 64 }
+    ensures both { takes ≡ true → taken.new.items ≡ spec.added other.items taken.old.items }
+    ensures one { takes ≡ false → taken.new.items ≡ taken.old.items }
 {
     if takes {
-        add_to(tally, other);
+        add_to(&mut other, taken);
+        *taken = other;
     }
 }
 
 fn add_each(tally: &mut [u64], other: &[u64])
-    requires row { length tally.old ≡ length other.now }
+    requires row { length other.now ≤ length tally.old }
     requires fits { sum tally.old + sum other.now < 2 ^ 64 }
     ensures { tally.new ≡ spec.added tally.old other.now }
 {

@@ -1,5 +1,5 @@
 -- Items that are made of channels one after another: those that are made, and the channels that are left.
-use Rattle.std.proofs.Common.{◌≡◌, ℕ, zero, suc, ◌+◌, List, [], ◌∷◌, ◌++◌, length, drop, Some, slice_get, append_assoc, length-append, append-nil, refl, sym, ap, subst, ◌∙◌, Result, Ok, Err, arith}
+use Rattle.std.proofs.Common.{◌≡◌, ℕ, zero, suc, ◌+◌, List, [], ◌∷◌, ◌++◌, map, length, drop, Some, slice_get, append_assoc, length-append, append-nil, refl, sym, ap, subst, ◌∙◌, Result, Ok, Err, arith}
 use Rattle.std.specs.Prelude.{IfOk}
 use Rattle.us_crew.specs.Values.{values_from, values_of}
 use Rattle.us_crew.specs.Parts.{EachFrom}
@@ -60,6 +60,30 @@ module _ {I B Z : Type 0} (value : I → Z) (can : I → Type 0) (value_at : ℕ
   made-ready made rest whole so_far place i is =
       let number : 0 + place ≡ place = omega arith in
       subst (λ n. Suits whole n i) number (each-at (Suits whole) 0 made so_far.ready place i is)
+
+-- the first parts of pairs
+abbrev pub firsts_of : {Y Z : Type 0} → List (Y × Z) → List Y
+firsts_of {Y} {Z} pairs = map (λ (pair : Y × Z). pair.0) pairs
+
+-- those of pairs of values are values
+pub firsts : {T Y Z : Type 0} (value : T → Y) (other : T → Z) (n : ℕ) (items : List T) →
+    firsts_of (values_from (λ _ item. (value item, other item)) n items) ≡ values_from (λ _ item. value item) n items
+firsts value other n [] = refl
+firsts value other n (item ∷ items) = ap (λ l. value item ∷ l) (firsts value other (n + 1) items)
+
+-- one more of them
+pub next-first : {Y Z : Type 0} (so_far next : List Y) (y : Y) (z : Z) (left rest whole : List (Y × Z)) →
+    next ≡ so_far ++ y ∷ [] → left ≡ (y, z) ∷ rest → so_far ++ firsts_of left ≡ firsts_of whole →
+    next ++ firsts_of rest ≡ firsts_of whole
+next-first so_far next y z left rest whole next_is left_is is =
+    ap (λ l. l ++ firsts_of rest) next_is ∙ append_assoc so_far (y ∷ []) (firsts_of rest)
+    ∙ ap (λ l. so_far ++ firsts_of l) (sym left_is) ∙ is
+
+-- what is said of an answer, said otherwise
+pub said-else : {A E : Type 0} (result : Result A E) (P Q : A → Type 0) → ((a : A) → P a → Q a) → IfOk result P →
+    IfOk result Q
+said-else (Err given) P Q so holds = tt
+said-else (Ok a) P Q so holds = so a holds
 
 -- what was answered, passed on with another fault
 pub passed : {A E F : Type 0} (answered : Result A E) (result : Result A F) (P : A → Type 0) →

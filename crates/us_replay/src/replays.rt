@@ -1,16 +1,14 @@
-ghost use Rattle.std.specs.Prelude.{◌≡◌, ◌↔◌, ◌⊎◌, ℕ, ◌<◌, ◌≤◌, true, false, length, option_map, Err, IfOk, OnOk, IfErr, is_ok};
-ghost use Rattle.std.specs.List.{AllByRecursion};
+ghost use Rattle.std.specs.Prelude.{◌≡◌, ◌↔◌, ◌⊎◌, ◌<◌, ◌≤◌, true, false, length, option_map, Err, IfOk, OnOk, IfErr, is_ok};
 ghost use Rattle.us_flows.specs.Tables;
 ghost use Rattle.us_flows.specs.Clusters.{words_of};
 ghost use Rattle.us_flows.specs.Lawful.{AreTables};
 ghost use Rattle.us_slots.specs.Devices.{TookAtMost};
 ghost use Rattle.us_requests.specs.Readings.{max_bytes};
-ghost use Rattle.us_requests.specs.Traces.{asks_in};
 ghost use Rattle.us_round.specs.Rounds.{opening};
 ghost use Rattle.us_replay.specs.Collecting.{AreOpen};
 ghost use Rattle.us_replay.specs.Endings.{comes_before, blames_maps, blames_report};
 ghost use Rattle.us_replay.specs.Replays.{Growth, Replayed, WroteLawful};
-ghost use Rattle.us_replay.specs.Progress.{Along, CanMake, EndsAs, IsLawfulOutput, IsMade, IsTraceFor, RanTrace, grown, opening_progress, output_in};
+ghost use Rattle.us_replay.specs.Progress.{Along, CanMake, EndsAs, IsLawfulOutput, IsMade, IsTraceFor, grown, opening_progress};
 
 use crate::collecting::open_intake;
 use crate::doers::{Doers, beside_workers, open_crew, take_back};

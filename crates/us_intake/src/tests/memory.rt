@@ -4,8 +4,7 @@ use super::base::same;
 use crate::{Intake, IntakeFault, Seat};
 use std::alloc::Global;
 
-/// Submits 500 and 700 bytes by two seats, which are joined. Where memory for the second one is refused, the first one
-/// goes on and submits both.
+/// Submits 500 and 700 bytes by two seats, which are joined.
 fn submit_both(alloc: Global, intake: &Intake, seat: Seat) -> Seat
     requires { (seat.intake ≡ intake.now) × (intake.now.clusters ≡ 1) }
     ensures { result.intake ≡ intake.now }
@@ -16,11 +15,7 @@ fn submit_both(alloc: Global, intake: &Intake, seat: Seat) -> Seat
             let _ = intake.submit(&mut second, 0, 700);
             intake.join(first, second)
         }
-        Err((mut seat, _)) => {
-            let _ = intake.submit(&mut seat, 0, 500);
-            let _ = intake.submit(&mut seat, 0, 700);
-            seat
-        }
+        Err((seat, _)) => seat,
     }
 }
 
@@ -53,7 +48,7 @@ fn life(alloc: Global) -> Result<bool, IntakeFault> {
 }
 
 /// Run by `tools/refuse-memory` too, where each allocation is refused in turn. A refused one is answered as
-/// want of memory, but a refused split leaves the seat as it was.
+/// want of memory. A split takes no memory, nor does what stands between opening and closing.
 #[test]
 fn refused_memory(rt: HostRuntime) {
     match life(rt.alloc()) {

@@ -7,27 +7,18 @@ use crate::{Live, LiveFault};
 use std::alloc::Global;
 use std::thread::Threads;
 use us_crew::OpenGate;
-use us_intake::{Intake, IntakeFault, Seat};
+use us_intake::{Intake, Seat};
 use us_round::RoundOut;
 
-/// A seat that is split off submits 1,000 bytes and is joined. Where memory is wanting for it, the seat comes back, and
-/// submits them itself.
+/// A seat that is split off submits 1,000 bytes and is joined.
 fn submit(alloc: Global, live: &Live, intake: &Intake, seat: Seat) -> Option<Seat>
     requires feeds { Feeds live.now intake.now seat }
     requires some { 1 ≤ intake.now.clusters }
     ensures { IfSome result (λ whole. Feeds live.now intake.now whole) }
 {
-    match intake.split(alloc, seat, 4_000) {
-        Ok((first, mut second)) => {
-            intake.submit(&mut second, 0, 1_000).ok()?;
-            Some(intake.join(first, second))
-        }
-        Err((mut seat, IntakeFault::NoMemory)) => {
-            intake.submit(&mut seat, 0, 1_000).ok()?;
-            Some(seat)
-        }
-        Err(_) => None,
-    }
+    let (first, mut second) = intake.split(alloc, seat, 4_000).ok()?;
+    intake.submit(&mut second, 0, 1_000).ok()?;
+    Some(intake.join(first, second))
 }
 
 /// Where the elements of the rounds start. The first grants the 1,000 bytes.

@@ -39,7 +39,7 @@ pub(crate) fn split_all<'a>(
     let mut left = parts;
     while left > 0 {
         let (chunk, behind) = rest.split_at(rest.len() / left);
-        let (kept, new) = split_off(alloc, intake, seat, chunk)?;
+        let (kept, new) = split_off(alloc, intake, seat, chunk);
         chunks.push_reserved((new, chunk));
         seat = kept;
         rest = behind;
@@ -48,23 +48,18 @@ pub(crate) fn split_all<'a>(
     Ok((seat, chunks))
 }
 
-/// Splits a seat off for a chunk.
-fn split_off(
-    alloc: Global,
-    intake: &Intake,
-    seat: Seat,
-    chunk: &[Ask],
-) -> Result<(Seat, Seat), NoMemory>
+/// Splits a seat off for a chunk. It needs no memory.
+fn split_off(alloc: Global, intake: &Intake, seat: Seat, chunk: &[Ask]) -> (Seat, Seat)
     requires own { seat.intake ≡ intake.now }
     requires some { 1 ≤ length chunk.now }
     requires few { length chunk.now ≤ max_asks }
     requires room { spent seat + chunk_quota chunk.now < seat.quota }
-    ensures rest { IfOk result (λ both. both.0 ≡ seat_after_split seat (chunk_quota chunk.now)) }
-    ensures new { IfOk result (λ both. both.1 ≡ new_seat intake.now (chunk_quota chunk.now)) }
+    ensures rest { result.0 ≡ seat_after_split seat (chunk_quota chunk.now) }
+    ensures new { result.1 ≡ new_seat intake.now (chunk_quota chunk.now) }
 {
     match intake.split(alloc, seat, MAX_ASK * chunk.len() as u64) {
-        Ok(both) => Ok(both),
-        Err(_) => Err(NoMemory),
+        Ok(both) => both,
+        Err(_) => unreachable!(),
     }
 }
 

@@ -1,4 +1,4 @@
-ghost use Rattle.std.specs.Prelude.{◌≡◌, ◌≤◌, ⊤, min, IfOk, Ok};
+ghost use Rattle.std.specs.Prelude.{◌≡◌, min, IfOk, Ok};
 ghost use Rattle.us_flows.specs.Tables.{Tables};
 ghost use Rattle.us_crew.specs.declared.gates.Phase.TheVariants as phase;
 ghost use Rattle.us_crew.specs.Items.{AreAccepted};
@@ -8,7 +8,7 @@ ghost use Rattle.us_replay.specs.Collecting.{CanGather, seat_after_asks};
 
 use super::Doers;
 use super::alone::gather_alone;
-use super::placing::{Laden, Placing, laden};
+use super::placing::{Laden, Placing, laden, unladen};
 use crate::collecting::{Chunk, Submitting, join_all, split_all};
 use std::alloc::Global;
 use us_crew::{Crew, CrewFault, First, Gate, OneOf, Only, Phase, Post, Second, Task, map_kept};
@@ -18,6 +18,7 @@ use us_output::ChannelWithText;
 use us_requests::Ask;
 use us_round::{Building, Filling, Hands};
 use us_slots::NoMemory;
+use us_split::Claim;
 
 /// What a worker is given to do in each of the phases.
 type Doing<'a, G> = OneOf<
@@ -31,7 +32,7 @@ type Answered<R, E> = Result<Vec<R>, CrewFault<E>>;
 /// What a worker answers.
 type Done = OneOf<
     Answered<Seat, IntakeFault>,
-    OneOf<Answered<ChannelWithText, NoMemory>, Answered<ChannelWithText, NoMemory>>,
+    OneOf<Answered<ChannelWithText, NoMemory>, Answered<Laden, NoMemory>>,
 >;
 
 /// Where the workers stand.
@@ -45,6 +46,9 @@ pub(crate) struct Kept<'a, G: Gate> {
     crew: Crew<Doing<'a, G>, Done>,
     config: &'a Config,
     gate: &'a G,
+
+    // in which claims go to workers
+    lists: Vec<Vec<Claim>>,
 }
 
 /// Workers to be kept, so many with the calling thread, and their posts.
@@ -62,6 +66,7 @@ pub(crate) fn open_crew<'a, G: Gate>(
         crew,
         config,
         gate,
+        lists: Vec::new(alloc),
     };
     Ok((kept, posts))
 }
@@ -103,8 +108,8 @@ impl<'a, G: Gate> Hands for Kept<'a, G> {
         ensures value { IfOk result (λ all. all.items ≡ values_of (built_at work.now) channels.items) }
         ensures same { (t : Tables) → self.old.config.now ≡ t → self.new.config.now ≡ t }
     {
-        let items = laden(self.alloc, work, channels)?;
-        answers(map_kept(
+        let items = laden(self.alloc, work, channels, &mut self.lists)?;
+        let all = answers(map_kept(
             &mut self.crew,
             Second(Second(Only)),
             self.alloc,
@@ -112,7 +117,8 @@ impl<'a, G: Gate> Hands for Kept<'a, G> {
             Phase::Build,
             items,
             self.gate,
-        ))
+        ))?;
+        unladen(self.alloc, all, &mut self.lists)
     }
 }
 

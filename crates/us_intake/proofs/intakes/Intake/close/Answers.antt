@@ -1,28 +1,27 @@
-use Rattle.std.proofs.Common.{◌≡◌, ap, sym, ◌∙◌, arith}
-use Rattle.std.specs.Mem.Slots.{slots_items}
-use Rattle.us_intake.specs.Tallies.{added}
-use Rattle.us_intake.specs.Seats.{Intake, Seat}
-use Rattle.us_intake.proofs.SeatLemmas.{closing_balances}
+use Rattle.std.proofs.Common.{ap, sym, subst, ◌∙◌}
+use Rattle.us_intake.specs.Seats.{Intake, Seat, IsWhole}
+use Rattle.us_intake.proofs.SeatLemmas.{closed}
 use Rattle.us_intake.proofs.intakes.Intake.close.Goals as goal
 
-pub returns-clause-balanced : goal.returns-clause-balanced
-returns-clause-balanced c =
-    let key = c.self.inside.table.shared.key in
+pub add_up-requires-clause-fits : goal.add_up-requires-clause-fits
+add_up-requires-clause-fits c =
     let token = c.seat.inside.token in
-    let part = token.me.0 in
     let words = ap (λ (i : Intake). i.clusters) (ap (λ (s : Seat). s.intake) c.seat.view_is ∙ c.requires.own
     ∙ sym c.self.view_is) in
-    let whole : part.quota ≡ key.quota = omega (
-      arith,
-      c.requires.whole,
-      ap (λ (s : Seat). s.quota) c.seat.view_is,
-      ap (λ (i : Intake). i.quota) c.requires.own,
-      ap (λ (i : Intake). i.quota) c.self.view_is,
-      c.self.invariant.same_quota,
-    ) in
-    let balance = closing_balances key token.id part _ _ c.close_with-table.ensures.values.2 whole
-    (omega (arith, c.seat.invariant.known.submitted_row, words, c.self.invariant.same_clusters))
-    (omega (arith, c.seat.invariant.known.taken_row, words, c.self.invariant.same_clusters)) in
-    let words_left = slots_items c.close_with-table.result.words in
-    c.seat.invariant.same_submitted ∙ balance.0 ∙ ap (λ l. added l words_left) (sym c.seat.invariant.same_taken)
-    ∙ ap (λ l. added c.seat.inside.taken.items l) (sym c.read_words.ensures)
+    let quota = ap (λ (i : Intake). i.quota) (ap (λ (s : Seat). s.intake) c.seat.view_is ∙ c.requires.own
+    ∙ sym c.self.view_is) in
+    (closed c.self.inside.table.shared.key token.table_id token.id token.me _ _ _ _ _ _ _ c.seat.invariant
+    c.close_with-table.ensures.values.2 (subst (λ s. IsWhole s) (sym c.seat.view_is) c.requires.whole)
+    (quota ∙ sym c.self.invariant.same_quota) (words ∙ sym c.self.invariant.same_clusters) c.read_words.ensures).1
+
+pub returns-clause-submitted : goal.returns-clause-submitted
+returns-clause-submitted c =
+    let token = c.seat.inside.token in
+    let words = ap (λ (i : Intake). i.clusters) (ap (λ (s : Seat). s.intake) c.seat.view_is ∙ c.requires.own
+    ∙ sym c.self.view_is) in
+    let quota = ap (λ (i : Intake). i.quota) (ap (λ (s : Seat). s.intake) c.seat.view_is ∙ c.requires.own
+    ∙ sym c.self.view_is) in
+    let balance = closed c.self.inside.table.shared.key token.table_id token.id token.me _ _ _ _ _ _ _ c.seat.invariant
+    c.close_with-table.ensures.values.2 (subst (λ s. IsWhole s) (sym c.seat.view_is) c.requires.whole)
+    (quota ∙ sym c.self.invariant.same_quota) (words ∙ sym c.self.invariant.same_clusters) c.read_words.ensures in
+    c.add_up.ensures ∙ sym balance.0 ∙ ap (λ (s : Seat). s.submitted) c.seat.view_is

@@ -1,4 +1,4 @@
-use Rattle.std.proofs.Common.{length, ap, subst, arith}
+use Rattle.std.proofs.Common.{length, ap, subst, ◌∙◌, arith}
 use Rattle.us_intake.specs.Seats.{Intake, Seat, IsSeat}
 use Rattle.us_intake.proofs.CutLemmas.{cut_none, cut_more, cut_all, cut_least, cut_whole}
 use Rattle.us_intake.proofs.intakes.Intake.cut.Goals as goal
@@ -11,7 +11,8 @@ loop-at-init c =
         arith,
         c.len-at-end.ensures,
         c.seat.inside.taken.ok,
-        ap length c.seat.invariant.same_taken,
+        ap length (c.seat.invariant.same_taken (c.seat.invariant.same_takes
+        ∙ ap (λ (s : Seat). s.takes) c.seat.view_is ∙ c.requires.takes)),
         c.seat.invariant.known.taken_row,
         ap (λ (s : Seat). s.intake.clusters) c.seat.view_is,
         clusters,

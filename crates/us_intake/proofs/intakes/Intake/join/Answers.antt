@@ -11,8 +11,7 @@ invariant_of-one c =
     ∙ sym c.requires.own.0 ∙ sym (ap (λ (s : Seat). s.intake) c.one.view_is)) in
     inside_joined c.merge.new.token.table_id one.token.table_id other.token.table_id c.merge.new.token.me
     one.token.me other.token.me
-    one.quota one.spent other.quota other.spent one.takes other.takes one.submitted.items one.taken.items
-    other.submitted.items other.taken.items
-    c.add_to.new.tally.items c.add_taken.new.tally.items
+    one.quota one.spent other.quota other.spent one.takes other.takes one.taken.items other.taken.items
+    c.join_taken.new.taken.items
     c.one.invariant c.other.invariant c.merge.ensures.own words c.merge.ensures.part c.merge.ensures.known
-    c.add_to.ensures c.add_taken.ensures
+    c.join_taken.ensures.both c.join_taken.ensures.one
