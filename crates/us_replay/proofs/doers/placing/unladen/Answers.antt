@@ -1,4 +1,4 @@
-use Rattle.std.proofs.Common.{◌≡◌, [], ◌++◌, length, ap, ◌∙◌, rules, arith}
+use Rattle.std.proofs.Common.{◌++◌, length, ap, ◌∙◌, rules, arith}
 use Rattle.std.specs.Vec.Iter.{into_iter_items}
 use Rattle.us_replay.proofs.LadenLemmas.{firsts_of, next-first}
 use Rattle.us_replay.proofs.doers.placing.unladen.Goals as goal
