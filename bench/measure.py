@@ -11,6 +11,8 @@
   --runs N          runs of each measurement of `times` (5)
   --workers N,..    numbers of workers: `times` takes each (1), `workers` and `bytes` compare the first with the others
                     (1,2,4 and 1,2,4,16)
+  --folder FOLDER   where the files of a measurement lie for its time (where temporary files do). A disk that still writes
+                    what the run before wrote holds up the next one; a folder in memory, as /dev/shm, doesn't
   --program FILE    the program (crates/mapsim/out/mapsim)
 
 `instructions` counts with one worker. A round is the difference of a replay and of one of half its rounds, over the
@@ -67,6 +69,9 @@ class Replays:
     def timed(self, workers):
         """Seconds by the clock, and the most memory in KB, or None."""
         before = [GNU_TIME, "-q", "-f", "%M KB"] if os.access(GNU_TIME, os.X_OK) else []
+        # else the program would cut off what the run before wrote, and wait for the disk to be done with it
+        for path in self.outputs:
+            path.unlink(missing_ok=True)
         start = time.perf_counter()
         _printed, told = self.run(workers=workers, before=before)
         seconds = time.perf_counter() - start
@@ -191,12 +196,13 @@ def main():
     make_loads.add_arguments(words)
     words.add_argument("--runs", type=int, default=5, metavar="N")
     words.add_argument("--workers", type=numbers, metavar="N,..")
+    words.add_argument("--folder", metavar="FOLDER")
     words.add_argument("--program", default=TOP / "crates/mapsim/out/mapsim", metavar="FILE")
     given = words.parse_intermixed_args()
     names = make_loads.chosen(words, given)
     if given.runs < 1:
         words.error("--runs is 1 or more")
-    with tempfile.TemporaryDirectory(prefix="measure-") as folder:
+    with tempfile.TemporaryDirectory(prefix="measure-", dir=given.folder) as folder:
         replays_of = (Replays(given.program, pathlib.Path(folder), name, given.part) for name in names)
         try:
             return TABLES[given.table](replays_of, given)
