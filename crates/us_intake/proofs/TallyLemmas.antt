@@ -185,23 +185,20 @@ pub joined_taken : (takes its_takes : Bool) (taken its_taken all one other : Lis
     (its_takes ≡ true → its_taken ≡ other) → (its_takes ≡ false → (cluster : ℕ) → slice_index other cluster ≡ 0) →
     (its_takes ≡ true → all ≡ added its_taken taken) → (its_takes ≡ false → all ≡ taken) →
     (takes || its_takes ≡ true → all ≡ added one other) × (takes || its_takes ≡ false → all ≡ [])
-joined_taken true true taken its_taken all one other same keeps none idle its its_idle both alone =
-    (
-      λ e. both refl ∙ ap (λ l. added l taken) (its refl) ∙ ap (λ l. added other l) (keeps refl)
-          ∙ added-turned other one (sym same),
-      λ e. absurd (true≢false e),
-    )
-joined_taken true false taken its_taken all one other same keeps none idle its its_idle both alone =
-    (
-      λ e. alone refl ∙ keeps refl ∙ nothing-added one other same (its_idle refl),
-      λ e. absurd (true≢false e),
-    )
-joined_taken false true taken its_taken all one other same keeps none idle its its_idle both alone =
-    (
-      λ e. both refl ∙ ap (λ l. added l taken) (its refl) ∙ ap (λ l. added other l) (none refl) ∙ added-nil other
-          ∙ nothing-added other one (sym same) (idle refl) ∙ added-turned other one (sym same),
-      λ e. absurd (true≢false e),
-    )
+joined_taken true true taken its_taken all one other same keeps none idle its its_idle both alone = (
+  λ e. both refl ∙ ap (λ l. added l taken) (its refl) ∙ ap (λ l. added other l) (keeps refl)
+      ∙ added-turned other one (sym same),
+  λ e. absurd (true≢false e),
+)
+joined_taken true false taken its_taken all one other same keeps none idle its its_idle both alone = (
+  λ e. alone refl ∙ keeps refl ∙ nothing-added one other same (its_idle refl),
+  λ e. absurd (true≢false e),
+)
+joined_taken false true taken its_taken all one other same keeps none idle its its_idle both alone = (
+  λ e. both refl ∙ ap (λ l. added l taken) (its refl) ∙ ap (λ l. added other l) (none refl) ∙ added-nil other
+      ∙ nothing-added other one (sym same) (idle refl) ∙ added-turned other one (sym same),
+  λ e. absurd (true≢false e),
+)
 joined_taken false false taken its_taken all one other same keeps none idle its its_idle both alone =
     (λ e. absurd (false≢true e), λ e. alone refl ∙ none refl)
 

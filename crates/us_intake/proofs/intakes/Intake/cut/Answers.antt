@@ -12,7 +12,7 @@ loop-at-init c =
         c.len-at-end.ensures,
         c.seat.inside.taken.ok,
         ap length (c.seat.invariant.same_taken (c.seat.invariant.same_takes
-        ∙ ap (λ (s : Seat). s.takes) c.seat.view_is ∙ c.requires.takes)),
+            ∙ ap (λ (s : Seat). s.takes) c.seat.view_is ∙ c.requires.takes)),
         c.seat.invariant.known.taken_row,
         ap (λ (s : Seat). s.intake.clusters) c.seat.view_is,
         clusters,

@@ -6,8 +6,7 @@ use Rattle.us_replay.proofs.doers.placing.unladen.Goals as goal
 pub loop-channel-init : goal.loop-channel-init
 loop-channel-init c =
     let rest = c.into_iter-rest.ensures.rest in
-    let made = c.in_ok-channels.ensures.items in
-    (
+    let made = c.in_ok-channels.ensures.items in (
       search rules,
       ap (λ l. l ++ firsts_of (into_iter_items c.into_iter-rest.result)) made ∙ ap (λ l. firsts_of l) rest,
       search rules,
