@@ -16,9 +16,13 @@ fn submit(alloc: Global, live: &Live, intake: &Intake, seat: Seat) -> Option<Sea
     requires some { 1 ≤ intake.now.clusters }
     ensures { IfSome result (λ whole. Feeds live.now intake.now whole) }
 {
-    let (first, mut second) = intake.split(alloc, seat, 4_000).ok()?;
-    intake.submit(&mut second, 0, 1_000).ok()?;
-    Some(intake.join(first, second))
+    match intake.split(alloc, seat, 4_000) {
+        Ok((first, mut second)) => {
+            intake.submit(&mut second, 0, 1_000).ok()?;
+            Some(intake.join(first, second))
+        }
+        Err(_) => None,
+    }
 }
 
 /// Where the elements of the rounds start. The first grants the 1,000 bytes.
