@@ -1,6 +1,6 @@
 -- The lines of the MAPs of a maps file, record by record.
 use Rattle.std.proofs.Common.{◌≡◌, ◌≢◌, ℕ, ◌+◌, ◌<◌, ◌≤◌, List, [], ◌∷◌, ◌++◌, length, map, flat_map, take, drop, get_or}
-use Rattle.std.proofs.Common.{Option, Err, inl, inr, refl, ap, sym, subst, ◌∙◌, append-nil, arith}
+use Rattle.std.proofs.Common.{Option, None, Result, Ok, Err, OnOk, IfErr, inl, inr, refl, ap, sym, subst, ◌∙◌, append-nil, arith}
 use Rattle.std.proofs.lemmas.Grind.{flat_map-append, take_at_read}
 use Rattle.std.proofs.lemmas.List.{length-map, map-append, drop_all, take-append-drop, drop_more, length-take-le}
 use Rattle.std.specs.List.{AllByRecursion}
@@ -17,7 +17,7 @@ use Rattle.us_lawful.specs.declared.judged.RoundMap.{RoundMap}
 use Rattle.us_lawful.specs.Lawful.{IsRoundMap}
 use Rattle.us_lawful.specs.Texts.{record_of}
 use Rattle.mapsim.specs.MapLines.{lines_of}
-use Rattle.mapsim.specs.Dumps.{map_text, IsDump, BeginsDump, IsDumpBefore, EndsRecord, EndsDump}
+use Rattle.mapsim.specs.Dumps.{map_text, IsDump, BeginsDump, IsDumpBefore, EndsRecord, EndsDump, PrintsDump, StopsDump}
 use Rattle.mapsim.specs.declared.faults.Stream.TheVariants as stream
 use Rattle.mapsim.specs.declared.faults.Fault.{Fault}
 use Rattle.mapsim.specs.declared.faults.Fault.TheVariants as fault
@@ -193,16 +193,16 @@ ended file records index default before between after (fault.Map f at) below is 
 )
 ended file records index default before between after (fault.Device stream.Output) below is printed (body, spells, took) =
     failed file records index default body before between after below is printed spells took
-ended file records index default before between after (fault.Device stream.Config) below is printed ends = tt
-ended file records index default before between after (fault.Device stream.Trace) below is printed ends = tt
-ended file records index default before between after (fault.Device stream.Maps) below is printed ends = tt
-ended file records index default before between after (fault.Device stream.Report) below is printed ends = tt
-ended file records index default before between after (fault.Device stream.Input) below is printed ends = tt
-ended file records index default before between after (fault.Usage text) below is printed ends = tt
-ended file records index default before between after fault.Pipe below is printed ends = tt
-ended file records index default before between after (fault.Config f) below is printed ends = tt
-ended file records index default before between after (fault.Run f) below is printed ends = tt
-ended file records index default before between after (fault.Check f) below is printed ends = tt
+ended file records index default before between after (fault.Device stream.Config) below is printed ends = ends
+ended file records index default before between after (fault.Device stream.Trace) below is printed ends = ends
+ended file records index default before between after (fault.Device stream.Maps) below is printed ends = ends
+ended file records index default before between after (fault.Device stream.Report) below is printed ends = ends
+ended file records index default before between after (fault.Device stream.Input) below is printed ends = ends
+ended file records index default before between after (fault.Usage text) below is printed ends = ends
+ended file records index default before between after fault.Pipe below is printed ends = ends
+ended file records index default before between after (fault.Config f) below is printed ends = ends
+ended file records index default before between after (fault.Run f) below is printed ends = ends
+ended file records index default before between after (fault.Check f) below is printed ends = ends
 ended file records index default before between after fault.NoMemory below is printed ends = tt
 
 -- and where the file ends inside a record
@@ -210,3 +210,16 @@ pub cut : (file : List ℕ) (before : Option (List ℕ)) (f : MapFault) → f �
     (f ≢ map_fault.NoMemory → f ≡ map_fault.RecordCut) → (f ≢ map_fault.NoMemory → EndsInside file) →
     EndsDump file before before (fault.Map f 0)
 cut file before f known is inside = (known, inl (is known, inside known, refl))
+
+-- what was printed of bytes that a device told was printed of some
+pub dumped : {T E : Type 0} (told before after : Option (List ℕ)) (result : Result T E) →
+    OnOk result (PrintsDump told before after) → OnOk result (PrintsDump None before after)
+dumped told before after (Err e) printed = tt
+dumped told before after (Ok x) (file, dump, is_told, is, took) = (file, dump, tt, is, took)
+
+-- and so where a fault ended it
+pub stopped : {T : Type 0} (told before after : Option (List ℕ)) (result : Result T Fault) →
+    IfErr result (StopsDump told before after) → IfErr result (StopsDump None before after)
+stopped told before after (Ok x) ends = tt
+stopped told before after (Err f) (inl unread) = inl unread
+stopped told before after (Err f) (inr (file, is_told, ends)) = inr (file, tt, ends)

@@ -1,5 +1,6 @@
 pub mod DumpLemmas
 pub mod MarkLemmas
+pub mod OneLineLemmas
 pub mod OrderLemmas
 pub mod PrintoutLemmas
 pub mod SummaryLemmas

@@ -20,8 +20,8 @@ does_kept (order.Replay files) told before between after ends (done, line, is, t
     (done, line, is, appends_keep before between after line took kept)
 does_kept (order.Check files) told before between after ends (line, is, took) kept =
     (line, is, appends_keep before between after line took kept)
-does_kept (order.Dump path) told before between after ends (done, file, dump, is, took) kept =
-    (done, file, dump, is, appends_keep before between after dump took kept)
+does_kept (order.Dump path) told before between after ends (done, file, dump, is_told, is, took) kept =
+    (done, file, dump, is_told, is, appends_keep before between after dump took kept)
 does_kept (order.Pipe rounds workers) told before between after ends (done, printed) kept =
     (done, prints_kept rounds told before between after printed kept)
 does_kept (order.Help text) told before between after ends (done, took) kept =

@@ -1,5 +1,5 @@
 -- MAPs as text (ours): what is printed of a maps file, and where that ends early.
-use Rattle.std.specs.Prelude.{◌≡◌, ◌≢◌, ◌⊎◌, ℕ, List, ◌∷◌, ◌++◌, length, map, flat_map, Option, Err, ⊤}
+use Rattle.std.specs.Prelude.{◌≡◌, ◌≢◌, ◌⊎◌, ℕ, List, ◌∷◌, ◌++◌, length, map, flat_map, Option, IfSome, Err, ⊤, ⊥}
 use Rattle.std.specs.List.{AllByRecursion}
 use Rattle.std.specs.Io.KnownBytes.{Appends}
 use Rattle.us_slots.specs.Devices.{AppendsFront}
@@ -53,7 +53,8 @@ pub record IsDumpBefore (file : List ℕ) (index : ℕ) (f : MapFault) (text : L
   pub answer : decode_answer bad.body ≡ Err f
   pub lines : text ≡ flat_map map_text maps
 
--- What was printed where a fault ended it. Of want of memory this says nothing, and no fault of a MAP is one.
+-- What was printed where a fault ended it. Of want of memory this says nothing, and no fault of a MAP is one. No other
+-- fault ends it.
 
 -- of one record: nothing where its body has a fault, and fewer than all of its lines where standard output failed
 abbrev pub EndsRecord : Piece → ℕ → Option (List ℕ) → Option (List ℕ) → Fault → Type 0
@@ -61,7 +62,8 @@ EndsRecord p index before after (fault.Map f at) =
     (at ≡ index) × (f ≢ map_fault.NoMemory) × (decode_answer p.body ≡ Err f) × (after ≡ before)
 EndsRecord p index before after (fault.Device stream.Output) =
     (body : MapBody) × SpellsMap p.body body × AppendsFront before after (lines_of p.round body.head.channel body.elements)
-EndsRecord p index before after _ = ⊤
+EndsRecord p index before after fault.NoMemory = ⊤
+EndsRecord p index before after _ = ⊥
 
 -- of a file: nothing where it ends inside a record, and else the lines of the MAPs before the body with that fault; where
 -- standard output failed, fewer than all of the lines of the MAPs up to some
@@ -71,4 +73,18 @@ EndsDump file before after (fault.Map f index) = (f ≢ map_fault.NoMemory) × (
     ⊎ ((text : List ℕ) × IsDumpBefore file index f text × Appends before after text))
 EndsDump file before after (fault.Device stream.Output) =
     (text : List ℕ) × BeginsDump file text × AppendsFront before after text
-EndsDump file before after _ = ⊤
+EndsDump file before after fault.NoMemory = ⊤
+EndsDump file before after _ = ⊥
+
+-- What is printed of a device's bytes, where it told them.
+
+-- the lines of the MAPs that they are made of
+abbrev pub PrintsDump : Option (List ℕ) → Option (List ℕ) → Option (List ℕ) → Type 0
+PrintsDump told before after =
+    (file dump : List ℕ) × IfSome told (λ bytes. file ≡ bytes) × IsDump file dump × Appends before after dump
+
+-- where a fault ended it: nothing where they couldn't be read, and else what stands above
+abbrev pub StopsDump : Option (List ℕ) → Option (List ℕ) → Option (List ℕ) → Fault → Type 0
+StopsDump told before after f =
+    (((f ≡ fault.Device stream.Maps) ⊎ (f ≡ fault.NoMemory)) × (after ≡ before))
+    ⊎ ((file : List ℕ) × IfSome told (λ bytes. file ≡ bytes) × EndsDump file before after f)

@@ -16,6 +16,8 @@ pub mod MapLines
 pub mod Dumps
 -- what is printed of standard input, and why it is refused
 pub mod Printouts
+-- what is printed of one line where a fault comes
+pub mod OneLine
 -- the line of a replay
 pub mod SummaryLines
 -- the line of a check

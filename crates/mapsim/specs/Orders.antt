@@ -1,5 +1,5 @@
 -- What an order does: what is printed, and the status that it gives.
-use Rattle.std.specs.Prelude.{◌≡◌, ℕ, ◌⊎◌, List, string_bytes, Option}
+use Rattle.std.specs.Prelude.{◌≡◌, ℕ, ◌⊎◌, List, string_bytes, Option, None}
 use Rattle.std.specs.Io.KnownBytes.{Appends}
 use Rattle.us_slots.specs.Devices.{AppendsFront}
 use Rattle.mapsim.specs.declared.faults.Stream.TheVariants as stream
@@ -10,7 +10,8 @@ use Rattle.mapsim.specs.declared.orders.Order.TheVariants as order
 use Rattle.mapsim.specs.declared.statuses.Status.{Status}
 use Rattle.mapsim.specs.declared.statuses.Status.TheVariants as status
 use Rattle.mapsim.specs.Inputs.{IsReplayFault, IsCheckFault}
-use Rattle.mapsim.specs.Dumps.{IsDump, EndsDump}
+use Rattle.mapsim.specs.Dumps.{PrintsDump, StopsDump}
+use Rattle.mapsim.specs.OneLine.{StopsLine}
 use Rattle.mapsim.specs.Printouts.{Prints, Stops}
 use Rattle.mapsim.specs.Statuses.{status_of}
 use Rattle.mapsim.specs.SummaryLines.{IsSummaryOf}
@@ -26,7 +27,7 @@ Does (order.Replay files) told before after ends =
     (ends ≡ status.Done) × (line : List ℕ) × IsSummaryOf files.rounds line × Appends before after line
 Does (order.Check files) told before after ends = PrintsVerdict files.rounds ends before after
 Does (order.Dump path) told before after ends =
-    (ends ≡ status.Done) × (file dump : List ℕ) × IsDump file dump × Appends before after dump
+    (ends ≡ status.Done) × PrintsDump None before after
 Does (order.Pipe rounds workers) told before after ends =
     (ends ≡ status.Done) × Prints rounds told before after
 Does (order.Help text) told before after ends =
@@ -34,9 +35,11 @@ Does (order.Help text) told before after ends =
 
 -- a fault may end an order early, and what the output took then
 abbrev pub EndsEarly : Order → Option (List ℕ) → Option (List ℕ) → Option (List ℕ) → Fault → Type 0
-EndsEarly (order.Replay files) told before after f = IsReplayFault files.workers f
-EndsEarly (order.Check files) told before after f = IsCheckFault f
-EndsEarly (order.Dump path) told before after f = (file : List ℕ) × EndsDump file before after f
+EndsEarly (order.Replay files) told before after f =
+    IsReplayFault files.workers f × StopsLine (IsSummaryOf files.rounds) before after f
+EndsEarly (order.Check files) told before after f =
+    IsCheckFault f × StopsLine (λ line. (ends : Status) × IsVerdictOf files.rounds ends line) before after f
+EndsEarly (order.Dump path) told before after f = StopsDump None before after f
 EndsEarly (order.Pipe rounds workers) told before after f = Stops rounds workers told before after f
 EndsEarly (order.Help text) told before after f =
     (f ≡ fault.Device stream.Output) × AppendsFront before after (string_bytes text)

@@ -6,7 +6,9 @@ ghost use Rattle.us_lawful.specs.Runs.{run_in};
 ghost use Rattle.us_check.specs.Verdicts.{verdict_text};
 ghost use Rattle.us_replay.specs.declared.faults.RunFault.TheVariants as run;
 ghost use Rattle.mapsim.specs.Inputs.{IsCheckFault, IsConfigFault, IsJudgeFault, IsLineFault};
+ghost use Rattle.mapsim.specs.OneLine.{StopsLine};
 ghost use Rattle.mapsim.specs.Statuses as statuses;
+ghost use Rattle.mapsim.specs.declared.statuses.Status.{Status};
 ghost use Rattle.mapsim.specs.VerdictLines.{IsJudged, IsVerdict, IsVerdictOf};
 ghost use Rattle.mapsim.specs.declared.faults.Fault.TheVariants as fault;
 ghost use Rattle.mapsim.specs.declared.faults.Stream.TheVariants as stream;
@@ -36,6 +38,8 @@ pub fn check_files<R: Files, O: Sink>(
     ensures printed { IfOk result (λ status. (line : List ℕ) × IsVerdictOf order.now.rounds status line ×
         Appends (O.contents output.old) (O.contents output.new) line) }
     ensures fault { IfErr result IsCheckFault }
+    ensures stopped { IfErr result (StopsLine (λ line. (ends : Status) × IsVerdictOf order.now.rounds ends line)
+        (O.contents output.old) (O.contents output.new)) }
     ensures output { (O.failed output.new ≡ true) ↔ (result ≡ Err (fault.Device stream.Output)) }
 {
     let mut config = open_at(rt, order.config, Stream::Config)?;
@@ -144,6 +148,8 @@ fn print_verdict<O: Sink>(alloc: Global, verdict: Verdict, output: &mut O) -> Re
         (Appends (O.contents output.old) (O.contents output.new) (verdict_text verdict ++ 10 ∷ [])) }
     ensures output { (O.failed output.new ≡ true) ↔ (result ≡ Err (fault.Device stream.Output)) }
     ensures fault { IfErr result IsLineFault }
+    ensures stopped { IfErr result (StopsLine (λ line. line ≡ verdict_text verdict ++ 10 ∷ [])
+        (O.contents output.old) (O.contents output.new)) }
 {
     let line = format!(in alloc; "{verdict}\n")?;
     print(output, line.as_str().as_bytes())

@@ -1,15 +1,15 @@
-ghost use Rattle.std.specs.Prelude.{◌≡◌, ◌≢◌, ◌↔◌, ℕ, List, true, false, Err, IfErr, OnOk};
-ghost use Rattle.std.specs.Io.KnownBytes.{Appends};
-ghost use Rattle.mapsim.specs.Dumps.{IsDump, EndsDump};
+ghost use Rattle.std.specs.Prelude.{◌≡◌, ◌≢◌, ◌↔◌, true, false, None, Err, IfErr, OnOk};
+ghost use Rattle.mapsim.specs.Dumps.{PrintsDump, StopsDump};
 ghost use Rattle.mapsim.specs.declared.faults.Fault.TheVariants as fault;
 ghost use Rattle.mapsim.specs.declared.faults.Stream.TheVariants as stream;
 
 use crate::dumps::print_maps;
 use crate::faults::{Fault, Stream};
-use crate::files::read_file;
+use crate::files::bytes_from;
+use crate::opening::{FileAt, open_at};
 use std::alloc::Global;
 use std::rt::Files;
-use us_slots::Sink;
+use us_slots::{Sink, Source};
 
 /// Prints the lines of each MAP of the maps file at a path.
 pub fn dump_file<R: Files, O: Sink>(
@@ -19,13 +19,32 @@ pub fn dump_file<R: Files, O: Sink>(
     output: &mut O,
 ) -> Result<(), Fault>
     requires { O.failed output.old ≡ false }
-    ensures printed { OnOk result ((file dump : List ℕ) × IsDump file dump ×
-        Appends (O.contents output.old) (O.contents output.new) dump) }
-    ensures ended { IfErr result (λ f. (file : List ℕ) ×
-        EndsDump file (O.contents output.old) (O.contents output.new) f) }
+    ensures printed { OnOk result (PrintsDump None (O.contents output.old) (O.contents output.new)) }
+    ensures ended { IfErr result (StopsDump None (O.contents output.old) (O.contents output.new)) }
     ensures input { IfErr result (λ f. f ≢ fault.Device stream.Input) }
     ensures output { (O.failed output.new ≡ true) ↔ (result ≡ Err (fault.Device stream.Output)) }
 {
-    let file = read_file(rt, alloc, path, Stream::Maps)?;
+    let mut maps = open_at(rt, path, Stream::Maps)?;
+    dump_at(alloc, path, &mut maps, output)
+}
+
+/// Prints the lines of each MAP of the maps file that was opened at a path.
+fn dump_at<S: Source, O: Sink>(
+    alloc: Global,
+    path: &str,
+    maps: &mut FileAt<'_, S>,
+    output: &mut O,
+) -> Result<(), Fault>
+    requires at { maps.old.path.now ≡ path.now }
+    requires maps_ready { S.failed maps.old.device ≡ false }
+    requires output_ready { O.failed output.old ≡ false }
+    ensures printed { OnOk result
+        (PrintsDump (S.remaining maps.old.device) (O.contents output.old) (O.contents output.new)) }
+    ensures ended { IfErr result
+        (StopsDump (S.remaining maps.old.device) (O.contents output.old) (O.contents output.new)) }
+    ensures input { IfErr result (λ f. f ≢ fault.Device stream.Input) }
+    ensures output { (O.failed output.new ≡ true) ↔ (result ≡ Err (fault.Device stream.Output)) }
+{
+    let file = bytes_from(alloc, &mut maps.device, Stream::Maps)?;
     print_maps(alloc, &file, output)
 }

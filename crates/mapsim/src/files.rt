@@ -6,9 +6,7 @@ ghost use Rattle.mapsim.specs.declared.faults.Fault.TheVariants as fault;
 ghost use Rattle.mapsim.specs.declared.faults.Stream.TheVariants as stream;
 
 use crate::faults::{Fault, Stream};
-use crate::opening::open_at;
 use std::alloc::Global;
-use std::rt::Files;
 use us_flows::{Config, ConfigFault, MAX_CONFIG_BYTES};
 use us_slots::{ReadFault, Source, read_all};
 
@@ -20,19 +18,6 @@ pub fn read_config<S: Source>(alloc: Global, source: &mut S) -> Result<Config, F
 {
     let text = text_from(alloc, source)?;
     Ok(Config::read(alloc, &text)?)
-}
-
-/// All bytes of a file, which is the program's file of this kind.
-pub fn read_file<R: Files>(
-    rt: &R,
-    alloc: Global,
-    path: &str,
-    stream: Stream,
-) -> Result<Vec<u8>, Fault>
-    ensures { IfErr result (λ f. (f ≡ fault.Device stream) ⊎ (f ≡ fault.NoMemory)) }
-{
-    let mut file = open_at(rt, path, stream)?;
-    bytes_from(alloc, &mut file.device, stream)
 }
 
 /// The text of a configuration, from the device that has it.

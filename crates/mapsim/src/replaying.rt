@@ -5,6 +5,7 @@ ghost use Rattle.us_flows.specs.Tables.{rounds_fit};
 ghost use Rattle.us_replay.specs.declared.faults.RunFault.TheVariants as run;
 ghost use Rattle.us_replay.specs.Replays.{Growth, Replayed};
 ghost use Rattle.mapsim.specs.Inputs.{IsConfigFault, IsLineFault, IsReplayFault};
+ghost use Rattle.mapsim.specs.OneLine.{StopsLine};
 ghost use Rattle.mapsim.specs.SummaryLines.{IsSummaryOf, summary_line};
 ghost use Rattle.mapsim.specs.declared.faults.Fault.TheVariants as fault;
 ghost use Rattle.mapsim.specs.declared.faults.Stream.TheVariants as stream;
@@ -35,6 +36,8 @@ pub fn replay_files<R: Files + Threads + Sync, O: Sink>(
         Appends (O.contents output.old) (O.contents output.new) line) }
     ensures workers { OnOk result ((1 ≤ order.now.workers) × (order.now.workers ≤ 64)) }
     ensures fault { IfErr result (IsReplayFault order.now.workers) }
+    ensures stopped { IfErr result
+        (StopsLine (IsSummaryOf order.now.rounds) (O.contents output.old) (O.contents output.new)) }
     ensures output { (O.failed output.new ≡ true) ↔ (result ≡ Err (fault.Device stream.Output)) }
 {
     let mut config = open_at(rt, order.config, Stream::Config)?;
@@ -122,6 +125,8 @@ fn print_summary<O: Sink>(alloc: Global, summary: Summary, output: &mut O) -> Re
         (Appends (O.contents output.old) (O.contents output.new) (summary_line summary ++ 10 ∷ [])) }
     ensures output { (O.failed output.new ≡ true) ↔ (result ≡ Err (fault.Device stream.Output)) }
     ensures fault { IfErr result IsLineFault }
+    ensures stopped { IfErr result (StopsLine (λ line. line ≡ summary_line summary ++ 10 ∷ [])
+        (O.contents output.old) (O.contents output.new)) }
 {
     let line = format!(in alloc; "{}\n", SummaryLine(summary))?;
     print(output, line.as_str().as_bytes())

@@ -1,4 +1,4 @@
-ghost use Rattle.std.specs.Prelude.{◌≡◌, ◌≤◌, ◌↔◌, false, IfOk, IsOk, IsTrue};
+ghost use Rattle.std.specs.Prelude.{◌≤◌, ◌↔◌, IfOk, IsOk, IsTrue};
 ghost use Rattle.us_bucket.specs.Levels.{Has};
 ghost use Rattle.us_bucket.specs.Allowances.{Limit, AreLawful, IsLimitedTo};
 

@@ -1,5 +1,5 @@
 -- The calendar of a channel, from round to round.
-use Rattle.std.specs.Prelude.{ℕ, ◌+◌, ◌*◌, ◌<◌, ◌≤◌, ◌^◌, ◌==◌, ◌&&◌, Bool, ⊤, List, [], ◌∷◌, ◌++◌, length, map, sum_by, Option, Some, None, is_some, option_map}
+use Rattle.std.specs.Prelude.{ℕ, ◌+◌, ◌*◌, ◌<◌, ◌≤◌, ◌^◌, ◌==◌, ◌&&◌, Bool, ⊤, List, [], ◌∷◌, ◌++◌, length, map, sum_by, Option, is_some, option_map}
 use Rattle.std.specs.List.{find}
 use Rattle.us_slots.specs.Times.{minislot_ticks}
 use Rattle.us_flows.specs.declared.channels.Channel.{Channel}
@@ -95,11 +95,6 @@ pub record IsCalendar (calendar : Calendar) : Type 0 where
   pub len : 1 ≤ calendar.pace.len
   pub ticks : calendar.pace.len * minislot_ticks calendar.pace.time ≤ 4096
   pub settled : settled_in calendar ≤ max_settled
-
--- what is settled at a place of the MAP, or nowhere
-abbrev pub granted_start : Settled → Option ℕ
-granted_start (told.Granted kind id i k start slots owner) = Some start
-granted_start (told.Missed kind id i k) = None
 
 -- it is missed, or starts inside a MAP of this length
 abbrev pub StartsInside : ℕ → Settled → Type 0

@@ -15,12 +15,6 @@ pub mod Settling
 pub mod Calendars
 -- what becomes of an occurrence over a run
 pub mod Runs
--- what is noted of entries that are due later
-pub mod Agendas
--- sets of places, as bits
-pub mod PlaceSets
--- how a calendar is kept
-pub mod Kept
 -- laws of settling
 pub mod Laws
 -- the definitions at small inputs: entries,
@@ -29,3 +23,9 @@ pub mod EntryExamples
 pub mod Examples
 -- and what where a flow falls silent
 pub mod ActivityExamples
+-- inside the crate: what is noted of entries that are due later,
+pub mod Agendas
+-- sets of places, as bits,
+pub mod PlaceSets
+-- and how a calendar is kept
+pub mod Kept

@@ -3,7 +3,7 @@ ghost use Rattle.std.specs.List.{AllByRecursion};
 ghost use Rattle.std.specs.Option.{ForSome, option_to_list};
 ghost use Rattle.us_slots.specs.UsageCodes as codes;
 ghost use Rattle.us_flows.specs.Ranges.{max_flows};
-ghost use Rattle.us_flows.specs.Tables.{Tables, FlowTable};
+ghost use Rattle.us_flows.specs.Tables.{Tables};
 ghost use Rattle.us_flows.specs.Lawful.{IsFlow, IsStation, IsChannel, IsSchedule};
 ghost use Rattle.us_calendar.specs.Entries as spec;
 

@@ -37,13 +37,6 @@ impl Rising {
         }
     }
 
-    /// How many there are.
-    pub(crate) fn len(&self) -> usize
-        ensures { result ≡ length self.now }
-    {
-        self.numbers.len()
-    }
-
     /// The one at an index.
     pub(crate) fn get(&self, at: usize) -> u64
         requires { at < length self.now }

@@ -1,8 +1,6 @@
 -- One channel in a round (ours): its reserves, what its calendar settles, and the claims that are placed on it.
-use Rattle.std.specs.Prelude.{◌≡◌, ℕ, ◌*◌, ◌≤◌, List, [], length}
-use Rattle.us_slots.specs.Times.{minislot_ticks}
+use Rattle.std.specs.Prelude.{◌≡◌, ℕ, List, [], length}
 use Rattle.us_flows.specs.declared.channels.Channel.{Channel}
-use Rattle.us_flows.specs.Ranges.{max_round_ticks}
 use Rattle.us_flows.specs.Tables.{Tables, map_len}
 use Rattle.us_holes.specs.Boards.{Board, empty_board, assign_all}
 use Rattle.us_calendar.specs.Calendars as calendars
@@ -73,10 +71,6 @@ build_on claims f =
       settled = f.settled;
       grants = grants;
     }
-
--- the MAP of a channel has at most so many ticks as any has
-abbrev pub HasFewTicks : Filled → Type 0
-HasFewTicks f = length f.board.cells * minislot_ticks f.channel.bursts.time ≤ max_round_ticks
 
 -- what every channel keeps: its board has the length of its MAPs, and the calendar its time
 pub record IsBuilt (b : Built) : Type 0 where

@@ -1,4 +1,4 @@
-ghost use Rattle.std.specs.Prelude.{◌≡◌, ◌+◌, ◌*◌, ◌<◌, ◌≤◌, ◌++◌, length, take, drop};
+ghost use Rattle.std.specs.Prelude.{◌≡◌, ◌+◌, ◌*◌, ◌≤◌, ◌++◌, length, take, drop};
 ghost use Rattle.std.specs.Int.{to_be_bytes, w32};
 ghost use Rattle.us_codec.specs.Elements.{word_of};
 ghost use Rattle.us_codec.specs.Bodies.{MapBody, IsMapBody, front, spelling, max_body_bytes};

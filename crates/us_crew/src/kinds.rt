@@ -1,5 +1,3 @@
-ghost use Rattle.std.specs.Prelude.{◌≡◌};
-
 use crate::{Holds, Job};
 use std::snapshot::Snapshot;
 

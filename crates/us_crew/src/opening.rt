@@ -1,4 +1,4 @@
-ghost use Rattle.std.specs.Prelude.{◌≡◌, ◌<◌, ⊤};
+ghost use Rattle.std.specs.Prelude.{◌<◌};
 ghost use denote.Param.Send.{IsSync, IsSend};
 
 use crate::{Job, Post};

@@ -1,4 +1,4 @@
-ghost use Rattle.std.specs.Prelude.{◌≡◌, ◌<◌, [], ◌∷◌, Some, map, IfOk};
+ghost use Rattle.std.specs.Prelude.{◌≡◌, ◌<◌, [], IfOk};
 ghost use Rattle.rtrb.specs.Ring.{sent, received, known_free};
 ghost use Rattle.us_crew.specs.Orders.{AskFor, IsTrueAnswer};
 

@@ -1,4 +1,4 @@
-ghost use Rattle.std.specs.Prelude.{◌≡◌, ◌<◌, ◌≤◌, ◌∷◌, List, [], IfSome, IfNone, drop, length};
+ghost use Rattle.std.specs.Prelude.{◌≡◌, ◌<◌, ◌≤◌, ◌∷◌, List, [], IfSome, IfNone, drop};
 ghost use Rattle.us_holes.specs.Boards as boards;
 ghost use Rattle.us_holes.specs.Lists as lists;
 ghost use Rattle.us_holes.specs.Runs as spec;

@@ -1,7 +1,6 @@
 ghost use Rattle.std.specs.Prelude.{◌≡◌, ◌+◌, ◌*◌, ◌≤◌, [], ◌∷◌, ◌++◌, length, drop, flat_map, IfSome};
 ghost use Rattle.std.specs.List.{AllByRecursion};
 ghost use Rattle.us_output.specs.Lines.{Fit, numbers, word_text};
-ghost use Rattle.us_output.specs.Outputs as outputs;
 ghost use Rattle.us_output.specs.Orders.{grant_line, granted_line, line_at};
 ghost use Rattle.us_output.specs.Pages as spec;
 

@@ -7,7 +7,7 @@ use us_holes::Run;
 /// What is kept from round to round for the texts of rounds: lists, and the bytes in which a record or lines are put
 /// together. What stands in it never matters.
 pub struct Scratch {
-    // the runs of a board, and the SIDs that are pending on its channel
+    // the runs of a board, where its MAP is wanted as a value, and the SIDs that are pending on its channel
     pub(crate) runs: Vec<Run>,
     pub(crate) sids: Vec<u16>,
 

@@ -24,9 +24,6 @@ sum_more xs i x lt =
 some_left : (left : ℕ) → (suc left == 0) ≡ false
 some_left left = ne_eqb (suc left) 0 (λ none. omega (arith, none))
 
-topped-none : (p : ℕ × ℕ) (ps : List (ℕ × ℕ)) → topped_up 0 (p ∷ ps) ≡ p.0 ∷ topped_up 0 ps
-topped-none p ps = refl
-
 topped-full : (left : ℕ) (p : ℕ × ℕ) (ps : List (ℕ × ℕ)) → p.1 ≤ p.0 →
     topped_up left (p ∷ ps) ≡ p.0 ∷ topped_up left ps
 topped-full zero p ps h = refl

@@ -1,5 +1,4 @@
 ghost use Rattle.std.specs.Prelude.{◌≡◌, ℕ, List, Option, [], ◌-◌, length, map, slice_index, slice_index_or, IfOk, OnOk};
-ghost use Rattle.std.specs.List.{AllByRecursion};
 ghost use Rattle.us_flows.specs.Clusters.{turns_of, words_of};
 ghost use Rattle.us_split.specs.Plans.{IsIdle, plan_for, reserved_for};
 ghost use Rattle.us_split.specs.Claims.{AreClaims, all_claims};

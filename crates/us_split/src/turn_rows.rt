@@ -1,4 +1,4 @@
-ghost use Rattle.std.specs.Prelude.{◌≡◌, ℕ, List, Some, ◌==◌, ◌<◌, ◌≤◌, length, map, position, replicate, slice_get, IfOk, IfSome};
+ghost use Rattle.std.specs.Prelude.{◌≡◌, ℕ, List, Some, ◌==◌, ◌<◌, ◌≤◌, length, position, replicate, slice_get, IfOk, IfSome};
 ghost use Rattle.us_flows.specs.Clusters;
 ghost use Rattle.us_flows.specs.Clusters.{turns_of};
 ghost use Rattle.us_flows.specs.Lawful.{AreTables};
