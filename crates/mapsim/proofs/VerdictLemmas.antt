@@ -1,5 +1,5 @@
 -- The verdict on files, from what each of them told.
-use Rattle.std.proofs.Common.{◌≡◌, ℕ, true, List, Option, None, Some, Result, Ok, Err, IfOk, IfSome, ap, sym, subst, ◌∙◌}
+use Rattle.std.proofs.Common.{◌≡◌, ℕ, true, List, [], ◌∷◌, ◌++◌, Option, None, Some, Result, Ok, Err, IfOk, IfSome, refl, ap, sym, subst, ◌∙◌}
 use Rattle.us_flows.specs.Tables.{Tables, rounds_fit}
 use Rattle.us_requests.specs.Asks.{Request}
 use Rattle.us_requests.specs.Texts.{requests_of}
@@ -11,7 +11,10 @@ use Rattle.us_replay.specs.Replays.{cuts_of, run_for}
 use Rattle.us_replay.proofs.LoopLemmas.{length-cuts}
 use Rattle.us_replay.proofs.ReplayLemmas.{cuts-same}
 use Rattle.us_check.specs.declared.verdicts.Verdict.{Verdict}
-use Rattle.mapsim.specs.VerdictLines.{IsJudged, IsVerdict}
+use Rattle.us_check.specs.Verdicts.{verdict_text}
+use Rattle.mapsim.specs.declared.statuses.Status.{Status}
+use Rattle.mapsim.specs.Statuses.{verdict_status}
+use Rattle.mapsim.specs.VerdictLines.{IsJudged, IsVerdict, IsVerdictOf}
 
 -- the run that a trace is judged by
 same-run : (t : Tables) (rounds : ℕ) (requests : List Request) (v : TraceAsks) → IsTraceOf t rounds requests v →
@@ -65,3 +68,11 @@ untold t rounds told (Ok verdict) given = record {
   sound = given.sound;
   judged = given.judged;
 }
+
+-- the line of a verdict is one of such a verdict, whatever the files told
+pub verdict_line : (t : Tables) (rounds : ℕ) (verdict : Verdict) → IsVerdict t rounds None None None verdict →
+    (ends : Status) × IsVerdictOf rounds ends (verdict_text verdict ++ 10 ∷ [])
+verdict_line t rounds verdict given = (
+  verdict_status verdict,
+  record { tables = t; verdict = verdict; given = given; ends = refl; line = refl },
+)

@@ -138,7 +138,7 @@ const WORKERS: CommandOption = CommandOption {
     value: Value::Number,
     default: Some(Fallback::Workers),
     help: "How many workers share the channels of a round, 1 to 64. More workers pay where each channel has much to do in \
-        a round, some 10 grants and more; short rounds take a little longer with them",
+        a round, dozens of grants; short rounds take a little longer with them",
 };
 
 /// The program as clap is told of it.

@@ -1,4 +1,5 @@
-// What help says behind the options. The codes and the sentences of faults are those of the faults' types.
+// What help says behind the options. The codes of faults are those of their types, and so are the sentences of those of
+// the configuration, the trace and MAPs. Those of a replay and of a check say here what the run left behind.
 
 use std::alloc::{AllocError, Global};
 use std::fmt::Write;

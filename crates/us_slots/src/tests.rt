@@ -1,6 +1,7 @@
 //! What no clause says: worked numbers, the plain programs, and devices that refuse.
 
 mod base;
+mod calls;
 mod clones;
 mod devices;
 mod fakes;
