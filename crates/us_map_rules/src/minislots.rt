@@ -1,9 +1,9 @@
-ghost use Rattle.std.specs.Prelude.{◌≡◌, ℕ, true, ◌==◌, nat_lt, ◌||◌, IfSome, ◌≤◌, ◌<◌, ◌++◌, ◌∷◌};
+ghost use Rattle.std.specs.Prelude.{◌≡◌, ℕ, true, ◌==◌, nat_lt, ◌||◌, IfSome, ◌<◌, ◌∷◌};
 ghost use Rattle.std.specs.List.{list_all, list_any};
 ghost use Rattle.us_lawful.specs.Regions as spec;
-ghost use Rattle.us_lawful.specs.Regions.{Region, none_empty_at, end_holds, minislot_holds};
+ghost use Rattle.us_lawful.specs.Regions.{Region, minislot_holds};
 ghost use Rattle.us_map_rules.specs.Minislots;
-ghost use Rattle.us_map_rules.specs.Minislots.{IsFirstFailing, AreByStart, AreSideBySide, owners_hold, element_holds, gap_between, IsBehindGap};
+ghost use Rattle.us_map_rules.specs.Minislots.{IsFirstFailing, AreByStart, AreSideBySide, IsBehindGap};
 
 use crate::regions::{BROADCAST, REQUEST, Region};
 use us_flows::Channel;

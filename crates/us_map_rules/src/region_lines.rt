@@ -1,4 +1,4 @@
-ghost use Rattle.std.specs.Prelude.{◌≡◌, ◌==◌, ℕ, filter, filter_map, map, position, length, true, IfOk, IfSome, slice_index_or, ◌-◌, ◌≤◌, ◌<◌, ◌+◌};
+ghost use Rattle.std.specs.Prelude.{◌≡◌, ◌==◌, filter, filter_map, map, position, length, true, IfOk, IfSome, slice_index_or, ◌-◌, ◌≤◌, ◌<◌, ◌+◌};
 ghost use Rattle.std.specs.List.Sorted.{IsPermutation, IsNonDecreasingBy};
 ghost use Rattle.us_lawful.specs.Regions as rule;
 ghost use Rattle.us_map_rules.specs.declared.region_lines.PlacedRegion.{PlacedRegion};

@@ -1,4 +1,4 @@
-ghost use Rattle.std.specs.Prelude.{◌≡◌, ◌+◌, ◌^◌, ◌<◌, ℕ, Bool, not, ◌||◌, if◌then◌else◌, length, get_or, slice_index, slice_set, Some, None, true, false, option_map, IfOk, IsTrue};
+ghost use Rattle.std.specs.Prelude.{◌≡◌, ◌+◌, ◌^◌, ◌<◌, ℕ, not, ◌||◌, if◌then◌else◌, length, get_or, slice_index, slice_set, Some, None, true, false, option_map, IfOk, IsTrue};
 ghost use Rattle.std.specs.List.{AllByRecursion};
 ghost use Rattle.us_steps.specs.Machines as machine;
 ghost use Rattle.us_steps.specs.Tallies as spec;

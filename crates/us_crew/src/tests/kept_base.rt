@@ -1,4 +1,4 @@
-ghost use Rattle.std.specs.Prelude.{◌≡◌, ◌+◌, ⊤};
+ghost use Rattle.std.specs.Prelude.{◌+◌, ⊤};
 
 use super::base::{Case, Doubling, numbers_to, tell};
 use crate::{Crew, CrewFault, First, Gate, OneOf, Only, Phase, Post, Second, Task, Work, map_kept};

@@ -1,4 +1,3 @@
-ghost use Rattle.std.specs.Prelude.{◌≡◌};
 ghost use Rattle.std.specs.List.{AllByRecursion};
 ghost use Rattle.us_channel.specs.Channels.{IsBuilt};
 ghost use Rattle.us_round.specs.Cores.{AreCredited};
