@@ -1,4 +1,4 @@
-ghost use Rattle.std.specs.Prelude.{◌≡◌, ◌-◌, ◌<◌, IfOk, vec_len};
+ghost use Rattle.std.specs.Prelude.{◌≡◌, ◌-◌, ◌<◌, ℕ, IfOk, slice_get, vec_len};
 ghost use Rattle.rtrb.specs.Ring.{sent, received, known_free};
 ghost use Rattle.us_crew.specs.Orders.{AskFor};
 
@@ -93,6 +93,8 @@ impl<J: Job<A> + Drop, A: Drop> Crew<J, A> {
         requires worker { worker < vec_len self.old.lines }
         requires ready { J.ready job }
         ensures workers { vec_len self.new.lines ≡ vec_len self.old.lines }
+        ensures others { (i : ℕ) → ¬ (i ≡ worker) →
+            slice_get self.new.lines.items i ≡ slice_get self.old.lines.items i }
         ensures asked { IfOk result (λ pending. AskFor job (received pending.answers)) }
     {
         let (order, answers) = ordered(alloc, job)?;

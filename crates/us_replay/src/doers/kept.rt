@@ -1,4 +1,4 @@
-ghost use Rattle.std.specs.Prelude.{◌≡◌, min, IfOk, Ok};
+ghost use Rattle.std.specs.Prelude.{◌≡◌, ◌-◌, min, IfOk, Ok, vec_len};
 ghost use Rattle.us_flows.specs.Tables.{Tables};
 ghost use Rattle.us_crew.specs.declared.gates.Phase.TheVariants as phase;
 ghost use Rattle.us_crew.specs.Items.{AreAccepted};
@@ -58,7 +58,9 @@ pub(crate) fn open_crew<'a, G: Gate>(
     gate: &'a G,
     workers: usize,
 ) -> Result<(Kept<'a, G>, Posts<'a, G>), NoMemory>
-    ensures { IfOk result (λ opened. opened.0.config.now ≡ config.now) }
+    ensures config { IfOk result (λ opened. opened.0.config.now ≡ config.now) }
+    ensures crew { IfOk result (λ opened. vec_len opened.0.crew.lines ≡ workers - 1) }
+    ensures posts { IfOk result (λ opened. vec_len opened.1 ≡ workers - 1) }
 {
     let (crew, posts) = Crew::open(alloc, workers)?;
     let kept = Kept {

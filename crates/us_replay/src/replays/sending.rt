@@ -1,12 +1,10 @@
-ghost use Rattle.std.specs.Prelude.{◌≡◌, true, false, OnOk, OnErr, Err, is_ok, is_err};
-ghost use Rattle.std.specs.Io.KnownBytes.{Appends};
-ghost use Rattle.us_slots.specs.Devices.{AppendsFront};
+ghost use Rattle.std.specs.Prelude.{◌≡◌, true, false, OnOk, Err, is_ok};
 ghost use Rattle.us_replay.specs.Endings.{blames_maps, blames_report, ended};
 ghost use Rattle.us_replay.specs.Replays.{Growth};
 ghost use Rattle.us_replay.specs.Progress.{Sent, Flushed};
 
 use crate::faults::RunFault;
-use us_slots::{Failed, Sink};
+use us_slots::{Sink, write_all};
 
 /// Writes records to the maps file, and then lines to the report, after `done` rounds. Neither writer is flushed.
 pub(crate) fn send<W1: Sink, W2: Sink>(
@@ -28,34 +26,14 @@ pub(crate) fn send<W1: Sink, W2: Sink>(
     ensures maps_still_unflushed { W1.flushed maps.old ≡ false → W1.flushed maps.new ≡ false }
     ensures report_still_unflushed { W2.flushed report.old ≡ false → W2.flushed report.new ≡ false }
 {
-    match write_whole(maps, records) {
+    match write_all(maps, records) {
         Ok(()) => {}
         Err(_) => return Err(RunFault::WriteMaps(done)),
     }
-    match write_whole(report, lines) {
+    match write_all(report, lines) {
         Ok(()) => Ok(()),
         Err(_) => Err(RunFault::WriteReport(done)),
     }
-}
-
-/// Writes all of `bytes`, as `write_all` of `us_slots` does, of which no clause says that it leaves its sink unflushed.
-fn write_whole<S: Sink>(sink: &mut S, bytes: &[u8]) -> Result<(), Failed>
-    requires ready { S.failed sink.old ≡ false }
-    ensures ok { OnOk result (Appends (S.contents sink.old) (S.contents sink.new) bytes.now) }
-    ensures err { OnErr result (AppendsFront (S.contents sink.old) (S.contents sink.new) bytes.now) }
-    ensures failed { S.failed sink.new ≡ is_err result }
-    ensures unflushed { S.failed sink.new ≡ true → S.flushed sink.new ≡ false }
-    ensures still_unflushed { S.flushed sink.old ≡ false → S.flushed sink.new ≡ false }
-{
-    let mut done = 0;
-    while done < bytes.len() {
-        let count = sink.write(&bytes[done..])?;
-        if count == 0 {
-            return Err(Failed);
-        }
-        done += count;
-    }
-    Ok(())
 }
 
 /// Flushes the maps file, and then the report, after `done` rounds.

@@ -3,7 +3,7 @@ ghost use Rattle.std.specs.Prelude.{⊤};
 use super::base::{BONDED_MAPS, BONDED_REPORT, BONDED_TRACE, bonded, same};
 use super::devices::{reader, writer};
 use super::replays::outcome;
-use std::alloc::Global;
+use std::alloc::{AllocError, Global};
 use std::process::Abort;
 use std::sync::atomic::{AtomicU64, Ordering};
 use std::thread::Threads;
@@ -76,29 +76,67 @@ static ENTRIES: [(&[u8], usize, Entries); 8] = [
     (FIVE, 16, (0x11111, 0x22, 0x22)),
 ];
 
-/// How the gate is entered in a replay of a trace over 2 rounds of the bonded run.
-fn entries(
+/// Replays a trace over 2 rounds of the bonded run.
+fn replay_past(
     threads: &(impl Threads + Sync),
     alloc: Global,
     trace: &[u8],
     workers: usize,
-) -> Entries {
-    let gate = Counting::new();
+    gate: &(impl Gate + Sync),
+) {
     if let Ok(config) = bonded(alloc) {
         let (maps, report) = (writer(BONDED_MAPS, 100), writer(BONDED_REPORT, 100));
         let trace = reader(trace, false);
         let _ = outcome(
-            threads, alloc, &config, 2, workers, &gate, trace, maps, report,
+            threads, alloc, &config, 2, workers, gate, trace, maps, report,
         );
     }
-    gate.seen()
 }
 
 /// Each item is entered for once, whoever does it.
 #[test]
 fn entered_once_for_each_item(rt: HostRuntime) {
     for &(trace, workers, wanted) in &ENTRIES {
-        let found = entries(&rt, rt.alloc(), trace, workers);
-        same(&rt, &(workers, found), &(workers, wanted), "entries");
+        let gate = Counting::new();
+        replay_past(&rt, rt.alloc(), trace, workers, &gate);
+        same(&rt, &(workers, gate.seen()), &(workers, wanted), "entries");
     }
+}
+
+/// A gate that holds nobody and counts the chunks that are collected.
+#[derive(Drop)]
+struct Chunks {
+    seen: AtomicU64,
+}
+
+impl Gate for Chunks {
+    ghost entered = { λ _ _ _. ⊤ };
+
+    fn enter(&self, phase: Phase, _index: usize) {
+        if let Phase::Collect = phase {
+            self.seen.fetch_add(1, Ordering::SeqCst);
+        }
+    }
+}
+
+/// A trace of so many requests of one round.
+fn requests(alloc: Global, count: usize) -> Result<String, AllocError> {
+    let mut text = String::new(alloc);
+    text.push_str("tick,channel,sid,units\n")?;
+    for _ in 0..count {
+        text.push_str("0,1,257,10\n")?;
+    }
+    Ok(text)
+}
+
+/// None of the most workers that there may be is left out: each gets a chunk.
+#[test]
+fn chunks_of_64_workers(rt: HostRuntime) {
+    let gate = Chunks {
+        seen: AtomicU64::new(0),
+    };
+    if let Ok(trace) = requests(rt.alloc(), 64) {
+        replay_past(&rt, rt.alloc(), trace.as_bytes(), 64, &gate);
+    }
+    same(&rt, &gate.seen.load(Ordering::SeqCst), &64, "chunks");
 }

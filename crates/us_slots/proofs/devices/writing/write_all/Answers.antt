@@ -16,4 +16,5 @@ loop-done-preserved g c =
       omega (arith, length-drop done bytes, bound, c.loop-done-test.true),
       grind (arith, c.in_ok-count.ensures.fails, c.if-count-eq0.false, c.loop-done.invariant),
       appends_take (g.S.Sink.contents c.args.sink.now) (g.S.Sink.contents c.loop-done.sink) (g.S.Sink.contents c.write.new.self) bytes done count c.loop-done.invariant.2 taken,
+      λ before. c.in_ok-count.ensures.unflushed,
     )
