@@ -203,7 +203,11 @@ ended file records index default before between after fault.Pipe below is printe
 ended file records index default before between after (fault.Config f) below is printed ends = ends
 ended file records index default before between after (fault.Run f) below is printed ends = ends
 ended file records index default before between after (fault.Check f) below is printed ends = ends
-ended file records index default before between after fault.NoMemory below is printed ends = tt
+ended file records index default before between after fault.NoMemory below is printed kept = inr (
+  flat_map map_text printed.maps,
+  begins file records index printed.maps is printed.are,
+  subst (λ after. Appends before after (flat_map map_text printed.maps)) (sym kept) printed.took,
+)
 
 -- and where the file ends inside a record
 pub cut : (file : List ℕ) (before : Option (List ℕ)) (f : MapFault) → f ≢ map_fault.NoMemory →

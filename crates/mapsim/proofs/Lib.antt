@@ -1,6 +1,8 @@
 pub mod DumpLemmas
+pub mod FileFaultLemmas
 pub mod MarkLemmas
 pub mod OneLineLemmas
+pub mod OptionLemmas
 pub mod OrderLemmas
 pub mod PrintoutLemmas
 pub mod SummaryLemmas

@@ -1,12 +1,13 @@
 -- What was done stays done where standard output keeps what it took.
-use Rattle.std.proofs.Common.{ℕ, List, Option, None, Some, string_bytes}
+use Rattle.std.proofs.Common.{ℕ, List, Option, None, Some, Result, Ok, Err, IfErr, string_bytes, inr}
 use Rattle.std.specs.Io.KnownBytes.{Keeps}
 use Rattle.us_slots.proofs.DeviceLemmas.{appends_keep}
 use Rattle.mapsim.specs.declared.orders.Order.{Order}
 use Rattle.mapsim.specs.declared.orders.Order.TheVariants as order
 use Rattle.mapsim.specs.declared.statuses.Status.{Status}
+use Rattle.mapsim.specs.declared.faults.Fault.{Fault}
 use Rattle.mapsim.specs.Dumps.{PrintsDump}
-use Rattle.mapsim.specs.Orders.{Does}
+use Rattle.mapsim.specs.Orders.{Does, MayEnd, MayStop}
 use Rattle.mapsim.specs.Printouts.{Prints}
 
 prints_kept : (rounds : ℕ) (told before between after : Option (List ℕ)) → Prints rounds told before between →
@@ -32,3 +33,9 @@ does_kept (order.Pipe rounds workers) told before between after ends (done, prin
     (done, prints_kept rounds told before between after printed kept)
 does_kept (order.Help text) told before between after ends (done, took) kept =
     (done, appends_keep before between after (string_bytes text) took kept)
+
+-- a fault that may end an order may end the program
+pub may_stop : {T : Type 0} (o : Order) (told before after : Option (List ℕ)) (result : Result T Fault) →
+    IfErr result (MayEnd o told before after) → IfErr result (MayStop told before after)
+may_stop o told before after (Ok x) ends = tt
+may_stop o told before after (Err f) ends = inr (o, ends)

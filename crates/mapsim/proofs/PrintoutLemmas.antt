@@ -1,6 +1,5 @@
 -- What a replay in memory and what is printed of it come to.
-use Rattle.std.proofs.Common.{◌≡◌, ◌≢◌, ℕ, ◌<◌, ◌⊎◌, inl, inr, flat_map, true, List, [], ◌++◌, Option, Some, None, Result, Ok, Err, IfSome, OnOk, OnErr, IfErr, refl, ap, sym, subst, ◌∙◌}
-use Rattle.std.specs.Bool.{⊤}
+use Rattle.std.proofs.Common.{◌≡◌, ◌≢◌, ℕ, ◌<◌, ◌⊎◌, inl, inr, flat_map, true, List, [], ◌++◌, Option, Some, None, Result, Ok, Err, IfSome, OnOk, OnErr, IfErr, refl, ap, sym, subst, ◌∙◌, append_assoc}
 use Rattle.std.specs.Io.KnownBytes.{Appends}
 use Rattle.us_slots.specs.Devices.{AppendsFront}
 use Rattle.us_slots.proofs.DeviceLemmas.{appends_join, appends_front_after, appends_front_longer}
@@ -20,7 +19,7 @@ use Rattle.mapsim.specs.Dumps.{HasDump, IsDump, BeginsDump, EndsDump, map_text}
 use Rattle.mapsim.specs.declared.faults.Stream.TheVariants as stream
 use Rattle.mapsim.specs.declared.faults.Fault.{Fault}
 use Rattle.mapsim.specs.declared.faults.Fault.TheVariants as fault
-use Rattle.mapsim.specs.Printouts.{Gives, Replays, RefusesTrace, Refuses, Prints, PrintsFront, Stops}
+use Rattle.mapsim.specs.Printouts.{Gives, Replays, RefusesTrace, Refuses, Prints, PrintsFront, PrintsPart, Stops}
 use Rattle.mapsim.proofs.WholeLemmas.{goes_on, no_bad_body, not_cut}
 
 -- a list of bytes that was empty
@@ -121,11 +120,6 @@ pub told_read : (told : Option (List ℕ)) (items read : List ℕ) → IfSome to
 told_read None items read same is = tt
 told_read (Some text) items read same is = is ∙ same
 
--- what is said of every text
-always : (told : Option (List ℕ)) → IfSome told (λ text. ⊤)
-always None = tt
-always (Some text) = tt
-
 -- why a text is refused, of the text that the input told
 comes : (rounds workers : ℕ) (told : Option (List ℕ)) (read : List ℕ) (f : Fault) → IfSome told (λ text. read ≡ text) →
     Refuses rounds workers read f → IfSome told (λ text. Refuses rounds workers text f)
@@ -133,31 +127,31 @@ comes rounds workers None read f same refused = tt
 comes rounds workers (Some text) read f same refused = subst (λ text. Refuses rounds workers text f) same refused
 
 -- a text that is refused
-pub stops_refused : (rounds workers : ℕ) (told : Option (List ℕ)) (read : List ℕ) (before after : Option (List ℕ)) (f : Fault) →
-    IfSome told (λ text. read ≡ text) → Refuses rounds workers read f → Stops rounds workers told before after f
-stops_refused rounds workers None read before after fault.Pipe same refused = (tt, tt)
-stops_refused rounds workers (Some text) read before after fault.Pipe same refused =
+pub stops_refused : (rounds workers : ℕ) (told : Option (List ℕ)) (read : List ℕ) (before : Option (List ℕ)) (f : Fault) →
+    IfSome told (λ text. read ≡ text) → Refuses rounds workers read f → Stops rounds workers told before before f
+stops_refused rounds workers None read before fault.Pipe same refused = (tt, tt)
+stops_refused rounds workers (Some text) read before fault.Pipe same refused =
     (tt, inr (comes rounds workers (Some text) read fault.Pipe same refused))
-stops_refused rounds workers told read before after (fault.Config f) same refused =
+stops_refused rounds workers told read before (fault.Config f) same refused =
     (tt, comes rounds workers told read (fault.Config f) same refused)
-stops_refused rounds workers told read before after (fault.Run run.Rounds) same refused =
+stops_refused rounds workers told read before (fault.Run run.Rounds) same refused =
     (tt, comes rounds workers told read (fault.Run run.Rounds) same refused)
-stops_refused rounds workers told read before after (fault.Run run.Workers) same refused =
+stops_refused rounds workers told read before (fault.Run run.Workers) same refused =
     (tt, comes rounds workers told read (fault.Run run.Workers) same refused)
-stops_refused rounds workers told read before after (fault.Run (run.Trace reason)) same
+stops_refused rounds workers told read before (fault.Run (run.Trace reason)) same
     (config, trace, split, t, accepted, why) =
     (why.0, comes rounds workers told read (fault.Run (run.Trace reason)) same (config, trace, split, t, accepted, why))
-stops_refused rounds workers told read before after (fault.Run (run.WriteMaps done)) same
+stops_refused rounds workers told read before (fault.Run (run.WriteMaps done)) same
     (config, trace, split, t, accepted, none) = absurd none
-stops_refused rounds workers told read before after (fault.Run (run.WriteReport done)) same
+stops_refused rounds workers told read before (fault.Run (run.WriteReport done)) same
     (config, trace, split, t, accepted, none) = absurd none
-stops_refused rounds workers told read before after (fault.Run (run.NoMemory done)) same refused =
+stops_refused rounds workers told read before (fault.Run (run.NoMemory done)) same refused =
     (tt, comes rounds workers told read (fault.Run (run.NoMemory done)) same refused)
-stops_refused rounds workers told read before after fault.NoMemory same refused = (tt, always told)
-stops_refused rounds workers told read before after (fault.Usage said) same refused = absurd refused
-stops_refused rounds workers told read before after (fault.Map f index) same refused = absurd refused
-stops_refused rounds workers told read before after (fault.Check f) same refused = absurd refused
-stops_refused rounds workers told read before after (fault.Device stream) same refused = absurd refused
+stops_refused rounds workers told read before fault.NoMemory same refused = (tt, inl refl)
+stops_refused rounds workers told read before (fault.Usage said) same refused = absurd refused
+stops_refused rounds workers told read before (fault.Map f index) same refused = absurd refused
+stops_refused rounds workers told read before (fault.Check f) same refused = absurd refused
+stops_refused rounds workers told read before (fault.Device stream) same refused = absurd refused
 
 -- no fault of a MAP ends the lines of a maps file of MAPs
 no-map-fault : (file dump : List ℕ) (before after : Option (List ℕ)) (f : MapFault) (index : ℕ) → IsDump file dump →
@@ -185,6 +179,29 @@ front-of-maps rounds (Some told) read maps report before after same replayed has
       appends_front_longer before after (text ++ more) report (appends_front_longer before after text more front),
     )
 
+-- memory was wanting for the lines of a MAP
+part-of-maps : (rounds : ℕ) (told : Option (List ℕ)) (read maps report : List ℕ) (before after : Option (List ℕ)) →
+    IfSome told (λ text. read ≡ text) → Replays rounds read maps report → HasDump maps →
+    (after ≡ before) ⊎ ((text : List ℕ) × BeginsDump maps text × Appends before after text) →
+    (after ≡ before) ⊎ PrintsPart rounds told before after
+part-of-maps rounds told read maps report before after same replayed has (inl nothing) = inl nothing
+part-of-maps rounds None read maps report before after same replayed has (inr some) = inr tt
+part-of-maps rounds (Some told) read maps report before after same replayed has (inr (text, begins, took)) =
+    let (more, whole) = goes_on maps has.dump text has.dumped begins in
+    inr (subst (λ told. PrintsPart rounds (Some told) before after) same (
+      text,
+      more ++ report,
+      record {
+        maps = maps;
+        report = report;
+        replayed = replayed;
+        dump = text ++ more;
+        dumped = whole;
+        whole = sym (append_assoc text more report);
+      },
+      took,
+    ))
+
 -- where the lines of the MAPs ended it
 stops-dump : (rounds workers : ℕ) (told : Option (List ℕ)) (read maps report : List ℕ) (before after : Option (List ℕ))
     (f : Fault) → IfSome told (λ text. read ≡ text) → Replays rounds read maps report → HasDump maps →
@@ -193,8 +210,8 @@ stops-dump rounds workers told read maps report before after (fault.Map f index)
     absurd (no-map-fault maps has.dump before after f index has.dumped ended)
 stops-dump rounds workers told read maps report before after (fault.Device stream.Output) same replayed dumped ended printed =
     (tt, front-of-maps rounds told read maps report before after same replayed dumped ended)
-stops-dump rounds workers told read maps report before after fault.NoMemory same replayed dumped ended printed =
-    (tt, always told)
+stops-dump rounds workers told read maps report before after fault.NoMemory same replayed has ended printed =
+    (tt, part-of-maps rounds told read maps report before after same replayed has ended)
 stops-dump rounds workers told read maps report before after (fault.Device stream.Config) same replayed dumped ended printed = absurd printed
 stops-dump rounds workers told read maps report before after (fault.Device stream.Trace) same replayed dumped ended printed = absurd printed
 stops-dump rounds workers told read maps report before after (fault.Device stream.Maps) same replayed dumped ended printed = absurd printed

@@ -1,5 +1,5 @@
 -- MAPs as text (ours): what is printed of a maps file, and where that ends early.
-use Rattle.std.specs.Prelude.{◌≡◌, ◌≢◌, ◌⊎◌, ℕ, List, ◌∷◌, ◌++◌, length, map, flat_map, Option, IfSome, Err, ⊤}
+use Rattle.std.specs.Prelude.{◌≡◌, ◌≢◌, ◌⊎◌, ℕ, List, ◌∷◌, ◌++◌, length, map, flat_map, Option, IfSome, Err}
 use Rattle.std.specs.List.{AllByRecursion}
 use Rattle.std.specs.Io.KnownBytes.{Appends}
 use Rattle.us_slots.specs.Devices.{AppendsFront}
@@ -53,27 +53,29 @@ pub record IsDumpBefore (file : List ℕ) (index : ℕ) (f : MapFault) (text : L
   pub answer : decode_answer bad.body ≡ Err f
   pub lines : text ≡ flat_map map_text maps
 
--- What was printed where a fault ended it. Of want of memory this says nothing, and no fault of a MAP is one. No other
--- fault ends it.
+-- What was printed where a fault ended it. No fault of a MAP is want of memory. No other fault ends it.
 
--- of one record: nothing where its body has a fault, and fewer than all of its lines where standard output failed
+-- of one record: nothing where its body has a fault or memory was wanting, and fewer than all of its lines where standard
+-- output failed
 abbrev pub EndsRecord : Piece → ℕ → Option (List ℕ) → Option (List ℕ) → Fault → Type 0
 EndsRecord p index before after (fault.Map f at) =
     (at ≡ index) × (f ≢ map_fault.NoMemory) × (decode_answer p.body ≡ Err f) × (after ≡ before)
 EndsRecord p index before after (fault.Device stream.Output) =
     (body : MapBody) × SpellsMap p.body body × AppendsFront before after (lines_of p.round body.head.channel body.elements)
-EndsRecord p index before after fault.NoMemory = ⊤
+EndsRecord p index before after fault.NoMemory = after ≡ before
 EndsRecord p index before after _ = ⊥
 
 -- of a file: nothing where it ends inside a record, and else the lines of the MAPs before the body with that fault; where
--- standard output failed, fewer than all of the lines of the MAPs up to some
+-- standard output failed, fewer than all of the lines of the MAPs up to some; where memory was wanting, nothing or all of
+-- these
 abbrev pub EndsDump : List ℕ → Option (List ℕ) → Option (List ℕ) → Fault → Type 0
 EndsDump file before after (fault.Map f index) = (f ≢ map_fault.NoMemory) × (
     ((f ≡ map_fault.RecordCut) × EndsInside file × (after ≡ before))
     ⊎ ((text : List ℕ) × IsDumpBefore file index f text × Appends before after text))
 EndsDump file before after (fault.Device stream.Output) =
     (text : List ℕ) × BeginsDump file text × AppendsFront before after text
-EndsDump file before after fault.NoMemory = ⊤
+EndsDump file before after fault.NoMemory =
+    (after ≡ before) ⊎ ((text : List ℕ) × BeginsDump file text × Appends before after text)
 EndsDump file before after _ = ⊥
 
 -- What is printed of a device's bytes, where it told them.

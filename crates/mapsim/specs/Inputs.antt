@@ -13,13 +13,6 @@ IsWordsFault (fault.Usage text) = ⊤
 IsWordsFault fault.NoMemory = ⊤
 IsWordsFault _ = ⊥
 
--- a fault of the file of the configuration
-abbrev pub IsConfigFault : Fault → Type 0
-IsConfigFault (fault.Config f) = ⊤
-IsConfigFault (fault.Device stream.Config) = ⊤
-IsConfigFault fault.NoMemory = ⊤
-IsConfigFault _ = ⊥
-
 -- a fault of the input as a whole, before the configuration is read
 abbrev pub IsInputFault : Fault → Type 0
 IsInputFault fault.Pipe = ⊤

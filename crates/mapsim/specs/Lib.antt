@@ -22,9 +22,13 @@ pub mod OneLine
 pub mod SummaryLines
 -- the line of a check
 pub mod VerdictLines
+-- which order the words are
+pub mod Options
 -- what an order does
 pub mod Orders
 -- which faults the steps of the program may have
 pub mod Inputs
+-- why a file ends an order
+pub mod FileFaults
 -- the definitions at small inputs
 pub mod Examples

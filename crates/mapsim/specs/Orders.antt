@@ -9,7 +9,7 @@ use Rattle.mapsim.specs.declared.orders.Order.{Order}
 use Rattle.mapsim.specs.declared.orders.Order.TheVariants as order
 use Rattle.mapsim.specs.declared.statuses.Status.{Status}
 use Rattle.mapsim.specs.declared.statuses.Status.TheVariants as status
-use Rattle.mapsim.specs.Inputs.{IsReplayFault, IsCheckFault}
+use Rattle.mapsim.specs.Inputs.{IsWordsFault, IsReplayFault, IsCheckFault}
 use Rattle.mapsim.specs.Dumps.{PrintsDump, StopsDump}
 use Rattle.mapsim.specs.OneLine.{StopsLine}
 use Rattle.mapsim.specs.Printouts.{Prints, Stops}
@@ -53,6 +53,17 @@ MayEnd o told before after f = EndsEarly o told before after f
 abbrev pub EndsWithoutWords : Option (List ℕ) → Option (List ℕ) → Option (List ℕ) → Status → Type 0
 EndsWithoutWords told before after ends =
     (ends ≡ status.Done) ⊎ ((f : Fault) × MayEnd (order.Pipe 2 1) told before after f × (ends ≡ status_of f))
+
+-- a fault may end the program: one of the words, before anything is printed, or one that may end an order
+abbrev pub MayStop : Option (List ℕ) → Option (List ℕ) → Option (List ℕ) → Fault → Type 0
+MayStop told before after f =
+    (IsWordsFault f × (after ≡ before)) ⊎ ((o : Order) × MayEnd o told before after f)
+
+-- how the program ends: as an order does that was done, or as a fault says
+abbrev pub Ends : Option (List ℕ) → Option (List ℕ) → Option (List ℕ) → Status → Type 0
+Ends told before after ends =
+    ((o : Order) × Does o told before after ends)
+    ⊎ ((f : Fault) × MayStop told before after f × (ends ≡ status_of f))
 
 -- the line of a verdict was printed that says that a rule is broken
 abbrev pub PrintsBroken : Option (List ℕ) → Option (List ℕ) → Type 0

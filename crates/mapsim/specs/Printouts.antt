@@ -81,11 +81,17 @@ abbrev pub PrintsFront : ℕ → Option (List ℕ) → Option (List ℕ) → Opt
 PrintsFront rounds told before after =
     IfSome told (λ text. (printout : List ℕ) × IsPrintout rounds text printout × AppendsFront before after printout)
 
--- where the input tells its text, a fault comes of that, and an output that failed took a front of what is printed. When a
--- stream fails is another clause's
+-- the same, of any front
+abbrev pub PrintsPart : ℕ → Option (List ℕ) → Option (List ℕ) → Option (List ℕ) → Type 0
+PrintsPart rounds told before after =
+    IfSome told (λ text. (part rest : List ℕ) × IsPrintout rounds text (part ++ rest) × Appends before after part)
+
+-- where the input tells its text, a fault comes of that; an output that failed took a front of what is printed, and so it
+-- did, or nothing, where memory was wanting. When a stream fails is another clause's
 abbrev pub ComesOf : ℕ → ℕ → Option (List ℕ) → Option (List ℕ) → Option (List ℕ) → Fault → Type 0
 ComesOf rounds workers told before after (fault.Device stream.Input) = ⊤
 ComesOf rounds workers told before after (fault.Device stream.Output) = PrintsFront rounds told before after
+ComesOf rounds workers told before after fault.NoMemory = (after ≡ before) ⊎ PrintsPart rounds told before after
 ComesOf rounds workers told before after fault.Pipe =
     IfSome told (λ text. (max_input_bytes < length text) ⊎ Refuses rounds workers text fault.Pipe)
 ComesOf rounds workers told before after f = IfSome told (λ text. Refuses rounds workers text f)

@@ -4,8 +4,10 @@ ghost use Rattle.us_flows.specs.Answers.{Answers};
 ghost use Rattle.us_flows.specs.Tables.{rounds_fit};
 ghost use Rattle.us_lawful.specs.Runs.{run_in};
 ghost use Rattle.us_check.specs.Verdicts.{verdict_text};
+ghost use Rattle.us_requests.specs.declared.faults.TraceFault.TheVariants as trace_fault;
 ghost use Rattle.us_replay.specs.declared.faults.RunFault.TheVariants as run;
-ghost use Rattle.mapsim.specs.Inputs.{IsCheckFault, IsConfigFault, IsJudgeFault, IsLineFault};
+ghost use Rattle.mapsim.specs.Inputs.{IsCheckFault, IsJudgeFault, IsLineFault};
+ghost use Rattle.mapsim.specs.FileFaults.{ComesOfConfig, ComesOfMaps, ComesOfReport, ComesOfTrace};
 ghost use Rattle.mapsim.specs.OneLine.{StopsLine};
 ghost use Rattle.mapsim.specs.Statuses as statuses;
 ghost use Rattle.mapsim.specs.declared.statuses.Status.{Status};
@@ -58,7 +60,8 @@ fn config_of<S: Source>(
     requires at { config.old.path.now ≡ order.now.config.now }
     requires ready { S.failed config.old.device ≡ false }
     ensures accepted { IfOk result (λ t. IfSome (S.remaining config.old.device) (λ text. Answers text (Ok t))) }
-    ensures fault { IfErr result IsConfigFault }
+    ensures refused { IfErr result (ComesOfConfig (S.remaining config.old.device)) }
+    ensures failed { (S.failed config.new.device ≡ true) ↔ (result ≡ Err (fault.Device stream.Config)) }
 {
     read_config(alloc, &mut config.device)
 }
@@ -94,7 +97,8 @@ fn judge_trace<R: Files, S: Source>(
     requires ready { S.failed trace.old.device ≡ false }
     ensures verdict { IfOk result
         (IsVerdict config.now order.now.rounds (S.remaining trace.old.device) None None) }
-    ensures fault { IfErr result IsJudgeFault }
+    ensures refused { IfErr result (ComesOfTrace config.now order.now.rounds (S.remaining trace.old.device)) }
+    ensures failed { (S.failed trace.new.device ≡ true) ↔ (result ≡ Err (fault.Run (run.Trace trace_fault.Read))) }
 {
     let trace = Trace::read(alloc, &mut trace.device, config, order.rounds)?;
     let mut maps = open_at(rt, order.maps, Stream::Maps)?;
@@ -114,7 +118,8 @@ fn judge_maps<R: Files, S: Source>(
     requires at { maps.old.path.now ≡ order.now.maps.now }
     requires ready { S.failed maps.old.device ≡ false }
     ensures verdict { IfOk result (IsJudged (run_in config.now trace.now) (S.remaining maps.old.device) None) }
-    ensures fault { IfErr result IsJudgeFault }
+    ensures refused { IfErr result ComesOfMaps }
+    ensures failed { (S.failed maps.new.device ≡ true) ↔ (result ≡ Err (fault.Device stream.Maps)) }
 {
     let text = bytes_from(alloc, &mut maps.device, Stream::Maps)?;
     let mut report = open_at(rt, order.report, Stream::Report)?;
@@ -135,7 +140,8 @@ fn judge_report<S: Source>(
     requires ready { S.failed report.old.device ≡ false }
     ensures verdict { IfOk result
         (IsJudged (run_in config.now trace.now) (Some maps.now) (S.remaining report.old.device)) }
-    ensures fault { IfErr result IsJudgeFault }
+    ensures refused { IfErr result (ComesOfReport (S.remaining report.old.device)) }
+    ensures failed { (S.failed report.new.device ≡ true) ↔ (result ≡ Err (fault.Device stream.Report)) }
 {
     let text = bytes_from(alloc, &mut report.device, Stream::Report)?;
     Ok(check(alloc, config, trace, maps, &text)?)

@@ -1,7 +1,6 @@
-ghost use Rattle.std.specs.Prelude.{◌≡◌, ◌⊎◌, ◌↔◌, ◌<◌, length, true, false, Ok, Err, IfOk, IfErr, IfSome};
-ghost use Rattle.us_flows.specs.declared.faults.ConfigFault.TheVariants as config;
+ghost use Rattle.std.specs.Prelude.{◌≡◌, ◌⊎◌, ◌↔◌, true, false, Ok, Err, IfOk, IfErr, IfSome};
 ghost use Rattle.us_flows.specs.Answers.{Answers};
-ghost use Rattle.mapsim.specs.Inputs.{IsConfigFault};
+ghost use Rattle.mapsim.specs.FileFaults.{ComesOfConfig, LacksText};
 ghost use Rattle.mapsim.specs.declared.faults.Fault.TheVariants as fault;
 ghost use Rattle.mapsim.specs.declared.faults.Stream.TheVariants as stream;
 
@@ -14,7 +13,8 @@ use us_slots::{ReadFault, Source, read_all};
 pub fn read_config<S: Source>(alloc: Global, source: &mut S) -> Result<Config, Fault>
     requires { S.failed source.old ≡ false }
     ensures accepted { IfOk result (λ t. IfSome (S.remaining source.old) (λ text. Answers text (Ok t))) }
-    ensures fault { IfErr result IsConfigFault }
+    ensures refused { IfErr result (ComesOfConfig (S.remaining source.old)) }
+    ensures failed { (S.failed source.new ≡ true) ↔ (result ≡ Err (fault.Device stream.Config)) }
 {
     let text = text_from(alloc, source)?;
     Ok(Config::read(alloc, &text)?)
@@ -24,10 +24,8 @@ pub fn read_config<S: Source>(alloc: Global, source: &mut S) -> Result<Config, F
 fn text_from<S: Source>(alloc: Global, source: &mut S) -> Result<Vec<u8>, Fault>
     requires { S.failed source.old ≡ false }
     ensures value { IfOk result (λ v. IfSome (S.remaining source.old) (λ text. v.items ≡ text)) }
-    ensures large { result ≡ Err (fault.Config config.Text) → IfSome (S.remaining source.old) (λ text.
-        MAX_CONFIG_BYTES < length text) }
+    ensures lacks { IfErr result (LacksText (S.remaining source.old)) }
     ensures failed { (S.failed source.new ≡ true) ↔ (result ≡ Err (fault.Device stream.Config)) }
-    ensures fault { IfErr result IsConfigFault }
 {
     match read_all(alloc, source, MAX_CONFIG_BYTES) {
         Ok(text) => Ok(text),

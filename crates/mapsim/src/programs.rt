@@ -1,9 +1,10 @@
 ghost use Rattle.std.specs.Prelude.{◌≡◌, ◌↔◌, ◌⊎◌, ◌<◌, length, true, false, Ok, Err, IfOk, OnOk, IfErr};
 ghost use Rattle.mapsim.specs.Statuses.{status_of};
 ghost use Rattle.mapsim.specs.Printouts.{Prints, PrintsFront};
-ghost use Rattle.mapsim.specs.Orders.{Does, EndsEarly, EndsWithoutWords, MayEnd, PrintsBroken};
+ghost use Rattle.mapsim.specs.Orders.{Does, Ends, EndsEarly, EndsWithoutWords, MayEnd, MayStop, PrintsBroken};
 ghost use Rattle.mapsim.specs.declared.faults.Fault.TheVariants as fault;
 ghost use Rattle.mapsim.specs.declared.faults.Stream.TheVariants as stream;
+ghost use Rattle.mapsim.specs.declared.orders.Order.{Order};
 ghost use Rattle.mapsim.specs.declared.orders.Order.TheVariants as order;
 
 use crate::checking::check_files;
@@ -33,6 +34,8 @@ where
     E: Write + Drop,
     requires input_ready { I.failed input.old ≡ false }
     requires output_ready { O.failed output.old ≡ false }
+    // It ends as an order does that was done, or as a fault says; a fault of the words comes before anything is printed.
+    ensures ends { Ends (I.remaining input.old) (O.contents output.old) (O.contents output.new) result }
     // Without words it prints what the input gives in two rounds.
     ensures printed { result ≡ Status.Done → length words.now < 2 →
         Prints 2 (I.remaining input.old) (O.contents output.old) (O.contents output.new) }
@@ -77,9 +80,13 @@ where
     O: Sink,
     requires input_ready { I.failed input.old ≡ false }
     requires output_ready { O.failed output.old ≡ false }
+    ensures did { IfOk result (λ ends. (o : Order) ×
+        Does o (I.remaining input.old) (O.contents output.old) (O.contents output.new) ends) }
+    ensures stopped { IfErr result
+        (MayStop (I.remaining input.old) (O.contents output.old) (O.contents output.new)) }
     ensures done { length words.now < 2 → IfOk result
         (Does (order.Pipe 2 1) (I.remaining input.old) (O.contents output.old) (O.contents output.new)) }
-    ensures stopped { length words.now < 2 → IfErr result
+    ensures stopped_alone { length words.now < 2 → IfErr result
         (MayEnd (order.Pipe 2 1) (I.remaining input.old) (O.contents output.old) (O.contents output.new)) }
     ensures broken { result ≡ Ok Status.Broken →
         PrintsBroken (O.contents output.old) (O.contents output.new) }

@@ -4,7 +4,8 @@ ghost use Rattle.us_flows.specs.Answers.{Answers};
 ghost use Rattle.us_flows.specs.Tables.{rounds_fit};
 ghost use Rattle.us_replay.specs.declared.faults.RunFault.TheVariants as run;
 ghost use Rattle.us_replay.specs.Replays.{Growth, Replayed};
-ghost use Rattle.mapsim.specs.Inputs.{IsConfigFault, IsLineFault, IsReplayFault};
+ghost use Rattle.mapsim.specs.Inputs.{IsLineFault, IsReplayFault};
+ghost use Rattle.mapsim.specs.FileFaults.{ComesOfConfig};
 ghost use Rattle.mapsim.specs.OneLine.{StopsLine};
 ghost use Rattle.mapsim.specs.SummaryLines.{IsSummaryOf, summary_line};
 ghost use Rattle.mapsim.specs.declared.faults.Fault.TheVariants as fault;
@@ -55,7 +56,8 @@ fn config_of<S: Source>(
     requires at { config.old.path.now ≡ order.now.config.now }
     requires ready { S.failed config.old.device ≡ false }
     ensures accepted { IfOk result (λ t. IfSome (S.remaining config.old.device) (λ text. Answers text (Ok t))) }
-    ensures fault { IfErr result IsConfigFault }
+    ensures refused { IfErr result (ComesOfConfig (S.remaining config.old.device)) }
+    ensures failed { (S.failed config.new.device ≡ true) ↔ (result ≡ Err (fault.Device stream.Config)) }
 {
     read_config(alloc, &mut config.device)
 }
@@ -68,7 +70,9 @@ fn replay_trace<R: Files + Threads + Sync>(
     order: &FileReplay<'_>,
 ) -> Result<Summary, Fault>
     ensures summary { IfOk result (λ summary. IsSummaryOf order.now.rounds (summary_line summary ++ 10 ∷ [])) }
-    ensures workers { OnOk result ((1 ≤ order.now.workers) × (order.now.workers ≤ 64)) }
+    ensures workers { (result ≡ Err (fault.Run run.Workers)) ↔
+        (rounds_fit config.now order.now.rounds ≡ true) × ((order.now.workers ≡ 0) ⊎ (64 < order.now.workers)) }
+    ensures few { OnOk result ((1 ≤ order.now.workers) × (order.now.workers ≤ 64)) }
     ensures rounds { (result ≡ Err (fault.Run run.Rounds)) ↔ (rounds_fit config.now order.now.rounds ≡ false) }
     ensures fault { IfErr result (λ f. IsReplayFault order.now.workers f × (f ≢ fault.Device stream.Output)) }
 {

@@ -1,8 +1,12 @@
-ghost use Rattle.std.specs.Prelude.{◌≡◌, ◌≢◌, ◌⊎◌, ◌<◌, length, Ok, OnOk, IfErr};
-ghost use Rattle.clap.specs.Words.{kind_of};
+ghost use Rattle.std.specs.Prelude.{◌≡◌, ◌≢◌, ◌⊎◌, ◌<◌, ℕ, length, Ok, OnOk, IfOk, IfErr, IfNone, IfSome};
+ghost use Rattle.clap.specs.Words.{Text, found_of, kind_of, rows_of, subcommand_rows_of};
 ghost use Rattle.clap.specs.declared.error.kind.ErrorKind.TheVariants as kind;
 ghost use Rattle.mapsim.specs.Inputs.{IsWordsFault};
+ghost use Rattle.mapsim.specs.Options.{HasNumber, HasText, IsCheckOf, IsHelp, IsOrderAt, IsReplayOf};
 ghost use Rattle.mapsim.specs.declared.faults.Fault.TheVariants as fault;
+ghost use Rattle.mapsim.specs.declared.orders.FileCheck.{FileCheck};
+ghost use Rattle.mapsim.specs.declared.orders.FileReplay.{FileReplay};
+ghost use Rattle.mapsim.specs.declared.orders.Order.{Order};
 ghost use Rattle.mapsim.specs.declared.orders.Order.TheVariants as order;
 
 use crate::commands::{DEFAULT_ROUNDS, DEFAULT_WORKERS, command};
@@ -37,7 +41,8 @@ pub fn order_of<'a, S: AsStr>(
 
 /// What the words ask for that clap took.
 fn given_order<'a>(alloc: Global, given: &ArgMatches<'a>) -> Result<Order<'a>, Fault>
-    ensures { IfErr result IsWordsFault }
+    ensures asked { IfOk result (IsOrderAt (subcommand_rows_of given.now)) }
+    ensures fault { IfErr result IsWordsFault }
 {
     match order_in(given) {
         Some(order) => Ok(order),
@@ -48,6 +53,7 @@ fn given_order<'a>(alloc: Global, given: &ArgMatches<'a>) -> Result<Order<'a>, F
 
 /// What clap says in place of matches: help, or why the words are refused.
 fn answer<'a>(alloc: Global, error: &Error) -> Result<Order<'a>, Fault>
+    ensures help { IfOk result IsHelp }
     ensures shown { OnOk result ((kind_of error.now ≡ kind.DisplayHelp) ⊎ (kind_of error.now ≡ kind.DisplayVersion)) }
     ensures refused { IfErr result (λ f. (f ≡ fault.NoMemory) ⊎
         (kind_of error.now ≢ kind.DisplayHelp) × (kind_of error.now ≢ kind.DisplayVersion)) }
@@ -73,36 +79,68 @@ fn matches_of<'a, S: AsStr>(
 }
 
 /// What the words that were matched ask for.
-fn order_in<'a>(given: &ArgMatches<'a>) -> Option<Order<'a>> {
+fn order_in<'a>(given: &ArgMatches<'a>) -> Option<Order<'a>>
+    ensures some { IfSome result (IsOrderAt (subcommand_rows_of given.now)) }
+    ensures none { IfNone result ((o : Order) → ¬ (IsOrderAt (subcommand_rows_of given.now) o)) }
+{
     let (name, options) = given.subcommand()?;
     match name {
-        "replay" => file_replay(options),
-        "check" => file_check(options),
-        "dump" => Some(Order::Dump(options.get_str("maps")?)),
+        "replay" => Some(Order::Replay(file_replay(options)?)),
+        "check" => Some(Order::Check(file_check(options)?)),
+        "dump" => Some(Order::Dump(text_of(options, "maps")?)),
         _ => Some(Order::Pipe {
-            rounds: options.get_one::<u32>("rounds")?,
-            workers: options.get_one::<u32>("workers")? as usize,
+            rounds: number_of(options, "rounds")?,
+            workers: number_of(options, "workers")? as usize,
         }),
     }
 }
 
-fn file_replay<'a>(options: &ArgMatches<'a>) -> Option<Order<'a>> {
-    Some(Order::Replay(FileReplay {
-        config: options.get_str("config")?,
-        trace: options.get_str("trace")?,
-        rounds: options.get_one::<u32>("rounds")?,
-        workers: options.get_one::<u32>("workers")? as usize,
-        maps: options.get_str("maps")?,
-        report: options.get_str("report")?,
-    }))
+/// The files and numbers of a replay.
+fn file_replay<'a>(options: &ArgMatches<'a>) -> Option<FileReplay<'a>>
+    ensures some { IfSome result (IsReplayOf (rows_of (found_of options.now))) }
+    ensures none { IfNone result ((files : FileReplay) →
+        ¬ (IsReplayOf (rows_of (found_of options.now)) files)) }
+{
+    Some(FileReplay {
+        config: text_of(options, "config")?,
+        trace: text_of(options, "trace")?,
+        rounds: number_of(options, "rounds")?,
+        workers: number_of(options, "workers")? as usize,
+        maps: text_of(options, "maps")?,
+        report: text_of(options, "report")?,
+    })
 }
 
-fn file_check<'a>(options: &ArgMatches<'a>) -> Option<Order<'a>> {
-    Some(Order::Check(FileCheck {
-        config: options.get_str("config")?,
-        trace: options.get_str("trace")?,
-        rounds: options.get_one::<u32>("rounds")?,
-        maps: options.get_str("maps")?,
-        report: options.get_str("report")?,
-    }))
+/// Those of a check.
+fn file_check<'a>(options: &ArgMatches<'a>) -> Option<FileCheck<'a>>
+    ensures some { IfSome result (IsCheckOf (rows_of (found_of options.now))) }
+    ensures none { IfNone result ((files : FileCheck) →
+        ¬ (IsCheckOf (rows_of (found_of options.now)) files)) }
+{
+    Some(FileCheck {
+        config: text_of(options, "config")?,
+        trace: text_of(options, "trace")?,
+        rounds: number_of(options, "rounds")?,
+        maps: text_of(options, "maps")?,
+        report: text_of(options, "report")?,
+    })
+}
+
+/// The text of this option.
+fn text_of<'a>(options: &ArgMatches<'a>, option: &str) -> Option<&'a str>
+    ensures some { IfSome result (λ text.
+        HasText (rows_of (found_of options.now)) option.now text.now) }
+    ensures none { IfNone result ((text : Text) →
+        ¬ (HasText (rows_of (found_of options.now)) option.now text)) }
+{
+    options.get_str(option)
+}
+
+/// The number of this option.
+fn number_of(options: &ArgMatches<'_>, option: &str) -> Option<u32>
+    ensures some { IfSome result (HasNumber (rows_of (found_of options.now)) option.now) }
+    ensures none { IfNone result ((number : ℕ) →
+        ¬ (HasNumber (rows_of (found_of options.now)) option.now number)) }
+{
+    options.get_one::<u32>(option)
 }

@@ -6,7 +6,7 @@ pub returns-in_err-texts-clause-stopped : goal.returns-in_err-texts-clause-stopp
 returns-in_err-texts-clause-stopped g c =
     let passed = err_from_is_err_and c.from_residual-in_err-texts.result c.from_residual-in_err-texts.ensures.1 in
     rw (passed.1, passed.2) (
-    stops_refused c.args.rounds c.args.workers (g.I.Source.remaining c.args.input.now) c.deref.result.now _ _ _
+    stops_refused c.args.rounds c.args.workers (g.I.Source.remaining c.args.input.now) c.deref.result.now _ _
     (told_read _ _ _ c.in_ok-text.ensures.value c.deref.ensures.value) c.in_err-texts.ensures.refused
     )
 
