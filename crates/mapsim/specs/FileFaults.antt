@@ -1,11 +1,12 @@
 -- Why a file ends an order, where its device tells the bytes that it has. What can't be read, and want of memory, say no
 -- more.
-use Rattle.std.specs.Prelude.{◌≡◌, ℕ, ◌<◌, List, length, Option, Err, IfSome, ⊤}
+use Rattle.std.specs.Prelude.{◌≡◌, ℕ, ◌<◌, List, length, Option, None, Err, IfSome, ⊤}
 use Rattle.us_flows.specs.Ranges.{max_config_bytes}
 use Rattle.us_flows.specs.Tables.{Tables}
 use Rattle.us_flows.specs.Answers.{Answers}
 use Rattle.us_flows.specs.declared.faults.ConfigFault.TheVariants as config
 use Rattle.us_requests.specs.Readings.{Reads}
+use Rattle.us_requests.specs.Texts.{trace_fault}
 use Rattle.us_lawful.specs.Reports.{IsFirstBad}
 use Rattle.us_check.specs.declared.faults.CheckFault.TheVariants as check
 use Rattle.us_replay.specs.declared.faults.RunFault.TheVariants as run
@@ -43,12 +44,16 @@ ComesOfMaps (fault.Device stream.Report) = ⊤
 ComesOfMaps fault.NoMemory = ⊤
 ComesOfMaps _ = ⊥
 
--- one of the trace is what a read of it answers; or it is one of the files behind that
+-- the text of a trace has no fault
+abbrev pub IsSound : Option (List ℕ) → Type 0
+IsSound told = IfSome told (λ text. trace_fault text ≡ None)
+
+-- one of the trace is what a read of it answers; or it is one of the files behind that, which are read once the trace has
+-- no fault
 abbrev pub ComesOfTrace : Tables → ℕ → Option (List ℕ) → Fault → Type 0
 ComesOfTrace t rounds told (fault.Run (run.Trace f)) = Reads t rounds told (Err f)
-ComesOfTrace t rounds told (fault.Check f) = ⊤
-ComesOfTrace t rounds told (fault.Device stream.Trace) = ⊤
-ComesOfTrace t rounds told (fault.Device stream.Maps) = ⊤
-ComesOfTrace t rounds told (fault.Device stream.Report) = ⊤
+ComesOfTrace t rounds told (fault.Check f) = IsSound told
+ComesOfTrace t rounds told (fault.Device stream.Maps) = IsSound told
+ComesOfTrace t rounds told (fault.Device stream.Report) = IsSound told
 ComesOfTrace t rounds told fault.NoMemory = ⊤
 ComesOfTrace t rounds told _ = ⊥

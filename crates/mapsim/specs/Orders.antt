@@ -12,7 +12,7 @@ use Rattle.mapsim.specs.declared.statuses.Status.TheVariants as status
 use Rattle.mapsim.specs.Inputs.{IsWordsFault, IsReplayFault, IsCheckFault}
 use Rattle.mapsim.specs.Dumps.{PrintsDump, StopsDump}
 use Rattle.mapsim.specs.OneLine.{StopsLine}
-use Rattle.mapsim.specs.Printouts.{Prints, Stops}
+use Rattle.mapsim.specs.Printouts.{IsEarly, Prints, Stops}
 use Rattle.mapsim.specs.Statuses.{status_of}
 use Rattle.mapsim.specs.SummaryLines.{IsSummaryOf}
 use Rattle.mapsim.specs.VerdictLines.{IsVerdictOf}
@@ -40,7 +40,8 @@ EndsEarly (order.Replay files) told before after f =
 EndsEarly (order.Check files) told before after f =
     IsCheckFault f × StopsLine (λ line. (ends : Status) × IsVerdictOf files.rounds ends line) before after f
 EndsEarly (order.Dump path) told before after f = StopsDump None before after f
-EndsEarly (order.Pipe rounds workers) told before after f = Stops rounds workers told before after f
+EndsEarly (order.Pipe rounds workers) told before after f =
+    Stops rounds workers told before after f × (IsEarly f → after ≡ before)
 EndsEarly (order.Help text) told before after f =
     (f ≡ fault.Device stream.Output) × AppendsFront before after (string_bytes text)
 

@@ -42,6 +42,7 @@ fn dump_at<S: Source, O: Sink>(
         (PrintsDump (S.remaining maps.old.device) (O.contents output.old) (O.contents output.new)) }
     ensures ended { IfErr result
         (StopsDump (S.remaining maps.old.device) (O.contents output.old) (O.contents output.new)) }
+    ensures failed { (S.failed maps.new.device ≡ true) ↔ (result ≡ Err (fault.Device stream.Maps)) }
     ensures input { IfErr result (λ f. f ≢ fault.Device stream.Input) }
     ensures output { (O.failed output.new ≡ true) ↔ (result ≡ Err (fault.Device stream.Output)) }
 {

@@ -1,5 +1,7 @@
 ghost use Rattle.std.specs.Prelude.{◌≡◌, ◌⊎◌, ◌↔◌, true, false, Ok, Err, IfOk, IfErr, IfSome};
+ghost use Rattle.us_slots.specs.Devices.{TookAtMost};
 ghost use Rattle.us_flows.specs.Answers.{Answers};
+ghost use Rattle.us_flows.specs.Ranges.{max_config_bytes};
 ghost use Rattle.mapsim.specs.FileFaults.{ComesOfConfig, LacksText};
 ghost use Rattle.mapsim.specs.declared.faults.Fault.TheVariants as fault;
 ghost use Rattle.mapsim.specs.declared.faults.Stream.TheVariants as stream;
@@ -14,6 +16,8 @@ pub fn read_config<S: Source>(alloc: Global, source: &mut S) -> Result<Config, F
     requires { S.failed source.old ≡ false }
     ensures accepted { IfOk result (λ t. IfSome (S.remaining source.old) (λ text. Answers text (Ok t))) }
     ensures refused { IfErr result (ComesOfConfig (S.remaining source.old)) }
+    ensures taken { result ≡ Err (fault.Device stream.Config) →
+        TookAtMost max_config_bytes (S.remaining source.old) (S.remaining source.new) }
     ensures failed { (S.failed source.new ≡ true) ↔ (result ≡ Err (fault.Device stream.Config)) }
 {
     let text = text_from(alloc, source)?;
@@ -25,6 +29,8 @@ fn text_from<S: Source>(alloc: Global, source: &mut S) -> Result<Vec<u8>, Fault>
     requires { S.failed source.old ≡ false }
     ensures value { IfOk result (λ v. IfSome (S.remaining source.old) (λ text. v.items ≡ text)) }
     ensures lacks { IfErr result (LacksText (S.remaining source.old)) }
+    ensures taken { result ≡ Err (fault.Device stream.Config) →
+        TookAtMost max_config_bytes (S.remaining source.old) (S.remaining source.new) }
     ensures failed { (S.failed source.new ≡ true) ↔ (result ≡ Err (fault.Device stream.Config)) }
 {
     match read_all(alloc, source, MAX_CONFIG_BYTES) {

@@ -1,4 +1,5 @@
 ghost use Rattle.std.specs.Prelude.{◌≡◌, ◌↔◌, ◌<◌, ◌≤◌, ℕ, length, true, false, Err, IfOk, IfErr, IfSome, OnOk, IsErrAnd};
+ghost use Rattle.us_slots.specs.Devices.{TookAtMost};
 ghost use Rattle.mapsim.specs.Marks.{IsMark};
 ghost use Rattle.mapsim.specs.Dumps.{HasDump};
 ghost use Rattle.mapsim.specs.Inputs.{IsInputFault, fault_in_memory};
@@ -46,6 +47,8 @@ pub fn pipe<H: Threads + Sync, I: Source, O: Sink>(
 
     // Either stream is blamed exactly where it failed.
     ensures input { (I.failed input.new ≡ true) ↔ (result ≡ Err (fault.Device stream.Input)) }
+    ensures taken { result ≡ Err (fault.Device stream.Input) →
+        TookAtMost max_input_bytes (I.remaining input.old) (I.remaining input.new) }
     ensures output { (O.failed output.new ≡ true) ↔ (result ≡ Err (fault.Device stream.Output)) }
 {
     let text = read_input(alloc, input)?;
@@ -62,6 +65,8 @@ fn read_input<I: Source>(alloc: Global, input: &mut I) -> Result<Vec<u8>, Fault>
         MAX_INPUT_BYTES < length text) }
     ensures long { IfSome (I.remaining input.old) (λ text.
         max_input_bytes < length text → IsErrAnd result IsInputFault) }
+    ensures taken { result ≡ Err (fault.Device stream.Input) →
+        TookAtMost max_input_bytes (I.remaining input.old) (I.remaining input.new) }
     ensures failed { (I.failed input.new ≡ true) ↔ (result ≡ Err (fault.Device stream.Input)) }
     ensures fault { IfErr result IsInputFault }
 {

@@ -50,6 +50,9 @@ where
     ensures broken { result ≡ Status.Broken → PrintsBroken (O.contents output.old) (O.contents output.new) }
     ensures input_failed { I.failed input.new ≡ true → result ≡ Status.DeviceFailed }
     ensures output_failed { O.failed output.new ≡ true → result ≡ Status.DeviceFailed }
+    // and without words it ends so only where one did
+    ensures blamed { length words.now < 2 → result ≡ Status.DeviceFailed →
+        (I.failed input.new ≡ true) ⊎ (O.failed output.new ≡ true) }
     // Where it ends as done or as broken, standard output was flushed.
     ensures flushed { (result ≡ Status.Done) ⊎ (result ≡ Status.Broken) → O.flushed output.new ≡ true }
 {
@@ -90,7 +93,7 @@ where
         (MayEnd (order.Pipe 2 1) (I.remaining input.old) (O.contents output.old) (O.contents output.new)) }
     ensures broken { result ≡ Ok Status.Broken →
         PrintsBroken (O.contents output.old) (O.contents output.new) }
-    ensures input_failed { I.failed input.new ≡ true → result ≡ Err (fault.Device stream.Input) }
+    ensures input_failed { (I.failed input.new ≡ true) ↔ (result ≡ Err (fault.Device stream.Input)) }
     ensures output_failed { (O.failed output.new ≡ true) ↔ (result ≡ Err (fault.Device stream.Output)) }
     ensures flushed { OnOk result (O.flushed output.new ≡ true) }
 {
@@ -117,7 +120,7 @@ where
         (Does order.now (I.remaining input.old) (O.contents output.old) (O.contents output.new)) }
     ensures stopped { IfErr result
         (MayEnd order.now (I.remaining input.old) (O.contents output.old) (O.contents output.new)) }
-    ensures input_failed { I.failed input.new ≡ true → result ≡ Err (fault.Device stream.Input) }
+    ensures input_failed { (I.failed input.new ≡ true) ↔ (result ≡ Err (fault.Device stream.Input)) }
     ensures output_failed { (O.failed output.new ≡ true) ↔ (result ≡ Err (fault.Device stream.Output)) }
     ensures flushed { OnOk result (O.flushed output.new ≡ true) }
 {
@@ -145,7 +148,7 @@ where
         (Does order.now (I.remaining input.old) (O.contents output.old) (O.contents output.new)) }
     ensures stopped { IfErr result
         (EndsEarly order.now (I.remaining input.old) (O.contents output.old) (O.contents output.new)) }
-    ensures input_failed { I.failed input.new ≡ true → result ≡ Err (fault.Device stream.Input) }
+    ensures input_failed { (I.failed input.new ≡ true) ↔ (result ≡ Err (fault.Device stream.Input)) }
     ensures output_failed { (O.failed output.new ≡ true) ↔ (result ≡ Err (fault.Device stream.Output)) }
 {
     let alloc = rt.alloc();

@@ -2,7 +2,9 @@ ghost use Rattle.std.specs.Prelude.{◌≡◌, ◌≢◌, ◌↔◌, ◌⊎◌, 
 ghost use Rattle.std.specs.Io.KnownBytes.{Appends};
 ghost use Rattle.us_flows.specs.Answers.{Answers};
 ghost use Rattle.us_flows.specs.Tables.{rounds_fit};
+ghost use Rattle.us_requests.specs.declared.faults.TraceFault.TheVariants as trace_fault;
 ghost use Rattle.us_replay.specs.declared.faults.RunFault.TheVariants as run;
+ghost use Rattle.us_replay.specs.Endings.{blames_maps, blames_report};
 ghost use Rattle.us_replay.specs.Replays.{Growth, Replayed};
 ghost use Rattle.mapsim.specs.Inputs.{IsLineFault, IsReplayFault};
 ghost use Rattle.mapsim.specs.FileFaults.{ComesOfConfig};
@@ -107,7 +109,12 @@ fn replay_at<H: Threads + Sync, S: Source, W1: Sink, W2: Sink>(
         record { before = W2.contents report.old.device; after = W2.contents report.new.device } in
         Replayed config.now order.now.rounds (S.remaining trace.old.device) to_maps to_report result }
     ensures rounds { (result ≡ Err RunFault.Rounds) ↔ (rounds_fit config.now order.now.rounds ≡ false) }
-    ensures workers { result ≡ Err RunFault.Workers → (order.now.workers ≡ 0) ⊎ (64 < order.now.workers) }
+    ensures workers { (result ≡ Err RunFault.Workers) ↔
+        (rounds_fit config.now order.now.rounds ≡ true) × ((order.now.workers ≡ 0) ⊎ (64 < order.now.workers)) }
+    ensures trace_failed { (S.failed trace.new.device ≡ true) ↔ (result ≡ Err (run.Trace trace_fault.Read)) }
+    ensures maps_failed { W1.failed maps.new.device ≡ blames_maps result }
+    ensures report_failed { W2.failed report.new.device ≡ blames_report result }
+    ensures flushed { OnOk result ((W1.flushed maps.new.device ≡ true) × (W2.flushed report.new.device ≡ true)) }
 {
     replay(
         threads,

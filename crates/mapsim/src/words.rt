@@ -42,6 +42,8 @@ pub fn order_of<'a, S: AsStr>(
 /// What the words ask for that clap took.
 fn given_order<'a>(alloc: Global, given: &ArgMatches<'a>) -> Result<Order<'a>, Fault>
     ensures asked { IfOk result (IsOrderAt (subcommand_rows_of given.now)) }
+    ensures refused { IfErr result (λ f. (f ≡ fault.NoMemory) ⊎
+        ((o : Order) → ¬ (IsOrderAt (subcommand_rows_of given.now) o))) }
     ensures fault { IfErr result IsWordsFault }
 {
     match order_in(given) {

@@ -7,4 +7,5 @@ mod devices;
 mod fakes;
 mod numbers;
 mod plain;
+mod texts;
 mod transfers;

@@ -76,11 +76,12 @@ static ENTRIES: [(&[u8], usize, Entries); 8] = [
     (FIVE, 16, (0x11111, 0x22, 0x22)),
 ];
 
-/// Replays a trace over 2 rounds of the bonded run.
-fn replay_past(
+/// Replays a trace over so many rounds of the bonded run's tables.
+pub(super) fn replay_past(
     threads: &(impl Threads + Sync),
     alloc: Global,
     trace: &[u8],
+    rounds: u32,
     workers: usize,
     gate: &(impl Gate + Sync),
 ) {
@@ -88,7 +89,7 @@ fn replay_past(
         let (maps, report) = (writer(BONDED_MAPS, 100), writer(BONDED_REPORT, 100));
         let trace = reader(trace, false);
         let _ = outcome(
-            threads, alloc, &config, 2, workers, gate, trace, maps, report,
+            threads, alloc, &config, rounds, workers, gate, trace, maps, report,
         );
     }
 }
@@ -98,7 +99,7 @@ fn replay_past(
 fn entered_once_for_each_item(rt: HostRuntime) {
     for &(trace, workers, wanted) in &ENTRIES {
         let gate = Counting::new();
-        replay_past(&rt, rt.alloc(), trace, workers, &gate);
+        replay_past(&rt, rt.alloc(), trace, 2, workers, &gate);
         same(&rt, &(workers, gate.seen()), &(workers, wanted), "entries");
     }
 }
@@ -119,24 +120,27 @@ impl Gate for Chunks {
     }
 }
 
-/// A trace of so many requests of one round.
-fn requests(alloc: Global, count: usize) -> Result<String, AllocError> {
+/// A trace of 64 requests in each of so many rounds of 320 ticks.
+pub(super) fn requests(alloc: Global, rounds: u16) -> Result<String, AllocError> {
     let mut text = String::new(alloc);
     text.push_str("tick,channel,sid,units\n")?;
-    for _ in 0..count {
-        text.push_str("0,1,257,10\n")?;
+    for round in 0..rounds {
+        let line = format!(in alloc; "{},1,257,10\n", 320 * u32::from(round))?;
+        for _ in 0..64 {
+            text.push_str(&line)?;
+        }
     }
     Ok(text)
 }
 
-/// None of the most workers that there may be is left out: each gets a chunk.
+/// There are as many chunks as workers, for the most of these that there may be.
 #[test]
 fn chunks_of_64_workers(rt: HostRuntime) {
     let gate = Chunks {
         seen: AtomicU64::new(0),
     };
-    if let Ok(trace) = requests(rt.alloc(), 64) {
-        replay_past(&rt, rt.alloc(), trace.as_bytes(), 64, &gate);
+    if let Ok(trace) = requests(rt.alloc(), 1) {
+        replay_past(&rt, rt.alloc(), trace.as_bytes(), 2, 64, &gate);
     }
     same(&rt, &gate.seen.load(Ordering::SeqCst), &64, "chunks");
 }

@@ -1,6 +1,7 @@
 ghost use Rattle.std.specs.Prelude.{⊤};
 
 use super::base::same;
+use super::entries::{replay_past, requests};
 use super::workers::{BONDED_OUTCOME, expect};
 use std::alloc::Global;
 use std::process::Abort;
@@ -12,27 +13,29 @@ use us_crew::{Gate, Phase};
 /// items are done by the thread of the replay, so a phase is waited in until some have met there.
 const MANY: u64 = 1_000_000;
 
-/// Where the workers of a phase meet.
+/// Where the workers of a phase meet: each so many others.
 #[derive(Drop)]
 struct Square {
+    others: usize,
     entered: AtomicUsize,
     inside: AtomicUsize,
     have_met: AtomicBool,
 }
 
 impl Square {
-    fn new() -> Square {
+    fn new(others: usize) -> Square {
         Square {
+            others,
             entered: AtomicUsize::new(0),
             inside: AtomicUsize::new(0),
             have_met: AtomicBool::new(false),
         }
     }
 
-    /// Stays until two have been here at the same time, for at most so many turns.
+    /// Stays until all have been here at the same time, for at most so many turns.
     fn stay(&self, turns: u64) {
         self.entered.fetch_add(1, Ordering::SeqCst);
-        if self.inside.fetch_add(1, Ordering::SeqCst) > 0 {
+        if self.inside.fetch_add(1, Ordering::SeqCst) >= self.others {
             self.have_met.store(true, Ordering::SeqCst);
         }
         for _ in 0..turns {
@@ -44,7 +47,7 @@ impl Square {
         self.inside.fetch_sub(1, Ordering::SeqCst);
     }
 
-    /// How many entered, and whether two have met.
+    /// How many entered, and whether all have met.
     fn seen(&self) -> (usize, bool) {
         (
             self.entered.load(Ordering::SeqCst),
@@ -85,9 +88,9 @@ fn enter(
 ) {
     let gate = Meeting {
         turns,
-        collect: Square::new(),
-        fill: Square::new(),
-        build: Square::new(),
+        collect: Square::new(1),
+        fill: Square::new(1),
+        build: Square::new(1),
     };
     expect(rt, alloc, workers, &gate, BONDED_OUTCOME);
     let found = (gate.collect.seen(), gate.fill.seen(), gate.build.seen());
@@ -99,6 +102,21 @@ fn enter(
 fn workers_meet_in_each_phase(rt: HostRuntime) {
     let wanted = ((2, true), (4, true), (4, true));
     enter(&rt, rt.alloc(), 2, MANY, wanted);
+}
+
+/// As many as there may be stand at their posts: 64 meet over the chunks of a round, once all have come.
+#[test]
+fn as_many_as_may_be_meet(rt: HostRuntime) {
+    let gate = Meeting {
+        turns: 1_000,
+        collect: Square::new(63),
+        fill: Square::new(1),
+        build: Square::new(1),
+    };
+    if let Ok(trace) = requests(rt.alloc(), 200) {
+        replay_past(&rt, rt.alloc(), trace.as_bytes(), 200, 64, &gate);
+    }
+    same(&rt, &gate.collect.have_met.load(Ordering::SeqCst), &true, "64 never met");
 }
 
 /// One worker has all requests of a round, as one item.
