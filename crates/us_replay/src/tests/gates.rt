@@ -116,7 +116,12 @@ fn as_many_as_may_be_meet(rt: HostRuntime) {
     if let Ok(trace) = requests(rt.alloc(), 200) {
         replay_past(&rt, rt.alloc(), trace.as_bytes(), 200, 64, &gate);
     }
-    same(&rt, &gate.collect.have_met.load(Ordering::SeqCst), &true, "64 never met");
+    same(
+        &rt,
+        &gate.collect.have_met.load(Ordering::SeqCst),
+        &true,
+        "64 never met",
+    );
 }
 
 /// One worker has all requests of a round, as one item.
