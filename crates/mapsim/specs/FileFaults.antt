@@ -1,5 +1,5 @@
 -- Why a file ends an order, where its device tells the bytes that it has. What can't be read, and want of memory, say no
--- more.
+-- more of that file.
 use Rattle.std.specs.Prelude.{◌≡◌, ℕ, ◌<◌, List, length, Option, None, Err, IfSome, ⊤}
 use Rattle.us_flows.specs.Ranges.{max_config_bytes}
 use Rattle.us_flows.specs.Tables.{Tables}
@@ -44,7 +44,7 @@ ComesOfMaps (fault.Device stream.Report) = ⊤
 ComesOfMaps fault.NoMemory = ⊤
 ComesOfMaps _ = ⊥
 
--- the text of a trace has no fault
+-- the text of a trace, where it is told, has no fault
 abbrev pub IsSound : Option (List ℕ) → Type 0
 IsSound told = IfSome told (λ text. trace_fault text ≡ None)
 

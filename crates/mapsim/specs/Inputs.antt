@@ -44,6 +44,16 @@ IsReplayFault workers (fault.Device s) = ⊤
 IsReplayFault workers fault.NoMemory = ⊤
 IsReplayFault workers _ = ⊥
 
+-- a fault of such a replay behind the configuration, and before anything is printed
+abbrev pub IsFilesFault : ℕ → Fault → Type 0
+IsFilesFault workers (fault.Run run.Workers) = (workers ≡ 0) ⊎ (64 < workers)
+IsFilesFault workers (fault.Run f) = ⊤
+IsFilesFault workers (fault.Device stream.Trace) = ⊤
+IsFilesFault workers (fault.Device stream.Maps) = ⊤
+IsFilesFault workers (fault.Device stream.Report) = ⊤
+IsFilesFault workers fault.NoMemory = ⊤
+IsFilesFault workers _ = ⊥
+
 -- a fault of the files that are judged, behind the configuration and the rounds
 abbrev pub IsJudgeFault : Fault → Type 0
 IsJudgeFault (fault.Run (run.Trace f)) = ⊤

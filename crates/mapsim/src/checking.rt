@@ -1,9 +1,12 @@
 ghost use Rattle.std.specs.Prelude.{◌≡◌, ◌↔◌, ◌⊎◌, ℕ, List, [], ◌∷◌, ◌++◌, true, false, None, Some, Ok, Err, IfOk, IfErr, IfSome, OnOk};
 ghost use Rattle.std.specs.Io.KnownBytes.{Appends};
+ghost use Rattle.us_slots.specs.Devices.{TookAtMost};
 ghost use Rattle.us_flows.specs.Answers.{Answers};
+ghost use Rattle.us_flows.specs.Ranges.{max_config_bytes};
 ghost use Rattle.us_flows.specs.Tables.{rounds_fit};
 ghost use Rattle.us_lawful.specs.Runs.{run_in};
 ghost use Rattle.us_check.specs.Verdicts.{verdict_text};
+ghost use Rattle.us_requests.specs.Readings.{max_bytes};
 ghost use Rattle.us_requests.specs.declared.faults.TraceFault.TheVariants as trace_fault;
 ghost use Rattle.us_replay.specs.declared.faults.RunFault.TheVariants as run;
 ghost use Rattle.mapsim.specs.Inputs.{IsCheckFault, IsJudgeFault, IsLineFault};
@@ -43,6 +46,7 @@ pub fn check_files<R: Files, O: Sink>(
     ensures stopped { IfErr result (StopsLine (λ line. (ends : Status) × IsVerdictOf order.now.rounds ends line)
         (O.contents output.old) (O.contents output.new)) }
     ensures output { (O.failed output.new ≡ true) ↔ (result ≡ Err (fault.Device stream.Output)) }
+    ensures unflushed { O.failed output.new ≡ true → O.flushed output.new ≡ false }
 {
     let mut config = open_at(rt, order.config, Stream::Config)?;
     let config = config_of(alloc, order, &mut config)?;
@@ -61,6 +65,8 @@ fn config_of<S: Source>(
     requires ready { S.failed config.old.device ≡ false }
     ensures accepted { IfOk result (λ t. IfSome (S.remaining config.old.device) (λ text. Answers text (Ok t))) }
     ensures refused { IfErr result (ComesOfConfig (S.remaining config.old.device)) }
+    ensures taken { S.failed config.new.device ≡ true →
+        TookAtMost max_config_bytes (S.remaining config.old.device) (S.remaining config.new.device) }
     ensures failed { (S.failed config.new.device ≡ true) ↔ (result ≡ Err (fault.Device stream.Config)) }
 {
     read_config(alloc, &mut config.device)
@@ -98,6 +104,8 @@ fn judge_trace<R: Files, S: Source>(
     ensures verdict { IfOk result
         (IsVerdict config.now order.now.rounds (S.remaining trace.old.device) None None) }
     ensures refused { IfErr result (ComesOfTrace config.now order.now.rounds (S.remaining trace.old.device)) }
+    ensures taken { S.failed trace.new.device ≡ true →
+        TookAtMost max_bytes (S.remaining trace.old.device) (S.remaining trace.new.device) }
     ensures failed { (S.failed trace.new.device ≡ true) ↔ (result ≡ Err (fault.Run (run.Trace trace_fault.Read))) }
 {
     let trace = Trace::read(alloc, &mut trace.device, config, order.rounds)?;
@@ -153,6 +161,7 @@ fn print_verdict<O: Sink>(alloc: Global, verdict: Verdict, output: &mut O) -> Re
     ensures printed { OnOk result
         (Appends (O.contents output.old) (O.contents output.new) (verdict_text verdict ++ 10 ∷ [])) }
     ensures output { (O.failed output.new ≡ true) ↔ (result ≡ Err (fault.Device stream.Output)) }
+    ensures unflushed { O.failed output.new ≡ true → O.flushed output.new ≡ false }
     ensures fault { IfErr result IsLineFault }
     ensures stopped { IfErr result (StopsLine (λ line. line ≡ verdict_text verdict ++ 10 ∷ [])
         (O.contents output.old) (O.contents output.new)) }

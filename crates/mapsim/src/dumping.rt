@@ -23,6 +23,7 @@ pub fn dump_file<R: Files, O: Sink>(
     ensures ended { IfErr result (StopsDump None (O.contents output.old) (O.contents output.new)) }
     ensures input { IfErr result (λ f. f ≢ fault.Device stream.Input) }
     ensures output { (O.failed output.new ≡ true) ↔ (result ≡ Err (fault.Device stream.Output)) }
+    ensures unflushed { O.failed output.new ≡ true → O.flushed output.new ≡ false }
 {
     let mut maps = open_at(rt, path, Stream::Maps)?;
     dump_at(alloc, path, &mut maps, output)
@@ -45,6 +46,7 @@ fn dump_at<S: Source, O: Sink>(
     ensures failed { (S.failed maps.new.device ≡ true) ↔ (result ≡ Err (fault.Device stream.Maps)) }
     ensures input { IfErr result (λ f. f ≢ fault.Device stream.Input) }
     ensures output { (O.failed output.new ≡ true) ↔ (result ≡ Err (fault.Device stream.Output)) }
+    ensures unflushed { O.failed output.new ≡ true → O.flushed output.new ≡ false }
 {
     let file = bytes_from(alloc, &mut maps.device, Stream::Maps)?;
     print_maps(alloc, &file, output)

@@ -24,6 +24,7 @@ pub fn print_maps<O: Sink>(alloc: Global, file: &[u8], output: &mut O) -> Result
         Appends (O.contents output.old) (O.contents output.new) dump) }
     ensures ended { IfErr result (EndsDump file.now (O.contents output.old) (O.contents output.new)) }
     ensures failed { (O.failed output.new ≡ true) ↔ (result ≡ Err (fault.Device stream.Output)) }
+    ensures unflushed { O.failed output.new ≡ true → O.flushed output.new ≡ false }
     ensures fault { IfErr result IsPrintFault }
 {
     let records = match records(alloc, file) {
@@ -53,6 +54,7 @@ fn print_record<O: Sink>(
     ensures ended { IfErr result
         (EndsRecord (piece_at file.now place) index (O.contents output.old) (O.contents output.new)) }
     ensures failed { (O.failed output.new ≡ true) ↔ (result ≡ Err (fault.Device stream.Output)) }
+    ensures unflushed { O.failed output.new ≡ true → O.flushed output.new ≡ false }
     ensures fault { IfErr result IsPrintFault }
 {
     match decode(alloc, &file[place.from..place.to]) {

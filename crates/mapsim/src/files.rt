@@ -16,7 +16,7 @@ pub fn read_config<S: Source>(alloc: Global, source: &mut S) -> Result<Config, F
     requires { S.failed source.old ≡ false }
     ensures accepted { IfOk result (λ t. IfSome (S.remaining source.old) (λ text. Answers text (Ok t))) }
     ensures refused { IfErr result (ComesOfConfig (S.remaining source.old)) }
-    ensures taken { result ≡ Err (fault.Device stream.Config) →
+    ensures taken { S.failed source.new ≡ true →
         TookAtMost max_config_bytes (S.remaining source.old) (S.remaining source.new) }
     ensures failed { (S.failed source.new ≡ true) ↔ (result ≡ Err (fault.Device stream.Config)) }
 {
@@ -29,7 +29,7 @@ fn text_from<S: Source>(alloc: Global, source: &mut S) -> Result<Vec<u8>, Fault>
     requires { S.failed source.old ≡ false }
     ensures value { IfOk result (λ v. IfSome (S.remaining source.old) (λ text. v.items ≡ text)) }
     ensures lacks { IfErr result (LacksText (S.remaining source.old)) }
-    ensures taken { result ≡ Err (fault.Device stream.Config) →
+    ensures taken { S.failed source.new ≡ true →
         TookAtMost max_config_bytes (S.remaining source.old) (S.remaining source.new) }
     ensures failed { (S.failed source.new ≡ true) ↔ (result ≡ Err (fault.Device stream.Config)) }
 {

@@ -64,6 +64,9 @@ mod piping;
 // The program as a function.
 mod programs;
 
+ghost use Rattle.std.specs.Prelude.{IfErr};
+ghost use Rattle.mapsim.specs.Inputs.{IsWordsFault};
+
 use faults::Fault;
 use programs::{end_by, run};
 use std::env;
@@ -89,7 +92,9 @@ fn main(rt: HostRuntime) -> ExitCode {
 }
 
 /// The words of the process, its name first. One that isn't UTF-8 is a usage fault.
-fn process_words(rt: &HostRuntime) -> Result<Vec<String>, Fault> {
+fn process_words(rt: &HostRuntime) -> Result<Vec<String>, Fault>
+    ensures { IfErr result IsWordsFault }
+{
     let alloc = rt.alloc();
     match env::args(rt) {
         Ok(words) => Ok(words.collect(alloc)?),

@@ -1,4 +1,6 @@
-ghost use Rattle.std.specs.Prelude.{◌≡◌, ◌⊎◌, false, IfOk, IfErr};
+ghost use Rattle.std.specs.Prelude.{◌≡◌, ◌≢◌, ◌⊎◌, false, Err, IfOk, IfErr};
+ghost use Rattle.std.specs.IoError.{error_kind};
+ghost use Rattle.std.specs.declared.io.ErrorKind.TheVariants as kind;
 ghost use Rattle.mapsim.specs.declared.faults.Fault.TheVariants as fault;
 
 use crate::faults::{Fault, Stream};
@@ -52,7 +54,9 @@ pub fn create_at<'a, R: Files>(
 
 /// A file that was opened or made, or the fault that says why not.
 fn opened<F>(answer: io::Result<F>, stream: Stream) -> Result<F, Fault>
-    ensures { IfErr result (λ f. (f ≡ fault.Device stream) ⊎ (f ≡ fault.NoMemory)) }
+    ensures memory { IfErr answer (λ error. error_kind error ≡ kind.OutOfMemory → result ≡ Err fault.NoMemory) }
+    ensures device { IfErr answer (λ error. error_kind error ≢ kind.OutOfMemory → result ≡ Err (fault.Device stream)) }
+    ensures fault { IfErr result (λ f. (f ≡ fault.Device stream) ⊎ (f ≡ fault.NoMemory)) }
 {
     match answer {
         Ok(file) => Ok(file),

@@ -47,9 +47,10 @@ pub fn pipe<H: Threads + Sync, I: Source, O: Sink>(
 
     // Either stream is blamed exactly where it failed.
     ensures input { (I.failed input.new ≡ true) ↔ (result ≡ Err (fault.Device stream.Input)) }
-    ensures taken { result ≡ Err (fault.Device stream.Input) →
+    ensures taken { I.failed input.new ≡ true →
         TookAtMost max_input_bytes (I.remaining input.old) (I.remaining input.new) }
     ensures output { (O.failed output.new ≡ true) ↔ (result ≡ Err (fault.Device stream.Output)) }
+    ensures unflushed { O.failed output.new ≡ true → O.flushed output.new ≡ false }
 {
     let text = read_input(alloc, input)?;
     let texts = replay_text(threads, alloc, rounds, workers, &text)?;
@@ -65,7 +66,7 @@ fn read_input<I: Source>(alloc: Global, input: &mut I) -> Result<Vec<u8>, Fault>
         MAX_INPUT_BYTES < length text) }
     ensures long { IfSome (I.remaining input.old) (λ text.
         max_input_bytes < length text → IsErrAnd result IsInputFault) }
-    ensures taken { result ≡ Err (fault.Device stream.Input) →
+    ensures taken { I.failed input.new ≡ true →
         TookAtMost max_input_bytes (I.remaining input.old) (I.remaining input.new) }
     ensures failed { (I.failed input.new ≡ true) ↔ (result ≡ Err (fault.Device stream.Input)) }
     ensures fault { IfErr result IsInputFault }

@@ -1,4 +1,4 @@
-ghost use Rattle.std.specs.Prelude.{◌≡◌, false, OnOk, OnErr, IfErr, is_err};
+ghost use Rattle.std.specs.Prelude.{◌≡◌, true, false, OnOk, OnErr, IfErr, is_err};
 ghost use Rattle.std.specs.Io.KnownBytes.{Appends};
 ghost use Rattle.us_slots.specs.Devices.{AppendsFront};
 ghost use Rattle.mapsim.specs.declared.faults.Fault.TheVariants as fault;
@@ -14,6 +14,7 @@ pub fn print<O: Sink>(output: &mut O, text: &[u8]) -> Result<(), Fault>
     ensures err { OnErr result (AppendsFront (O.contents output.old) (O.contents output.new) text.now) }
     ensures fault { IfErr result (λ f. f ≡ fault.Device stream.Output) }
     ensures failed { O.failed output.new ≡ is_err result }
+    ensures unflushed { O.failed output.new ≡ true → O.flushed output.new ≡ false }
 {
     match write_all(output, text) {
         Ok(()) => Ok(()),

@@ -1,6 +1,7 @@
 ghost use Rattle.std.specs.Prelude.{◌≡◌, ◌↔◌, ◌⊎◌, ◌<◌, length, true, false, Ok, Err, IfOk, OnOk, IfErr};
 ghost use Rattle.mapsim.specs.Statuses.{status_of};
-ghost use Rattle.mapsim.specs.Printouts.{Prints, PrintsFront};
+ghost use Rattle.us_slots.specs.Devices.{TookAtMost};
+ghost use Rattle.mapsim.specs.Printouts.{Prints, PrintsFront, max_input_bytes};
 ghost use Rattle.mapsim.specs.Orders.{Does, Ends, EndsEarly, EndsWithoutWords, MayEnd, MayStop, PrintsBroken};
 ghost use Rattle.mapsim.specs.declared.faults.Fault.TheVariants as fault;
 ghost use Rattle.mapsim.specs.declared.faults.Stream.TheVariants as stream;
@@ -48,9 +49,14 @@ where
         ⊎ Prints 2 (I.remaining input.old) (O.contents output.old) (O.contents output.new) }
     // It ends as broken where it printed such a verdict.
     ensures broken { result ≡ Status.Broken → PrintsBroken (O.contents output.old) (O.contents output.new) }
+    // A stream that failed ends it as a failed device, standard input at its limit at the latest, and standard output isn't
+    // flushed behind that,
     ensures input_failed { I.failed input.new ≡ true → result ≡ Status.DeviceFailed }
+    ensures taken { I.failed input.new ≡ true →
+        TookAtMost max_input_bytes (I.remaining input.old) (I.remaining input.new) }
     ensures output_failed { O.failed output.new ≡ true → result ≡ Status.DeviceFailed }
-    // and without words it ends so only where one did
+    ensures unflushed { O.failed output.new ≡ true → O.flushed output.new ≡ false }
+    // and without words it ends so only where one did.
     ensures blamed { length words.now < 2 → result ≡ Status.DeviceFailed →
         (I.failed input.new ≡ true) ⊎ (O.failed output.new ≡ true) }
     // Where it ends as done or as broken, standard output was flushed.
@@ -94,7 +100,10 @@ where
     ensures broken { result ≡ Ok Status.Broken →
         PrintsBroken (O.contents output.old) (O.contents output.new) }
     ensures input_failed { (I.failed input.new ≡ true) ↔ (result ≡ Err (fault.Device stream.Input)) }
+    ensures taken { I.failed input.new ≡ true →
+        TookAtMost max_input_bytes (I.remaining input.old) (I.remaining input.new) }
     ensures output_failed { (O.failed output.new ≡ true) ↔ (result ≡ Err (fault.Device stream.Output)) }
+    ensures unflushed { O.failed output.new ≡ true → O.flushed output.new ≡ false }
     ensures flushed { OnOk result (O.flushed output.new ≡ true) }
 {
     let helps = Helps::new(rt.alloc())?;
@@ -121,7 +130,10 @@ where
     ensures stopped { IfErr result
         (MayEnd order.now (I.remaining input.old) (O.contents output.old) (O.contents output.new)) }
     ensures input_failed { (I.failed input.new ≡ true) ↔ (result ≡ Err (fault.Device stream.Input)) }
+    ensures taken { I.failed input.new ≡ true →
+        TookAtMost max_input_bytes (I.remaining input.old) (I.remaining input.new) }
     ensures output_failed { (O.failed output.new ≡ true) ↔ (result ≡ Err (fault.Device stream.Output)) }
+    ensures unflushed { O.failed output.new ≡ true → O.flushed output.new ≡ false }
     ensures flushed { OnOk result (O.flushed output.new ≡ true) }
 {
     let status = carry_out(rt, order, input, output)?;
@@ -149,7 +161,10 @@ where
     ensures stopped { IfErr result
         (EndsEarly order.now (I.remaining input.old) (O.contents output.old) (O.contents output.new)) }
     ensures input_failed { (I.failed input.new ≡ true) ↔ (result ≡ Err (fault.Device stream.Input)) }
+    ensures taken { I.failed input.new ≡ true →
+        TookAtMost max_input_bytes (I.remaining input.old) (I.remaining input.new) }
     ensures output_failed { (O.failed output.new ≡ true) ↔ (result ≡ Err (fault.Device stream.Output)) }
+    ensures unflushed { O.failed output.new ≡ true → O.flushed output.new ≡ false }
 {
     let alloc = rt.alloc();
     match order {

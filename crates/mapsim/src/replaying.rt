@@ -1,12 +1,15 @@
-ghost use Rattle.std.specs.Prelude.{◌≡◌, ◌≢◌, ◌↔◌, ◌⊎◌, ◌<◌, ◌≤◌, ℕ, List, [], ◌∷◌, ◌++◌, true, false, Ok, Err, IfOk, IfErr, IfSome, OnOk};
+ghost use Rattle.std.specs.Prelude.{◌≡◌, ◌↔◌, ◌⊎◌, ◌<◌, ◌≤◌, ℕ, List, [], ◌∷◌, ◌++◌, true, false, Ok, Err, IfOk, IfErr, IfSome, OnOk};
 ghost use Rattle.std.specs.Io.KnownBytes.{Appends};
+ghost use Rattle.us_slots.specs.Devices.{TookAtMost};
 ghost use Rattle.us_flows.specs.Answers.{Answers};
+ghost use Rattle.us_flows.specs.Ranges.{max_config_bytes};
 ghost use Rattle.us_flows.specs.Tables.{rounds_fit};
+ghost use Rattle.us_requests.specs.Readings.{max_bytes};
 ghost use Rattle.us_requests.specs.declared.faults.TraceFault.TheVariants as trace_fault;
 ghost use Rattle.us_replay.specs.declared.faults.RunFault.TheVariants as run;
 ghost use Rattle.us_replay.specs.Endings.{blames_maps, blames_report};
 ghost use Rattle.us_replay.specs.Replays.{Growth, Replayed};
-ghost use Rattle.mapsim.specs.Inputs.{IsLineFault, IsReplayFault};
+ghost use Rattle.mapsim.specs.Inputs.{IsFilesFault, IsLineFault, IsReplayFault};
 ghost use Rattle.mapsim.specs.FileFaults.{ComesOfConfig};
 ghost use Rattle.mapsim.specs.OneLine.{StopsLine};
 ghost use Rattle.mapsim.specs.SummaryLines.{IsSummaryOf, summary_line};
@@ -42,6 +45,7 @@ pub fn replay_files<R: Files + Threads + Sync, O: Sink>(
     ensures stopped { IfErr result
         (StopsLine (IsSummaryOf order.now.rounds) (O.contents output.old) (O.contents output.new)) }
     ensures output { (O.failed output.new ≡ true) ↔ (result ≡ Err (fault.Device stream.Output)) }
+    ensures unflushed { O.failed output.new ≡ true → O.flushed output.new ≡ false }
 {
     let mut config = open_at(rt, order.config, Stream::Config)?;
     let config = config_of(alloc, order, &mut config)?;
@@ -59,6 +63,8 @@ fn config_of<S: Source>(
     requires ready { S.failed config.old.device ≡ false }
     ensures accepted { IfOk result (λ t. IfSome (S.remaining config.old.device) (λ text. Answers text (Ok t))) }
     ensures refused { IfErr result (ComesOfConfig (S.remaining config.old.device)) }
+    ensures taken { S.failed config.new.device ≡ true →
+        TookAtMost max_config_bytes (S.remaining config.old.device) (S.remaining config.new.device) }
     ensures failed { (S.failed config.new.device ≡ true) ↔ (result ≡ Err (fault.Device stream.Config)) }
 {
     read_config(alloc, &mut config.device)
@@ -76,7 +82,7 @@ fn replay_trace<R: Files + Threads + Sync>(
         (rounds_fit config.now order.now.rounds ≡ true) × ((order.now.workers ≡ 0) ⊎ (64 < order.now.workers)) }
     ensures few { OnOk result ((1 ≤ order.now.workers) × (order.now.workers ≤ 64)) }
     ensures rounds { (result ≡ Err (fault.Run run.Rounds)) ↔ (rounds_fit config.now order.now.rounds ≡ false) }
-    ensures fault { IfErr result (λ f. IsReplayFault order.now.workers f × (f ≢ fault.Device stream.Output)) }
+    ensures fault { IfErr result (IsFilesFault order.now.workers) }
 {
     check_run(config, order.rounds, order.workers)?;
     let mut trace = open_at(rt, order.trace, Stream::Trace)?;
@@ -112,9 +118,13 @@ fn replay_at<H: Threads + Sync, S: Source, W1: Sink, W2: Sink>(
     ensures workers { (result ≡ Err RunFault.Workers) ↔
         (rounds_fit config.now order.now.rounds ≡ true) × ((order.now.workers ≡ 0) ⊎ (64 < order.now.workers)) }
     ensures trace_failed { (S.failed trace.new.device ≡ true) ↔ (result ≡ Err (run.Trace trace_fault.Read)) }
+    ensures trace_taken { S.failed trace.new.device ≡ true →
+        TookAtMost max_bytes (S.remaining trace.old.device) (S.remaining trace.new.device) }
     ensures maps_failed { W1.failed maps.new.device ≡ blames_maps result }
     ensures report_failed { W2.failed report.new.device ≡ blames_report result }
     ensures flushed { OnOk result ((W1.flushed maps.new.device ≡ true) × (W2.flushed report.new.device ≡ true)) }
+    ensures maps_unflushed { W1.failed maps.new.device ≡ true → W1.flushed maps.new.device ≡ false }
+    ensures report_unflushed { W2.failed report.new.device ≡ true → W2.flushed report.new.device ≡ false }
 {
     replay(
         threads,
@@ -135,6 +145,7 @@ fn print_summary<O: Sink>(alloc: Global, summary: Summary, output: &mut O) -> Re
     ensures printed { OnOk result
         (Appends (O.contents output.old) (O.contents output.new) (summary_line summary ++ 10 ∷ [])) }
     ensures output { (O.failed output.new ≡ true) ↔ (result ≡ Err (fault.Device stream.Output)) }
+    ensures unflushed { O.failed output.new ≡ true → O.flushed output.new ≡ false }
     ensures fault { IfErr result IsLineFault }
     ensures stopped { IfErr result (StopsLine (λ line. line ≡ summary_line summary ++ 10 ∷ [])
         (O.contents output.old) (O.contents output.new)) }

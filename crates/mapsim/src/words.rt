@@ -1,4 +1,4 @@
-ghost use Rattle.std.specs.Prelude.{◌≡◌, ◌≢◌, ◌⊎◌, ◌<◌, ℕ, length, Ok, OnOk, IfOk, IfErr, IfNone, IfSome};
+ghost use Rattle.std.specs.Prelude.{◌≡◌, ◌≢◌, ◌⊎◌, ◌<◌, ℕ, length, Ok, Err, OnOk, IfOk, IfErr, IfNone, IfSome};
 ghost use Rattle.clap.specs.Words.{Text, found_of, kind_of, rows_of, subcommand_rows_of};
 ghost use Rattle.clap.specs.declared.error.kind.ErrorKind.TheVariants as kind;
 ghost use Rattle.mapsim.specs.Inputs.{IsWordsFault};
@@ -56,6 +56,7 @@ fn given_order<'a>(alloc: Global, given: &ArgMatches<'a>) -> Result<Order<'a>, F
 /// What clap says in place of matches: help, or why the words are refused.
 fn answer<'a>(alloc: Global, error: &Error) -> Result<Order<'a>, Fault>
     ensures help { IfOk result IsHelp }
+    ensures memory { kind_of error.now ≡ kind.OutOfMemory → result ≡ Err fault.NoMemory }
     ensures shown { OnOk result ((kind_of error.now ≡ kind.DisplayHelp) ⊎ (kind_of error.now ≡ kind.DisplayVersion)) }
     ensures refused { IfErr result (λ f. (f ≡ fault.NoMemory) ⊎
         (kind_of error.now ≢ kind.DisplayHelp) × (kind_of error.now ≢ kind.DisplayVersion)) }
