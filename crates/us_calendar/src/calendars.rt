@@ -131,8 +131,8 @@ impl Calendar {
         Ok(settled)
     }
 
-    /// Does what [`Calendar::run`] does, and answers in a list that is kept: it is cleared first, and keeps its room. After
-    /// want of memory nothing is said of calendar, board and list.
+    /// Does what [`Calendar::run`] does, and answers in a list of the caller's. Nothing stays that stood there. After want
+    /// of memory nothing is said of calendar, board and list.
     pub fn run_into(
         &mut self,
         round: u32,

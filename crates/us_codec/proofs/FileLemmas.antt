@@ -12,7 +12,7 @@ use Rattle.us_codec.specs.declared.faults.MapFault.{MapFault}
 use Rattle.us_codec.specs.declared.faults.MapFault.TheVariants.{NoMemory, RecordCut}
 use Rattle.us_codec.specs.Answers.{ListUnlessNoMemory}
 use Rattle.us_codec.specs.declared.maps_files.Record.{Record}
-use Rattle.us_codec.specs.MapsFiles.{Piece, IsPiece, record_bytes, maps_file, places, piece_at, IsMapsFile, EndsInside}
+use Rattle.us_codec.specs.MapsFiles.{Piece, IsPiece, record_bytes, maps_file, places, piece_at, IsMapsFile, EndsInside, BeginsWhole}
 use Rattle.us_codec.proofs.WordLemmas.{AreBytes, four-bytes}
 
 -- the length that the first six bytes state
@@ -230,6 +230,23 @@ places-more at (q ∷ qs) p =
     ap (λ later. place-of at q ∷ later) more ∙
     ap (λ n. place-of at q ∷ (places next qs ++ place-of n p ∷ [])) there
 
+-- memory is asked for behind a whole record: the first of those before, or this one
+begins-of : (bytes rest : List ℕ) (ps : List Piece) → AllByRecursion IsPiece ps → bytes ≡ maps_file ps ++ rest →
+    AreBytes rest → 6 + stated rest ≤ length rest → BeginsWhole bytes
+unfolding maps_file
+begins-of bytes rest [] each whole are long = record {
+  first = first_piece rest;
+  lawful = first-is-piece rest are long;
+  behind = drop (6 + stated rest) rest;
+  spelled = whole ∙ piece-found rest are long;
+}
+begins-of bytes rest (p ∷ ps) each whole are long = record {
+  first = p;
+  lawful = each.0;
+  behind = maps_file ps ++ rest;
+  spelled = whole ∙ append_assoc (record_bytes p) (maps_file ps) rest;
+}
+
 -- the rest of bytes are bytes
 rest-are : (bytes done rest : List ℕ) → AreBytes bytes → bytes ≡ done ++ rest → AreBytes rest
 rest-are bytes done rest are is = λ i.
@@ -285,6 +302,12 @@ read-step bytes rest after at round from to records are r long is is-round is-fr
       place = omega (arith, done, length-piece p, body, r.place);
       long = omega (arith, parts, length-piece p, body, r.long);
     }
+
+pub begins-whole : (bytes rest : List ℕ) (at : ℕ) (records : List Record) → AreBytes bytes →
+    Read bytes rest at records →
+    6 + stated rest ≤ length rest → BeginsWhole bytes
+begins-whole bytes rest at records are r long =
+    begins-of bytes rest r.pieces r.each r.whole (rest-are bytes (maps_file r.pieces) rest are r.whole) long
 
 -- a rest that is shorter than the record that it begins is a part of that record, with zeros behind it
 zeros-after : (rest : List ℕ) (n i : ℕ) → get_or (rest ++ replicate n 0) i 0 ≡ get_or rest i 0

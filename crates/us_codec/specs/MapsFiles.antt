@@ -41,6 +41,13 @@ pub record IsMapsFile (bytes : List ℕ) (records : List Record) : Type 0 where
   -- so that what stands there is what the records have
   pub found : map (piece_at bytes) records ≡ pieces
 
+-- a whole record stands in front
+pub record BeginsWhole (bytes : List ℕ) : Type 0 where
+  pub first : Piece
+  pub lawful : IsPiece first
+  pub behind : List ℕ
+  pub spelled : bytes ≡ record_bytes first ++ behind
+
 -- these bytes end inside a record: one begins behind whole ones, and isn't all there
 pub record EndsInside (bytes : List ℕ) : Type 0 where
   pub pieces : List Piece

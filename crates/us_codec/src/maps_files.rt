@@ -1,6 +1,6 @@
 ghost use Rattle.std.specs.Prelude.{◌≡◌, ◌≢◌, ◌<◌, ◌≤◌, length, List, Ok, Err, IsOk, IfOk, IfErr};
 ghost use Rattle.std.specs.List.{All, AllByRecursion};
-ghost use Rattle.us_codec.specs.MapsFiles.{Piece, IsPiece, maps_file, places, IsMapsFile, EndsInside};
+ghost use Rattle.us_codec.specs.MapsFiles.{Piece, IsPiece, maps_file, places, IsMapsFile, EndsInside, BeginsWhole};
 ghost use Rattle.us_codec.specs.Answers.{ListUnlessNoMemory};
 ghost use Rattle.us_codec.specs.declared.faults.MapFault.TheVariants.{NoMemory, RecordCut};
 
@@ -34,6 +34,7 @@ pub fn records(alloc: Global, file: &[u8]) -> Result<Vec<Record>, MapFault>
     ensures cut { EndsInside file.now → ListUnlessNoMemory result (Err RecordCut) }
     ensures empty { length file.now ≡ 0 → IsOk result }
     ensures short { 0 < length file.now → length file.now < 6 → result ≡ Err RecordCut }
+    ensures wanting { result ≡ Err NoMemory → BeginsWhole file.now }
 {
     split(alloc, file)
 }
@@ -46,6 +47,7 @@ fn split(alloc: Global, file: &[u8]) -> Result<Vec<Record>, MapFault>
     ensures inside { IfErr result (λ fault. fault ≢ NoMemory → EndsInside file.now) }
     ensures empty { length file.now ≡ 0 → IsOk result }
     ensures short { 0 < length file.now → length file.now < 6 → result ≡ Err RecordCut }
+    ensures wanting { result ≡ Err NoMemory → BeginsWhole file.now }
 {
     let mut found = Vec::new(alloc);
     let mut rest = file;

@@ -1,4 +1,4 @@
-ghost use Rattle.std.specs.Prelude.{◌≡◌, ◌-◌, ◌<◌, ℕ, IfOk, slice_get, vec_len};
+ghost use Rattle.std.specs.Prelude.{◌≡◌, ◌-◌, ◌<◌, ℕ, IfOk, OnErr, slice_get, vec_len};
 ghost use Rattle.rtrb.specs.Ring.{sent, received, known_free};
 ghost use Rattle.us_crew.specs.Orders.{AskFor};
 
@@ -96,6 +96,7 @@ impl<J: Job<A> + Drop, A: Drop> Crew<J, A> {
         ensures others { (i : ℕ) → ¬ (i ≡ worker) →
             slice_get self.new.lines.items i ≡ slice_get self.old.lines.items i }
         ensures asked { IfOk result (λ pending. AskFor job (received pending.answers)) }
+        ensures stays { OnErr result (self.new ≡ self.old) }
     {
         let (order, answers) = ordered(alloc, job)?;
         self.lines[worker].send(order);

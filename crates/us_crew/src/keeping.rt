@@ -52,7 +52,8 @@ fn by_crew<
 /// waits for all that it gave items to, spinning at first and then giving its processor to others. As long as nobody
 /// stands at a post, as where no thread is to be had, the owner does the items of that worker itself.
 ///
-/// On a fault the items are given up. Before anything is answered, every worker is done with its items.
+/// On a fault the items are given up. Where memory was wanting, a worker may have some of them yet, and its answer is
+/// dropped.
 pub fn map_kept<
     J: Holds<Task<W, G, T>, Result<Vec<R>, CrewFault<E>>, A, At> + Drop,
     A: Drop,
@@ -84,7 +85,7 @@ pub fn map_kept<
     // The workers that there are can't be blamed.
     ensures workers { ¬ (result ≡ Err CrewFault.Workers) }
 
-    // No worker leaves the crew.
+    // The crew has as many workers as before.
     ensures kept { vec_len crew.new.lines ≡ vec_len crew.old.lines }
 {
     if items.is_empty() {

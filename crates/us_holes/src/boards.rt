@@ -1,4 +1,4 @@
-ghost use Rattle.std.specs.Prelude.{◌≡◌, ℕ, ◌+◌, ◌*◌, ◌-◌, ◌≤◌, ◌<◌, ◌++◌, max, false, IfOk, OnOk, IsOk, IfSome, IfNone, Some, length, vec_len, vec_capacity};
+ghost use Rattle.std.specs.Prelude.{◌≡◌, ℕ, ◌+◌, ◌*◌, ◌-◌, ◌≤◌, ◌<◌, ◌++◌, max, false, IfOk, OnOk, OnErr, IsOk, IfSome, IfNone, Some, length, vec_len, vec_capacity};
 ghost use Rattle.std.specs.List.{flat_map};
 ghost use Rattle.us_holes.specs.Boards as spec;
 ghost use Rattle.us_holes.specs.Kept.{IsBoard};
@@ -188,6 +188,10 @@ impl Board {
         ensures room { OnOk result (vec_capacity found.new ≡
             max (vec_capacity found.old) (vec_len found.old + (2 * self.now.standing + 1))) }
         ensures spared { vec_len found.old + (2 * self.now.standing + 1) ≤ vec_capacity found.old → IsOk result }
+
+        // Where memory is wanting, the list is as it was.
+        ensures stays { OnErr result (found.new.items ≡ found.old.items) }
+        ensures room_stays { OnErr result (vec_capacity found.new ≡ vec_capacity found.old) }
     {
         found.reserve_exact(2 * self.assigned.len() + 1)?;
         let mut walk = self.walk();

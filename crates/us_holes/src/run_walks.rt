@@ -9,8 +9,8 @@ use crate::placed::beginning_at;
 use crate::runs::Run;
 use std::marker::Model;
 
-/// A walk along a board from minislot to minislot: at each a hole begins or an assignment does. It hands out one run after
-/// another, without a list of them.
+/// A walk along a board, from its first minislot to behind its last. It hands out one run after another, without a list
+/// of them: where a run ends, a hole begins or an assignment does.
 #[derive(Drop)]
 pub struct RunWalk<'a> {
     // the assignments as they were put, and the place of each by the minislot at which it begins
@@ -78,6 +78,7 @@ impl<'a> RunWalk<'a> {
     pub fn next(&mut self) -> Option<Run>
         ensures some { IfSome result (λ run. self.old ≡ run ∷ self.new) }
         ensures none { IfNone result (self.old ≡ []) }
+        ensures ended { IfNone result (self.new ≡ []) }
 
         // A run begins inside a board.
         ensures inside { IfSome result (λ run. run.start < boards.max_minislots) }

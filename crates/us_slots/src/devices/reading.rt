@@ -79,6 +79,8 @@ pub fn read_all<S: Source>(alloc: Global, source: &mut S, most: usize) -> Result
     ensures large { result ≡ Err ReadFault.TooLarge → IfSome (S.remaining source.old) (λ bytes. most < length bytes) }
     ensures taken { result ≡ Err ReadFault.Failed →
         TookAtMost most (S.remaining source.old) (S.remaining source.new) }
+    ensures wanting { result ≡ Err ReadFault.NoMemory →
+        TookAtMost most (S.remaining source.old) (S.remaining source.new) }
     ensures failed { (S.failed source.new ≡ true) ↔ (result ≡ Err ReadFault.Failed) }
 {
     let mut bytes = Vec::new(alloc);

@@ -46,6 +46,9 @@ returns-then-self-2-clause-none c =
     sym c.self.view_is
     ∙ walk_done w.placed.now w.numbers.now w.holes.now w.len w.from w.next w.idle_from c.if-self.false c.if-self-2.true c.self.invariant
 
+pub returns-then-self-2-clause-ended : goal.returns-then-self-2-clause-ended
+returns-then-self-2-clause-ended c = returns-then-self-2-clause-none c
+
 pub invariant_of-self-2 : goal.invariant_of-self-2
 invariant_of-self-2 c =
     let w = c.self.inside in
