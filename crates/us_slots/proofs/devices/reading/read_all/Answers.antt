@@ -1,4 +1,4 @@
-use Rattle.std.proofs.Common.{◌≤◌, ◌++◌, List, take, length, length-append, ℕ, arith}
+use Rattle.std.proofs.Common.{◌++◌, List, take, length-append, ℕ, arith}
 use Rattle.std.proofs.lemmas.List.{length-take}
 use Rattle.std.proofs.KnownBytes.{Consumes-trans}
 use Rattle.us_slots.proofs.devices.reading.read_all.Goals as goal
