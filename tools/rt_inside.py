@@ -21,6 +21,7 @@ It relies on:
 
 Where the kit differs, the program ends with one line that says in what.
 """
+import functools
 import importlib.machinery
 import importlib.util
 import inspect
@@ -130,6 +131,12 @@ def said_of(crate, texts, kept):
 def is_built(crate):
     """Builds a crate's library where it doesn't stand, and says whether it stands now."""
     return crate.build_rlib(FLAGS, anew=False) == 0
+
+
+def keep_sums():
+    """Has each crate keep the sum of all that its library is made from: nothing of that changes any more. `rt` forms it anew
+    wherever it is asked for, out of all crates below too, and for the upper crates that takes minutes."""
+    rt.rtlib.Crate.stamp = functools.cache(rt.rtlib.Crate.stamp)
 
 
 def take_library(crate, other):
