@@ -48,6 +48,8 @@ FUNCTIONS = {
     "free": (),
 }
 FLAGS = ["--jobs", "1"]
+# Most bytes of memory that one check was seen to take.
+BYTES_PER_CHECK = 5_000_000_000
 
 
 def stop(why):
@@ -170,6 +172,9 @@ def end_together():
     rt.rtlib.guarded()
 
 
-def checks_at_once(bytes_per_check):
-    """How many checks the processors and the free memory allow."""
-    return max(min(rt.processors(), int(rt.free() / bytes_per_check)), 1)
+def checks_at_once():
+    """How many checks go side by side: as many as RT_JOBS says, or else as the processors and the free memory allow."""
+    given = os.environ.get("RT_JOBS", "")
+    if given.isdigit() and int(given):
+        return int(given)
+    return max(min(rt.processors(), int(rt.free() / BYTES_PER_CHECK)), 1)
