@@ -48,8 +48,8 @@ FUNCTIONS = {
     "free": (),
 }
 FLAGS = ["--jobs", "1"]
-# Bytes of memory that are reckoned for a check. In the gate none was seen to take over 3.9 GB; once one took 7.7, of a wrong
-# program in a trial.
+# Bytes of memory that are reckoned for a check. In the gate none was seen to take over 4.1 GB; once one took some 7.7, of a
+# wrong program in a trial.
 BYTES_PER_CHECK = 5_000_000_000
 
 
