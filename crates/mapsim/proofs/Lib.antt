@@ -1,10 +1,3 @@
 pub mod DumpLemmas
-pub mod FileFaultLemmas
 pub mod MarkLemmas
-pub mod OneLineLemmas
-pub mod OptionLemmas
-pub mod OrderLemmas
 pub mod PrintoutLemmas
-pub mod SummaryLemmas
-pub mod VerdictLemmas
-pub mod WholeLemmas

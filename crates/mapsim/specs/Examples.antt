@@ -10,9 +10,7 @@ use Rattle.us_flows.specs.declared.faults.ConfigFault.TheVariants as config
 use Rattle.us_requests.specs.declared.faults.TraceFault.TheVariants as trace
 use Rattle.us_check.specs.declared.faults.CheckFault.TheVariants as check
 use Rattle.us_check.specs.declared.rules.Rule.TheVariants as rule
-use Rattle.us_check.specs.declared.verdicts.Verdict.{Verdict}
 use Rattle.us_check.specs.declared.verdicts.Verdict.TheVariants as verdict
-use Rattle.us_check.specs.Verdicts.{verdict_text}
 use Rattle.us_replay.specs.declared.faults.RunFault.TheVariants as run
 use Rattle.mapsim.specs.declared.faults.Stream.TheVariants as stream
 use Rattle.mapsim.specs.declared.faults.Fault.{Fault}
@@ -21,7 +19,6 @@ use Rattle.mapsim.specs.Lines.{fault_line}
 use Rattle.mapsim.specs.Statuses.{code_of, status_of, verdict_status}
 use Rattle.mapsim.specs.Marks.{IsMark, IsSplit}
 use Rattle.mapsim.specs.MapLines.{lines_of}
-use Rattle.mapsim.specs.SummaryLines.{summary_line}
 
 -- a grant of 32 minislots, a gap, the contention of ten and the Null: the second MAP of the stored run
 abbrev element : ℕ → ℕ → ℕ → MapElement
@@ -36,17 +33,6 @@ granted = refl
 pending : lines_of 0 2 (element 0 7 160 ∷ element 291 10 160 ∷ []) ≡ codes "0 2 160 0 0 7\n0 2 160 0 291 10\n"
 unfolding lines_of digits
 pending = refl
-
-summary : summary_line (record {
-  rounds = 2;
-  granted = 1;
-  missed = 0;
-  unknown = 0;
-  not_requestable = 0;
-  late = 0;
-}) ≡ codes "rounds 2 granted 1 missed 0 unknown 0 not_requestable 0 late 0"
-unfolding digits
-summary = refl
 
 -- a fault's line and status
 abbrev ends : Fault → List ℕ × ℕ
@@ -80,14 +66,10 @@ failed :
 unfolding digits
 failed = (refl, refl, refl, refl, refl, refl, refl)
 
--- a verdict's line, without its line feed, and its status
-abbrev judges : Verdict → List ℕ × ℕ
-judges v = (verdict_text v, code_of (verdict_status v))
-
+-- a verdict's status
 judged :
-    (judges verdict.Holds ≡ (codes "holds", 0)) ×
-    (judges (verdict.Broken rule.Minislots 1 1 150) ≡ (codes "broken P3 1 1 150", 1))
-unfolding digits
+    (code_of (verdict_status verdict.Holds) ≡ 0) ×
+    (code_of (verdict_status (verdict.Broken rule.Minislots 1 1 150)) ≡ 1)
 judged = (refl, refl)
 
 -- the first of two marks; what looks like one within a line is none

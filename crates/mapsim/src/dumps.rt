@@ -1,12 +1,8 @@
-ghost use Rattle.std.specs.Prelude.{◌≡◌, ◌↔◌, ◌≤◌, ℕ, List, length, slice_range, true, false, Err, IfErr, OnOk};
+ghost use Rattle.std.specs.Prelude.{◌≡◌, ◌≤◌, ℕ, List, length, slice_range, false, OnOk};
 ghost use Rattle.std.specs.Io.KnownBytes.{Appends};
 ghost use Rattle.us_codec.specs.Bodies.{MapBody, SpellsMap};
-ghost use Rattle.us_codec.specs.MapsFiles.{piece_at};
 ghost use Rattle.mapsim.specs.MapLines.{lines_of};
-ghost use Rattle.mapsim.specs.Inputs.{IsPrintFault};
-ghost use Rattle.mapsim.specs.Dumps.{IsDump, EndsRecord, EndsDump};
-ghost use Rattle.mapsim.specs.declared.faults.Fault.TheVariants as fault;
-ghost use Rattle.mapsim.specs.declared.faults.Stream.TheVariants as stream;
+ghost use Rattle.mapsim.specs.Dumps.{IsDump};
 
 use crate::faults::Fault;
 use crate::map_lines::map_lines;
@@ -22,10 +18,7 @@ pub fn print_maps<O: Sink>(alloc: Global, file: &[u8], output: &mut O) -> Result
     requires { O.failed output.old ≡ false }
     ensures printed { OnOk result ((dump : List ℕ) × IsDump file.now dump ×
         Appends (O.contents output.old) (O.contents output.new) dump) }
-    ensures ended { IfErr result (EndsDump file.now (O.contents output.old) (O.contents output.new)) }
-    ensures failed { (O.failed output.new ≡ true) ↔ (result ≡ Err (fault.Device stream.Output)) }
-    ensures unflushed { O.failed output.new ≡ true → O.flushed output.new ≡ false }
-    ensures fault { IfErr result IsPrintFault }
+    ensures ready { OnOk result (O.failed output.new ≡ false) }
 {
     let records = match records(alloc, file) {
         Ok(records) => records,
@@ -51,11 +44,7 @@ fn print_record<O: Sink>(
     ensures printed { OnOk result ((map : MapBody) × SpellsMap (slice_range file.now place.from place.to) map ×
         Appends (O.contents output.old) (O.contents output.new)
         (lines_of place.round map.head.channel map.elements)) }
-    ensures ended { IfErr result
-        (EndsRecord (piece_at file.now place) index (O.contents output.old) (O.contents output.new)) }
-    ensures failed { (O.failed output.new ≡ true) ↔ (result ≡ Err (fault.Device stream.Output)) }
-    ensures unflushed { O.failed output.new ≡ true → O.flushed output.new ≡ false }
-    ensures fault { IfErr result IsPrintFault }
+    ensures ready { OnOk result (O.failed output.new ≡ false) }
 {
     match decode(alloc, &file[place.from..place.to]) {
         Ok(map) => {

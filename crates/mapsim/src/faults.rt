@@ -7,6 +7,7 @@ use std::alloc::{AllocError, AllocFailed};
 use std::fmt;
 use us_check::CheckFault;
 use us_codec::MapFault;
+use us_command_line::WordsFault;
 use us_flows::ConfigFault;
 use us_replay::RunFault;
 use us_requests::TraceFault;
@@ -165,6 +166,15 @@ impl<T: Drop> From<AllocFailed<T>> for Fault {
 
     fn from(_refused: AllocFailed<T>) -> Fault {
         Fault::NoMemory
+    }
+}
+
+impl From<WordsFault> for Fault {
+    fn from(fault: WordsFault) -> Fault {
+        match fault {
+            WordsFault::Usage(text) => Fault::Usage(text),
+            WordsFault::NoMemory => Fault::NoMemory,
+        }
     }
 }
 

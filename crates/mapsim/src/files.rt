@@ -1,37 +1,21 @@
-ghost use Rattle.std.specs.Prelude.{◌≡◌, ◌⊎◌, ◌↔◌, true, false, Ok, Err, IfOk, IfErr, IfSome};
-ghost use Rattle.us_slots.specs.Devices.{TookAtMost};
-ghost use Rattle.us_flows.specs.Answers.{Answers};
-ghost use Rattle.us_flows.specs.Ranges.{max_config_bytes};
-ghost use Rattle.mapsim.specs.FileFaults.{ComesOfConfig, LacksText};
-ghost use Rattle.mapsim.specs.declared.faults.Fault.TheVariants as fault;
-ghost use Rattle.mapsim.specs.declared.faults.Stream.TheVariants as stream;
+ghost use Rattle.std.specs.Prelude.{◌≡◌, false};
 
 use crate::faults::{Fault, Stream};
+use crate::opening::open;
 use std::alloc::Global;
+use std::rt::Files;
 use us_flows::{Config, ConfigFault, MAX_CONFIG_BYTES};
 use us_slots::{ReadFault, Source, read_all};
 
-/// The configuration that a device has.
-pub fn read_config<S: Source>(alloc: Global, source: &mut S) -> Result<Config, Fault>
-    requires { S.failed source.old ≡ false }
-    ensures accepted { IfOk result (λ t. IfSome (S.remaining source.old) (λ text. Answers text (Ok t))) }
-    ensures refused { IfErr result (ComesOfConfig (S.remaining source.old)) }
-    ensures taken { S.failed source.new ≡ true →
-        TookAtMost max_config_bytes (S.remaining source.old) (S.remaining source.new) }
-    ensures failed { (S.failed source.new ≡ true) ↔ (result ≡ Err (fault.Device stream.Config)) }
-{
-    let text = text_from(alloc, source)?;
+/// The configuration in the file at a path.
+pub fn read_config<R: Files>(rt: &R, alloc: Global, path: &str) -> Result<Config, Fault> {
+    let text = text_from(alloc, &mut open(rt, path, Stream::Config)?)?;
     Ok(Config::read(alloc, &text)?)
 }
 
 /// The text of a configuration, from the device that has it.
 fn text_from<S: Source>(alloc: Global, source: &mut S) -> Result<Vec<u8>, Fault>
     requires { S.failed source.old ≡ false }
-    ensures value { IfOk result (λ v. IfSome (S.remaining source.old) (λ text. v.items ≡ text)) }
-    ensures lacks { IfErr result (LacksText (S.remaining source.old)) }
-    ensures taken { S.failed source.new ≡ true →
-        TookAtMost max_config_bytes (S.remaining source.old) (S.remaining source.new) }
-    ensures failed { (S.failed source.new ≡ true) ↔ (result ≡ Err (fault.Device stream.Config)) }
 {
     match read_all(alloc, source, MAX_CONFIG_BYTES) {
         Ok(text) => Ok(text),
@@ -41,18 +25,14 @@ fn text_from<S: Source>(alloc: Global, source: &mut S) -> Result<Vec<u8>, Fault>
     }
 }
 
-/// All bytes of the program's file of this kind, from its device. What memory can't hold is want of it.
-pub fn bytes_from<S: Source>(
+/// All bytes of the program's file of this kind, at a path. What memory can't hold is want of it.
+pub fn read_bytes<R: Files>(
+    rt: &R,
     alloc: Global,
-    source: &mut S,
+    path: &str,
     stream: Stream,
-) -> Result<Vec<u8>, Fault>
-    requires { S.failed source.old ≡ false }
-    ensures value { IfOk result (λ v. IfSome (S.remaining source.old) (λ bytes. v.items ≡ bytes)) }
-    ensures failed { (S.failed source.new ≡ true) ↔ (result ≡ Err (fault.Device stream)) }
-    ensures fault { IfErr result (λ f. (f ≡ fault.Device stream) ⊎ (f ≡ fault.NoMemory)) }
-{
-    match read_all(alloc, source, usize::MAX) {
+) -> Result<Vec<u8>, Fault> {
+    match read_all(alloc, &mut open(rt, path, stream)?, usize::MAX) {
         Ok(bytes) => Ok(bytes),
         Err(ReadFault::Failed) => Err(Fault::Device(stream)),
         Err(ReadFault::TooLarge | ReadFault::NoMemory) => Err(Fault::NoMemory),

@@ -5,12 +5,13 @@ use std::alloc::{AllocError, Global};
 use std::fmt::Write;
 use us_check::CheckFault;
 use us_codec::MapFault;
+use us_command_line::Helps;
 use us_flows::{ConfigFault, Place, TableName};
 use us_replay::RunFault;
 use us_requests::TraceFault;
 
 /// Of the program.
-pub const PROGRAM: &str = "\
+const PROGRAM: &str = "\
 Without words it does what `pipe` does. The help of a subcommand says what goes in and out, the unit
 of each number, and what each fault says.
 
@@ -23,29 +24,15 @@ Example, at the top of the repository:
 Status: 0 done, 1 `check` found a rule that is broken, 2 the words are refused, 3 what was read is
 refused, 4 a file or stream failed, 5 out of memory.";
 
-/// What the help of each subcommand says behind the options.
-#[derive(Drop)]
-pub struct Helps {
-    /// Of `replay`.
-    pub replay: String,
-    /// Of `check`.
-    pub check: String,
-    /// Of `dump`.
-    pub dump: String,
-    /// Of `pipe`.
-    pub pipe: String,
-}
-
-impl Helps {
-    /// All helps, which are texts of a few thousand bytes.
-    pub fn new(alloc: Global) -> Result<Helps, AllocError> {
-        Ok(Helps {
-            replay: help_of(alloc, REPLAY)?,
-            check: help_of(alloc, CHECK)?,
-            dump: help_of(alloc, DUMP)?,
-            pipe: help_of(alloc, PIPE)?,
-        })
-    }
+/// What help says behind the options, texts of a few thousand bytes.
+pub fn helps(alloc: Global) -> Result<Helps, AllocError> {
+    Ok(Helps {
+        program: PROGRAM,
+        replay: help_of(alloc, REPLAY)?,
+        check: help_of(alloc, CHECK)?,
+        dump: help_of(alloc, DUMP)?,
+        pipe: help_of(alloc, PIPE)?,
+    })
 }
 
 /// A part of a help.

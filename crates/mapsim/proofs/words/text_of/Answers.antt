@@ -1,9 +1,0 @@
-use Rattle.clap.specs.Words.{found_of}
-use Rattle.mapsim.proofs.OptionLemmas.{text_none, text_some}
-use Rattle.mapsim.proofs.words.text_of.Goals as goal
-
-pub returns-clause-some : goal.returns-clause-some
-returns-clause-some c = text_some (found_of c.args.options.now) c.args.option.now _ c.get_str.ensures
-
-pub returns-clause-none : goal.returns-clause-none
-returns-clause-none c = text_none (found_of c.args.options.now) c.args.option.now _ c.get_str.ensures

@@ -1,0 +1,127 @@
+-- What clap's getters give, as the rows have it.
+use Rattle.std.proofs.Common.{◌≡◌, ◌≢◌, codes, ◌∙◌, ◌<◌, ◌^◌, ℕ, List, Option, Some, None, IfNone, IfSome, refl, sym, subst}
+use Rattle.std.specs.Prelude.{Result, option_map, Ok, Err}
+use Rattle.std.specs.Borrow.{Bor}
+use Rattle.std.specs.Str.Parse.{ParsesUnsigned}
+use Rattle.clap.specs.declared.parser.matches.Found.{Found}
+use Rattle.std.specs.Box.{box_value}
+use Rattle.std.specs.Prelude.{Box}
+use Rattle.clap.specs.declared.parser.matches.ArgMatches.{ArgMatches}
+use Rattle.clap.specs.declared.parser.matches.ArgMatches.TheViews.{out-ArgMatches, out-SubCommand}
+use Rattle.clap.specs.declared.parser.matches.SubCommand.{SubCommand}
+use Rattle.clap.specs.Words.{ReadsOne, Row, Text, first_of, first_value, one_text, rows_of}
+use Rattle.clap.specs.Words.{subcommand_name_of, subcommand_rows, subcommand_rows_of}
+use Rattle.clap.proofs.WalkLemmas.{first_value-rows, one_text-rows}
+use Rattle.us_command_line.specs.declared.orders.FileCheck.{FileCheck}
+use Rattle.us_command_line.specs.declared.orders.FileReplay.{FileReplay}
+use Rattle.us_command_line.specs.declared.orders.Order.{Order}
+use Rattle.us_command_line.specs.declared.orders.Order.TheVariants as order
+use Rattle.us_command_line.specs.Options.{HasNumber, HasText, IsCheckOf, IsOrderAt, IsOrderOf, IsReplayOf}
+
+-- a text that was read
+text_read : (rows : List Row) (option : Text) (result : Option (Bor Text)) → option_map (λ s. s.now) result ≡ first_of option rows
+    → IfSome result (λ s. HasText rows option s.now)
+text_read rows option None e = cc
+text_read rows option (Some s) e = sym e
+
+pub text_some : (f : Found) (option : Text) (result : Option (Bor Text)) → option_map (λ s. s.now) result ≡ first_value f option
+    → IfSome result (λ s. HasText (rows_of f) option s.now)
+text_some f option result e = text_read (rows_of f) option result (e ∙ first_value-rows f option)
+
+-- and one that was not
+text_missed : (rows : List Row) (option : Text) (result : Option (Bor Text)) → option_map (λ s. s.now) result ≡ first_of option rows
+    → IfNone result ((text : Text) → ¬ (HasText rows option text))
+text_missed rows option None e = λ text h. let bad = e ∙ h in cc
+text_missed rows option (Some s) e = cc
+
+pub text_none : (f : Found) (option : Text) (result : Option (Bor Text)) → option_map (λ s. s.now) result ≡ first_value f option
+    → IfNone result ((text : Text) → ¬ (HasText (rows_of f) option text))
+text_none f option result e = text_missed (rows_of f) option result (e ∙ first_value-rows f option)
+
+-- a number that was read
+pub number_some : {E : Type 0} (gives : List ℕ → Result ℕ E → Type 0) → ((t : Text) (r : Result ℕ E) → gives t r → ParsesUnsigned 32 10 t r)
+    → (f : Found) (option : Text) (result : Option ℕ) (text : Option Text) → one_text f option ≡ text
+    → (text ≡ None → result ≡ None) → ((t : Text) → text ≡ Some t → ReadsOne gives t result)
+    → IfSome result (HasNumber (rows_of f) option)
+number_some gives parses f option None text e none value = cc
+number_some gives parses f option (Some n) None e none value = let bad = none refl in cc
+number_some gives parses f option (Some n) (Some t) e none value =
+    let read = parses t (Ok n) (value t refl) in
+    record {
+      text = t;
+      of_option = sym (one_text-rows f option) ∙ e;
+      digits = read.0.0;
+      value = read.1;
+      fits = subst (λ m. m < 2 ^ 32) (sym read.1) read.0.1;
+    }
+
+-- and one that was not
+pub number_none : {E : Type 0} (gives : List ℕ → Result ℕ E → Type 0) → ((t : Text) (r : Result ℕ E) → gives t r → ParsesUnsigned 32 10 t r)
+    → (f : Found) (option : Text) (result : Option ℕ) → ((t : Text) → one_text f option ≡ Some t → ReadsOne gives t result)
+    → IfNone result ((n : ℕ) → ¬ (HasNumber (rows_of f) option n))
+number_none gives parses f option (Some n) value = cc
+number_none gives parses f option None value = λ n h.
+    let failed = value h.text (one_text-rows f option ∙ h.of_option) in
+    parses h.text (Err failed.0) failed.1 (h.digits, subst (λ m. m < 2 ^ 32) h.value h.fits)
+
+-- without a number there is no check, and no replay
+pub no_rounds_no_check : (rows : List Row) (r : Option FileCheck) → ((n : ℕ) → ¬ (HasNumber rows (codes "rounds") n))
+    → IfNone r ((files : FileCheck) → ¬ (IsCheckOf rows files))
+no_rounds_no_check rows None none = λ files h. none files.rounds h.rounds
+no_rounds_no_check rows (Some o) none = cc
+
+pub no_rounds_no_replay : (rows : List Row) (r : Option FileReplay) → ((n : ℕ) → ¬ (HasNumber rows (codes "rounds") n))
+    → IfNone r ((files : FileReplay) → ¬ (IsReplayOf rows files))
+no_rounds_no_replay rows None none = λ files h. none files.rounds h.rounds
+no_rounds_no_replay rows (Some o) none = cc
+
+pub no_workers_no_replay : (rows : List Row) (r : Option FileReplay) → ((n : ℕ) → ¬ (HasNumber rows (codes "workers") n))
+    → IfNone r ((files : FileReplay) → ¬ (IsReplayOf rows files))
+no_workers_no_replay rows None none = λ files h. none files.workers h.workers
+no_workers_no_replay rows (Some o) none = cc
+
+-- the name and the rows of the subcommand, which were told one by one
+pub met_is : (given : ArgMatches) (name : Text) (rows : List Row) → Some name ≡ subcommand_name_of given
+    → Some rows ≡ option_map (λ (p : Text × List Row). p.1) (subcommand_rows_of given) → subcommand_rows_of given ≡ Some (name, rows)
+met_is given name rows = go (out-ArgMatches given).subcommand
+  where
+    go : {Z : Type 0} (met : Option (Box SubCommand Z)) → Some name ≡ option_map (λ b. (out-SubCommand (box_value b)).name.now) met
+        → Some rows ≡ option_map (λ (p : Text × List Row). p.1) (subcommand_rows met) → subcommand_rows met ≡ Some (name, rows)
+    go None by_name by_rows = cc
+    go (Some b) by_name by_rows = cc
+
+-- no order is of the subcommand that was met
+no_order : (name : Text) (rows : List Row)
+    → (name ≡ codes "replay" → (files : FileReplay) → ¬ (IsReplayOf rows files))
+    → (name ≡ codes "check" → (files : FileCheck) → ¬ (IsCheckOf rows files))
+    → (name ≡ codes "dump" → (path : Text) → ¬ (HasText rows (codes "maps") path))
+    → (name ≢ codes "replay" → name ≢ codes "check" → name ≢ codes "dump" → (rounds workers : ℕ)
+    → HasNumber rows (codes "rounds") rounds → ¬ (HasNumber rows (codes "workers") workers))
+    → (o : Order) → ¬ (IsOrderOf name rows o)
+no_order name rows replay check dump pipe (order.Replay files) h = replay h.0 files h.1
+no_order name rows replay check dump pipe (order.Check files) h = check h.0 files h.1
+no_order name rows replay check dump pipe (order.Dump path) h = dump h.0 path.now h.1
+no_order name rows replay check dump pipe (order.Pipe rounds workers) h = pipe h.0 h.1 h.2 rounds workers h.3 h.4
+no_order name rows replay check dump pipe (order.Help text) h = h
+
+pub no_replay : (given : ArgMatches) (r : Option Order) (name : Text) (rows : List Row) → subcommand_rows_of given ≡ Some (name, rows)
+    → name ≡ codes "replay" → ((files : FileReplay) → ¬ (IsReplayOf rows files)) → IfNone r ((o : Order) → ¬ (IsOrderAt (subcommand_rows_of given) o))
+no_replay given (Some o) name rows e is none = cc
+no_replay given None name rows e is none = rw e (no_order name rows (λ _. none)
+    (λ n. let bad : codes "check" ≡ codes "replay" = sym n ∙ is in cc)
+    (λ n. let bad : codes "dump" ≡ codes "replay" = sym n ∙ is in cc) (λ n _ _. absurd (n is)))
+
+pub no_check : (given : ArgMatches) (r : Option Order) (name : Text) (rows : List Row) → subcommand_rows_of given ≡ Some (name, rows)
+    → name ≡ codes "check" → ((files : FileCheck) → ¬ (IsCheckOf rows files)) → IfNone r ((o : Order) → ¬ (IsOrderAt (subcommand_rows_of given) o))
+no_check given (Some o) name rows e is none = cc
+no_check given None name rows e is none = rw e (no_order name rows
+    (λ n. let bad : codes "replay" ≡ codes "check" = sym n ∙ is in cc) (λ _. none)
+    (λ n. let bad : codes "dump" ≡ codes "check" = sym n ∙ is in cc) (λ _ n _. absurd (n is)))
+
+pub no_pipe : (given : ArgMatches) (r : Option Order) (name : Text) (rows : List Row) → subcommand_rows_of given ≡ Some (name, rows)
+    → name ≢ codes "replay" → name ≢ codes "check" → name ≢ codes "dump"
+    → ((rounds workers : ℕ) → HasNumber rows (codes "rounds") rounds → ¬ (HasNumber rows (codes "workers") workers))
+    → IfNone r ((o : Order) → ¬ (IsOrderAt (subcommand_rows_of given) o))
+no_pipe given (Some o) name rows e not_replay not_check not_dump none = cc
+no_pipe given None name rows e not_replay not_check not_dump none = rw e (no_order name rows (λ n. absurd (not_replay n))
+    (λ n. absurd (not_check n)) (λ n. absurd (not_dump n)) (λ _ _ _. none))
