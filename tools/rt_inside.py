@@ -165,7 +165,7 @@ def proof_of(crate, kept):
 def refusal_of(crate, edit, kept=None):
     """Whether the prover refuses the crate with an edit, as the gate counts it, and what to say."""
     outcome, said = rt.must_fail(crate, edit, FLAGS, kept)
-    return outcome in REFUSED, said.replace("must-fail ", "", 1)
+    return outcome in REFUSED, said.replace("must-fail ", "", 1).replace(".edit: ", ": ", 1)
 
 
 def end_together():
