@@ -22,9 +22,6 @@ mod printing;
 // The line between configuration and trace.
 mod marks;
 
-// Bytes in memory, as a device that is read.
-mod bytes;
-
 // MAPs as text,
 mod map_lines;
 

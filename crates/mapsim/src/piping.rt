@@ -1,7 +1,6 @@
 ghost use Rattle.std.specs.Prelude.{◌≡◌, false, IfOk, IfSome, OnOk};
 ghost use Rattle.mapsim.specs.Printouts.{Gives, Prints, Replays};
 
-use crate::bytes::Bytes;
 use crate::dumps::print_maps;
 use crate::faults::{Fault, Stream};
 use crate::marks::split_at_mark;
@@ -12,7 +11,7 @@ use std::thread::Threads;
 use us_crew::OpenGate;
 use us_flows::Config;
 use us_replay::{RunFault, replay};
-use us_slots::{FromWrite, ReadFault, Sink, Source, read_all};
+use us_slots::{FromRead, FromWrite, ReadFault, Sink, Source, read_all};
 
 /// The most bytes of the input (ours).
 const MAX_INPUT_BYTES: usize = 37_748_740;
@@ -87,7 +86,7 @@ fn replay_trace<H: Threads + Sync>(
         threads,
         alloc,
         config,
-        &mut Bytes { rest: trace },
+        &mut FromRead::new(trace),
         rounds,
         workers,
         &OpenGate,

@@ -67,17 +67,22 @@ pub const STORED: Setting<'static> = Setting {
     errors: WIDE,
 };
 
-/// A reader that gives a text, and behind it ends or fails.
+/// A reader that gives a text, and after it ends or fails.
 #[derive(Clone, Copy)]
 struct Tape<'a> {
     left: &'a [u8],
     fails: bool,
+    failed: bool,
+    /// Whether it was read after it failed.
+    used_again: bool,
 }
 
 impl<'a> Read for Tape<'a> {
     fn read(&mut self, buf: &mut [u8]) -> io::Result<usize> {
+        self.used_again |= self.failed;
         let count = self.left.len().min(buf.len());
         if count == 0 && self.fails {
+            self.failed = true;
             return Err(io::Error::from(ErrorKind::BrokenPipe));
         }
         buf[..count].copy_from_slice(&self.left[..count]);
@@ -91,6 +96,9 @@ impl<'a> Read for Tape<'a> {
 struct NarrowWriter {
     held: Vec<u8>,
     limits: Limits,
+    failed: bool,
+    /// Whether it was written or flushed after it failed.
+    used_again: bool,
 }
 
 impl NarrowWriter {
@@ -98,13 +106,17 @@ impl NarrowWriter {
         NarrowWriter {
             held: Vec::new(alloc),
             limits,
+            failed: false,
+            used_again: false,
         }
     }
 }
 
 impl Write for NarrowWriter {
     fn write(&mut self, buf: &[u8]) -> io::Result<usize> {
+        self.used_again |= self.failed;
         let room = self.limits.room.saturating_sub(self.held.len());
+        self.failed |= room == 0;
         if room == 0 && self.limits.fails {
             return Err(io::Error::from(ErrorKind::StorageFull));
         }
@@ -114,6 +126,7 @@ impl Write for NarrowWriter {
     }
 
     fn flush(&mut self) -> io::Result<()> {
+        self.used_again |= self.failed;
         if self.limits.flushes {
             Ok(())
         } else {
@@ -123,7 +136,8 @@ impl Write for NarrowWriter {
 }
 
 /// Runs the program in these settings, and tells each in a line: its name, the status, how many bytes the output took,
-/// whether the stored run's begins with them, and what the errors took.
+/// whether the stored run's begins with them, and what the errors took; and whether input or output was used again after
+/// it failed.
 pub fn told_of(
     rt: &(impl Files + AllocGlobal + Threads + Sync),
     settings: &[Setting<'_>],
@@ -142,18 +156,24 @@ fn tell(
 ) {
     let mut output = NarrowWriter::new(rt.alloc(), setting.output);
     let mut errors = NarrowWriter::new(rt.alloc(), setting.errors);
-    let input = Tape {
+    let mut input = Tape {
         left: setting.input.unwrap_or(stored_input()).as_bytes(),
         fails: setting.input_fails,
+        failed: false,
+        used_again: false,
     };
     let status = run(
         rt,
         setting.words,
-        &mut FromRead::new(input),
+        &mut FromRead::new(&mut input),
         &mut FromWrite::new(&mut output),
         &mut errors,
     );
     tell_line(told, setting.name, status, &output.held, &errors.held);
+    if input.used_again || output.used_again {
+        // Without room for it the line is missing, and the test fails all the same where others are told.
+        let _ = writeln!(told, "used again");
+    }
 }
 
 fn tell_line(told: &mut String, name: &str, status: Status, output: &[u8], errors: &[u8]) {
