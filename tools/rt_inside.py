@@ -1,4 +1,4 @@
-"""What tools/try-edits takes of the insides of the command `rt`.
+"""What tools/try-edits and tools/prove take of the insides of the command `rt`.
 
 `rt` tries the edits of must-fail/ alone. To judge other edits as the gate does, this page loads the program `rt` as a
 module, and calls its functions. It is the one place that knows them, and was written for rattle-kit-13f and rattle-kit-13b.
@@ -12,6 +12,9 @@ It relies on:
                                           is made from, which out/rlib/stamp has once it stands
   rtlib.files_of(folder)                  the files of a crate that a check reads
   rtlib.guarded()                         has all that is started end with this program
+  rtlib.lock(crates)                      waits until no other `rt` works in these crates' folders, and keeps it out while what
+                                          it returns is open
+  share_work(is_alone)                    has builds begin with what other checkouts on this machine kept, where that serves
   read_edit(edit, folder)                 the texts of the files that an edit changes, and else why it can't be applied
   unread(line, changed)                   whether a line says that a file of these paths could not be read
   checked(crate, texts, flags, kept)      a finished check, over what `kept` holds, with `returncode` and `stdout`
@@ -21,6 +24,7 @@ It relies on:
 
 Where the kit differs, the program ends with one line that says in what.
 """
+import contextlib
 import functools
 import importlib.machinery
 import importlib.util
@@ -40,6 +44,8 @@ FUNCTIONS = {
     "rtlib.Crate.stamp": (),
     "rtlib.files_of": ("folder",),
     "rtlib.guarded": (),
+    "rtlib.lock": ("crates",),
+    "share_work": ("is_alone",),
     "read_edit": ("edit", "folder"),
     "unread": ("line", "changed"),
     "checked": ("crate", "texts", "flags", "kept"),
@@ -54,7 +60,7 @@ BYTES_PER_CHECK = 5_000_000_000
 
 
 def stop(why):
-    sys.exit(f"try-edits: {why} (tools/rt_inside.py was written for {WRITTEN_FOR})")
+    sys.exit(f"{os.path.basename(sys.argv[0])}: {why} (tools/rt_inside.py was written for {WRITTEN_FOR})")
 
 
 def found(module, path):
@@ -179,3 +185,30 @@ def checks_at_once():
     if given.isdigit() and int(given):
         return int(given)
     return max(min(rt.processors(), int(rt.free() / BYTES_PER_CHECK)), 1)
+
+
+# What tools/prove takes.
+
+
+def files_of(crate):
+    """The files of a crate that a check reads."""
+    return rt.rtlib.files_of(crate.folder)
+
+
+@contextlib.contextmanager
+def alone_in(crates):
+    """Keeps every other `rt` out of the folders of these crates, and has them built over what is kept, as `rt all check` does."""
+    held = rt.rtlib.lock(crates)
+    rt.share_work(True)
+    try:
+        yield
+    finally:
+        for folder in held:
+            os.close(folder)
+
+
+def build(crate, jobs, said):
+    """Proves a library with so many jobs, and builds it, where it doesn't stand. What the prover says goes to the file `said`.
+    Whether the library stands."""
+    crate.out = said
+    return crate.build_rlib(["--jobs", str(jobs)], anew=False) == 0
