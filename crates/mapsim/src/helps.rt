@@ -1,16 +1,17 @@
-// What help says behind the options. The codes of faults are those of their types, and so are the sentences of those of
-// the configuration, the trace and MAPs. Those of a replay and of a check say here what the run left behind.
+// What help says behind the options. A stored case wants a line for each fault that the program can print, with the code
+// and the sentence of the fault's type; for those of a replay and of a check the lines here say what the run left behind.
 
-use std::alloc::{AllocError, Global};
-use std::fmt::Write;
-use us_check::CheckFault;
-use us_codec::MapFault;
-use us_command_line::Helps;
-use us_flows::{ConfigFault, Place, TableName};
-use us_replay::RunFault;
-use us_requests::TraceFault;
+use us_command_line::HelpTexts;
 
-/// Of the program.
+/// What help says behind the options.
+pub const HELP_TEXTS: HelpTexts = HelpTexts {
+    program: PROGRAM,
+    replay: REPLAY,
+    check: CHECK,
+    dump: DUMP,
+    pipe: PIPE,
+};
+
 const PROGRAM: &str = "\
 Without words it does what `pipe` does. The help of a subcommand says what goes in and out, the unit
 of each number, and what each fault says.
@@ -24,36 +25,8 @@ Example, at the top of the repository:
 Status: 0 done, 1 `check` found a rule that is broken, 2 the words are refused, 3 what was read is
 refused, 4 a file or stream failed, 5 out of memory.";
 
-/// What help says behind the options, texts of a few thousand bytes.
-pub fn helps(alloc: Global) -> Result<Helps, AllocError> {
-    Ok(Helps {
-        program: PROGRAM,
-        replay: help_of(alloc, REPLAY)?,
-        check: help_of(alloc, CHECK)?,
-        dump: help_of(alloc, DUMP)?,
-        pipe: help_of(alloc, PIPE)?,
-    })
-}
-
-/// A part of a help.
-enum Part {
-    /// A text.
-    Text(&'static str),
-    /// The faults of a configuration, but for want of memory.
-    ConfigFaults,
-    /// Faults of a run, and what each says.
-    RunFaults(&'static [(RunFault, &'static str)]),
-    /// The faults of a trace's text.
-    TraceFaults,
-    /// The faults of a report.
-    ReportFaults,
-    /// The faults of a maps file.
-    MapFaults,
-}
-
-const REPLAY: &[Part] = &[
-    Part::Text(
-        "\
+const REPLAY: &[&str] = &[
+    "\
 Example, at the top of the repository:
   mapsim replay --config examples/plant.toml --trace examples/plant.csv --rounds 4 \\
       --maps /tmp/maps --report /tmp/report
@@ -64,29 +37,25 @@ It prints one line: the rounds, the report's G lines and M lines, and the number
 The maps file has for each round, and there for each channel: the round (4 bytes, big-endian), the
 length of the MAP body in bytes (2 bytes, big-endian), and the body.
 ",
-    ),
-    Part::Text(TRACE),
-    Part::Text(REPORT),
-    Part::Text(UNITS),
-    Part::Text(FAULTS),
-    Part::ConfigFaults,
-    Part::RunFaults(&[ROUNDS, WORKERS]),
-    Part::TraceFaults,
-    Part::Text(FAILED),
-    Part::RunFaults(&[
-        (
-            RunFault::WriteMaps(0),
-            "the maps file failed after N rounds",
-        ),
-        (RunFault::WriteReport(0), "the report failed after N rounds"),
-    ]),
-    Part::Text(FILES),
-    Part::Text(MEMORY),
+    TRACE,
+    REPORT,
+    UNITS,
+    FAULTS,
+    CONFIG_FAULTS,
+    ROUNDS,
+    WORKERS,
+    TRACE_FAULTS,
+    FAILED,
+    "\
+  fault RU4 N       the maps file failed after N rounds
+  fault RU5 N       the report failed after N rounds
+",
+    FILES,
+    MEMORY,
 ];
 
-const CHECK: &[Part] = &[
-    Part::Text(
-        "\
+const CHECK: &[&str] = &[
+    "\
 Example, at the top of the repository, behind the one of `replay`:
   mapsim check --config examples/plant.toml --trace examples/plant.csv --rounds 4 \\
       --maps /tmp/maps --report /tmp/report
@@ -119,23 +88,21 @@ The rules, in the order in which they are looked at, each with its three numbers
 Indices, minislots and rounds are counted from 0. The rules know nothing of how a schedule is made:
 the files may come from any scheduler.
 ",
-    ),
-    Part::Text(TRACE),
-    Part::Text(REPORT),
-    Part::Text(UNITS),
-    Part::Text(FAULTS),
-    Part::ConfigFaults,
-    Part::RunFaults(&[ROUNDS]),
-    Part::TraceFaults,
-    Part::ReportFaults,
-    Part::Text(FAILED),
-    Part::Text(FILES),
-    Part::Text(MEMORY),
+    TRACE,
+    REPORT,
+    UNITS,
+    FAULTS,
+    CONFIG_FAULTS,
+    ROUNDS,
+    TRACE_FAULTS,
+    "  fault CK1 N       line N of the report, counted from 1, has none of the forms above\n",
+    FAILED,
+    FILES,
+    MEMORY,
 ];
 
-const DUMP: &[Part] = &[
-    Part::Text(
-        "\
+const DUMP: &[&str] = &[
+    "\
 Example, at the top of the repository, behind the one of `replay`:
   mapsim dump --maps /tmp/maps
 
@@ -151,34 +118,32 @@ A fault prints one line on standard error. N is the index of a record, counted f
 the records before it are printed. M11 is looked for in the whole file before the first line.
 Status 3, what was read is refused; mend what the line names:
 ",
-    ),
-    Part::MapFaults,
-    Part::Text(FAILED),
-    Part::Text("  fault io NAME     the file or stream failed: maps or output\n"),
-    Part::Text(MEMORY),
+    MAP_FAULTS,
+    FAILED,
+    "  fault io NAME     the file or stream failed: maps or output\n",
+    MEMORY,
 ];
 
-const PIPE: &[Part] = &[
-    Part::Text(
-        "\
+const PIPE: &[&str] = &[
+    "\
 Example, at the top of the repository:
   (cat examples/plant.toml; echo %%; cat examples/plant.csv) | mapsim pipe --rounds 4
 
 It prints a line for each element of each MAP, with offset and length in minislots, then the report:
   round channel offset length sid iuc
 ",
-    ),
-    Part::Text(TRACE),
-    Part::Text(REPORT),
-    Part::Text(UNITS),
-    Part::Text(FAULTS),
-    Part::Text("  fault pipe        no line `%%`, or over 37,748,740 bytes\n"),
-    Part::ConfigFaults,
-    Part::RunFaults(&[ROUNDS, WORKERS]),
-    Part::TraceFaults,
-    Part::Text(FAILED),
-    Part::Text("  fault io NAME     the stream failed: input or output\n"),
-    Part::Text(MEMORY),
+    TRACE,
+    REPORT,
+    UNITS,
+    FAULTS,
+    "  fault pipe        no line `%%`, or over 37,748,740 bytes\n",
+    CONFIG_FAULTS,
+    ROUNDS,
+    WORKERS,
+    TRACE_FAULTS,
+    FAILED,
+    "  fault io NAME     the stream failed: input or output\n",
+    MEMORY,
 ];
 
 /// The trace.
@@ -243,144 +208,50 @@ const FILES: &str =
 const MEMORY: &str =
     "Status 5, memory was wanting; run it where there is more:\n  fault memory      out of memory";
 
-/// The faults of the numbers of a run, and what each says.
-const ROUNDS: (RunFault, &str) = (
-    RunFault::Rounds,
-    "no rounds, or more than a run has ticks for (67,108,864)",
-);
+/// The faults of a configuration.
+const CONFIG_FAULTS: &str = "\
+  fault C1          no TOML document of at most 4194304 bytes
+  fault C2 PLACE    a key is missing in PLACE
+  fault C3 PLACE    a value is out of its range, or a key is unknown, in PLACE
+  fault C4 PLACE    no channel has an id that is named in PLACE
+  fault C5 PLACE    an id is there twice in PLACE
+  fault C6 PLACE    a SID of another cluster is on the same channel in PLACE
+  fault C7 PLACE    a cluster has not one SID for each channel in PLACE
+  fault C8 PLACE    the round is no whole number of minislots of PLACE
+  fault C9 PLACE    the reserves pass the length of the MAPs of PLACE
+  fault C10 PLACE   the jitter is not below the interval in PLACE
+  fault C11 PLACE   a grant passes the length of the MAPs in PLACE
+  fault C12 PLACE   segment headers are wanting on several channels in PLACE
+  fault C14 PLACE   the minimum rate is above the maximum rate in PLACE
+";
 
-const WORKERS: (RunFault, &str) = (RunFault::Workers, "the workers are not 1 to 64");
+/// The faults of the numbers of a run.
+const ROUNDS: &str = "\
+  fault RU1         no rounds, or more than a run has ticks for (67,108,864)
+";
 
-/// Any table of a configuration.
-const PLACE: Place = Place {
-    table: TableName::Top,
-    index: 0,
-};
+const WORKERS: &str = "\
+  fault RU2         the workers are not 1 to 64
+";
 
-const CONFIG_FAULTS: [ConfigFault; 13] = [
-    ConfigFault::Text,
-    ConfigFault::Missing(PLACE),
-    ConfigFault::Range(PLACE),
-    ConfigFault::UnknownChannel(PLACE),
-    ConfigFault::DuplicateId(PLACE),
-    ConfigFault::DuplicateSid(PLACE),
-    ConfigFault::ClusterLength(PLACE),
-    ConfigFault::RoundNotMultiple(PLACE),
-    ConfigFault::ReservesTooLong(PLACE),
-    ConfigFault::Jitter(PLACE),
-    ConfigFault::GrantLongerThanMap(PLACE),
-    ConfigFault::Headers(PLACE),
-    ConfigFault::MinRate(PLACE),
-];
+/// The faults of a trace.
+const TRACE_FAULTS: &str = "\
+  fault TR1         the first record is not the header
+  fault TR2 N       record N has not as many fields as the header
+  fault TR3 N       record N has a field that is no number in its range, or is a mark with units
+  fault TR4         the trace is too large
+";
 
-const TRACE_FAULTS: [TraceFault; 4] = [
-    TraceFault::Header,
-    TraceFault::Fields(0),
-    TraceFault::Number(0),
-    TraceFault::TooLarge,
-];
-
-const BODY_FAULTS: [MapFault; 9] = [
-    MapFault::Short,
-    MapFault::LengthMismatch,
-    MapFault::Reserved,
-    MapFault::TooManyElements,
-    MapFault::NoNull,
-    MapFault::Order,
-    MapFault::AfterNull,
-    MapFault::Backoff,
-    MapFault::FirstOffset,
-];
-
-/// A help of these parts.
-fn help_of(alloc: Global, parts: &[Part]) -> Result<String, AllocError> {
-    let mut text = String::new(alloc);
-    for part in parts {
-        match part {
-            Part::Text(said) => text.push_str(said)?,
-            Part::ConfigFaults => push_config_faults(&mut text)?,
-            Part::RunFaults(faults) => push_run_faults(&mut text, faults)?,
-            Part::TraceFaults => push_trace_faults(&mut text)?,
-            Part::ReportFaults => push_report_faults(&mut text)?,
-            Part::MapFaults => push_map_faults(alloc, &mut text)?,
-        }
-    }
-    Ok(text)
-}
-
-fn push_config_faults(text: &mut String) -> Result<(), AllocError> {
-    for fault in &CONFIG_FAULTS {
-        let named = if fault.place().is_some() { "PLACE" } else { "" };
-        push_printed(text, fault.code(), named)?;
-        writeln!(text, "{}{named}", fault.sentence())?;
-    }
-    Ok(())
-}
-
-fn push_run_faults(
-    text: &mut String,
-    faults: &[(RunFault, &'static str)],
-) -> Result<(), AllocError> {
-    for (fault, sentence) in faults {
-        let named = match fault {
-            RunFault::WriteMaps(_) | RunFault::WriteReport(_) => "N",
-            _ => "",
-        };
-        push_printed(text, fault.code(), named)?;
-        writeln!(text, "{sentence}")?;
-    }
-    Ok(())
-}
-
-fn push_trace_faults(text: &mut String) -> Result<(), AllocError> {
-    for fault in &TRACE_FAULTS {
-        let (named, record) = match fault.record() {
-            Some(_) => ("N", "record N "),
-            None => ("", ""),
-        };
-        push_printed(text, fault.code(), named)?;
-        writeln!(text, "{record}{}", fault.sentence())?;
-    }
-    Ok(())
-}
-
-fn push_report_faults(text: &mut String) -> Result<(), AllocError> {
-    push_printed(text, CheckFault::Report(0).code(), "N")?;
-    text.push_str("line N of the report, counted from 1, has none of the forms above\n")
-}
-
-fn push_map_faults(alloc: Global, text: &mut String) -> Result<(), AllocError> {
-    for fault in &BODY_FAULTS {
-        push_map_fault(alloc, text, *fault, "N")?;
-    }
-    push_map_fault(alloc, text, MapFault::RecordCut, "")
-}
-
-/// Appends a fault of a maps file as it is printed, and what its text says behind the code.
-fn push_map_fault(
-    alloc: Global,
-    text: &mut String,
-    fault: MapFault,
-    named: &str,
-) -> Result<(), AllocError> {
-    let own = format!(in alloc; "{fault}")?;
-    push_printed(text, fault.code(), named)?;
-    writeln!(text, "{}", behind_code(own.as_str()))
-}
-
-/// What the text of a fault says behind the code that it begins with.
-fn behind_code(text: &str) -> &str {
-    match text.split_once(": ") {
-        Some((_, sentence)) => sentence,
-        None => text,
-    }
-}
-
-/// The columns of a code and of what the fault names, without the space between.
-const PRINTED_COLUMNS: usize = 11;
-
-/// Appends a fault as it is printed, up to the column of what faults say.
-fn push_printed(text: &mut String, code: &str, named: &str) -> Result<(), AllocError> {
-    let width = PRINTED_COLUMNS.saturating_sub(code.len());
-    write!(text, "  fault {code} {named:<width$}")
-}
+/// The faults of a maps file.
+const MAP_FAULTS: &str = "\
+  fault M1 N        the body has under 16 bytes
+  fault M2 N        the length is not that of the counted elements
+  fault M3 N        Reserved is not 0
+  fault M4 N        over 240 elements
+  fault M5 N        no Null, or one out of place
+  fault M6 N        offsets do not rise up to the Null
+  fault M7 N        an element after the Null has its IUC or another offset
+  fault M8 N        a backoff is over 15
+  fault M9 N        the first offset is not 0
+  fault M11         the file ends inside a record
+";

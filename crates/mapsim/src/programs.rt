@@ -6,7 +6,7 @@ ghost use Rattle.us_command_line.specs.declared.orders.Order.{Order};
 use crate::checking::check_files;
 use crate::dumping::dump_file;
 use crate::faults::{Fault, Stream};
-use crate::helps::helps;
+use crate::helps::HELP_TEXTS;
 use crate::piping::pipe;
 use crate::printing::print;
 use crate::replaying::replay_files;
@@ -15,7 +15,7 @@ use std::convert::AsStr;
 use std::io::Write;
 use std::rt::Files;
 use std::thread::Threads;
-use us_command_line::{Order, order_of};
+use us_command_line::{Helps, Order, order_of};
 use us_slots::{Sink, Source};
 
 /// The program: it does what the words ask for (its name is the first), with `input` as its standard input and `output`
@@ -63,7 +63,7 @@ where
     ensures printed { length words.now < 2 →
         OnOk result (Prints 2 (I.remaining input.old) (O.contents output.old) (O.contents output.new)) }
 {
-    let helps = helps(rt.alloc())?;
+    let helps = Helps::new(rt.alloc(), &HELP_TEXTS)?;
     let order = order_of(rt.alloc(), words, &helps)?;
     obey_order(rt, &order, input, output)
 }

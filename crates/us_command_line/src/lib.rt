@@ -24,6 +24,6 @@ mod commands;
 mod words;
 
 pub use faults::WordsFault;
-pub use helps::Helps;
+pub use helps::{HelpTexts, Helps};
 pub use orders::{FileCheck, FileReplay, Order};
 pub use words::order_of;
