@@ -5,8 +5,8 @@ of one of its files and streams. It is compiled by `cc`, and told what to refuse
   COUNTED   a file of 8 bytes, in which allocations are counted as they come: not every program ends in a way that runs a
             destructor
   DEVICE    input, output, error or the name of a file, without its folder: each read and each write of it moves one byte
-  ROOM      bytes that the device moves. A read or write behind them is refused: by a fault, or by 0 bytes where TAKES_NONE
-            is set too
+  ROOM      bytes that the device moves. A read or write after them is refused: by a fault, or by 0 bytes where TAKES_NONE
+            is set too. One more read or write of that device ends the program by a signal: what failed is left alone
 """
 import shutil
 import subprocess
@@ -30,7 +30,7 @@ static ssize_t (*real_read)(int, void *, size_t);
 static ssize_t (*real_write)(int, const void *, size_t);
 static long here, *so_far = &here, refused = -1, room = -1, moved;
 static const char *device;
-static int counts, takes_none;
+static int counts, takes_none, has_refused;
 
 static void find(void) {
     real_malloc = dlsym(RTLD_NEXT, "malloc");
@@ -92,6 +92,13 @@ static int is_device(int fd) {
 }
 
 /* Only one thread of a program reads or writes. */
+static ssize_t refuse(int reason, ssize_t answer) {
+    if (has_refused) abort();
+    has_refused = 1;
+    errno = reason;
+    return answer;
+}
+
 static ssize_t counted(ssize_t bytes) {
     if (bytes > 0) moved += bytes;
     return bytes;
@@ -99,13 +106,13 @@ static ssize_t counted(ssize_t bytes) {
 
 ssize_t read(int fd, void *to, size_t count) {
     if (!count || !is_device(fd)) return real_read(fd, to, count);
-    if (moved == room) { errno = EIO; return -1; }
+    if (moved == room) return refuse(EIO, -1);
     return counted(real_read(fd, to, 1));
 }
 
 ssize_t write(int fd, const void *from, size_t count) {
     if (!count || !is_device(fd)) return real_write(fd, from, count);
-    if (moved == room) { errno = ENOSPC; return takes_none ? 0 : -1; }
+    if (moved == room) return refuse(ENOSPC, takes_none ? 0 : -1);
     return counted(real_write(fd, from, 1));
 }
 

@@ -59,9 +59,6 @@ use std::io::ErrorKind;
 use std::process::ExitCode;
 use us_slots::{FromRead, FromWrite};
 
-#[cfg(test)]
-mod tests;
-
 fn main(rt: HostRuntime) -> ExitCode {
     let status = match process_words(&rt) {
         Ok(words) => run(

@@ -1,4 +1,4 @@
-ghost use Rattle.std.specs.Prelude.{◌≡◌, ◌<◌, length, false, IfOk, OnOk};
+ghost use Rattle.std.specs.Prelude.{◌≡◌, ◌⊎◌, ◌<◌, length, true, false, OnOk};
 ghost use Rattle.mapsim.specs.Printouts.{Prints, PrintsAsAsked};
 ghost use Rattle.mapsim.specs.Statuses.{status_of};
 ghost use Rattle.us_command_line.specs.declared.orders.Order.{Order};
@@ -32,6 +32,8 @@ where
     // Without words it prints what the input gives in two rounds.
     ensures printed { result ≡ Status.Done → length words.now < 2 →
         Prints 2 (I.remaining input.old) (O.contents output.old) (O.contents output.new) }
+    // Where it ends as done or as broken, standard output was flushed.
+    ensures flushed { (result ≡ Status.Done) ⊎ (result ≡ Status.Broken) → O.flushed output.new ≡ true }
 {
     match obey(rt, words, input, output) {
         Ok(status) => status,
@@ -62,6 +64,7 @@ where
     requires output_ready { O.failed output.old ≡ false }
     ensures printed { length words.now < 2 →
         OnOk result (Prints 2 (I.remaining input.old) (O.contents output.old) (O.contents output.new)) }
+    ensures flushed { OnOk result (O.flushed output.new ≡ true) }
 {
     let helps = Helps::new(rt.alloc(), &HELP_TEXTS)?;
     let order = order_of(rt.alloc(), words, &helps)?;
@@ -84,6 +87,7 @@ where
     requires output_ready { O.failed output.old ≡ false }
     ensures printed { OnOk result
         (PrintsAsAsked order.now (I.remaining input.old) (O.contents output.old) (O.contents output.new)) }
+    ensures flushed { OnOk result (O.flushed output.new ≡ true) }
 {
     let status = carry_out(rt, order, input, output)?;
     match output.flush() {
