@@ -1,9 +1,8 @@
 ghost use Rattle.std.specs.Prelude.{◌≡◌};
-ghost use Rattle.mapsim.specs.Statuses as statuses;
 
 use crate::fault_lines::{check_line, config_line, io_line, map_line, run_line};
 use crate::statuses::Status;
-use std::alloc::{AllocError, AllocFailed};
+use std::alloc::AllocError;
 use std::fmt;
 use us_check::CheckFault;
 use us_codec::MapFault;
@@ -77,54 +76,21 @@ impl Fault {
     {
         match self {
             Fault::Usage(_) => Status::Usage,
-            Fault::Pipe => Status::Refused,
-            Fault::Config(fault) => config_status(*fault),
-            Fault::Run(fault) => run_status(*fault),
-            Fault::Map(fault, _) => map_status(*fault),
-            Fault::Check(fault) => check_status(*fault),
-            Fault::Device(_) => Status::DeviceFailed,
-            Fault::NoMemory => Status::NoMemory,
+            Fault::Device(_)
+            | Fault::Run(
+                RunFault::Trace(TraceFault::Read)
+                | RunFault::WriteMaps(_)
+                | RunFault::WriteReport(_),
+            ) => Status::DeviceFailed,
+            Fault::NoMemory
+            | Fault::Config(ConfigFault::NoMemory)
+            | Fault::Run(RunFault::NoMemory(_) | RunFault::Trace(TraceFault::NoMemory))
+            | Fault::Map(MapFault::NoMemory, _)
+            | Fault::Check(CheckFault::NoMemory) => Status::NoMemory,
+            Fault::Pipe | Fault::Config(_) | Fault::Run(_) | Fault::Map(..) | Fault::Check(_) => {
+                Status::Refused
+            }
         }
-    }
-}
-
-fn config_status(fault: ConfigFault) -> Status
-    ensures { result ≡ statuses.config_status fault }
-{
-    match fault {
-        ConfigFault::NoMemory => Status::NoMemory,
-        _ => Status::Refused,
-    }
-}
-
-fn run_status(fault: RunFault) -> Status
-    ensures { result ≡ statuses.run_status fault }
-{
-    match fault {
-        RunFault::Rounds | RunFault::Workers => Status::Refused,
-        RunFault::Trace(TraceFault::Read) => Status::DeviceFailed,
-        RunFault::Trace(TraceFault::NoMemory) => Status::NoMemory,
-        RunFault::Trace(_) => Status::Refused,
-        RunFault::WriteMaps(_) | RunFault::WriteReport(_) => Status::DeviceFailed,
-        RunFault::NoMemory(_) => Status::NoMemory,
-    }
-}
-
-fn map_status(fault: MapFault) -> Status
-    ensures { result ≡ statuses.map_status fault }
-{
-    match fault {
-        MapFault::NoMemory => Status::NoMemory,
-        _ => Status::Refused,
-    }
-}
-
-fn check_status(fault: CheckFault) -> Status
-    ensures { result ≡ statuses.check_status fault }
-{
-    match fault {
-        CheckFault::NoMemory => Status::NoMemory,
-        CheckFault::Report(_) => Status::Refused,
     }
 }
 
@@ -155,16 +121,6 @@ impl From<AllocError> for Fault {
     ghost from_gives = { λ _ fault. fault ≡ NoMemory };
 
     fn from(_refused: AllocError) -> Fault {
-        Fault::NoMemory
-    }
-}
-
-impl<T: Drop> From<AllocFailed<T>> for Fault {
-    ghost use Rattle.mapsim.specs.declared.faults.Fault.TheVariants.{NoMemory};
-
-    ghost from_gives = { λ _ fault. fault ≡ NoMemory };
-
-    fn from(_refused: AllocFailed<T>) -> Fault {
         Fault::NoMemory
     }
 }

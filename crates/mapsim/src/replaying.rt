@@ -10,8 +10,8 @@ use std::thread::Threads;
 use us_command_line::FileReplay;
 use us_crew::OpenGate;
 use us_flows::Config;
-use us_replay::{RunFault, Summary, check_run, replay};
-use us_slots::{Sink, Source};
+use us_replay::{Summary, check_run, replay};
+use us_slots::Sink;
 
 /// Replays a trace from files into files, and prints what it did.
 pub fn replay_files<R: Files + Threads + Sync, O: Sink>(
@@ -37,49 +37,19 @@ fn replay_trace<R: Files + Threads + Sync>(
 ) -> Result<Summary, Fault> {
     check_run(config, order.rounds, order.workers)?;
     let mut trace = open(rt, order.trace, Stream::Trace)?;
-    replay_into_files(rt, alloc, config, order, &mut trace)
-}
-
-/// Replays a trace into the maps file and the report, which are made.
-fn replay_into_files<R: Files + Threads + Sync, S: Source>(
-    rt: &R,
-    alloc: Global,
-    config: &Config,
-    order: &FileReplay<'_>,
-    trace: &mut S,
-) -> Result<Summary, Fault>
-    requires { S.failed trace.old ≡ false }
-{
     let mut maps = create(rt, order.maps, Stream::Maps)?;
     let mut report = create(rt, order.report, Stream::Report)?;
-    Ok(replay_into(rt, alloc, config, order, trace, &mut maps, &mut report)?)
-}
-
-/// Replays a trace into a maps file and a report.
-fn replay_into<H: Threads + Sync, S: Source, W1: Sink, W2: Sink>(
-    threads: &H,
-    alloc: Global,
-    config: &Config,
-    order: &FileReplay<'_>,
-    trace: &mut S,
-    maps: &mut W1,
-    report: &mut W2,
-) -> Result<Summary, RunFault>
-    requires trace_ready { S.failed trace.old ≡ false }
-    requires maps_ready { W1.failed maps.old ≡ false }
-    requires report_ready { W2.failed report.old ≡ false }
-{
-    replay(
-        threads,
+    Ok(replay(
+        rt,
         alloc,
         config,
-        trace,
+        &mut trace,
         order.rounds,
         order.workers,
         &OpenGate,
-        maps,
-        report,
-    )
+        &mut maps,
+        &mut report,
+    )?)
 }
 
 /// Prints what a replay did, as a line.
