@@ -2,3 +2,5 @@
 
 -- which order the words are
 pub mod Options
+-- what help says behind the options
+pub mod HelpTexts

@@ -1,3 +1,6 @@
+ghost use Rattle.std.specs.Prelude.{◌≡◌, IfOk, string_bytes};
+ghost use Rattle.us_command_line.specs.HelpTexts.{AreJoined, joined};
+
 use std::alloc::{AllocError, Global};
 
 /// What help says behind the options: of each subcommand, texts that follow one another.
@@ -18,16 +21,23 @@ pub struct HelpTexts {
 /// The same, put together.
 #[derive(Drop)]
 pub struct Helps {
-    pub(crate) program: &'static str,
-    pub(crate) replay: String,
-    pub(crate) check: String,
-    pub(crate) dump: String,
-    pub(crate) pipe: String,
+    /// Of the program.
+    pub program: &'static str,
+    /// Of `replay`.
+    pub replay: String,
+    /// Of `check`.
+    pub check: String,
+    /// Of `dump`.
+    pub dump: String,
+    /// Of `pipe`.
+    pub pipe: String,
 }
 
 impl Helps {
     /// Puts the texts together.
-    pub fn new(alloc: Global, texts: &HelpTexts) -> Result<Helps, AllocError> {
+    pub fn new(alloc: Global, texts: &HelpTexts) -> Result<Helps, AllocError>
+        ensures { IfOk result (AreJoined texts.now) }
+    {
         Ok(Helps {
             program: texts.program,
             replay: joined(alloc, texts.replay)?,
@@ -38,7 +48,9 @@ impl Helps {
     }
 }
 
-fn joined(alloc: Global, texts: &[&str]) -> Result<String, AllocError> {
+fn joined(alloc: Global, texts: &[&str]) -> Result<String, AllocError>
+    ensures { IfOk result (λ whole. string_bytes whole ≡ joined texts.now) }
+{
     let mut whole = String::new(alloc);
     for text in texts {
         whole.push_str(text)?;
