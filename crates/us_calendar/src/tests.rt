@@ -1,8 +1,7 @@
-//! What no clause says: that there are answers at all, and worked rounds.
+//! What no clause says: that there are answers at all, and that they are those of a plain program.
 
-mod activity;
 mod base;
 mod compared;
-mod memory;
+mod entries;
 mod plain;
-mod rounds;
+mod tables;

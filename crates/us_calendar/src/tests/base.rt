@@ -1,182 +1,135 @@
-ghost use Rattle.std.specs.Prelude.{◌≡◌, ◌≤◌, length, IfOk, OnOk};
+ghost use Rattle.std.specs.Prelude.{◌≡◌, IfSome, OnOk};
 
+use super::plain::{Plain, ROUNDS, Round, is_active, is_as_plain, mark};
+use super::tables::config_of;
 use crate::{Calendar, Kind, Settled};
-use std::alloc::{AllocError, Global};
+use std::alloc::Global;
 use std::process::Abort;
 use us_flows::Config;
 use us_holes::{Board, Owner};
-use us_samples::put_channel;
 use us_slots::{Iuc, NoMemory};
 
-/// The one comparison of these tests.
-pub(super) fn same(rt: &impl Abort, name: &str, found: &str, wanted: &str) {
-    assert_eq!(rt; found, wanted, "{name}");
+/// The one assertion of these tests, since each costs the proof of the function that it stands in.
+pub(super) fn same(rt: &impl Abort, found: u64, wanted: u64) {
+    assert_eq!(rt; found, wanted);
 }
 
-/// So many rounds of a calendar, from round 0 on.
-#[derive(Drop)]
-pub(super) struct Case<'a> {
-    pub(super) name: &'a str,
-    /// The flows and stations.
-    pub(super) tables: &'a str,
-    pub(super) rounds: u32,
-    /// What a flow with activity detection, which has words 0 and 1, tells in each round: `s` that it is silent, `a` that it
-    /// is active, `b` both; else nothing.
-    pub(super) marks: &'a str,
-    pub(super) answer: &'a str,
-}
-
-/// Makes the rounds of each case, and compares what is settled.
-pub(super) fn compare(rt: &impl Abort, alloc: Global, cases: &[Case<'_>]) {
-    for case in cases {
-        match answer_of(alloc, case) {
-            Some(answer) => same(rt, case.name, answer.as_str(), case.answer),
-            None => same(rt, case.name, "none", case.answer),
-        }
+/// How many rounds a calendar of these entries settles as the plain program does, with the marks of a seed: up to the first
+/// one in which they differ. `None` where memory is refused, or the tables are.
+pub(super) fn rounds_alike(alloc: Global, entries: &mut [Plain], seed: u64) -> Option<u64> {
+    match opened(alloc, entries) {
+        Some(mut calendar) => rounds_of(alloc, &mut calendar, entries, seed),
+        None => None,
     }
 }
 
-/// What is settled, for each round in which something is, and then whether flow 1 is active, if its activity is detected.
-/// None where the tables are refused, or memory is.
-pub(super) fn answer_of(alloc: Global, case: &Case<'_>) -> Option<String> {
-    let mut answer = String::new(alloc);
-    let config = config_of(alloc, case.tables)?;
-    match run(alloc, &mut answer, &config, case) {
-        Ok(()) => Some(answer),
+/// The same of a calendar before round 0.
+fn rounds_of(
+    alloc: Global,
+    calendar: &mut Calendar,
+    entries: &mut [Plain],
+    seed: u64,
+) -> Option<u64>
+    requires { calendar.old.pace.len ≡ 160 }
+{
+    for round in 0..ROUNDS {
+        if !is_alike(alloc, calendar, entries, seed)? {
+            return Some(round);
+        }
+    }
+    Some(ROUNDS)
+}
+
+/// The calendar of these entries.
+fn opened(alloc: Global, entries: &[Plain]) -> Option<Calendar>
+    ensures { IfSome result (λ calendar. calendar.pace.len ≡ 160) }
+{
+    match config_of(alloc, entries) {
+        Ok(config) => calendar_of(alloc, &config),
         Err(_) => None,
     }
 }
 
-/// The configuration of channel 1 with these flows and stations: rounds of 2,000 microseconds, and MAPs of 160 minislots
-/// of 12.5 microseconds.
-pub(super) fn config_of(alloc: Global, tables: &str) -> Option<Config> {
-    let mut text = String::new(alloc);
-    put_channel(&mut text, 1).ok()?;
-    text.push_str(tables).ok()?;
-    Config::read(alloc, text.as_bytes()).ok()
-}
-
-/// The rounds of a case.
-fn run(
-    alloc: Global,
-    answer: &mut String,
-    config: &Config,
-    case: &Case<'_>,
-) -> Result<(), NoMemory> {
-    if config.channels().len() == 0 {
-        return Ok(());
-    }
-    let len = config.map_len(&config.channels()[0]);
-    let mut calendar = Calendar::new(alloc, config, 0)?;
-    for round in 0..case.rounds {
-        let cut = cut_of(case.marks, round);
-        next(alloc, answer, &mut calendar, &cut, len)?;
-    }
-    if let Some(active) = calendar.activity(1) {
-        write!(answer, "active {active}")?;
-    }
-    Ok(())
-}
-
-/// The cut of words 0 and 1 in a round.
-fn cut_of(marks: &str, round: u32) -> [u64; 2] {
-    match marks.as_bytes().get(round as usize).copied() {
-        Some(b's') => [1, 0],
-        Some(b'a') => [0, 1],
-        Some(b'b') => [1, 1],
-        _ => [0, 0],
-    }
-}
-
-/// The next round of a calendar.
-fn next(
-    alloc: Global,
-    answer: &mut String,
-    calendar: &mut Calendar,
-    cut: &[u64],
-    len: u32,
-) -> Result<(), NoMemory>
-    requires { (calendar.old.pace.len ≡ len) × (len ≤ 4096) }
-    ensures { OnOk result (calendar.new.pace ≡ calendar.old.pace) }
+/// The calendar of the first channel, if its MAPs have 160 minislots.
+fn calendar_of(alloc: Global, config: &Config) -> Option<Calendar>
+    ensures { IfSome result (λ calendar. calendar.pace.len ≡ 160) }
 {
-    let round = calendar.next_round();
-    let settled = settled_next(alloc, calendar, cut, len)?;
-    if settled.len() > 0 {
-        write!(answer, "{round}: ")?;
-        tell(answer, &settled)?;
+    if config.channels().is_empty() || config.map_len(&config.channels()[0]) != 160 {
+        return None;
     }
-    Ok(())
+    Calendar::new(alloc, config, 0).ok()
 }
 
-/// What the next round settles, with this cut: nothing where it might end too late for a run, of 2^26 ticks, since a MAP has 4,096 at
-/// most.
-#[tactic(auto, using(crate::proofs::RunTimes::run_facts))]
-pub(super) fn settled_next(
+/// Whether the next round of a calendar is as the plain program's, and flows are active and silent as there.
+fn is_alike(
     alloc: Global,
     calendar: &mut Calendar,
-    cut: &[u64],
-    len: u32,
-) -> Result<Vec<Settled>, NoMemory>
-    requires { (calendar.old.pace.len ≡ len) × (len ≤ 4096) }
-    ensures { OnOk result (calendar.new.pace ≡ calendar.old.pace) }
+    entries: &mut [Plain],
+    seed: u64,
+) -> Option<bool>
+    requires { calendar.old.pace.len ≡ 160 }
+    ensures { IfSome result (λ _. calendar.new.pace.len ≡ 160) }
 {
-    let round = calendar.next_round();
-    if round >= 16_384 {
-        return Ok(Vec::new(alloc));
+    let number = u64::from(calendar.next_round());
+    match settled_next(alloc, calendar, &cut_of(seed, number)) {
+        Ok(settled) => Some(is_told(calendar, entries, seed, number, &settled)),
+        Err(_) => None,
     }
-    let mut board = board_of(alloc, len)?;
-    calendar.run(alloc, round, cut, &mut board)
 }
 
-/// A board whose last 10 minislots are for contention, where it has 160.
-fn board_of(alloc: Global, len: u32) -> Result<Board, NoMemory>
-    requires { (1 ≤ len) × (len ≤ 4096) }
-    ensures { IfOk result (λ board. length board.cells ≡ len) }
-{
-    let mut board = Board::new(alloc, len)?;
-    if len == 160 {
-        board.place_earliest(150, 150, 10, Owner::new(16_383, Iuc::request()));
-    }
-    Ok(board)
+/// Whether a calendar that settled this in a round is as the plain program.
+fn is_told(
+    calendar: &Calendar,
+    entries: &mut [Plain],
+    seed: u64,
+    number: u64,
+    settled: &[Settled],
+) -> bool {
+    let round = Round {
+        number,
+        seed,
+        settled,
+    };
+    are_active(calendar, entries, round) && is_as_plain(entries, round)
 }
 
-/// The first three and the last three that a round settled.
-fn tell(answer: &mut String, settled: &[Settled]) -> Result<(), AllocError> {
-    if settled.len() <= 6 {
-        return tell_all(answer, settled);
-    }
-    tell_all(answer, &settled[..3])?;
-    write!(answer, ".. {}, ", settled.len())?;
-    tell_all(answer, &settled[settled.len() - 3..])
-}
-
-/// Of each the id, the interval and the place in it, and the minislots.
-pub(super) fn tell_all(answer: &mut String, settled: &[Settled]) -> Result<(), AllocError> {
-    for one in settled {
-        tell_one(answer, one)?;
-    }
-    Ok(())
-}
-
-/// Of one that was granted also the IUC, where it may be a grant or a poll.
-fn tell_one(answer: &mut String, one: &Settled) -> Result<(), AllocError> {
-    match one {
-        Settled::Granted {
-            kind,
-            id,
-            i,
-            k,
-            start,
-            slots,
-            owner,
-        } => {
-            write!(answer, "{kind:?} {id} {i}.{k} {start}+{slots}")?;
-            if *kind == Kind::Activity {
-                let iuc = owner.iuc().number();
-                write!(answer, " iuc {iuc}")?;
-            }
-            write!(answer, ", ")
+/// Whether the flows of which activity is detected are active and silent as the plain program says.
+fn are_active(calendar: &Calendar, entries: &[Plain], round: Round) -> bool {
+    for entry in entries {
+        if entry.kind == Kind::Activity
+            && calendar.activity(entry.id) != Some(is_active(entry, round.seed, round.number))
+        {
+            return false;
         }
-        Settled::Missed { kind, id, i, k } => write!(answer, "{kind:?} {id} {i}.{k} missed, "),
     }
+    true
+}
+
+/// The cut of a round: of more words than there are.
+fn cut_of(seed: u64, round: u64) -> [u64; 20] {
+    let mut cut = [0; 20];
+    for (word, bytes) in cut.iter_mut().enumerate() {
+        *bytes = mark(seed, round, word as u64);
+    }
+    cut
+}
+
+/// What the next round settles, with this cut. The last 10 minislots are for contention. A round that might end too late for
+/// a run, of 2^26 ticks, isn't made, and is answered as want of memory: a MAP has 4,096 ticks at most.
+#[tactic(auto, using(crate::proofs::RunTimes::run_facts))]
+fn settled_next(
+    alloc: Global,
+    calendar: &mut Calendar,
+    cut: &[u64],
+) -> Result<Vec<Settled>, NoMemory>
+    requires { calendar.old.pace.len ≡ 160 }
+    ensures { OnOk result (calendar.new.pace ≡ calendar.old.pace) }
+{
+    let round = calendar.next_round();
+    let mut board = Board::new(alloc, 160)?;
+    board.place_earliest(150, 150, 10, Owner::new(16_383, Iuc::request()));
+    if round >= 16_384 {
+        return Err(NoMemory);
+    }
+    calendar.run(alloc, round, cut, &mut board)
 }

@@ -1,35 +1,41 @@
-use crate::Kind;
-use std::alloc::AllocError;
+use crate::{Kind, Settled};
 
 /// The rounds of a comparison, of 2,000 microseconds.
 pub(super) const ROUNDS: u64 = 5;
 
+/// The minislots of a poll.
+const POLL: u64 = 2;
+
 /// The minislots of a MAP, of 50 quarter microseconds: the id of the entry that has each, and 0 where it is idle.
 type Cells = [u16; 160];
 
+/// What is told of an occurrence: the kind as a number, the id, the interval and the place in it; then the first minislot,
+/// how many there are and their IUC, or zeros where it was missed.
+type Told = [u64; 7];
+
 /// An entry in the words of the tables, times in microseconds.
 #[derive(Clone, Copy)]
-pub(super) struct Wanted {
+pub(super) struct Plain {
     pub(super) kind: Kind,
     pub(super) id: u16,
-    pub(super) start: u32,
-    pub(super) interval: u32,
-    pub(super) jitter: u32,
-    pub(super) grants: u32,
-    pub(super) slots: u32,
+    pub(super) start: u64,
+    pub(super) interval: u64,
+    pub(super) jitter: u64,
+    pub(super) grants: u64,
+    pub(super) slots: u64,
     /// The number of its flow's first word.
     pub(super) word: u64,
-}
-
-/// An entry, and which of its occurrences are settled, by number.
-#[derive(Clone, Copy)]
-pub(super) struct Plain {
-    pub(super) wanted: Wanted,
+    /// Which of its occurrences are settled, by number.
     pub(super) settled: [bool; 64],
 }
 
-/// The minislots of a poll.
-const POLL: u32 = 2;
+/// A round, the seed of the marks, and what a calendar settled in it.
+#[derive(Clone, Copy)]
+pub(super) struct Round<'a> {
+    pub(super) number: u64,
+    pub(super) seed: u64,
+    pub(super) settled: &'a [Settled],
+}
 
 /// What is cut of a word in a round, for marks that look random and are another row for each seed.
 pub(super) fn mark(seed: u64, round: u64, word: u64) -> u64 {
@@ -42,27 +48,76 @@ pub(super) fn mark(seed: u64, round: u64, word: u64) -> u64 {
     u64::from((mixed >> 16) % 4 == 0)
 }
 
-/// Whether a flow is active in the round of a time, in quarter microseconds, by all marks up to that round.
-fn is_active(seed: u64, wanted: &Wanted, time: u64) -> bool {
-    if wanted.kind != Kind::Activity {
-        return true;
-    }
+/// Whether a flow is active in a round, by all marks up to it.
+pub(super) fn is_active(entry: &Plain, seed: u64, at: u64) -> bool {
     let mut active = true;
     for round in 0..ROUNDS {
-        if round <= time / 8_000 {
-            if mark(seed, round, wanted.word.saturating_add(1)) > 0 {
+        if round <= at {
+            if mark(seed, round, entry.word.saturating_add(1)) > 0 {
                 active = true;
-            } else if mark(seed, round, wanted.word) > 0 {
+            } else if mark(seed, round, entry.word) > 0 {
                 active = false;
             }
         }
     }
-    active
+    active || entry.kind != Kind::Activity
+}
+
+/// Kinds in the order of their turns.
+fn number_of(kind: Kind) -> u64 {
+    match kind {
+        Kind::Unsolicited => 0,
+        Kind::Activity => 1,
+        Kind::RealTimePoll => 2,
+        Kind::NonRealTimePoll => 3,
+        Kind::Station => 4,
+    }
+}
+
+/// The IUC of what an entry is granted.
+fn iuc_of(kind: Kind, active: bool) -> u64 {
+    match kind {
+        Kind::Station => 4,
+        Kind::RealTimePoll | Kind::NonRealTimePoll => 1,
+        _ => { if active { 11 } else { 1 } }
+    }
+}
+
+/// What a calendar tells.
+fn told_of(one: &Settled) -> Told {
+    match one {
+        Settled::Granted {
+            kind,
+            id,
+            i,
+            k,
+            start,
+            slots,
+            owner,
+        } => [
+            number_of(*kind),
+            u64::from(*id),
+            u64::from(*i),
+            u64::from(*k),
+            u64::from(*start),
+            u64::from(*slots),
+            u64::from(owner.iuc().number()),
+        ],
+        Settled::Missed { kind, id, i, k } => [
+            number_of(*kind),
+            u64::from(*id),
+            u64::from(*i),
+            u64::from(*k),
+            0,
+            0,
+            0,
+        ],
+    }
 }
 
 /// How many idle minislots there are from `start` on.
-fn idle_from(cells: &Cells, start: usize) -> u32 {
-    let mut count = 0u32;
+fn idle_from(cells: &Cells, start: usize) -> u64 {
+    let mut count = 0u64;
     for i in start..160 {
         if cells[i] != 0 {
             return count;
@@ -73,153 +128,113 @@ fn idle_from(cells: &Cells, start: usize) -> u32 {
 }
 
 /// The first minislot that begins in a window, its two ends included, and has so many idle ones from it on.
-fn plain_start(cells: &Cells, begin: u64, window: (u64, u64), slots: u32) -> Option<usize> {
+fn plain_start(cells: &Cells, begin: u64, window: (u64, u64), slots: u64) -> Option<u64> {
     for start in 0..160usize {
         let at = begin.saturating_add(50 * start as u64);
         if window.0 <= at && at <= window.1 && idle_from(cells, start) >= slots {
-            return Some(start);
+            return Some(start as u64);
         }
     }
     None
 }
 
 /// Gives minislots to an entry.
-fn write(cells: &mut Cells, start: usize, slots: u32, id: u16) {
+fn write(cells: &mut Cells, start: u64, slots: u64, id: u16) {
     for (i, cell) in cells.iter_mut().enumerate() {
-        if i >= start && i - start < slots as usize {
+        if i as u64 >= start && i as u64 - start < slots {
             *cell = id;
         }
     }
 }
 
-/// When an occurrence is ideal, and the last moment of its window, in quarter microseconds.
-fn window_of(wanted: &Wanted, number: u64) -> (u64, u64) {
-    let i = number / u64::from(wanted.grants).max(1);
-    let us = u64::from(wanted.start).saturating_add(i.saturating_mul(u64::from(wanted.interval)));
-    let last = us.saturating_add(u64::from(wanted.jitter));
-    (us.saturating_mul(4), last.saturating_mul(4))
+/// The interval of an occurrence, and its place there.
+fn spot_of(entry: &Plain, number: u64) -> (u64, u64) {
+    let grants = entry.grants.max(1);
+    (number / grants, number % grants)
 }
 
-/// Tells an occurrence that is granted, so many minislots, or missed.
-fn tell(
-    answer: &mut String,
-    wanted: &Wanted,
-    number: u64,
-    given: Option<(usize, u32)>,
-    active: bool,
-) -> Result<(), AllocError> {
-    let grants = u64::from(wanted.grants).max(1);
-    let (kind, id) = (wanted.kind, wanted.id);
-    let (i, k) = (number / grants, number % grants);
-    let Some((start, slots)) = given else {
-        return write!(answer, "{kind:?} {id} {i}.{k} missed, ");
-    };
-    write!(answer, "{kind:?} {id} {i}.{k} {start}+{slots}")?;
-    if kind == Kind::Activity {
-        write!(answer, " iuc {}", if active { 11 } else { 1 })?;
-    }
-    write!(answer, ", ")
+/// When an interval begins, and the last moment of its window, in quarter microseconds.
+fn window_of(entry: &Plain, i: u64) -> (u64, u64) {
+    let us = entry.start.saturating_add(i.saturating_mul(entry.interval));
+    (
+        us.saturating_mul(4),
+        us.saturating_add(entry.jitter).saturating_mul(4),
+    )
 }
 
-/// A round, and the seed of the marks.
-#[derive(Clone, Copy)]
-struct At {
-    round: u64,
-    seed: u64,
-}
-
-/// Settles an occurrence that isn't settled yet, if it can be: whether it is then. Of an interval that begins while its flow
+/// Settles an occurrence that isn't settled yet, if it can be, and tells it then. Of an interval that begins while its flow
 /// is silent only the first one comes.
-fn settle(
-    answer: &mut String,
-    wanted: &Wanted,
-    number: u64,
-    at: At,
-    cells: &mut Cells,
-) -> Result<bool, AllocError> {
-    let begin = at.round.saturating_mul(8_000);
+fn settle(entry: &Plain, number: u64, round: Round, cells: &mut Cells) -> Option<Told> {
+    let begin = round.number.saturating_mul(8_000);
     let end = begin.saturating_add(8_000);
-    let window = window_of(wanted, number);
-    let active = is_active(at.seed, wanted, window.0);
-    let is_first = number % u64::from(wanted.grants).max(1) == 0;
-    if window.0 >= end || (!active && !is_first) {
-        return Ok(false);
+    let (i, k) = spot_of(entry, number);
+    let window = window_of(entry, i);
+    let active = is_active(entry, round.seed, window.0 / 8_000);
+    if window.0 >= end || (!active && k > 0) {
+        return None;
     }
-    let slots = if active { wanted.slots } else { POLL };
-    let start = plain_start(cells, begin, window, slots);
-    if let Some(start) = start {
-        write(cells, start, slots, wanted.id);
-    } else if window.1 >= end {
-        return Ok(false);
+    let (kind, id) = (number_of(entry.kind), u64::from(entry.id));
+    let slots = if active { entry.slots } else { POLL };
+    match plain_start(cells, begin, window, slots) {
+        Some(start) => {
+            write(cells, start, slots, entry.id);
+            Some([kind, id, i, k, start, slots, iuc_of(entry.kind, active)])
+        }
+        None if window.1 >= end => None,
+        None => Some([kind, id, i, k, 0, 0, 0]),
     }
-    tell(
-        answer,
-        wanted,
-        number,
-        start.map(|start| (start, slots)),
-        active,
-    )?;
-    Ok(true)
+}
+
+/// How many of what a calendar settled are the same, with one more that the plain program tells: more than there are once
+/// the two differ.
+fn one_more(settled: &[Settled], same: usize, told: Told) -> usize {
+    match settled.get(same) {
+        Some(one) if told_of(one) == told => same.saturating_add(1),
+        _ => usize::MAX,
+    }
 }
 
 /// Goes over all occurrences of an entry.
-fn turn_of(
-    answer: &mut String,
-    entry: &mut Plain,
-    at: At,
-    cells: &mut Cells,
-) -> Result<(), AllocError> {
-    let wanted = entry.wanted;
-    for (number, settled) in entry.settled.iter_mut().enumerate() {
-        if !*settled {
-            *settled = settle(answer, &wanted, number as u64, at, cells)?;
+fn turn_of(entry: &mut Plain, round: Round, cells: &mut Cells, same: &mut usize) {
+    for number in 0..64usize {
+        if !entry.settled[number] {
+            if let Some(told) = settle(entry, number as u64, round, cells) {
+                entry.settled[number] = true;
+                *same = one_more(round.settled, *same, told);
+            }
         }
     }
-    Ok(())
 }
 
-/// The turns of all entries of a kind and an id.
+/// Goes over the entries of a kind and an id.
 fn turns_of(
-    answer: &mut String,
     entries: &mut [Plain],
-    key: (Kind, u16),
-    at: At,
+    turn: (u64, u64),
+    round: Round,
     cells: &mut Cells,
-) -> Result<(), AllocError> {
+    same: &mut usize,
+) {
     for entry in entries.iter_mut() {
-        if (entry.wanted.kind, entry.wanted.id) == key {
-            turn_of(answer, entry, at, cells)?;
+        if number_of(entry.kind) == turn.0 && u64::from(entry.id) == turn.1 {
+            turn_of(entry, round, cells, same);
         }
     }
-    Ok(())
 }
 
-/// A round: kinds in their order, and each kind by id. The last 10 minislots are for contention.
-fn plain_round(answer: &mut String, entries: &mut [Plain], at: At) -> Result<(), AllocError> {
+/// Whether the plain program settles in a round what a calendar did: kinds in their order, and each kind by id, 10 at most. The last 10
+/// minislots are for contention.
+pub(super) fn is_as_plain(entries: &mut [Plain], round: Round) -> bool {
     let mut cells = [0; 160];
+    let mut same = 0;
     write(&mut cells, 150, 10, 16_383);
-    for place in 0..50u16 {
-        let kind = match place / 10 {
-            0 => Kind::Unsolicited,
-            1 => Kind::Activity,
-            2 => Kind::RealTimePoll,
-            3 => Kind::NonRealTimePoll,
-            _ => Kind::Station,
-        };
-        turns_of(answer, entries, (kind, place % 10), at, &mut cells)?;
+    for turn in 0..55u64 {
+        turns_of(
+            entries,
+            (turn / 11, turn % 11),
+            round,
+            &mut cells,
+            &mut same,
+        );
     }
-    Ok(())
-}
-
-/// What the plain program settles, round by round, with the marks of a seed.
-pub(super) fn plainly(
-    answer: &mut String,
-    entries: &mut [Plain],
-    seed: u64,
-) -> Result<(), AllocError> {
-    for round in 0..ROUNDS {
-        write!(answer, "{round}: ")?;
-        plain_round(answer, entries, At { round, seed })?;
-    }
-    Ok(())
+    same == round.settled.len()
 }
