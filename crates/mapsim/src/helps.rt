@@ -46,10 +46,8 @@ length of the MAP body in bytes (2 bytes, big-endian), and the body.
     WORKERS,
     TRACE_FAULTS,
     FAILED,
-    "\
-  fault RU4 N       the maps file failed after N rounds
-  fault RU5 N       the report failed after N rounds
-",
+    "  fault RU4 N       the maps file failed after N rounds\n",
+    "  fault RU5 N       the report failed after N rounds\n",
     FILES,
     MEMORY,
 ];
@@ -209,8 +207,7 @@ const MEMORY: &str =
     "Status 5, memory was wanting; run it where there is more:\n  fault memory      out of memory";
 
 /// The faults of a configuration.
-const CONFIG_FAULTS: &str = "\
-  fault C1          no TOML document of at most 4194304 bytes
+const CONFIG_FAULTS: &str = "  fault C1          no TOML document of at most 4194304 bytes
   fault C2 PLACE    a key is missing in PLACE
   fault C3 PLACE    a value is out of its range, or a key is unknown, in PLACE
   fault C4 PLACE    no channel has an id that is named in PLACE
@@ -226,25 +223,20 @@ const CONFIG_FAULTS: &str = "\
 ";
 
 /// The faults of the numbers of a run.
-const ROUNDS: &str = "\
-  fault RU1         no rounds, or more than a run has ticks for (67,108,864)
-";
+const ROUNDS: &str =
+    "  fault RU1         no rounds, or more than a run has ticks for (67,108,864)\n";
 
-const WORKERS: &str = "\
-  fault RU2         the workers are not 1 to 64
-";
+const WORKERS: &str = "  fault RU2         the workers are not 1 to 64\n";
 
 /// The faults of a trace.
-const TRACE_FAULTS: &str = "\
-  fault TR1         the first record is not the header
+const TRACE_FAULTS: &str = "  fault TR1         the first record is not the header
   fault TR2 N       record N has not as many fields as the header
   fault TR3 N       record N has a field that is no number in its range, or is a mark with units
   fault TR4         the trace is too large
 ";
 
 /// The faults of a maps file.
-const MAP_FAULTS: &str = "\
-  fault M1 N        the body has under 16 bytes
+const MAP_FAULTS: &str = "  fault M1 N        the body has under 16 bytes
   fault M2 N        the length is not that of the counted elements
   fault M3 N        Reserved is not 0
   fault M4 N        over 240 elements
