@@ -1,10 +1,8 @@
-//! What no clause says: worked traces, devices in pieces and with faults, and the limits.
+//! What no clause says: worked traces, the limits, devices in pieces and with faults, and filing beside a plain loop.
 
 mod base;
 mod limits;
-mod marks;
 mod memory;
-mod plain;
 mod plain_filing;
-mod sources;
+mod states;
 mod traces;

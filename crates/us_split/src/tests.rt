@@ -1,9 +1,8 @@
-//! What no clause says: divisions beside a plain program, plans of real configurations, by themselves and by a planner, and
-//! who asks round after round.
+//! What no clause says: divisions beside a plain program, plans of real configurations, each beside that of a planner that is
+//! kept, and who asks round after round.
 
 mod asking;
 mod base;
 mod divisions;
 mod memory;
-mod planners;
 mod plans;

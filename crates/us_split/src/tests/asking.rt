@@ -1,93 +1,130 @@
 ghost use Rattle.std.specs.Prelude.{◌≡◌, ◌+◌, ◌^◌, ◌<◌, length, zip, IsTrue};
 ghost use Rattle.std.specs.List.{AllByRecursion};
 
-use super::base::{ACTIVITY, Case, config_of, same};
-use super::plans::{BONDED, TWO_CLUSTERS};
+use super::base::{same, text_of};
 use crate::Askers;
-use std::alloc::{AllocError, Global};
+use std::alloc::Global;
 use std::process::Abort;
 use std::test::Fail;
+use us_flows::Config;
+use us_slots::NoMemory;
 
-/// Two clusters of the one flow, and one of a flow that goes before it. So the turns are of clusters 2, 0 and 1.
-const THREE_CLUSTERS: Case<'static> = Case {
-    name: "three clusters",
-    flows: &[
-        BONDED,
-        "id = 2
+/// Two clusters of a flow, a flow that tells its activity, and a cluster of a flow that goes before. So the turns are of the
+/// clusters of words 4, 0 and 1, and words 2 and 3 ask for nothing.
+const FLOWS: &str = "[[flow]]
+id = 1
+type = 2
+channels = [1]
+clusters = [[291], [293]]
+priority = 0
+rate = 0
+burst = 3044
+unit = 4
+headers = true
+[[flow]]
+id = 2
+type = 5
+channels = [1]
+clusters = [[513]]
+start_us = 0
+interval_us = 2000
+jitter_us = 1000
+grant_bytes = 16
+grants_per_interval = 2
+[[flow]]
+id = 3
+type = 2
 channels = [1]
 clusters = [[295]]
 priority = 5
-headers = false",
-    ],
-    ..TWO_CLUSTERS
-};
-
-/// The same with a flow between both that tells its activity. So the turns are of the clusters of words 4, 0 and 1.
-const WITH_ACTIVITY: Case<'static> = Case {
-    name: "activity between clusters",
-    flows: &[
-        BONDED,
-        ACTIVITY,
-        "id = 3
-channels = [1]
-clusters = [[295]]
-priority = 5
-headers = false",
-    ],
-    ..TWO_CLUSTERS
-};
+rate = 0
+burst = 3044
+unit = 4
+headers = false
+";
 
 /// What is done to the askers.
-#[derive(Clone, Copy)]
 enum Step {
     Ask(usize, u64),
-    Cut(&'static [u64]),
+    Cut([u64; 5]),
     Credit(usize, u64),
     Settle,
 }
 
-/// Steps, each with what it leaves: the places of those who ask, and of those who were pending, and the bytes that are
-/// outstanding of each word.
-const STEPS: &[(Step, &str)] = &[
-    (Step::Settle, "ask pending of 0 0 0"),
-    (Step::Ask(1, 100), "ask 2 pending of 0 100 0"),
-    (Step::Ask(0, 50), "ask 1 2 pending of 50 100 0"),
-    (Step::Ask(2, 10), "ask 0 1 2 pending of 50 100 10"),
-    (Step::Ask(0, 0), "ask 0 1 2 pending of 50 100 10"),
-    (Step::Ask(1, 1), "ask 0 1 2 pending of 50 101 10"),
-    (Step::Credit(0, 50), "ask 0 1 2 pending of 50 101 10"),
-    (Step::Credit(1, 30), "ask 0 1 2 pending of 50 101 10"),
-    (Step::Settle, "ask 0 2 pending 0 of 0 71 10"),
-    (Step::Settle, "ask 0 2 pending 0 2 of 0 71 10"),
-    (Step::Credit(2, 10), "ask 0 2 pending 0 2 of 0 71 10"),
-    (Step::Ask(0, 0), "ask 0 2 pending 0 2 of 0 71 10"),
-    (Step::Settle, "ask 2 pending 2 of 0 71 0"),
-    (Step::Cut(&[0, 0, 7]), "ask 0 2 pending 2 of 0 71 7"),
-];
-
-/// Words 2 and 3 are of activity, which asks for nothing, whatever it has in a cut.
-const STEPS_WITH_ACTIVITY: &[(Step, &str)] = &[
-    (Step::Cut(&[0, 0, 1, 2, 0]), "ask pending of 0 0 0 0 0"),
-    (Step::Ask(3, 5), "ask pending of 0 0 0 0 0"),
+/// Steps, each with what it leaves: the places of those who ask, and of those who were pending, and the bytes of each word
+/// that are outstanding, and that are left.
+static STEPS: [(Step, &'static str); 18] = [
+    (Step::Settle, "[] [] [0, 0, 0, 0, 0] [0, 0, 0, 0, 0]"),
     (
-        Step::Cut(&[0, 70, 1, 0, 9]),
-        "ask 0 2 pending of 0 70 0 0 9",
+        Step::Cut([0, 0, 1, 2, 0]),
+        "[] [] [0, 0, 0, 0, 0] [0, 0, 0, 0, 0]",
+    ),
+    (Step::Ask(3, 5), "[] [] [0, 0, 0, 0, 0] [0, 0, 0, 0, 0]"),
+    (
+        Step::Ask(1, 100),
+        "[2] [] [0, 100, 0, 0, 0] [0, 100, 0, 0, 0]",
     ),
     (
-        Step::Cut(&[4, 1, 0, 3, 1]),
-        "ask 0 1 2 pending of 4 71 0 0 10",
+        Step::Ask(0, 50),
+        "[1, 2] [] [50, 100, 0, 0, 0] [50, 100, 0, 0, 0]",
     ),
-    (Step::Credit(4, 10), "ask 0 1 2 pending of 4 71 0 0 10"),
-    (Step::Settle, "ask 1 2 pending 1 2 of 4 71 0 0 0"),
-    (Step::Ask(4, 8), "ask 0 1 2 pending 1 2 of 4 71 0 0 8"),
+    (
+        Step::Ask(4, 10),
+        "[0, 1, 2] [] [50, 100, 0, 0, 10] [50, 100, 0, 0, 10]",
+    ),
+    (
+        Step::Ask(0, 0),
+        "[0, 1, 2] [] [50, 100, 0, 0, 10] [50, 100, 0, 0, 10]",
+    ),
+    (
+        Step::Ask(1, 1),
+        "[0, 1, 2] [] [50, 101, 0, 0, 10] [50, 101, 0, 0, 10]",
+    ),
+    (
+        Step::Credit(0, 50),
+        "[0, 1, 2] [] [50, 101, 0, 0, 10] [0, 101, 0, 0, 10]",
+    ),
+    (
+        Step::Credit(1, 30),
+        "[0, 1, 2] [] [50, 101, 0, 0, 10] [0, 71, 0, 0, 10]",
+    ),
+    (
+        Step::Settle,
+        "[0, 2] [0] [0, 71, 0, 0, 10] [0, 71, 0, 0, 10]",
+    ),
+    (
+        Step::Settle,
+        "[0, 2] [0, 2] [0, 71, 0, 0, 10] [0, 71, 0, 0, 10]",
+    ),
+    (
+        Step::Credit(4, 10),
+        "[0, 2] [0, 2] [0, 71, 0, 0, 10] [0, 71, 0, 0, 0]",
+    ),
+    (
+        Step::Ask(0, 0),
+        "[0, 2] [0, 2] [0, 71, 0, 0, 10] [0, 71, 0, 0, 0]",
+    ),
+    (Step::Settle, "[2] [2] [0, 71, 0, 0, 0] [0, 71, 0, 0, 0]"),
+    (
+        Step::Cut([4, 1, 0, 3, 7]),
+        "[0, 1, 2] [2] [4, 72, 0, 0, 7] [4, 72, 0, 0, 7]",
+    ),
+    (
+        Step::Credit(1, 72),
+        "[0, 1, 2] [2] [4, 72, 0, 0, 7] [4, 0, 0, 0, 7]",
+    ),
+    (
+        Step::Settle,
+        "[0, 1] [0, 1] [4, 0, 0, 0, 7] [4, 0, 0, 0, 7]",
+    ),
 ];
 
 /// Takes a step, where it may be taken.
-fn take(askers: &mut Askers, step: Step) {
+fn take(askers: &mut Askers, step: &Step) {
     match step {
-        Step::Ask(word, bytes) => ask(askers, word, bytes),
-        Step::Cut(cuts) => cut(askers, cuts),
-        Step::Credit(cluster, bytes) => credit(askers, cluster, bytes),
+        Step::Ask(word, bytes) => ask(askers, *word, *bytes),
+        Step::Cut(cut) => ask_all(askers, cut),
+        Step::Credit(cluster, bytes) => credit(askers, *cluster, *bytes),
         Step::Settle => askers.settle(),
     }
 }
@@ -99,7 +136,7 @@ fn ask(askers: &mut Askers, word: usize, bytes: u64) {
     }
 }
 
-fn cut(askers: &mut Askers, cuts: &[u64]) {
+fn ask_all(askers: &mut Askers, cuts: &[u64]) {
     if has_room(askers.outstanding(), cuts) {
         askers.add_all(cuts);
     }
@@ -123,53 +160,38 @@ fn has_room(outstanding: &[u64], cuts: &[u64]) -> bool
 
 fn credit(askers: &mut Askers, cluster: usize, bytes: u64) {
     let left = askers.left();
-    if cluster < askers.outstanding().len() && cluster < left.len() && bytes <= left[cluster] {
+    if cluster < left.len() && bytes <= left[cluster] {
         askers.credit(cluster, bytes);
     }
 }
 
-fn tell(alloc: Global, askers: &Askers) -> Result<String, AllocError> {
-    let mut text = String::new(alloc);
-    text.push_str("ask")?;
-    for place in askers.asking() {
-        write!(text, " {place}")?;
+/// Takes all steps, and compares what each leaves.
+pub fn walk(rt: &impl Abort, alloc: Global) -> Result<(), NoMemory> {
+    let text = text_of(alloc, 1, FLOWS)?;
+    match Config::read(alloc, text.as_bytes()) {
+        Ok(config) => take_all(rt, alloc, &config),
+        Err(_) => Err(NoMemory),
     }
-    text.push_str(" pending")?;
-    for place in askers.pending() {
-        write!(text, " {place}")?;
-    }
-    text.push_str(" of")?;
-    for bytes in askers.outstanding() {
-        write!(text, " {bytes}")?;
-    }
-    Ok(text)
 }
 
-/// Takes these steps by the configuration of a case, and compares what each leaves.
-fn walk(
-    rt: &impl Abort,
-    alloc: Global,
-    case: &Case<'_>,
-    steps: &[(Step, &str)],
-) -> Result<(), Fail> {
-    let Some(config) = config_of(alloc, case) else {
-        same(rt, "no configuration", "a configuration", case.name);
-        return Ok(());
-    };
-    let mut askers = Askers::new(alloc, &config)?;
-    for (step, left) in steps {
-        take(&mut askers, *step);
-        same(rt, tell(alloc, &askers)?.as_str(), left, case.name);
+fn take_all(rt: &impl Abort, alloc: Global, config: &Config) -> Result<(), NoMemory> {
+    let mut askers = Askers::new(alloc, config)?;
+    for (step, left) in &STEPS {
+        take(&mut askers, step);
+        let told = told(alloc, &askers)?;
+        same(rt, told.as_str(), left, "who asks");
     }
     Ok(())
 }
 
-#[test]
-fn who_asks_and_who_is_pending(rt: HostRuntime) -> Result<(), Fail> {
-    walk(&rt, rt.alloc(), &THREE_CLUSTERS, STEPS)
+fn told(alloc: Global, askers: &Askers) -> Result<String, NoMemory> {
+    let (asking, pending) = (askers.asking(), askers.pending());
+    let (outstanding, left) = (askers.outstanding(), askers.left());
+    Ok(format!(in alloc; "{asking:?} {pending:?} {outstanding:?} {left:?}")?)
 }
 
 #[test]
-fn activity_asks_for_nothing(rt: HostRuntime) -> Result<(), Fail> {
-    walk(&rt, rt.alloc(), &WITH_ACTIVITY, STEPS_WITH_ACTIVITY)
+fn who_asks_and_who_is_pending(rt: HostRuntime) -> Result<(), Fail> {
+    walk(&rt, rt.alloc())?;
+    Ok(())
 }

@@ -1,6 +1,5 @@
 use super::base::same;
 use crate::divide;
-use std::test::Fail;
 
 /// The same division, as a plain program: the greatest parts in proportion, then a byte to each channel in turn.
 fn divided_plainly(bytes: u64, weights: [u32; 3]) -> [u32; 3] {
@@ -39,52 +38,33 @@ fn agrees(bytes: u64, a: u32, b: u32, c: u32) -> bool {
     shares == divided_plainly(bytes, weights)
 }
 
-#[test]
-fn divisions_beside_a_plain_program(rt: HostRuntime) -> Result<(), Fail> {
-    let mut differ = 0_u32;
-    for bytes in 0..14 {
-        for weights in 0..125_u32 {
-            if !agrees(bytes, weights / 25, weights / 5 % 5, weights % 5) {
-                differ = differ.saturating_add(1);
-            }
+/// How many of all divisions of few bytes by small weights agree.
+fn small_ones() -> u32 {
+    let mut agreed = 0_u32;
+    for number in 0..1750 {
+        if agrees(
+            u64::from(number / 125),
+            number / 25 % 5,
+            number / 5 % 5,
+            number % 5,
+        ) {
+            agreed = agreed.saturating_add(1);
         }
     }
-    for (bytes, a, b, c) in [
-        (501, 300, 600, 100),
-        (1000, 300, 600, 100),
-        (2000, 300, 600, 100),
-        (98_304, 98_304, 1, 98_304),
-        ((1 << 62) - 1, 98_304, 98_304, 98_303),
-    ] {
-        if !agrees(bytes, a, b, c) {
-            differ = differ.saturating_add(1);
-        }
-    }
-    same(
-        &rt,
-        if differ == 0 { "none" } else { "some" },
-        "none",
-        "differ",
-    );
-    Ok(())
+    agreed
+}
+
+/// Whether some divisions of many bytes, or by great weights, agree.
+fn great_ones() -> bool {
+    agrees(501, 300, 600, 100)
+        && agrees(1000, 300, 600, 100)
+        && agrees(2000, 300, 600, 100)
+        && agrees(98_304, 98_304, 1, 98_304)
+        && agrees((1 << 62) - 1, 98_304, 98_304, 98_303)
 }
 
 #[test]
-fn eight_weights(rt: HostRuntime) -> Result<(), Fail> {
-    let mut shares = [0; 8];
-    divide((1 << 62) - 1, &[98_304; 8], &mut shares);
-    let all = shares == [98_304; 8];
-    divide(786_431, &[98_304; 8], &mut shares);
-    let but_one = shares
-        == [
-            98_304, 98_304, 98_304, 98_304, 98_304, 98_304, 98_304, 98_303,
-        ];
-    divide(1 << 62, &[], &mut shares[..0]);
-    same(
-        &rt,
-        if all && but_one { "right" } else { "wrong" },
-        "right",
-        "eight weights",
-    );
-    Ok(())
+fn divisions_beside_a_plain_program(rt: HostRuntime) {
+    let all = small_ones() == 1750 && great_ones();
+    same(&rt, if all { "all" } else { "some" }, "all", "agree");
 }

@@ -1,41 +1,12 @@
-use super::base::{config_of, plan_of, same, tell};
-use super::planners::planned_after;
-use super::plans::TWO_CLUSTERS;
-use crate::Askers;
-use std::test::Fail;
+use super::asking::walk;
+use super::plans::{RUNS, are_planned};
 
-/// Run by `tools/refuse-memory` too, where each allocation is refused in turn: a plan and askers are answered whole or as
-/// want of memory.
+/// Run by `tools/refuse-memory` too, where each allocation is refused in turn: plans, by themselves and by a planner, and
+/// askers are answered whole or as want of memory. A round of the planner may have been refused memory before it plans the
+/// next one.
 #[test]
-fn refused_memory(rt: HostRuntime) -> Result<(), Fail> {
-    let Some(config) = config_of(rt.alloc(), &TWO_CLUSTERS) else {
-        return Ok(());
-    };
-    if let Ok(askers) = Askers::new(rt.alloc(), &config) {
-        let asking = if askers.asking().is_empty() {
-            "nobody"
-        } else {
-            "somebody"
-        };
-        same(&rt, asking, "nobody", "before the first round");
-    }
-    let Some(Ok(plan)) = plan_of(rt.alloc(), &config, &TWO_CLUSTERS) else {
-        return Ok(());
-    };
-    if let Ok(told) = tell(rt.alloc(), &plan, 2) {
-        same(&rt, told.as_str(), TWO_CLUSTERS.answer, "whole");
-    }
-    Ok(())
-}
-
-/// The same of a planner, whose first round may have been refused memory before the second is planned.
-#[test]
-fn refused_memory_of_a_planner(rt: HostRuntime) -> Result<(), Fail> {
-    let Some(config) = config_of(rt.alloc(), &TWO_CLUSTERS) else {
-        return Ok(());
-    };
-    if let Some(told) = planned_after(rt.alloc(), &config, &TWO_CLUSTERS, &TWO_CLUSTERS) {
-        same(&rt, told.as_str(), TWO_CLUSTERS.answer, "whole");
-    }
-    Ok(())
+fn refused_memory(rt: HostRuntime) {
+    let _ = are_planned(&rt, rt.alloc(), &RUNS[0]);
+    let _ = are_planned(&rt, rt.alloc(), &RUNS[4]);
+    let _ = walk(&rt, rt.alloc());
 }
