@@ -6,7 +6,8 @@ of one of its files and streams. It is compiled by `cc`, and told what to refuse
             destructor
   DEVICE    input, output, error or the name of a file, without its folder: each read and each write of it moves one byte
   ROOM      bytes that the device moves. A read or write after them is refused: by a fault, or by 0 bytes where TAKES_NONE
-            is set too. One more read or write of that device ends the program by a signal: what failed is left alone
+            is set too. One more read or write of that device, also of no bytes, ends the program by a signal: what failed
+            is left alone
 """
 import shutil
 import subprocess
@@ -99,21 +100,26 @@ static ssize_t refuse(int reason, ssize_t answer) {
     return answer;
 }
 
+/* Of no bytes a read or write is refused only behind one that was. */
+static int is_over(size_t count) {
+    return moved == room && (count || has_refused);
+}
+
 static ssize_t counted(ssize_t bytes) {
     if (bytes > 0) moved += bytes;
     return bytes;
 }
 
 ssize_t read(int fd, void *to, size_t count) {
-    if (!count || !is_device(fd)) return real_read(fd, to, count);
-    if (moved == room) return refuse(EIO, -1);
-    return counted(real_read(fd, to, 1));
+    if (!is_device(fd)) return real_read(fd, to, count);
+    if (is_over(count)) return refuse(EIO, -1);
+    return counted(real_read(fd, to, count ? 1 : 0));
 }
 
 ssize_t write(int fd, const void *from, size_t count) {
-    if (!count || !is_device(fd)) return real_write(fd, from, count);
-    if (moved == room) return refuse(ENOSPC, takes_none ? 0 : -1);
-    return counted(real_write(fd, from, 1));
+    if (!is_device(fd)) return real_write(fd, from, count);
+    if (is_over(count)) return refuse(ENOSPC, takes_none ? 0 : -1);
+    return counted(real_write(fd, from, count ? 1 : 0));
 }
 
 ssize_t __write(int fd, const void *from, size_t count) {

@@ -46,9 +46,8 @@ length of the MAP body in bytes (2 bytes, big-endian), and the body.
     WORKERS,
     TRACE_FAULTS,
     FAILED,
-    "  fault RU4 N       the maps file failed after N rounds
-  fault RU5 N       the report failed after N rounds
-",
+    "  fault RU4 N       the maps file failed after N rounds\n",
+    "  fault RU5 N       the report failed after N rounds\n",
     FILES,
     MEMORY,
 ];
@@ -224,11 +223,10 @@ const CONFIG_FAULTS: &str = "  fault C1          no TOML document of at most 419
 ";
 
 /// The faults of the numbers of a run.
-const ROUNDS: &str = "  fault RU1         no rounds, or more than a run has ticks for (67,108,864)
-";
+const ROUNDS: &str =
+    "  fault RU1         no rounds, or more than a run has ticks for (67,108,864)\n";
 
-const WORKERS: &str = "  fault RU2         the workers are not 1 to 64
-";
+const WORKERS: &str = "  fault RU2         the workers are not 1 to 64\n";
 
 /// The faults of a trace.
 const TRACE_FAULTS: &str = "  fault TR1         the first record is not the header
