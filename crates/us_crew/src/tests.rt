@@ -1,5 +1,5 @@
 //! What no clause says: that the work is done where there is memory, that workers are at work at the same time, that
-//! one worker is one thread, that kept workers do the same from round to round, and texts of faults.
+//! one worker is one thread, that kept workers do the same from round to round, and that a fault can be written.
 
 mod answers;
 mod base;
@@ -8,6 +8,5 @@ mod gates;
 mod kept_answers;
 mod kept_base;
 mod kept_gates;
-mod kept_memory;
 mod memory;
 mod plain;

@@ -1,54 +1,9 @@
-use super::base::{Case, Doubling, map_case, numbers_to, same, tell};
-use crate::{CrewFault, OpenGate, Phase, map_alone};
-use std::test::Fail;
+use super::base::{Case, DOUBLED, Doubling, REFUSED, Told, map_case, numbers_to, same, tell};
+use crate::{CrewFault, OpenGate, map_alone};
+use std::alloc::{AllocError, Global};
 
-pub(super) const DOUBLED: Case<'static> = Case {
-    name: "doubled",
-    numbers: 5,
-    most: u64::MAX,
-    workers: 3,
-    phase: Phase::Build,
-    answer: "[2, 4, 6, 8, 10]",
-};
-
-/// Items 2, 3 and 4 are refused.
-pub(super) const REFUSED: Case<'static> = Case {
-    name: "the first that is refused",
-    most: 2,
-    answer: "CR3: item 2: 3",
-    ..DOUBLED
-};
-
-static CASES: &[Case<'static>] = &[
+static CASES: &[Case] = &[
     DOUBLED,
-    Case {
-        name: "one worker",
-        workers: 1,
-        ..DOUBLED
-    },
-    Case {
-        name: "64 workers",
-        workers: 64,
-        ..DOUBLED
-    },
-    Case {
-        name: "no items",
-        numbers: 0,
-        answer: "[]",
-        ..DOUBLED
-    },
-    Case {
-        name: "no worker",
-        workers: 0,
-        answer: "CR1: the workers are not 1 to 64",
-        ..DOUBLED
-    },
-    Case {
-        name: "65 workers",
-        workers: 65,
-        answer: "CR1: the workers are not 1 to 64",
-        ..DOUBLED
-    },
     Case {
         workers: 1,
         ..REFUSED
@@ -67,31 +22,30 @@ static CASES: &[Case<'static>] = &[
     },
 ];
 
+/// What the calling thread alone answers for a case.
+fn alone_case(alloc: Global, case: &Case) -> Told {
+    let numbers = numbers_to(alloc, case.numbers)?;
+    tell(map_alone(alloc, &Doubling { most: case.most }, numbers))
+}
+
+/// The calling thread alone answers the same as workers do.
 #[test]
-fn answers_and_faults(rt: HostRuntime) -> Result<(), Fail> {
+fn answers_and_faults(rt: HostRuntime) {
     for case in CASES {
-        let answer = map_case(&rt, rt.alloc(), case, &OpenGate)?;
-        let told = tell(rt.alloc(), &answer)?;
-        same(&rt, case.name, told.as_str(), case.answer);
+        let found = map_case(&rt, rt.alloc(), case, &OpenGate);
+        same(&rt, case.workers, found, case.answer);
+        same(&rt, 0, alone_case(rt.alloc(), case), case.answer);
     }
-    Ok(())
 }
 
-/// The calling thread alone answers the same.
-#[test]
-fn answers_alone(rt: HostRuntime) -> Result<(), Fail> {
-    for (most, wanted) in [(u64::MAX, DOUBLED.answer), (REFUSED.most, REFUSED.answer)] {
-        let numbers = numbers_to(rt.alloc(), DOUBLED.numbers)?;
-        let answer = map_alone(rt.alloc(), &Doubling { most }, numbers);
-        let told = tell(rt.alloc(), &answer)?;
-        same(&rt, "alone", told.as_str(), wanted);
-    }
-    Ok(())
+/// Whether a fault is written as its text.
+fn is_written(alloc: Global) -> Result<bool, AllocError> {
+    let text = format!(in alloc; "{}", CrewFault::Item(2, 3_u64))?;
+    Ok(text.as_str() == "CR3: item 2: 3")
 }
 
 #[test]
-fn text_of_no_memory(rt: HostRuntime) -> Result<(), Fail> {
-    let told = tell(rt.alloc(), &Err(CrewFault::NoMemory))?;
-    same(&rt, "no memory", told.as_str(), "CR2: out of memory");
-    Ok(())
+fn text_of_a_fault(rt: HostRuntime) {
+    let found = u64::from(is_written(rt.alloc()) == Ok(true));
+    same(&rt, 0, Ok(found), Ok(1));
 }

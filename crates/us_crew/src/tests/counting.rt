@@ -1,55 +1,43 @@
-ghost use Rattle.std.specs.Prelude.{⊤};
+ghost use Rattle.std.specs.Prelude.{◌<◌, ⊤};
 
-use super::answers::DOUBLED;
-use super::base::{Case, map_case, same};
-use super::kept_base::{kept_round, opened};
-use crate::{Gate, Phase, beside};
-use std::alloc::{AllocError, Global};
-use std::process::Abort;
-use std::sync::atomic::{AtomicUsize, Ordering};
-use std::test::Fail;
+use super::base::{Case, DOUBLED, Told, map_case, same};
+use super::kept_base::{at_posts, by_owner};
+use crate::{Gate, Phase};
+use std::alloc::Global;
+use std::sync::atomic::{AtomicU64, Ordering};
 use std::thread::Threads;
 
-/// A gate that holds nobody, and counts who enters: by phase, and in it by the number of the item.
+/// A gate that holds nobody, and counts who enters, as digits to base 16: from the right one for each of five items, in
+/// each of three phases, and one for numbers that no item has.
 #[derive(Drop)]
 struct Counting {
-    collects: Vec<AtomicUsize>,
-    fills: Vec<AtomicUsize>,
-    builds: Vec<AtomicUsize>,
-    /// For numbers that no item has.
-    others: AtomicUsize,
-}
-
-/// A counter for each of five items.
-fn counters(alloc: Global) -> Result<Vec<AtomicUsize>, AllocError> {
-    let mut counters = Vec::new(alloc);
-    for _ in 0..5 {
-        counters.push(AtomicUsize::new(0))?;
-    }
-    Ok(counters)
+    counts: AtomicU64,
 }
 
 impl Counting {
-    fn new(alloc: Global) -> Result<Counting, AllocError> {
-        Ok(Counting {
-            collects: counters(alloc)?,
-            fills: counters(alloc)?,
-            builds: counters(alloc)?,
-            others: AtomicUsize::new(0),
-        })
+    fn new() -> Counting {
+        Counting {
+            counts: AtomicU64::new(0),
+        }
     }
 
-    /// What was counted, phase by phase, a digit for each item.
-    fn tell(&self, alloc: Global) -> Result<String, AllocError> {
-        let mut text = String::new(alloc);
-        for counters in [&self.collects, &self.fills, &self.builds] {
-            for counter in counters {
-                write!(text, "{}", counter.load(Ordering::SeqCst))?;
-            }
-            text.push(' ')?;
-        }
-        write!(text, "{}", self.others.load(Ordering::SeqCst))?;
-        Ok(text)
+    fn told(&self) -> u64 {
+        self.counts.load(Ordering::SeqCst)
+    }
+}
+
+/// The place of a digit.
+fn place(phase: Phase, index: usize) -> u32
+    ensures { result < 16 }
+{
+    if index >= 5 {
+        return 15;
+    }
+    let place = index as u32;
+    match phase {
+        Phase::Collect => place,
+        Phase::Fill => place + 5,
+        Phase::Build => place + 10,
     }
 }
 
@@ -57,70 +45,71 @@ impl Gate for Counting {
     ghost entered = { λ _ _ _. ⊤ };
 
     fn enter(&self, phase: Phase, index: usize) {
-        let counters = match phase {
-            Phase::Collect => &self.collects,
-            Phase::Fill => &self.fills,
-            Phase::Build => &self.builds,
-        };
-        let counter = counters.get(index).unwrap_or(&self.others);
-        counter.fetch_add(1, Ordering::SeqCst);
+        self.counts
+            .fetch_add(1 << (4 * place(phase, index)), Ordering::SeqCst);
     }
 }
 
-static PHASES: &[(Phase, &str)] = &[
-    (Phase::Collect, "11111 00000 00000 0"),
-    (Phase::Fill, "00000 11111 00000 0"),
-    (Phase::Build, "00000 00000 11111 0"),
+static ENTERED: &[(usize, Phase, u64)] = &[
+    (1, Phase::Collect, 0x11111),
+    (3, Phase::Collect, 0x11111),
+    (64, Phase::Collect, 0x11111),
+    (1, Phase::Fill, 0x11111_00000),
+    (3, Phase::Fill, 0x11111_00000),
+    (64, Phase::Fill, 0x11111_00000),
+    (1, Phase::Build, 0x11111_00000_00000),
+    (3, Phase::Build, 0x11111_00000_00000),
+    (64, Phase::Build, 0x11111_00000_00000),
 ];
+
+/// Who enters for the items of a case.
+fn entered<H: Threads + Sync>(threads: &H, alloc: Global, workers: usize, phase: Phase) -> Told {
+    let gate = Counting::new();
+    let case = Case {
+        workers,
+        phase,
+        ..DOUBLED
+    };
+    map_case(threads, alloc, &case, &gate)?;
+    Ok(gate.told())
+}
 
 /// Each item is entered for once, in its phase and by its number.
 #[test]
-fn entered_once(rt: HostRuntime) -> Result<(), Fail> {
-    for workers in [1, 3, 64] {
-        for (phase, wanted) in PHASES {
-            let case = Case {
-                workers,
-                phase: *phase,
-                ..DOUBLED
-            };
-            let gate = Counting::new(rt.alloc())?;
-            let _ = map_case(&rt, rt.alloc(), &case, &gate)?;
-            let told = gate.tell(rt.alloc())?;
-            same(&rt, "entered once", told.as_str(), wanted);
-        }
+fn entered_once(rt: HostRuntime) {
+    for (workers, phase, wanted) in ENTERED {
+        same(
+            &rt,
+            *workers,
+            entered(&rt, rt.alloc(), *workers, *phase),
+            Ok(*wanted),
+        );
     }
-    Ok(())
 }
 
-/// A round by a crew of so many workers, at their posts or with nobody there.
-fn kept_case<R: Abort + Threads + Sync>(
-    rt: &R,
+/// Who enters in three rounds of two phases by workers that are kept, at their posts or with nobody there.
+fn kept_entered<H: Threads + Sync>(
+    threads: &H,
     alloc: Global,
-    gate: &Counting,
     workers: usize,
-    at_posts: bool,
-) -> Result<(), AllocError> {
-    let (crew, posts) = opened(alloc, workers)?;
-    let run = move || {
-        let mut crew = crew;
-        kept_round(&mut crew, alloc, &DOUBLED, gate)
-    };
-    if at_posts {
-        beside(rt, posts, run)?;
+    are_up: bool,
+) -> Told {
+    let gate = Counting::new();
+    let case = Case { workers, ..DOUBLED };
+    if are_up {
+        at_posts(threads, alloc, &case, &gate, 3)?;
     } else {
-        run()?;
+        by_owner(threads, alloc, &case, &gate, 3)?;
     }
-    Ok(())
+    Ok(gate.told())
 }
 
-/// The same by workers that are kept, in a round of two phases.
+static KEPT: &[(usize, bool)] = &[(1, true), (4, true), (4, false)];
+
 #[test]
-fn kept_entered_once(rt: HostRuntime) -> Result<(), Fail> {
-    for (workers, at_posts) in [(1, true), (4, true), (4, false)] {
-        let gate = Counting::new(rt.alloc())?;
-        kept_case(&rt, rt.alloc(), &gate, workers, at_posts)?;
-        let told = gate.tell(rt.alloc())?;
-        same(&rt, "kept", told.as_str(), "00000 11111 11111 0");
+fn kept_entered_once(rt: HostRuntime) {
+    for (workers, are_up) in KEPT {
+        let found = kept_entered(&rt, rt.alloc(), *workers, *are_up);
+        same(&rt, *workers, found, Ok(0x33333_33333_00000));
     }
-    Ok(())
 }

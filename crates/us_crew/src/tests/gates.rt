@@ -1,11 +1,10 @@
 ghost use Rattle.std.specs.Prelude.{⊤};
 
-use super::answers::DOUBLED;
-use super::base::{Case, PHASES, map_case, same, tell};
-use crate::{Gate, OpenGate, Phase};
-use std::sync::atomic::{AtomicBool, AtomicUsize, Ordering};
-use std::test::Fail;
-use std::thread::yield_now;
+use super::base::{Case, DOUBLED, Told, map_case, same};
+use crate::{Gate, Phase};
+use std::alloc::Global;
+use std::sync::atomic::{AtomicU64, AtomicUsize, Ordering};
+use std::thread::{Threads, yield_now};
 
 /// A gate that holds each until so many have entered, for at most so many turns.
 #[derive(Drop)]
@@ -13,18 +12,7 @@ struct Meeting {
     wanted: usize,
     turns: u64,
     entered: AtomicUsize,
-    missed: AtomicBool,
-}
-
-impl Meeting {
-    fn new(wanted: usize, turns: u64) -> Meeting {
-        Meeting {
-            wanted,
-            turns,
-            entered: AtomicUsize::new(0),
-            missed: AtomicBool::new(false),
-        }
-    }
+    missed: AtomicU64,
 }
 
 impl Gate for Meeting {
@@ -38,46 +26,70 @@ impl Gate for Meeting {
             }
             yield_now();
         }
-        self.missed.store(true, Ordering::SeqCst);
+        self.missed.fetch_add(1, Ordering::SeqCst);
     }
 }
 
-/// As many workers as there may be, with a number each: each is held before its item until all are, in each phase.
-#[test]
-fn workers_meet(rt: HostRuntime) -> Result<(), Fail> {
-    let case = Case {
+/// How many workers of a case came alone.
+fn missed<H: Threads + Sync>(
+    threads: &H,
+    alloc: Global,
+    case: &Case,
+    wanted: usize,
+    turns: u64,
+) -> Told {
+    let gate = Meeting {
+        wanted,
+        turns,
+        entered: AtomicUsize::new(0),
+        missed: AtomicU64::new(0),
+    };
+    map_case(threads, alloc, case, &gate)?;
+    Ok(gate.missed.load(Ordering::SeqCst))
+}
+
+/// As many workers as there may be, with a number each.
+pub(super) static MOST: &[Case] = &[
+    Case {
         numbers: 64,
-        workers: 1,
+        workers: 64,
+        phase: Phase::Collect,
         ..DOUBLED
-    };
-    let answer = map_case(&rt, rt.alloc(), &case, &OpenGate)?;
-    let wanted = tell(rt.alloc(), &answer)?;
-    for phase in PHASES {
-        let gate = Meeting::new(64, 100_000_000);
-        let case = Case {
-            workers: 64,
-            phase: *phase,
-            ..case
-        };
-        let answer = map_case(&rt, rt.alloc(), &case, &gate)?;
-        let told = tell(rt.alloc(), &answer)?;
-        same(&rt, "64 workers", told.as_str(), wanted.as_str());
-        assert!(&rt; !gate.missed.load(Ordering::SeqCst), "a worker came alone");
+    },
+    Case {
+        numbers: 64,
+        workers: 64,
+        phase: Phase::Fill,
+        ..DOUBLED
+    },
+    Case {
+        numbers: 64,
+        workers: 64,
+        phase: Phase::Build,
+        ..DOUBLED
+    },
+];
+
+static ONE: Case = Case {
+    workers: 1,
+    ..DOUBLED
+};
+
+/// Each of 64 workers is held before its item until all are, in each phase.
+#[test]
+fn workers_meet(rt: HostRuntime) {
+    for case in MOST {
+        same(
+            &rt,
+            64,
+            missed(&rt, rt.alloc(), case, 64, 100_000_000),
+            Ok(0),
+        );
     }
-    Ok(())
 }
 
-/// One worker never meets another, and enters for each item all the same.
+/// One worker never meets another, and enters for each item all the same: its first one is held in vain.
 #[test]
-fn one_worker_is_alone(rt: HostRuntime) -> Result<(), Fail> {
-    let gate = Meeting::new(2, 1_000);
-    let case = Case {
-        workers: 1,
-        ..DOUBLED
-    };
-    let answer = map_case(&rt, rt.alloc(), &case, &gate)?;
-    let told = tell(rt.alloc(), &answer)?;
-    same(&rt, "one worker", told.as_str(), DOUBLED.answer);
-    assert!(&rt; gate.missed.load(Ordering::SeqCst), "one worker met others");
-    Ok(())
+fn one_worker_is_alone(rt: HostRuntime) {
+    same(&rt, 1, missed(&rt, rt.alloc(), &ONE, 2, 1_000), Ok(1));
 }
