@@ -1,10 +1,6 @@
-//! What no clause says: a worked round's lines and MAP, its texts beside a plain writer, a line of each kind, A lines of
-//! what is told, numbers beside those of std, and each allocation refused in turn.
+//! What no clause says: that there are answers at all. A worked round's MAP and lines, and its texts beside a plain writer.
 
-mod activity;
 mod base;
-mod lines;
 mod memory;
-mod numbers;
+mod rounds;
 mod texts;
-mod words;

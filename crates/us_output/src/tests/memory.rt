@@ -1,14 +1,31 @@
-use super::base::{answer_of, same};
-use super::lines::ANSWER;
+use super::base::config_of;
+use super::rounds::is_round_told;
+use std::alloc::Global;
+use std::process::Abort;
+use us_slots::NoMemory;
 
-/// Run by `tools/refuse-memory` too, where each allocation is refused in turn: what a round gives and the final lines are
-/// answered whole, or as want of memory.
+/// The one assertion of these tests, since each costs the proof of the function that it stands in.
+fn same(rt: &impl Abort, found: bool, wanted: bool) {
+    assert_eq!(rt; found, wanted);
+}
+
+/// Whether round 0 gives what it has to. `None` where memory is refused, or the configuration is.
+fn told(alloc: Global) -> Option<bool> {
+    match config_of(alloc) {
+        Ok(config) => is_round_told(alloc, &config).ok(),
+        Err(_) => None,
+    }
+}
+
+/// With ample memory.
+#[test]
+fn round_zero(rt: HostRuntime) {
+    same(&rt, told(rt.alloc()) == Some(true), true);
+}
+
+/// Run by `tools/refuse-memory` too, where each allocation is refused in turn: what a round gives is answered whole, as values
+/// and as texts, or as want of memory.
 #[test]
 fn refused_memory(rt: HostRuntime) {
-    // else it was refused to the answer's text
-    if let Ok(answer) = answer_of(rt.alloc()) {
-        if !answer.as_str().ends_with("out of memory") {
-            same(&rt, "round 0", answer.as_str(), ANSWER);
-        }
-    }
+    same(&rt, told(rt.alloc()) == Some(false), false);
 }
