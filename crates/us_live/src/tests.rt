@@ -1,9 +1,9 @@
-//! What no clause says: worked rounds and texts, threads that submit while rounds are made, workers that are at work at
-//! the same time, and each allocation refused in turn.
+//! What no clause says: that rounds are made where there is memory, that a cut holds what other seats submit, threads
+//! that submit while rounds are made, workers that are at work at the same time, each allocation refused in turn, and
+//! that a fault can be written.
 
 mod base;
 mod faults;
-mod memory;
 mod rounds;
 mod threads;
 mod workers;

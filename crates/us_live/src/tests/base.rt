@@ -10,96 +10,77 @@ use us_crew::Gate;
 use us_flows::Config;
 use us_intake::{Intake, Seat};
 use us_round::RoundOut;
-use us_samples::put_channel;
+use us_samples::{base, put_channel};
+
+/// Two numbers that a test looks at, or the fault that came. It owns nothing.
+pub(super) type Told = Result<(u64, u64), LiveFault>;
 
 /// The one comparison of these tests.
-pub(super) fn same(rt: &impl Abort, name: &str, found: &str, wanted: &str) {
-    assert_eq!(rt; found, wanted, "{name}");
+pub(super) fn same(rt: &impl Abort, found: Told, wanted: Told) {
+    assert_eq!(rt; found, wanted);
 }
 
-/// One flow, of one channel, or of two of the 16 that there may be.
-pub(super) const ONE: &str = "channels = [1]\nclusters = [[291]]";
-
-pub(super) const SIXTEEN: &str = "channels = [1, 16]\nclusters = [[291, 292]]";
-
-pub(super) const NONE: &str = "";
-
-/// A call with two grants in each round, or with a poll while it is silent, and no other flow.
-pub(super) const CALL: &str =
-    "[[flow]]\nid = 1\ntype = 5\nchannels = [1]\nclusters = [[513]]\nstart_us = 0\n\
-    interval_us = 2000\njitter_us = 1000\ngrant_bytes = 16\ngrants_per_interval = 2\n";
-
-/// A scheduler of a channel or of 16, with the flow of these channels and clusters, or with the call.
-pub(super) fn open(
-    alloc: Global,
-    flow: &str,
-    rounds: u32,
-    quota: u64,
-) -> Result<(Live, Intake, Seat), LiveFault>
-    ensures feeds { IfOk result (λ opened. Feeds opened.0 opened.1 opened.2) }
-    ensures some { IfOk result (λ opened. 1 ≤ opened.1.clusters) }
-{
-    let Ok(text) = text_of(alloc, flow) else {
-        return Err(LiveFault::NoMemory);
-    };
-    let Ok(config) = Config::read(alloc, text.as_bytes()) else {
-        return Err(LiveFault::NoMemory);
-    };
-    Live::open(alloc, config, rounds, quota)
-}
-
-fn text_of(alloc: Global, flow: &str) -> Result<String, AllocError> {
+/// The base configuration, with so many channels.
+fn text_of(alloc: Global, channels: u8) -> Result<String, AllocError> {
     let mut text = String::new(alloc);
-    let channels = if flow == SIXTEEN { 16 } else { 1 };
-    for id in 1..=channels {
+    text.push_str(base())?;
+    for id in 2..=channels {
         put_channel(&mut text, id)?;
-    }
-    if flow == CALL {
-        text.push_str(flow)?;
-    } else if flow != NONE {
-        write!(
-            text,
-            "[[flow]]\nid = 1\ntype = 2\n{flow}\npriority = 0\nrate = 0\nburst = 3044\nunit = 4\nheaders = true\n"
-        )?;
     }
     Ok(text)
 }
 
-/// Tells of the next rounds, each by so many workers, or why there is none.
-pub(super) fn tell_rounds<H: Threads + Sync, G: Gate + Sync>(
+fn config_of(alloc: Global, channels: u8) -> Option<Config> {
+    let text = text_of(alloc, channels).ok()?;
+    Config::read(alloc, text.as_bytes()).ok()
+}
+
+/// A scheduler of so many channels and rounds, and an intake of 10,000 bytes.
+pub(super) fn open(
+    alloc: Global,
+    channels: u8,
+    rounds: u32,
+) -> Result<(Live, Intake, Seat), LiveFault>
+    ensures feeds { IfOk result (λ opened. Feeds opened.0 opened.1 opened.2) }
+    ensures some { IfOk result (λ opened. 1 ≤ opened.1.clusters) }
+{
+    match config_of(alloc, channels) {
+        Some(config) => Live::open(alloc, config, rounds, 10_000),
+        None => Err(LiveFault::NoMemory),
+    }
+}
+
+/// The next round: where the elements of its one MAP start, or 0 where it has several.
+pub(super) fn next<H: Threads + Sync, G: Gate + Sync>(
     threads: &H,
     alloc: Global,
-    text: &mut String,
     live: &mut Live,
     intake: &Intake,
     seat: &mut Seat,
-    workers: &[usize],
+    workers: usize,
     gate: &G,
-) -> Result<(), AllocError>
+) -> Result<u64, LiveFault>
     requires { Feeds live.old intake.now seat.old }
+    ensures { Feeds live.new intake.now seat.new }
 {
-    for workers in workers {
-        match live.next_round(threads, alloc, intake, seat, *workers, gate) {
-            Ok(out) => tell(text, &out)?,
-            Err(fault) => write!(text, "{fault}; ")?,
-        }
-    }
-    write!(text, "{:?}", live.cut_log())
+    let out = live.next_round(threads, alloc, intake, seat, workers, gate)?;
+    Ok(starts_of(&out))
 }
 
-/// The round's number, and the words of the elements of its MAPs.
-fn tell(text: &mut String, out: &RoundOut) -> Result<(), AllocError> {
-    write!(text, "{}: ", out.round())?;
-    for map in out.maps() {
-        tell_map(text, map)?;
+fn starts_of(out: &RoundOut) -> u64 {
+    match out.maps() {
+        [map] => starts(map),
+        _ => 0,
     }
-    Ok(())
 }
 
-fn tell_map(text: &mut String, map: &Map) -> Result<(), AllocError> {
+/// Three digits for each element.
+fn starts(map: &Map) -> u64 {
+    let mut told = 0_u64;
     for element in map.elements() {
-        let owner = u64::from(element.sid()) * 16 + u64::from(element.iuc().number());
-        write!(text, "{:08x} ", owner * 16384 + u64::from(element.offset()))?;
+        told = told
+            .wrapping_mul(1_000)
+            .wrapping_add(u64::from(element.offset()));
     }
-    write!(text, "; ")
+    told
 }

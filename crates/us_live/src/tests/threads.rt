@@ -2,42 +2,23 @@ ghost use Rattle.std.specs.Prelude.{◌≡◌, ◌≤◌};
 ghost use Rattle.std.specs.Thread.{IsSync};
 ghost use Rattle.us_live.specs.Lives.{Feeds};
 
-use super::base::{ONE, open, same};
-use crate::Live;
+use super::base::{Told, next, open, same};
+use crate::{Live, LiveFault};
 use std::alloc::Global;
 use std::thread::{Threads, join};
 use us_crew::OpenGate;
 use us_intake::{Intake, Seat};
 
-/// Submits bytes of the first cluster, many times.
-fn submit_all(intake: &Intake, mut seat: Seat) -> Seat
+/// Submits 1,225 bytes of the first cluster, by many calls.
+fn submit_all(intake: &Intake, mut seat: Seat)
     requires { (seat.intake ≡ intake.now) × (1 ≤ intake.now.clusters) }
-    ensures { result.intake ≡ intake.now }
 {
     for bytes in 0..50u32 {
         let _ = intake.submit(&mut seat, 0, bytes);
     }
-    seat
 }
 
-/// Two threads submit.
-fn submit_both<R: Threads + Sync>(
-    rt: &R,
-    intake: &Intake,
-    second: Seat,
-    third: Seat,
-) -> (Seat, Seat)
-    requires { (second.intake ≡ intake.now) × (third.intake ≡ intake.now) × (1 ≤ intake.now.clusters) }
-    ensures { (result.0.intake ≡ intake.now) × (result.1.intake ≡ intake.now) }
-{
-    join(
-        rt,
-        move || submit_all(intake, second),
-        move || submit_all(intake, third),
-    )
-}
-
-/// Makes all rounds.
+/// Makes all rounds but the last.
 fn make_all<R: Threads + Sync>(
     rt: &R,
     alloc: Global,
@@ -48,13 +29,22 @@ fn make_all<R: Threads + Sync>(
     requires { Feeds live intake.now seat }
     ensures { Feeds result.0 intake.now result.1 }
 {
-    for _ in 0..20 {
-        let _ = live.next_round(rt, alloc, intake, &mut seat, 1, &OpenGate);
+    for _ in 0..19 {
+        let _ = next(rt, alloc, &mut live, intake, &mut seat, 1, &OpenGate);
     }
     (live, seat)
 }
 
-/// One thread makes rounds while two others submit.
+/// How many rounds a log has, and the bytes of the first cluster in it.
+fn logged(log: &[Vec<u64>]) -> (u64, u64) {
+    let mut sum = 0_u64;
+    for cut in log {
+        sum = sum.wrapping_add(cut.first().copied().unwrap_or(0));
+    }
+    (log.len() as u64, sum)
+}
+
+/// One thread makes rounds while another submits, and the last one once all is submitted. Tells of the log.
 fn run<R: Threads + Sync>(
     rt: &R,
     alloc: Global,
@@ -62,62 +52,35 @@ fn run<R: Threads + Sync>(
     intake: &Intake,
     first: Seat,
     second: Seat,
-    third: Seat,
-) -> (Live, Seat)
+) -> (u64, u64)
     requires feeds { Feeds live intake.now first }
-    requires own { (second.intake ≡ intake.now) × (third.intake ≡ intake.now) }
+    requires own { second.intake ≡ intake.now }
     requires some { 1 ≤ intake.now.clusters }
-    ensures { result.1.intake ≡ intake.now }
 {
-    let ((second, third), (live, first)) = join(
+    let (_, (mut live, mut first)) = join(
         rt,
-        move || -> (Seat, Seat)
-            requires { IsSync R.row × (second.intake ≡ intake.now) × (third.intake ≡ intake.now)
-                × (1 ≤ intake.now.clusters) }
-            ensures { (result.0.intake ≡ intake.entry.now) × (result.1.intake ≡ intake.entry.now) }
-        { submit_both(rt, intake, second, third) },
+        move || submit_all(intake, second),
         move || -> (Live, Seat)
             requires { IsSync R.row × Feeds live intake.now first }
             ensures { Feeds result.0 intake.entry.now result.1 }
         { make_all(rt, alloc, live, intake, first) },
     );
-    (live, intake.join(intake.join(first, second), third))
+    let _ = next(rt, alloc, &mut live, intake, &mut first, 1, &OpenGate);
+    logged(live.cut_log())
 }
 
-/// The bytes of the first cluster in a log, and what is left of it.
-pub(super) fn logged_and_left(log: &[Vec<u64>], left: &[u64]) -> u64 {
-    let mut sum = left.first().copied().unwrap_or(0);
-    for cut in log {
-        sum = sum.wrapping_add(cut.first().copied().unwrap_or(0));
+fn life<R: Threads + Sync>(rt: &R, alloc: Global) -> Told {
+    let (live, intake, seat) = open(alloc, 1, 20)?;
+    match intake.split(alloc, seat, 4_000) {
+        Ok((first, second)) => Ok(run(rt, alloc, live, &intake, first, second)),
+        Err(_) => Err(LiveFault::Quota),
     }
-    sum
 }
 
-/// Whether the log and what is left are all that two threads submitted.
-fn balances<R: Threads + Sync>(rt: &R, alloc: Global) -> Option<bool> {
-    let Ok((live, intake, seat)) = open(alloc, ONE, 20, 10_000) else {
-        return None;
-    };
-    let Ok((first, second)) = intake.split(alloc, seat, 6_000) else {
-        return None;
-    };
-    let Ok((second, third)) = intake.split(alloc, second, 3_000) else {
-        return None;
-    };
-    let (live, seat) = run(rt, alloc, live, &intake, first, second, third);
-    if !seat.is_whole(&intake) {
-        return Some(false);
-    }
-    let closed = intake.close(alloc, seat).ok()?;
-    let found = logged_and_left(live.cut_log(), &closed.left);
-    Some(found == 2_450 && live.cut_log().len() == 20)
-}
-
+/// The log has all that another thread submitted, once.
 #[test]
 fn threads_balance(rt: HostRuntime) {
     for _ in 0..20 {
-        if balances(&rt, rt.alloc()) != Some(true) {
-            same(&rt, "threads", "lost or counted twice", "balanced");
-        }
+        same(&rt, life(&rt, rt.alloc()), Ok((20, 1_225)));
     }
 }

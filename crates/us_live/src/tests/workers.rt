@@ -1,118 +1,82 @@
 ghost use Rattle.std.specs.Prelude.{⊤};
 
-use super::base::{SIXTEEN, open, same, tell_rounds};
-use std::alloc::{AllocError, Global};
-use std::sync::atomic::{AtomicUsize, Ordering};
+use super::base::{Told, next, open, same};
+use crate::LiveFault;
+use std::alloc::Global;
+use std::sync::atomic::{AtomicU64, AtomicUsize, Ordering};
 use std::thread::{Threads, yield_now};
-use us_crew::{Gate, OpenGate, Phase};
+use us_crew::{Gate, Phase};
 
-/// Where the workers of a phase are held until all of 16 have come, for at most so many turns. They are counted by the
-/// numbers of their channels.
-#[derive(Drop)]
-struct Square {
-    turns: u64,
-    came: AtomicUsize,
-    missed: AtomicUsize,
-    counters: Vec<AtomicUsize>,
-}
-
-impl Square {
-    fn new(alloc: Global, turns: u64) -> Result<Square, AllocError> {
-        let mut counters = Vec::new(alloc);
-        for _ in 0..16 {
-            counters.push(AtomicUsize::new(0))?;
-        }
-        Ok(Square {
-            turns,
-            came: AtomicUsize::new(0),
-            missed: AtomicUsize::new(0),
-            counters,
-        })
-    }
-
-    fn stay(&self, index: usize) {
-        let counter = self.counters.get(index).unwrap_or(&self.missed);
-        counter.fetch_add(1, Ordering::SeqCst);
-        self.came.fetch_add(1, Ordering::SeqCst);
-        for _ in 0..self.turns {
-            if self.came.load(Ordering::SeqCst) >= 16 {
-                return;
-            }
-            yield_now();
-        }
-        self.missed.fetch_add(1, Ordering::SeqCst);
-    }
-
-    /// How many came for each channel, a digit each, and how many missed the others.
-    fn tell(&self, text: &mut String) -> Result<(), AllocError> {
-        for counter in &self.counters {
-            write!(text, "{}", counter.load(Ordering::SeqCst))?;
-        }
-        write!(text, " {}; ", self.missed.load(Ordering::SeqCst))
-    }
-}
-
+/// A gate that holds the workers of a phase until 16 have come, for at most so many turns. It counts them by phase, and
+/// in it by the number of the channel, as digits to base 16: 1 for each entry, and 1 more where it met too few.
 #[derive(Drop)]
 struct Meeting {
-    collect: Square,
-    fill: Square,
-    build: Square,
+    turns: u64,
+    came: AtomicUsize,
+    fills: AtomicU64,
+    builds: AtomicU64,
+}
+
+/// One in the place of a channel. None has a number over 15.
+fn one_of(index: usize) -> u64 {
+    if index < 16 { 1 << (4 * index) } else { 15 }
 }
 
 impl Gate for Meeting {
     ghost entered = { λ _ _ _. ⊤ };
 
     fn enter(&self, phase: Phase, index: usize) {
-        let square = match phase {
-            Phase::Collect => &self.collect,
-            Phase::Fill => &self.fill,
-            Phase::Build => &self.build,
+        let one = one_of(index);
+        let counts = match phase {
+            Phase::Fill => &self.fills,
+            _ => &self.builds,
         };
-        square.stay(index);
+        counts.fetch_add(one, Ordering::SeqCst);
+        // The last of 16 finds the number that ends in four ones.
+        let last = self.came.fetch_add(1, Ordering::SeqCst) | 15;
+        for _ in 0..self.turns {
+            if self.came.load(Ordering::SeqCst) > last {
+                return;
+            }
+            yield_now();
+        }
+        counts.fetch_add(one, Ordering::SeqCst);
     }
 }
 
-/// Tells of a round of 16 channels.
-fn round_of_all<H: Threads + Sync, G: Gate + Sync>(
+/// A round of 16 channels.
+fn round_of_all<H: Threads + Sync>(
     threads: &H,
     alloc: Global,
     workers: usize,
-    gate: &G,
-) -> Result<String, AllocError> {
-    let mut text = String::new(alloc);
-    if let Ok((mut live, intake, mut seat)) = open(alloc, SIXTEEN, 1, 10_000) {
-        let workers = &[workers];
-        tell_rounds(
-            threads, alloc, &mut text, &mut live, &intake, &mut seat, workers, gate,
-        )?;
-    }
-    Ok(text)
+    gate: &Meeting,
+) -> Result<u64, LiveFault> {
+    let (mut live, intake, mut seat) = open(alloc, 16, 1)?;
+    next(threads, alloc, &mut live, &intake, &mut seat, workers, gate)
 }
+
+/// What is counted in it.
+fn counted<H: Threads + Sync>(threads: &H, alloc: Global, workers: usize, turns: u64) -> Told {
+    let gate = Meeting {
+        turns,
+        came: AtomicUsize::new(0),
+        fills: AtomicU64::new(0),
+        builds: AtomicU64::new(0),
+    };
+    round_of_all(threads, alloc, workers, &gate)?;
+    let fills = gate.fills.load(Ordering::SeqCst);
+    Ok((fills, gate.builds.load(Ordering::SeqCst)))
+}
+
+/// A digit of 1 for each channel.
+const ONES: u64 = 0x1111_1111_1111_1111;
 
 /// Each of 16 channels is held by its worker until all are, in phase `Fill` and in phase `Build`, and is entered for
 /// once. One worker enters too, and meets no other.
 #[test]
-fn workers_meet(rt: HostRuntime) -> Result<(), AllocError> {
-    let alloc = rt.alloc();
-    let by_one = round_of_all(&rt, alloc, 1, &OpenGate)?;
-    let none = "0000000000000000 0; ";
-    for (workers, turns, one_each) in [
-        (16, 100_000_000, "1111111111111111 0; "),
-        (1, 0, "1111111111111111 16; "),
-    ] {
-        let gate = Meeting {
-            collect: Square::new(alloc, turns)?,
-            fill: Square::new(alloc, turns)?,
-            build: Square::new(alloc, turns)?,
-        };
-        let text = round_of_all(&rt, alloc, workers, &gate)?;
-        same(&rt, "16 channels", text.as_str(), by_one.as_str());
-        let mut counts = String::new(alloc);
-        gate.collect.tell(&mut counts)?;
-        gate.fill.tell(&mut counts)?;
-        gate.build.tell(&mut counts)?;
-        let wanted = format!(in alloc; "{none}{one_each}{one_each}")?;
-        same(&rt, "entered", counts.as_str(), wanted.as_str());
+fn workers_meet(rt: HostRuntime) {
+    for (workers, turns, one_each) in [(16, 100_000_000, ONES), (1, 0, 2 * ONES)] {
+        let found = counted(&rt, rt.alloc(), workers, turns);
+        same(&rt, found, Ok((one_each, one_each)));
     }
-    Ok(())
 }
