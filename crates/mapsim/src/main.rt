@@ -1,5 +1,5 @@
-//! `mapsim`: replays the requests of a trace with a configuration, from files into files or from standard input; judges a
-//! maps file and a report, whoever made them; and prints the MAPs of a maps file.
+//! `mapsim`: replays the requests of a trace with a configuration, from files into files or from standard input; checks a
+//! maps file and a report that any scheduler made; and prints the MAPs of a maps file.
 //!
 //! `docs/FORMATS.md` has the words, the order, the fault lines and the statuses.
 #![tactic(auto)]
@@ -36,6 +36,9 @@ mod opening;
 
 // Files that are read whole.
 mod files;
+
+// Whether a replay would write over its own files.
+mod same_files;
 
 // From files into files.
 mod replaying;

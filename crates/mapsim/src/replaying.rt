@@ -4,6 +4,7 @@ use crate::faults::{Fault, Stream};
 use crate::files::read_config;
 use crate::opening::{create, open};
 use crate::printing::print;
+use crate::same_files::refuse_same_files;
 use std::alloc::Global;
 use std::rt::Files;
 use std::thread::Threads;
@@ -23,6 +24,7 @@ pub fn replay_files<R: Files + Threads + Sync, O: Sink>(
     requires { O.failed output.old ≡ false }
     ensures ready { OnOk result (O.failed output.new ≡ false) }
 {
+    refuse_same_files(rt, alloc, order)?;
     let config = read_config(rt, alloc, order.config)?;
     let summary = replay_trace(rt, alloc, &config, order)?;
     print_summary(alloc, summary, output)

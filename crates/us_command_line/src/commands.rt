@@ -5,6 +5,9 @@ use clap::builder::ValueParser;
 use clap::{Arg, ArgAction, Command, value_parser};
 use std::alloc::{AllocError, Global};
 
+/// The version of the program, defined only here.
+const VERSION: &str = "1.0.0";
+
 /// The rounds of `pipe` where none are given.
 pub const DEFAULT_ROUNDS: u32 = 2;
 
@@ -16,6 +19,8 @@ pub const DEFAULT_WORKERS: usize = 1;
 struct Subcommand {
     name: &'static str,
     about: &'static str,
+    /// Its usage, where clap's own is too wide.
+    usage: Option<&'static str>,
     options: &'static [CommandOption],
 }
 
@@ -24,19 +29,19 @@ struct Subcommand {
 struct CommandOption {
     name: &'static str,
     value: Value,
-    /// What stands for it where it isn't given. It is required where there is none.
+    /// Its value where it isn't given. It is required where there is none.
     default: Option<Fallback>,
     help: &'static str,
 }
 
-/// What stands behind an option.
+/// The kind of an option's value.
 #[derive(Clone, Copy)]
 enum Value {
     Path,
     Number,
 }
 
-/// What stands for an option that isn't given.
+/// The value of an option that isn't given.
 #[derive(Clone, Copy)]
 enum Fallback {
     Rounds,
@@ -45,7 +50,11 @@ enum Fallback {
 
 const REPLAY: Subcommand = Subcommand {
     name: "replay",
-    about: "Replays a trace from files into files",
+    about: "Replays a trace, and writes the MAPs and a report",
+    usage: Some(
+        "mapsim replay --config <F> --trace <F> --rounds <N>\n                     \
+         --maps <F> --report <F> [--workers <N>]",
+    ),
     options: &[
         CONFIG,
         TRACE,
@@ -54,13 +63,13 @@ const REPLAY: Subcommand = Subcommand {
             name: "maps",
             value: Value::Path,
             default: None,
-            help: "The maps file, which is made: the MAPs of each round",
+            help: "Maps file to write: the MAPs of every round",
         },
         CommandOption {
             name: "report",
             value: Value::Path,
             default: None,
-            help: "The report, which is made: what was granted and missed",
+            help: "Report to write: grants, misses, final flow states",
         },
         WORKERS,
     ],
@@ -68,12 +77,16 @@ const REPLAY: Subcommand = Subcommand {
 
 const CHECK: Subcommand = Subcommand {
     name: "check",
-    about: "Judges a maps file and a report, whoever made them",
+    about: "Checks a maps file and a report that any scheduler made",
+    usage: Some(
+        "mapsim check --config <F> --trace <F> --rounds <N>\n                    \
+         --maps <F> --report <F>",
+    ),
     options: &[
         CONFIG,
         TRACE,
         CommandOption {
-            help: "How many rounds the files are of, each of `round_ticks` ticks",
+            help: "Number of rounds in the files",
             ..ROUNDS
         },
         MAPS,
@@ -81,20 +94,22 @@ const CHECK: Subcommand = Subcommand {
             name: "report",
             value: Value::Path,
             default: None,
-            help: "The report: what was granted and missed",
+            help: "Report to check",
         },
     ],
 };
 
 const DUMP: Subcommand = Subcommand {
     name: "dump",
-    about: "Prints a maps file, a line for each element of each MAP",
+    about: "Prints a maps file, one line for each element of a MAP",
+    usage: None,
     options: &[MAPS],
 };
 
 const PIPE: Subcommand = Subcommand {
     name: "pipe",
-    about: "Replays standard input: the configuration, a line `%%`, the trace",
+    about: "Replays standard input (the default): configuration, `%%`, trace",
+    usage: None,
     options: &[
         CommandOption {
             default: Some(Fallback::Rounds),
@@ -108,21 +123,21 @@ const CONFIG: CommandOption = CommandOption {
     name: "config",
     value: Value::Path,
     default: None,
-    help: "The configuration, TOML: channels, service flows, stations",
+    help: "Configuration (TOML): channels, service flows, stations",
 };
 
 const TRACE: CommandOption = CommandOption {
     name: "trace",
     value: Value::Path,
     default: None,
-    help: "The trace, CSV: a row for each request, and for each mark of a flow that falls silent or is active again",
+    help: "Trace (CSV): requests, and marks of UGS-AD activity",
 };
 
 const ROUNDS: CommandOption = CommandOption {
     name: "rounds",
     value: Value::Number,
     default: None,
-    help: "How many rounds to replay, each of `round_ticks` ticks",
+    help: "Number of rounds to replay",
 };
 
 /// A maps file that is read.
@@ -130,22 +145,23 @@ const MAPS: CommandOption = CommandOption {
     name: "maps",
     value: Value::Path,
     default: None,
-    help: "The maps file: the MAPs of each round",
+    help: "Maps file to read: the MAPs of every round",
 };
 
 const WORKERS: CommandOption = CommandOption {
     name: "workers",
     value: Value::Number,
     default: Some(Fallback::Workers),
-    help: "How many workers share the channels of a round, 1 to 64. More workers pay where each channel has much to do in \
-        a round, dozens of grants; short rounds take a little longer with them",
+    help: "Number of worker threads, 1 to 64",
 };
 
-/// The program as clap is told of it.
+/// The command line, for clap.
 pub fn command<'a>(alloc: Global, helps: &'a Helps) -> Result<Command<'a>, AllocError> {
     Command::new(alloc, "mapsim")
-        .about("Replays a trace, writes the MAPs of each round, and judges such files")
-        .after_help(helps.program)
+        .version(VERSION)
+        .override_usage("mapsim [COMMAND]")
+        .about("Schedules a trace of upstream requests into DOCSIS MAPs, or checks a schedule")
+        .after_long_help(helps.program)
         .subcommand_required(true)
         .subcommand(subcommand_of(alloc, &REPLAY, helps.replay.as_str())?)?
         .subcommand(subcommand_of(alloc, &CHECK, helps.check.as_str())?)?
@@ -153,7 +169,7 @@ pub fn command<'a>(alloc: Global, helps: &'a Helps) -> Result<Command<'a>, Alloc
         .subcommand(subcommand_of(alloc, &PIPE, helps.pipe.as_str())?)
 }
 
-/// A subcommand with its options, and with what its help says behind them.
+/// A subcommand with its options, and with what `--help` says after them.
 fn subcommand_of<'a>(
     alloc: Global,
     subcommand: &Subcommand,
@@ -161,7 +177,10 @@ fn subcommand_of<'a>(
 ) -> Result<Command<'a>, AllocError> {
     let mut command = Command::new(alloc, subcommand.name)
         .about(subcommand.about)
-        .after_help(after_help);
+        .after_long_help(after_help);
+    if let Some(usage) = subcommand.usage {
+        command = command.override_usage(usage);
+    }
     for option in subcommand.options {
         command = command.arg(arg_of(alloc, option))?;
     }

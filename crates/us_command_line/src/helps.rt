@@ -3,7 +3,7 @@ ghost use Rattle.us_command_line.specs.HelpTexts.{AreJoined, joined};
 
 use std::alloc::{AllocError, Global};
 
-/// What help says behind the options: of each subcommand, texts that follow one another.
+/// What `--help` says after the options: of each subcommand, texts that follow one another.
 #[derive(Clone, Copy)]
 pub struct HelpTexts {
     /// Of the program.

@@ -1,5 +1,5 @@
 //! The words of the program's command line: which order they are, or why they are refused. `clap` reads them, by the
-//! subcommands and options that are listed here. What help says behind the options is handed in.
+//! subcommands and options that are listed here. What `--help` says after the options is handed in.
 //!
 //! ```
 //! let order = order_of(alloc, &["mapsim", "dump", "--maps", "run.maps"], &helps)?; // the MAPs of a maps file as lines
@@ -14,7 +14,7 @@ mod orders;
 // Why they are refused.
 mod faults;
 
-// What help says behind the options.
+// What `--help` says after the options.
 mod helps;
 
 // The words that there are.

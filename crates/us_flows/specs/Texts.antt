@@ -8,18 +8,18 @@ use Rattle.us_flows.specs.Places.{place_of, place_text}
 
 -- what is said behind the code, up to the table
 abbrev pub sentence_of : ConfigFault → List ℕ
-sentence_of fault.Text = codes "no TOML document of at most 4194304 bytes"
+sentence_of fault.Text = codes "not a TOML document of at most 4,194,304 bytes"
 sentence_of (fault.Missing place) = codes "a key is missing in "
 sentence_of (fault.Range place) = codes "a value is out of its range, or a key is unknown, in "
 sentence_of (fault.UnknownChannel place) = codes "no channel has an id that is named in "
-sentence_of (fault.DuplicateId place) = codes "an id is there twice in "
+sentence_of (fault.DuplicateId place) = codes "a duplicate id in "
 sentence_of (fault.DuplicateSid place) = codes "a SID of another cluster is on the same channel in "
-sentence_of (fault.ClusterLength place) = codes "a cluster has not one SID for each channel in "
-sentence_of (fault.RoundNotMultiple place) = codes "the round is no whole number of minislots of "
-sentence_of (fault.ReservesTooLong place) = codes "the reserves pass the length of the MAPs of "
+sentence_of (fault.ClusterLength place) = codes "a cluster doesn't have one SID for each channel in "
+sentence_of (fault.RoundNotMultiple place) = codes "the round isn't a whole number of minislots of "
+sentence_of (fault.ReservesTooLong place) = codes "the reserves don't fit in the MAPs of "
 sentence_of (fault.Jitter place) = codes "the jitter is not below the interval in "
-sentence_of (fault.GrantLongerThanMap place) = codes "a grant passes the length of the MAPs in "
-sentence_of (fault.Headers place) = codes "segment headers are wanting on several channels in "
+sentence_of (fault.GrantLongerThanMap place) = codes "a grant is longer than the MAP in "
+sentence_of (fault.Headers place) = codes "segment headers are off on several channels in "
 sentence_of (fault.MinRate place) = codes "the minimum rate is above the maximum rate in "
 sentence_of fault.NoMemory = codes "out of memory"
 

@@ -141,18 +141,18 @@ impl ConfigFault {
         ensures { result.now ≡ sentence_of self }
     {
         match self {
-            ConfigFault::Text => "no TOML document of at most 4194304 bytes",
+            ConfigFault::Text => "not a TOML document of at most 4,194,304 bytes",
             ConfigFault::Missing(_) => "a key is missing in ",
             ConfigFault::Range(_) => "a value is out of its range, or a key is unknown, in ",
             ConfigFault::UnknownChannel(_) => "no channel has an id that is named in ",
-            ConfigFault::DuplicateId(_) => "an id is there twice in ",
+            ConfigFault::DuplicateId(_) => "a duplicate id in ",
             ConfigFault::DuplicateSid(_) => "a SID of another cluster is on the same channel in ",
-            ConfigFault::ClusterLength(_) => "a cluster has not one SID for each channel in ",
-            ConfigFault::RoundNotMultiple(_) => "the round is no whole number of minislots of ",
-            ConfigFault::ReservesTooLong(_) => "the reserves pass the length of the MAPs of ",
+            ConfigFault::ClusterLength(_) => "a cluster doesn't have one SID for each channel in ",
+            ConfigFault::RoundNotMultiple(_) => "the round isn't a whole number of minislots of ",
+            ConfigFault::ReservesTooLong(_) => "the reserves don't fit in the MAPs of ",
             ConfigFault::Jitter(_) => "the jitter is not below the interval in ",
-            ConfigFault::GrantLongerThanMap(_) => "a grant passes the length of the MAPs in ",
-            ConfigFault::Headers(_) => "segment headers are wanting on several channels in ",
+            ConfigFault::GrantLongerThanMap(_) => "a grant is longer than the MAP in ",
+            ConfigFault::Headers(_) => "segment headers are off on several channels in ",
             ConfigFault::MinRate(_) => "the minimum rate is above the maximum rate in ",
             ConfigFault::NoMemory => "out of memory",
         }

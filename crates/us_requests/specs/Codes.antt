@@ -21,8 +21,8 @@ record_of _ = None
 -- what is said of it
 abbrev pub sentence_of : TraceFault → List ℕ
 sentence_of fault.Header = codes "the first record is not the header"
-sentence_of (fault.Fields number) = codes "has not as many fields as the header"
-sentence_of (fault.Number number) = codes "has a field that is no number in its range, or is a mark with units"
+sentence_of (fault.Fields number) = codes "doesn't have as many fields as the header"
+sentence_of (fault.Number number) = codes "has a field that isn't a number in its range, or is a mark with units"
 sentence_of fault.TooLarge = codes "the trace is too large"
 sentence_of fault.Read = codes "the source failed"
 sentence_of fault.NoMemory = codes "out of memory"

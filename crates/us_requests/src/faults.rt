@@ -57,9 +57,9 @@ impl TraceFault {
     {
         match self {
             TraceFault::Header => "the first record is not the header",
-            TraceFault::Fields(_) => "has not as many fields as the header",
+            TraceFault::Fields(_) => "doesn't have as many fields as the header",
             TraceFault::Number(_) =>
-                "has a field that is no number in its range, or is a mark with units",
+                "has a field that isn't a number in its range, or is a mark with units",
             TraceFault::TooLarge => "the trace is too large",
             TraceFault::Read => "the source failed",
             TraceFault::NoMemory => "out of memory",

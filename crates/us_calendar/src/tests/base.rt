@@ -40,6 +40,26 @@ fn rounds_of(
     Some(ROUNDS)
 }
 
+/// How many of so many rounds a calendar of these entries settles, none of them marked: up to the first that it doesn't.
+pub(super) fn rounds_settled(alloc: Global, entries: &[Plain], rounds: u64) -> u64 {
+    match opened(alloc, entries) {
+        Some(mut calendar) => settled_of(alloc, &mut calendar, rounds),
+        None => 0,
+    }
+}
+
+/// The same of a calendar before round 0.
+fn settled_of(alloc: Global, calendar: &mut Calendar, rounds: u64) -> u64
+    requires { calendar.old.pace.len ≡ 160 }
+{
+    for round in 0..rounds {
+        if settled_next(alloc, calendar, &[0; 20]).is_err() {
+            return round;
+        }
+    }
+    rounds
+}
+
 /// The calendar of these entries.
 fn opened(alloc: Global, entries: &[Plain]) -> Option<Calendar>
     ensures { IfSome result (λ calendar. calendar.pace.len ≡ 160) }

@@ -1,4 +1,4 @@
-use super::base::{rounds_alike, same};
+use super::base::{rounds_alike, rounds_settled, same};
 use super::entries::{chosen_entries, random_entries};
 use super::plain::ROUNDS;
 use std::alloc::Global;
@@ -20,6 +20,12 @@ fn lists_alike(alloc: Global, lists: u64) -> u64 {
 #[test]
 fn as_the_plain_program(rt: HostRuntime) {
     same(&rt, lists_alike(rt.alloc(), 21), 21);
+}
+
+/// Rounds after those that are compared are settled too.
+#[test]
+fn later_rounds(rt: HostRuntime) {
+    same(&rt, rounds_settled(rt.alloc(), &chosen_entries(), 50), 50);
 }
 
 /// Run by `tools/refuse-memory` too, where each allocation is refused in turn: a calendar and its rounds are answered

@@ -221,8 +221,8 @@ fn turns_of(
     }
 }
 
-/// Whether the plain program settles in a round what a calendar did: kinds in their order, and each kind by id, 10 at most. The last 10
-/// minislots are for contention.
+/// Whether the plain program settles in a round what a calendar did: kinds in their order, and each kind by id, of which
+/// none is over 10. The last 10 minislots are for contention.
 pub(super) fn is_as_plain(entries: &mut [Plain], round: Round) -> bool {
     let mut cells = [0; 160];
     let mut same = 0;

@@ -52,7 +52,7 @@ pub(super) struct Case {
     pub(super) workers: usize,
     pub(super) phase: Phase,
     pub(super) answer: Told,
-    /// The answer of a crew that halves the numbers too, whose digits stand behind.
+    /// The answer of a crew that halves the numbers too: those digits follow.
     pub(super) kept: Told,
 }
 

@@ -7,8 +7,8 @@ use std::alloc::Global;
 use std::sync::atomic::{AtomicU64, Ordering};
 use std::thread::Threads;
 
-/// A gate that holds nobody, and counts who enters, as digits to base 16: from the right one for each of five items, in
-/// each of three phases, and one for numbers that no item has.
+/// A gate that holds nobody, and counts who enters, in digits to base 16. From the right there is a digit for each of five
+/// items in each of three phases, and then one for all other numbers.
 #[derive(Drop)]
 struct Counting {
     counts: AtomicU64,

@@ -88,7 +88,7 @@ fn workers_meet(rt: HostRuntime) {
     }
 }
 
-/// One worker never meets another, and enters for each item all the same: its first one is held in vain.
+/// One worker never meets another: it is held in vain at the first item.
 #[test]
 fn one_worker_is_alone(rt: HostRuntime) {
     same(&rt, 1, missed(&rt, rt.alloc(), &ONE, 2, 1_000), Ok(1));

@@ -70,18 +70,18 @@ fn faults_are_one_line(rt: HostRuntime) -> Result<(), Fail> {
     same(
         lines.as_str(),
         "\
-C1: no TOML document of at most 4194304 bytes
+C1: not a TOML document of at most 4,194,304 bytes
 C2: a key is missing in top 0
 C3: a value is out of its range, or a key is unknown, in channel 0
 C4: no channel has an id that is named in flow 0
-C5: an id is there twice in station 255
+C5: a duplicate id in station 255
 C6: a SID of another cluster is on the same channel in flow 0
-C7: a cluster has not one SID for each channel in flow 0
-C8: the round is no whole number of minislots of channel 0
-C9: the reserves pass the length of the MAPs of channel 0
+C7: a cluster doesn't have one SID for each channel in flow 0
+C8: the round isn't a whole number of minislots of channel 0
+C9: the reserves don't fit in the MAPs of channel 0
 C10: the jitter is not below the interval in station 255
-C11: a grant passes the length of the MAPs in station 255
-C12: segment headers are wanting on several channels in flow 0
+C11: a grant is longer than the MAP in station 255
+C12: segment headers are off on several channels in flow 0
 C14: the minimum rate is above the maximum rate in flow 0
 C13: out of memory
 ",

@@ -20,22 +20,34 @@ pub(super) fn same(rt: &impl Abort, found: Told, wanted: Told) {
     assert_eq!(rt; found, wanted);
 }
 
-/// The base configuration, with so many channels.
+/// The base configuration, with so many channels. With none it has the one, and in place of the flow one that makes no
+/// requests, but tells its activity.
 fn text_of(alloc: Global, channels: u8) -> Result<String, AllocError> {
     let mut text = String::new(alloc);
-    text.push_str(base())?;
+    if channels == 0 {
+        put_channel(&mut text, 1)?;
+        text.push_str(CALL)?;
+    } else {
+        text.push_str(base())?;
+    }
     for id in 2..=channels {
         put_channel(&mut text, id)?;
     }
     Ok(text)
 }
 
+const CALL: &str = "[[flow]]\nid = 1\ntype = 5\nchannels = [1]\nclusters = [[513]]\nstart_us = 0\n\
+    interval_us = 2000\njitter_us = 1000\ngrant_bytes = 64\ngrants_per_interval = 1\n";
+
 fn config_of(alloc: Global, channels: u8) -> Option<Config> {
     let text = text_of(alloc, channels).ok()?;
     Config::read(alloc, text.as_bytes()).ok()
 }
 
-/// A scheduler of so many channels and rounds, and an intake of 10,000 bytes.
+/// The greatest quota.
+const QUOTA: u64 = (1 << 62) - 1;
+
+/// A scheduler of so many channels, as `text_of` has them, and rounds, with the greatest quota.
 pub(super) fn open(
     alloc: Global,
     channels: u8,
@@ -45,7 +57,7 @@ pub(super) fn open(
     ensures some { IfOk result (λ opened. 1 ≤ opened.1.clusters) }
 {
     match config_of(alloc, channels) {
-        Some(config) => Live::open(alloc, config, rounds, 10_000),
+        Some(config) => Live::open(alloc, config, rounds, QUOTA),
         None => Err(LiveFault::NoMemory),
     }
 }

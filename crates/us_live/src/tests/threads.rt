@@ -18,7 +18,7 @@ fn submit_all(intake: &Intake, mut seat: Seat)
     }
 }
 
-/// Makes all rounds but the last.
+/// Makes 19 rounds.
 fn make_all<R: Threads + Sync>(
     rt: &R,
     alloc: Global,
@@ -44,7 +44,7 @@ fn logged(log: &[Vec<u64>]) -> (u64, u64) {
     (log.len() as u64, sum)
 }
 
-/// One thread makes rounds while another submits, and the last one once all is submitted. Tells of the log.
+/// One thread makes rounds while another submits, and one more once all is submitted. Tells of the log.
 fn run<R: Threads + Sync>(
     rt: &R,
     alloc: Global,
@@ -69,8 +69,11 @@ fn run<R: Threads + Sync>(
     logged(live.cut_log())
 }
 
+/// The most rounds that a scheduler of rounds of 320 ticks has.
+const ROUNDS: u32 = 209_715;
+
 fn life<R: Threads + Sync>(rt: &R, alloc: Global) -> Told {
-    let (live, intake, seat) = open(alloc, 1, 20)?;
+    let (live, intake, seat) = open(alloc, 1, ROUNDS)?;
     match intake.split(alloc, seat, 4_000) {
         Ok((first, second)) => Ok(run(rt, alloc, live, &intake, first, second)),
         Err(_) => Err(LiveFault::Quota),

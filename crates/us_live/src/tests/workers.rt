@@ -7,8 +7,8 @@ use std::sync::atomic::{AtomicU64, AtomicUsize, Ordering};
 use std::thread::{Threads, yield_now};
 use us_crew::{Gate, Phase};
 
-/// A gate that holds the workers of a phase until 16 have come, for at most so many turns. It counts them by phase, and
-/// in it by the number of the channel, as digits to base 16: 1 for each entry, and 1 more where it met too few.
+/// A gate that holds the workers of a phase until 16 have come, for at most so many turns. It counts those of Fill and of
+/// Build by the number of the channel, as digits to base 16: 1 for each entry, and 1 more where it met too few.
 #[derive(Drop)]
 struct Meeting {
     turns: u64,
@@ -29,10 +29,12 @@ impl Gate for Meeting {
         let one = one_of(index);
         let counts = match phase {
             Phase::Fill => &self.fills,
-            _ => &self.builds,
+            Phase::Build => &self.builds,
+            // A round collects nothing: requests are counted where they are submitted.
+            Phase::Collect => return,
         };
         counts.fetch_add(one, Ordering::SeqCst);
-        // The last of 16 finds the number that ends in four ones.
+        // Each 16 that come are a phase: this is the number of the last of them.
         let last = self.came.fetch_add(1, Ordering::SeqCst) | 15;
         for _ in 0..self.turns {
             if self.came.load(Ordering::SeqCst) > last {

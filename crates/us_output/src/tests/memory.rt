@@ -1,5 +1,6 @@
 use super::base::config_of;
 use super::rounds::is_round_told;
+use crate::activity_rows;
 use std::alloc::Global;
 use std::process::Abort;
 use us_slots::NoMemory;
@@ -15,6 +16,20 @@ fn told(alloc: Global) -> Option<bool> {
         Ok(config) => is_round_told(alloc, &config).ok(),
         Err(_) => None,
     }
+}
+
+/// Whether A lines are made of lists that are shorter and longer than the table of flows. A clause says which they are.
+fn are_lines_made(alloc: Global) -> bool {
+    match config_of(alloc) {
+        Ok(config) => activity_rows(alloc, &config, &[]).is_ok()
+            && activity_rows(alloc, &config, &[Some(true); 4]).is_ok(),
+        Err(_) => false,
+    }
+}
+
+#[test]
+fn lists_of_other_lengths(rt: HostRuntime) {
+    same(&rt, are_lines_made(rt.alloc()), true);
 }
 
 /// With ample memory.

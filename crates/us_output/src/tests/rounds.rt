@@ -43,8 +43,8 @@ F,3,0,5,1948160000
 A,2,0
 ";
 
-/// Whether the ways to make round 0 give what they have to: as values; as texts, where nothing was written ahead; ahead; and as
-/// texts then. The fault is want of memory, or that the round may not be made.
+/// Whether round 0 comes out right in each way: as values, as texts, and as texts of which the channel's was written ahead.
+/// The fault is want of memory, or that the round may not be made.
 pub(super) fn is_round_told(alloc: Global, config: &Config) -> Result<bool, NoMemory> {
     let mut built = built_of(alloc, config)?;
     is_told(alloc, config, &mut built)

@@ -11,6 +11,7 @@ use us_slots::{FromRead, Source};
 pub(super) struct Case<'a> {
     pub(super) name: &'a str,
     pub(super) round_ticks: u32,
+    pub(super) lead_ticks: u32,
     pub(super) rounds: u32,
     pub(super) reader: Repeated<'a>,
     /// The rounds whose asks are looked at.
@@ -66,6 +67,7 @@ pub(super) const HEADER: Repeated<'static> = Repeated {
 pub(super) const BASE: Case<'static> = Case {
     name: "no requests",
     round_ticks: 320,
+    lead_ticks: 160,
     rounds: 4,
     reader: HEADER,
     looked_at: &[],
@@ -228,7 +230,12 @@ pub(super) fn same(rt: &impl Abort, name: &str, found: &str, wanted: &str) {
 /// are looked at.
 pub(super) fn answer_of(alloc: Global, case: &Case<'_>) -> Result<String, AllocError> {
     let mut source = FromRead::new(case.reader);
-    let found = trace_of(alloc, case.round_ticks, case.rounds, &mut source);
+    let found = trace_of(
+        alloc,
+        [case.round_ticks, case.lead_ticks],
+        case.rounds,
+        &mut source,
+    );
     let reads = source.into_inner().reads;
     match found {
         Ok(trace) => told(alloc, reads, &trace, case.looked_at),
@@ -237,18 +244,19 @@ pub(super) fn answer_of(alloc: Global, case: &Case<'_>) -> Result<String, AllocE
     }
 }
 
-/// The trace of a source, of so many rounds. What can only be wrong with the configuration is said to be that too: want of
-/// memory.
+/// The trace of a source, of so many rounds, with these ticks of a round and of the lead. A fault of the configuration,
+/// which no case has, is answered as want of memory too.
 pub(super) fn trace_of(
     alloc: Global,
-    round_ticks: u32,
+    ticks: [u32; 2],
     rounds: u32,
     source: &mut FromRead<Repeated<'_>>,
 ) -> Result<Trace, TraceFault>
     requires { source.old.failed ≡ false }
 {
     let tables = tables();
-    let text = format!(in alloc; "round_ticks = {round_ticks}\nlead_ticks = 160\n{tables}")?;
+    let [round, lead] = ticks;
+    let text = format!(in alloc; "round_ticks = {round}\nlead_ticks = {lead}\n{tables}")?;
     if let Ok(config) = Config::read(alloc, text.as_bytes()) {
         if config.rounds_fit(rounds) {
             return Trace::read(alloc, source, &config, rounds);

@@ -1,4 +1,4 @@
-//! The most records and bytes of a trace, and one more.
+//! The most records of a trace, and one more; a byte too many.
 
 use super::base::{BASE, Case, HEADER, Repeated, compare};
 use std::test::Fail;

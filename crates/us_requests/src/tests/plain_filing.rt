@@ -19,7 +19,7 @@ fn is_read_as_filed(alloc: Global) -> Result<bool, TraceFault> {
         last: text.as_bytes(),
         ..HEADER
     };
-    let trace = trace_of(alloc, 320, ROUNDS, &mut FromRead::new(reader))?;
+    let trace = trace_of(alloc, [320, 160], ROUNDS, &mut FromRead::new(reader))?;
     Ok(is_as_filed(&trace))
 }
 

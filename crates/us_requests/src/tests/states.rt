@@ -1,4 +1,5 @@
-use crate::ClusterState;
+use crate::{ClusterState, TraceFault};
+use std::alloc::Global;
 
 #[test]
 fn outstanding_bytes(rt: HostRuntime) {
@@ -19,4 +20,28 @@ fn outstanding() -> ([u64; 4], bool) {
     state.credit(1_024);
     let left = [none, most, copy.outstanding(), state.outstanding()];
     (left, copy != state && state == ClusterState::new())
+}
+
+const FAULTS: [TraceFault; 6] = [
+    TraceFault::Header,
+    TraceFault::Fields(2),
+    TraceFault::Number(3),
+    TraceFault::TooLarge,
+    TraceFault::Read,
+    TraceFault::NoMemory,
+];
+
+/// How many faults are written. A clause says what is written then.
+fn written(alloc: Global) -> u64 {
+    let mut count = 0_u64;
+    for fault in FAULTS {
+        let text = format!(in alloc; "{fault}");
+        count = count.wrapping_add(u64::from(text.is_ok()));
+    }
+    count
+}
+
+#[test]
+fn texts_of_faults(rt: HostRuntime) {
+    assert!(rt; written(rt.alloc()) == 6);
 }

@@ -54,7 +54,8 @@ static CASES: [Case<'static>; 9] = [
         ..BASE
     },
     Case {
-        name: "greatest asks",
+        name: "greatest asks, the shortest lead",
+        lead_ticks: 1,
         reader: Repeated {
             last: b"0,1,291,65535\n0,1,500,65535\n0,2,291,65535",
             ..HEADER
@@ -65,19 +66,20 @@ static CASES: [Case<'static>; 9] = [
             Ask { cluster: 3, bytes: 1048560 }, Ask { cluster: 9, bytes: 65535 }]",
         ..BASE
     },
-    // The last tick is late in every run. By a sum of 32 bits it would be of round 20. The trace keeps what is asked, and
-    // nothing of the rounds, so that this run is read as soon as any other.
+    // The last tick is late in every run. By a sum of 32 bits it would be of round 8,192. The trace keeps what is asked,
+    // and nothing of the rounds, so that this run is read as soon as any other.
     Case {
-        name: "a run as long as may be",
+        name: "a run and a lead as long as may be",
         round_ticks: 8,
+        lead_ticks: 65_536,
         rounds: 8_388_608,
         reader: Repeated {
-            last: b"67108696,1,291,7\n67108697,1,291,7\n4294967295,1,291,7\n",
+            last: b"67043320,1,291,7\n67043321,1,291,7\n4294967295,1,291,7\n",
             ..HEADER
         },
-        looked_at: &[20, 8_388_606, 8_388_607, 8_388_608],
+        looked_at: &[8_192, 8_388_606, 8_388_607, 8_388_608],
         answer: "\
-            reads: 3, 8388608 rounds, [0, 0, 2]; 20: 0 []; 8388606: 0 []; 8388607: 1 \
+            reads: 3, 8388608 rounds, [0, 0, 2]; 8192: 0 []; 8388606: 0 []; 8388607: 1 \
             [Ask { cluster: 0, bytes: 28 }]; 8388608: 0 []",
         ..BASE
     },

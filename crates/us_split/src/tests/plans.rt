@@ -271,7 +271,7 @@ headers = true
 ];
 
 /// Each round by `plan`, and by a planner that is kept for all rounds of its run; answers whether both had memory in each.
-/// What can only be a fault of the configuration is said to be that too: want of memory.
+/// A fault of the configuration, which no run has, is answered as want of memory too.
 pub fn are_planned(rt: &impl Abort, alloc: Global, run: &Run<'_>) -> Result<bool, NoMemory> {
     let text = text_of(alloc, run.channels, run.flows)?;
     match Config::read(alloc, text.as_bytes()) {
@@ -319,7 +319,7 @@ fn planned_anew(alloc: Global, config: &Config, round: &Round<'_>) -> Result<Str
         config,
         round.outstanding,
         allowances,
-        &round.reserves,
+        listed(&round.reserves),
         round.idle,
     )?;
     let taken = [plan.reserved(0), plan.reserved(1), plan.reserved(2)];
@@ -334,6 +334,15 @@ fn planned_anew(alloc: Global, config: &Config, round: &Round<'_>) -> Result<Str
         )?;
     }
     Ok(text)
+}
+
+/// The reserves up to the last above 0: what isn't listed is 0.
+fn listed(reserves: &[u64; 3]) -> &[u64] {
+    match reserves {
+        [0, 0, 0] => &[],
+        [_, _, 0] => &reserves[..2],
+        _ => reserves,
+    }
 }
 
 /// What is left of reserves of which so much is taken.
