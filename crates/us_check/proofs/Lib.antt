@@ -1,5 +1,4 @@
 pub mod VerdictLaws
-pub mod OwnLaws
 pub mod AmongLemmas
 pub mod BurstLaws
 pub mod NamedLaws

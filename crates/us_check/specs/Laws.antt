@@ -1,11 +1,7 @@
--- Laws of verdicts: two texts have one, and it is `holds` where they are lawful, as those of a replay are.
-use Rattle.std.specs.Prelude.{◌≡◌, ◌≢◌, ◌⊎◌, ℕ, List, Option, Result, Ok, Err}
-use Rattle.us_flows.specs.Tables.{Tables}
-use Rattle.us_requests.specs.Texts.{requests_of}
-use Rattle.us_requests.specs.Traces.{TraceAsks, IsTraceOf}
-use Rattle.us_lawful.specs.Runs.{Run, run_in}
+-- Laws of verdicts: two texts have one, and it is `holds` where they are lawful.
+use Rattle.std.specs.Prelude.{◌≡◌, ◌≢◌, ◌⊎◌, ℕ, List, Result, Ok, Err}
+use Rattle.us_lawful.specs.Runs.{Run}
 use Rattle.us_lawful.specs.Texts.{AreLawful}
-use Rattle.us_replay.specs.Replays.{Growth, WroteLawful}
 use Rattle.us_check.specs.declared.verdicts.Verdict.{Verdict}
 use Rattle.us_check.specs.declared.verdicts.Verdict.TheVariants as verdicts
 use Rattle.us_check.specs.declared.faults.CheckFault.{CheckFault}
@@ -25,10 +21,3 @@ HoldsUnlessNoMemory result = (result ≡ Ok verdicts.Holds) ⊎ (result ≡ Err 
 abbrev pub LawfulTextsHold : Type 0
 LawfulTextsHold = (run : Run) (maps report : List ℕ) (result : Result Verdict CheckFault) → AreLawful run maps report →
     Answers run maps report result → HoldsUnlessNoMemory result
-
--- What a replay wrote holds, for the trace that was read of the same text, with the same tables and as many rounds.
-abbrev pub OwnTextsHold : Type 0
-OwnTextsHold = (t : Tables) (rounds : ℕ) (told : Option (List ℕ)) (to_maps to_report : Growth)
-    (wrote : WroteLawful t rounds told to_maps to_report) (trace : TraceAsks) (result : Result Verdict CheckFault) →
-    IsTraceOf t rounds (requests_of wrote.text) trace → Answers (run_in t trace) wrote.maps wrote.report result →
-    HoldsUnlessNoMemory result

@@ -1,6 +1,6 @@
 //! Laws of verdicts, each as the contract of a function that does nothing.
 
-ghost use Rattle.us_check.specs.Laws.{LawfulTextsHold, OneAnswer, OwnTextsHold};
+ghost use Rattle.us_check.specs.Laws.{LawfulTextsHold, OneAnswer};
 ghost use Rattle.us_check.specs.Named.{VerdictsNameTheFirst};
 ghost use Rattle.us_check.specs.Bursts.{LongCreditsFail, LongGrantsPassMaps};
 
@@ -17,11 +17,6 @@ pub fn one_answer()
 /// Texts that are lawful hold, whoever made them, unless memory is wanting.
 pub fn lawful_texts_hold()
     ensures { LawfulTextsHold }
-{}
-
-/// What a replay wrote that answered Ok holds, with the same tables, trace and rounds, unless memory is wanting.
-pub fn own_texts_hold()
-    ensures { OwnTextsHold }
 {}
 
 /// A grant of more bytes than any burst carries has more minislots than any MAP of its channel.

@@ -32,7 +32,7 @@ mod laws;
 pub use checking::check;
 pub use faults::CheckFault;
 pub use laws::{
-    lawful_texts_hold, long_credits_fail, long_grants_pass_maps, one_answer, own_texts_hold,
+    lawful_texts_hold, long_credits_fail, long_grants_pass_maps, one_answer,
     verdicts_name_the_first,
 };
 pub use rules::Rule;

@@ -11,7 +11,7 @@ use Rattle.us_replay.specs.Replays.{run_for}
 use Rattle.us_replay.proofs.LoopLemmas.{length-cuts}
 use Rattle.us_replay.proofs.ReplayLemmas.{cuts-same}
 use Rattle.us_map_rules.specs.MapsReading.{OneReadingOfMaps}
-use Rattle.us_check.specs.Laws.{OwnTextsHold}
+use Rattle.us_own_texts.specs.OwnTexts.{OwnTextsHold}
 use Rattle.us_check.proofs.VerdictLaws.{lawful_texts_hold}
 
 -- the run of a trace that was read is that of the requests of its text
