@@ -81,6 +81,3 @@ pub use laws::{
 pub use listing::entries_of;
 pub use settled::Settled;
 pub use silences::Silence;
-
-#[cfg(test)]
-mod tests;

@@ -65,6 +65,3 @@ pub use counts::counts_breach;
 pub use credits::credits_breach;
 pub use finals::finals_breach;
 pub use rates::rates_breach;
-
-#[cfg(test)]
-mod tests;

@@ -75,6 +75,3 @@ pub use pendings::Pending;
 pub use posts::Post;
 pub use tasks::Task;
 pub use works::Work;
-
-#[cfg(test)]
-mod tests;

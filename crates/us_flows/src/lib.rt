@@ -87,6 +87,3 @@ pub use laws::{activity_has_words, found_has_words, one_turn, turns_are_of_clust
 pub use reading::MAX_CONFIG_BYTES;
 pub use stations::Station;
 pub use turns::Turn;
-
-#[cfg(test)]
-mod tests;

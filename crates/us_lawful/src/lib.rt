@@ -33,6 +33,3 @@ pub use laws::{
 pub use place::Place;
 pub use report_faults::ReportFault;
 pub use report_reading::report_rows;
-
-#[cfg(test)]
-mod tests;

@@ -51,6 +51,3 @@ pub use maps_faults::MapsFault;
 pub use maps_reading::read_maps;
 pub use places::places_breach;
 pub use region_rule::regions_breach;
-
-#[cfg(test)]
-mod tests;

@@ -32,6 +32,3 @@ pub use replays::{check_run, replay};
 pub use summaries::Summary;
 pub use us_lawful::{ReportFault, report_rows};
 pub use us_round::{EntryWord, FinalState, Grant, MissedOccurrence, Row, TraceCounts};
-
-#[cfg(test)]
-mod tests;

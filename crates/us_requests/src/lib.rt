@@ -62,6 +62,3 @@ pub use asks::{Ask, Counts};
 pub use cluster_states::ClusterState;
 pub use faults::TraceFault;
 pub use traces::Trace;
-
-#[cfg(test)]
-mod tests;

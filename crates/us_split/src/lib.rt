@@ -56,6 +56,3 @@ pub use laws::{
 pub use planner::Planner;
 pub use planning::plan;
 pub use plans::Plan;
-
-#[cfg(test)]
-mod tests;

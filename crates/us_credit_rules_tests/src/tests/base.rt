@@ -1,0 +1,160 @@
+use us_credit_rules::{Moves, activities_breach, counts_breach, credits_breach, finals_breach, rates_breach};
+use std::alloc::Global;
+use std::process::Abort;
+use us_flows::Config;
+use us_lawful::{Judged, Place, report_rows};
+use us_requests::Trace;
+use us_samples::{base, put_channel};
+use us_slots::{FromRead, NoMemory};
+
+/// The rounds of the run.
+const ROUNDS: u32 = 3;
+
+/// Behind the base configuration and a channel 2: flows that tell their activity, among which there is one that has 500
+/// bytes at most, and 100 bytes more in each round. Its clusters are the second and the third, and have the words 5 and 6.
+const FLOWS: &str = "
+[[flow]]
+id = 5
+type = 5
+channels = [1]
+clusters = [[513]]
+start_us = 0
+interval_us = 20000
+jitter_us = 500
+grant_bytes = 16
+grants_per_interval = 1
+
+[[flow]]
+id = 9
+type = 5
+channels = [2]
+clusters = [[514]]
+start_us = 0
+interval_us = 20000
+jitter_us = 500
+grant_bytes = 16
+grants_per_interval = 1
+
+[[flow]]
+id = 7
+type = 2
+channels = [2, 1]
+clusters = [[300, 301], [302, 303]]
+priority = 0
+rate = 400000
+burst = 500
+unit = 1
+headers = true
+
+[[flow]]
+id = 6
+type = 5
+channels = [1]
+clusters = [[515]]
+start_us = 0
+interval_us = 20000
+jitter_us = 500
+grant_bytes = 16
+grants_per_interval = 1
+
+[[flow]]
+id = 8
+type = 5
+channels = [1]
+clusters = [[516]]
+start_us = 0
+interval_us = 20000
+jitter_us = 500
+grant_bytes = 16
+grants_per_interval = 1
+";
+
+/// In round 1 flow 1 asks for 1,000 bytes, and the clusters of flow 7 for 600 and 50; the first of them for 40 more in
+/// round 2. Then a request of an unknown SID, and one that is late.
+///
+/// Flow 5 is silent in round 1, and active in round 2. Flow 9 is active in round 1, and silent in round 2. Flow 6 tells both
+/// in round 2, silent last, and flow 8 nothing.
+const RECORDS: &str = "tick,channel,sid,units,kind
+0,1,291,250,0
+0,2,300,600,0
+0,1,303,50,0
+0,1,513,0,1
+0,2,514,0,2
+200,1,301,40,0
+200,1,999,1,0
+900,1,291,1,0
+200,1,513,0,2
+200,1,515,0,2
+200,1,515,0,1
+200,2,514,0,1
+";
+
+/// The rules that are answered here.
+#[derive(Clone, Copy)]
+pub enum Rule {
+    Rates,
+    Credits,
+    Finals,
+    Activities,
+    Counts,
+}
+
+/// A report, and round, channel and third number of the place where it fails first.
+pub type Case = (&'static str, Option<(u64, u64, u64)>);
+
+/// Judges each report by a rule.
+pub fn compare(rt: &impl Abort, alloc: Global, rule: Rule, cases: &[Case]) {
+    for (report, wanted) in cases {
+        let wanted = wanted.map(|(round, channel, third)| Place {
+            round,
+            channel,
+            third,
+        });
+        assert_eq!(rt; judge(alloc, rule, report), Some(wanted), "{report}");
+    }
+}
+
+/// Where a report fails first; nothing where it can't be judged, as where memory is refused.
+pub fn judge(alloc: Global, rule: Rule, report: &str) -> Option<Option<Place>> {
+    let config = config_of(alloc)?;
+    let trace = trace_of(alloc, &config)?;
+    let lines = report_rows(alloc, report.as_bytes()).ok()?;
+    let judged = Judged::new(Vec::new(alloc), lines);
+    answer(alloc, rule, &config, &trace, &judged).ok()
+}
+
+fn config_of(alloc: Global) -> Option<Config> {
+    let mut text = String::new(alloc);
+    text.push_str(base()).ok()?;
+    put_channel(&mut text, 2).ok()?;
+    text.push_str(FLOWS).ok()?;
+    Config::read(alloc, text.as_bytes()).ok()
+}
+
+fn trace_of(alloc: Global, config: &Config) -> Option<Trace> {
+    if !config.rounds_fit(ROUNDS) {
+        return None;
+    }
+    let mut source = FromRead::new(RECORDS.as_bytes());
+    Trace::read(alloc, &mut source, config, ROUNDS).ok()
+}
+
+fn answer(
+    alloc: Global,
+    rule: Rule,
+    config: &Config,
+    trace: &Trace,
+    judged: &Judged,
+) -> Result<Option<Place>, NoMemory> {
+    if !config.rounds_fit(trace.rounds()) {
+        return Err(NoMemory);
+    }
+    let moves = Moves::new(alloc, config, trace, judged)?;
+    match rule {
+        Rule::Rates => Ok(rates_breach(config, trace, judged, &moves)),
+        Rule::Credits => credits_breach(alloc, config, trace, judged, &moves),
+        Rule::Finals => finals_breach(alloc, config, trace, judged, &moves),
+        Rule::Activities => activities_breach(alloc, config, trace, judged),
+        Rule::Counts => Ok(counts_breach(config, trace, judged)),
+    }
+}

@@ -1,0 +1,79 @@
+use super::base::{STORED, heading_of, same};
+use us_map_rules::{MapsFault, read_maps};
+use std::alloc::Global;
+use std::fmt;
+use us_lawful::Place;
+
+/// How many MAPs a file has.
+pub fn count_of(alloc: Global, file: &[u8]) -> Result<usize, MapsFault> {
+    Ok(read_maps(alloc, file)?.len())
+}
+
+/// A front of a file is one only where it ends behind a record.
+#[test]
+fn every_prefix(rt: HostRuntime) {
+    for end in 0..=72 {
+        let found = count_of(rt.alloc(), &STORED[..end]);
+        let wanted = match end {
+            0 => Ok(0),
+            34 => Ok(1),
+            72 => Ok(2),
+            _ => Err(MapsFault::Record(if end < 34 { 0 } else { 1 })),
+        };
+        same(&rt, &(end, found), &(end, wanted), "a prefix");
+    }
+}
+
+/// What is answered of the stored file with the lowest bit of a byte changed: `R` that its record is none, `H` that its MAP
+/// isn't that of the run, and `.` nothing, for a SID, an IUC or an offset before the Null.
+static ANSWERS: [u8; 72] =
+    *b"HHHHRRHHRRHHHHHHHHHHHH..RR..R.RRHHHHHHRRHHRRHHHHHHHHHHHH..RR..R...R.RRHH";
+
+/// The answer of these for a byte in this place.
+fn with_byte(alloc: Global, place: usize) -> u8 {
+    let mut file = STORED;
+    if let Some(changed) = file.get_mut(place) {
+        *changed ^= 1;
+    }
+    let number = if place < 34 { 0 } else { 1 };
+    let there = Place {
+        round: 0,
+        channel: 0,
+        third: number,
+    };
+    match heading_of(alloc, &[1], &file) {
+        Ok(None) => b'.',
+        Ok(first) if first == Some(there) => b'H',
+        Err(fault) if fault == MapsFault::Record(number) => b'R',
+        _ => b'?',
+    }
+}
+
+#[test]
+fn every_byte(rt: HostRuntime) {
+    for (place, wanted) in ANSWERS.iter().enumerate() {
+        let found = with_byte(rt.alloc(), place);
+        same(&rt, &(place, found), &(place, *wanted), "a byte");
+    }
+}
+
+/// The texts of both faults, one a line.
+fn text_of_faults(alloc: Global) -> Result<String, fmt::Error> {
+    let mut text = String::new(alloc);
+    writeln!(text, "{}", MapsFault::Record(4))?;
+    writeln!(text, "{}", MapsFault::NoMemory)?;
+    Ok(text)
+}
+
+const TEXTS: &str = "\
+record 4 is none of a maps file
+out of memory
+";
+
+#[test]
+fn texts_of_maps_faults(rt: HostRuntime) {
+    match text_of_faults(rt.alloc()) {
+        Ok(text) => same(&rt, &text.as_str(), &TEXTS, "faults"),
+        Err(_) => same(&rt, &"no memory", &"faults", "faults"),
+    }
+}

@@ -1,0 +1,30 @@
+use super::base::{STORED, same};
+use super::files::count_of;
+use us_map_rules::MapsFault;
+use std::alloc::{AllocError, Global};
+
+/// So many copies of the stored file that the MAPs grow several times, and then a record that is cut.
+fn long_file(alloc: Global) -> Result<Vec<u8>, AllocError> {
+    let mut file = Vec::new(alloc);
+    for _ in 0..10 {
+        file.extend_from_slice(&STORED)?;
+    }
+    file.extend_from_slice(&STORED[..40])?;
+    Ok(file)
+}
+
+/// Reads that file.
+fn count_of_long(alloc: Global) -> Result<usize, MapsFault> {
+    let file = long_file(alloc)?;
+    count_of(alloc, &file)
+}
+
+/// Run by `tools/refuse-memory` too, where each allocation is refused in turn. A refused one is answered as
+/// want of memory, and never as a bad record or as fewer MAPs.
+#[test]
+fn refused_memory(rt: HostRuntime) {
+    let found = count_of_long(rt.alloc());
+    if found != Err(MapsFault::NoMemory) {
+        same(&rt, &found, &Err(MapsFault::Record(21)), "the last record");
+    }
+}

@@ -1,6 +1,0 @@
-use Rattle.std.proofs.Common.{◌≡◌}
-use Rattle.us_split.proofs.tests.plans.plan_rounds.Given as goal
-
--- the tables stay
-abbrev pub invariant-loop-round : goal.invariant-loop-round
-invariant-loop-round g l = l.planner.tables ≡ l.config
