@@ -1,5 +1,4 @@
 use super::base::{Asked, same, tell};
-use us_flows::faults::TOP;
 use us_flows::{ConfigFault, Place, TableName};
 use std::alloc::{AllocError, Global};
 use std::test::Fail;
@@ -22,6 +21,11 @@ fn tell_bytes(answers: &mut String, alloc: Global) -> Result<(), Fail> {
     answers.push_str(", ")?;
     tell(answers, alloc, Asked::Fault, b"lead_ticks = 160 # \xff")
 }
+
+const TOP: Place = Place {
+    table: TableName::Top,
+    index: 0,
+};
 
 const CHANNEL: Place = Place {
     table: TableName::Channel,

@@ -136,7 +136,10 @@ fn ask(askers: &mut Askers, word: usize, bytes: u64) {
     }
 }
 
-fn ask_all(askers: &mut Askers, cuts: &[u64]) {
+/// Has the clusters ask for what a cut has, where there is room for all.
+pub fn ask_all(askers: &mut Askers, cuts: &[u64])
+    ensures { askers.new.tables ≡ askers.old.tables }
+{
     if has_room(askers.outstanding(), cuts) {
         askers.add_all(cuts);
     }
@@ -151,7 +154,7 @@ fn has_room(outstanding: &[u64], cuts: &[u64]) -> bool
         return false;
     }
     for (word, bytes) in cuts.iter().enumerate() {
-        if *bytes >= 1000 || outstanding[word] >= 1000 {
+        if *bytes >= 1_000_000 || outstanding[word] >= 1_000_000 {
             return false;
         }
     }

@@ -2,9 +2,9 @@ ghost use Rattle.std.specs.Prelude.{◌≡◌, ◌≤◌, length};
 ghost use Rattle.us_flows.specs.Clusters.{words_of};
 ghost use Rattle.us_split.specs.Plans.{IsIdle};
 
+use super::asking::ask_all;
 use super::base::{fits, same, text_of};
-use us_split::asking::places_of_askers;
-use us_split::{Claim, Plan, Planner, plan};
+use us_split::{Askers, Claim, Plan, Planner, plan};
 use std::alloc::{AllocError, Global};
 use std::process::Abort;
 use std::test::Fail;
@@ -370,8 +370,15 @@ fn planned(
     let mut allowances = round.allowances;
     let mut left = round.reserves;
     let allowed = &mut allowances[..config.flows().len()];
-    let askers = places_of_askers(alloc, config, round.outstanding)?;
-    planner.plan(&askers, round.outstanding, allowed, &mut left, round.idle)?;
+    let mut askers = Askers::new(alloc, config)?;
+    ask_all(&mut askers, round.outstanding);
+    planner.plan(
+        askers.asking(),
+        askers.outstanding(),
+        allowed,
+        &mut left,
+        round.idle,
+    )?;
     let mut text = format!(in alloc; "left {left:?}")?;
     for channel in 0..8u32 {
         put_claims(&mut text, channel, planner.claims(channel as usize), None)?;
