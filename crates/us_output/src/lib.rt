@@ -78,3 +78,6 @@ pub use rows::{EntryWord, FinalActivity, FinalState, Grant, MissedOccurrence, Ro
 pub use scratch::Scratch;
 pub use tallies::LineTally;
 pub use texts::{push_lines, push_rows};
+
+#[cfg(test)]
+mod tests;

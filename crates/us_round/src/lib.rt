@@ -61,3 +61,6 @@ pub use us_output::{
     EntryWord, FinalActivity, FinalState, Grant, LineTally, MissedOccurrence, RoundOut, Row,
     Scratch, TraceCounts, lines_are_of_grants, lines_bear_round,
 };
+
+#[cfg(test)]
+mod tests;

@@ -4,7 +4,7 @@ ghost use Rattle.us_flows.specs.Tables.{max_run_ticks};
 ghost use Rattle.us_output.specs.Leftovers.{AreInside, IsBuiltFor, told};
 ghost use Rattle.us_output.specs.Outputs.{out_of};
 
-use us_output::{
+use crate::{
     ChannelWithText, LineTally, PendingSid, RoundOut, Scratch, push_lines, push_records, push_rows,
 };
 use std::alloc::Global;
@@ -42,7 +42,7 @@ fn are_alike(text: &[u8]) -> bool {
 
 /// Adds the records and the lines. What the round gives says that its lines can be counted, which are three of grants and one
 /// of what was missed: else a byte stands behind them.
-#[tactic(auto, unfolding(us_output::specs::Outputs::out_of))]
+#[tactic(auto, unfolding(crate::specs::Outputs::out_of))]
 fn push_texts(
     text: &mut Vec<u8>,
     scratch: &mut Scratch,

@@ -1,7 +1,7 @@
 ghost use Rattle.std.specs.Prelude.{◌+◌, ◌^◌, ◌<◌, zip, IsTrue};
 ghost use Rattle.std.specs.List.{AllByRecursion};
 
-use us_round::{RoundFault, RoundOut, Row, State, round};
+use crate::{RoundFault, RoundOut, Row, State, round};
 use std::alloc::{AllocError, Global};
 use std::process::Abort;
 use std::thread::Threads;

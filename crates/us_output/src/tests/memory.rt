@@ -1,6 +1,6 @@
 use super::base::config_of;
 use super::rounds::is_round_told;
-use us_output::activity_rows;
+use crate::activity_rows;
 use std::alloc::Global;
 use std::process::Abort;
 use us_slots::NoMemory;

@@ -5,7 +5,7 @@ ghost use Rattle.us_output.specs.Leftovers.{AreInside, IsBuiltFor};
 
 use super::base::built_of;
 use super::texts::{push_plain, texts_alike};
-use us_output::{
+use crate::{
     ChannelWithText, PendingSid, Scratch, activity_rows, final_rows, out_by, push_rows, round_out,
 };
 use std::alloc::Global;

@@ -1,6 +1,6 @@
 use super::base::{Case, compare, config_of, next_round, same};
 use super::rounds::BONDED;
-use us_round::{RoundFault, State};
+use crate::{RoundFault, State};
 use std::alloc::Global;
 use std::test::Fail;
 use std::thread::Threads;

@@ -1,6 +1,6 @@
 use Rattle.std.proofs.Common.{◌≡◌, ◌+◌, ◌^◌, ◌<◌, length, zip, drop}
 use Rattle.std.specs.List.{AllByRecursion}
-use Rattle.us_round_tests.proofs.tests.base.have_room.Given as goal
+use Rattle.us_round.proofs.tests.base.have_room.Given as goal
 
 -- all have room if those that are left have
 abbrev pub invariant-loop-place : goal.invariant-loop-place

@@ -5,7 +5,7 @@ ghost use Rattle.us_split.specs.Claims.{IsClaimOn};
 ghost use Rattle.us_calendar.specs.Calendars as calendars;
 ghost use Rattle.us_output.specs.Leftovers.{AreInside, IsBuiltFor, StartsInside};
 
-use us_output::ChannelWithText;
+use crate::ChannelWithText;
 use std::alloc::{AllocError, Global};
 use us_calendar::Settled;
 use us_flows::{Channel, Config, ConfigFault};
