@@ -2,9 +2,9 @@ ghost use Rattle.std.specs.Prelude.{◌≡◌, IfSome, OnOk};
 
 use super::plain::{Plain, ROUNDS, Round, is_active, is_as_plain, mark};
 use super::tables::config_of;
-use us_calendar::{Calendar, Kind, Settled};
 use std::alloc::Global;
 use std::process::Abort;
+use us_calendar::{Calendar, Kind, Settled};
 use us_flows::Config;
 use us_holes::{Board, Owner};
 use us_slots::{Iuc, NoMemory};

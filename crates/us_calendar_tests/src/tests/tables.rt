@@ -1,6 +1,6 @@
 use super::plain::Plain;
-use us_calendar::Kind;
 use std::alloc::{AllocError, Global};
+use us_calendar::Kind;
 use us_flows::{Config, ConfigFault};
 use us_samples::put_channel;
 

@@ -1,6 +1,8 @@
-use us_credit_rules::{Moves, activities_breach, counts_breach, credits_breach, finals_breach, rates_breach};
 use std::alloc::Global;
 use std::process::Abort;
+use us_credit_rules::{
+    Moves, activities_breach, counts_breach, credits_breach, finals_breach, rates_breach,
+};
 use us_flows::Config;
 use us_lawful::{Judged, Place, report_rows};
 use us_requests::Trace;

@@ -1,6 +1,6 @@
 use super::base::{Case, DOUBLED, Doubling, REFUSED, Told, map_case, numbers_to, same, tell};
-use us_crew::{CrewFault, OpenGate, map_alone};
 use std::alloc::Global;
+use us_crew::{CrewFault, OpenGate, map_alone};
 
 static CASES: &[Case] = &[
     DOUBLED,

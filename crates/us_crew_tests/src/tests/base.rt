@@ -1,9 +1,9 @@
 ghost use Rattle.std.specs.Prelude.{◌*◌, ◌%◌, ◌^◌, ⊤};
 
-use us_crew::{CrewFault, Gate, Phase, Work, map_owned};
 use std::alloc::Global;
 use std::process::Abort;
 use std::thread::Threads;
+use us_crew::{CrewFault, Gate, Phase, Work, map_owned};
 use us_slots::NoMemory;
 
 /// What is answered for numbers.

@@ -2,10 +2,10 @@ ghost use Rattle.std.specs.Prelude.{◌<◌, ⊤};
 
 use super::base::{Case, DOUBLED, Told, map_case, same};
 use super::kept_base::{at_posts, by_owner};
-use us_crew::{Gate, Phase};
 use std::alloc::Global;
 use std::sync::atomic::{AtomicU64, Ordering};
 use std::thread::Threads;
+use us_crew::{Gate, Phase};
 
 /// A gate that holds nobody, and counts who enters, in digits to base 16. From the right there is a digit for each of five
 /// items in each of three phases, and then one for all other numbers.

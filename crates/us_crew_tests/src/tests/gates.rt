@@ -1,10 +1,10 @@
 ghost use Rattle.std.specs.Prelude.{⊤};
 
 use super::base::{Case, DOUBLED, Told, map_case, same};
-use us_crew::{Gate, Phase};
 use std::alloc::Global;
 use std::sync::atomic::{AtomicU64, AtomicUsize, Ordering};
 use std::thread::{Threads, yield_now};
+use us_crew::{Gate, Phase};
 
 /// A gate that holds each until so many have entered, for at most so many turns.
 #[derive(Drop)]

@@ -1,9 +1,9 @@
 ghost use Rattle.std.specs.Prelude.{◌/◌, ⊤};
 
 use super::base::{Answered, Case, Doubling, Told, numbers_to, tell};
-use us_crew::{Crew, First, Gate, OneOf, Only, Phase, Second, Task, Work, beside, map_kept};
 use std::alloc::Global;
 use std::thread::Threads;
+use us_crew::{Crew, First, Gate, OneOf, Only, Phase, Second, Task, Work, beside, map_kept};
 
 /// Halves numbers, and refuses none.
 #[derive(Clone, Copy)]

@@ -3,10 +3,10 @@ ghost use Rattle.std.specs.Prelude.{⊤};
 use super::base::{Told, same};
 use super::gates::MOST;
 use super::kept_base::{Doing, Done, doubled};
-use us_crew::{Crew, Gate, Phase, beside};
 use std::alloc::Global;
 use std::sync::atomic::{AtomicBool, AtomicUsize, Ordering};
 use std::thread::{Threads, yield_now};
+use us_crew::{Crew, Gate, Phase, beside};
 
 /// A gate that holds each for some turns, or until 64 are in it.
 #[derive(Drop)]

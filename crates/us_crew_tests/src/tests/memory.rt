@@ -1,7 +1,7 @@
 use super::base::{DOUBLED, Told, map_case, same};
 use super::kept_base::at_posts;
-use us_crew::{CrewFault, OpenGate};
 use std::process::Abort;
+use us_crew::{CrewFault, OpenGate};
 
 /// The items are answered whole, or it is want of memory.
 fn is_whole(rt: &impl Abort, found: Told, wanted: Told) {

@@ -1,8 +1,8 @@
 use super::base::{Doubling, Told, numbers_to, same};
-use us_crew::{OpenGate, Phase, map_owned};
 use rayon::prelude::*;
 use std::alloc::Global;
 use std::thread::Threads;
+use us_crew::{OpenGate, Phase, map_owned};
 use us_slots::NoMemory;
 
 /// Twice each number, by `rayon`.

@@ -1,7 +1,7 @@
 use super::base::{Asked, big, check};
-use us_flows::Config;
 use std::alloc::AllocError;
 use std::test::Fail;
+use us_flows::Config;
 use us_samples::base;
 
 /// Writes how many words there are.

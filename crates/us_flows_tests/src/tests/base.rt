@@ -1,7 +1,7 @@
 use super::{activity, lookups, min_rates, turns};
-use us_flows::{Config, ConfigFault};
 use std::alloc::Global;
 use std::test::Fail;
+use us_flows::{Config, ConfigFault};
 
 /// A configuration of two channels, a flow of each of types 2, 3, 4 and 6, and two stations. No line but a header is there
 /// twice, so that a change names its place by the line. The MAPs of the channels have 320 and 160 minislots.

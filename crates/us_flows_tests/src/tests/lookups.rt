@@ -1,7 +1,7 @@
 use super::base::{Asked, NO_FLOWS, big, check};
-use us_flows::Config;
 use std::alloc::AllocError;
 use std::test::Fail;
+use us_flows::Config;
 use us_samples::base;
 
 /// Writes how many words there are, and all that SIDs ask for on some channels: the channel, the SID and the answer.

@@ -1,7 +1,7 @@
 use super::base::big;
-use us_flows::{Config, ConfigFault};
 use std::alloc::Global;
 use std::test::Fail;
+use us_flows::{Config, ConfigFault};
 
 /// Run by `tools/refuse-memory` too, where each allocation is refused in turn, of lists, maps and turns among them. A
 /// refused one is answered as want of memory, and never as another fault or other tables.

@@ -1,7 +1,7 @@
 use super::base::{Asked, big, check};
-use us_flows::Config;
 use std::alloc::AllocError;
 use std::test::Fail;
+use us_flows::Config;
 
 /// Writes the minimum rate of each flow.
 pub fn tell_min_rates(out: &mut String, config: &Config) -> Result<(), AllocError> {

@@ -1,8 +1,8 @@
 use super::activity::TELLING;
 use super::base::{Asked, changed, check, same, tell};
-use us_flows::MAX_CONFIG_BYTES;
 use std::alloc::Global;
 use std::test::Fail;
+use us_flows::MAX_CONFIG_BYTES;
 use us_samples::base;
 
 /// Writes a configuration of so many channels, flows and stations, each with ids from 1 on, and else as in this one. The

@@ -1,7 +1,7 @@
 use super::base::{Asked, same, tell};
-use us_flows::{ConfigFault, Place, TableName};
 use std::alloc::{AllocError, Global};
 use std::test::Fail;
+use us_flows::{ConfigFault, Place, TableName};
 use us_samples::base;
 
 /// Texts that no change makes: with other ends of lines, without a byte, and with bytes that are no text.

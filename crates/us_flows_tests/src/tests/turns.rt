@@ -1,7 +1,7 @@
 use super::base::{Asked, NO_FLOWS, big, check};
-use us_flows::Config;
 use std::alloc::AllocError;
 use std::test::Fail;
+use us_flows::Config;
 use us_samples::base;
 
 /// Writes the turns of a round, each as the places of its flow and of its cluster in it, with the number of the cluster's

@@ -1,7 +1,7 @@
-use us_lawful::{ReportFault, report_rows};
 use std::alloc::Global;
 use std::fmt::Debug;
 use std::process::Abort;
+use us_lawful::{ReportFault, report_rows};
 
 /// The one assertion of these tests, since each costs the proof of the function that it stands in. `place` says where
 /// in a test.

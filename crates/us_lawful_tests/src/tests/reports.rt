@@ -1,7 +1,7 @@
 use super::base::{Case, FIRST, compare, count_of, same};
-use us_lawful::{ReportFault, report_rows};
 use std::alloc::Global;
 use std::fmt;
+use us_lawful::{ReportFault, report_rows};
 use us_round::{EntryWord, FinalActivity, FinalState, Grant, Row, TraceCounts};
 
 /// The report of the stored run.

@@ -1,9 +1,9 @@
-use us_map_rules::{MapsFault, headings_breach, places_breach, read_maps};
 use std::alloc::Global;
 use std::fmt::Debug;
 use std::process::Abort;
 use us_flows::Config;
 use us_lawful::{Judged, Place};
+use us_map_rules::{MapsFault, headings_breach, places_breach, read_maps};
 use us_requests::Trace;
 use us_round::Row;
 use us_samples::put_channel;

@@ -1,8 +1,8 @@
 use super::base::{STORED, heading_of, same};
-use us_map_rules::{MapsFault, read_maps};
 use std::alloc::Global;
 use std::fmt;
 use us_lawful::Place;
+use us_map_rules::{MapsFault, read_maps};
 
 /// How many MAPs a file has.
 pub fn count_of(alloc: Global, file: &[u8]) -> Result<usize, MapsFault> {

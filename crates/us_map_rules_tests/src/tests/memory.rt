@@ -1,7 +1,7 @@
 use super::base::{STORED, same};
 use super::files::count_of;
-use us_map_rules::MapsFault;
 use std::alloc::{AllocError, Global};
+use us_map_rules::MapsFault;
 
 /// So many copies of the stored file that the MAPs grow several times, and then a record that is cut.
 fn long_file(alloc: Global) -> Result<Vec<u8>, AllocError> {

@@ -1,9 +1,9 @@
-use us_map_rules::regions_breach;
 use std::alloc::Global;
 use std::process::Abort;
 use us_codec::decode;
 use us_flows::{Config, ConfigFault};
 use us_lawful::{Judged, Place, RoundMap, report_rows};
+use us_map_rules::regions_breach;
 use us_requests::Trace;
 use us_samples::{base, put_channel};
 use us_slots::FromRead;

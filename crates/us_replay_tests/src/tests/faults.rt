@@ -1,7 +1,7 @@
 use super::base::same;
-use us_replay::RunFault;
 use std::alloc::Global;
 use std::fmt::{self, Write};
+use us_replay::RunFault;
 use us_requests::TraceFault;
 
 const FAULTS: [RunFault; 6] = [

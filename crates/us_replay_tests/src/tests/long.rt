@@ -1,11 +1,11 @@
 use super::base::{BONDED_TRACE, bonded, same};
 use super::devices::{FakeWriter, reader, short_writer, stuck_writer, writer};
 use super::replays::{Outcome, outcome};
-use us_replay::{RunFault, Summary};
 use std::alloc::Global;
 use std::process::Abort;
 use std::thread::Threads;
 use us_crew::OpenGate;
+use us_replay::{RunFault, Summary};
 
 /// The maps file of the bonded run over 5 rounds: two records a round, the second one of round 3 from byte 270 to 304,
 static MAPS: &[u8] =

@@ -1,10 +1,10 @@
 use super::base::same;
 use super::devices::{reader, writer};
 use super::replays::{Outcome, outcome};
-use us_replay::Summary;
 use std::alloc::Global;
 use us_crew::OpenGate;
 use us_flows::Config;
+use us_replay::Summary;
 use us_samples::put_channel;
 
 /// A call alone: two grants of a minislot in each round, or a poll of two while it is silent.

@@ -2,12 +2,12 @@ use super::base::{BONDED_MAPS, BONDED_REPORT, BONDED_TRACE, bonded, same};
 use super::devices::{reader, writer};
 use super::replays::{Outcome, outcome};
 use super::workers::BONDED_OUTCOME;
-use us_replay::RunFault;
 use std::alloc::Global;
 use std::process::Abort;
 use std::thread::Threads;
 use us_crew::OpenGate;
 use us_flows::ConfigFault;
+use us_replay::RunFault;
 use us_requests::{Trace, TraceFault};
 use us_slots::FromRead;
 

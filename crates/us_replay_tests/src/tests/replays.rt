@@ -1,11 +1,11 @@
 use super::base::{MAPS, REPORT, TRACE, base, same};
 use super::devices::{FakeReader, FakeWriter, reader, short_writer, stuck_writer, writer};
-use us_replay::{RunFault, Summary, replay};
 use std::alloc::Global;
 use std::process::Abort;
 use std::thread::Threads;
 use us_crew::{Gate, OpenGate};
 use us_flows::Config;
+use us_replay::{RunFault, Summary, replay};
 use us_requests::TraceFault;
 use us_slots::{FromRead, FromWrite, Sink, Source};
 

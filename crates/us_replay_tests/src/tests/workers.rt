@@ -1,11 +1,11 @@
 use super::base::{BONDED_MAPS, BONDED_REPORT, BONDED_TRACE, bonded, same};
 use super::devices::{reader, writer};
 use super::replays::{Deeds, Outcome, outcome};
-use us_replay::{RunFault, Summary};
 use std::alloc::Global;
 use std::process::Abort;
 use std::thread::Threads;
 use us_crew::{Gate, OpenGate};
+use us_replay::{RunFault, Summary};
 
 /// What the bonded run comes to.
 pub(super) const BONDED_OUTCOME: Outcome = (

@@ -1,10 +1,10 @@
 ghost use Rattle.std.specs.Prelude.{◌≡◌, false};
 
-use us_requests::{Trace, TraceFault};
 use std::alloc::{AllocError, Global};
 use std::io::{self, ErrorKind, Read};
 use std::process::Abort;
 use us_flows::Config;
+use us_requests::{Trace, TraceFault};
 use us_slots::{FromRead, Source};
 
 /// A trace that is read, and what is answered.

@@ -1,9 +1,9 @@
 //! Filing once more, by a plain loop over the requests and a table of all SIDs, beside which a trace is laid.
 
 use super::base::{HEADER, Repeated, trace_of};
-use us_requests::{Ask, Counts, Trace, TraceFault};
 use std::alloc::{AllocError, Global};
 use std::test::Fail;
+use us_requests::{Ask, Counts, Trace, TraceFault};
 use us_slots::FromRead;
 
 #[test]

@@ -1,5 +1,5 @@
-use us_requests::{ClusterState, TraceFault};
 use std::alloc::Global;
+use us_requests::{ClusterState, TraceFault};
 
 #[test]
 fn outstanding_bytes(rt: HostRuntime) {

@@ -2,12 +2,12 @@ ghost use Rattle.std.specs.Prelude.{◌≡◌, ◌+◌, ◌^◌, ◌<◌, length
 ghost use Rattle.std.specs.List.{AllByRecursion};
 
 use super::base::{same, text_of};
-use us_split::Askers;
 use std::alloc::Global;
 use std::process::Abort;
 use std::test::Fail;
 use us_flows::Config;
 use us_slots::NoMemory;
+use us_split::Askers;
 
 /// Two clusters of a flow, a flow that tells its activity, and a cluster of a flow that goes before. So the turns are of the
 /// clusters of words 4, 0 and 1, and words 2 and 3 ask for nothing.

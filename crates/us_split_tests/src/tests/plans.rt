@@ -4,12 +4,12 @@ ghost use Rattle.us_split.specs.Plans.{IsIdle};
 
 use super::asking::ask_all;
 use super::base::{fits, same, text_of};
-use us_split::{Askers, Claim, Plan, Planner, plan};
 use std::alloc::{AllocError, Global};
 use std::process::Abort;
 use std::test::Fail;
 use us_flows::Config;
 use us_slots::NoMemory;
+use us_split::{Askers, Claim, Plan, Planner, plan};
 
 /// Rounds of one configuration, one after the other.
 pub struct Run<'a> {
