@@ -12,6 +12,7 @@ ghost use Rattle.us_live.specs.Lives.{Feeds};
 
 use std::alloc::Global;
 use std::io::Read;
+use std::sync::Wait;
 use std::thread::{Threads, join};
 use us_crew::OpenGate;
 use us_flows::Config;
@@ -59,7 +60,7 @@ fn split(alloc: Global, intake: &Intake, seat: Seat) -> Result<(Seat, Seat), Int
 }
 
 /// Makes all rounds in this thread, while two others submit. In the end all seats are one again.
-fn run<R: Threads + Sync>(
+fn run<R: Threads + Wait + Sync>(
     rt: &R,
     alloc: Global,
     intake: &Intake,
@@ -95,7 +96,7 @@ fn run<R: Threads + Sync>(
 }
 
 /// Makes all rounds, by two workers.
-fn make_rounds<R: Threads + Sync>(
+fn make_rounds<R: Threads + Wait + Sync>(
     rt: &R,
     alloc: Global,
     intake: &Intake,

@@ -7,6 +7,7 @@ use crate::marks::split_at_mark;
 use crate::printing::print;
 use crate::texts::Texts;
 use std::alloc::Global;
+use std::sync::Wait;
 use std::thread::Threads;
 use us_crew::OpenGate;
 use us_flows::Config;
@@ -17,7 +18,7 @@ use us_slots::{FromRead, FromWrite, ReadFault, Sink, Source, read_all};
 const MAX_INPUT_BYTES: usize = 37_748_740;
 
 /// Replays the input in memory, for so many rounds and by so many workers, and prints each MAP's elements and the report.
-pub fn pipe<H: Threads + Sync, I: Source, O: Sink>(
+pub fn pipe<H: Threads + Wait + Sync, I: Source, O: Sink>(
     threads: &H,
     alloc: Global,
     rounds: u32,
@@ -52,7 +53,7 @@ fn read_input<I: Source>(alloc: Global, input: &mut I) -> Result<Vec<u8>, Fault>
 
 /// Replays a text: a configuration, the mark and a trace.
 #[tactic(auto, using(crate::proofs::PrintoutLemmas::replays))]
-fn replay_text<H: Threads + Sync>(
+fn replay_text<H: Threads + Wait + Sync>(
     threads: &H,
     alloc: Global,
     rounds: u32,
@@ -70,7 +71,7 @@ fn replay_text<H: Threads + Sync>(
 
 /// Replays the text of a trace.
 #[tactic(auto, using(crate::proofs::PrintoutLemmas::gives))]
-fn replay_trace<H: Threads + Sync>(
+fn replay_trace<H: Threads + Wait + Sync>(
     threads: &H,
     alloc: Global,
     rounds: u32,

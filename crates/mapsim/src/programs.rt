@@ -14,6 +14,7 @@ use crate::statuses::Status;
 use std::convert::AsStr;
 use std::io::Write;
 use std::rt::Files;
+use std::sync::Wait;
 use std::thread::Threads;
 use us_command_line::{Helps, Order, order_of};
 use us_slots::{Sink, Source};
@@ -22,7 +23,7 @@ use us_slots::{Sink, Source};
 /// and `errors` as its standard output and standard error, and answers how it ends.
 pub fn run<R, S, I, O, E>(rt: &R, words: &[S], input: &mut I, output: &mut O, errors: E) -> Status
 where
-    R: Files + AllocGlobal + Threads + Sync,
+    R: Files + AllocGlobal + Threads + Wait + Sync,
     S: AsStr,
     I: Source,
     O: Sink,
@@ -56,7 +57,7 @@ pub fn end_by<E: Write + Drop>(fault: &Fault, mut errors: E) -> Status
 /// Does what the words ask for, and answers how it ends.
 fn obey<R, S, I, O>(rt: &R, words: &[S], input: &mut I, output: &mut O) -> Result<Status, Fault>
 where
-    R: Files + AllocGlobal + Threads + Sync,
+    R: Files + AllocGlobal + Threads + Wait + Sync,
     S: AsStr,
     I: Source,
     O: Sink,
@@ -80,7 +81,7 @@ fn obey_order<R, I, O>(
     output: &mut O,
 ) -> Result<Status, Fault>
 where
-    R: Files + AllocGlobal + Threads + Sync,
+    R: Files + AllocGlobal + Threads + Wait + Sync,
     I: Source,
     O: Sink,
     requires input_ready { I.failed input.old ≡ false }
@@ -104,7 +105,7 @@ fn carry_out<R, I, O>(
     output: &mut O,
 ) -> Result<Status, Fault>
 where
-    R: Files + AllocGlobal + Threads + Sync,
+    R: Files + AllocGlobal + Threads + Wait + Sync,
     I: Source,
     O: Sink,
     requires input_ready { I.failed input.old ≡ false }

@@ -7,6 +7,7 @@ use crate::printing::print;
 use crate::same_files::refuse_same_files;
 use std::alloc::Global;
 use std::rt::Files;
+use std::sync::Wait;
 use std::thread::Threads;
 use us_command_line::FileReplay;
 use us_crew::OpenGate;
@@ -15,7 +16,7 @@ use us_replay::{Summary, check_run, replay};
 use us_slots::Sink;
 
 /// Replays a trace from files into files, and prints what it did.
-pub fn replay_files<R: Files + Threads + Sync, O: Sink>(
+pub fn replay_files<R: Files + Threads + Wait + Sync, O: Sink>(
     rt: &R,
     alloc: Global,
     order: &FileReplay<'_>,
@@ -31,7 +32,7 @@ pub fn replay_files<R: Files + Threads + Sync, O: Sink>(
 }
 
 /// Replays a trace from a file into files. The numbers are looked at before a file is opened.
-fn replay_trace<R: Files + Threads + Sync>(
+fn replay_trace<R: Files + Threads + Wait + Sync>(
     rt: &R,
     alloc: Global,
     config: &Config,

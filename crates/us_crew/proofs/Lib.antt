@@ -1,5 +1,6 @@
 pub mod PartLemmas
 pub mod PlaceLemmas
 pub mod FunctionLemmas
-pub mod SendLemmas
 pub mod TaskLemmas
+pub mod CuttingLemmas
+pub mod SendLemmas

@@ -1,6 +1,5 @@
 -- What is answered for two parts of a list, one after the other, is answered for the list.
-use Rattle.std.proofs.Common.{◌≡◌, ℕ, suc, ◌+◌, List, [], ◌∷◌, ◌++◌, length, take, drop, sym, ap, ◌∙◌, subst, inl, inr, arith, Result, Ok, Err}
-use Rattle.std.proofs.lemmas.List.{take-append-drop}
+use Rattle.std.proofs.Common.{◌≡◌, ℕ, suc, ◌+◌, List, [], ◌∷◌, ◌++◌, length, sym, ap, ◌∙◌, subst, inl, inr, arith, Result, Ok, Err}
 use Rattle.us_crew.specs.Values.{values_from}
 use Rattle.us_crew.specs.Parts.{EachFrom, FaultFrom, Tells, Together}
 use Rattle.us_crew.specs.declared.faults.CrewFault.{CrewFault}
@@ -58,24 +57,3 @@ module _ {A T R E : Type 0} (read : A → List R) (value : ℕ → T → R) (may
     is ∙ ap (λ front. front ++ read others) f.0 ∙ ap (λ back. values_from value first xs ++ back) b.0 ∙ sym (values-append value first xs ys),
     each-append (λ k item. ¬ must k item) first xs ys f.1 b.1,
   )
-
-module _ {T : Type 0} (P : ℕ → T → Type 0) where
-  -- a list that is cut
-  pub each-cut : (first middle n : ℕ) (xs front back : List T) → front ≡ take n xs → back ≡ drop n xs →
-      middle ≡ first + length front → EachFrom P first xs → EachFrom P first front × EachFrom P middle back
-  each-cut first middle n xs front back f b m each =
-      let whole : front ++ back ≡ xs = rw (f, b) (take-append-drop n xs) in
-      let all : EachFrom P first (front ++ back) = subst (EachFrom P first) (sym whole) each in
-      (each-front P first front back all, subst (λ k. EachFrom P k back) (sym m) (each-back P first front back all))
-
-module _ {A T R E : Type 0} (read : A → List R) (value : ℕ → T → R) (may : ℕ → T → E → Type 0) (must : ℕ → T → Type 0) where
-  pub tells-cut : (first middle n : ℕ) (xs front back : List T) (one two both : Result A (CrewFault E)) →
-      front ≡ take n xs → back ≡ drop n xs → middle ≡ first + length front →
-      Tells read value may must first front one → Tells read value may must middle back two →
-      Together read one two both → Tells read value may must first xs both
-  tells-cut first middle n xs front back one two both f b m tells_one tells_two together =
-      let whole : front ++ back ≡ xs = rw (f, b) (take-append-drop n xs) in
-      let tells : Tells read value may must (first + length front) back two =
-      subst (λ k. Tells read value may must k back two) m tells_two in
-      subst (λ items. Tells read value may must first items both) whole
-      (tells-together read value may must first front back one two both tells_one tells together)

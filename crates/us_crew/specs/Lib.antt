@@ -14,9 +14,11 @@ pub mod Codes
 pub mod Examples
 -- inside the crate, and of no use to a reader of the promise: the same of some of the items
 pub mod Parts
--- inside the crate too: what goes through the ring of one job
-pub mod Orders
--- jobs of several kinds
-pub mod Kinds
--- items as a job
+-- inside the crate too: how many items each worker gets,
+pub mod Cutting
+-- what goes through the ring of one task,
+pub mod Rings
+-- a task,
 pub mod Tasks
+-- and a task on its way
+pub mod Orders

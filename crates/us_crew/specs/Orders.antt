@@ -1,17 +1,14 @@
--- What goes through the ring of one job.
-use Rattle.std.specs.Prelude.{◌≡◌, List, [], ◌∷◌, map, Option, None, Some, ⊤}
-use Rattle.us_crew.specs.declared.orders.Said.{Said}
-use Rattle.us_crew.specs.declared.orders.Said.TheVariants as said
+-- A task on its way to a worker.
+use Rattle.std.specs.Prelude.{ℕ, ◌<◌}
+use Rattle.rtrb.specs.Ring.{sent, known_free}
+use Rattle.us_crew.specs.Rings.{AskFor}
+use Rattle.us_crew.specs.Tasks.{IsReadyTask}
+use Rattle.us_crew.specs.declared.gates.Phase.{Phase}
+use Rattle.us_crew.specs.declared.orders.Order.{Order}
 
-abbrev pub asked_of : {J A : Type 0} → Said J A → Option J
-asked_of (said.Asked job) = Some job.value
-asked_of (said.Done answer) = None
-
--- this one job was asked for, and nothing else was said
-abbrev pub AskFor : {J A : Type 0} → J → List (Said J A) → Type 0
-AskFor job before = map asked_of before ≡ Some job ∷ []
-
--- an answer that comes where one job was asked for is an answer to that job
-abbrev pub IsTrueAnswer : {J A : Type 0} → (J → A → Type 0) → List (Said J A) → Said J A → Type 0
-IsTrueAnswer gives before (said.Asked job) = ⊤
-IsTrueAnswer gives before (said.Done answer) = (job : _) → AskFor job before → gives job answer
+-- its task is ready, and there is room for an answer to it and to nothing else
+pub record IsReadyOrder {W G T R E : Type 0} (entered : G → Phase → ℕ → Type 0) (accepts : W → ℕ → T → Type 0)
+    (order : Order W G T R E) : Type 0 where
+  pub ready : IsReadyTask entered accepts order.task
+  pub asked : AskFor order.task (sent order.back)
+  pub room : 0 < known_free order.back

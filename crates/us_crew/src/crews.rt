@@ -1,105 +1,119 @@
-ghost use Rattle.std.specs.Prelude.{◌≡◌, ◌-◌, ◌<◌, ℕ, IfOk, OnErr, slice_get, vec_len};
-ghost use Rattle.rtrb.specs.Ring.{sent, received, known_free};
-ghost use Rattle.us_crew.specs.Orders.{AskFor};
+ghost use Rattle.std.specs.Prelude.{◌≡◌};
 
-use crate::orders::{Order, ReadyOrders, obey, ordered};
-use crate::{Job, Pending, Post};
-use rtrb::{Producer, PushError, RingBuffer};
-use std::alloc::Global;
-use std::sync::Arc;
-use std::sync::atomic::{AtomicBool, Ordering};
-use us_slots::NoMemory;
+use super::calls::Calls;
+use super::patience::Patience;
+use crate::Mail;
+use std::sync::Wait;
+use std::thread::{Parker, Scope, Threads, scope, scope_env};
 
-/// So many orders may wait at a post (ours). What finds no room is done by the owner.
-const WAITING_ORDERS: usize = 2;
-
-/// The owner's way to a worker.
+/// The workers of a call or a run, as their owner has them: the owner, which is the calling thread, and its helpers,
+/// which are threads of their own. They look for tasks where the owner says.
 #[derive(Drop)]
-struct Line<J: Job<A>, A> {
-    orders: Producer<Order<J, A>, Global, ReadyOrders>,
-    is_up: Arc<AtomicBool>,
+pub struct Crew<'c, H> {
+    threads: &'c H,
+    calls: &'c Calls,
+    owner: &'c Parker,
 }
 
-impl<J: Job<A> + Drop, A: Drop> Line<J, A> {
-    /// A line and its post, where nobody stands yet.
-    fn laid(alloc: Global) -> Result<(Line<J, A>, Post<J, A>), NoMemory> {
-        let (producer, consumer) = RingBuffer::with_protocol::<Global, ReadyOrders>(
-            alloc,
-            WAITING_ORDERS,
-        )?;
-        let is_up = Arc::new(alloc, AtomicBool::new(false))?;
-        let post = Post {
-            orders: consumer,
-            is_up: is_up.clone()?,
-        };
-        Ok((
-            Line {
-                orders: producer,
-                is_up,
-            },
-            post,
-        ))
+impl<'c, H: Wait> Crew<'c, H> {
+    /// Calls all helpers to look for tasks.
+    pub(crate) fn call(&self) {
+        self.calls.call();
     }
 
-    /// Sends an order to the worker, or obeys it: where no worker stands at the post, or too many orders wait there.
-    fn send(&mut self, order: Order<J, A>)
-        requires ready { J.ready order.job }
-        requires asked { AskFor order.job (sent order.back) }
-        requires room { 0 < known_free order.back }
-    {
-        if !self.is_up.load(Ordering::SeqCst) {
-            return obey(order);
+    /// Waits for a turn: awake at first, and later until a helper has done a task.
+    pub(crate) fn wait(&self, patience: &mut Patience) {
+        if !patience.waits() {
+            self.owner.park(self.threads);
         }
-        match self.orders.push(order) {
-            Ok(()) => {}
-            Err(PushError::Full(order)) => obey(order),
-        }
+    }
+
+    /// Tries again until the caller returns.
+    pub(crate) fn threads(&self) -> &H {
+        self.threads
     }
 }
 
-/// Workers that are kept, as their owner has them. Once it is dropped, they leave their posts.
-#[derive(Drop)]
-pub struct Crew<J: Job<A>, A> {
-    lines: Vec<Line<J, A>>,
+/// What is run with a crew. It is a value of a type parameter: of a closure that holds a `&mut` nothing would be told.
+pub trait Beside<H> {
+    type Output;
+
+    // What is known before it runs.
+    ghost can_run: { Self → Type 0 };
+
+    // What it answers.
+    ghost gives: { Self → Self.Output → Type 0 };
+
+    /// Runs in the calling thread, which owns the crew.
+    fn run(self, crew: &Crew<'_, H>) -> Self::Output
+        requires { can_run self }
+        ensures { gives self result };
 }
 
-impl<J: Job<A> + Drop, A: Drop> Crew<J, A> {
-    /// Workers that are to be kept, so many with the owner, and the posts where they are to stand. Until they do
-    /// (`beside`), the owner does what it hands out.
-    pub fn open(alloc: Global, workers: usize) -> Result<(Crew<J, A>, Vec<Post<J, A>>), NoMemory>
-        ensures crew { IfOk result (λ opened. vec_len opened.0.lines ≡ workers - 1) }
-        ensures posts { IfOk result (λ opened. vec_len opened.1 ≡ workers - 1) }
-    {
-        let mut lines = Vec::new(alloc);
-        let mut posts = Vec::new(alloc);
-        for _ in 0..workers.saturating_sub(1) {
-            let (line, post) = Line::laid(alloc)?;
-            lines.push(line)?;
-            posts.push(post)?;
+/// Runs with a crew of the calling thread and so many helpers, who look for tasks in this mail. It returns once all
+/// helpers have left.
+///
+/// A thread is started for each helper, until the system refuses one: a crew does all its work with those that came, or
+/// by the owner alone. A helper without a task spins for some turns, gives its processor to others for some more, and
+/// then sleeps until the owner calls.
+pub fn with_crew<H: Threads + Wait + Sync, M: Mail + Sync, B: Beside<H> + Drop>(
+    threads: &H,
+    helpers: usize,
+    mail: &M,
+    beside: B,
+) -> B::Output
+    requires { B.can_run beside }
+    ensures { B.gives beside result }
+{
+    let (calls, owner) = (Calls::new(), Parker::new());
+    let (calls, owner) = (&calls, &owner);
+    scope(
+        scope_env(),
+        threads,
+        move |scope| -> B::Output
+            requires { B.can_run beside }
+            ensures { B.gives beside result }
+        {
+            start(scope, threads, helpers, mail, calls, owner);
+            let crew = Crew {
+                threads,
+                calls,
+                owner,
+            };
+            let found = beside.run(&crew);
+            calls.end();
+            found
+        },
+    )
+}
+
+/// Starts a thread for each helper, until the system refuses one.
+fn start<'s, E, H: Wait + Sync, M: Mail + Sync>(
+    scope: &'s Scope<'s, E>,
+    threads: &'s H,
+    helpers: usize,
+    mail: &'s M,
+    calls: &'s Calls,
+    owner: &'s Parker,
+) {
+    for worker in 0..helpers {
+        if scope
+            .spawn(move || help(threads, worker, mail, calls, owner))
+            .is_err()
+        {
+            return;
         }
-        Ok((Crew { lines }, posts))
     }
+}
 
-    /// How many workers there are beside the owner.
-    pub fn workers(&self) -> usize
-        ensures { result ≡ vec_len self.now.lines }
-    {
-        self.lines.len()
-    }
-
-    /// Gives a job to the worker of this number, from 0, and goes on. It never waits: where nobody stands at the post,
-    /// or too many orders wait there, the job is done before this returns. On want of memory the job is given up.
-    pub fn hand(&mut self, alloc: Global, worker: usize, job: J) -> Result<Pending<J, A>, NoMemory>
-        requires worker { worker < vec_len self.old.lines }
-        requires ready { J.ready job }
-        ensures workers { vec_len self.new.lines ≡ vec_len self.old.lines }
-        ensures others { (i : ℕ) → ¬ (i ≡ worker) →
-            slice_get self.new.lines.items i ≡ slice_get self.old.lines.items i }
-        ensures asked { IfOk result (λ pending. AskFor job (received pending.answers)) }
-        ensures stays { OnErr result (self.new ≡ self.old) }
-    {
-        let (order, answers) = ordered(alloc, job)?;
-        self.lines[worker].send(order);
-        Ok(Pending { answers })
+/// Looks for tasks at each call, until the last one.
+fn help<H: Wait, M: Mail>(threads: &H, worker: usize, mail: &M, calls: &Calls, owner: &Parker) {
+    let mut seen = 0;
+    for _ in threads.forever() {
+        seen = calls.next(threads, seen);
+        mail.serve(worker, owner);
+        if Calls::is_last(seen) {
+            return;
+        }
     }
 }

@@ -4,15 +4,16 @@
 //! // `Doubling` answers twice its item
 //! map_owned(threads, alloc, &Doubling, Phase::Build, items, 3, &OpenGate)? // of 1, 2, 3, 4, 5: 2, 4, 6, 8, 10
 //!
-//! // the same, by workers that are kept for further calls
-//! let (crew, posts) = Crew::open(alloc, 3)?;
-//! beside(threads, posts, move || {
-//!     let mut crew = crew;
-//!     map_kept(&mut crew, Only, alloc, Doubling, Phase::Build, items, OpenGate)
-//! })?
+//! // the same within a crew of three, which may be given more work: `Run` is a value that is run with the crew
+//! let mailboxes = Mailboxes::open(alloc, 2)?;
+//! with_crew(threads, 2, &mailboxes, Run { .. })
+//! // and in its `run`
+//! map_kept(crew, mailboxes, alloc, Doubling, Phase::Build, items, OpenGate)
 //! ```
 //!
 //! What these words mean stands in `specs/`, in the order of its `Lib.antt`.
+//!
+//! These calls may wait, and take a handle for it or a crew that has one: [`map_owned`], [`with_crew`] and [`map_kept`].
 #![tactic(auto)]
 
 // What is done with an item.
@@ -24,54 +25,42 @@ mod gates;
 // Why there are no answers.
 mod faults;
 
-// One worker's items.
+// How many items each worker gets.
+mod parts;
+
+// Items that stand side by side, with what is to be done with them,
+mod tasks;
+
+// done one after the other.
 mod turns;
 
-// Items and workers, halved.
-mod halves;
+// What is answered for two parts together.
+mod answers;
 
-// The call.
-mod mapping;
-
-// What a worker that is kept is given.
-mod jobs;
-
-// Jobs of several kinds.
-mod kinds;
-
-// Jobs on their way to a worker, and answers on their way back.
+// A task on its way to a worker, and its answer on the way back.
 mod orders;
+
+// Where a worker finds its task.
+mod mailboxes;
 
 // How one waits.
 mod patience;
 
-// What was handed out.
-mod pendings;
+// How workers are called.
+mod calls;
 
-// Where a worker stands.
-mod posts;
-
-// The owner of kept workers.
+// The owner and its helpers.
 mod crews;
 
-// Threads at the posts of a crew.
-mod opening;
+// A task that was handed out.
+mod pendings;
 
-// Items as a job.
-mod tasks;
+// Items by the workers of a crew.
+mod mapping;
 
-// Items by workers that are kept.
-mod keeping;
-
-pub use crews::Crew;
+pub use crews::{Beside, Crew, with_crew};
 pub use faults::CrewFault;
 pub use gates::{Gate, OpenGate, Phase};
-pub use jobs::{Holds, Job};
-pub use keeping::map_kept;
-pub use kinds::{First, OneOf, Only, Second};
-pub use mapping::{MAX_WORKERS, map_alone, map_owned};
-pub use opening::beside;
-pub use pendings::Pending;
-pub use posts::Post;
-pub use tasks::Task;
+pub use mailboxes::{Mail, Mailboxes};
+pub use mapping::{MAX_WORKERS, map_kept, map_owned};
 pub use works::Work;

@@ -1,14 +1,14 @@
-ghost use Rattle.std.specs.Prelude.{◌≡◌, ◌+◌, ◌-◌, ◌/◌, ◌^◌, ◌<◌, ◌≤◌, IfOk, vec_len};
+ghost use Rattle.std.specs.Prelude.{◌≡◌, ◌+◌, ◌^◌, ◌<◌, IfOk, vec_len};
 
+use super::answers::Answered;
 use super::turns::in_turn;
-use crate::{CrewFault, Gate, Job, Phase, Work};
+use crate::{Gate, Phase, Work};
 use std::alloc::Global;
 use us_slots::NoMemory;
 
-/// Items that stand side by side, as a job: the work is done with one after the other. The first has the number
-/// `start`.
+/// Items that stand side by side, and the work to be done with one after the other. The first has the number `start`.
 #[derive(Drop)]
-pub struct Task<W, G, T> {
+pub(crate) struct Task<W, G, T> {
     pub(crate) alloc: Global,
     pub(crate) work: W,
     pub(crate) gate: G,
@@ -20,14 +20,12 @@ pub struct Task<W, G, T> {
 impl<W: Copy, G: Copy, T> Task<W, G, T> {
     ghost use Rattle.us_crew.specs.Tasks.{IsCut};
 
-    /// Cuts the last of several equal parts off. What is left over stays.
-    pub(crate) fn cut_last(&mut self, parts: usize) -> Result<Task<W, G, T>, NoMemory>
-        requires parts { 1 ≤ parts }
-        requires room { self.old.start + vec_len self.old.items < 2 ^ 64 }
-        ensures cut { IfOk result (λ last. IsCut self.old self.new last) }
-        ensures part { IfOk result (λ last. vec_len last.items ≡ vec_len self.old.items / parts) }
+    /// Cuts the last `length` items off, or all where there are fewer.
+    pub(crate) fn cut_off(&mut self, length: usize) -> Result<Task<W, G, T>, NoMemory>
+        requires { self.old.start + vec_len self.old.items < 2 ^ 64 }
+        ensures { IfOk result (λ last. IsCut self.old self.new last) }
     {
-        let kept = self.items.len() - self.items.len() / parts;
+        let kept = self.items.len().saturating_sub(length);
         let items = self.items.split_off(kept)?;
         Ok(Task {
             alloc: self.alloc,
@@ -40,15 +38,16 @@ impl<W: Copy, G: Copy, T> Task<W, G, T> {
     }
 }
 
-impl<W: Work<T, R, E> + Drop, G: Gate + Drop, T: Drop, R: Drop, E> Job<Result<Vec<R>, CrewFault<E>>>
-    for Task<W, G, T> {
+impl<W: Drop, G: Gate + Drop, T: Drop> Task<W, G, T> {
     ghost use Rattle.us_crew.specs.Tasks.{IsReadyTask, TellsTask};
 
-    ghost ready = { IsReadyTask G.entered W.accepts };
-
-    ghost gives = { TellsTask W.value W.may_fail W.must_fail };
-
-    fn run(self) -> Result<Vec<R>, CrewFault<E>> {
+    /// Does the work with the items, one after the other.
+    pub(crate) fn run<R: Drop, E>(self) -> Answered<R, E>
+    where
+        W: Work<T, R, E>,
+        requires { IsReadyTask G.entered W.accepts self }
+        ensures { TellsTask W.value W.may_fail W.must_fail self result }
+    {
         let Task {
             alloc,
             work,

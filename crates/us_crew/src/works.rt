@@ -23,3 +23,18 @@ pub trait Work<T, R, E> {
         ensures sound { OnOk result (¬ must_fail self.now index item) }
         ensures fault { IfErr result (λ fault. may_fail self.now index item fault) };
 }
+
+/// A work that is borrowed.
+impl<W: Work<T, R, E>, T, R, E> Work<T, R, E> for &W {
+    ghost accepts = { λ work index item. W.accepts work.now index item };
+
+    ghost value = { λ work index item. W.value work.now index item };
+
+    ghost may_fail = { λ work index item fault. W.may_fail work.now index item fault };
+
+    ghost must_fail = { λ work index item. W.must_fail work.now index item };
+
+    fn run(&self, alloc: Global, index: usize, item: T) -> Result<R, E> {
+        (*self).run(alloc, index, item)
+    }
+}

@@ -7,6 +7,5 @@ mod counting;
 mod gates;
 mod kept_answers;
 mod kept_base;
-mod kept_gates;
 mod memory;
 mod plain;

@@ -10,6 +10,7 @@ use crate::faults::LiveFault;
 use crate::rounds::make_round;
 use std::alloc::Global;
 use std::marker::Model;
+use std::sync::Wait;
 use std::thread::Threads;
 use us_crew::{Gate, MAX_WORKERS};
 use us_flows::Config;
@@ -104,7 +105,7 @@ impl Live {
     /// LV7: want of memory. The first of these is answered. After LV4 to LV6 everything is as it was, and the intake
     /// isn't cut. LV7 is the last answer but LV4: the log is what it was, and the seat has taken what the round had
     /// cut, if it came so far.
-    pub fn next_round<H: Threads + Sync, G: Gate + Sync>(
+    pub fn next_round<H: Threads + Wait + Sync, G: Gate + Sync>(
         &mut self,
         threads: &H,
         alloc: Global,

@@ -5,6 +5,7 @@ ghost use Rattle.us_live.specs.Lives.{IsCut};
 ghost use Rattle.us_live.specs.Insides.{IsMade};
 
 use std::alloc::Global;
+use std::sync::Wait;
 use std::thread::Threads;
 use us_crew::Gate;
 use us_intake::{Intake, Seat};
@@ -13,7 +14,7 @@ use us_slots::NoMemory;
 
 /// Cuts the intake, makes the round of what was found, and puts the cut behind the log. After want of memory the log
 /// has the same cuts, and the state is given up.
-pub(crate) fn make_round<H: Threads + Sync, G: Gate + Sync>(
+pub(crate) fn make_round<H: Threads + Wait + Sync, G: Gate + Sync>(
     threads: &H,
     alloc: Global,
     state: State,

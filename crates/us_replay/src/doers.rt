@@ -12,17 +12,10 @@ use us_slots::NoMemory;
 // The thread of the replay itself,
 mod alone;
 
-// and workers beside it,
+// or the workers of a crew.
 mod kept;
 
-// to whom a channel goes with its claims.
-mod placing;
-
-// What runs beside them.
-mod meanwhile;
-
-pub(crate) use kept::{Kept, Posts, open_crew};
-pub(crate) use meanwhile::{Meanwhile, beside_workers, take_back};
+pub(crate) use kept::{CollectMail, Kept};
 
 /// Who collects the requests of a round, and does its channels.
 pub(crate) trait Doers<'a>: Hands {

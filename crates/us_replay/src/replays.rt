@@ -11,24 +11,25 @@ ghost use Rattle.us_replay.specs.Replays.{Growth, Replayed, WroteLawful};
 ghost use Rattle.us_replay.specs.Progress.{Along, CanMake, EndsAs, IsLawfulOutput, IsMade, IsTraceFor, grown, opening_progress};
 
 use crate::collecting::open_intake;
-use crate::doers::{Doers, beside_workers, open_crew, take_back};
+use crate::doers::Doers;
 use crate::faults::RunFault;
 use crate::summaries::Summary;
-use crewed::WithCrew;
 use progress::Progress;
 use sending::{flush, send};
 use std::alloc::Global;
+use std::sync::Wait;
 use std::thread::Threads;
-use us_crew::{Gate, MAX_WORKERS};
+use us_crew::{Gate, MAX_WORKERS, Mailboxes, with_crew};
 use us_flows::Config;
 use us_intake::{Intake, Seat};
 use us_requests::{Ask, Trace, TraceFault};
 use us_round::{Alone, State, step};
 use us_slots::{NoMemory, Sink, Source};
+use whole_run::WholeRun;
 
-mod crewed;
 mod progress;
 mod sending;
+mod whole_run;
 
 /// Replays the trace of `trace` with a configuration, for so many rounds: writes the maps file and the report. The
 /// channels of each round are shared among so many workers, each of which enters the gate before each channel. How many
@@ -38,7 +39,7 @@ mod sending;
 /// (RU3). Each round writes its records and then its lines, the channels in table order; after the last one the F lines,
 /// the A lines and the U line are written, and both writers are flushed, the maps file's first. The first fault ends the
 /// replay (RU4, RU5, RU6).
-pub fn replay<H: Threads + Sync, R: Source, W1: Sink, W2: Sink, G: Gate + Sync>(
+pub fn replay<H: Threads + Wait + Sync, R: Source, W1: Sink, W2: Sink, G: Gate + Sync>(
     threads: &H,
     alloc: Global,
     config: &Config,
@@ -99,7 +100,7 @@ pub fn check_run(config: &Config, rounds: u32, workers: usize) -> Result<(), Run
 }
 
 /// Replays a trace that was read: opens the intake where its requests are collected, which has to outlive the workers.
-fn run<H: Threads + Sync, W1: Sink, W2: Sink, G: Gate + Sync>(
+fn run<H: Threads + Wait + Sync, W1: Sink, W2: Sink, G: Gate + Sync>(
     threads: &H,
     alloc: Global,
     config: &Config,
@@ -135,7 +136,7 @@ fn run<H: Threads + Sync, W1: Sink, W2: Sink, G: Gate + Sync>(
 }
 
 /// Replays a trace with an intake that was opened for it, and its seat.
-fn run_with<'a, H: Threads + Sync, W1: Sink, W2: Sink, G: Gate + Sync>(
+fn run_with<'a, H: Threads + Wait + Sync, W1: Sink, W2: Sink, G: Gate + Sync>(
     threads: &H,
     alloc: Global,
     config: &'a Config,
@@ -166,7 +167,8 @@ fn run_with<'a, H: Threads + Sync, W1: Sink, W2: Sink, G: Gate + Sync>(
     let Ok(mut progress) = Progress::opening(alloc, config.clusters(), intake, seat) else {
         return Err(RunFault::NoMemory(0));
     };
-    if workers == 1 {
+    let workers = workers_for(config, trace, workers);
+    if workers < 2 {
         let mut doers = Alone { gate };
         return run_by(
             alloc,
@@ -184,7 +186,7 @@ fn run_with<'a, H: Threads + Sync, W1: Sink, W2: Sink, G: Gate + Sync>(
 }
 
 /// Replays a trace by several workers, who are kept until its end.
-fn run_kept<'a, H: Threads + Sync, W1: Sink, W2: Sink, G: Gate + Sync>(
+fn run_kept<'a, H: Threads + Wait + Sync, W1: Sink, W2: Sink, G: Gate + Sync>(
     threads: &H,
     alloc: Global,
     config: &'a Config,
@@ -211,22 +213,43 @@ fn run_kept<'a, H: Threads + Sync, W1: Sink, W2: Sink, G: Gate + Sync>(
         W1.flushed maps.new ≡ is_ok result }
     ensures report_flushed { W2.flushed report.old ≡ false → W2.flushed report.new ≡ is_ok result }
 {
-    let Ok((kept, posts)) = open_crew(alloc, config, gate, workers) else {
+    let helpers = workers - 1;
+    let (Ok(collects), Ok(fills), Ok(builds)) = (
+        Mailboxes::open(alloc, helpers),
+        Mailboxes::open(alloc, helpers),
+        Mailboxes::open(alloc, helpers),
+    ) else {
         return Err(RunFault::NoMemory(0));
     };
-    let task = WithCrew {
+    let (collects, fills, builds) = (&collects, &fills, &builds);
+    let task = WholeRun {
         alloc,
         config,
         trace,
         progress,
-        doers: kept,
+        workers,
+        gate,
+        collects,
+        fills,
+        builds,
         maps,
         report,
     };
-    let (ended, maps, report) = beside_workers(threads, posts, task);
+    let (ended, maps, report) = with_crew(threads, helpers, &(collects, &(fills, builds)), task);
     take_back(maps);
     take_back(report);
     ended
+}
+
+/// Does nothing: this use of a reference that came back is what ties it to the parameter that lent it.
+fn take_back<T>(lent: &mut T)
+    ensures { lent.new ≡ lent.old }
+{}
+
+/// How many workers a replay has: as many as are asked for, but no more than its channels or than the most asks of a
+/// round, whichever are more.
+fn workers_for(config: &Config, trace: &Trace, workers: usize) -> usize {
+    workers.min(config.channels().len().max(trace.most_asks()))
 }
 
 /// Replays a trace from its start, by these doers.

@@ -1,5 +1,5 @@
 -- Traces: what is known of a trace that was read.
-use Rattle.std.specs.Prelude.{◌≡◌, ℕ, ◌*◌, ◌<◌, ◌≤◌, List, [], length, map, filter, sum_by, ◌==◌}
+use Rattle.std.specs.Prelude.{◌≡◌, ℕ, ◌*◌, ◌<◌, ◌≤◌, List, [], length, map, filter, sum_by, ◌==◌, ◌⊎◌}
 use Rattle.std.specs.List.{AllByRecursion, range_with_len}
 use Rattle.us_flows.specs.Tables.{Tables}
 use Rattle.us_flows.specs.Clusters.{words_of}
@@ -21,6 +21,11 @@ of_round asks round = map (λ placed. placed.ask) (filter (λ placed. placed.rou
 
 abbrev pub asks_in : TraceAsks → ℕ → List Ask
 asks_in t round = of_round t.asks round
+
+-- no round has more asks than this, and one has as many, if any has one; `asks` says how many a round has
+pub record IsMost (asks : ℕ → ℕ) (most : ℕ) : Type 0 where
+  pub none_more : (round : ℕ) → asks round ≤ most
+  pub one : (most ≡ 0) ⊎ ((round : ℕ) × (asks round ≡ most))
 
 -- the most asks of a trace
 abbrev pub max_asks : ℕ

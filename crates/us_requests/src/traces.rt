@@ -1,8 +1,8 @@
-ghost use Rattle.std.specs.Prelude.{◌≡◌, ◌↔◌, true, false, Err, IfOk};
+ghost use Rattle.std.specs.Prelude.{◌≡◌, ◌↔◌, true, false, length, Err, IfOk};
 ghost use Rattle.us_slots.specs.Devices.{TookAtMost};
 ghost use Rattle.us_flows.specs.Tables.{rounds_fit};
 ghost use Rattle.us_flows.specs.Lawful.{AreTables};
-ghost use Rattle.us_requests.specs.Traces.{TraceAsks, IsTrace, asks_in};
+ghost use Rattle.us_requests.specs.Traces.{TraceAsks, IsMost, IsTrace, asks_in};
 ghost use Rattle.us_requests.specs.Readings.{AreRequests, Answers, Reads, max_bytes};
 ghost use Rattle.us_requests.specs.Outcomes.{units_of, IsFiled};
 ghost use Rattle.us_requests.specs.declared.faults.TraceFault.TheVariants as fault;
@@ -65,6 +65,13 @@ impl Trace {
         ensures lawful { IsTrace self.now }
     {
         self.asks.of_round(round)
+    }
+
+    /// The most asks of a round.
+    pub fn most_asks(&self) -> usize
+        ensures { IsMost (λ round. length (asks_in self.now round)) result }
+    {
+        self.asks.most()
     }
 
     /// How many requests are no asks.

@@ -21,3 +21,4 @@ pub mod StageLemmas
 pub mod ByteLaws
 pub mod MapLaws
 pub mod TurnLemmas
+pub mod PlacingLemmas

@@ -28,5 +28,9 @@ pub mod Buckets
 pub mod Cores
 -- its parts at each stage of a round,
 pub mod Parts
--- and who does its phases
+-- who does its phases,
 pub mod Hands
+-- claims that go to a worker with their channel,
+pub mod Placing
+-- and a round that a crew makes
+pub mod Crewed

@@ -11,6 +11,7 @@ ghost use Rattle.us_round.specs.Cores as spec;
 ghost use Rattle.us_round.specs.States.{Covers};
 
 use crate::buckets::Buckets;
+use crate::shared_configs::SharedConfig;
 use std::alloc::Global;
 use std::marker::Model;
 use us_bucket::Bucket;
@@ -38,7 +39,7 @@ use reserving::{leave, reserve};
 
 /// What a core has in memory. It stays where it stands while the core goes through the stages of a round.
 pub(crate) struct Kept {
-    config: Config,
+    config: SharedConfig,
     round: u32,
     askers: Askers,
     buckets: Buckets,
@@ -104,6 +105,7 @@ impl Core {
         let flows = config.flows().len();
         let allowances = no_limits(alloc, flows)?;
         let left = room_for_reserves(alloc, &config)?;
+        let config = SharedConfig::new(alloc, config)?;
         let kept = Box::new(
             alloc,
             Kept {
@@ -126,7 +128,14 @@ impl Core {
         ensures value { result.now ≡ self.now.tables }
         ensures known { spec.IsCore self.now }
     {
-        &self.kept.config
+        self.kept.config.get()
+    }
+
+    /// A share of the configuration, which may outlive the core.
+    pub(crate) fn share_config(&self) -> Result<SharedConfig, NoMemory>
+        ensures { IfOk result (λ config. config ≡ self.now.tables) }
+    {
+        self.kept.config.share()
     }
 
     /// The number of the next round.
@@ -197,7 +206,7 @@ impl Core {
             ..
         } = self.kept.as_mut();
         note_idle(idle, channels)?;
-        let turns = config.turns();
+        let turns = config.get().turns();
         let asking = askers.asking();
         let allowances = allowances.as_mut_slice();
         let left = left.as_mut_slice();
@@ -230,7 +239,7 @@ impl Core {
     pub(crate) fn list_pendings(&self, pendings: &mut Vec<PendingSid>) -> Result<(), NoMemory>
         ensures { OnOk result (pendings.new.items ≡ filter_map (spec.first_sid_at self.now.tables) self.now.pending) }
     {
-        list_pendings(pendings, &self.kept.config, self.kept.askers.pending())
+        list_pendings(pendings, self.kept.config.get(), self.kept.askers.pending())
     }
 }
 

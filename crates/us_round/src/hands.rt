@@ -1,11 +1,11 @@
-ghost use Rattle.std.specs.Prelude.{◌≡◌, [], ⊤, slice_index_or, IfOk, Ok};
+ghost use Rattle.std.specs.Prelude.{◌≡◌, [], ⊤, slice_index_or, IfOk};
 ghost use Rattle.us_crew.specs.Items.{AreAccepted};
 ghost use Rattle.us_crew.specs.Values.{values_of};
 ghost use Rattle.us_flows.specs.Tables.{Tables};
 ghost use Rattle.us_round.specs.Hands.{CanFill, CanBuild, filled_at, built_at};
 
 use std::alloc::Global;
-use us_crew::{CrewFault, Work};
+use us_crew::Work;
 use us_flows::Config;
 use us_output::ChannelWithText;
 use us_slots::NoMemory;
@@ -64,30 +64,6 @@ pub trait Hands {
         ensures same { (t : Tables) → knows self.old t → knows self.new t };
 }
 
-/// A function for each phase, which does it with all channels.
-#[derive(Drop)]
-pub(crate) struct ByEach<F, B> {
-    pub fill: F,
-    pub build: B,
-}
-
-impl<
-    F: Fn(&Filling<'_>, Vec<ChannelWithText>) -> Answered,
-    B: Fn(&Building<'_>, Vec<ChannelWithText>) -> Answered,
-> Hands for ByEach<F, B> {
-    ghost use Rattle.us_round.specs.Hands.{DoesFill, DoesBuild};
-
-    ghost knows = { λ by t. DoesFill F.Fn by.fill × DoesBuild B.Fn by.build };
-
-    fn fill(&mut self, work: &Filling<'_>, channels: Vec<ChannelWithText>) -> Answered {
-        (self.fill)(work, channels)
-    }
-
-    fn build(&mut self, work: &Building<'_>, channels: Vec<ChannelWithText>) -> Answered {
-        (self.build)(work, channels)
-    }
-}
-
 impl<'a> Work<ChannelWithText, ChannelWithText, NoMemory> for Filling<'a> {
     ghost accepts = { λ work place item. CanFill work place item };
 
@@ -106,36 +82,5 @@ impl<'a> Work<ChannelWithText, ChannelWithText, NoMemory> for Filling<'a> {
         let mut channel = item;
         channel.fill(self.config, self.round)?;
         Ok(channel)
-    }
-}
-
-impl<'a> Work<ChannelWithText, ChannelWithText, NoMemory> for Building<'a> {
-    ghost accepts = { λ work place item. CanBuild work place item };
-
-    ghost value = { λ work place item. built_at work place item };
-
-    ghost may_fail = { λ _ _ _ _. ⊤ };
-
-    ghost must_fail = { λ _ _ _. ⊥ };
-
-    fn run(
-        &self,
-        _alloc: Global,
-        index: usize,
-        item: ChannelWithText,
-    ) -> Result<ChannelWithText, NoMemory> {
-        let mut channel = item;
-        channel.place_claims(self.planner.claims(index));
-        Ok(channel)
-    }
-}
-
-/// What workers answered for all channels, or want of memory.
-pub(crate) fn answers(answered: Result<Vec<ChannelWithText>, CrewFault<NoMemory>>) -> Answered
-    ensures { IfOk result (λ all. answered ≡ Ok all) }
-{
-    match answered {
-        Ok(all) => Ok(all),
-        Err(_) => Err(NoMemory),
     }
 }

@@ -21,8 +21,17 @@ mod placing_laws;
 // Who does the channels of a round.
 mod hands;
 
+// Claims that go to a worker with their channel.
+mod placing;
+
+// Who does them by the workers of a crew.
+mod crewed;
+
 // What a round starts from: the buckets,
 mod buckets;
+
+// the configuration,
+mod shared_configs;
 
 // all but the channels,
 mod cores;
@@ -40,6 +49,9 @@ mod states;
 // The round,
 mod rounds;
 
+// by a crew,
+mod one_round;
+
 // and a round that no worker has a part in.
 mod alone;
 
@@ -47,6 +59,7 @@ mod alone;
 mod schedule_laws;
 
 pub use alone::{Alone, round_alone};
+pub use crewed::{BuildMail, Crewed, FillMail};
 pub use done::RoundDone;
 pub use faults::RoundFault;
 pub use hands::{Answered, Building, Filling, Hands};

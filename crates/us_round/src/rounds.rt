@@ -3,24 +3,24 @@ ghost use Rattle.std.specs.List.{AllByRecursion};
 ghost use Rattle.us_flows.specs.Tables.{Tables, max_run_ticks};
 ghost use Rattle.us_flows.specs.Clusters.{words_of};
 ghost use Rattle.us_holes.specs.Boards.{max_assignments};
-ghost use Rattle.us_crew.specs.declared.gates.Phase.TheVariants as phase;
-ghost use Rattle.us_crew.specs.Items.{AreAccepted};
-ghost use Rattle.us_crew.specs.Values.{values_of};
 ghost use Rattle.us_channel.specs.Channels.{heard};
-ghost use Rattle.us_round.specs.Hands.{CanFill, CanBuild, filled_at, built_at};
+ghost use Rattle.us_round.specs.Crewed.{CanMake, IsMade};
 ghost use Rattle.us_round.specs.Parts.{ArePartsOfRound, state_of};
 ghost use Rattle.us_round.specs.Rounds as spec;
 ghost use Rattle.us_output.specs.Outputs.{out_of, AreWithinLimits};
 ghost use Rattle.us_round.specs.States.{AreSound, settled_by};
 
+use crate::alone::Alone;
 use crate::done::RoundDone;
 use crate::faults::RoundFault;
-use crate::hands::{Answered, Building, ByEach, Filling, Hands, answers};
+use crate::hands::Hands;
+use crate::one_round::OneRound;
 use crate::parts::Parts;
 use crate::states::State;
 use std::alloc::Global;
+use std::sync::Wait;
 use std::thread::Threads;
-use us_crew::{Gate, MAX_WORKERS, Phase, map_owned};
+use us_crew::{Gate, MAX_WORKERS, Mailboxes, with_crew};
 use us_output::{ChannelWithText, RoundOut};
 use us_slots::NoMemory;
 
@@ -29,12 +29,13 @@ use us_slots::NoMemory;
 /// silent or as active, and ask for nothing. The answer has the state that the next round starts from.
 ///
 /// Channels are moved to workers and back twice: in phase `Fill` for reserves and calendars, then, once all boards are
-/// planned together, in phase `Build`. Each worker enters the gate before each channel. What is answered is the same
-/// for every number of workers. RO1 is looked for before all else.
+/// planned together, in phase `Build`. The workers are the calling thread and threads that are started for this round,
+/// together as many as were asked for or as there are channels. Each enters the gate before each channel. What is
+/// answered is the same for every number of workers. RO1 is looked for before all else.
 ///
 /// The outstanding bytes of each word and its cut together have to be below 2^62, and the round has to end at tick 2^26
 /// or before. On a fault the state is given up.
-pub fn round<H: Threads + Sync, G: Gate + Sync>(
+pub fn round<H: Threads + Wait + Sync, G: Gate + Sync>(
     threads: &H,
     alloc: Global,
     state: State,
@@ -64,17 +65,42 @@ pub fn round<H: Threads + Sync, G: Gate + Sync>(
     if workers == 0 || workers > MAX_WORKERS {
         return Err(RoundFault::Workers);
     }
-    let fill = |work: &Filling<'_>, channels: Vec<ChannelWithText>| -> Answered
-        requires { AreAccepted (G.entered gate.now phase.Fill) (CanFill work.now) channels.items }
-        ensures { IfOk result (λ all. all.items ≡ values_of (filled_at work.now) channels.items) }
-    { answers(map_owned(threads, alloc, work, Phase::Fill, channels, workers, gate)) };
-    let build = |work: &Building<'_>, channels: Vec<ChannelWithText>| -> Answered
-        requires { AreAccepted (G.entered gate.now phase.Build) (CanBuild work.now) channels.items }
-        ensures { IfOk result (λ all. all.items ≡ values_of (built_at work.now) channels.items) }
-    { answers(map_owned(threads, alloc, work, Phase::Build, channels, workers, gate)) };
-    let done = step(state, cuts, &mut ByEach { fill, build })?;
+    let helpers = workers.min(state.channels()).saturating_sub(1);
+    let done = if helpers == 0 {
+        step(state, cuts, &mut Alone { gate })?
+    } else {
+        step_by_crew(threads, alloc, state, cuts, helpers, gate)?
+    };
     let out = done.out(alloc)?;
     Ok((done.into_state(), out))
+}
+
+/// The same by a crew with so many helpers.
+fn step_by_crew<H: Threads + Wait + Sync, G: Gate + Sync>(
+    threads: &H,
+    alloc: Global,
+    state: State,
+    cuts: &[u64],
+    helpers: usize,
+    gate: &G,
+) -> Result<RoundDone, NoMemory>
+    requires { CanMake state cuts.now }
+    ensures { IfOk result (IsMade state cuts.now) }
+{
+    let config = state.share_config()?;
+    let fills = Mailboxes::open(alloc, helpers)?;
+    let builds = Mailboxes::open(alloc, helpers)?;
+    let (fills, builds) = (&fills, &builds);
+    let task = OneRound {
+        alloc,
+        state,
+        cuts,
+        config: config.get(),
+        gate,
+        fills,
+        builds,
+    };
+    with_crew(threads, helpers, &(fills, builds), task)
 }
 
 /// Schedules the round of a state as `round` does, of which `hands` do the channels. What it gives is told of the answer: as

@@ -1,6 +1,6 @@
-use super::base::{Case, DOUBLED, Doubling, REFUSED, Told, map_case, numbers_to, same, tell};
+use super::base::{Case, DOUBLED, REFUSED, map_case, same};
 use std::alloc::Global;
-use us_crew::{CrewFault, OpenGate, map_alone};
+use us_crew::{CrewFault, OpenGate};
 
 static CASES: &[Case] = &[
     DOUBLED,
@@ -22,19 +22,11 @@ static CASES: &[Case] = &[
     },
 ];
 
-/// What the calling thread alone answers for a case.
-fn alone_case(alloc: Global, case: &Case) -> Told {
-    let numbers = numbers_to(alloc, case.numbers)?;
-    tell(map_alone(alloc, &Doubling { most: case.most }, numbers))
-}
-
-/// The calling thread alone answers the same as workers do.
 #[test]
 fn answers_and_faults(rt: HostRuntime) {
     for case in CASES {
         let found = map_case(&rt, rt.alloc(), case, &OpenGate);
         same(&rt, case.workers, found, case.answer);
-        same(&rt, 0, alone_case(rt.alloc(), case), case.answer);
     }
 }
 

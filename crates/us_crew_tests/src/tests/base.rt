@@ -2,6 +2,7 @@ ghost use Rattle.std.specs.Prelude.{◌*◌, ◌%◌, ◌^◌, ⊤};
 
 use std::alloc::Global;
 use std::process::Abort;
+use std::sync::Wait;
 use std::thread::Threads;
 use us_crew::{CrewFault, Gate, Phase, Work, map_owned};
 use us_slots::NoMemory;
@@ -56,7 +57,7 @@ pub(super) struct Case {
     pub(super) kept: Told,
 }
 
-pub(super) static DOUBLED: Case = Case {
+pub(super) const DOUBLED: Case = Case {
     numbers: 5,
     most: u64::MAX,
     workers: 3,
@@ -66,7 +67,7 @@ pub(super) static DOUBLED: Case = Case {
 };
 
 /// Items 2, 3 and 4 are refused.
-pub(super) static REFUSED: Case = Case {
+pub(super) const REFUSED: Case = Case {
     most: 2,
     answer: Err(CrewFault::Item(2, 3)),
     kept: Err(CrewFault::Item(2, 3)),
@@ -83,7 +84,7 @@ pub(super) fn numbers_to(alloc: Global, last: u64) -> Result<Vec<u64>, NoMemory>
 }
 
 /// What is answered for a case.
-pub(super) fn map_case<H: Threads + Sync, G: Gate + Sync>(
+pub(super) fn map_case<H: Threads + Wait + Sync, G: Gate + Sync>(
     threads: &H,
     alloc: Global,
     case: &Case,

@@ -1,8 +1,9 @@
 ghost use Rattle.std.specs.Prelude.{◌<◌, ⊤};
 
 use super::base::{Case, DOUBLED, Told, map_case, same};
-use super::kept_base::{at_posts, by_owner};
+use super::kept_base::by_kept;
 use std::alloc::Global;
+use std::sync::Wait;
 use std::sync::atomic::{AtomicU64, Ordering};
 use std::thread::Threads;
 use us_crew::{Gate, Phase};
@@ -63,7 +64,12 @@ static ENTERED: &[(usize, Phase, u64)] = &[
 ];
 
 /// Who enters for the items of a case.
-fn entered<H: Threads + Sync>(threads: &H, alloc: Global, workers: usize, phase: Phase) -> Told {
+fn entered<H: Threads + Wait + Sync>(
+    threads: &H,
+    alloc: Global,
+    workers: usize,
+    phase: Phase,
+) -> Told {
     let gate = Counting::new();
     let case = Case {
         workers,
@@ -87,29 +93,18 @@ fn entered_once(rt: HostRuntime) {
     }
 }
 
-/// Who enters in three rounds of two phases by workers that are kept, at their posts or with nobody there.
-fn kept_entered<H: Threads + Sync>(
-    threads: &H,
-    alloc: Global,
-    workers: usize,
-    are_up: bool,
-) -> Told {
+/// Who enters in three rounds of two phases by workers that are kept.
+fn kept_entered<H: Threads + Wait + Sync>(threads: &H, alloc: Global, workers: usize) -> Told {
     let gate = Counting::new();
     let case = Case { workers, ..DOUBLED };
-    if are_up {
-        at_posts(threads, alloc, &case, &gate, 3)?;
-    } else {
-        by_owner(threads, alloc, &case, &gate, 3)?;
-    }
+    by_kept(threads, alloc, &case, &gate, 3)?;
     Ok(gate.told())
 }
 
-static KEPT: &[(usize, bool)] = &[(1, true), (4, true), (4, false)];
-
 #[test]
 fn kept_entered_once(rt: HostRuntime) {
-    for (workers, are_up) in KEPT {
-        let found = kept_entered(&rt, rt.alloc(), *workers, *are_up);
-        same(&rt, *workers, found, Ok(0x33333_33333_00000));
+    for workers in [1, 4, 64] {
+        let found = kept_entered(&rt, rt.alloc(), workers);
+        same(&rt, workers, found, Ok(0x33333_33333_00000));
     }
 }

@@ -1,27 +1,51 @@
 ghost use Rattle.std.specs.Prelude.{⊤};
 
 use super::base::{Case, DOUBLED, Told, map_case, same};
+use super::kept_base::by_kept;
 use std::alloc::Global;
+use std::sync::Wait;
 use std::sync::atomic::{AtomicU64, AtomicUsize, Ordering};
 use std::thread::{Threads, yield_now};
 use us_crew::{Gate, Phase};
 
-/// A gate that holds each until so many have entered, for at most so many turns.
+/// A gate that holds the items of some numbers until all of them have entered, for at most so many turns, in each call
+/// anew. How many they are is a power of two.
 #[derive(Drop)]
 struct Meeting {
-    wanted: usize,
+    first: usize,
+    last: usize,
     turns: u64,
     entered: AtomicUsize,
     missed: AtomicU64,
 }
 
+impl Meeting {
+    fn of(first: usize, last: usize, turns: u64) -> Meeting {
+        Meeting {
+            first,
+            last,
+            turns,
+            entered: AtomicUsize::new(0),
+            missed: AtomicU64::new(0),
+        }
+    }
+
+    /// How many came alone.
+    fn missed(&self) -> u64 {
+        self.missed.load(Ordering::SeqCst)
+    }
+}
+
 impl Gate for Meeting {
     ghost entered = { λ _ _ _. ⊤ };
 
-    fn enter(&self, _phase: Phase, _index: usize) {
-        self.entered.fetch_add(1, Ordering::SeqCst);
+    fn enter(&self, _phase: Phase, index: usize) {
+        if index < self.first || index > self.last {
+            return;
+        }
+        let met = self.entered.fetch_add(1, Ordering::SeqCst) | (self.last - self.first);
         for _ in 0..self.turns {
-            if self.entered.load(Ordering::SeqCst) >= self.wanted {
+            if self.entered.load(Ordering::SeqCst) > met {
                 return;
             }
             yield_now();
@@ -30,66 +54,168 @@ impl Gate for Meeting {
     }
 }
 
-/// How many workers of a case came alone.
-fn missed<H: Threads + Sync>(
-    threads: &H,
-    alloc: Global,
-    case: &Case,
-    wanted: usize,
-    turns: u64,
-) -> Told {
-    let gate = Meeting {
-        wanted,
-        turns,
-        entered: AtomicUsize::new(0),
-        missed: AtomicU64::new(0),
-    };
-    map_case(threads, alloc, case, &gate)?;
-    Ok(gate.missed.load(Ordering::SeqCst))
+/// A case, and the items that meet.
+#[derive(Clone, Copy)]
+struct Held {
+    case: Case,
+    first: usize,
+    last: usize,
 }
 
-/// As many workers as there may be, with a number each.
-pub(super) static MOST: &[Case] = &[
-    Case {
-        numbers: 64,
-        workers: 64,
-        phase: Phase::Collect,
-        ..DOUBLED
-    },
-    Case {
-        numbers: 64,
-        workers: 64,
-        phase: Phase::Fill,
-        ..DOUBLED
-    },
-    Case {
-        numbers: 64,
-        workers: 64,
-        phase: Phase::Build,
-        ..DOUBLED
-    },
-];
-
-static ONE: Case = Case {
-    workers: 1,
+/// As many workers as there may be, and four, with a number each.
+const ALL: Case = Case {
+    numbers: 64,
+    workers: 64,
+    phase: Phase::Collect,
+    kept: Ok(0xd025_7ad0_24f0_0110),
     ..DOUBLED
 };
 
-/// Each of 64 workers is held before its item until all are, in each phase.
+const FOUR: Case = Case {
+    numbers: 4,
+    workers: 4,
+    kept: Ok(0x246800112),
+    ..DOUBLED
+};
+
+/// Two workers have items 0 and 1, and the others; three have 0 and 1, 2 alone, and the others.
+const TWO: Case = Case {
+    workers: 2,
+    ..DOUBLED
+};
+
+static HELD: &[Held] = &[
+    Held {
+        case: ALL,
+        first: 0,
+        last: 63,
+    },
+    Held {
+        case: FOUR,
+        first: 0,
+        last: 3,
+    },
+    Held {
+        case: TWO,
+        first: 1,
+        last: 2,
+    },
+    Held {
+        case: DOUBLED,
+        first: 1,
+        last: 2,
+    },
+    Held {
+        case: DOUBLED,
+        first: 2,
+        last: 3,
+    },
+];
+
+/// How many workers of a case came alone.
+fn missed<H: Threads + Wait + Sync>(threads: &H, alloc: Global, held: &Held, turns: u64) -> Told {
+    let gate = Meeting::of(held.first, held.last, turns);
+    map_case(threads, alloc, &held.case, &gate)?;
+    Ok(gate.missed())
+}
+
+/// Each of all workers is held before its item until all are, and the items on either side of each cut are held until
+/// both are.
 #[test]
 fn workers_meet(rt: HostRuntime) {
-    for case in MOST {
-        same(
-            &rt,
-            64,
-            missed(&rt, rt.alloc(), case, 64, 100_000_000),
-            Ok(0),
-        );
+    for held in HELD {
+        let found = missed(&rt, rt.alloc(), held, 100_000_000);
+        same(&rt, held.case.workers, found, Ok(0));
     }
 }
 
 /// One worker never meets another: it is held in vain at the first item.
 #[test]
 fn one_worker_is_alone(rt: HostRuntime) {
-    same(&rt, 1, missed(&rt, rt.alloc(), &ONE, 2, 1_000), Ok(1));
+    let held = Held {
+        case: Case {
+            workers: 1,
+            ..DOUBLED
+        },
+        first: 0,
+        last: 1,
+    };
+    same(&rt, 1, missed(&rt, rt.alloc(), &held, 1_000), Ok(1));
+}
+
+/// Workers meet as well where the gate has no limit, a thousand times over.
+#[test]
+fn workers_meet_without_limit(rt: HostRuntime) {
+    for _ in 0..1_000 {
+        for held in &HELD[1..] {
+            let found = missed(&rt, rt.alloc(), held, u64::MAX);
+            same(&rt, held.case.workers, found, Ok(0));
+        }
+    }
+}
+
+/// Of five items two workers that are kept have 0 and 1, and the others; three have 0 alone, 1 and 2, and the others.
+static KEPT: &[(Held, u32)] = &[
+    (
+        Held {
+            case: ALL,
+            first: 0,
+            last: 63,
+        },
+        20,
+    ),
+    (
+        Held {
+            case: FOUR,
+            first: 0,
+            last: 3,
+        },
+        1_000,
+    ),
+    (
+        Held {
+            case: TWO,
+            first: 1,
+            last: 2,
+        },
+        1_000,
+    ),
+    (
+        Held {
+            case: DOUBLED,
+            first: 0,
+            last: 1,
+        },
+        1_000,
+    ),
+    (
+        Held {
+            case: DOUBLED,
+            first: 2,
+            last: 3,
+        },
+        1_000,
+    ),
+];
+
+/// How many of workers that are kept came alone, in so many rounds of two phases; and one more where they answer otherwise.
+fn kept_missed<H: Threads + Wait + Sync>(
+    threads: &H,
+    alloc: Global,
+    held: &Held,
+    rounds: u32,
+) -> Told {
+    let gate = Meeting::of(held.first, held.last, u64::MAX);
+    let told = by_kept(threads, alloc, &held.case, &gate, rounds);
+    let is_other = u64::from(told != held.case.kept);
+    Ok(gate.missed().wrapping_add(is_other))
+}
+
+/// Workers that are kept meet in each phase of each round, without a limit.
+#[test]
+fn kept_workers_meet(rt: HostRuntime) {
+    for (held, rounds) in KEPT {
+        let found = kept_missed(&rt, rt.alloc(), held, *rounds);
+        same(&rt, held.case.workers, found, Ok(0));
+    }
 }

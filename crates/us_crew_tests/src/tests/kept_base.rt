@@ -1,9 +1,10 @@
 ghost use Rattle.std.specs.Prelude.{◌/◌, ⊤};
 
-use super::base::{Answered, Case, Doubling, Told, numbers_to, tell};
+use super::base::{Case, Doubling, Told, numbers_to, tell};
 use std::alloc::Global;
+use std::sync::Wait;
 use std::thread::Threads;
-use us_crew::{Crew, First, Gate, OneOf, Only, Phase, Second, Task, Work, beside, map_kept};
+use us_crew::{Beside, Crew, Gate, Mailboxes, Phase, Work, map_kept, with_crew};
 
 /// Halves numbers, and refuses none.
 #[derive(Clone, Copy)]
@@ -23,96 +24,99 @@ impl Work<u64, u64, u64> for Halving {
     }
 }
 
-/// What the crew of these tests does: two phases, of different works.
-pub(super) type Doing<G> = OneOf<Task<Doubling, G, u64>, Task<Halving, G, u64>>;
+type Doubles<G> = Mailboxes<Doubling, G, u64, u64, u64>;
 
-pub(super) type Done = OneOf<Answered, Answered>;
+type Halves<G> = Mailboxes<Halving, G, u64, u64, u64>;
 
-/// What a crew answers in the phase of a case.
-pub(super) fn doubled<G: Gate + Copy>(
-    crew: &mut Crew<Doing<G>, Done>,
+/// So many rounds by a crew that is kept: two phases, of different works.
+#[derive(Drop)]
+struct Rounds<'a, G: Gate> {
     alloc: Global,
-    case: &Case,
-    gate: G,
-) -> Told {
-    let numbers = numbers_to(alloc, case.numbers)?;
-    let work = Doubling { most: case.most };
-    tell(map_kept(crew, First, alloc, work, case.phase, numbers, gate))
-}
-
-fn halved<G: Gate + Copy>(
-    crew: &mut Crew<Doing<G>, Done>,
-    alloc: Global,
-    case: &Case,
-    gate: G,
-) -> Told {
-    let numbers = numbers_to(alloc, case.numbers)?;
-    tell(map_kept(
-        crew,
-        Second(Only),
-        alloc,
-        Halving,
-        Phase::Build,
-        numbers,
-        gate,
-    ))
-}
-
-/// A round of two phases, whose digits stand one behind the other. A fault of the first keeps nobody from the second.
-fn round_by<G: Gate + Copy>(
-    crew: &mut Crew<Doing<G>, Done>,
-    alloc: Global,
-    case: &Case,
-    gate: G,
-) -> Told {
-    let front = doubled(crew, alloc, case, gate);
-    let back = halved(crew, alloc, case, gate)?;
-    Ok(front?.wrapping_mul(0x10_0000).wrapping_add(back))
-}
-
-/// The first of so many rounds that isn't answered as it has to be, or the last.
-fn rounds_by<G: Gate + Copy>(
-    crew: Crew<Doing<G>, Done>,
-    alloc: Global,
-    case: &Case,
+    case: &'a Case,
     gate: G,
     rounds: u32,
-) -> Told {
-    let mut crew = crew;
-    for _ in 1..rounds {
-        let told = round_by(&mut crew, alloc, case, gate);
-        if told != case.kept {
-            return told;
-        }
+    doubles: &'a Doubles<G>,
+    halves: &'a Halves<G>,
+}
+
+impl<'a, G: Gate + Copy + Drop> Rounds<'a, G> {
+    /// A round, the digits of whose phases stand one behind the other. A fault of the first keeps nobody from the second.
+    fn round<H: Wait>(&self, crew: &Crew<'_, H>) -> Told {
+        let front = self.doubled(crew);
+        let back = self.halved(crew)?;
+        Ok(front?.wrapping_mul(0x10_0000).wrapping_add(back))
     }
-    round_by(&mut crew, alloc, case, gate)
+
+    fn doubled<H: Wait>(&self, crew: &Crew<'_, H>) -> Told {
+        let numbers = numbers_to(self.alloc, self.case.numbers)?;
+        let most = self.case.most;
+        tell(map_kept(
+            crew,
+            self.doubles,
+            self.alloc,
+            Doubling { most },
+            self.case.phase,
+            numbers,
+            self.gate,
+        ))
+    }
+
+    fn halved<H: Wait>(&self, crew: &Crew<'_, H>) -> Told {
+        let numbers = numbers_to(self.alloc, self.case.numbers)?;
+        tell(map_kept(
+            crew,
+            self.halves,
+            self.alloc,
+            Halving,
+            Phase::Build,
+            numbers,
+            self.gate,
+        ))
+    }
 }
 
-/// Rounds by a crew whose workers are at their posts.
-pub(super) fn at_posts<H: Threads + Sync, G: Gate + Copy + Send>(
+impl<'a, G: Gate + Copy + Drop, H: Wait> Beside<H> for Rounds<'a, G> {
+    /// The first round that isn't answered as it has to be, or the last.
+    type Output = Told;
+
+    ghost can_run = { λ _. ⊤ };
+
+    ghost gives = { λ _ _. ⊤ };
+
+    fn run(self, crew: &Crew<'_, H>) -> Told {
+        for _ in 1..self.rounds {
+            let told = self.round(crew);
+            if told != self.case.kept {
+                return told;
+            }
+        }
+        self.round(crew)
+    }
+}
+
+/// Rounds by workers that are kept.
+pub(super) fn by_kept<H: Threads + Wait + Sync, G: Gate + Copy + Sync + Send + Drop>(
     threads: &H,
     alloc: Global,
     case: &Case,
     gate: G,
     rounds: u32,
 ) -> Told {
-    let (crew, posts) = Crew::open(alloc, case.workers)?;
-    beside(
+    let helpers = case.workers.saturating_sub(1);
+    let doubles = Mailboxes::open(alloc, helpers)?;
+    let halves = Mailboxes::open(alloc, helpers)?;
+    let (doubles, halves) = (&doubles, &halves);
+    with_crew(
         threads,
-        posts,
-        move || rounds_by(crew, alloc, case, gate, rounds),
+        helpers,
+        &(doubles, halves),
+        Rounds {
+            alloc,
+            case,
+            gate,
+            rounds,
+            doubles,
+            halves,
+        },
     )
-}
-
-/// Rounds by a crew with nobody at the posts. Who comes there later leaves at once.
-pub(super) fn by_owner<H: Threads + Sync, G: Gate + Copy + Send>(
-    threads: &H,
-    alloc: Global,
-    case: &Case,
-    gate: G,
-    rounds: u32,
-) -> Told {
-    let (crew, posts) = Crew::open(alloc, case.workers)?;
-    let told = rounds_by(crew, alloc, case, gate, rounds);
-    beside(threads, posts, move || told)
 }

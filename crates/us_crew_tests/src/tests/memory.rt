@@ -1,5 +1,5 @@
-use super::base::{DOUBLED, Told, map_case, same};
-use super::kept_base::at_posts;
+use super::base::{Case, DOUBLED, Told, map_case, same};
+use super::kept_base::by_kept;
 use std::process::Abort;
 use us_crew::{CrewFault, OpenGate};
 
@@ -10,16 +10,22 @@ fn is_whole(rt: &impl Abort, found: Told, wanted: Told) {
     }
 }
 
-// Both are run by `tools/refuse-memory` too, where each allocation is refused in turn.
+// All are run by `tools/refuse-memory` too, where each allocation is refused in turn.
 
 #[test]
 fn refused_memory(rt: HostRuntime) {
-    let found = map_case(&rt, rt.alloc(), &DOUBLED, &OpenGate);
-    is_whole(&rt, found, DOUBLED.answer);
+    for workers in [2, 16] {
+        let case = Case { workers, ..DOUBLED };
+        let found = map_case(&rt, rt.alloc(), &case, &OpenGate);
+        is_whole(&rt, found, DOUBLED.answer);
+    }
 }
 
 #[test]
 fn refused_memory_kept(rt: HostRuntime) {
-    let found = at_posts(&rt, rt.alloc(), &DOUBLED, OpenGate, 1);
-    is_whole(&rt, found, DOUBLED.kept);
+    for workers in [2, 16] {
+        let case = Case { workers, ..DOUBLED };
+        let found = by_kept(&rt, rt.alloc(), &case, OpenGate, 2);
+        is_whole(&rt, found, DOUBLED.kept);
+    }
 }

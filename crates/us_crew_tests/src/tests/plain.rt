@@ -1,13 +1,14 @@
 use super::base::{Doubling, Told, numbers_to, same};
 use rayon::prelude::*;
 use std::alloc::Global;
+use std::sync::Wait;
 use std::thread::Threads;
 use us_crew::{OpenGate, Phase, map_owned};
 use us_slots::NoMemory;
 
 /// Twice each number, by `rayon`.
 fn doubled(
-    threads: &(impl Threads + Sync),
+    threads: &(impl Threads + Wait + Sync),
     alloc: Global,
     numbers: &[u64],
 ) -> Result<Vec<u64>, NoMemory> {
@@ -19,7 +20,7 @@ fn doubled(
 }
 
 /// 1 if `rayon` collects the same of 5,000 numbers in their order.
-fn is_the_same(threads: &(impl Threads + Sync), alloc: Global) -> Told {
+fn is_the_same(threads: &(impl Threads + Wait + Sync), alloc: Global) -> Told {
     let numbers = numbers_to(alloc, 5_000)?;
     let wanted = doubled(threads, alloc, &numbers)?;
     let work = Doubling { most: u64::MAX };

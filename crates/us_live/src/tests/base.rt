@@ -4,6 +4,7 @@ ghost use Rattle.us_live.specs.Lives.{Feeds};
 use crate::{Live, LiveFault};
 use std::alloc::{AllocError, Global};
 use std::process::Abort;
+use std::sync::Wait;
 use std::thread::Threads;
 use us_codec::Map;
 use us_crew::Gate;
@@ -63,7 +64,7 @@ pub(super) fn open(
 }
 
 /// The next round: where the elements of its one MAP start, or 0 where it has several.
-pub(super) fn next<H: Threads + Sync, G: Gate + Sync>(
+pub(super) fn next<H: Threads + Wait + Sync, G: Gate + Sync>(
     threads: &H,
     alloc: Global,
     live: &mut Live,

@@ -3,6 +3,7 @@ ghost use Rattle.us_live.specs.Lives.{Feeds};
 use super::base::{Told, next, open, same};
 use crate::{Live, LiveFault};
 use std::alloc::Global;
+use std::sync::Wait;
 use std::thread::Threads;
 use us_crew::OpenGate;
 use us_intake::{Intake, Seat};
@@ -11,7 +12,7 @@ use us_intake::{Intake, Seat};
 const FIRST: u64 = 32_150_160;
 
 /// Two rounds of a scheduler that has as many, each by one worker.
-fn two_rounds<H: Threads + Sync>(
+fn two_rounds<H: Threads + Wait + Sync>(
     threads: &H,
     alloc: Global,
     live: &mut Live,
@@ -31,7 +32,7 @@ fn two_rounds<H: Threads + Sync>(
 
 /// A seat that was split off submits 1,000 bytes of the first word, and isn't joined. Then both rounds of a scheduler are
 /// made.
-fn life<H: Threads + Sync>(threads: &H, alloc: Global, channels: u8) -> Told {
+fn life<H: Threads + Wait + Sync>(threads: &H, alloc: Global, channels: u8) -> Told {
     let (mut live, intake, seat) = open(alloc, channels, 2)?;
     match intake.split(alloc, seat, 4_000) {
         Ok((mut first, mut second)) => {

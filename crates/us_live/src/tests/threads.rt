@@ -5,6 +5,7 @@ ghost use Rattle.us_live.specs.Lives.{Feeds};
 use super::base::{Told, next, open, same};
 use crate::{Live, LiveFault};
 use std::alloc::Global;
+use std::sync::Wait;
 use std::thread::{Threads, join};
 use us_crew::OpenGate;
 use us_intake::{Intake, Seat};
@@ -19,7 +20,7 @@ fn submit_all(intake: &Intake, mut seat: Seat)
 }
 
 /// Makes 19 rounds.
-fn make_all<R: Threads + Sync>(
+fn make_all<R: Threads + Wait + Sync>(
     rt: &R,
     alloc: Global,
     mut live: Live,
@@ -45,7 +46,7 @@ fn logged(log: &[Vec<u64>]) -> (u64, u64) {
 }
 
 /// One thread makes rounds while another submits, and one more once all is submitted. Tells of the log.
-fn run<R: Threads + Sync>(
+fn run<R: Threads + Wait + Sync>(
     rt: &R,
     alloc: Global,
     live: Live,
@@ -72,7 +73,7 @@ fn run<R: Threads + Sync>(
 /// The most rounds that a scheduler of rounds of 320 ticks has.
 const ROUNDS: u32 = 209_715;
 
-fn life<R: Threads + Sync>(rt: &R, alloc: Global) -> Told {
+fn life<R: Threads + Wait + Sync>(rt: &R, alloc: Global) -> Told {
     let (live, intake, seat) = open(alloc, 1, ROUNDS)?;
     match intake.split(alloc, seat, 4_000) {
         Ok((first, second)) => Ok(run(rt, alloc, live, &intake, first, second)),

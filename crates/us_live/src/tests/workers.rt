@@ -3,6 +3,7 @@ ghost use Rattle.std.specs.Prelude.{⊤};
 use super::base::{Told, next, open, same};
 use crate::LiveFault;
 use std::alloc::Global;
+use std::sync::Wait;
 use std::sync::atomic::{AtomicU64, AtomicUsize, Ordering};
 use std::thread::{Threads, yield_now};
 use us_crew::{Gate, Phase};
@@ -47,7 +48,7 @@ impl Gate for Meeting {
 }
 
 /// A round of 16 channels.
-fn round_of_all<H: Threads + Sync>(
+fn round_of_all<H: Threads + Wait + Sync>(
     threads: &H,
     alloc: Global,
     workers: usize,
@@ -58,7 +59,12 @@ fn round_of_all<H: Threads + Sync>(
 }
 
 /// What is counted in it.
-fn counted<H: Threads + Sync>(threads: &H, alloc: Global, workers: usize, turns: u64) -> Told {
+fn counted<H: Threads + Wait + Sync>(
+    threads: &H,
+    alloc: Global,
+    workers: usize,
+    turns: u64,
+) -> Told {
     let gate = Meeting {
         turns,
         came: AtomicUsize::new(0),

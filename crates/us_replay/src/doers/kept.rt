@@ -1,4 +1,4 @@
-ghost use Rattle.std.specs.Prelude.{◌≡◌, ◌-◌, min, IfOk, Ok, vec_len};
+ghost use Rattle.std.specs.Prelude.{◌≡◌, min, IfOk, Ok};
 ghost use Rattle.us_flows.specs.Tables.{Tables};
 ghost use Rattle.us_crew.specs.declared.gates.Phase.TheVariants as phase;
 ghost use Rattle.us_crew.specs.Items.{AreAccepted};
@@ -8,123 +8,42 @@ ghost use Rattle.us_replay.specs.Collecting.{CanGather, seat_after_asks};
 
 use super::Doers;
 use super::alone::gather_alone;
-use super::placing::{Laden, Placing, laden, unladen};
 use crate::collecting::{Chunk, Submitting, join_all, split_all};
 use std::alloc::Global;
-use us_crew::{Crew, CrewFault, First, Gate, OneOf, Only, Phase, Post, Second, Task, map_kept};
-use us_flows::Config;
+use std::sync::Wait;
+use us_crew::{Crew, CrewFault, Gate, Mailboxes, Phase, map_kept};
 use us_intake::{Intake, IntakeFault, Seat};
 use us_output::ChannelWithText;
 use us_requests::Ask;
-use us_round::{Building, Filling, Hands};
+use us_round::{Answered, Building, Crewed, Filling, Hands};
 use us_slots::NoMemory;
-use us_split::Claim;
 
-/// What a worker is given to do in each of the phases.
-type Doing<'a, G> = OneOf<
-    Task<Submitting<'a>, &'a G, Chunk<'a>>,
-    OneOf<Task<Filling<'a>, &'a G, ChannelWithText>, Task<Placing, &'a G, Laden>>,
->;
+/// Where workers find asks to submit.
+pub(crate) type CollectMail<'a, G> = Mailboxes<Submitting<'a>, &'a G, Chunk<'a>, Seat, IntakeFault>;
 
-/// What is answered for the items of a task.
-type Answered<R, E> = Result<Vec<R>, CrewFault<E>>;
-
-/// What a worker answers.
-type Done = OneOf<
-    Answered<Seat, IntakeFault>,
-    OneOf<Answered<ChannelWithText, NoMemory>, Answered<Laden, NoMemory>>,
->;
-
-/// Where the workers stand.
-pub(crate) type Posts<'a, G> = Vec<Post<Doing<'a, G>, Done>>;
-
-/// Workers that are kept for a whole run, each of whom enters the gate before each item. They borrow the configuration of
-/// the replay, which outlives every state.
+/// The workers of a crew that is kept for a whole run, each of whom enters the gate before each item.
 #[derive(Drop)]
-pub(crate) struct Kept<'a, G: Gate> {
-    alloc: Global,
-    crew: Crew<Doing<'a, G>, Done>,
-    config: &'a Config,
-    gate: &'a G,
-
-    // in which claims go to workers
-    lists: Vec<Vec<Claim>>,
+pub(crate) struct Kept<'a, 'b, H, G: Gate> {
+    pub(crate) crew: &'b Crew<'b, H>,
+    pub(crate) workers: usize,
+    pub(crate) gate: &'a G,
+    pub(crate) collects: &'b CollectMail<'a, G>,
+    pub(crate) hands: Crewed<'a, 'b, H, G>,
 }
 
-/// Workers to be kept, so many with the calling thread, and their posts.
-pub(crate) fn open_crew<'a, G: Gate>(
-    alloc: Global,
-    config: &'a Config,
-    gate: &'a G,
-    workers: usize,
-) -> Result<(Kept<'a, G>, Posts<'a, G>), NoMemory>
-    ensures config { IfOk result (λ opened. opened.0.config.now ≡ config.now) }
-    ensures crew { IfOk result (λ opened. vec_len opened.0.crew.lines ≡ workers - 1) }
-    ensures posts { IfOk result (λ opened. vec_len opened.1 ≡ workers - 1) }
-{
-    let (crew, posts) = Crew::open(alloc, workers)?;
-    let kept = Kept {
-        alloc,
-        crew,
-        config,
-        gate,
-        lists: Vec::new(alloc),
-    };
-    Ok((kept, posts))
-}
+impl<'a, 'b, H: Wait, G: Gate> Hands for Kept<'a, 'b, H, G> {
+    ghost knows = { λ kept t. kept.hands.config.now ≡ t };
 
-impl<'a, G: Gate> Hands for Kept<'a, G> {
-    ghost knows = { λ kept t. kept.config.now ≡ t };
-
-    fn fill(
-        &mut self,
-        work: &Filling<'_>,
-        channels: Vec<ChannelWithText>,
-    ) -> Result<Vec<ChannelWithText>, NoMemory>
-        requires known { self.old.config.now ≡ work.now.config.now }
-        requires ready { AreAccepted (G.entered self.old.gate.now phase.Fill) (CanFill work.now) channels.items }
-        ensures value { IfOk result (λ all. all.items ≡ values_of (filled_at work.now) channels.items) }
-        ensures same { (t : Tables) → self.old.config.now ≡ t → self.new.config.now ≡ t }
-    {
-        let own = Filling {
-            config: self.config,
-            round: work.round,
-        };
-        answers(map_kept(
-            &mut self.crew,
-            Second(First),
-            self.alloc,
-            own,
-            Phase::Fill,
-            channels,
-            self.gate,
-        ))
+    fn fill(&mut self, work: &Filling<'_>, channels: Vec<ChannelWithText>) -> Answered {
+        self.hands.fill(work, channels)
     }
 
-    fn build(
-        &mut self,
-        work: &Building<'_>,
-        channels: Vec<ChannelWithText>,
-    ) -> Result<Vec<ChannelWithText>, NoMemory>
-        requires claims { AreAccepted (G.entered self.old.gate.now phase.Build) (CanBuild work.now) channels.items }
-        ensures value { IfOk result (λ all. all.items ≡ values_of (built_at work.now) channels.items) }
-        ensures same { (t : Tables) → self.old.config.now ≡ t → self.new.config.now ≡ t }
-    {
-        let items = laden(self.alloc, work, channels, &mut self.lists)?;
-        let all = answers(map_kept(
-            &mut self.crew,
-            Second(Second(Only)),
-            self.alloc,
-            Placing { round: work.round },
-            Phase::Build,
-            items,
-            self.gate,
-        ))?;
-        unladen(self.alloc, all, &mut self.lists)
+    fn build(&mut self, work: &Building<'_>, channels: Vec<ChannelWithText>) -> Answered {
+        self.hands.build(work, channels)
     }
 }
 
-impl<'a, G: Gate> Doers<'a> for Kept<'a, G> {
+impl<'a, 'b, H: Wait, G: Gate> Doers<'a> for Kept<'a, 'b, H, G> {
     fn gather(
         &mut self,
         alloc: Global,
@@ -134,17 +53,17 @@ impl<'a, G: Gate> Doers<'a> for Kept<'a, G> {
     ) -> Result<Seat, NoMemory>
         requires { CanGather intake.now seat asks.now }
         ensures seat { IfOk result (λ after. after ≡ seat_after_asks seat asks.now) }
-        ensures same { (t : Tables) → self.old.config.now ≡ t → self.new.config.now ≡ t }
+        ensures same { (t : Tables) → self.old.hands.config.now ≡ t → self.new.hands.config.now ≡ t }
     {
-        let parts = chunks_for(asks.len(), self.crew.workers() + 1);
-        if parts == 1 {
+        let parts = chunks_for(asks.len(), self.workers);
+        if parts < 2 {
             return Ok(gather_alone(intake, seat, asks, self.gate));
         }
         let (seat, chunks) = split_all(alloc, intake, seat, asks, parts)?;
         let work = Submitting { intake };
         let seats = answers(map_kept(
-            &mut self.crew,
-            First,
+            self.crew,
+            self.collects,
             alloc,
             work,
             Phase::Collect,
@@ -164,7 +83,7 @@ fn chunks_for(asks: usize, workers: usize) -> usize
 }
 
 /// The answers for all items, or want of memory.
-fn answers<R: Drop, E: Drop>(answered: Answered<R, E>) -> Result<Vec<R>, NoMemory>
+fn answers<R: Drop, E: Drop>(answered: Result<Vec<R>, CrewFault<E>>) -> Result<Vec<R>, NoMemory>
     ensures { IfOk result (λ all. answered ≡ Ok all) }
 {
     match answered {

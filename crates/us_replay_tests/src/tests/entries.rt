@@ -5,6 +5,7 @@ use super::devices::{reader, writer};
 use super::replays::outcome;
 use std::alloc::{AllocError, Global};
 use std::process::Abort;
+use std::sync::Wait;
 use std::sync::atomic::{AtomicU64, Ordering};
 use std::thread::Threads;
 use us_crew::{Gate, Phase};
@@ -78,7 +79,7 @@ static ENTRIES: [(&[u8], usize, Entries); 8] = [
 
 /// Replays a trace over so many rounds of the bonded run's tables.
 pub(super) fn replay_past(
-    threads: &(impl Threads + Sync),
+    threads: &(impl Threads + Wait + Sync),
     alloc: Global,
     trace: &[u8],
     rounds: u32,

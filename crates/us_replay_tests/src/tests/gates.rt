@@ -5,6 +5,7 @@ use super::entries::{replay_past, requests};
 use super::workers::{BONDED_OUTCOME, expect};
 use std::alloc::Global;
 use std::process::Abort;
+use std::sync::Wait;
 use std::sync::atomic::{AtomicBool, AtomicUsize, Ordering};
 use std::thread::{Threads, yield_now};
 use us_crew::{Gate, Phase};
@@ -80,7 +81,7 @@ impl Gate for Meeting {
 
 /// How many items of each phase the gate is entered for in the bonded run, and whether two workers met there.
 fn enter(
-    rt: &(impl Abort + Threads + Sync),
+    rt: &(impl Abort + Threads + Wait + Sync),
     alloc: Global,
     workers: usize,
     turns: u64,

@@ -3,6 +3,7 @@ use super::devices::{FakeWriter, reader, short_writer, stuck_writer, writer};
 use super::replays::{Outcome, outcome};
 use std::alloc::Global;
 use std::process::Abort;
+use std::sync::Wait;
 use std::thread::Threads;
 use us_crew::OpenGate;
 use us_replay::{RunFault, Summary};
@@ -47,7 +48,7 @@ U,0,0,0
 
 /// Compares what the run over 5 rounds comes to on these writers with an outcome, for several numbers of workers.
 fn expect(
-    rt: &(impl Abort + Threads + Sync),
+    rt: &(impl Abort + Threads + Wait + Sync),
     alloc: Global,
     maps: FakeWriter,
     report: FakeWriter,

@@ -4,6 +4,7 @@ use super::replays::{Outcome, outcome};
 use super::workers::BONDED_OUTCOME;
 use std::alloc::Global;
 use std::process::Abort;
+use std::sync::Wait;
 use std::thread::Threads;
 use us_crew::OpenGate;
 use us_flows::ConfigFault;
@@ -30,7 +31,7 @@ fn refused(fault: RunFault, ends: usize) -> Option<Outcome> {
 
 /// Compares what the bonded run by so many workers comes to with the whole outcome, or where memory was refused with that
 /// of its fault.
-fn expect(rt: &(impl Abort + Threads + Sync), alloc: Global, workers: usize) {
+fn expect(rt: &(impl Abort + Threads + Wait + Sync), alloc: Global, workers: usize) {
     let config = match bonded(alloc) {
         Ok(config) => config,
         Err(fault) => {

@@ -2,6 +2,7 @@ use super::base::{MAPS, REPORT, TRACE, base, same};
 use super::devices::{FakeReader, FakeWriter, reader, short_writer, stuck_writer, writer};
 use std::alloc::Global;
 use std::process::Abort;
+use std::sync::Wait;
 use std::thread::Threads;
 use us_crew::{Gate, OpenGate};
 use us_flows::Config;
@@ -41,7 +42,7 @@ fn deeds(writer: FromWrite<FakeWriter>) -> Deeds {
 
 /// A replay of so many rounds by so many workers on these devices.
 pub(super) fn outcome(
-    threads: &(impl Threads + Sync),
+    threads: &(impl Threads + Wait + Sync),
     alloc: Global,
     config: &Config,
     rounds: u32,
@@ -76,7 +77,7 @@ pub(super) fn outcome(
 
 /// Compares what a replay of the base configuration on these devices comes to with an outcome.
 fn expect(
-    rt: &(impl Abort + Threads + Sync),
+    rt: &(impl Abort + Threads + Wait + Sync),
     alloc: Global,
     trace: FakeReader<'_>,
     maps: FakeWriter,

@@ -3,6 +3,7 @@ use super::devices::{reader, writer};
 use super::replays::{Deeds, Outcome, outcome};
 use std::alloc::Global;
 use std::process::Abort;
+use std::sync::Wait;
 use std::thread::Threads;
 use us_crew::{Gate, OpenGate};
 use us_replay::{RunFault, Summary};
@@ -24,7 +25,7 @@ pub(super) const BONDED_OUTCOME: Outcome = (
 
 /// Compares what the bonded run by so many workers comes to with an outcome.
 pub(super) fn expect(
-    rt: &(impl Abort + Threads + Sync),
+    rt: &(impl Abort + Threads + Wait + Sync),
     alloc: Global,
     workers: usize,
     gate: &(impl Gate + Sync),

@@ -2,6 +2,7 @@ use super::base::{Case, compare, config_of, next_round, same};
 use super::rounds::BONDED;
 use crate::{RoundFault, State};
 use std::alloc::Global;
+use std::sync::Wait;
 use std::test::Fail;
 use std::thread::Threads;
 use us_crew::OpenGate;
@@ -129,7 +130,7 @@ fn rounds_with_marks(rt: HostRuntime) -> Result<(), Fail> {
 
 /// What is outstanding after a round with this cut, from round 0 on.
 fn left_of(
-    threads: &(impl Threads + Sync),
+    threads: &(impl Threads + Wait + Sync),
     alloc: Global,
     case: &Case<'_>,
     cut: &[u64],

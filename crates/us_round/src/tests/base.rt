@@ -4,6 +4,7 @@ ghost use Rattle.std.specs.List.{AllByRecursion};
 use crate::{RoundFault, RoundOut, Row, State, round};
 use std::alloc::{AllocError, Global};
 use std::process::Abort;
+use std::sync::Wait;
 use std::thread::Threads;
 use us_codec::Map;
 use us_crew::{Gate, OpenGate};
@@ -42,7 +43,7 @@ pub(super) struct Case<'a> {
 
 /// Makes the run of each case with one worker, and compares what is answered.
 pub(super) fn compare(
-    rt: &(impl Abort + Threads + Sync),
+    rt: &(impl Abort + Threads + Wait + Sync),
     alloc: Global,
     cases: &[Case<'_>],
 ) -> Result<(), AllocError> {
@@ -55,7 +56,7 @@ pub(super) fn compare(
 
 /// What is answered: of each round its first grants, how many there are, and how many elements and pendings each MAP
 /// has; then the first final lines. A fault stands behind what was answered before it.
-pub(super) fn answer_of<H: Threads + Sync, G: Gate + Sync>(
+pub(super) fn answer_of<H: Threads + Wait + Sync, G: Gate + Sync>(
     threads: &H,
     alloc: Global,
     case: &Case<'_>,
@@ -122,7 +123,7 @@ fn cut_of(alloc: Global, case: &Case<'_>, number: u32, words: usize) -> Result<V
 }
 
 /// Makes the rounds of a case. What can only be wrong with the case is said to be want of memory.
-fn run<H: Threads + Sync, G: Gate + Sync>(
+fn run<H: Threads + Wait + Sync, G: Gate + Sync>(
     threads: &H,
     alloc: Global,
     answer: &mut String,
@@ -149,7 +150,7 @@ fn run<H: Threads + Sync, G: Gate + Sync>(
 }
 
 /// The round of a state, if it may be made.
-pub(super) fn next_round<H: Threads + Sync, G: Gate + Sync>(
+pub(super) fn next_round<H: Threads + Wait + Sync, G: Gate + Sync>(
     threads: &H,
     alloc: Global,
     state: State,

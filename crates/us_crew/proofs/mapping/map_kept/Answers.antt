@@ -1,0 +1,19 @@
+use Rattle.std.proofs.Common.{rules, ◌+◌, ◌<◌, ◌^◌, vec_len}
+use Rattle.us_crew.proofs.PlaceLemmas.{each-of_places, tells-sound, tells-first, tells-workers}
+use Rattle.us_crew.proofs.FunctionLemmas.{tells-named}
+use Rattle.us_crew.proofs.mapping.map_kept.Goals as goal
+
+pub in_parts-requires : goal.in_parts-requires
+in_parts-requires g c = let room : 0 + vec_len c.args.items < 2 ^ 64 = search rules in (room, each-of_places _ _ c.requires)
+
+pub returns-clause-sound : goal.returns-clause-sound
+returns-clause-sound g c = tells-sound _ _ _ _ _ _ c.in_parts.ensures
+
+pub returns-clause-first : goal.returns-clause-first
+returns-clause-first g c = tells-first _ _ _ _ _ _ c.in_parts.ensures
+
+pub returns-clause-named : goal.returns-clause-named
+returns-clause-named g c = λ fault_of are. tells-named fault_of _ _ are _ _ _ _ c.in_parts.ensures
+
+pub returns-clause-workers : goal.returns-clause-workers
+returns-clause-workers g c = tells-workers _ _ _ _ _ _ c.in_parts.ensures

@@ -1,0 +1,87 @@
+use super::progress::Progress;
+use super::run_by;
+use crate::doers::{CollectMail, Kept};
+use crate::faults::RunFault;
+use crate::summaries::Summary;
+use std::alloc::Global;
+use std::sync::Wait;
+use us_crew::{Beside, Crew, Gate};
+use us_flows::Config;
+use us_requests::Trace;
+use us_round::{BuildMail, Crewed, FillMail};
+use us_slots::Sink;
+
+/// The replay of a trace by a crew, and where its workers look for what is to be done.
+#[derive(Drop)]
+pub(super) struct WholeRun<'a, 'b, 'm, 'r, G: Gate, W1, W2> {
+    pub(super) alloc: Global,
+    pub(super) config: &'a Config,
+    pub(super) trace: &'a Trace,
+    pub(super) progress: Progress<'a>,
+    pub(super) workers: usize,
+    pub(super) gate: &'a G,
+    pub(super) collects: &'b CollectMail<'a, G>,
+    pub(super) fills: &'b FillMail<'a, G>,
+    pub(super) builds: &'b BuildMail<'a, G>,
+    pub(super) maps: &'m mut W1,
+    pub(super) report: &'r mut W2,
+}
+
+impl<'a, 'b, 'm, 'r, H: Wait, G: Gate, W1: Sink, W2: Sink> Beside<H>
+    for WholeRun<'a, 'b, 'm, 'r, G, W1, W2> {
+    ghost use Rattle.std.specs.Prelude.{◌≡◌, true, false, length, OnOk, is_ok};
+    ghost use Rattle.us_flows.specs.Clusters.{words_of};
+    ghost use Rattle.us_replay.specs.Endings.{blames_maps, blames_report};
+    ghost use Rattle.us_replay.specs.Progress.{EndsAs, IsTraceFor, grown, opening_progress};
+
+    // How it ended, and the writers.
+    type Output = (Result<Summary, RunFault>, &'m mut W1, &'r mut W2);
+
+    ghost can_run = { λ t. IsTraceFor t.config.now t.trace.now
+        × (t.progress ≡ opening_progress (length (words_of t.config.now)))
+        × (W1.failed t.maps.now ≡ false) × (W2.failed t.report.now ≡ false) };
+
+    ghost gives = { λ t r. (r.1.ghost_name ≡ t.maps.ghost_name) × (r.2.ghost_name ≡ t.report.ghost_name)
+        × EndsAs t.config.now t.trace.now (grown (W1.contents t.maps.now) (W1.contents r.1.now))
+        (grown (W2.contents t.report.now) (W2.contents r.2.now)) r.0
+        × (W1.failed r.1.now ≡ blames_maps r.0) × (W2.failed r.2.now ≡ blames_report r.0)
+        × OnOk r.0 ((W1.flushed r.1.now ≡ true) × (W2.flushed r.2.now ≡ true))
+        × (W1.failed r.1.now ≡ true → W1.flushed r.1.now ≡ false)
+        × (W2.failed r.2.now ≡ true → W2.flushed r.2.now ≡ false)
+        × (W1.flushed t.maps.now ≡ false → blames_report r.0 ≡ false → W1.flushed r.1.now ≡ is_ok r.0)
+        × (W2.flushed t.report.now ≡ false → W2.flushed r.2.now ≡ is_ok r.0) };
+
+    fn run(self, crew: &Crew<'_, H>) -> (Result<Summary, RunFault>, &'m mut W1, &'r mut W2) {
+        let WholeRun {
+            alloc,
+            config,
+            trace,
+            mut progress,
+            workers,
+            gate,
+            collects,
+            fills,
+            builds,
+            maps,
+            report,
+        } = self;
+        let hands = Crewed::new(alloc, crew, config, gate, fills, builds, true);
+        let mut doers = Kept {
+            crew,
+            workers,
+            gate,
+            collects,
+            hands,
+        };
+        let ended = run_by(
+            alloc,
+            config,
+            trace,
+            &mut progress,
+            &mut doers,
+            maps,
+            report,
+        );
+        (ended, maps, report)
+    }
+}

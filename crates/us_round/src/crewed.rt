@@ -1,0 +1,130 @@
+ghost use Rattle.std.specs.Prelude.{◌≡◌, IfOk, Ok};
+ghost use Rattle.us_flows.specs.Tables.{Tables};
+ghost use Rattle.us_crew.specs.declared.gates.Phase.TheVariants as phase;
+ghost use Rattle.us_crew.specs.Items.{AreAccepted};
+ghost use Rattle.us_crew.specs.Values.{values_of};
+ghost use Rattle.us_round.specs.Hands.{CanBuild, CanFill, built_at, filled_at};
+
+use crate::hands::{Answered, Building, Filling, Hands};
+use crate::placing::{Laden, Placing, laden, unladen};
+use std::alloc::Global;
+use std::sync::Wait;
+use us_crew::{Crew, CrewFault, Gate, Mailboxes, Phase, map_kept};
+use us_flows::Config;
+use us_output::ChannelWithText;
+use us_slots::NoMemory;
+use us_split::Claim;
+
+/// Where the workers of a crew find channels in phase `Fill`.
+pub type FillMail<'a, G> = Mailboxes<
+    Filling<'a>,
+    &'a G,
+    ChannelWithText,
+    ChannelWithText,
+    NoMemory,
+>;
+
+/// Where they find them in phase `Build`.
+pub type BuildMail<'a, G> = Mailboxes<Placing, &'a G, Laden, Laden, NoMemory>;
+
+/// The workers of a crew, each of whom does channels that stand side by side, and enters the gate before each. They
+/// borrow the configuration, which outlives every state.
+#[derive(Drop)]
+pub struct Crewed<'a, 'm, H, G: Gate> {
+    alloc: Global,
+    crew: &'m Crew<'m, H>,
+    config: &'a Config,
+    gate: &'a G,
+    fills: &'m FillMail<'a, G>,
+    builds: &'m BuildMail<'a, G>,
+    writes_ahead: bool,
+
+    // in which claims go to workers
+    lists: Vec<Vec<Claim>>,
+}
+
+impl<'a, 'm, H, G: Gate> Crewed<'a, 'm, H, G> {
+    /// Hands that find channels of this configuration in this mail. Where they write ahead, they do with the texts of a
+    /// round what needs one channel alone.
+    pub fn new(
+        alloc: Global,
+        crew: &'m Crew<'m, H>,
+        config: &'a Config,
+        gate: &'a G,
+        fills: &'m FillMail<'a, G>,
+        builds: &'m BuildMail<'a, G>,
+        writes_ahead: bool,
+    ) -> Crewed<'a, 'm, H, G>
+        ensures config { result.config.now ≡ config.now }
+        ensures gate { result.gate.now ≡ gate.now }
+    {
+        Crewed {
+            alloc,
+            crew,
+            config,
+            gate,
+            fills,
+            builds,
+            writes_ahead,
+            lists: Vec::new(alloc),
+        }
+    }
+}
+
+impl<'a, 'm, H: Wait, G: Gate> Hands for Crewed<'a, 'm, H, G> {
+    ghost knows = { λ hands t. hands.config.now ≡ t };
+
+    fn fill(&mut self, work: &Filling<'_>, channels: Vec<ChannelWithText>) -> Answered
+        requires known { self.old.config.now ≡ work.now.config.now }
+        requires ready { AreAccepted (G.entered self.old.gate.now phase.Fill) (CanFill work.now) channels.items }
+        ensures value { IfOk result (λ all. all.items ≡ values_of (filled_at work.now) channels.items) }
+        ensures same { (t : Tables) → self.old.config.now ≡ t → self.new.config.now ≡ t }
+    {
+        let own = Filling {
+            config: self.config,
+            round: work.round,
+        };
+        answers(map_kept(
+            self.crew,
+            self.fills,
+            self.alloc,
+            own,
+            Phase::Fill,
+            channels,
+            self.gate,
+        ))
+    }
+
+    fn build(&mut self, work: &Building<'_>, channels: Vec<ChannelWithText>) -> Answered
+        requires claims { AreAccepted (G.entered self.old.gate.now phase.Build) (CanBuild work.now) channels.items }
+        ensures value { IfOk result (λ all. all.items ≡ values_of (built_at work.now) channels.items) }
+        ensures same { (t : Tables) → self.old.config.now ≡ t → self.new.config.now ≡ t }
+    {
+        let items = laden(self.alloc, work, channels, &mut self.lists)?;
+        let text_of = if self.writes_ahead {
+            Some(work.round)
+        } else {
+            None
+        };
+        let all = answers(map_kept(
+            self.crew,
+            self.builds,
+            self.alloc,
+            Placing { text_of },
+            Phase::Build,
+            items,
+            self.gate,
+        ))?;
+        unladen(self.alloc, all, &mut self.lists)
+    }
+}
+
+/// What workers answered for all items, or want of memory.
+fn answers<R: Drop>(answered: Result<Vec<R>, CrewFault<NoMemory>>) -> Result<Vec<R>, NoMemory>
+    ensures { IfOk result (λ all. answered ≡ Ok all) }
+{
+    match answered {
+        Ok(all) => Ok(all),
+        Err(_) => Err(NoMemory),
+    }
+}
