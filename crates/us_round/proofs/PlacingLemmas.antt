@@ -19,7 +19,9 @@ behind : {X : Type 0} (xs : List X) (k : ℕ) (x : X) (rest : List X) → drop k
 behind [] zero x rest h = let no : [] ≡ x ∷ rest = h in cc
 behind [] (suc k) x rest h = let no : [] ≡ x ∷ rest = h in cc
 behind (y ∷ ys) zero x rest h = let same : ys ≡ rest = cc in same
-behind (y ∷ ys) (suc k) x rest h = behind ys k x rest h
+behind (y ∷ ys) (suc k) x rest h =
+    let next : suc k + 1 ≡ suc (k + 1) = omega arith in
+    ap (λ i. drop i (y ∷ ys)) next ∙ behind ys k x rest h
 
 module _ {I B Z : Type 0} (value : I → Z) (can : I → Type 0) (value_at : ℕ → B → Z) (can_at : ℕ → B → Type 0) where
   -- what is made may be used where that may which it is made of
@@ -90,3 +92,9 @@ pub said-else : {A E : Type 0} (result : Result A E) (P Q : A → Type 0) → ((
     IfOk result Q
 said-else (Err given) P Q so holds = tt
 said-else (Ok a) P Q so holds = so a holds
+
+-- what was answered, passed on with another fault
+pub passed : {A E F : Type 0} (answered : Result A E) (result : Result A F) (P : A → Type 0) →
+    IfOk result (λ all. answered ≡ Ok all) → IfOk answered P → IfOk result P
+passed answered (Err given) P same holds = tt
+passed answered (Ok all) P same holds = subst (λ r. IfOk r P) same holds

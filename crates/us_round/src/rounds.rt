@@ -66,17 +66,13 @@ pub fn round<H: Threads + Wait + Sync, G: Gate + Sync>(
         return Err(RoundFault::Workers);
     }
     let helpers = workers.min(state.channels()).saturating_sub(1);
-    let done = if helpers == 0 {
-        step(state, cuts, &mut Alone { gate })?
-    } else {
-        step_by_crew(threads, alloc, state, cuts, helpers, gate)?
-    };
+    let done = step_with(threads, alloc, state, cuts, helpers, gate)?;
     let out = done.out(alloc)?;
     Ok((done.into_state(), out))
 }
 
-/// The same by a crew with so many helpers.
-fn step_by_crew<H: Threads + Wait + Sync, G: Gate + Sync>(
+/// The same by so many helpers and the calling thread, which needs no crew where it is alone.
+fn step_with<H: Threads + Wait + Sync, G: Gate + Sync>(
     threads: &H,
     alloc: Global,
     state: State,
@@ -87,20 +83,38 @@ fn step_by_crew<H: Threads + Wait + Sync, G: Gate + Sync>(
     requires { CanMake state cuts.now }
     ensures { IfOk result (IsMade state cuts.now) }
 {
+    if helpers == 0 {
+        return step(state, cuts, &mut Alone { gate });
+    }
     let config = state.share_config()?;
     let fills = Mailboxes::open(alloc, helpers)?;
     let builds = Mailboxes::open(alloc, helpers)?;
-    let (fills, builds) = (&fills, &builds);
-    let task = OneRound {
-        alloc,
-        state,
-        cuts,
-        config: config.get(),
-        gate,
-        fills,
-        builds,
-    };
-    with_crew(threads, helpers, &(fills, builds), task)
+    step_by_crew(
+        threads,
+        helpers,
+        OneRound {
+            alloc,
+            state,
+            cuts,
+            config: config.get(),
+            gate,
+            fills: &fills,
+            builds: &builds,
+        },
+    )
+}
+
+/// The same by a crew with so many helpers, who find the channels in the round's mail.
+fn step_by_crew<H: Threads + Wait + Sync, G: Gate + Sync>(
+    threads: &H,
+    helpers: usize,
+    task: OneRound<'_, '_, G>,
+) -> Result<RoundDone, NoMemory>
+    requires { CanMake task.state task.cuts.now × (task.config.now ≡ task.state.tables) }
+    ensures { IfOk result (IsMade task.entry.state task.entry.cuts.now) }
+{
+    let mail = (task.fills, task.builds);
+    with_crew(threads, helpers, &mail, task)
 }
 
 /// Schedules the round of a state as `round` does, of which `hands` do the channels. What it gives is told of the answer: as

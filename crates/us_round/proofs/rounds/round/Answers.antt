@@ -26,12 +26,6 @@ returns-clause-few g c =
     c.in_ok-done.ensures.value c.into_state.ensures c.in_ok-out.ensures.out c.in_ok-out.ensures.limits
     c.in_ok-done.ensures.few
 
-pub step-requires-clause-hands : goal.step-requires-clause-hands
-step-requires-clause-hands g c = (
-  (λ work channels ready. (((λ place item is entered. ready place item is tt), search (sendable, rules)), λ answered told. told.1)),
-  (λ work channels ready. (((λ place item is entered. ready place item is tt), search (sendable, rules)), λ answered told. told.1)),
-)
-
 pub returns-clause-workers : goal.returns-clause-workers
 returns-clause-workers g c = (
   (λ same. absurd (cc same)),

@@ -18,28 +18,28 @@ allow-requires-clause-places c =
     let a = c.as_mut.result.now in
     let kept = kept_too a c.self.inside.kept.value c.as_mut.ensures.value c.self.invariant in
     askers_inside a.config c.turns-turns.result.now a.askers.outstanding (numbers_of (turns_of a.askers.tables))
-    c.asking-asking.result.now c.turns-turns.ensures.value (ap (λ t. numbers_of (turns_of t)) kept.tables) c.asking-asking.ensures
+    c.asking-asking.result.now (rw c.get.ensures at c.turns-turns.ensures.value) (ap (λ t. numbers_of (turns_of t)) kept.tables) c.asking-asking.ensures
 
 pub allow-requires-clause-flows : goal.allow-requires-clause-flows
 allow-requires-clause-flows c =
     let a = c.as_mut.result.now in
     let kept = kept_too a c.self.inside.kept.value c.as_mut.ensures.value c.self.invariant in
     subst (λ n. AllByRecursion (λ turn. turn.flow < n) c.turns-turns.result.now) (sym kept.buckets.flows)
-    (flows_inside a.config c.turns-turns.result.now (turns_of a.config) c.turns-turns.ensures.value)
+    (flows_inside a.config c.turns-turns.result.now (turns_of a.config) (rw c.get.ensures at c.turns-turns.ensures.value))
 
 pub reserve-requires-clause-places : goal.reserve-requires-clause-places
 reserve-requires-clause-places c =
     let a = c.as_mut.result.now in
     let kept = kept_too a c.self.inside.kept.value c.as_mut.ensures.value c.self.invariant in
     askers_inside a.config c.turns-turns.result.now a.askers.outstanding (numbers_of (turns_of a.askers.tables))
-    c.asking-asking.result.now c.turns-turns.ensures.value (ap (λ t. numbers_of (turns_of t)) kept.tables) c.asking-asking.ensures
+    c.asking-asking.result.now (rw c.get.ensures at c.turns-turns.ensures.value) (ap (λ t. numbers_of (turns_of t)) kept.tables) c.asking-asking.ensures
 
 pub reserve-requires-clause-flows : goal.reserve-requires-clause-flows
 reserve-requires-clause-flows c =
     let a = c.as_mut.result.now in
     let kept = kept_too a c.self.inside.kept.value c.as_mut.ensures.value c.self.invariant in
     subst (λ n. AllByRecursion (λ turn. turn.flow < n) c.turns-turns.result.now) (sym kept.reserves.flows)
-    (flows_inside a.config c.turns-turns.result.now (turns_of a.config) c.turns-turns.ensures.value)
+    (flows_inside a.config c.turns-turns.result.now (turns_of a.config) (rw c.get.ensures at c.turns-turns.ensures.value))
 
 pub reserve-requires-clause-room : goal.reserve-requires-clause-room
 reserve-requires-clause-room c =
@@ -60,14 +60,14 @@ leave-requires-clause-places c =
     let a = c.as_mut.result.now in
     let kept = kept_too a c.self.inside.kept.value c.as_mut.ensures.value c.self.invariant in
     askers_inside a.config c.turns-turns.result.now a.askers.outstanding (numbers_of (turns_of a.askers.tables))
-    c.asking-asking.result.now c.turns-turns.ensures.value (ap (λ t. numbers_of (turns_of t)) kept.tables) c.asking-asking.ensures
+    c.asking-asking.result.now (rw c.get.ensures at c.turns-turns.ensures.value) (ap (λ t. numbers_of (turns_of t)) kept.tables) c.asking-asking.ensures
 
 pub leave-requires-clause-flows : goal.leave-requires-clause-flows
 leave-requires-clause-flows c =
     let a = c.as_mut.result.now in
     let kept = kept_too a c.self.inside.kept.value c.as_mut.ensures.value c.self.invariant in
     subst (λ n. AllByRecursion (λ turn. turn.flow < n) c.turns-turns.result.now) (sym kept.reserves.flows)
-    (flows_inside a.config c.turns-turns.result.now (turns_of a.config) c.turns-turns.ensures.value)
+    (flows_inside a.config c.turns-turns.result.now (turns_of a.config) (rw c.get.ensures at c.turns-turns.ensures.value))
 
 pub invariant_of-self-2 : goal.invariant_of-self-2
 invariant_of-self-2 c =
@@ -111,9 +111,9 @@ returns c =
     omega (arith, c.allow.ensures.long, ap length c.as_mut_slice-allowances.ensures.value, kept.allowances, kept.buckets.flows) in
     let agrees = subst (λ x. AgreeOn (turns_at (turns_of x) these) c.allow.new.allowances allowed noted reserves)
     (sym kept.planner)
-    (agree a.config turns a.buckets.levels a.reserves.levels c.allow.new.allowances noted these c.turns-turns.ensures.value
+    (agree a.config turns a.buckets.levels a.reserves.levels c.allow.new.allowances noted these (rw c.get.ensures at c.turns-turns.ensures.value)
     long c.allow.ensures.allowed c.reserve.ensures) in
-    let same = subst (λ x. map (turn_at x) turns ≡ map Some (turns_of x)) (sym kept.planner) c.turns-turns.ensures.value in
+    let same = subst (λ x. map (turn_at x) turns ≡ map Some (turns_of x)) (sym kept.planner) (rw c.get.ensures at c.turns-turns.ensures.value) in
     let asks : these ≡ asking_in t outstanding =
     c.asking-asking.ensures ∙ ap₂ (λ os x. asking_in x os) (sym c.outstanding.ensures.value) kept.tables
     ∙ ap (λ x. asking_in x outstanding) (sym kept.planner) in
