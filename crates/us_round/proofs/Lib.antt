@@ -22,3 +22,4 @@ pub mod ByteLaws
 pub mod MapLaws
 pub mod TurnLemmas
 pub mod PlacingLemmas
+pub mod SendLemmas

@@ -6,26 +6,15 @@ ghost use Rattle.us_crew.specs.Values.{values_of};
 ghost use Rattle.us_round.specs.Hands.{CanBuild, CanFill, built_at, filled_at};
 
 use crate::hands::{Answered, Building, Filling, Hands};
-use crate::placing::{Laden, Placing, laden, unladen};
+use crate::placing::{Placing, laden, unladen};
+use crate::round_mail::RoundMail;
 use std::alloc::Global;
 use std::sync::Wait;
-use us_crew::{Crew, CrewFault, Gate, Mailboxes, Phase, map_kept};
+use us_crew::{Crew, CrewFault, Gate, Phase, map_kept};
 use us_flows::Config;
 use us_output::ChannelWithText;
 use us_slots::NoMemory;
 use us_split::Claim;
-
-/// Where the workers of a crew find channels in phase `Fill`.
-pub type FillMail<'a, G> = Mailboxes<
-    Filling<'a>,
-    &'a G,
-    ChannelWithText,
-    ChannelWithText,
-    NoMemory,
->;
-
-/// Where they find them in phase `Build`.
-pub type BuildMail<'a, G> = Mailboxes<Placing, &'a G, Laden, Laden, NoMemory>;
 
 /// The workers of a crew, each of whom does channels that stand side by side, and enters the gate before each. They
 /// borrow the configuration, which outlives every state.
@@ -34,9 +23,8 @@ pub struct Crewed<'a, 'm, H, G: Gate> {
     alloc: Global,
     crew: &'m Crew<'m, H>,
     config: &'a Config,
-    gate: &'a G,
-    fills: &'m FillMail<'a, G>,
-    builds: &'m BuildMail<'a, G>,
+    gate: G,
+    mail: &'m RoundMail<'a, 'm, G>,
     writes_ahead: bool,
 
     // in which claims go to workers
@@ -50,33 +38,31 @@ impl<'a, 'm, H, G: Gate> Crewed<'a, 'm, H, G> {
         alloc: Global,
         crew: &'m Crew<'m, H>,
         config: &'a Config,
-        gate: &'a G,
-        fills: &'m FillMail<'a, G>,
-        builds: &'m BuildMail<'a, G>,
+        gate: G,
+        mail: &'m RoundMail<'a, 'm, G>,
         writes_ahead: bool,
     ) -> Crewed<'a, 'm, H, G>
         ensures config { result.config.now ≡ config.now }
-        ensures gate { result.gate.now ≡ gate.now }
+        ensures gate { result.gate ≡ gate }
     {
         Crewed {
             alloc,
             crew,
             config,
             gate,
-            fills,
-            builds,
+            mail,
             writes_ahead,
             lists: Vec::new(alloc),
         }
     }
 }
 
-impl<'a, 'm, H: Wait, G: Gate> Hands for Crewed<'a, 'm, H, G> {
+impl<'a, 'm, H: Wait, G: Gate + Copy + Drop> Hands for Crewed<'a, 'm, H, G> {
     ghost knows = { λ hands t. hands.config.now ≡ t };
 
     fn fill(&mut self, work: &Filling<'_>, channels: Vec<ChannelWithText>) -> Answered
         requires known { self.old.config.now ≡ work.now.config.now }
-        requires ready { AreAccepted (G.entered self.old.gate.now phase.Fill) (CanFill work.now) channels.items }
+        requires ready { AreAccepted (G.entered self.old.gate phase.Fill) (CanFill work.now) channels.items }
         ensures value { IfOk result (λ all. all.items ≡ values_of (filled_at work.now) channels.items) }
         ensures same { (t : Tables) → self.old.config.now ≡ t → self.new.config.now ≡ t }
     {
@@ -86,7 +72,7 @@ impl<'a, 'm, H: Wait, G: Gate> Hands for Crewed<'a, 'm, H, G> {
         };
         answers(map_kept(
             self.crew,
-            self.fills,
+            self.mail.fills,
             self.alloc,
             own,
             Phase::Fill,
@@ -96,7 +82,7 @@ impl<'a, 'm, H: Wait, G: Gate> Hands for Crewed<'a, 'm, H, G> {
     }
 
     fn build(&mut self, work: &Building<'_>, channels: Vec<ChannelWithText>) -> Answered
-        requires claims { AreAccepted (G.entered self.old.gate.now phase.Build) (CanBuild work.now) channels.items }
+        requires claims { AreAccepted (G.entered self.old.gate phase.Build) (CanBuild work.now) channels.items }
         ensures value { IfOk result (λ all. all.items ≡ values_of (built_at work.now) channels.items) }
         ensures same { (t : Tables) → self.old.config.now ≡ t → self.new.config.now ≡ t }
     {
@@ -108,7 +94,7 @@ impl<'a, 'm, H: Wait, G: Gate> Hands for Crewed<'a, 'm, H, G> {
         };
         let all = answers(map_kept(
             self.crew,
-            self.builds,
+            self.mail.builds,
             self.alloc,
             Placing { text_of },
             Phase::Build,

@@ -24,6 +24,9 @@ mod hands;
 // Claims that go to a worker with their channel.
 mod placing;
 
+// Where the workers of a crew find channels.
+mod round_mail;
+
 // Who does them by the workers of a crew.
 mod crewed;
 
@@ -59,11 +62,12 @@ mod alone;
 mod schedule_laws;
 
 pub use alone::{Alone, round_alone};
-pub use crewed::{BuildMail, Crewed, FillMail};
+pub use crewed::Crewed;
 pub use done::RoundDone;
 pub use faults::RoundFault;
 pub use hands::{Answered, Building, Filling, Hands};
 pub use placing_laws::turns_are_placed_in_order;
+pub use round_mail::{BuildMail, FillMail, RoundMail};
 pub use rounds::{round, step};
 pub use schedule_laws::{
     bytes_are_kept, calendars_run, maps_are_lawful, one_pass_does, rounds_are_sound,

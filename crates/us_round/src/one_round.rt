@@ -1,5 +1,6 @@
-use crate::crewed::{BuildMail, Crewed, FillMail};
+use crate::crewed::Crewed;
 use crate::done::RoundDone;
+use crate::round_mail::RoundMail;
 use crate::rounds::step;
 use crate::states::State;
 use std::alloc::Global;
@@ -15,12 +16,11 @@ pub(crate) struct OneRound<'a, 'm, G: Gate> {
     pub state: State,
     pub cuts: &'m [u64],
     pub config: &'a Config,
-    pub gate: &'a G,
-    pub fills: &'m FillMail<'a, G>,
-    pub builds: &'m BuildMail<'a, G>,
+    pub gate: G,
+    pub mail: &'m RoundMail<'a, 'm, G>,
 }
 
-impl<'a, 'm, H: Wait, G: Gate> Beside<H> for OneRound<'a, 'm, G> {
+impl<'a, 'm, H: Wait, G: Gate + Copy + Drop> Beside<H> for OneRound<'a, 'm, G> {
     ghost use Rattle.std.specs.Prelude.{◌≡◌, IfOk};
     ghost use Rattle.us_round.specs.Crewed.{CanMake, IsMade};
 
@@ -37,10 +37,9 @@ impl<'a, 'm, H: Wait, G: Gate> Beside<H> for OneRound<'a, 'm, G> {
             cuts,
             config,
             gate,
-            fills,
-            builds,
+            mail,
         } = self;
-        let mut hands = Crewed::new(alloc, crew, config, gate, fills, builds, false);
+        let mut hands = Crewed::new(alloc, crew, config, gate, mail, false);
         step(state, cuts, &mut hands)
     }
 }

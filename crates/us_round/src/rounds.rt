@@ -16,11 +16,13 @@ use crate::faults::RoundFault;
 use crate::hands::Hands;
 use crate::one_round::OneRound;
 use crate::parts::Parts;
+use crate::round_mail::RoundMail;
 use crate::states::State;
 use std::alloc::Global;
 use std::sync::Wait;
 use std::thread::Threads;
 use us_crew::{Gate, MAX_WORKERS, Mailboxes, with_crew};
+use us_flows::Config;
 use us_output::{ChannelWithText, RoundOut};
 use us_slots::NoMemory;
 
@@ -87,33 +89,37 @@ fn step_with<H: Threads + Wait + Sync, G: Gate + Sync>(
         return step(state, cuts, &mut Alone { gate });
     }
     let config = state.share_config()?;
-    let fills = Mailboxes::open(alloc, helpers)?;
-    let builds = Mailboxes::open(alloc, helpers)?;
-    step_by_crew(
-        threads,
-        helpers,
-        OneRound {
-            alloc,
-            state,
-            cuts,
-            config: config.get(),
-            gate,
-            fills: &fills,
-            builds: &builds,
-        },
-    )
+    step_by_crew(threads, alloc, config.get(), state, cuts, helpers, gate)
 }
 
-/// The same by a crew with so many helpers, who find the channels in the round's mail.
-fn step_by_crew<H: Threads + Wait + Sync, G: Gate + Sync>(
+/// The same by a crew. The configuration is the state's.
+fn step_by_crew<H: Threads + Wait + Sync, G: Gate + Copy + Sync + Send + Drop>(
     threads: &H,
+    alloc: Global,
+    config: &Config,
+    state: State,
+    cuts: &[u64],
     helpers: usize,
-    task: OneRound<'_, '_, G>,
+    gate: G,
 ) -> Result<RoundDone, NoMemory>
-    requires { CanMake task.state task.cuts.now × (task.config.now ≡ task.state.tables) }
-    ensures { IfOk result (IsMade task.entry.state task.entry.cuts.now) }
+    requires ready { CanMake state cuts.now }
+    requires config { config.now ≡ state.tables }
+    ensures { IfOk result (IsMade state cuts.now) }
 {
-    let mail = (task.fills, task.builds);
+    let fills = Mailboxes::open(alloc, helpers)?;
+    let builds = Mailboxes::open(alloc, helpers)?;
+    let mail = RoundMail {
+        fills: &fills,
+        builds: &builds,
+    };
+    let task = OneRound {
+        alloc,
+        state,
+        cuts,
+        config,
+        gate,
+        mail: &mail,
+    };
     with_crew(threads, helpers, &mail, task)
 }
 
