@@ -26,18 +26,17 @@ impl Calls {
 
     /// Calls all helpers to look for tasks.
     pub(crate) fn call(&self) {
-        self.last.fetch_add(ONE_CALL, Ordering::SeqCst);
-        self.wake();
+        self.change(ONE_CALL);
     }
 
     /// Calls all helpers for the last time.
     pub(crate) fn end(&self) {
-        self.last.fetch_add(ONE_CALL + IS_LAST, Ordering::SeqCst);
-        self.wake();
+        self.change(ONE_CALL + IS_LAST);
     }
 
-    /// Wakes those who sleep. Whoever is about to sleep sees the new word, and doesn't.
-    fn wake(&self) {
+    /// Changes the word, and wakes those who sleep. Whoever is about to sleep sees the new word, and doesn't.
+    fn change(&self, more: u64) {
+        self.last.fetch_add(more, Ordering::SeqCst);
         if self.asleep.load(Ordering::SeqCst) != 0 {
             self.last.wake_all();
         }

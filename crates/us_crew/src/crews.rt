@@ -28,7 +28,7 @@ impl<'c, H: Wait> Crew<'c, H> {
         }
     }
 
-    /// Tries again until the caller returns.
+    /// What may wait.
     pub(crate) fn threads(&self) -> &H {
         self.threads
     }

@@ -72,8 +72,7 @@ impl<W: Work<T, R, E> + Drop, G: Gate + Drop, T: Drop, R: Drop, E: Drop> Mailbox
         requires { IsReadyTask G.entered W.accepts task }
         ensures { IfOk result (λ pending. AskFor task (received pending.answers)) }
     {
-        let alloc = task.alloc;
-        let (order, answers) = ordered(alloc, task)?;
+        let (order, answers) = ordered(task)?;
         self.lay(worker, order);
         Ok(Pending { answers })
     }
@@ -97,13 +96,11 @@ impl<W: Work<T, R, E> + Drop, G: Gate + Drop, T: Drop, R: Drop, E: Drop> Mailbox
             return false;
         };
         let mut pass = mailbox.pass();
-        match mailbox.try_pop_as::<ReadyOrders>(&mut pass) {
-            Some(order) => {
-                obey(order);
-                true
-            }
-            None => false,
-        }
+        let Some(order) = mailbox.try_pop_as::<ReadyOrders>(&mut pass) else {
+            return false;
+        };
+        obey(order);
+        true
     }
 
     /// Does the last task that nobody has begun. Whether there was one.
@@ -135,13 +132,5 @@ impl<W: Work<T, R, E> + Drop, G: Gate + Drop, T: Drop, R: Drop, E: Drop> Mail
                 owner.unpark();
             }
         }
-    }
-}
-
-/// The mailboxes of two phases, or more.
-impl<A: Mail, B: Mail> Mail for (&A, &B) {
-    fn serve(&self, worker: usize, owner: &Parker) {
-        self.0.serve(worker, owner);
-        self.1.serve(worker, owner);
     }
 }

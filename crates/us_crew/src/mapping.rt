@@ -126,12 +126,7 @@ impl<
     ghost gives = { λ run result. TellsTask W.value W.may_fail W.must_fail run.task result };
 
     fn run(self, crew: &Crew<'_, H>) -> Answered<R, E> {
-        let InParts {
-            mailboxes,
-            parts,
-            task,
-        } = self;
-        in_parts(crew, mailboxes, parts.as_slice(), task)
+        in_parts(crew, self.mailboxes, self.parts.as_slice(), self.task)
     }
 }
 

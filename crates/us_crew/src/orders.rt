@@ -45,7 +45,6 @@ pub(crate) type Answers<W, G, T, R, E> = Consumer<
 
 /// A task as an order, and the end where its answer comes.
 pub(crate) fn ordered<W: Work<T, R, E> + Drop, G: Gate + Drop, T: Drop, R: Drop, E: Drop>(
-    alloc: Global,
     task: Task<W, G, T>,
 ) -> Result<(Order<W, G, T, R, E>, Answers<W, G, T, R, E>), NoMemory>
     ensures task { IfOk result (λ made. made.0.task ≡ task) }
@@ -53,7 +52,7 @@ pub(crate) fn ordered<W: Work<T, R, E> + Drop, G: Gate + Drop, T: Drop, R: Drop,
     ensures room { IfOk result (λ made. 0 < known_free made.0.back) }
     ensures answers { IfOk result (λ made. AskFor task (received made.1)) }
 {
-    let (mut back, mut answers) = RingBuffer::with_protocol::<Global, TrueAnswers>(alloc, 2)?;
+    let (mut back, mut answers) = RingBuffer::with_protocol::<Global, TrueAnswers>(task.alloc, 2)?;
     back.push_reserved(Said::Asked(Snapshot::of(&task)));
     answers.slots_beside(&mut back);
     let _asked = answers.pop_known();

@@ -48,14 +48,9 @@ impl<W: Drop, G: Gate + Drop, T: Drop> Task<W, G, T> {
         requires { IsReadyTask G.entered W.accepts self }
         ensures { TellsTask W.value W.may_fail W.must_fail self result }
     {
-        let Task {
-            alloc,
-            work,
-            gate,
-            phase,
-            start,
-            items,
-        } = self;
-        in_turn(alloc, &work, phase, start, items, &gate)
+        let items = self.items;
+        in_turn(
+            self.alloc, &self.work, self.phase, self.start, items, &self.gate,
+        )
     }
 }

@@ -15,7 +15,7 @@ mod alone;
 // or the workers of a crew.
 mod kept;
 
-pub(crate) use kept::{CollectMail, Kept};
+pub(crate) use kept::{Kept, RunMail};
 
 /// Who collects the requests of a round, and does its channels.
 pub(crate) trait Doers<'a>: Hands {

@@ -11,7 +11,7 @@ ghost use Rattle.us_replay.specs.Replays.{Growth, Replayed, WroteLawful};
 ghost use Rattle.us_replay.specs.Progress.{Along, CanMake, EndsAs, IsLawfulOutput, IsMade, IsTraceFor, grown, opening_progress};
 
 use crate::collecting::open_intake;
-use crate::doers::Doers;
+use crate::doers::{Doers, RunMail};
 use crate::faults::RunFault;
 use crate::summaries::Summary;
 use progress::Progress;
@@ -23,7 +23,7 @@ use us_crew::{Gate, MAX_WORKERS, Mailboxes, with_crew};
 use us_flows::Config;
 use us_intake::{Intake, Seat};
 use us_requests::{Ask, Trace, TraceFault};
-use us_round::{Alone, State, step};
+use us_round::{Alone, RoundMail, State, step};
 use us_slots::{NoMemory, Sink, Source};
 use whole_run::WholeRun;
 
@@ -186,13 +186,19 @@ fn run_with<'a, H: Threads + Wait + Sync, W1: Sink, W2: Sink, G: Gate + Sync>(
 }
 
 /// Replays a trace by several workers, who are kept until its end.
-fn run_kept<'a, H: Threads + Wait + Sync, W1: Sink, W2: Sink, G: Gate + Sync>(
+fn run_kept<
+    'a,
+    H: Threads + Wait + Sync,
+    W1: Sink,
+    W2: Sink,
+    G: Gate + Copy + Sync + Send + Drop,
+>(
     threads: &H,
     alloc: Global,
     config: &'a Config,
     trace: &'a Trace,
     workers: usize,
-    gate: &'a G,
+    gate: G,
     progress: Progress<'a>,
     maps: &mut W1,
     report: &mut W2,
@@ -221,7 +227,14 @@ fn run_kept<'a, H: Threads + Wait + Sync, W1: Sink, W2: Sink, G: Gate + Sync>(
     ) else {
         return Err(RunFault::NoMemory(0));
     };
-    let (collects, fills, builds) = (&collects, &fills, &builds);
+    let round = RoundMail {
+        fills: &fills,
+        builds: &builds,
+    };
+    let mail = RunMail {
+        collects: &collects,
+        round: &round,
+    };
     let task = WholeRun {
         alloc,
         config,
@@ -229,13 +242,11 @@ fn run_kept<'a, H: Threads + Wait + Sync, W1: Sink, W2: Sink, G: Gate + Sync>(
         progress,
         workers,
         gate,
-        collects,
-        fills,
-        builds,
+        mail: &mail,
         maps,
         report,
     };
-    let (ended, maps, report) = with_crew(threads, helpers, &(collects, &(fills, builds)), task);
+    let (ended, maps, report) = with_crew(threads, helpers, &mail, task);
     take_back(maps);
     take_back(report);
     ended

@@ -1,6 +1,6 @@
 use super::progress::Progress;
 use super::run_by;
-use crate::doers::{CollectMail, Kept};
+use crate::doers::{Kept, RunMail};
 use crate::faults::RunFault;
 use crate::summaries::Summary;
 use std::alloc::Global;
@@ -8,7 +8,7 @@ use std::sync::Wait;
 use us_crew::{Beside, Crew, Gate};
 use us_flows::Config;
 use us_requests::Trace;
-use us_round::{BuildMail, Crewed, FillMail};
+use us_round::Crewed;
 use us_slots::Sink;
 
 /// The replay of a trace by a crew, and where its workers look for what is to be done.
@@ -19,15 +19,13 @@ pub(super) struct WholeRun<'a, 'b, 'm, 'r, G: Gate, W1, W2> {
     pub(super) trace: &'a Trace,
     pub(super) progress: Progress<'a>,
     pub(super) workers: usize,
-    pub(super) gate: &'a G,
-    pub(super) collects: &'b CollectMail<'a, G>,
-    pub(super) fills: &'b FillMail<'a, G>,
-    pub(super) builds: &'b BuildMail<'a, G>,
+    pub(super) gate: G,
+    pub(super) mail: &'b RunMail<'a, 'b, G>,
     pub(super) maps: &'m mut W1,
     pub(super) report: &'r mut W2,
 }
 
-impl<'a, 'b, 'm, 'r, H: Wait, G: Gate, W1: Sink, W2: Sink> Beside<H>
+impl<'a, 'b, 'm, 'r, H: Wait, G: Gate + Copy + Drop, W1: Sink, W2: Sink> Beside<H>
     for WholeRun<'a, 'b, 'm, 'r, G, W1, W2> {
     ghost use Rattle.std.specs.Prelude.{◌≡◌, true, false, length, OnOk, is_ok};
     ghost use Rattle.us_flows.specs.Clusters.{words_of};
@@ -59,18 +57,16 @@ impl<'a, 'b, 'm, 'r, H: Wait, G: Gate, W1: Sink, W2: Sink> Beside<H>
             mut progress,
             workers,
             gate,
-            collects,
-            fills,
-            builds,
+            mail,
             maps,
             report,
         } = self;
-        let hands = Crewed::new(alloc, crew, config, gate, fills, builds, true);
+        let hands = Crewed::new(alloc, crew, config, gate, mail.round, true);
         let mut doers = Kept {
             crew,
             workers,
             gate,
-            collects,
+            mail,
             hands,
         };
         let ended = run_by(

@@ -9,22 +9,8 @@ pub in_parts-front-requires : goal.in_parts-front-requires
 in_parts-front-requires g t c κs within =
     let fewer : length (take (length c.args.lengths.now - 1) c.args.lengths.now) < t =
     omega (arith, c.decreases, c.if-lengths-lt2.false, length-take (length c.args.lengths.now - 1) c.args.lengths.now) in
-    let ready = front_ready g.G.Gate.entered g.W.Work.accepts _ _ _ c.in_ok-last.ensures c.requires in (
-      fewer,
-      (
-        within.0,
-        (
-          within.1.0,
-          (
-            within.1.1.0,
-            (
-              within.1.1.1.0,
-              (within.1.1.1.1.0, (within.1.1.1.1.1, ready)),
-            ),
-          ),
-        ),
-      ),
-    )
+    let ready = front_ready g.G.Gate.entered g.W.Work.accepts _ _ _ c.in_ok-last.ensures c.requires in
+    search (fewer, ready)
 
 pub returns : goal.returns
 returns g t c =
