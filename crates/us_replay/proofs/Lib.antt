@@ -10,4 +10,4 @@ pub mod ReplayStopLemmas
 pub mod LoopLemmas
 pub mod ReplayLemmas
 pub mod LawfulLemmas
-pub mod LadenLemmas
+pub mod SendLemmas

@@ -14,5 +14,4 @@ pub mod RunExamples
 -- inside the crate, and of no use to a reader of the promise: how requests are collected; what a replay keeps from one
 -- round to the next
 pub mod Collecting
-pub mod Doing
 pub mod Progress

@@ -219,7 +219,7 @@ fn run_kept<
         W1.flushed maps.new ≡ is_ok result }
     ensures report_flushed { W2.flushed report.old ≡ false → W2.flushed report.new ≡ is_ok result }
 {
-    let helpers = workers - 1;
+    let helpers = workers.saturating_sub(1);
     let (Ok(collects), Ok(fills), Ok(builds)) = (
         Mailboxes::open(alloc, helpers),
         Mailboxes::open(alloc, helpers),
