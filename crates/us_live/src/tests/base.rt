@@ -22,20 +22,28 @@ pub(super) fn same(rt: &impl Abort, found: Told, wanted: Told) {
 }
 
 /// The base configuration, with so many channels. With none it has the one, and in place of the flow one that makes no
-/// requests, but tells its activity.
+/// requests, but tells its activity; with two a flow that is bonded over both.
 fn text_of(alloc: Global, channels: u8) -> Result<String, AllocError> {
     let mut text = String::new(alloc);
-    if channels == 0 {
+    if channels == 0 || channels == 2 {
         put_channel(&mut text, 1)?;
-        text.push_str(CALL)?;
     } else {
         text.push_str(base())?;
     }
     for id in 2..=channels {
         put_channel(&mut text, id)?;
     }
+    match channels {
+        0 => text.push_str(CALL)?,
+        2 => text.push_str(BONDED)?,
+        _ => {}
+    }
     Ok(text)
 }
+
+const BONDED: &str =
+    "[[flow]]\nid = 1\ntype = 2\nchannels = [1, 2]\nclusters = [[257, 258], [273, 274]]\npriority = 0\n\
+    rate = 0\nburst = 3044\nunit = 4\nheaders = true\n";
 
 const CALL: &str = "[[flow]]\nid = 1\ntype = 5\nchannels = [1]\nclusters = [[513]]\nstart_us = 0\n\
     interval_us = 2000\njitter_us = 1000\ngrant_bytes = 64\ngrants_per_interval = 1\n";

@@ -8,10 +8,11 @@ use std::sync::atomic::{AtomicU64, AtomicUsize, Ordering};
 use std::thread::{Threads, yield_now};
 use us_crew::{Gate, Phase};
 
-/// A gate that holds the workers of a phase until 16 have come, for at most so many turns. It counts those of Fill and of
+/// A gate that holds the workers of a phase until all have come, for at most so many turns. It counts those of Fill and of
 /// Build by the number of the channel, as digits to base 16: 1 for each entry, and 1 more where it met too few.
 #[derive(Drop)]
 struct Meeting {
+    channels: usize,
     turns: u64,
     came: AtomicUsize,
     fills: AtomicU64,
@@ -35,8 +36,8 @@ impl Gate for Meeting {
             Phase::Collect => return,
         };
         counts.fetch_add(one, Ordering::SeqCst);
-        // Each 16 that come are a phase: this is the number of the last of them.
-        let last = self.came.fetch_add(1, Ordering::SeqCst) | 15;
+        // As many as there are channels are a phase. They are a power of two: the number of the last one ends in ones.
+        let last = self.came.fetch_add(1, Ordering::SeqCst) | self.channels.saturating_sub(1);
         for _ in 0..self.turns {
             if self.came.load(Ordering::SeqCst) > last {
                 return;
@@ -47,31 +48,38 @@ impl Gate for Meeting {
     }
 }
 
-/// A round of 16 channels.
-fn round_of_all<H: Threads + Wait + Sync>(
+/// Makes so many rounds.
+fn make_rounds<H: Threads + Wait + Sync>(
     threads: &H,
     alloc: Global,
+    rounds: u32,
     workers: usize,
     gate: &Meeting,
-) -> Result<u64, LiveFault> {
-    let (mut live, intake, mut seat) = open(alloc, 16, 1)?;
-    next(threads, alloc, &mut live, &intake, &mut seat, workers, gate)
+) -> Result<(), LiveFault> {
+    let (mut live, intake, mut seat) = open(alloc, gate.channels as u8, rounds)?;
+    for _ in 0..rounds {
+        next(threads, alloc, &mut live, &intake, &mut seat, workers, gate)?;
+    }
+    Ok(())
 }
 
-/// What is counted in it.
+/// What is counted in so many rounds of so many channels, each of which is held for at most so many turns.
 fn counted<H: Threads + Wait + Sync>(
     threads: &H,
     alloc: Global,
+    channels: usize,
+    rounds: u32,
     workers: usize,
     turns: u64,
 ) -> Told {
     let gate = Meeting {
+        channels,
         turns,
         came: AtomicUsize::new(0),
         fills: AtomicU64::new(0),
         builds: AtomicU64::new(0),
     };
-    round_of_all(threads, alloc, workers, &gate)?;
+    make_rounds(threads, alloc, rounds, workers, &gate)?;
     let fills = gate.fills.load(Ordering::SeqCst);
     Ok((fills, gate.builds.load(Ordering::SeqCst)))
 }
@@ -84,7 +92,26 @@ const ONES: u64 = 0x1111_1111_1111_1111;
 #[test]
 fn workers_meet(rt: HostRuntime) {
     for (workers, turns, one_each) in [(16, 100_000_000, ONES), (1, 0, 2 * ONES)] {
-        let found = counted(&rt, rt.alloc(), workers, turns);
+        let found = counted(&rt, rt.alloc(), 16, 1, workers, turns);
         same(&rt, found, Ok((one_each, one_each)));
+    }
+}
+
+/// So do two bonded channels, in the first and in the last of several rounds, and in those between.
+#[test]
+fn two_workers_meet(rt: HostRuntime) {
+    let found = counted(&rt, rt.alloc(), 2, 5, 2, 100_000_000);
+    same(&rt, found, Ok((0x55, 0x55)));
+}
+
+/// Run by `tools/refuse-memory` too, where each allocation is refused in turn. A refused one is answered as want of
+/// memory, by whatever number of workers. Nobody is waited for.
+#[test]
+fn refused_memory_of_workers(rt: HostRuntime) {
+    for (workers, two_each) in [(2, 0x22), (16, 2 * ONES)] {
+        let found = counted(&rt, rt.alloc(), workers, 1, workers, 0);
+        if found != Err(LiveFault::NoMemory) {
+            same(&rt, found, Ok((two_each, two_each)));
+        }
     }
 }

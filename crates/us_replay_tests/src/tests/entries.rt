@@ -121,13 +121,13 @@ impl Gate for Chunks {
     }
 }
 
-/// A trace of 64 requests in each of so many rounds of 320 ticks.
-pub(super) fn requests(alloc: Global, rounds: u16) -> Result<String, AllocError> {
+/// A trace of so many requests in each of so many rounds of 320 ticks. They count from round 1 on.
+pub(super) fn requests(alloc: Global, rounds: u16, each: usize) -> Result<String, AllocError> {
     let mut text = String::new(alloc);
     text.push_str("tick,channel,sid,units\n")?;
     for round in 0..rounds {
         let line = format!(in alloc; "{},1,257,10\n", 320 * u32::from(round))?;
-        for _ in 0..64 {
+        for _ in 0..each {
             text.push_str(&line)?;
         }
     }
@@ -140,7 +140,7 @@ fn chunks_of_64_workers(rt: HostRuntime) {
     let gate = Chunks {
         seen: AtomicU64::new(0),
     };
-    if let Ok(trace) = requests(rt.alloc(), 1) {
+    if let Ok(trace) = requests(rt.alloc(), 1, 64) {
         replay_past(&rt, rt.alloc(), trace.as_bytes(), 2, 64, &gate);
     }
     same(&rt, &gate.seen.load(Ordering::SeqCst), &64, "chunks");

@@ -2,57 +2,47 @@ ghost use Rattle.std.specs.Prelude.{⊤};
 
 use super::base::same;
 use super::entries::{replay_past, requests};
-use super::workers::{BONDED_OUTCOME, expect};
 use std::alloc::Global;
 use std::process::Abort;
 use std::sync::Wait;
-use std::sync::atomic::{AtomicBool, AtomicUsize, Ordering};
+use std::sync::atomic::{AtomicUsize, Ordering};
 use std::thread::{Threads, yield_now};
 use us_crew::{Gate, Phase};
 
-/// The turns that a worker waits for another one. Before the first round the other workers may not be there yet: their
-/// items are done by the thread of the replay, so a phase is waited in until some have met there.
-const MANY: u64 = 1_000_000;
-
-/// Where the workers of a phase meet: each so many others.
+/// Where all items of a phase meet that a round has. They are a power of two.
 #[derive(Drop)]
 struct Square {
-    others: usize,
+    items: usize,
     entered: AtomicUsize,
-    inside: AtomicUsize,
-    have_met: AtomicBool,
+    missed: AtomicUsize,
 }
 
 impl Square {
-    fn new(others: usize) -> Square {
+    fn of(items: usize) -> Square {
         Square {
-            others,
+            items,
             entered: AtomicUsize::new(0),
-            inside: AtomicUsize::new(0),
-            have_met: AtomicBool::new(false),
+            missed: AtomicUsize::new(0),
         }
     }
 
-    /// Stays until all have been here at the same time, for at most so many turns.
+    /// Stays until all of this round have entered, for at most so many turns: the number of the last of them ends in ones.
     fn stay(&self, turns: u64) {
-        self.entered.fetch_add(1, Ordering::SeqCst);
-        if self.inside.fetch_add(1, Ordering::SeqCst) >= self.others {
-            self.have_met.store(true, Ordering::SeqCst);
-        }
+        let last = self.entered.fetch_add(1, Ordering::SeqCst) | self.items.saturating_sub(1);
         for _ in 0..turns {
-            if self.have_met.load(Ordering::SeqCst) {
-                break;
+            if self.entered.load(Ordering::SeqCst) > last {
+                return;
             }
             yield_now();
         }
-        self.inside.fetch_sub(1, Ordering::SeqCst);
+        self.missed.fetch_add(1, Ordering::SeqCst);
     }
 
-    /// How many entered, and whether all have met.
-    fn seen(&self) -> (usize, bool) {
+    /// How many entered, and how many came alone.
+    fn seen(&self) -> (usize, usize) {
         (
             self.entered.load(Ordering::SeqCst),
-            self.have_met.load(Ordering::SeqCst),
+            self.missed.load(Ordering::SeqCst),
         )
     }
 }
@@ -79,55 +69,85 @@ impl Gate for Meeting {
     }
 }
 
-/// How many items of each phase the gate is entered for in the bonded run, and whether two workers met there.
-fn enter(
-    rt: &(impl Abort + Threads + Wait + Sync),
-    alloc: Global,
+/// What is seen at the squares: of a phase how many entered, and how many came alone.
+type Seen = ((usize, usize), (usize, usize), (usize, usize));
+
+/// A run by so many workers, with as many requests in each round, over two bonded channels.
+#[derive(Clone, Copy)]
+struct Run {
+    rounds: u16,
     workers: usize,
     turns: u64,
-    wanted: ((usize, bool), (usize, bool), (usize, bool)),
-) {
+}
+
+/// Compares what is seen in a run with what has to be.
+fn compare(rt: &(impl Abort + Threads + Wait + Sync), alloc: Global, run: Run, wanted: Seen) {
+    let requests_each = if run.workers == 1 { 2 } else { run.workers };
     let gate = Meeting {
-        turns,
-        collect: Square::new(1),
-        fill: Square::new(1),
-        build: Square::new(1),
+        turns: run.turns,
+        collect: Square::of(run.workers),
+        fill: Square::of(2),
+        build: Square::of(2),
     };
-    expect(rt, alloc, workers, &gate, BONDED_OUTCOME);
+    if let Ok(trace) = requests(alloc, run.rounds, requests_each) {
+        let rounds = u32::from(run.rounds).saturating_add(1);
+        replay_past(rt, alloc, trace.as_bytes(), rounds, run.workers, &gate);
+    }
     let found = (gate.collect.seen(), gate.fill.seen(), gate.build.seen());
     same(rt, &found, &wanted, "met");
 }
 
-/// Round 0 has no requests, and round 1 has two.
+/// In each round but the first two requests are collected by two workers, who meet there, and over two channels in both
+/// other phases of each round.
 #[test]
-fn workers_meet_in_each_phase(rt: HostRuntime) {
-    let wanted = ((2, true), (4, true), (4, true));
-    enter(&rt, rt.alloc(), 2, MANY, wanted);
+fn two_workers_meet(rt: HostRuntime) {
+    for (rounds, items) in [(1, 2), (5, 10)] {
+        let run = Run {
+            rounds,
+            workers: 2,
+            turns: 100_000_000,
+        };
+        let channels = items + 2;
+        compare(
+            &rt,
+            rt.alloc(),
+            run,
+            ((items, 0), (channels, 0), (channels, 0)),
+        );
+    }
 }
 
-/// As many as there may be stand at their posts: 64 meet over the chunks of a round, once all have come.
+/// So they do where the gate has no limit, in each of a thousand rounds.
+#[test]
+fn two_workers_meet_without_limit(rt: HostRuntime) {
+    let run = Run {
+        rounds: 999,
+        workers: 2,
+        turns: u64::MAX,
+    };
+    compare(&rt, rt.alloc(), run, ((1_998, 0), (2_000, 0), (2_000, 0)));
+}
+
+/// As many as there may be meet over the requests of each round, 16 as well.
 #[test]
 fn as_many_as_may_be_meet(rt: HostRuntime) {
-    let gate = Meeting {
-        turns: 1_000,
-        collect: Square::new(63),
-        fill: Square::new(1),
-        build: Square::new(1),
-    };
-    if let Ok(trace) = requests(rt.alloc(), 200) {
-        replay_past(&rt, rt.alloc(), trace.as_bytes(), 200, 64, &gate);
+    for workers in [16, 64] {
+        let run = Run {
+            rounds: 10,
+            workers,
+            turns: 100_000_000,
+        };
+        compare(&rt, rt.alloc(), run, ((10 * workers, 0), (22, 0), (22, 0)));
     }
-    same(
-        &rt,
-        &gate.collect.have_met.load(Ordering::SeqCst),
-        &true,
-        "64 never met",
-    );
 }
 
-/// One worker has all requests of a round, as one item.
+/// One worker has all requests of a round, as one item, and is held in vain at each.
 #[test]
-fn one_worker_enters_each_phase(rt: HostRuntime) {
-    let wanted = ((1, false), (4, false), (4, false));
-    enter(&rt, rt.alloc(), 1, 0, wanted);
+fn one_worker_is_alone(rt: HostRuntime) {
+    let run = Run {
+        rounds: 1,
+        workers: 1,
+        turns: 0,
+    };
+    compare(&rt, rt.alloc(), run, ((1, 1), (4, 4), (4, 4)));
 }
