@@ -34,7 +34,8 @@ Example, from the top of the repository:
 It prints one line: rounds, G lines, M lines, and the three counts of the U line.
   rounds 4 granted 11 missed 0 unknown 0 not_requestable 1 late 0
 
-More workers help only where channels have dozens of grants per round. The output is the same.
+More workers help only where channels have dozens of grants per round. There are never more than
+channels, or than requests of one round, whichever are more. The output is the same.
 
 The maps file has a record for each round and channel: the round (4 bytes, big-endian), the length
 of the MAP body in bytes (2 bytes, big-endian), and the body.

@@ -186,13 +186,7 @@ fn run_with<'a, H: Threads + Wait + Sync, W1: Sink, W2: Sink, G: Gate + Sync>(
 }
 
 /// Replays a trace by several workers, who are kept until its end.
-fn run_kept<
-    'a,
-    H: Threads + Wait + Sync,
-    W1: Sink,
-    W2: Sink,
-    G: Gate + Copy + Sync + Send + Drop,
->(
+fn run_kept<'a, H: Threads + Wait + Sync, W1: Sink, W2: Sink, G: Gate + Copy + Sync + Send + Drop>(
     threads: &H,
     alloc: Global,
     config: &'a Config,
