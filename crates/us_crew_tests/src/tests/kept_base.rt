@@ -3,8 +3,8 @@ ghost use Rattle.std.specs.Prelude.{◌/◌, ⊤};
 use super::base::{Case, Doubling, Told, numbers_to, tell};
 use std::alloc::Global;
 use std::sync::Wait;
-use std::thread::Threads;
-use us_crew::{Beside, Crew, Gate, Mailboxes, Phase, Work, map_kept, with_crew};
+use std::thread::{Parker, Threads};
+use us_crew::{Beside, Crew, Gate, Mail, Mailboxes, Phase, Work, map_kept, with_crew};
 
 /// Halves numbers, and refuses none.
 #[derive(Clone, Copy)]
@@ -28,6 +28,20 @@ type Doubles<G> = Mailboxes<Doubling, G, u64, u64, u64>;
 
 type Halves<G> = Mailboxes<Halving, G, u64, u64, u64>;
 
+/// Where helpers find the tasks of both.
+#[derive(Drop)]
+struct BothMail<'a, G: Gate> {
+    doubles: &'a Doubles<G>,
+    halves: &'a Halves<G>,
+}
+
+impl<'a, G: Gate + Drop> Mail for BothMail<'a, G> {
+    fn serve(&self, worker: usize, owner: &Parker) {
+        self.doubles.serve(worker, owner);
+        self.halves.serve(worker, owner);
+    }
+}
+
 /// So many rounds by a crew that is kept: two phases, of different works.
 #[derive(Drop)]
 struct Rounds<'a, G: Gate> {
@@ -35,8 +49,7 @@ struct Rounds<'a, G: Gate> {
     case: &'a Case,
     gate: G,
     rounds: u32,
-    doubles: &'a Doubles<G>,
-    halves: &'a Halves<G>,
+    mail: &'a BothMail<'a, G>,
 }
 
 impl<'a, G: Gate + Copy + Drop> Rounds<'a, G> {
@@ -52,7 +65,7 @@ impl<'a, G: Gate + Copy + Drop> Rounds<'a, G> {
         let most = self.case.most;
         tell(map_kept(
             crew,
-            self.doubles,
+            self.mail.doubles,
             self.alloc,
             Doubling { most },
             self.case.phase,
@@ -65,7 +78,7 @@ impl<'a, G: Gate + Copy + Drop> Rounds<'a, G> {
         let numbers = numbers_to(self.alloc, self.case.numbers)?;
         tell(map_kept(
             crew,
-            self.halves,
+            self.mail.halves,
             self.alloc,
             Halving,
             Phase::Build,
@@ -105,18 +118,20 @@ pub(super) fn by_kept<H: Threads + Wait + Sync, G: Gate + Copy + Sync + Send + D
     let helpers = case.workers.saturating_sub(1);
     let doubles = Mailboxes::open(alloc, helpers)?;
     let halves = Mailboxes::open(alloc, helpers)?;
-    let (doubles, halves) = (&doubles, &halves);
+    let mail = BothMail {
+        doubles: &doubles,
+        halves: &halves,
+    };
     with_crew(
         threads,
         helpers,
-        &(doubles, halves),
+        &mail,
         Rounds {
             alloc,
             case,
             gate,
             rounds,
-            doubles,
-            halves,
+            mail: &mail,
         },
     )
 }

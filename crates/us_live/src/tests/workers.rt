@@ -1,18 +1,20 @@
 ghost use Rattle.std.specs.Prelude.{⊤};
+ghost use Rattle.us_live.specs.Lives.{Feeds};
 
 use super::base::{Told, next, open, same};
-use crate::LiveFault;
+use crate::{Live, LiveFault};
 use std::alloc::Global;
 use std::sync::Wait;
 use std::sync::atomic::{AtomicU64, AtomicUsize, Ordering};
 use std::thread::{Threads, yield_now};
 use us_crew::{Gate, Phase};
+use us_intake::{Intake, Seat};
 
 /// A gate that holds the workers of a phase until all have come, for at most so many turns. It counts those of Fill and of
 /// Build by the number of the channel, as digits to base 16: 1 for each entry, and 1 more where it met too few.
 #[derive(Drop)]
 struct Meeting {
-    channels: usize,
+    channels: u8,
     turns: u64,
     came: AtomicUsize,
     fills: AtomicU64,
@@ -37,7 +39,8 @@ impl Gate for Meeting {
         };
         counts.fetch_add(one, Ordering::SeqCst);
         // As many as there are channels are a phase. They are a power of two: the number of the last one ends in ones.
-        let last = self.came.fetch_add(1, Ordering::SeqCst) | self.channels.saturating_sub(1);
+        let last = self.came.fetch_add(1, Ordering::SeqCst)
+            | usize::from(self.channels).saturating_sub(1);
         for _ in 0..self.turns {
             if self.came.load(Ordering::SeqCst) > last {
                 return;
@@ -52,13 +55,17 @@ impl Gate for Meeting {
 fn make_rounds<H: Threads + Wait + Sync>(
     threads: &H,
     alloc: Global,
+    mut live: Live,
+    intake: &Intake,
+    mut seat: Seat,
     rounds: u32,
     workers: usize,
     gate: &Meeting,
-) -> Result<(), LiveFault> {
-    let (mut live, intake, mut seat) = open(alloc, gate.channels as u8, rounds)?;
+) -> Result<(), LiveFault>
+    requires { Feeds live intake.now seat }
+{
     for _ in 0..rounds {
-        next(threads, alloc, &mut live, &intake, &mut seat, workers, gate)?;
+        next(threads, alloc, &mut live, intake, &mut seat, workers, gate)?;
     }
     Ok(())
 }
@@ -67,7 +74,7 @@ fn make_rounds<H: Threads + Wait + Sync>(
 fn counted<H: Threads + Wait + Sync>(
     threads: &H,
     alloc: Global,
-    channels: usize,
+    channels: u8,
     rounds: u32,
     workers: usize,
     turns: u64,
@@ -79,7 +86,8 @@ fn counted<H: Threads + Wait + Sync>(
         fills: AtomicU64::new(0),
         builds: AtomicU64::new(0),
     };
-    make_rounds(threads, alloc, rounds, workers, &gate)?;
+    let (live, intake, seat) = open(alloc, channels, rounds)?;
+    make_rounds(threads, alloc, live, &intake, seat, rounds, workers, &gate)?;
     let fills = gate.fills.load(Ordering::SeqCst);
     Ok((fills, gate.builds.load(Ordering::SeqCst)))
 }
@@ -108,8 +116,8 @@ fn two_workers_meet(rt: HostRuntime) {
 /// memory, by whatever number of workers. Nobody is waited for.
 #[test]
 fn refused_memory_of_workers(rt: HostRuntime) {
-    for (workers, two_each) in [(2, 0x22), (16, 2 * ONES)] {
-        let found = counted(&rt, rt.alloc(), workers, 1, workers, 0);
+    for (channels, two_each) in [(2_u8, 0x22), (16, 2 * ONES)] {
+        let found = counted(&rt, rt.alloc(), channels, 1, usize::from(channels), 0);
         if found != Err(LiveFault::NoMemory) {
             same(&rt, found, Ok((two_each, two_each)));
         }
