@@ -2,18 +2,23 @@
 """Measures mapsim on the loads of bench/make_loads.py, and prints tables as docs/FIGURES.md has them.
 
   bench/measure.py times [LOAD..]          the least and the most time of some runs, and the most memory
-  bench/measure.py workers [LOAD..]        medians of time by numbers of workers, as parts of one's, and what each adds to
-                                           a round
+  bench/measure.py workers [LOAD..]        microseconds a round by numbers of workers, median and least, and as parts of
+                                           those of the first number
   bench/measure.py instructions [LOAD..]   instructions by valgrind's callgrind: a whole replay, a round, a request read
   bench/measure.py bytes [LOAD..]          compares what some numbers of workers print and write
 
   --part N          N times fewer rounds and requests
-  --runs N          runs of each measurement of `times` (5)
+  --runs N          runs of each measurement of `times` (5) and of `workers` (9, and a figure takes no fewer)
   --workers N,..    numbers of workers: `times` takes each (1), `workers` and `bytes` compare the first with the others
                     (1,2,4 and 1,2,4,16)
+  --beside N        so many processes spin, each on a processor if it gets one, while `workers` measures (0)
+  --against FILE    a second program, which `workers` measures too
   --folder FOLDER   where the files of a measurement lie for its time (where temporary files do). A disk that still writes
                     what the run before wrote holds up the next one; a folder in memory, as /dev/shm, doesn't
   --program FILE    the program (crates/mapsim/out/mapsim)
+
+`workers` is one series over all loads: in each of its rounds each program replays each load once by each number of
+workers, in an order by chance. So what else the machine does meets all alike. All of them write the same files in turn.
 
 `instructions` counts with one worker. A round is the difference of a replay and of one of half its rounds, over the
 same trace, and a round without requests the same over a trace with no row. A request read is the difference of these
@@ -23,9 +28,12 @@ GNU time. These are benchmarks, and no tests.
 Status 0: all ran; 1: bytes differ; 2: a run failed, or the words are wrong.
 """
 import argparse
+import contextlib
+import copy
 import hashlib
 import os
 import pathlib
+import random
 import re
 import statistics
 import subprocess
@@ -37,6 +45,8 @@ import make_loads
 
 TOP = pathlib.Path(__file__).resolve().parent.parent
 GNU_TIME = "/usr/bin/time"
+# What spins until the process that started it is gone.
+BUSY = "import os\nstarter = os.getppid()\nwhile os.getppid() == starter:\n    for _ in range(1_000_000): pass"
 
 
 class Stop(Exception):
@@ -127,21 +137,54 @@ def measure_times(replays_of, given):
     return 0
 
 
+@contextlib.contextmanager
+def busy(count):
+    """So many processes spin meanwhile."""
+    spinning = [subprocess.Popen([sys.executable, "-c", BUSY]) for _ in range(count)]
+    try:
+        yield
+    finally:
+        for process in spinning:
+            process.kill()
+            process.wait()
+
+
+def in_one_series(measured, given):
+    """Seconds of the runs of each that is measured, replays and a number of workers."""
+    seconds = {one: [] for one in measured}
+    with busy(given.beside):
+        for _ in range(given.runs):
+            for replays, workers in random.sample(measured, len(measured)):
+                seconds[replays, workers].append(replays.timed(workers)[0])
+    return seconds
+
+
+def of_programs(replays, given):
+    """Replays of a load by each program, with the word that names it."""
+    yield replays, "program"
+    if given.against:
+        other = copy.copy(replays)
+        other.program = given.against
+        yield other, "against"
+
+
+def a_round_takes(seconds, replays):
+    """The median and the least of some runs, in microseconds a round."""
+    return [of(seconds) / replays.rounds * 1e6 for of in (statistics.median, min)]
+
+
 def measure_workers(replays_of, given):
     """The table of times by numbers of workers. Answers the status."""
-    first, *others = given.workers or [1, 2, 4]
-    head("Load", "Rounds", f"Seconds by {first}, median", f"us a round by {first}",
-         *(f"by {workers}: part of that, us a round more" for workers in others))
-    for replays in replays_of:
-        # in turns, so that what else the machine does meets all alike
-        seconds = {workers: [] for workers in (first, *others)}
-        for _ in range(given.runs):
-            for workers, found in seconds.items():
-                found.append(replays.timed(workers)[0])
-        base = statistics.median(seconds[first])
-        each = [statistics.median(seconds[workers]) for workers in others]
-        row(replays.name, f"{replays.rounds:,}", show_seconds(base), f"{base / replays.rounds * 1e6:.1f}",
-            *(f"{took / base:.2f}, {(took - base) / replays.rounds * 1e6:+.1f}" for took in each))
+    first, *others = numbers_of_workers = given.workers or [1, 2, 4]
+    each = [one for replays in replays_of for one in of_programs(replays, given)]
+    seconds = in_one_series([(replays, workers) for replays, _name in each for workers in numbers_of_workers], given)
+    head("Load", "Program", "Rounds", f"us a round by {first}: median (least)",
+         *(f"by {workers}: the same, as parts of that" for workers in others))
+    for replays, name in each:
+        base, least = a_round_takes(seconds[replays, first], replays)
+        rest = [a_round_takes(seconds[replays, workers], replays) for workers in others]
+        row(replays.name, name, f"{replays.rounds:,}", f"{base:.1f} ({least:.1f})",
+            *(f"{took:.1f} ({at_least:.1f}), {took / base:.2f} ({at_least / least:.2f})" for took, at_least in rest))
     return 0
 
 
@@ -194,14 +237,20 @@ def main():
     words = argparse.ArgumentParser(description=__doc__, formatter_class=argparse.RawDescriptionHelpFormatter)
     words.add_argument("table", choices=TABLES)
     make_loads.add_arguments(words)
-    words.add_argument("--runs", type=int, default=5, metavar="N")
+    words.add_argument("--runs", type=int, metavar="N")
     words.add_argument("--workers", type=numbers, metavar="N,..")
+    words.add_argument("--beside", type=int, default=0, metavar="N")
+    words.add_argument("--against", metavar="FILE")
     words.add_argument("--folder", metavar="FOLDER")
     words.add_argument("--program", default=TOP / "crates/mapsim/out/mapsim", metavar="FILE")
     given = words.parse_intermixed_args()
     names = make_loads.chosen(words, given)
-    if given.runs < 1:
-        words.error("--runs is 1 or more")
+    if given.runs is None:
+        given.runs = 9 if given.table == "workers" else 5
+    if given.runs < 1 or given.beside < 0:
+        words.error("--runs is 1 or more, and --beside 0 or more")
+    if given.table != "workers" and (given.beside or given.against):
+        words.error("--beside and --against are for workers alone")
     with tempfile.TemporaryDirectory(prefix="measure-", dir=given.folder) as folder:
         replays_of = (Replays(given.program, pathlib.Path(folder), name, given.part) for name in names)
         try:

@@ -39,9 +39,10 @@ ghost use Rattle.crew_times.specs.Turned.{turned_by};
 
 use std::alloc::Global;
 use std::io::Print;
+use std::sync::Wait;
 use std::thread::Threads;
 use std::time::{Clock, Instant};
-use us_crew::{Crew, CrewFault, Only, OpenGate, Phase, Task, Work, beside, map_kept, map_owned};
+use us_crew::{Beside, Crew, Mailboxes, OpenGate, Phase, Work, map_kept, map_owned, with_crew};
 use us_slots::NoMemory;
 
 const ITEMS: u64 = 16;
@@ -86,22 +87,30 @@ fn items(alloc: Global) -> anyhow::Result<Vec<u64>> {
     Ok(all)
 }
 
-type Answered = Result<Vec<u64>, CrewFault<NoMemory>>;
-
-type Turn = Task<Turning, OpenGate, u64>;
-
 /// Rounds by workers that are started anew.
-fn rounds_anew<R: Threads + Sync>(rt: &R, alloc: Global, work: Turning, workers: usize) -> anyhow::Result<()> {
+fn rounds_anew<R: Threads + Wait + Sync>(
+    rt: &R,
+    alloc: Global,
+    work: Turning,
+    workers: usize,
+) -> anyhow::Result<()> {
     for _ in 0..PHASES {
         map_owned(rt, alloc, &work, Phase::Fill, items(alloc)?, workers, &OpenGate)?;
     }
     Ok(())
 }
 
+type Turns = Mailboxes<Turning, OpenGate, u64, u64, NoMemory>;
+
 /// Rounds by workers that are kept.
-fn rounds_kept(crew: &mut Crew<Turn, Answered>, alloc: Global, work: Turning) -> anyhow::Result<()> {
+fn rounds_kept<H: Wait>(
+    crew: &Crew<'_, H>,
+    mailboxes: &Turns,
+    alloc: Global,
+    work: Turning,
+) -> anyhow::Result<()> {
     for _ in 0..PHASES {
-        map_kept(crew, Only, alloc, work, Phase::Fill, items(alloc)?, OpenGate)?;
+        map_kept(crew, mailboxes, alloc, work, Phase::Fill, items(alloc)?, OpenGate)?;
     }
     Ok(())
 }
@@ -119,24 +128,59 @@ fn print_sample<R: Clock + Print>(
     Ok(())
 }
 
-/// Samples of rounds by workers that are kept,
-fn print_kept<R: Clock + Print>(
+/// Samples of rounds by workers that are kept, with the crew of these workers.
+#[derive(Drop)]
+struct Kept<'a, R> {
+    rt: &'a R,
+    alloc: Global,
+    work: Turning,
+    workers: usize,
+    mailboxes: &'a Turns,
+}
+
+impl<'a, R: Clock + Print, H: Wait> Beside<H> for Kept<'a, R> {
+    type Output = anyhow::Result<()>;
+
+    ghost can_run = { λ _. ⊤ };
+
+    ghost gives = { λ _ _. ⊤ };
+
+    fn run(self, crew: &Crew<'_, H>) -> anyhow::Result<()> {
+        for _ in 0..@SAMPLES@ {
+            let start = Instant::now(self.rt)?;
+            rounds_kept(crew, self.mailboxes, self.alloc, self.work)?;
+            print_sample(self.rt, start, self.work, self.workers, "kept")?;
+        }
+        Ok(())
+    }
+}
+
+/// Prints samples of rounds by workers that are kept,
+fn print_kept<R: Threads + Wait + Sync + Clock + Print>(
     rt: &R,
-    crew: &mut Crew<Turn, Answered>,
     alloc: Global,
     work: Turning,
     workers: usize,
 ) -> anyhow::Result<()> {
-    for _ in 0..@SAMPLES@ {
-        let start = Instant::now(rt)?;
-        rounds_kept(crew, alloc, work)?;
-        print_sample(rt, start, work, workers, "kept")?;
-    }
-    Ok(())
+    let helpers = workers.saturating_sub(1);
+    let mailboxes = Mailboxes::open(alloc, helpers)?;
+    let mailboxes = &mailboxes;
+    with_crew(
+        rt,
+        helpers,
+        mailboxes,
+        Kept {
+            rt,
+            alloc,
+            work,
+            workers,
+            mailboxes,
+        },
+    )
 }
 
 /// and by workers that are started anew.
-fn print_anew<R: Threads + Sync + Clock + Print>(
+fn print_anew<R: Threads + Wait + Sync + Clock + Print>(
     rt: &R,
     alloc: Global,
     work: Turning,
@@ -150,24 +194,11 @@ fn print_anew<R: Threads + Sync + Clock + Print>(
     Ok(())
 }
 
-fn print_both<R: Threads + Sync + Clock + Print>(
-    rt: &R,
-    alloc: Global,
-    work: Turning,
-    workers: usize,
-) -> anyhow::Result<()> {
-    print_anew(rt, alloc, work, workers)?;
-    let (crew, posts) = Crew::open(alloc, workers)?;
-    let run = move || {
-        let mut crew = crew;
-        print_kept(rt, &mut crew, alloc, work, workers)
-    };
-    beside(rt, posts, run)
-}
-
 fn main(rt: HostRuntime) -> anyhow::Result<()> {
     for (turns, workers) in [@CASES@] {
-        print_both(&rt, rt.alloc(), Turning { turns }, workers)?;
+        let work = Turning { turns };
+        print_anew(&rt, rt.alloc(), work, workers)?;
+        print_kept(&rt, rt.alloc(), work, workers)?;
     }
     Ok(())
 }
@@ -187,6 +218,17 @@ use Rattle.crew_times.proofs.turned.Given as goal
 
 abbrev pub invariant-loop : goal.invariant-loop
 invariant-loop l = l.number ≡ turned_by l.fn.first l.counter
+""",
+    "proofs/print_kept/Answers.antt": """\
+use denote.Param.Send.{sendable}
+use Rattle.std.proofs.Common.{rules}
+use Rattle.us_slots.proofs.memory.NoMemory.TheSendSync.{the_send as no_memory_send}
+use Rattle.us_crew.proofs.SendLemmas.{mailboxes_sync}
+use Rattle.crew_times.proofs.Turning.TheSendSync.{the_send as turning_send}
+use Rattle.crew_times.proofs.print_kept.Goals as goal
+
+pub with_crew-requires-sync-M : goal.with_crew-requires-sync-M
+with_crew-requires-sync-M g c κs within = search (mailboxes_sync, no_memory_send, turning_send, sendable, rules)
 """,
 }
 

@@ -1,5 +1,5 @@
 -- How many items each worker gets, in the order of the items.
-use Rattle.std.specs.Prelude.{ℕ, zero, suc, ◌+◌, ◌-◌, ◌/◌, nat_lt, ◌||◌, if◌then◌else◌, List, [], ◌∷◌, ◌++◌}
+use Rattle.std.specs.Prelude.{ℕ, zero, suc, ◌-◌, ◌/◌, nat_lt, ◌||◌, if◌then◌else◌, List, [], ◌∷◌, ◌++◌}
 
 -- half of the workers have half of the items, and so on, down to one worker or one item; halved so many times at most
 abbrev pub halved : ℕ → ℕ → ℕ → List ℕ

@@ -1,5 +1,5 @@
-use Rattle.std.proofs.Common.{rules, ◌+◌, ◌<◌, ◌^◌, vec_len, inl, inr, arith}
-use Rattle.us_crew.proofs.PlaceLemmas.{each-of_places, tells-sound, tells-first, tells-workers}
+use Rattle.std.proofs.Common.{rules, ◌+◌, ◌<◌, ◌^◌, vec_len}
+use Rattle.us_crew.proofs.PlaceLemmas.{each-of_places, tells-sound, tells-first}
 use Rattle.us_crew.proofs.FunctionLemmas.{tells-named}
 use Rattle.us_crew.proofs.mapping.map_owned.Goals as goal
 

@@ -1,5 +1,4 @@
-use Rattle.std.proofs.Common.{ap, subst, ◌∙◌, inl, inr, rules, arith}
-use denote.Param.Send.{sendable}
+use Rattle.std.proofs.Common.{ap, subst, ◌∙◌, inl, inr, arith}
 use Rattle.us_output.specs.Outputs.{out_of, AreWithinLimits}
 use Rattle.us_round.specs.Rounds.{RoundResult, round_of}
 use Rattle.us_round.proofs.StageLemmas.{done_few, same_tables}
