@@ -1,5 +1,5 @@
 -- How a replay ends (ours), by its answer.
-use Rattle.std.specs.Prelude.{ℕ, Bool, true, false, Result, Ok, Err}
+use Rattle.std.specs.Prelude.{◌≡◌, ℕ, Bool, true, false, Result, Ok, Err, OnOk, is_ok}
 use Rattle.us_requests.specs.declared.faults.TraceFault.{TraceFault}
 use Rattle.us_replay.specs.declared.summaries.Summary.{Summary}
 use Rattle.us_replay.specs.declared.faults.RunFault.{RunFault}
@@ -64,3 +64,15 @@ abbrev pub rounds_done : Result Summary Ending → ℕ
 rounds_done (Ok summary) = summary.rounds
 rounds_done (Err (StoppedBy what done)) = done
 rounds_done (Err (Refused why)) = 0
+
+-- what both writers tell once a run has ended: whether each failed, and whether its last call was a flush that went well,
+-- before the run and after it
+pub record AreLeft {A : Type 0} (result : Result A RunFault) (maps_failed maps_before maps_after : Bool)
+    (report_failed report_before report_after : Bool) : Type 0 where
+  pub maps_blamed : maps_failed ≡ blames_maps result
+  pub report_blamed : report_failed ≡ blames_report result
+  pub flushed : OnOk result ((maps_after ≡ true) × (report_after ≡ true))
+  pub maps_unflushed : maps_failed ≡ true → maps_after ≡ false
+  pub report_unflushed : report_failed ≡ true → report_after ≡ false
+  pub maps_flushed : maps_before ≡ false → blames_report result ≡ false → maps_after ≡ is_ok result
+  pub report_flushed : report_before ≡ false → report_after ≡ is_ok result

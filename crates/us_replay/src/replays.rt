@@ -6,7 +6,7 @@ ghost use Rattle.us_slots.specs.Devices.{TookAtMost};
 ghost use Rattle.us_requests.specs.Readings.{max_bytes};
 ghost use Rattle.us_round.specs.Rounds.{opening};
 ghost use Rattle.us_replay.specs.Collecting.{AreOpen};
-ghost use Rattle.us_replay.specs.Endings.{comes_before, blames_maps, blames_report};
+ghost use Rattle.us_replay.specs.Endings.{AreLeft, comes_before, blames_maps, blames_report};
 ghost use Rattle.us_replay.specs.Replays.{Growth, Replayed, WroteLawful};
 ghost use Rattle.us_replay.specs.Progress.{Along, CanMake, EndsAs, IsLawfulOutput, IsMade, IsTraceFor, grown, opening_progress};
 
@@ -117,14 +117,8 @@ fn run<H: Threads + Wait + Sync, W1: Sink, W2: Sink, G: Gate + Sync>(
     ensures ends { EndsAs config.now trace.now (grown (W1.contents maps.old) (W1.contents maps.new))
         (grown (W2.contents report.old) (W2.contents report.new)) result }
     ensures lawful { OnOk result (IsLawfulOutput config.now trace.now) }
-    ensures maps_failed { W1.failed maps.new ≡ blames_maps result }
-    ensures report_failed { W2.failed report.new ≡ blames_report result }
-    ensures flushed { OnOk result ((W1.flushed maps.new ≡ true) × (W2.flushed report.new ≡ true)) }
-    ensures maps_unflushed { W1.failed maps.new ≡ true → W1.flushed maps.new ≡ false }
-    ensures report_unflushed { W2.failed report.new ≡ true → W2.flushed report.new ≡ false }
-    ensures maps_flushed { W1.flushed maps.old ≡ false → blames_report result ≡ false →
-        W1.flushed maps.new ≡ is_ok result }
-    ensures report_flushed { W2.flushed report.old ≡ false → W2.flushed report.new ≡ is_ok result }
+    ensures left { AreLeft result (W1.failed maps.new) (W1.flushed maps.old) (W1.flushed maps.new)
+        (W2.failed report.new) (W2.flushed report.old) (W2.flushed report.new) }
 {
     let Ok((intake, seat)) = open_intake(alloc, config.clusters()) else {
         return Err(RunFault::NoMemory(0));
@@ -155,14 +149,8 @@ fn run_with<'a, H: Threads + Wait + Sync, W1: Sink, W2: Sink, G: Gate + Sync>(
     requires report_ready { W2.failed report.old ≡ false }
     ensures ends { EndsAs config.now trace.now (grown (W1.contents maps.old) (W1.contents maps.new))
         (grown (W2.contents report.old) (W2.contents report.new)) result }
-    ensures maps_failed { W1.failed maps.new ≡ blames_maps result }
-    ensures report_failed { W2.failed report.new ≡ blames_report result }
-    ensures flushed { OnOk result ((W1.flushed maps.new ≡ true) × (W2.flushed report.new ≡ true)) }
-    ensures maps_unflushed { W1.failed maps.new ≡ true → W1.flushed maps.new ≡ false }
-    ensures report_unflushed { W2.failed report.new ≡ true → W2.flushed report.new ≡ false }
-    ensures maps_flushed { W1.flushed maps.old ≡ false → blames_report result ≡ false →
-        W1.flushed maps.new ≡ is_ok result }
-    ensures report_flushed { W2.flushed report.old ≡ false → W2.flushed report.new ≡ is_ok result }
+    ensures left { AreLeft result (W1.failed maps.new) (W1.flushed maps.old) (W1.flushed maps.new)
+        (W2.failed report.new) (W2.flushed report.old) (W2.flushed report.new) }
 {
     let Ok(mut progress) = Progress::opening(alloc, config.clusters(), intake, seat) else {
         return Err(RunFault::NoMemory(0));
@@ -204,14 +192,8 @@ fn run_kept<'a, H: Threads + Wait + Sync, W1: Sink, W2: Sink, G: Gate + Copy + S
     requires report_ready { W2.failed report.old ≡ false }
     ensures ends { EndsAs config.now trace.now (grown (W1.contents maps.old) (W1.contents maps.new))
         (grown (W2.contents report.old) (W2.contents report.new)) result }
-    ensures maps_failed { W1.failed maps.new ≡ blames_maps result }
-    ensures report_failed { W2.failed report.new ≡ blames_report result }
-    ensures flushed { OnOk result ((W1.flushed maps.new ≡ true) × (W2.flushed report.new ≡ true)) }
-    ensures maps_unflushed { W1.failed maps.new ≡ true → W1.flushed maps.new ≡ false }
-    ensures report_unflushed { W2.failed report.new ≡ true → W2.flushed report.new ≡ false }
-    ensures maps_flushed { W1.flushed maps.old ≡ false → blames_report result ≡ false →
-        W1.flushed maps.new ≡ is_ok result }
-    ensures report_flushed { W2.flushed report.old ≡ false → W2.flushed report.new ≡ is_ok result }
+    ensures left { AreLeft result (W1.failed maps.new) (W1.flushed maps.old) (W1.flushed maps.new)
+        (W2.failed report.new) (W2.flushed report.old) (W2.flushed report.new) }
 {
     let helpers = workers.saturating_sub(1);
     let (Ok(collects), Ok(fills), Ok(builds)) = (
@@ -274,14 +256,8 @@ fn run_by<'a, D: Doers<'a>, W1: Sink, W2: Sink>(
     requires report_ready { W2.failed report.old ≡ false }
     ensures ends { EndsAs config.now trace.now (grown (W1.contents maps.old) (W1.contents maps.new))
         (grown (W2.contents report.old) (W2.contents report.new)) result }
-    ensures maps_failed { W1.failed maps.new ≡ blames_maps result }
-    ensures report_failed { W2.failed report.new ≡ blames_report result }
-    ensures flushed { OnOk result ((W1.flushed maps.new ≡ true) × (W2.flushed report.new ≡ true)) }
-    ensures maps_unflushed { W1.failed maps.new ≡ true → W1.flushed maps.new ≡ false }
-    ensures report_unflushed { W2.failed report.new ≡ true → W2.flushed report.new ≡ false }
-    ensures maps_flushed { W1.flushed maps.old ≡ false → blames_report result ≡ false →
-        W1.flushed maps.new ≡ is_ok result }
-    ensures report_flushed { W2.flushed report.old ≡ false → W2.flushed report.new ≡ is_ok result }
+    ensures left { AreLeft result (W1.failed maps.new) (W1.flushed maps.old) (W1.flushed maps.new)
+        (W2.failed report.new) (W2.flushed report.old) (W2.flushed report.new) }
 {
     let Ok(state) = opened(alloc, config) else {
         return Err(RunFault::NoMemory(0));
@@ -321,14 +297,8 @@ fn run_on<'a, D: Doers<'a>, W1: Sink, W2: Sink>(
     requires report_ready { W2.failed report.old ≡ false }
     ensures ends { EndsAs state.tables trace.now (grown (W1.contents maps.old) (W1.contents maps.new))
         (grown (W2.contents report.old) (W2.contents report.new)) result }
-    ensures maps_failed { W1.failed maps.new ≡ blames_maps result }
-    ensures report_failed { W2.failed report.new ≡ blames_report result }
-    ensures flushed { OnOk result ((W1.flushed maps.new ≡ true) × (W2.flushed report.new ≡ true)) }
-    ensures maps_unflushed { W1.failed maps.new ≡ true → W1.flushed maps.new ≡ false }
-    ensures report_unflushed { W2.failed report.new ≡ true → W2.flushed report.new ≡ false }
-    ensures maps_flushed { W1.flushed maps.old ≡ false → blames_report result ≡ false →
-        W1.flushed maps.new ≡ is_ok result }
-    ensures report_flushed { W2.flushed report.old ≡ false → W2.flushed report.new ≡ is_ok result }
+    ensures left { AreLeft result (W1.failed maps.new) (W1.flushed maps.old) (W1.flushed maps.new)
+        (W2.failed report.new) (W2.flushed report.old) (W2.flushed report.new) }
 {
     let mut state = state;
     let rounds = trace.rounds();

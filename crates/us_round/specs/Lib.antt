@@ -18,6 +18,8 @@ pub mod CalendarExamples
 pub mod ActivityExamples
 -- what a round's grants take, and what a state keeps and tells
 pub mod States
+-- what a round needs, and what is known of it once it is made
+pub mod Making
 -- laws of the schedule
 pub mod ScheduleLaws
 -- the texts of faults
@@ -30,7 +32,5 @@ pub mod Cores
 pub mod Parts
 -- who does its phases,
 pub mod Hands
--- claims that go to a worker with their channel,
+-- and claims that go to a worker with their channel
 pub mod Placing
--- and a round that a crew makes
-pub mod Crewed

@@ -106,7 +106,7 @@ impl<'a, 'm, H: Wait, G: Gate + Copy + Drop> Hands for Crewed<'a, 'm, H, G> {
 }
 
 /// What workers answered for all items, or want of memory.
-fn answers<R: Drop>(answered: Result<Vec<R>, CrewFault<NoMemory>>) -> Result<Vec<R>, NoMemory>
+pub fn answers<R: Drop, E: Drop>(answered: Result<Vec<R>, CrewFault<E>>) -> Result<Vec<R>, NoMemory>
     ensures { IfOk result (λ all. answered ≡ Ok all) }
 {
     match answered {

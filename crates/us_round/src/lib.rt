@@ -62,7 +62,7 @@ mod alone;
 mod schedule_laws;
 
 pub use alone::{Alone, round_alone};
-pub use crewed::Crewed;
+pub use crewed::{Crewed, answers};
 pub use done::RoundDone;
 pub use faults::RoundFault;
 pub use hands::{Answered, Building, Filling, Hands};

@@ -22,7 +22,7 @@ pub(crate) struct OneRound<'a, 'm, G: Gate> {
 
 impl<'a, 'm, H: Wait, G: Gate + Copy + Drop> Beside<H> for OneRound<'a, 'm, G> {
     ghost use Rattle.std.specs.Prelude.{◌≡◌, IfOk};
-    ghost use Rattle.us_round.specs.Crewed.{CanMake, IsMade};
+    ghost use Rattle.us_round.specs.Making.{CanMake, IsMade};
 
     type Output = Result<RoundDone, NoMemory>;
 
@@ -31,15 +31,14 @@ impl<'a, 'm, H: Wait, G: Gate + Copy + Drop> Beside<H> for OneRound<'a, 'm, G> {
     ghost gives = { λ t result. IfOk result (IsMade t.state t.cuts.now) };
 
     fn run(self, crew: &Crew<'_, H>) -> Result<RoundDone, NoMemory> {
-        let OneRound {
-            alloc,
-            state,
-            cuts,
-            config,
-            gate,
-            mail,
-        } = self;
-        let mut hands = Crewed::new(alloc, crew, config, gate, mail, false);
-        step(state, cuts, &mut hands)
+        let mut hands = Crewed::new(
+            self.alloc,
+            crew,
+            self.config,
+            self.gate,
+            self.mail,
+            false,
+        );
+        step(self.state, self.cuts, &mut hands)
     }
 }

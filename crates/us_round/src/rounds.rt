@@ -4,7 +4,7 @@ ghost use Rattle.us_flows.specs.Tables.{Tables, max_run_ticks};
 ghost use Rattle.us_flows.specs.Clusters.{words_of};
 ghost use Rattle.us_holes.specs.Boards.{max_assignments};
 ghost use Rattle.us_channel.specs.Channels.{heard};
-ghost use Rattle.us_round.specs.Crewed.{CanMake, IsMade};
+ghost use Rattle.us_round.specs.Making.{CanMake, IsMade};
 ghost use Rattle.us_round.specs.Parts.{ArePartsOfRound, state_of};
 ghost use Rattle.us_round.specs.Rounds as spec;
 ghost use Rattle.us_output.specs.Outputs.{out_of, AreWithinLimits};
@@ -88,7 +88,7 @@ fn step_with<H: Threads + Wait + Sync, G: Gate + Sync>(
     if helpers == 0 {
         return step(state, cuts, &mut Alone { gate });
     }
-    let config = state.share_config()?;
+    let config = state.core().share_config()?;
     step_by_crew(threads, alloc, config.get(), state, cuts, helpers, gate)
 }
 
@@ -128,22 +128,9 @@ fn step_by_crew<H: Threads + Wait + Sync, G: Gate + Copy + Sync + Send + Drop>(
 ///
 /// On want of memory the state is given up.
 pub fn step<H: Hands>(state: State, cuts: &[u64], hands: &mut H) -> Result<RoundDone, NoMemory>
-    requires words { length cuts.now ≡ length (words_of state.tables) }
-    requires room { AllByRecursion (λ pair. pair.0 + pair.1 < 2 ^ 62) (zip state.outstanding cuts.now) }
-    requires time { (state.round + 1) * state.tables.round_ticks ≤ max_run_ticks }
+    requires ready { CanMake state cuts.now }
     requires hands { H.knows hands.old state.tables }
-    ensures value { IfOk result (λ done. done ≡ spec.round_of state cuts.now) }
-
-    // The grants credit no cluster more than is outstanding of it, and no flow more than its bucket has; and each starts
-    // inside its MAP.
-    ensures sound { IfOk result (λ _. let begun : spec.State = spec.begun state cuts.now in
-        AreSound begun (spec.builds_of begun)) }
-
-    // Where no MAP passes its limits, a channel has at most a line for each assignment that a MAP can have; all other lines
-    // are of what the calendars settled.
-    ensures few { IfOk result (λ done. AreWithinLimits state.tables done.scheduled →
-        length (out_of state.tables done.scheduled).rows + settled_by state ≤
-        max_assignments * length state.tables.channels + settled_by done.state) }
+    ensures made { IfOk result (IsMade state cuts.now) }
     ensures same { (t : Tables) → H.knows hands.old t → H.knows hands.new t }
 {
     let begun = begin(state, cuts);

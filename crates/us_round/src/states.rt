@@ -8,7 +8,6 @@ use crate::activities::activities;
 use crate::cores::Core;
 use crate::faults::RoundFault;
 use crate::parts::Parts;
-use crate::shared_configs::SharedConfig;
 use std::alloc::Global;
 use std::marker::Model;
 use us_flows::Config;
@@ -76,13 +75,6 @@ impl State {
         ensures buckets { result.now.buckets ≡ self.now.buckets }
     {
         &self.parts.core
-    }
-
-    /// A share of the configuration, which may outlive the state.
-    pub(crate) fn share_config(&self) -> Result<SharedConfig, NoMemory>
-        ensures { IfOk result (λ config. config ≡ self.now.tables) }
-    {
-        self.parts.core.share_config()
     }
 
     /// The F lines: of each SID cluster in table order what is outstanding, and the units of its flow's bucket. Behind them

@@ -1,4 +1,4 @@
-ghost use Rattle.std.specs.Prelude.{◌≡◌, min, IfOk, Ok};
+ghost use Rattle.std.specs.Prelude.{◌≡◌, min, IfOk};
 ghost use Rattle.us_flows.specs.Tables.{Tables};
 ghost use Rattle.us_crew.specs.declared.gates.Phase.TheVariants as phase;
 ghost use Rattle.us_crew.specs.Items.{AreAccepted};
@@ -12,11 +12,11 @@ use crate::collecting::{Chunk, Submitting, join_all, split_all};
 use std::alloc::Global;
 use std::sync::Wait;
 use std::thread::Parker;
-use us_crew::{Crew, CrewFault, Gate, Mail, Mailboxes, Phase, map_kept};
+use us_crew::{Crew, Gate, Mail, Mailboxes, Phase, map_kept};
 use us_intake::{Intake, IntakeFault, Seat};
 use us_output::ChannelWithText;
 use us_requests::Ask;
-use us_round::{Answered, Building, Crewed, Filling, Hands, RoundMail};
+use us_round::{Answered, Building, Crewed, Filling, Hands, RoundMail, answers};
 use us_slots::NoMemory;
 
 /// Where the workers of a crew find asks to submit.
@@ -95,14 +95,4 @@ fn chunks_for(asks: usize, workers: usize) -> usize
     ensures { result ≡ min asks workers }
 {
     asks.min(workers)
-}
-
-/// The answers for all items, or want of memory.
-fn answers<R: Drop, E: Drop>(answered: Result<Vec<R>, CrewFault<E>>) -> Result<Vec<R>, NoMemory>
-    ensures { IfOk result (λ all. answered ≡ Ok all) }
-{
-    match answered {
-        Ok(all) => Ok(all),
-        Err(_) => Err(NoMemory),
-    }
 }

@@ -27,9 +27,9 @@ pub(super) struct WholeRun<'a, 'b, 'm, 'r, G: Gate, W1, W2> {
 
 impl<'a, 'b, 'm, 'r, H: Wait, G: Gate + Copy + Drop, W1: Sink, W2: Sink> Beside<H>
     for WholeRun<'a, 'b, 'm, 'r, G, W1, W2> {
-    ghost use Rattle.std.specs.Prelude.{◌≡◌, true, false, length, OnOk, is_ok};
+    ghost use Rattle.std.specs.Prelude.{◌≡◌, false, length};
     ghost use Rattle.us_flows.specs.Clusters.{words_of};
-    ghost use Rattle.us_replay.specs.Endings.{blames_maps, blames_report};
+    ghost use Rattle.us_replay.specs.Endings.{AreLeft};
     ghost use Rattle.us_replay.specs.Progress.{EndsAs, IsTraceFor, grown, opening_progress};
 
     // How it ended, and the writers.
@@ -42,37 +42,30 @@ impl<'a, 'b, 'm, 'r, H: Wait, G: Gate + Copy + Drop, W1: Sink, W2: Sink> Beside<
     ghost gives = { λ t r. (r.1.ghost_name ≡ t.maps.ghost_name) × (r.2.ghost_name ≡ t.report.ghost_name)
         × EndsAs t.config.now t.trace.now (grown (W1.contents t.maps.now) (W1.contents r.1.now))
         (grown (W2.contents t.report.now) (W2.contents r.2.now)) r.0
-        × (W1.failed r.1.now ≡ blames_maps r.0) × (W2.failed r.2.now ≡ blames_report r.0)
-        × OnOk r.0 ((W1.flushed r.1.now ≡ true) × (W2.flushed r.2.now ≡ true))
-        × (W1.failed r.1.now ≡ true → W1.flushed r.1.now ≡ false)
-        × (W2.failed r.2.now ≡ true → W2.flushed r.2.now ≡ false)
-        × (W1.flushed t.maps.now ≡ false → blames_report r.0 ≡ false → W1.flushed r.1.now ≡ is_ok r.0)
-        × (W2.flushed t.report.now ≡ false → W2.flushed r.2.now ≡ is_ok r.0) };
+        × AreLeft r.0 (W1.failed r.1.now) (W1.flushed t.maps.now) (W1.flushed r.1.now)
+        (W2.failed r.2.now) (W2.flushed t.report.now) (W2.flushed r.2.now) };
 
     fn run(self, crew: &Crew<'_, H>) -> (Result<Summary, RunFault>, &'m mut W1, &'r mut W2) {
-        let WholeRun {
-            alloc,
-            config,
-            trace,
-            mut progress,
-            workers,
-            gate,
-            mail,
-            maps,
-            report,
-        } = self;
-        let hands = Crewed::new(alloc, crew, config, gate, mail.round, true);
+        let (mut progress, maps, report) = (self.progress, self.maps, self.report);
+        let mail = self.mail;
         let mut doers = Kept {
             crew,
-            workers,
-            gate,
+            workers: self.workers,
+            gate: self.gate,
             mail,
-            hands,
+            hands: Crewed::new(
+                self.alloc,
+                crew,
+                self.config,
+                self.gate,
+                mail.round,
+                true,
+            ),
         };
         let ended = run_by(
-            alloc,
-            config,
-            trace,
+            self.alloc,
+            self.config,
+            self.trace,
             &mut progress,
             &mut doers,
             maps,

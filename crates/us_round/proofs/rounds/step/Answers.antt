@@ -2,13 +2,14 @@ use Rattle.std.proofs.Common.{◌≡◌, ◌+◌, ◌*◌, ◌≤◌, ap, sym, s
 use Rattle.std.proofs.lemmas.Result.{IfOk-weaker}
 use Rattle.us_flows.specs.Tables.{max_run_ticks}
 use Rattle.us_round.specs.Rounds.{State, begun}
+use Rattle.us_round.specs.Making.{IsMade}
 use Rattle.us_round.specs.Parts.{done_of}
 use Rattle.us_round.proofs.StageLemmas.{built_in_stages, few_as, room_as, sound_as, stage_built, stage_claims, stepped_as}
 use Rattle.us_round.proofs.rounds.step.Goals as goal
 
 pub fill-requires-clause-time : goal.fill-requires-clause-time
 fill-requires-clause-time g c =
-    subst (λ s. (s.round + 1) * s.tables.round_ticks ≤ max_run_ticks) (sym c.begin-begun.ensures.value) c.requires.time
+    subst (λ s. (s.round + 1) * s.tables.round_ticks ≤ max_run_ticks) (sym c.begin-begun.ensures.value) c.requires.ready.time
 
 pub fill-requires-clause-hands : goal.fill-requires-clause-hands
 fill-requires-clause-hands g c =
@@ -41,7 +42,7 @@ close-requires g c =
     record {
       built = stage_built c.begin-begun.result.core c.in_ok-built.built.core c.begin-begun.result.channels.items
           c.in_ok-built.built.channels.items c.begin-begun.ensures.known
-          (subst (λ s. (s.round + 1) * s.tables.round_ticks ≤ max_run_ticks) (sym c.begin-begun.ensures.value) c.requires.time)
+          (subst (λ s. (s.round + 1) * s.tables.round_ticks ≤ max_run_ticks) (sym c.begin-begun.ensures.value) c.requires.ready.time)
           (built_in_stages c.begin-begun.result.core c.in_ok-filled.filled.core c.plan.new.self.core c.in_ok-built.built.core
           c.begin-begun.result.channels.items c.in_ok-filled.filled.channels.items c.plan.new.self.channels.items
           c.in_ok-built.built.channels.items c.begin-begun.ensures.known c.in_ok-filled.ensures.core
@@ -49,42 +50,26 @@ close-requires g c =
           c.in_ok-built.ensures.channels);
     }
 
-pub returns-clause-value : goal.returns-clause-value
-returns-clause-value g c =
-    IfOk-weaker c.close.result
-    (λ done. done ≡ done_of c.in_ok-built.built.core c.in_ok-built.built.channels.items) _
-    (λ done is. stepped_as c.args.state c.args.cuts.now c.begin-begun.result.core c.in_ok-built.built.core
-    c.begin-begun.result.channels.items c.in_ok-built.built.channels.items done c.begin-begun.ensures.known
-    c.begin-begun.ensures.value
-    (built_in_stages c.begin-begun.result.core c.in_ok-filled.filled.core c.plan.new.self.core c.in_ok-built.built.core
+pub returns-clause-made : goal.returns-clause-made
+returns-clause-made g c =
+    let built = built_in_stages c.begin-begun.result.core c.in_ok-filled.filled.core c.plan.new.self.core c.in_ok-built.built.core
     c.begin-begun.result.channels.items c.in_ok-filled.filled.channels.items c.plan.new.self.channels.items
     c.in_ok-built.built.channels.items c.begin-begun.ensures.known c.in_ok-filled.ensures.core
     c.in_ok-filled.ensures.channels c.in_ok-plan.ensures.core c.plan.ensures.channels c.in_ok-built.ensures.core
-    c.in_ok-built.ensures.channels) is)
-    c.close.ensures
-
-pub returns-clause-sound : goal.returns-clause-sound
-returns-clause-sound g c =
-    IfOk-weaker c.close.result
-    (λ done. done ≡ done_of c.in_ok-built.built.core c.in_ok-built.built.channels.items) _
-    (λ done is. sound_as (begun c.args.state c.args.cuts.now) c.begin-begun.result.core c.begin-begun.result.channels.items c.begin-begun.ensures.known
-    c.begin-begun.ensures.value)
-    c.close.ensures
-
-pub returns-clause-few : goal.returns-clause-few
-returns-clause-few g c =
-    IfOk-weaker c.close.result
-    (λ done. done ≡ done_of c.in_ok-built.built.core c.in_ok-built.built.channels.items) _
-    (λ done is. few_as c.args.state c.args.cuts.now c.begin-begun.result.core c.begin-begun.result.channels.items done
-    c.begin-begun.ensures.known c.begin-begun.ensures.value
-    (stepped_as c.args.state c.args.cuts.now c.begin-begun.result.core c.in_ok-built.built.core
+    c.in_ok-built.ensures.channels in
+    IfOk-weaker c.close.result (λ done. done ≡ done_of c.in_ok-built.built.core c.in_ok-built.built.channels.items)
+    (IsMade c.args.state c.args.cuts.now)
+    (λ done is.
+    let value = stepped_as c.args.state c.args.cuts.now c.begin-begun.result.core c.in_ok-built.built.core
     c.begin-begun.result.channels.items c.in_ok-built.built.channels.items done c.begin-begun.ensures.known
-    c.begin-begun.ensures.value
-    (built_in_stages c.begin-begun.result.core c.in_ok-filled.filled.core c.plan.new.self.core c.in_ok-built.built.core
-    c.begin-begun.result.channels.items c.in_ok-filled.filled.channels.items c.plan.new.self.channels.items
-    c.in_ok-built.built.channels.items c.begin-begun.ensures.known c.in_ok-filled.ensures.core
-    c.in_ok-filled.ensures.channels c.in_ok-plan.ensures.core c.plan.ensures.channels c.in_ok-built.ensures.core
-    c.in_ok-built.ensures.channels) is))
+    c.begin-begun.ensures.value built is in
+    record {
+      value = value;
+      sound = sound_as (begun c.args.state c.args.cuts.now) c.begin-begun.result.core c.begin-begun.result.channels.items
+          c.begin-begun.ensures.known c.begin-begun.ensures.value;
+      few = few_as c.args.state c.args.cuts.now c.begin-begun.result.core c.begin-begun.result.channels.items done
+          c.begin-begun.ensures.known c.begin-begun.ensures.value value;
+    })
     c.close.ensures
 
 pub returns-clause-same : goal.returns-clause-same

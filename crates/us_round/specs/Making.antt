@@ -1,4 +1,4 @@
--- Inside the crate: what a round needs that a crew is to make, and what is known once it is made.
+-- What a round needs that is to be made, and what is known once it is made.
 use Rattle.std.specs.Prelude.{◌≡◌, ℕ, ◌+◌, ◌*◌, ◌^◌, ◌<◌, ◌≤◌, List, length, zip}
 use Rattle.std.specs.List.{AllByRecursion}
 use Rattle.us_flows.specs.Tables.{max_run_ticks}
