@@ -2,6 +2,7 @@
 use Rattle.std.proofs.Common.{◌≡◌, ℕ, ◌+◌, ◌==◌, if◌then◌else◌, List, Option, length, map, refl, ap, ap₂, sym, subst, ◌∙◌, inl, inr}
 use Rattle.std.proofs.lemmas.Bool.{cases_Bool}
 use Rattle.std.proofs.lemmas.List.{length-map, length-replicate}
+use Rattle.std.specs.Arc.{arc_value}
 use Rattle.us_flows.specs.Tables.{Tables}
 use Rattle.us_flows.specs.Clusters.{words_of, turns_of}
 use Rattle.us_flows.specs.Lawful.{AreTables}
@@ -21,10 +22,10 @@ use Rattle.us_round.proofs.StateLemmas.{left-length, spent-length}
 
 -- what a core has in memory, in its box
 abbrev pub core_in : Kept → Core
-core_in k = core_of k.config k.round k.askers k.buckets k.reserves k.planner
+core_in k = core_of (arc_value k.config) k.round k.askers k.buckets k.reserves k.planner
 
 abbrev pub IsKept : Kept → Type 0
-IsKept k = AreKept k.config k.askers k.buckets k.reserves k.planner k.allowances.items k.left.items
+IsKept k = AreKept (arc_value k.config) k.askers k.buckets k.reserves k.planner k.allowances.items k.left.items
 
 pub kept_too : (k boxed : Kept) → k ≡ boxed → IsKept boxed → IsKept k
 kept_too k boxed same are = subst IsKept (sym same) are

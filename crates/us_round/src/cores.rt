@@ -1,5 +1,6 @@
 ghost use Rattle.std.specs.Prelude.{◌≡◌, ◌+◌, ◌-◌, ◌*◌, ◌^◌, ◌<◌, ◌≤◌, filter_map, length, zip, IfOk, OnOk};
 ghost use Rattle.std.specs.List.{AllByRecursion};
+ghost use Rattle.std.specs.Arc.{arc_value};
 ghost use Rattle.us_flows.specs.Tables.{max_run_ticks};
 ghost use Rattle.us_flows.specs.Clusters.{words_of};
 ghost use Rattle.us_flows.specs.Lawful.{AreTables};
@@ -11,9 +12,9 @@ ghost use Rattle.us_round.specs.Cores as spec;
 ghost use Rattle.us_round.specs.States.{Covers};
 
 use crate::buckets::Buckets;
-use crate::shared_configs::SharedConfig;
 use std::alloc::Global;
 use std::marker::Model;
+use std::sync::Arc;
 use us_bucket::Bucket;
 use us_flows::Config;
 use us_output::{ChannelWithText, PendingSid};
@@ -39,7 +40,8 @@ use reserving::{leave, reserve};
 
 /// What a core has in memory. It stays where it stands while the core goes through the stages of a round.
 pub(crate) struct Kept {
-    config: SharedConfig,
+    // The workers of a round have it too, while the core goes through the stages.
+    config: Arc<Config>,
     round: u32,
     askers: Askers,
     buckets: Buckets,
@@ -79,10 +81,10 @@ pub(crate) struct Core {
 impl Model for Core {
     ghost Value = { spec.Core };
 
-    ghost view = { λ s. spec.core_of s.kept.value.config s.kept.value.round s.kept.value.askers s.kept.value.buckets
+    ghost view = { λ s. spec.core_of (arc_value s.kept.value.config) s.kept.value.round s.kept.value.askers s.kept.value.buckets
         s.kept.value.reserves s.kept.value.planner };
 
-    ghost invariant = { λ s. spec.AreKept s.kept.value.config s.kept.value.askers s.kept.value.buckets s.kept.value.reserves
+    ghost invariant = { λ s. spec.AreKept (arc_value s.kept.value.config) s.kept.value.askers s.kept.value.buckets s.kept.value.reserves
         s.kept.value.planner s.kept.value.allowances.items s.kept.value.left.items };
 }
 
@@ -105,7 +107,7 @@ impl Core {
         let flows = config.flows().len();
         let allowances = no_limits(alloc, flows)?;
         let left = room_for_reserves(alloc, &config)?;
-        let config = SharedConfig::new(alloc, config)?;
+        let config = Arc::new(alloc, config)?;
         let kept = Box::new(
             alloc,
             Kept {
@@ -128,14 +130,14 @@ impl Core {
         ensures value { result.now ≡ self.now.tables }
         ensures known { spec.IsCore self.now }
     {
-        self.kept.config.get()
+        &self.kept.config
     }
 
     /// A share of the configuration, which may outlive the core.
-    pub(crate) fn share_config(&self) -> Result<SharedConfig, NoMemory>
-        ensures { IfOk result (λ config. config ≡ self.now.tables) }
+    pub(crate) fn share_config(&self) -> Result<Arc<Config>, NoMemory>
+        ensures { IfOk result (λ config. arc_value config ≡ self.now.tables) }
     {
-        self.kept.config.share()
+        Ok(self.kept.config.clone()?)
     }
 
     /// The number of the next round.
@@ -206,7 +208,7 @@ impl Core {
             ..
         } = self.kept.as_mut();
         note_idle(idle, channels)?;
-        let turns = config.get().turns();
+        let turns = config.turns();
         let asking = askers.asking();
         let allowances = allowances.as_mut_slice();
         let left = left.as_mut_slice();
@@ -239,7 +241,7 @@ impl Core {
     pub(crate) fn list_pendings(&self, pendings: &mut Vec<PendingSid>) -> Result<(), NoMemory>
         ensures { OnOk result (pendings.new.items ≡ filter_map (spec.first_sid_at self.now.tables) self.now.pending) }
     {
-        list_pendings(pendings, self.kept.config.get(), self.kept.askers.pending())
+        list_pendings(pendings, &self.kept.config, self.kept.askers.pending())
     }
 }
 

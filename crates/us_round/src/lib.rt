@@ -33,9 +33,6 @@ mod crewed;
 // What a round starts from: the buckets,
 mod buckets;
 
-// the configuration,
-mod shared_configs;
-
 // all but the channels,
 mod cores;
 

@@ -31,14 +31,7 @@ impl<'a, 'm, H: Wait, G: Gate + Copy + Drop> Beside<H> for OneRound<'a, 'm, G> {
     ghost gives = { λ t result. IfOk result (IsMade t.state t.cuts.now) };
 
     fn run(self, crew: &Crew<'_, H>) -> Result<RoundDone, NoMemory> {
-        let mut hands = Crewed::new(
-            self.alloc,
-            crew,
-            self.config,
-            self.gate,
-            self.mail,
-            false,
-        );
+        let mut hands = Crewed::new(self.alloc, crew, self.config, self.gate, self.mail, false);
         step(self.state, self.cuts, &mut hands)
     }
 }

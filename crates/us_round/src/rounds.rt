@@ -89,7 +89,7 @@ fn step_with<H: Threads + Wait + Sync, G: Gate + Sync>(
         return step(state, cuts, &mut Alone { gate });
     }
     let config = state.core().share_config()?;
-    step_by_crew(threads, alloc, config.get(), state, cuts, helpers, gate)
+    step_by_crew(threads, alloc, &config, state, cuts, helpers, gate)
 }
 
 /// The same by a crew. The configuration is the state's.

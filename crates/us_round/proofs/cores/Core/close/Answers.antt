@@ -1,4 +1,5 @@
 use Rattle.std.proofs.Common.{◌≡◌, ap, sym, subst, ◌∙◌}
+use Rattle.std.specs.Arc.{arc_value}
 use Rattle.us_round.specs.Cores.{credited_core}
 use Rattle.us_round.specs.Rounds.{all_grants}
 use Rattle.us_round.specs.States.{Covers}
@@ -17,7 +18,7 @@ pub invariant_of-self : goal.invariant_of-self
 invariant_of-self c =
     let a = c.as_mut.result.now in
     let kept = kept_too a c.self.inside.kept.value c.as_mut.ensures.value c.self.invariant in
-    closed_kept a.config a.askers c.credit_all.new.askers c.settle.new.self a.buckets c.credit_all.new.buckets a.reserves
+    closed_kept (arc_value a.config) a.askers c.credit_all.new.askers c.settle.new.self a.buckets c.credit_all.new.buckets a.reserves
     a.planner a.allowances.items a.left.items c.args.built.now kept c.credit_all.ensures.credited c.settle.ensures
 
 pub returns-clause-value : goal.returns-clause-value
@@ -25,6 +26,6 @@ returns-clause-value c =
     let a = c.as_mut.result.now in
     let kept = kept_too a c.self.inside.kept.value c.as_mut.ensures.value c.self.invariant in
     let told : core_in a ≡ c.args.self.now = ap core_in c.as_mut.ensures.value ∙ c.self.view_is in
-    closed_value a.config a.round a.askers c.credit_all.new.askers c.settle.new.self a.buckets c.credit_all.new.buckets
+    closed_value (arc_value a.config) a.round a.askers c.credit_all.new.askers c.settle.new.self a.buckets c.credit_all.new.buckets
     a.reserves a.planner c.args.built.now kept.settled kept.tables c.credit_all.ensures.credited c.settle.ensures
     ∙ ap (λ s. credited_core s c.args.built.now) told
