@@ -86,15 +86,3 @@ pub next-first : {Y Z : Type 0} (so_far next : List Y) (y : Y) (z : Z) (left res
 next-first so_far next y z left rest whole next_is left_is is =
     ap (λ l. l ++ firsts_of rest) next_is ∙ append_assoc so_far (y ∷ []) (firsts_of rest)
     ∙ ap (λ l. so_far ++ firsts_of l) (sym left_is) ∙ is
-
--- what is said of an answer, said otherwise
-pub said-else : {A E : Type 0} (result : Result A E) (P Q : A → Type 0) → ((a : A) → P a → Q a) → IfOk result P →
-    IfOk result Q
-said-else (Err given) P Q so holds = tt
-said-else (Ok a) P Q so holds = so a holds
-
--- what was answered, passed on with another fault
-pub passed : {A E F : Type 0} (answered : Result A E) (result : Result A F) (P : A → Type 0) →
-    IfOk result (λ all. answered ≡ Ok all) → IfOk answered P → IfOk result P
-passed answered (Err given) P same holds = tt
-passed answered (Ok all) P same holds = subst (λ r. IfOk r P) same holds

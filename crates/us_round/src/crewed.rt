@@ -87,11 +87,7 @@ impl<'a, 'm, H: Wait, G: Gate + Copy + Drop> Hands for Crewed<'a, 'm, H, G> {
         ensures same { (t : Tables) → self.old.config.now ≡ t → self.new.config.now ≡ t }
     {
         let items = laden(self.alloc, work, channels, &mut self.lists)?;
-        let text_of = if self.writes_ahead {
-            Some(work.round)
-        } else {
-            None
-        };
+        let text_of = self.writes_ahead.then_some(work.round);
         let all = answers(map_kept(
             self.crew,
             self.mail.builds,

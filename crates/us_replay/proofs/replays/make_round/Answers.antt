@@ -21,13 +21,13 @@ pub take_round-requires : goal.take_round-requires
 take_round-requires g c =
     let below : c.next_round.result < 2 ^ 32 = search rules in
     let rounds : c.in_ok-made.made.state.round < 2 ^ 32 = rw (sym c.next_round.ensures.value) below in
-    room-for c.args.state c.cut.result.now c.in_ok-made.made c.in_ok-made.ensures.value c.args.progress.now
-    c.take_asks.new.self c.args.asks.now c.requires.ready c.in_ok-take_asks.ensures.collected c.in_ok-made.ensures.few rounds
+    room-for c.args.state c.cut.result.now c.in_ok-made.made c.in_ok-made.ensures.made.value c.args.progress.now
+    c.take_asks.new.self c.args.asks.now c.requires.ready c.in_ok-take_asks.ensures.collected c.in_ok-made.ensures.made.few rounds
     c.next_round.ensures.few
 
 pub returns-clause-made : goal.returns-clause-made
 returns-clause-made g c =
-    is-made c.args.state c.cut.result.now c.in_ok-made.made c.in_ok-made.ensures.value c.args.progress.now
+    is-made c.args.state c.cut.result.now c.in_ok-made.made c.in_ok-made.ensures.made.value c.args.progress.now
     c.take_asks.new.self c.take_round.new.self c.args.asks.now c.into_state.result c.requires.ready
-    c.in_ok-take_asks.ensures.collected c.cut.ensures c.in_ok-made.ensures.few c.in_ok-take_round.ensures.progress
+    c.in_ok-take_asks.ensures.collected c.cut.ensures c.in_ok-made.ensures.made.few c.in_ok-take_round.ensures.progress
     c.in_ok-take_round.ensures.limits c.in_ok-take_round.ensures.fields c.into_state.ensures

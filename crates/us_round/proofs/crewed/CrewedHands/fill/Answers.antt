@@ -1,7 +1,8 @@
-use Rattle.std.proofs.Common.{◌≡◌}
+use Rattle.std.proofs.Common.{◌≡◌, Ok, subst}
+use Rattle.std.specs.Prelude.{IfOk}
+use Rattle.std.proofs.lemmas.Result.{IfOk-weaker}
 use Rattle.us_crew.specs.Values.{values_of}
 use Rattle.us_round.specs.Hands.{filled_at}
-use Rattle.us_round.proofs.PlacingLemmas.{passed}
 use Rattle.us_round.proofs.crewed.CrewedHands.fill.Goals as goal
 
 pub map_kept-requires : goal.map_kept-requires
@@ -9,5 +10,6 @@ map_kept-requires g c = rw c.requires.known (λ place item is entered. c.require
 
 pub returns-clause-value : goal.returns-clause-value
 returns-clause-value g c =
-    passed c.map_kept.result c.answers.result (λ all. all.items ≡ values_of (filled_at c.args.work.now) c.args.channels.items)
-    c.answers.ensures (rw c.requires.known at c.map_kept.ensures.values)
+    IfOk-weaker c.answers.result (λ all. c.map_kept.result ≡ Ok all) _
+    (λ all same. subst (λ r. IfOk r (λ all. all.items ≡ values_of (filled_at c.args.work.now) c.args.channels.items)) same
+    (rw c.requires.known at c.map_kept.ensures.values)) c.answers.ensures
