@@ -47,24 +47,18 @@ impl<'a, 'b, 'm, 'r, H: Wait, G: Gate + Copy + Drop, W1: Sink, W2: Sink> Beside<
 
     fn run(self, crew: &Crew<'_, H>) -> (Result<Summary, RunFault>, &'m mut W1, &'r mut W2) {
         let (mut progress, maps, report) = (self.progress, self.maps, self.report);
-        let mail = self.mail;
+        let (alloc, config, gate, mail) = (self.alloc, self.config, self.gate, self.mail);
+        let hands = Crewed::new(alloc, crew, config, gate, mail.round, true);
         let mut doers = Kept {
             crew,
             workers: self.workers,
-            gate: self.gate,
+            gate,
             mail,
-            hands: Crewed::new(
-                self.alloc,
-                crew,
-                self.config,
-                self.gate,
-                mail.round,
-                true,
-            ),
+            hands,
         };
         let ended = run_by(
-            self.alloc,
-            self.config,
+            alloc,
+            config,
             self.trace,
             &mut progress,
             &mut doers,

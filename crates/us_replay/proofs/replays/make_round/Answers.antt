@@ -4,15 +4,14 @@ use Rattle.us_replay.proofs.MadeLemmas.{is-made, room-for}
 use Rattle.us_replay.proofs.SumLemmas.{length-cut}
 use Rattle.us_replay.proofs.replays.make_round.Goals as goal
 
-pub step-requires-clause-words : goal.step-requires-clause-words
-step-requires-clause-words g c =
-    ap length (c.cut.ensures ∙ ap (λ p. p.cut) c.in_ok-take_asks.ensures.collected) ∙
-    length-cut (length c.args.progress.now.cut) c.args.asks.now ∙ c.requires.ready.clusters
-
-pub step-requires-clause-room : goal.step-requires-clause-room
-step-requires-clause-room g c =
-    pairs-room c.args.state.outstanding c.cut.result.now (length c.args.progress.now.cut) c.args.asks.now
-    (c.cut.ensures ∙ ap (λ p. p.cut) c.in_ok-take_asks.ensures.collected) c.requires.ready.asked
+pub step-requires-clause-ready : goal.step-requires-clause-ready
+step-requires-clause-ready g c =
+    let cut = c.cut.ensures ∙ ap (λ p. p.cut) c.in_ok-take_asks.ensures.collected in record {
+      words = ap length cut ∙ length-cut (length c.args.progress.now.cut) c.args.asks.now ∙ c.requires.ready.clusters;
+      room = pairs-room c.args.state.outstanding c.cut.result.now (length c.args.progress.now.cut) c.args.asks.now cut
+          c.requires.ready.asked;
+      time = c.requires.ready.time;
+    }
 
 pub step-requires-clause-hands : goal.step-requires-clause-hands
 step-requires-clause-hands g c = c.take_asks.ensures.same c.args.state.tables c.requires.doers
