@@ -8,7 +8,7 @@ ghost use Rattle.us_round.specs.Rounds.{opening};
 ghost use Rattle.us_replay.specs.Collecting.{AreOpen};
 ghost use Rattle.us_replay.specs.Endings.{AreLeft, comes_before, blames_maps, blames_report};
 ghost use Rattle.us_replay.specs.Replays.{Growth, Replayed, WroteLawful};
-ghost use Rattle.us_replay.specs.Progress.{Along, CanMake, EndsAs, IsLawfulOutput, IsMade, IsTraceFor, grown, opening_progress};
+ghost use Rattle.us_replay.specs.Progress.{CanMake, EndsAs, IsLawfulOutput, IsMade, IsTraceFor, grown, opening_progress};
 
 use crate::collecting::open_intake;
 use crate::doers::{Doers, RunMail};
@@ -239,7 +239,8 @@ fn workers_for(config: &Config, trace: &Trace, workers: usize) -> usize {
     workers.min(config.channels().len().max(trace.most_asks()))
 }
 
-/// Replays a trace from its start, by these doers.
+/// Replays a trace from its start, by these doers. That the progress stands with the caller spares each way out of here
+/// to give it up.
 fn run_by<'a, D: Doers<'a>, W1: Sink, W2: Sink>(
     alloc: Global,
     config: &Config,
@@ -259,48 +260,9 @@ fn run_by<'a, D: Doers<'a>, W1: Sink, W2: Sink>(
     ensures left { AreLeft result (W1.failed maps.new) (W1.flushed maps.old) (W1.flushed maps.new)
         (W2.failed report.new) (W2.flushed report.old) (W2.flushed report.new) }
 {
-    let Ok(state) = opened(alloc, config) else {
+    let Ok(mut state) = opened(alloc, config) else {
         return Err(RunFault::NoMemory(0));
     };
-    run_on(alloc, trace, state, progress, doers, maps, report)
-}
-
-/// The state before round 0, of a copy of the configuration.
-fn opened(alloc: Global, config: &Config) -> Result<State, NoMemory>
-    ensures value { IfOk result (λ state. state ≡ opening config.now) }
-    ensures lawful { AreTables config.now }
-{
-    // What is known of tables is told by their readers.
-    let _ = config.clusters();
-    let copy = config.copy(alloc)?;
-    match State::new(alloc, copy) {
-        Ok(state) => Ok(state),
-        Err(_) => Err(NoMemory),
-    }
-}
-
-/// Replays a trace from before round 0 on. That the progress stands with the caller spares each way out of here to give
-/// it up.
-fn run_on<'a, D: Doers<'a>, W1: Sink, W2: Sink>(
-    alloc: Global,
-    trace: &'a Trace,
-    state: State,
-    progress: &mut Progress<'a>,
-    doers: &mut D,
-    maps: &mut W1,
-    report: &mut W2,
-) -> Result<Summary, RunFault>
-    requires trace { IsTraceFor state.tables trace.now }
-    requires along { Along state.tables trace.now 0 state progress.old }
-    requires doers { D.knows doers.old state.tables }
-    requires maps_ready { W1.failed maps.old ≡ false }
-    requires report_ready { W2.failed report.old ≡ false }
-    ensures ends { EndsAs state.tables trace.now (grown (W1.contents maps.old) (W1.contents maps.new))
-        (grown (W2.contents report.old) (W2.contents report.new)) result }
-    ensures left { AreLeft result (W1.failed maps.new) (W1.flushed maps.old) (W1.flushed maps.new)
-        (W2.failed report.new) (W2.flushed report.old) (W2.flushed report.new) }
-{
-    let mut state = state;
     let rounds = trace.rounds();
     for done in 0..rounds {
         let asks = trace.asks(done);
@@ -322,6 +284,20 @@ fn run_on<'a, D: Doers<'a>, W1: Sink, W2: Sink>(
     )?;
     flush(rounds, maps, report)?;
     Ok(progress.summary(rounds, trace.counts()))
+}
+
+/// The state before round 0, of a copy of the configuration.
+fn opened(alloc: Global, config: &Config) -> Result<State, NoMemory>
+    ensures value { IfOk result (λ state. state ≡ opening config.now) }
+    ensures lawful { AreTables config.now }
+{
+    // What is known of tables is told by their readers.
+    let _ = config.clusters();
+    let copy = config.copy(alloc)?;
+    match State::new(alloc, copy) {
+        Ok(state) => Ok(state),
+        Err(_) => Err(NoMemory),
+    }
 }
 
 /// Makes the round of a state and these asks, and its texts. After want of memory nothing is said of `progress`.
