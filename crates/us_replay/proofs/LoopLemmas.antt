@@ -1,6 +1,6 @@
 -- The loop over rounds: how state, progress and writers stand after each.
 use Rattle.std.proofs.Common.{◌≡◌, ℕ, zero, suc, ◌+◌, ◌*◌, ◌^◌, ◌<◌, ◌≤◌, List, [], ◌∷◌, ◌++◌, length, replicate, map, take, drop, cond, nat_le, Bool, sum, sum_by, count_by, true, Option, Err, refl, ap, sym, subst, ◌∙◌, arith}
-use Rattle.std.specs.List.{AllByRecursion, range_with_len, zip}
+use Rattle.std.specs.List.{AllByRecursion, drop-map, range_with_len, zip}
 use Rattle.std.proofs.lemmas.Bool.{and_parts, leb-true}
 use Rattle.std.proofs.lemmas.Nat.{mul-le}
 use Rattle.std.proofs.lemmas.List.{length-map, length-replicate, drop_more, drop_all, take_all}
@@ -29,7 +29,8 @@ use Rattle.us_replay.proofs.RoundLemmas.{After, after, HasCalendars, opening-cal
 use Rattle.us_replay.proofs.CollectingLemmas.{all-within, are-asks}
 use Rattle.us_replay.proofs.SumLemmas.{added-below, length-cut, sum-cut}
 use Rattle.us_replay.specs.declared.faults.RunFault.TheVariants as fault
-use Rattle.us_replay.proofs.ReplayStopLemmas.{next-of, next-part, nothing-yet, none-kept, stops-between, AreTexts, AreLast}
+use Rattle.us_round.proofs.PlacingLemmas.{next-of}
+use Rattle.us_replay.proofs.ReplayStopLemmas.{next-part, nothing-yet, none-kept, stops-between, AreTexts, AreLast}
 
 -- Before round 0.
 
@@ -67,11 +68,6 @@ next-cut t v k below =
     let cut : ℕ → List ℕ = λ round. cut_of (length (words_of t)) (asks_in v round) in
     drop_more (cuts_in t v) k [] (omega (arith, below, length-map-range_with_len cut 0 v.rounds)) ∙
     ap (λ c. c ∷ drop (k + 1) (cuts_in t v)) (get_or-map-range_with_len cut 0 v.rounds k k [] below (omega arith))
-
-map-drop : {X Y : Type 0} (f : X → Y) (k : ℕ) (xs : List X) → drop k (map f xs) ≡ map f (drop k xs)
-map-drop f zero xs = refl
-map-drop f (suc k) [] = refl
-map-drop f (suc k) (x ∷ xs) = map-drop f k xs
 
 sum-more : (f : ℕ → ℕ) (from n : ℕ) →
     sum_by f (range_with_len from (n + 1)) ≡ sum_by f (range_with_len from n) + f (from + n)
@@ -122,9 +118,9 @@ next-here t v k state p along below =
     let here : Scheduled = (step_of state p (asks_in v k)).scheduled in
     let now = next-round t v k state p along below in
     let later = next-of all k _ _ now in
-    map-drop (out_of t) k all ∙ ap (map (out_of t)) now ∙
+    drop-map (out_of t) k all ∙ ap (map (out_of t)) now ∙
     ap (λ rest. out_of t here ∷ map (out_of t) rest) (sym later.behind) ∙
-    ap (λ rest. out_of t here ∷ rest) (sym (map-drop (out_of t) (k + 1) all)) ∙
+    ap (λ rest. out_of t here ∷ rest) (sym (drop-map (out_of t) (k + 1) all)) ∙
     ap (λ u. out_of u here ∷ drop (k + 1) (output_in t v).given) (sym along.tables)
 
 count-next : (passes : Row → Bool) (given : List RoundOut) (k : ℕ) (here : RoundOut) (rest : List RoundOut) →
@@ -133,16 +129,6 @@ count-next : (passes : Row → Bool) (given : List RoundOut) (k : ℕ) (here : R
 count-next passes given k here rest is =
     ap (count_by passes) (next-part (λ out. out.rows) given k here rest is) ∙
     sum_by-append (λ row. cond (passes row) 1 0) (all_rows (take k given)) here.rows
-
--- of one more round the limits are kept too
-limits-next : {X : Type 0} (P : X → Type 0) (xs : List X) (k : ℕ) (x : X) (rest : List X) → drop k xs ≡ x ∷ rest →
-    AllByRecursion P (take k xs) → P x → AllByRecursion P (take (k + 1) xs)
-limits-next P [] zero x rest is kept here = let no : [] ≡ x ∷ rest = is in cc
-limits-next P [] (suc k) x rest is kept here = let no : [] ≡ x ∷ rest = is in cc
-limits-next P (y ∷ ys) zero x rest is kept here = let same : y ≡ x = cc in (subst P (sym same) here, tt)
-limits-next P (y ∷ ys) (suc k) x rest is kept here =
-    let back : suc (k + 1) ≡ suc k + 1 = omega arith in
-    subst (λ n. AllByRecursion P (take n (y ∷ ys))) back (kept.0, limits-next P ys k x rest is kept.1 here)
 
 along-made : (t : Tables) (v : TraceAsks) (k : ℕ) (state next : State) (p q : Progress) → IsTrace v → Along t v k state p →
     k < v.rounds → IsMade state p (asks_in v k) next q → Along t v (k + 1) next q
@@ -200,8 +186,9 @@ along-made t v k state next p q lawful along below made =
         next_round,
         count_by-le-length is_missed here.rows,
       );
-      limits = limits-next (AreWithinLimits t) (schedule (opening t) (cuts_in t v)) k _ _ now along.limits
-          (subst (λ u. AreWithinLimits u (step_of state p (asks_in v k)).scheduled) along.tables made.limits);
+      limits = subst (AllByRecursion _) (sym (next-of (schedule (opening t) (cuts_in t v)) k _ _ now).taken)
+          (all_append _ (take k (schedule (opening t) (cuts_in t v))) _ along.limits
+          (subst (λ u. AreWithinLimits u (step_of state p (asks_in v k)).scheduled) along.tables made.limits, tt));
       fields = subst (AllByRecursion HasFields) (sym (next-part (λ out. out.rows) (output_in t v).given k here _ given))
           (all_append HasFields (all_rows (take k (output_in t v).given)) here.rows along.fields made.fields);
     }

@@ -5,6 +5,7 @@ use Rattle.std.proofs.lemmas.Bool.{cases_lt}
 use Rattle.std.proofs.lemmas.Grind.{flat_map-append}
 use Rattle.std.proofs.lemmas.List.{take-append-drop, take-append-le, take_at, take_all}
 use Rattle.std.specs.Io.KnownBytes.{Appends, Keeps}
+use Rattle.us_round.proofs.PlacingLemmas.{next-of}
 use Rattle.us_slots.proofs.DeviceLemmas.{appends_nothing, appends_join, appends_keep}
 use Rattle.us_flows.specs.Tables.{Tables}
 use Rattle.us_requests.specs.declared.asks.Counts.{Counts}
@@ -17,28 +18,6 @@ use Rattle.us_replay.specs.Replays.{Growth, Took, TookRounds, Holds, Stopped, Ra
 use Rattle.us_replay.specs.Progress.{Sent, Flushed, grown}
 
 -- Lists.
-
--- what stands at a place
-pub record Next {X : Type 0} (xs : List X) (k : ℕ) (x : X) (rest : List X) : Type 0 where
-  pub below : k < length xs
-  pub taken : take (k + 1) xs ≡ take k xs ++ x ∷ []
-  pub behind : drop (k + 1) xs ≡ rest
-
-pub next-of : {X : Type 0} (xs : List X) (k : ℕ) (x : X) (rest : List X) → drop k xs ≡ x ∷ rest → Next xs k x rest
-next-of [] zero x rest h = let no : [] ≡ x ∷ rest = h in cc
-next-of [] (suc k) x rest h = let no : [] ≡ x ∷ rest = h in cc
-next-of (y ∷ ys) zero x rest h =
-    let same : y ≡ x = cc in
-    let behind : ys ≡ rest = cc in
-    record { below = omega arith; taken = ap (λ z. z ∷ []) same; behind = behind }
-next-of (y ∷ ys) (suc k) x rest h =
-    let later : Next ys k x rest = next-of ys k x rest h in
-    let next : suc k + 1 ≡ suc (k + 1) = omega arith in
-    record {
-      below = omega (arith, later.below);
-      taken = ap (λ i. take i (y ∷ ys)) next ∙ ap (λ xs. y ∷ xs) later.taken;
-      behind = ap (λ i. drop i (y ∷ ys)) next ∙ later.behind;
-    }
 
 -- its part, behind the parts before it
 pub next-part : {X Y : Type 0} (f : X → List Y) (xs : List X) (k : ℕ) (x : X) (rest : List X) → drop k xs ≡ x ∷ rest →

@@ -1,5 +1,5 @@
 -- Items that are made of channels one after another: those that are made, and the channels that are left.
-use Rattle.std.proofs.Common.{◌≡◌, ℕ, zero, suc, ◌+◌, List, [], ◌∷◌, ◌++◌, map, length, drop, Some, slice_get, append_assoc, length-append, append-nil, refl, sym, ap, subst, ◌∙◌, Result, Ok, Err, arith}
+use Rattle.std.proofs.Common.{◌≡◌, ℕ, zero, suc, ◌+◌, ◌<◌, List, [], ◌∷◌, ◌++◌, map, length, take, drop, Some, slice_get, append_assoc, length-append, append-nil, refl, sym, ap, subst, ◌∙◌, Result, Ok, Err, arith}
 use Rattle.std.specs.Prelude.{IfOk}
 use Rattle.us_crew.specs.Values.{values_from, values_of}
 use Rattle.us_crew.specs.Parts.{EachFrom}
@@ -7,21 +7,29 @@ use Rattle.us_crew.proofs.PartLemmas.{values-append, each-append}
 use Rattle.us_crew.proofs.PlaceLemmas.{each-at}
 use Rattle.us_round.specs.Placing.{AreLaden}
 
--- what stands at the front of what is left, by its place in the whole
-found-at : {X : Type 0} (xs : List X) (k : ℕ) (x : X) (rest : List X) → drop k xs ≡ x ∷ rest → slice_get xs k ≡ Some x
-found-at [] zero x rest h = let no : [] ≡ x ∷ rest = h in cc
-found-at [] (suc k) x rest h = let no : [] ≡ x ∷ rest = h in cc
-found-at (y ∷ ys) zero x rest h = let same : y ≡ x = cc in ap Some same
-found-at (y ∷ ys) (suc k) x rest h = found-at ys k x rest h
+-- what stands at a place of a list, and behind it
+pub record Next {X : Type 0} (xs : List X) (k : ℕ) (x : X) (rest : List X) : Type 0 where
+  pub below : k < length xs
+  pub here : slice_get xs k ≡ Some x
+  pub taken : take (k + 1) xs ≡ take k xs ++ x ∷ []
+  pub behind : drop (k + 1) xs ≡ rest
 
--- and what stands behind that
-behind : {X : Type 0} (xs : List X) (k : ℕ) (x : X) (rest : List X) → drop k xs ≡ x ∷ rest → drop (k + 1) xs ≡ rest
-behind [] zero x rest h = let no : [] ≡ x ∷ rest = h in cc
-behind [] (suc k) x rest h = let no : [] ≡ x ∷ rest = h in cc
-behind (y ∷ ys) zero x rest h = let same : ys ≡ rest = cc in same
-behind (y ∷ ys) (suc k) x rest h =
+pub next-of : {X : Type 0} (xs : List X) (k : ℕ) (x : X) (rest : List X) → drop k xs ≡ x ∷ rest → Next xs k x rest
+next-of [] zero x rest h = let no : [] ≡ x ∷ rest = h in cc
+next-of [] (suc k) x rest h = let no : [] ≡ x ∷ rest = h in cc
+next-of (y ∷ ys) zero x rest h =
+    let same : y ≡ x = cc in
+    let behind : ys ≡ rest = cc in
+    record { below = omega arith; here = ap Some same; taken = ap (λ z. z ∷ []) same; behind = behind }
+next-of (y ∷ ys) (suc k) x rest h =
+    let later : Next ys k x rest = next-of ys k x rest h in
     let next : suc k + 1 ≡ suc (k + 1) = omega arith in
-    ap (λ i. drop i (y ∷ ys)) next ∙ behind ys k x rest h
+    record {
+      below = omega (arith, later.below);
+      here = later.here;
+      taken = ap (λ i. take i (y ∷ ys)) next ∙ ap (λ xs. y ∷ xs) later.taken;
+      behind = ap (λ i. drop i (y ∷ ys)) next ∙ later.behind;
+    }
 
 module _ {I B Z : Type 0} (value : I → Z) (can : I → Type 0) (value_at : ℕ → B → Z) (can_at : ℕ → B → Type 0) where
   -- what is made may be used where that may which it is made of
@@ -49,8 +57,8 @@ module _ {I B Z : Type 0} (value : I → Z) (can : I → Type 0) (value_at : ℕ
             ap (λ z. values_of (λ _ i. value i) made ++ z ∷ values_from value_at (length made + 1) rest) same ∙
             so_far.values;
         ready = each-append (Suits whole) 0 made (i ∷ []) so_far.ready
-            (subst (λ n. Suits whole n i) number (b, found-at whole (length made) b rest so_far.left, fits), tt);
-        left = ap (λ n. drop n whole) more ∙ behind whole (length made) b rest so_far.left;
+            (subst (λ n. Suits whole n i) number (b, (next-of whole (length made) b rest so_far.left).here, fits), tt);
+        left = ap (λ n. drop n whole) more ∙ (next-of whole (length made) b rest so_far.left).behind;
       }
 
   pub next-made : (made next : List I) (i : I) (b : B) (left rest whole : List B) → next ≡ made ++ i ∷ [] →

@@ -18,8 +18,6 @@ pub mod CalendarExamples
 pub mod ActivityExamples
 -- what a round's grants take, and what a state keeps and tells
 pub mod States
--- what a round needs, and what is known of it once it is made
-pub mod Making
 -- laws of the schedule
 pub mod ScheduleLaws
 -- the texts of faults

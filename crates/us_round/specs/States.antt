@@ -1,17 +1,18 @@
--- What a state keeps and tells, and what of it the grants of a round may take.
-use Rattle.std.specs.Prelude.{◌≡◌, ℕ, ◌+◌, ◌*◌, ◌<◌, ◌≤◌, ◌==◌, Bool, if◌then◌else◌, List, ◌++◌, length, map, sum_by, zip, slice_index, slice_get, Option, Some, None, option_and_then}
+-- What a state keeps and tells, what of it the grants of a round may take, and what a round of it needs and leaves.
+use Rattle.std.specs.Prelude.{◌≡◌, ℕ, ◌+◌, ◌*◌, ◌^◌, ◌<◌, ◌≤◌, ◌==◌, Bool, if◌then◌else◌, List, ◌++◌, length, map, sum_by, zip, slice_index, slice_get, Option, Some, None, option_and_then}
 use Rattle.std.specs.List.{AllByRecursion, find}
-use Rattle.us_flows.specs.Tables.{FlowTable}
+use Rattle.us_flows.specs.Tables.{FlowTable, max_run_ticks}
 use Rattle.us_flows.specs.Clusters.{table_order, tells_activity, words_of}
 use Rattle.us_bucket.specs.Levels.{Level, bytes_in}
 use Rattle.us_split.specs.PlanLaws.{Within}
 use Rattle.us_calendar.specs.Calendars.{activity_in, pace_of, settled_in, max_settled, granted_in}
 use Rattle.us_channel.specs.Placements.{PlacedClaim, credits}
 use Rattle.us_channel.specs.Channels.{Built}
-use Rattle.us_output.specs.Outputs.{activity_rows, final_row}
+use Rattle.us_holes.specs.Boards.{max_assignments}
+use Rattle.us_output.specs.Outputs.{AreWithinLimits, activity_rows, final_row, out_of}
 use Rattle.us_output.specs.Leftovers.{IsBuiltFor, AreInside}
 use Rattle.us_output.specs.declared.rows.Row.{Row}
-use Rattle.us_round.specs.Rounds.{State, all_grants, is_of_cluster, is_of_flow}
+use Rattle.us_round.specs.Rounds.{State, RoundResult, all_grants, begun, builds_of, is_of_cluster, is_of_flow, round_of}
 
 -- there is a number for each word, a bucket and a reserve for each flow, and a calendar for each channel, at this round
 pub record IsState (s : State) : Type 0 where
@@ -63,3 +64,17 @@ unfoldable pub final_rows : State → List Row
 final_rows state =
     map (final_row state.outstanding state.buckets) (table_order state.tables)
     ++ activity_rows state.tables.flows (map (activity_of state) state.tables.flows)
+
+-- the cut has a number for each word, which has room for it, and the round ends in time
+pub record CanMake (state : State) (cut : List ℕ) : Type 0 where
+  pub words : length cut ≡ length (words_of state.tables)
+  pub room : AllByRecursion (λ pair. pair.0 + pair.1 < 2 ^ 62) (zip state.outstanding cut)
+  pub time : (state.round + 1) * state.tables.round_ticks ≤ max_run_ticks
+
+-- the round of this state and this cut
+pub record IsMade (state : State) (cut : List ℕ) (done : RoundResult) : Type 0 where
+  pub value : done ≡ round_of state cut
+  pub sound : AreSound (begun state cut) (builds_of (begun state cut))
+  pub few : AreWithinLimits state.tables done.scheduled →
+      length (out_of state.tables done.scheduled).rows + settled_by state ≤
+      max_assignments * length state.tables.channels + settled_by done.state

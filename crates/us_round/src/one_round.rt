@@ -22,7 +22,7 @@ pub(crate) struct OneRound<'a, 'm, G: Gate> {
 
 impl<'a, 'm, H: Wait, G: Gate + Copy + Drop> Beside<H> for OneRound<'a, 'm, G> {
     ghost use Rattle.std.specs.Prelude.{◌≡◌, IfOk};
-    ghost use Rattle.us_round.specs.Making.{CanMake, IsMade};
+    ghost use Rattle.us_round.specs.States.{CanMake, IsMade};
 
     type Output = Result<RoundDone, NoMemory>;
 

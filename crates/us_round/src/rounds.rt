@@ -4,11 +4,10 @@ ghost use Rattle.us_flows.specs.Tables.{Tables, max_run_ticks};
 ghost use Rattle.us_flows.specs.Clusters.{words_of};
 ghost use Rattle.us_holes.specs.Boards.{max_assignments};
 ghost use Rattle.us_channel.specs.Channels.{heard};
-ghost use Rattle.us_round.specs.Making.{CanMake, IsMade};
 ghost use Rattle.us_round.specs.Parts.{ArePartsOfRound, state_of};
 ghost use Rattle.us_round.specs.Rounds as spec;
 ghost use Rattle.us_output.specs.Outputs.{out_of, AreWithinLimits};
-ghost use Rattle.us_round.specs.States.{AreSound, settled_by};
+ghost use Rattle.us_round.specs.States.{AreSound, CanMake, IsMade, settled_by};
 
 use crate::alone::Alone;
 use crate::done::RoundDone;
@@ -143,9 +142,7 @@ pub fn step<H: Hands>(state: State, cuts: &[u64], hands: &mut H) -> Result<Round
 /// Begins the round of a state: what the clusters ask for is outstanding too, the buckets grow, and the calendars hear which
 /// flows are active from this round on, and which are silent.
 fn begin(state: State, cuts: &[u64]) -> Parts
-    requires words { length cuts.now ≡ length (words_of state.tables) }
-    requires room { AllByRecursion (λ pair. pair.0 + pair.1 < 2 ^ 62) (zip state.outstanding cuts.now) }
-    requires time { (state.round + 1) * state.tables.round_ticks ≤ max_run_ticks }
+    requires { CanMake state cuts.now }
     ensures value { state_of result.core result.channels.items ≡ spec.begun state cuts.now }
     ensures known { ArePartsOfRound result.core result.channels.items }
 {

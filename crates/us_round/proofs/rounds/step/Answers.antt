@@ -2,7 +2,7 @@ use Rattle.std.proofs.Common.{◌≡◌, ◌+◌, ◌*◌, ◌≤◌, ap, sym, s
 use Rattle.std.proofs.lemmas.Result.{IfOk-weaker}
 use Rattle.us_flows.specs.Tables.{max_run_ticks}
 use Rattle.us_round.specs.Rounds.{State, begun}
-use Rattle.us_round.specs.Making.{IsMade}
+use Rattle.us_round.specs.States.{IsMade}
 use Rattle.us_round.specs.Parts.{done_of}
 use Rattle.us_round.proofs.StageLemmas.{built_in_stages, few_as, room_as, sound_as, stage_built, stage_claims, stepped_as}
 use Rattle.us_round.proofs.rounds.step.Goals as goal
