@@ -2,7 +2,7 @@
 use Rattle.std.proofs.Common.{◌≡◌, ℕ, zero, suc, ◌-◌, ◌/◌, ◌≤◌, ◌<◌, Bool, true, false, List, [], ◌∷◌, ◌++◌, refl, ap₂, inl, inr, ◌⊎◌, arith}
 use Rattle.std.specs.Prelude.{nat_lt, ◌||◌, if◌then◌else◌}
 use Rattle.std.proofs.Math.Bool.{or-true}
-use Rattle.std.proofs.lemmas.Bool.{lt-ltb, le-ltb, ltb-false}
+use Rattle.std.proofs.lemmas.Bool.{lt-ltb, le-ltb, ltb-false, or_parts}
 use Rattle.us_crew.specs.Cutting.{halved, halved_parts}
 
 -- one list where something holds, and where it doesn't one of two that are the same then
@@ -10,10 +10,6 @@ either : (b : Bool) (one left right : List ℕ) → (b ≡ false → left ≡ ri
     (if b then one else left) ≡ (if b then one else right)
 either true one left right same = refl
 either false one left right same = same refl
-
-neither : (a b : Bool) → (a || b) ≡ false → a ≡ false
-neither true b is = is
-neither false b is = refl
 
 pub enough : (t u workers items : ℕ) → workers ≤ t → workers ≤ u → halved t workers items ≡ halved u workers items
 enough zero zero workers items few many = refl
@@ -23,7 +19,7 @@ enough (suc t) zero zero items few many = refl
 enough (suc t) zero (suc workers) items few many = absurd (omega arith)
 enough (suc t) (suc u) workers items few many =
     either (nat_lt workers 2 || nat_lt items 2) (items ∷ []) _ _ (λ is.
-    let some : 2 ≤ workers = ltb-false workers 2 (neither (nat_lt workers 2) (nat_lt items 2) is) in
+    let some : 2 ≤ workers = ltb-false workers 2 (or_parts (nat_lt workers 2) (nat_lt items 2) is).0 in
     ap₂ (λ front back. front ++ back)
     (enough t u (workers / 2) (items / 2) (omega arith) (omega arith))
     (enough t u (workers - workers / 2) (items - items / 2) (omega arith) (omega arith)))

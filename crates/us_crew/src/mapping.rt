@@ -202,12 +202,14 @@ fn in_parts<
     ensures { TellsTask W.value W.may_fail W.must_fail task result }
 {
     if lengths.len() < 2 {
-        crew.call();
         return task.run();
     }
     let others = lengths.len() - 1;
     let last = task.cut_off(lengths[others])?;
     let pending = mailboxes.put(others - 1, last)?;
+    if others == 1 {
+        crew.call();
+    }
     let front = in_parts(crew, mailboxes, &lengths[..others], task);
     let Some(back) = pending.answer(crew, mailboxes) else {
         return Err(CrewFault::NoMemory);

@@ -1,4 +1,4 @@
-ghost use Rattle.std.specs.Prelude.{◌≡◌, ◌+◌, ◌^◌, ◌<◌, IfOk, vec_len};
+ghost use Rattle.std.specs.Prelude.{◌≡◌, ◌+◌, ◌^◌, ◌<◌, min, IfOk, vec_len};
 
 use super::answers::Answered;
 use super::turns::in_turn;
@@ -23,7 +23,8 @@ impl<W: Copy, G: Copy, T> Task<W, G, T> {
     /// Cuts the last `length` items off, or all where there are fewer.
     pub(crate) fn cut_off(&mut self, length: usize) -> Result<Task<W, G, T>, NoMemory>
         requires { self.old.start + vec_len self.old.items < 2 ^ 64 }
-        ensures { IfOk result (λ last. IsCut self.old self.new last) }
+        ensures cut { IfOk result (λ last. IsCut self.old self.new last) }
+        ensures part { IfOk result (λ last. vec_len last.items ≡ min length (vec_len self.old.items)) }
     {
         let kept = self.items.len().saturating_sub(length);
         let items = self.items.split_off(kept)?;
