@@ -14,7 +14,8 @@ It relies on:
   rtlib.guarded()                         has all that is started end with this program
   rtlib.lock(crates)                      waits until no other `rt` works in these crates' folders, and keeps it out while what
                                           it returns is open
-  share_work(is_alone)                    has builds begin with what other checkouts on this machine kept, where that serves
+  share_work(is_alone)                    has builds begin with what other checkouts on this machine kept, where that serves;
+                                          the earlier kit has no such function, and keeps nothing of other checkouts
   read_edit(edit, folder)                 the texts of the files that an edit changes, and else why it can't be applied
   unread(line, changed)                   whether a line says that a file of these paths could not be read
   checked(crate, texts, flags, kept)      a finished check, over what `kept` holds, with `returncode` and `stdout`
@@ -45,7 +46,6 @@ FUNCTIONS = {
     "rtlib.files_of": ("folder",),
     "rtlib.guarded": (),
     "rtlib.lock": ("crates",),
-    "share_work": ("is_alone",),
     "read_edit": ("edit", "folder"),
     "unread": ("line", "changed"),
     "checked": ("crate", "texts", "flags", "kept"),
@@ -199,7 +199,8 @@ def files_of(crate):
 def alone_in(crates):
     """Keeps every other `rt` out of the folders of these crates, and has them built over what is kept, as `rt all check` does."""
     held = rt.rtlib.lock(crates)
-    rt.share_work(True)
+    if found(rt, "share_work"):
+        rt.share_work(True)
     try:
         yield
     finally:
