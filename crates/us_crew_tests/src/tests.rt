@@ -9,3 +9,4 @@ mod kept_answers;
 mod kept_base;
 mod memory;
 mod plain;
+mod sleepers;

@@ -3,7 +3,7 @@ ghost use Rattle.std.specs.Prelude.{◌/◌, ⊤};
 use super::base::{Case, Doubling, Told, numbers_to, tell};
 use std::alloc::Global;
 use std::sync::Wait;
-use std::thread::{Parker, Threads};
+use std::thread::{Parker, Threads, yield_now};
 use us_crew::{Beside, Crew, Gate, Mail, Mailboxes, Phase, Work, map_kept, with_crew};
 
 /// Halves numbers, and refuses none.
@@ -49,12 +49,16 @@ struct Rounds<'a, G: Gate> {
     case: &'a Case,
     gate: G,
     rounds: u32,
+    pause: u32,
     mail: &'a BothMail<'a, G>,
 }
 
 impl<'a, G: Gate + Copy + Drop> Rounds<'a, G> {
     /// A round, the digits of whose phases stand one behind the other. A fault of the first keeps nobody from the second.
     fn round<H: Wait>(&self, crew: &Crew<'_, H>) -> Told {
+        for _ in 0..self.pause {
+            yield_now();
+        }
         let front = self.doubled(crew);
         let back = self.halved(crew)?;
         Ok(front?.wrapping_mul(0x10_0000).wrapping_add(back))
@@ -107,7 +111,16 @@ impl<'a, G: Gate + Copy + Drop, H: Wait> Beside<H> for Rounds<'a, G> {
     }
 }
 
-/// Rounds by workers that are kept.
+/// So many rounds, each after so many turns in which nothing is called.
+#[derive(Clone, Copy)]
+pub(super) struct Plan {
+    pub(super) rounds: u32,
+    pub(super) pause: u32,
+    /// The threads beside the owner.
+    pub(super) helpers: usize,
+}
+
+/// Rounds by workers that are kept, of whom each has a thread.
 pub(super) fn by_kept<H: Threads + Wait + Sync, G: Gate + Copy + Sync + Send + Drop>(
     threads: &H,
     alloc: Global,
@@ -115,22 +128,39 @@ pub(super) fn by_kept<H: Threads + Wait + Sync, G: Gate + Copy + Sync + Send + D
     gate: G,
     rounds: u32,
 ) -> Told {
-    let helpers = case.workers.saturating_sub(1);
-    let doubles = Mailboxes::open(alloc, helpers)?;
-    let halves = Mailboxes::open(alloc, helpers)?;
+    let plan = Plan {
+        rounds,
+        pause: 0,
+        helpers: case.workers.saturating_sub(1),
+    };
+    by_plan(threads, alloc, case, gate, plan)
+}
+
+/// Rounds by parts for the workers of the case, whatever threads there are.
+pub(super) fn by_plan<H: Threads + Wait + Sync, G: Gate + Copy + Sync + Send + Drop>(
+    threads: &H,
+    alloc: Global,
+    case: &Case,
+    gate: G,
+    plan: Plan,
+) -> Told {
+    let others = case.workers.saturating_sub(1);
+    let doubles = Mailboxes::open(alloc, others)?;
+    let halves = Mailboxes::open(alloc, others)?;
     let mail = BothMail {
         doubles: &doubles,
         halves: &halves,
     };
     with_crew(
         threads,
-        helpers,
+        plan.helpers,
         &mail,
         Rounds {
             alloc,
             case,
             gate,
-            rounds,
+            rounds: plan.rounds,
+            pause: plan.pause,
             mail: &mail,
         },
     )
