@@ -33,10 +33,9 @@ Example, from the top of the repository:
 
 It prints one line: rounds, G lines, M lines, and the three counts of the U line.
   rounds 4 granted 11 missed 0 unknown 0 not_requestable 1 late 0
-
-More workers help only where channels have dozens of grants per round. There are never more than
-channels, or than requests of one round, whichever are more. The output is the same.
-
+",
+    MORE_WORKERS,
+    "
 The maps file has a record for each round and channel: the round (4 bytes, big-endian), the length
 of the MAP body in bytes (2 bytes, big-endian), and the body.
 ",
@@ -134,7 +133,9 @@ Example, from the top of the repository:
 It prints one line for each element of each MAP, with offset and length in minislots, and then the
 report:
   round channel offset length sid iuc
-
+",
+    MORE_WORKERS,
+    "
 If its output is closed early, as by `head`, it ends with `fault io output` and status 4.
 ",
     TRACE,
@@ -150,6 +151,12 @@ If its output is closed early, as by `head`, it ends with `fault io output` and 
     "  fault io NAME     the stream failed: input or output\n",
     MEMORY,
 ];
+
+/// How many workers there are.
+const MORE_WORKERS: &str = "
+More workers help only where channels have dozens of grants per round. There are never more than
+channels, or than requests of one round, whichever are more. The output is the same.
+";
 
 /// The trace.
 const TRACE: &str = "

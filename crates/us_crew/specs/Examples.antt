@@ -3,6 +3,7 @@ use Rattle.std.specs.Prelude.{◌≡◌, ℕ, ◌+◌, ◌*◌, ◌<◌, nat_lt,
 use Rattle.std.proofs.Common.{arith}
 use Rattle.us_crew.specs.Values.{values_of}
 use Rattle.us_crew.specs.Faults.{IsFirstFault, first_fault}
+use Rattle.us_crew.specs.Cutting.{halved_parts, equal_parts}
 
 -- an item's value may be told by its number too
 doubled :
@@ -10,6 +11,9 @@ doubled :
     (values_of (λ number item. number + 10 * item) (7 ∷ 7 ∷ 7 ∷ []) ≡ 70 ∷ 71 ∷ 72 ∷ []) ×
     (values_of (λ _ item. 2 * item) [] ≡ [])
 doubled = (refl, refl, refl)
+
+five_among_three : (halved_parts 3 5 ≡ 2 ∷ 1 ∷ 2 ∷ []) × (equal_parts 3 5 ≡ 1 ∷ 2 ∷ 2 ∷ [])
+five_among_three = (refl, refl)
 
 -- every item above 2 is refused, with that item
 abbrev refused : ℕ → ℕ → Option ℕ

@@ -1,13 +1,11 @@
-ghost use Rattle.std.specs.Prelude.{◌≡◌};
-
 use super::calls::Calls;
 use super::patience::Patience;
 use crate::Mail;
 use std::sync::Wait;
 use std::thread::{Parker, Scope, Threads, scope, scope_env};
 
-/// The workers of a call or a run, as their owner has them: the owner, which is the calling thread, and its helpers,
-/// which are threads of their own. They look for tasks where the owner says.
+/// The workers of a call or a run: the owner, which is the calling thread, and its helpers, threads of their own. They
+/// look for tasks where the owner says. One thread at a time hands out tasks, by mailboxes that no other crew has.
 #[derive(Drop)]
 pub struct Crew<'c, H> {
     threads: &'c H,

@@ -13,7 +13,7 @@
 //!
 //! What these words mean stands in `specs/`, in the order of its `Lib.antt`.
 //!
-//! These calls may wait, and take a handle for it or a crew that has one: [`map_owned`], [`with_crew`] and [`map_kept`].
+//! May wait, and take a handle or a crew that has one: [`map_owned`], [`with_crew`], [`map_kept`], `run` of a [`Beside`].
 #![tactic(auto)]
 
 // What is done with an item.

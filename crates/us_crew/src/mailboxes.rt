@@ -116,7 +116,7 @@ impl<W: Work<T, R, E> + Drop, G: Gate + Drop, T: Drop, R: Drop, E: Drop> Mailbox
 
 /// Where a worker looks for tasks.
 pub trait Mail {
-    /// Does the task in the worker's own mailbox, then those that others haven't begun, and wakes the owner after each.
+    /// Does the task in the worker's own mailbox, then those that others haven't begun, and wakes this owner after each.
     fn serve(&self, worker: usize, owner: &Parker);
 }
 

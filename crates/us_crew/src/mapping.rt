@@ -136,7 +136,7 @@ impl<
 ///
 /// Each part beside the first costs a list of its items and a ring for its answer, and all together one call. The owner
 /// waits for all parts, and does those that nobody has begun. So all are done when this returns, also after want of
-/// memory, and the crew may go on.
+/// memory, and the crew may go on. After that the helpers may not have been called, and the owner does what they would.
 ///
 /// On a fault the items are given up.
 pub fn map_kept<

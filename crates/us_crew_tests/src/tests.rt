@@ -1,5 +1,6 @@
 //! What no clause says: that the work is done where there is memory, that workers are at work at the same time, that
-//! one worker is one thread, that kept workers do the same from round to round, and that a fault can be written.
+//! one worker is one thread, that kept workers do the same from round to round and are woken, and that a fault can be
+//! written.
 
 mod answers;
 mod base;

@@ -97,9 +97,9 @@ impl Live {
     /// each of which enters the gate before each channel. How many there are, and which comes when, changes nothing of
     /// the answer.
     ///
-    /// The workers are those of `round` of `us_round`: a crew for this call alone. It starts a thread for each worker but
-    /// one, and for no more than there are channels, and ends them with the round: some tens of microseconds a thread. So
-    /// one worker is the fastest, unless the channels have more to do than that. With several this call waits for them,
+    /// The workers are those of `round` of `us_round`: a crew for this call alone, of no more than there are channels. It
+    /// starts a thread for each but one, and ends them with the round: some tens of microseconds a thread. So one worker
+    /// is the fastest, unless the channels have more to do than that. With several this call waits for them,
     /// as long as the gate holds them.
     ///
     /// LV4: memory was wanting in an earlier round; LV5: all rounds were answered; LV6: the workers are 0 or over 64;

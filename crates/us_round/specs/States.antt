@@ -71,7 +71,8 @@ pub record CanMake (state : State) (cut : List ℕ) : Type 0 where
   pub room : AllByRecursion (λ pair. pair.0 + pair.1 < 2 ^ 62) (zip state.outstanding cut)
   pub time : (state.round + 1) * state.tables.round_ticks ≤ max_run_ticks
 
--- the round of this state and this cut
+-- the round of this state and this cut: its grants take no more than there is, and where no MAP passes its limits, it
+-- has a line at most for each assignment of a MAP, and those that the calendars settled
 pub record IsMade (state : State) (cut : List ℕ) (done : RoundResult) : Type 0 where
   pub value : done ≡ round_of state cut
   pub sound : AreSound (begun state cut) (builds_of (begun state cut))

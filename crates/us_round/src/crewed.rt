@@ -1,4 +1,4 @@
-ghost use Rattle.std.specs.Prelude.{◌≡◌, IfOk, Ok};
+ghost use Rattle.std.specs.Prelude.{◌≡◌, IfOk, Ok, is_ok};
 ghost use Rattle.us_flows.specs.Tables.{Tables};
 ghost use Rattle.us_crew.specs.declared.gates.Phase.TheVariants as phase;
 ghost use Rattle.us_crew.specs.Items.{AreAccepted};
@@ -101,9 +101,10 @@ impl<'a, 'm, H: Wait, G: Gate + Copy + Drop> Hands for Crewed<'a, 'm, H, G> {
     }
 }
 
-/// What workers answered for all items, or want of memory.
+/// What workers answered for all items; each fault of theirs is told as want of memory.
 pub fn answers<R: Drop, E: Drop>(answered: Result<Vec<R>, CrewFault<E>>) -> Result<Vec<R>, NoMemory>
-    ensures { IfOk result (λ all. answered ≡ Ok all) }
+    ensures value { IfOk result (λ all. answered ≡ Ok all) }
+    ensures fault { is_ok result ≡ is_ok answered }
 {
     match answered {
         Ok(all) => Ok(all),

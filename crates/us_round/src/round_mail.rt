@@ -14,7 +14,9 @@ pub type BuildMail<G> = Mailboxes<Placing, G, Laden, Laden, NoMemory>;
 /// Where they find them in both phases of a round.
 #[derive(Drop)]
 pub struct RoundMail<'a, 'm, G: Gate> {
+    /// Channels to fill.
     pub fills: &'m FillMail<'a, G>,
+    /// Channels to build.
     pub builds: &'m BuildMail<G>,
 }
 

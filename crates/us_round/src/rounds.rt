@@ -31,8 +31,8 @@ use us_slots::NoMemory;
 ///
 /// Channels are moved to workers and back twice: in phase `Fill` for reserves and calendars, then, once all boards are
 /// planned together, in phase `Build`. The workers are the calling thread and threads that are started for this round,
-/// together as many as were asked for or as there are channels. Each enters the gate before each channel. What is
-/// answered is the same for every number of workers. RO1 is looked for before all else.
+/// together as many as were asked for, and no more than there are channels. Each enters the gate before each channel.
+/// What is answered is the same for every number of workers. RO1 is looked for before all else.
 ///
 /// The outstanding bytes of each word and its cut together have to be below 2^62, and the round has to end at tick 2^26
 /// or before. On a fault the state is given up.

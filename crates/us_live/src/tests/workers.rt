@@ -70,7 +70,8 @@ fn make_rounds<H: Threads + Wait + Sync>(
     Ok(())
 }
 
-/// What is counted in so many rounds of so many channels, each of which is held for at most so many turns.
+/// What is counted in so many rounds of so many channels, each of which is held for at most so many turns. 8,000 bytes of the
+/// first cluster are asked for.
 fn counted<H: Threads + Wait + Sync>(
     threads: &H,
     alloc: Global,
@@ -87,6 +88,10 @@ fn counted<H: Threads + Wait + Sync>(
         builds: AtomicU64::new(0),
     };
     let (live, intake, seat) = open(alloc, channels, rounds)?;
+    let Ok((seat, mut other)) = intake.split(alloc, seat, 8_000) else {
+        return Err(LiveFault::Quota);
+    };
+    let _ = intake.submit(&mut other, 0, 8_000);
     make_rounds(threads, alloc, live, &intake, seat, rounds, workers, &gate)?;
     let fills = gate.fills.load(Ordering::SeqCst);
     Ok((fills, gate.builds.load(Ordering::SeqCst)))

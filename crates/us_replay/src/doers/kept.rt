@@ -1,9 +1,5 @@
 ghost use Rattle.std.specs.Prelude.{◌≡◌, min, IfOk};
 ghost use Rattle.us_flows.specs.Tables.{Tables};
-ghost use Rattle.us_crew.specs.declared.gates.Phase.TheVariants as phase;
-ghost use Rattle.us_crew.specs.Items.{AreAccepted};
-ghost use Rattle.us_crew.specs.Values.{values_of};
-ghost use Rattle.us_round.specs.Hands.{CanBuild, CanFill, built_at, filled_at};
 ghost use Rattle.us_replay.specs.Collecting.{CanGather, seat_after_asks};
 
 use super::Doers;

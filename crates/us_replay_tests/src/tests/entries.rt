@@ -4,7 +4,6 @@ use super::base::{BONDED_MAPS, BONDED_REPORT, BONDED_TRACE, bonded, same};
 use super::devices::{reader, writer};
 use super::replays::outcome;
 use std::alloc::{AllocError, Global};
-use std::process::Abort;
 use std::sync::Wait;
 use std::sync::atomic::{AtomicU64, Ordering};
 use std::thread::Threads;

@@ -2,6 +2,7 @@ ghost use Rattle.std.specs.Prelude.{⊤};
 
 use super::base::same;
 use super::entries::{replay_past, requests};
+use super::workers::{BONDED_OUTCOME, expect};
 use std::alloc::Global;
 use std::process::Abort;
 use std::sync::Wait;
@@ -56,6 +57,25 @@ struct Meeting {
     build: Square,
 }
 
+/// What is seen at the squares: of a phase how many entered, and how many came alone.
+type Seen = ((usize, usize), (usize, usize), (usize, usize));
+
+impl Meeting {
+    /// Requests by so many workers, over two channels.
+    fn of(workers: usize, turns: u64) -> Meeting {
+        Meeting {
+            turns,
+            collect: Square::of(workers),
+            fill: Square::of(2),
+            build: Square::of(2),
+        }
+    }
+
+    fn seen(&self) -> Seen {
+        (self.collect.seen(), self.fill.seen(), self.build.seen())
+    }
+}
+
 impl Gate for Meeting {
     ghost entered = { λ _ _ _. ⊤ };
 
@@ -69,9 +89,6 @@ impl Gate for Meeting {
     }
 }
 
-/// What is seen at the squares: of a phase how many entered, and how many came alone.
-type Seen = ((usize, usize), (usize, usize), (usize, usize));
-
 /// A run by so many workers, with as many requests in each round, over two bonded channels.
 #[derive(Clone, Copy)]
 struct Run {
@@ -83,38 +100,32 @@ struct Run {
 /// Compares what is seen in a run with what has to be.
 fn compare(rt: &(impl Abort + Threads + Wait + Sync), alloc: Global, run: Run, wanted: Seen) {
     let requests_each = if run.workers == 1 { 2 } else { run.workers };
-    let gate = Meeting {
-        turns: run.turns,
-        collect: Square::of(run.workers),
-        fill: Square::of(2),
-        build: Square::of(2),
-    };
+    let gate = Meeting::of(run.workers, run.turns);
     if let Ok(trace) = requests(alloc, run.rounds, requests_each) {
         let rounds = u32::from(run.rounds).saturating_add(1);
         replay_past(rt, alloc, trace.as_bytes(), rounds, run.workers, &gate);
     }
-    let found = (gate.collect.seen(), gate.fill.seen(), gate.build.seen());
-    same(rt, &found, &wanted, "met");
+    same(rt, &gate.seen(), &wanted, "met");
 }
 
 /// In each round but the first two requests are collected by two workers, who meet there, and over two channels in both
 /// other phases of each round.
 #[test]
 fn two_workers_meet(rt: HostRuntime) {
-    for (rounds, items) in [(1, 2), (5, 10)] {
-        let run = Run {
-            rounds,
-            workers: 2,
-            turns: 100_000_000,
-        };
-        let channels = items + 2;
-        compare(
-            &rt,
-            rt.alloc(),
-            run,
-            ((items, 0), (channels, 0), (channels, 0)),
-        );
-    }
+    let run = Run {
+        rounds: 5,
+        workers: 2,
+        turns: 100_000_000,
+    };
+    compare(&rt, rt.alloc(), run, ((10, 0), (12, 0), (12, 0)));
+}
+
+/// So they do in the bonded run, which comes to what it does by one worker.
+#[test]
+fn two_workers_share_the_bonded_run(rt: HostRuntime) {
+    let gate = Meeting::of(2, 100_000_000);
+    expect(&rt, rt.alloc(), 2, &gate, BONDED_OUTCOME);
+    same(&rt, &gate.seen(), &((2, 0), (4, 0), (4, 0)), "met");
 }
 
 /// So they do where the gate has no limit, in each of a thousand rounds.

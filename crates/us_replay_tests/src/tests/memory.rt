@@ -31,7 +31,7 @@ fn refused(fault: RunFault, ends: usize) -> Option<Outcome> {
 
 /// Compares what the bonded run by so many workers comes to with the whole outcome, or where memory was refused with that
 /// of its fault.
-fn expect(rt: &(impl Abort + Threads + Wait + Sync), alloc: Global, workers: usize) {
+fn expect(rt: &(impl Abort + Threads + Wait + Sync), alloc: Global, trace: &[u8], workers: usize) {
     let config = match bonded(alloc) {
         Ok(config) => config,
         Err(fault) => {
@@ -39,7 +39,7 @@ fn expect(rt: &(impl Abort + Threads + Wait + Sync), alloc: Global, workers: usi
             return;
         }
     };
-    let trace = reader(BONDED_TRACE, false);
+    let trace = reader(trace, false);
     let (maps, report) = (writer(BONDED_MAPS, 100), writer(BONDED_REPORT, 100));
     let found = outcome(
         rt, alloc, &config, 2, workers, &OpenGate, trace, maps, report,
@@ -54,19 +54,25 @@ fn expect(rt: &(impl Abort + Threads + Wait + Sync), alloc: Global, workers: usi
 /// Run by `tools/refuse-memory` too, where each allocation is refused in turn.
 #[test]
 fn refused_memory(rt: HostRuntime) {
-    expect(&rt, rt.alloc(), 1);
+    expect(&rt, rt.alloc(), BONDED_TRACE, 1);
 }
 
 /// So is this.
 #[test]
 fn refused_memory_of_two_workers(rt: HostRuntime) {
-    expect(&rt, rt.alloc(), 2);
+    expect(&rt, rt.alloc(), BONDED_TRACE, 2);
 }
+
+/// Sixteen requests of the same clusters and bytes as the two of the bonded run, so that sixteen workers have one each.
+const SIXTEEN: &[u8] = b"tick,channel,sid,units
+0,1,257,250\n0,1,257,250\n0,1,257,250\n0,1,257,250\n0,1,257,250\n0,1,257,250\n0,1,257,250\n0,1,257,250
+0,2,274,62\n0,2,274,62\n0,2,274,62\n0,2,274,62\n0,2,274,63\n0,2,274,63\n0,2,274,63\n0,2,274,63
+";
 
 /// And so is this.
 #[test]
 fn refused_memory_of_sixteen_workers(rt: HostRuntime) {
-    expect(&rt, rt.alloc(), 16);
+    expect(&rt, rt.alloc(), SIXTEEN, 16);
 }
 
 /// Fails where memory is refused to the reading of the trace, as `tools/refuse-memory` does.

@@ -16,7 +16,7 @@ pub returns-clause-value : goal.returns-clause-value
 returns-clause-value g c =
     let items = c.in_ok-items.items.items in
     let are = subst (λ r. IfOk r (λ all. all.items ≡ values_of (λ _ item. (placed item.0 item.1.items, item.1)) items))
-    c.in_ok-all.ensures c.map_kept.ensures.values in
+    c.in_ok-all.ensures.value c.map_kept.ensures.values in
     IfOk-weaker c.unladen.result (λ all. all.items ≡ firsts_of c.in_ok-all.all.items)
     (λ all. all.items ≡ values_of (built_at c.args.work.now) c.args.channels.items)
     (λ all is. is ∙ ap firsts_of are ∙ firsts (λ item. placed item.0 item.1.items) (λ item. item.1) 0 items

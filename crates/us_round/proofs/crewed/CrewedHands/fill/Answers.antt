@@ -12,4 +12,4 @@ pub returns-clause-value : goal.returns-clause-value
 returns-clause-value g c =
     IfOk-weaker c.answers.result (λ all. c.map_kept.result ≡ Ok all) _
     (λ all same. subst (λ r. IfOk r (λ all. all.items ≡ values_of (filled_at c.args.work.now) c.args.channels.items)) same
-    (rw c.requires.known at c.map_kept.ensures.values)) c.answers.ensures
+    (rw c.requires.known at c.map_kept.ensures.values)) c.answers.ensures.value
