@@ -13,7 +13,7 @@ map_kept-requires g c =
 pub join_all-requires-clause-others : goal.join_all-requires-clause-others
 join_all-requires-clause-others g c =
     let are = subst (λ r. IfOk r (λ seats. seats.items ≡
-    values_of (λ _ item. seat_after_asks item.0 item.1.now) c.in_ok-seat.chunks.items)) c.in_ok-seats.ensures
+    values_of (λ _ item. seat_after_asks item.0 item.1.now) c.in_ok-seat.chunks.items)) c.in_ok-seats.ensures.value
     c.map_kept.ensures.values in
     subst (λ seats. AllByRecursion (λ seat. seat.intake ≡ c.args.intake.now) seats) (sym are)
     (of-intake (λ item. item.0) (λ item. item.1.now) c.args.intake.now c.in_ok-seat.chunks.items 0 c.in_ok-seat.ensures.chunks)
@@ -21,7 +21,7 @@ join_all-requires-clause-others g c =
 pub returns-clause-seat : goal.returns-clause-seat
 returns-clause-seat g c =
     let are = subst (λ r. IfOk r (λ seats. seats.items ≡
-    values_of (λ _ item. seat_after_asks item.0 item.1.now) c.in_ok-seat.chunks.items)) c.in_ok-seats.ensures
+    values_of (λ _ item. seat_after_asks item.0 item.1.now) c.in_ok-seat.chunks.items)) c.in_ok-seats.ensures.value
     c.map_kept.ensures.values in
     c.join_all.ensures ∙ gathered (λ item. item.0) (λ item. item.1.now) c.args.intake.now c.args.seat c.in_ok-seat.seat
     c.in_ok-seat.chunks.items c.args.asks.now c.in_ok-seats.seats.items c.requires.own c.requires.submitted_row
