@@ -1,4 +1,4 @@
-ghost use Rattle.std.specs.Prelude.{⊤};
+ghost use Rattle.std.specs.Prelude.{◌≤◌, ⊤, IfOk};
 ghost use Rattle.us_live.specs.Lives.{Feeds};
 
 use super::base::{Told, next, open, same};
@@ -51,6 +51,19 @@ impl Gate for Meeting {
     }
 }
 
+/// Has another seat ask for 8,000 bytes of the first cluster, and answers what is left of this one.
+fn ask(alloc: Global, live: &Live, intake: &Intake, seat: Seat) -> Result<Seat, LiveFault>
+    requires feeds { Feeds live.now intake.now seat }
+    requires some { 1 ≤ intake.now.clusters }
+    ensures { IfOk result (λ left. Feeds live.now intake.now left) }
+{
+    let Ok((left, mut other)) = intake.split(alloc, seat, 8_000) else {
+        return Err(LiveFault::Quota);
+    };
+    let _ = intake.submit(&mut other, 0, 8_000);
+    Ok(left)
+}
+
 /// Makes so many rounds.
 fn make_rounds<H: Threads + Wait + Sync>(
     threads: &H,
@@ -88,10 +101,7 @@ fn counted<H: Threads + Wait + Sync>(
         builds: AtomicU64::new(0),
     };
     let (live, intake, seat) = open(alloc, channels, rounds)?;
-    let Ok((seat, mut other)) = intake.split(alloc, seat, 8_000) else {
-        return Err(LiveFault::Quota);
-    };
-    let _ = intake.submit(&mut other, 0, 8_000);
+    let seat = ask(alloc, &live, &intake, seat)?;
     make_rounds(threads, alloc, live, &intake, seat, rounds, workers, &gate)?;
     let fills = gate.fills.load(Ordering::SeqCst);
     Ok((fills, gate.builds.load(Ordering::SeqCst)))
