@@ -95,7 +95,7 @@ impl Calendar {
 
     /// Settles what is due in `round`, which is the next one, on the channel's board: entries by kind, then by id, and the
     /// occurrences of an entry in their order. Each goes to the first minislot of its window in this round's MAP where it
-    /// fits; one that doesn't fit is missed if its window ends before the round, and waits else.
+    /// fits; one that doesn't fit is missed if its window ends before the round does, and waits else.
     ///
     /// `cut` has the round's cut, in bytes by word. It says which flows with activity detection are active from this round
     /// on, and which are silent. Of an interval that begins while its flow is silent a poll comes alone, in place of all

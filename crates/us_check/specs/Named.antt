@@ -1,4 +1,5 @@
--- What a verdict names, by the numbers of rules: it fails there and holds before, and those of a lower number hold.
+-- What a verdict names, by the numbers of rules: it fails there and holds before, part by part, and those of a lower
+-- number hold.
 use Rattle.std.specs.Prelude.{◌≡◌, ◌≢◌, ℕ, ◌<◌, true, List, Ok}
 use Rattle.us_lawful.specs.declared.place.Place.{Place}
 use Rattle.us_lawful.specs.Runs.{Run, Judged}

@@ -6,8 +6,9 @@ use std::fmt;
 pub enum Verdict {
     /// Both are lawful.
     Holds,
-    /// This rule is broken there, and each rule before it holds. It holds at all places that go before this one: by
-    /// round, then by channel (0 first, then those of the table in its order, then others by number), then by place.
+    /// This rule is broken there, and each rule before it holds. Of its parts, if it has several, those before the
+    /// broken one hold everywhere, and that one holds at all places that go before this one: by round, then by channel
+    /// (0 first, then those of the table in its order, then others by number), then by place.
     Broken {
         /// The rule.
         rule: Rule,

@@ -30,7 +30,7 @@ pub const MAX_ASSIGNMENTS: u32 = 100;
 /// stand, each in minislots side by side.
 #[derive(Drop)]
 pub struct Board {
-    // by start
+    // by start, where their value is told; they stand as they came
     assigned: Assignments,
 
     // what is idle between them, by start, and the same again, the longest first
