@@ -24,16 +24,11 @@ full rate burst = record { rate = rate; burst = burst; units = burst * units_per
 
 -- at the start of a later round: so many ticks more, cut at the cap
 unfoldable pub refilled : ℕ → Level → Level
-refilled ticks l = record { rate = l.rate; burst = l.burst; units = min (l.units + ticks * l.rate) (cap l) }
+refilled ticks l = record l { units = min (l.units + ticks * l.rate) (cap l) }
 
 -- after so many bytes were granted; without a limit the bucket stays
 unfoldable pub spent : ℕ → Level → Level
-spent bytes l =
-    record {
-      rate = l.rate;
-      burst = l.burst;
-      units = if l.rate == 0 then l.units else l.units - bytes * units_per_byte;
-    }
+spent bytes l = record l { units = if l.rate == 0 then l.units else l.units - bytes * units_per_byte }
 
 -- an amount, or none where there is no limit
 abbrev pub limited : Level → ℕ → Option ℕ

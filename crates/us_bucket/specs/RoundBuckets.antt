@@ -26,7 +26,7 @@ brought_to ticks round kept = record { level = level_in ticks round kept; as_of 
 
 -- after so many bytes were granted in the round as of which it stands
 abbrev pub less : ℕ → Kept → Kept
-less bytes kept = record { level = spent bytes kept.level; as_of = kept.as_of }
+less bytes kept = record kept { level = spent bytes kept.level }
 
 -- Laws.
 

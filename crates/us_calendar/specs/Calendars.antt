@@ -40,19 +40,14 @@ run_entries pace round [] board = record { states = []; board = board; settled =
 run_entries pace round (state ∷ more) board =
     let one : SettledEntry = settle_state pace round state board in
     let rest : Ran = run_entries pace round more one.board in
-    record {
+    record rest {
       states = after_settling (end_of pace round) state one.settlements ∷ rest.states;
-      board = rest.board;
       settled = map (told_as state.entry) one.settlements ++ rest.settled;
     }
 
 -- a calendar that has heard a round's cut, bytes by word
 abbrev pub heard_by : List ℕ → Calendar → Calendar
-heard_by cut calendar = record {
-  pace = calendar.pace;
-  next_round = calendar.next_round;
-  states = map (heard cut) calendar.states;
-}
+heard_by cut calendar = record calendar { states = map (heard cut) calendar.states }
 
 -- its round on a board
 abbrev pub settles : Calendar → Board → Ran
@@ -60,8 +55,7 @@ settles calendar board = run_entries calendar.pace calendar.next_round calendar.
 
 -- and the calendar then
 abbrev pub settled_after : Calendar → Board → Calendar
-settled_after calendar board = record {
-  pace = calendar.pace;
+settled_after calendar board = record calendar {
   next_round = calendar.next_round + 1;
   states = (settles calendar board).states;
 }

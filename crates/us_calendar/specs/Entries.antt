@@ -40,7 +40,7 @@ slots_of e active = if active then e.slots else polled e.silence
 
 -- and whom they are for: a poll is a request region of the same SID.
 abbrev pub owner_of : Entry → Bool → Owner
-owner_of e active = if active then e.owner else record { sid = e.owner.sid; iuc = codes.request }
+owner_of e active = if active then e.owner else record e.owner { iuc = codes.request }
 
 abbrev pub quarters : ℕ → ℕ
 quarters us = 4 * us

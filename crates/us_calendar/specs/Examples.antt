@@ -111,7 +111,7 @@ unfolding settle_entry settle_each coming due first_of
 some_missed = refl
 
 -- and none where as many assignments stand as there may be
-none_more : (settle_state pace 0 (state 0 75 1) (record { cells = idle.cells; standing = 100 })).settlements ≡ missed 0 ∷ []
+none_more : (settle_state pace 0 (state 0 75 1) (record idle { standing = 100 })).settlements ≡ missed 0 ∷ []
 unfolding settle_entry settle_each coming due first_of
 none_more = refl
 

@@ -43,7 +43,7 @@ settle_each pace round e speaks (n ∷ ns) board =
     let active : Bool = speaks (ideal e n) in
     let found : Option ℕ = spot pace round e active n board in
     let rest : SettledEntry = settle_each pace round e speaks ns (with_spot e active found board) in
-    record { board = rest.board; settlements = settlement pace round e active n found ++ rest.settlements }
+    record rest { settlements = settlement pace round e active n found ++ rest.settlements }
 
 -- an entry of which these are settled, in a round: all of its occurrences that are due before the round ends, and come
 unfoldable pub settle_entry : Pace → ℕ → Entry → (ℕ → Bool) → List ℕ → Board → SettledEntry
@@ -72,12 +72,7 @@ opening_state e = record { entry = e; settled = []; active = true; waiting = Non
 
 -- what a round's cut says of the flow
 abbrev pub heard : List ℕ → EntryState → EntryState
-heard cut state = record {
-  entry = state.entry;
-  settled = state.settled;
-  active = hears_of state.entry.silence state.active cut;
-  waiting = state.waiting;
-}
+heard cut state = record state { active = hears_of state.entry.silence state.active cut }
 
 -- the kind of one interval is kept, and all others are of the kind that the flow is
 abbrev pub kind_at : ℕ → Bool → Bool → ℕ → Bool
@@ -110,12 +105,7 @@ settle_state pace round state board = settle_entry pace round state.entry (speak
 abbrev pub after_settling : ℕ → EntryState → List Settlement → EntryState
 after_settling end state settlements =
     let settled : List ℕ = state.settled ++ flat_map (closed state.entry) settlements in
-    record {
-      entry = state.entry;
-      settled = settled;
-      active = state.active;
-      waiting = waiting_at end state (ideal state.entry (length settled));
-    }
+    record state { settled = settled; waiting = waiting_at end state (ideal state.entry (length settled)) }
 
 -- how it is told: the interval, and the place among the grants of the interval
 abbrev pub told_as : Entry → Settlement → Settled

@@ -44,13 +44,7 @@ opening t c = record {
 
 -- a channel whose calendar has heard a round's cut
 abbrev pub heard : List ℕ → Built → Built
-heard cut b = record {
-  channel = b.channel;
-  board = b.board;
-  calendar = calendars.heard_by cut b.calendar;
-  settled = b.settled;
-  grants = b.grants;
-}
+heard cut b = record b { calendar = calendars.heard_by cut b.calendar }
 
 -- none of its claims is granted yet
 abbrev pub ungranted : Filled → Built

@@ -67,7 +67,7 @@ no_start_within = refl
 
 -- as many assignments as there may be: that is told first, though there is no room either
 abbrev full : Board
-full = record { cells = granted.cells; standing = 100 }
+full = record granted { standing = 100 }
 
 told_first : placed full 0 7 3 ≡ answer.Full
 told_first = refl

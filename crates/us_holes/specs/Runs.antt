@@ -29,7 +29,7 @@ owner_of (Some holder) = Some holder.owner
 -- the first run, from one minislot earlier on
 abbrev pub lengthened : List Run → List Run
 lengthened [] = []
-lengthened (run ∷ runs) = record { start = run.start - 1; len = run.len + 1; owner = run.owner } ∷ runs
+lengthened (run ∷ runs) = record run { start = run.start - 1; len = run.len + 1 } ∷ runs
 
 -- the runs of these minislots, the first of which is number `start`
 unfoldable pub runs_from : ℕ → List (Option Holder) → List Run

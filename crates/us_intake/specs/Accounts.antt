@@ -76,42 +76,14 @@ first_part terms =
 
 abbrev pub part_after_submit : Part → ℕ → ℕ → Part
 part_after_submit part cluster bytes =
-    record {
-      whole = part.whole;
-      quota = part.quota;
-      takes = part.takes;
-      submitted = raised part.submitted cluster bytes;
-      taken = part.taken;
-      additions = part.additions + 1;
-      swapped = part.swapped;
-      looks = part.looks;
-    }
+    record part { submitted = raised part.submitted cluster bytes; additions = part.additions + 1 }
 
 abbrev pub part_after_swap : Part → ℕ → ℕ → Part
 part_after_swap part cluster bytes =
-    record {
-      whole = part.whole;
-      quota = part.quota;
-      takes = part.takes;
-      submitted = part.submitted;
-      taken = raised part.taken cluster bytes;
-      additions = part.additions;
-      swapped = part.swapped ++ cluster ∷ [];
-      looks = part.looks;
-    }
+    record part { taken = raised part.taken cluster bytes; swapped = part.swapped ++ cluster ∷ [] }
 
 abbrev pub part_after_split : Part → ℕ → Part
-part_after_split part quota =
-    record {
-      whole = part.whole;
-      quota = part.quota - quota;
-      takes = part.takes;
-      submitted = part.submitted;
-      taken = part.taken;
-      additions = part.additions;
-      swapped = part.swapped;
-      looks = part.looks;
-    }
+part_after_split part quota = record part { quota = part.quota - quota }
 
 -- the part that is split off
 abbrev pub new_part : Part → ℕ → Part
@@ -141,14 +113,4 @@ joined_part one other =
     }
 
 abbrev pub part_after_look : Part → Part
-part_after_look part =
-    record {
-      whole = part.whole;
-      quota = part.quota;
-      takes = part.takes;
-      submitted = part.submitted;
-      taken = part.taken;
-      additions = part.additions;
-      swapped = part.swapped;
-      looks = false;
-    }
+part_after_look part = record part { looks = false }

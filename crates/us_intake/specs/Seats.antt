@@ -58,16 +58,7 @@ IsBadSplit seat quota = (quota ≡ 0) ⊎ ((seat.quota ≤ quota) ⊎ (seat.quot
 
 -- the seat that another one was split off
 abbrev pub seat_after_split : Seat → ℕ → Seat
-seat_after_split seat quota =
-    record {
-      intake = seat.intake;
-      quota = seat.quota - quota;
-      takes = seat.takes;
-      submitted = seat.submitted;
-      taken = seat.taken;
-      additions = seat.additions;
-      swapped = seat.swapped;
-    }
+seat_after_split seat quota = record seat { quota = seat.quota - quota }
 
 -- two seats of an intake made one; one of them at most has swapped words
 abbrev pub joined_seat : Seat → Seat → Seat
@@ -85,41 +76,17 @@ joined_seat one other =
 -- the seat that submitted so many bytes of a cluster, by one addition
 abbrev pub seat_after_submit : Seat → ℕ → ℕ → Seat
 seat_after_submit seat cluster bytes =
-    record {
-      intake = seat.intake;
-      quota = seat.quota;
-      takes = seat.takes;
-      submitted = raised seat.submitted cluster bytes;
-      taken = seat.taken;
-      additions = seat.additions + 1;
-      swapped = seat.swapped;
-    }
+    record seat { submitted = raised seat.submitted cluster bytes; additions = seat.additions + 1 }
 
 -- the seat that took what one word held, by one swap
 abbrev pub seat_after_take : Seat → ℕ → ℕ → Seat
 seat_after_take seat cluster bytes =
-    record {
-      intake = seat.intake;
-      quota = seat.quota;
-      takes = seat.takes;
-      submitted = seat.submitted;
-      taken = raised seat.taken cluster bytes;
-      additions = seat.additions;
-      swapped = seat.swapped ++ cluster ∷ [];
-    }
+    record seat { taken = raised seat.taken cluster bytes; swapped = seat.swapped ++ cluster ∷ [] }
 
 -- the seat that took what a cut found, by one swap of each word, in the order of the clusters
 abbrev pub seat_after_cut : Seat → List ℕ → Seat
 seat_after_cut seat cuts =
-    record {
-      intake = seat.intake;
-      quota = seat.quota;
-      takes = seat.takes;
-      submitted = seat.submitted;
-      taken = added seat.taken cuts;
-      additions = seat.additions;
-      swapped = seat.swapped ++ range_with_len 0 (length cuts);
-    }
+    record seat { taken = added seat.taken cuts; swapped = seat.swapped ++ range_with_len 0 (length cuts) }
 
 -- the whole quota is this seat's
 abbrev pub IsWhole : Seat → Type 0

@@ -21,12 +21,11 @@ first_live t rounds = record { clusters = length (words_of t); rounds = rounds; 
 
 -- a round of this cut was made
 abbrev pub with_entry : Live → List ℕ → Live
-with_entry live cut =
-    record { clusters = live.clusters; rounds = live.rounds; log = live.log ++ cut ∷ []; tables = live.tables }
+with_entry live cut = record live { log = live.log ++ cut ∷ [] }
 
 -- memory was wanting in a round
 abbrev pub failed_live : Live → Live
-failed_live live = record { clusters = live.clusters; rounds = live.rounds; log = live.log; tables = None }
+failed_live live = record live { tables = None }
 
 -- the rounds of the schedule over the cuts of a log
 abbrev pub rounds_of : Tables → List (List ℕ) → List RoundOut

@@ -40,14 +40,9 @@ pub record CanGather (intake : Intake) (seat : Seat) (asks : List Ask) : Type 0 
 
 -- the seat that submitted these asks, by one addition each
 abbrev pub seat_after_asks : Seat → List Ask → Seat
-seat_after_asks seat asks = record {
-  intake = seat.intake;
-  quota = seat.quota;
-  takes = seat.takes;
+seat_after_asks seat asks = record seat {
   submitted = added seat.submitted (cut_of seat.intake.clusters asks);
-  taken = seat.taken;
   additions = seat.additions + length asks;
-  swapped = seat.swapped;
 }
 
 -- a seat and others made one
@@ -67,13 +62,8 @@ pub record IsDue (seat : Seat) (asks : List Ask) : Type 0 where
 
 -- the seat that took all that was submitted, by one swap for each of these asks, of the word that it names
 abbrev pub seat_after_takes : Seat → List Ask → Seat
-seat_after_takes seat asks = record {
-  intake = seat.intake;
-  quota = seat.quota;
-  takes = seat.takes;
-  submitted = seat.submitted;
+seat_after_takes seat asks = record seat {
   taken = seat.submitted;
-  additions = seat.additions;
   swapped = seat.swapped ++ map (λ ask. ask.cluster) asks;
 }
 

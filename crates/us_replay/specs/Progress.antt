@@ -93,20 +93,14 @@ pub record HasRoom (p : Progress) (more : ℕ) : Type 0 where
 
 -- the asks of the next round were collected
 abbrev pub with_asks : Progress → List Ask → Progress
-with_asks p asks = record {
+with_asks p asks = record p {
   cut = cut_of (length p.cut) asks;
   collected = p.collected + sum (cut_of (length p.cut) asks);
-  to_maps = p.to_maps;
-  to_report = p.to_report;
-  granted = p.granted;
-  missed = p.missed;
 }
 
 -- the texts of a round were made
 unfoldable pub with_round : Progress → RoundOut → Progress
-with_round p out = record {
-  cut = p.cut;
-  collected = p.collected;
+with_round p out = record p {
   to_maps = records out;
   to_report = round_lines out;
   granted = p.granted + count_by is_granted out.rows;
@@ -119,14 +113,7 @@ last_rows state counts = final_rows state ++ counts_row counts ∷ []
 
 -- their text was made
 unfoldable pub with_last : Progress → State → Counts → Progress
-with_last p state counts = record {
-  cut = p.cut;
-  collected = p.collected;
-  to_maps = [];
-  to_report = lines (last_rows state counts);
-  granted = p.granted;
-  missed = p.missed;
-}
+with_last p state counts = record p { to_maps = []; to_report = lines (last_rows state counts) }
 
 -- what the replay did
 abbrev pub summary_after : Progress → ℕ → Counts → Summary

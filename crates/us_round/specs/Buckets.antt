@@ -41,8 +41,7 @@ full_reserves t = record {
 
 -- in every round but the first they grow by what a round's time brings
 abbrev pub begun_buckets : ℕ → Buckets → Buckets
-begun_buckets round b = record {
+begun_buckets round b = record b {
   levels = if round == 0 then b.levels else map (refilled b.ticks) b.levels;
-  ticks = b.ticks;
   round = round;
 }

@@ -67,15 +67,11 @@ opening_core t = record {
 
 -- what a round begins with
 abbrev pub begun_core : Core → List ℕ → Core
-begun_core core cut = record {
-  tables = core.tables;
-  round = core.round;
+begun_core core cut = record core {
   told = core.round;
   outstanding = with_cut core.tables core.outstanding cut;
   buckets = grown (with_calendars core []);
   reserves = grown_reserves (with_calendars core []);
-  pending = core.pending;
-  claims = core.claims;
 }
 
 -- what is idle on channels with reserves and calendars, and the plan of that
@@ -92,28 +88,18 @@ reserved_over core bs =
     reserved_for core.tables core.outstanding (map bytes_in core.buckets) (map reserve_in core.reserves) (idle_of bs)
 
 abbrev pub planned_core : Core → List Built → Core
-planned_core core bs = record {
-  tables = core.tables;
-  round = core.round;
-  told = core.told;
-  outstanding = core.outstanding;
-  buckets = core.buckets;
+planned_core core bs = record core {
   reserves = unreserved (reserved_over core bs) 0 core.reserves;
-  pending = core.pending;
   claims = all_claims core.tables (plan_over core bs);
 }
 
 -- and what its channels leave
 abbrev pub credited_core : Core → List Built → Core
-credited_core core builds = record {
-  tables = core.tables;
+credited_core core builds = record core {
   round = core.round + 1;
-  told = core.told;
   outstanding = uncredited (all_grants builds) 0 core.outstanding;
   buckets = spent_of (all_grants builds) 0 core.buckets;
-  reserves = core.reserves;
   pending = pending_places core.outstanding (uncredited (all_grants builds) 0 core.outstanding) (numbers_of (turns_of core.tables));
-  claims = core.claims;
 }
 
 -- What it is made of.

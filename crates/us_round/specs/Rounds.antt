@@ -114,9 +114,7 @@ pub record RoundResult : Type 0 where
 -- a state whose round has begun: what the cut has of clusters is outstanding too, all buckets have grown, and all calendars
 -- have heard what it has of the activity of flows
 abbrev pub begun : State → List ℕ → State
-begun state cut = record {
-  tables = state.tables;
-  round = state.round;
+begun state cut = record state {
   outstanding = with_cut state.tables state.outstanding cut;
   buckets = grown state;
   reserves = grown_reserves state;
@@ -146,8 +144,7 @@ builds_of state = map (build_planned (round_plan state)) (fills_of state)
 abbrev pub credited : State → List Built → State
 credited state builds =
     let grants : List PlacedClaim = all_grants builds in
-    record {
-      tables = state.tables;
+    record state {
       round = state.round + 1;
       outstanding = uncredited grants 0 state.outstanding;
       buckets = spent_of grants 0 state.buckets;

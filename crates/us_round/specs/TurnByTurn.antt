@@ -16,13 +16,7 @@ unbuilt f = record { channel = f.channel; board = f.board; calendar = f.calendar
 -- a channel with a grant, if there is one
 abbrev pub with_grant_on : Built → Option PlacedClaim → Built
 with_grant_on b None = b
-with_grant_on b (Some g) = record {
-  channel = b.channel;
-  board = with_grant b.board (Some g);
-  calendar = b.calendar;
-  settled = b.settled;
-  grants = b.grants ++ g ∷ [];
-}
+with_grant_on b (Some g) = record b { board = with_grant b.board (Some g); grants = b.grants ++ g ∷ [] }
 
 -- a channel with a claim placed, if there is one and it has a place
 abbrev pub with_claim_on : Built → Option Claim → Built

@@ -82,11 +82,9 @@ more_of number bytes counts = set counts number (slice_index counts number + byt
 
 -- the cluster of the word with this number asks for so many bytes more; a word of activity asks for nothing
 abbrev pub asked_more : ℕ → ℕ → Asking → Asking
-asked_more number bytes a = record {
-  tables = a.tables;
+asked_more number bytes a = record a {
   outstanding = more_of number (requested_at (words_of a.tables) number bytes) a.outstanding;
   left = more_of number (requested_at (words_of a.tables) number bytes) a.left;
-  pending = a.pending;
 }
 
 -- each cluster asks for the bytes that a cut has of its word
@@ -94,28 +92,19 @@ abbrev pub with_cut : Tables → List ℕ → List ℕ → List ℕ
 with_cut t counts cut = map (λ pair. pair.0 + pair.1) (zip counts (requested_in (words_of t) cut))
 
 abbrev pub all_asked_more : List ℕ → Asking → Asking
-all_asked_more cut a = record {
-  tables = a.tables;
+all_asked_more cut a = record a {
   outstanding = with_cut a.tables a.outstanding cut;
   left = with_cut a.tables a.left cut;
-  pending = a.pending;
 }
 
 -- so many bytes of the word with this number were granted
 abbrev pub credited : ℕ → ℕ → Asking → Asking
-credited number bytes a = record {
-  tables = a.tables;
-  outstanding = a.outstanding;
-  left = set a.left number (slice_index a.left number - bytes);
-  pending = a.pending;
-}
+credited number bytes a = record a { left = set a.left number (slice_index a.left number - bytes) }
 
 -- the round is over: what is left is outstanding
 abbrev pub settled : Asking → Asking
-settled a = record {
-  tables = a.tables;
+settled a = record a {
   outstanding = a.left;
-  left = a.left;
   pending = pending_places a.outstanding a.left (numbers_of (turns_of a.tables));
 }
 

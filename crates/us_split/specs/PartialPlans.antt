@@ -67,8 +67,7 @@ claim_of asker position sid share c = record {
 
 -- with such a claim a channel has fewer minislots left
 abbrev pub with_claim : Asker → ℕ → ℕ → ℕ → ChannelPlan → ChannelPlan
-with_claim asker position sid share c = record {
-  channel = c.channel;
+with_claim asker position sid share c = record c {
   slots = c.slots - (grant_cost c.channel.bursts (share + asker.header)).0;
   claims = c.claims ++ claim_of asker position sid share c ∷ [];
 }
@@ -91,8 +90,7 @@ claimed_from asker position (id ∷ ids) sids shares c =
 
 -- a planned turn, by its place: what its share on the channel costs is taken, and claimed
 abbrev pub with_turn : ℕ → Planned → ChannelPlan → ChannelPlan
-with_turn place planned c = record {
-  channel = c.channel;
+with_turn place planned c = record c {
   slots = c.slots - cost_on c.channel planned;
   claims = c.claims ++ option_to_list (claim_on c.channel place planned);
 }
@@ -132,16 +130,10 @@ most_slots c = max_round_ticks / minislot_ticks c.bursts.time
 
 -- what a share costs is taken off,
 abbrev pub taken : ℕ → ℕ → ChannelPlan → ChannelPlan
-taken header share c = record {
-  channel = c.channel;
-  slots = c.slots - share_cost c.channel header share;
-  claims = c.claims;
-}
+taken header share c = record c { slots = c.slots - share_cost c.channel header share }
 
 -- and given back, up to what a MAP can have
 abbrev pub returned : ℕ → ℕ → ChannelPlan → ChannelPlan
-returned header share c = record {
-  channel = c.channel;
+returned header share c = record c {
   slots = min (c.slots + share_cost c.channel header share) (most_slots c.channel);
-  claims = c.claims;
 }

@@ -80,7 +80,7 @@ cost_on c planned = share_cost c (header_bytes planned.turn.cluster.flow) (share
 -- each budget falls by what the turn's share on the channel costs
 abbrev pub lowered : Planned → List Budget → List Budget
 lowered planned budgets =
-    map (λ b. record { channel = b.channel; slots = b.slots - cost_on b.channel planned }) budgets
+    map (λ b. record b { slots = b.slots - cost_on b.channel planned }) budgets
 
 -- and the flow's allowance by all its shares
 abbrev pub allowed_less : Planned → List (Option ℕ) → List (Option ℕ)
@@ -120,14 +120,14 @@ first_limits (allowance ∷ allowances) (reserve ∷ reserves) =
 -- the first shares of the turns
 abbrev pub first_of : List ℕ → Ledger → List ℕ → List Turn → List Planned
 first_of outstanding ledger reserves turns =
-    plan_of outstanding (record { budgets = ledger.budgets; allowances = first_limits ledger.allowances reserves }) turns
+    plan_of outstanding (record ledger { allowances = first_limits ledger.allowances reserves }) turns
 
 -- The second pass: what is left.
 
 -- on each channel the turn gets back what its first share cost
 abbrev pub given_back : Planned → List Budget → List Budget
 given_back first budgets =
-    map (λ b. record { channel = b.channel; slots = b.slots + cost_on b.channel first }) budgets
+    map (λ b. record b { slots = b.slots + cost_on b.channel first }) budgets
 
 -- numbers added and taken off, place by place
 abbrev pub plus : List ℕ → List ℕ → List ℕ
@@ -151,13 +151,13 @@ more_shares outstanding ledger first =
 
 -- both make up its shares
 abbrev pub with_more : Planned → List ℕ → Planned
-with_more first more = record { turn = first.turn; shares = plus first.shares more }
+with_more first more = record first { shares = plus first.shares more }
 
 -- each budget falls by what the whole share costs, in place of the first one; first shares are off the allowance already
 unfoldable pub after_both : Ledger → Planned → List ℕ → Ledger
 after_both ledger first more = record {
   budgets = lowered (with_more first more) (given_back first ledger.budgets);
-  allowances = allowed_less (record { turn = first.turn; shares = more }) ledger.allowances;
+  allowances = allowed_less (record first { shares = more }) ledger.allowances;
 }
 
 -- all shares of the turns that have these first ones, one turn after another

@@ -73,14 +73,7 @@ unseated (step.Built channel) = step.Built channel
 
 -- a machine of whose seats something else is told
 abbrev pub with_seats : Seats → Machine → Machine
-with_seats seats m = record {
-  words = m.words;
-  cut = m.cut;
-  seats = seats;
-  added = m.added;
-  taken = m.taken;
-  channels = m.channels;
-}
+with_seats seats m = record m { seats = seats }
 
 -- whoever adds and takes, and whatever was told of seats before, all but the seats comes out the same
 abbrev pub SeatsChangeNothing : Type 0

@@ -54,39 +54,32 @@ raised words (Some ask) = slice_set words ask.cluster (slice_index words ask.clu
 
 -- a seat that adds a row adds its bytes to its word
 abbrev pub having_added : Seats → ℕ → Option Ask → Seats
-having_added seats by row = record {
+having_added seats by row = record seats {
   added = λ seat word. if seat == by then seats.added seat word + bytes_in word row else seats.added seat word;
-  took = seats.took;
 }
 
 abbrev pub with_row : List Ask → Machine → ℕ → ℕ → Machine
-with_row rows m row by = record {
+with_row rows m row by = record m {
   words = raised m.words (slice_get rows row);
-  cut = m.cut;
   seats = having_added m.seats by (slice_get rows row);
   added = slice_set m.added row true;
-  taken = m.taken;
-  channels = m.channels;
 }
 
 -- Words.
 
 -- a seat that takes a word takes what it has
 abbrev pub having_taken : Seats → ℕ → ℕ → ℕ → Seats
-having_taken seats by taken bytes = record {
-  added = seats.added;
+having_taken seats by taken bytes = record seats {
   took = λ seat word. if (seat == by) && (word == taken) then seats.took seat word + bytes else seats.took seat word;
 }
 
 -- the word moves into the cut, and leaves 0
 abbrev pub without_word : Machine → ℕ → ℕ → Machine
-without_word m word by = record {
+without_word m word by = record m {
   words = slice_set m.words word 0;
   cut = slice_set m.cut word (slice_index m.cut word + slice_index m.words word);
   seats = having_taken m.seats by word (slice_index m.words word);
-  added = m.added;
   taken = slice_set m.taken word true;
-  channels = m.channels;
 }
 
 -- Channels.
@@ -112,14 +105,7 @@ built s (Out f) = Some (Done (placed s f))
 built s (Done b) = None
 
 abbrev pub with_channel : Machine → ℕ → Stand → Machine
-with_channel m channel stand = record {
-  words = m.words;
-  cut = m.cut;
-  seats = m.seats;
-  added = m.added;
-  taken = m.taken;
-  channels = slice_set m.channels channel stand;
-}
+with_channel m channel stand = record m { channels = slice_set m.channels channel stand }
 
 -- whether a channel was opened, and whether it is done
 abbrev pub was_opened : Stand → Bool

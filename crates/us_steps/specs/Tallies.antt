@@ -32,51 +32,26 @@ opening_tally words rows channels = record {
 
 -- a row's bytes are added to its word,
 abbrev pub with_row : List Ask → Tally → ℕ → Tally
-with_row rows l row = record {
+with_row rows l row = record l {
   words = raised l.words (slice_get rows row);
-  cut = l.cut;
   added = slice_set l.added row true;
-  taken = l.taken;
-  opened = l.opened;
-  built = l.built;
-  settled = l.settled;
 }
 
 -- a word moves into the cut, and leaves 0,
 abbrev pub without_word : Tally → ℕ → Tally
-without_word l word = record {
+without_word l word = record l {
   words = slice_set l.words word 0;
   cut = slice_set l.cut word (slice_index l.cut word + slice_index l.words word);
-  added = l.added;
   taken = slice_set l.taken word true;
-  opened = l.opened;
-  built = l.built;
-  settled = l.settled;
 }
 
 -- a channel goes out,
 abbrev pub with_open : Tally → ℕ → Tally
-with_open l channel = record {
-  words = l.words;
-  cut = l.cut;
-  added = l.added;
-  taken = l.taken;
-  opened = slice_set l.opened channel true;
-  built = l.built;
-  settled = true;
-}
+with_open l channel = record l { opened = slice_set l.opened channel true; settled = true }
 
 -- and is built
 abbrev pub with_built : Tally → ℕ → Tally
-with_built l channel = record {
-  words = l.words;
-  cut = l.cut;
-  added = l.added;
-  taken = l.taken;
-  opened = l.opened;
-  built = slice_set l.built channel true;
-  settled = l.settled;
-}
+with_built l channel = record l { built = slice_set l.built channel true }
 
 -- the tally after a step; none where the step has no place there, a row, word or channel that isn't there being one that
 -- was added, taken or opened already
