@@ -9,9 +9,9 @@ use Rattle.us_holes.specs.Boards.{Board}
 use Rattle.us_calendar.specs.declared.silences.Silence.{Silence}
 use Rattle.us_calendar.specs.Activity.{hears_of, activity, active_in, speaks_by}
 use Rattle.us_calendar.specs.Entries.{Entry}
-use Rattle.us_calendar.specs.Occurrences.{Pace, ideal, end_of, comes, due, coming}
+use Rattle.us_calendar.specs.Occurrences.{Pace, ideal, end_of, comes, due, coming, window_end}
 use Rattle.us_calendar.specs.Settling.{EntryState, SettledEntry, spot, settlement, with_spot, settle_each, settle_entry, kind_at, if_detected, speaks_in, waiting_at}
-use Rattle.us_calendar.specs.Runs.{end_after, window_end}
+use Rattle.us_calendar.specs.Runs.{end_after}
 use Rattle.us_calendar.specs.Kept.{settle_from, state_from}
 use Rattle.us_calendar.proofs.IdealLemmas.{HasWindows, ideal-apart}
 use Rattle.us_calendar.proofs.DueLemmas.{due-all}

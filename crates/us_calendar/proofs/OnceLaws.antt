@@ -12,11 +12,11 @@ use Rattle.us_flows.proofs.TurnLemmas.{all-append}
 use Rattle.us_holes.specs.Boards.{Board, assign_all}
 use Rattle.us_holes.proofs.LawLemmas.{assign_all-append}
 use Rattle.us_calendar.specs.Entries.{Entry, rank_of, goes_before}
-use Rattle.us_calendar.specs.Occurrences.{Pace, ideal, end_of, comes}
+use Rattle.us_calendar.specs.Occurrences.{Pace, ideal, end_of, comes, window_end}
 use Rattle.us_calendar.specs.Activity.{hears_of, speaks_by}
 use Rattle.us_calendar.specs.Settling.{Settlement, SettledEntry, EntryState, spot, heard, opening_state, speaks_in, waiting_at, settle_state, after_settling, told_as}
 use Rattle.us_calendar.specs.Calendars.{Calendar, Ran, run_entries, after}
-use Rattle.us_calendar.specs.Runs.{Round, rounds_on, after_rounds, grants, misses, is_earlier, has_turn_before, assignments_of, times, window_end, end_after, board_at_turn, IsRight, IsSettledOnce}
+use Rattle.us_calendar.specs.Runs.{Round, rounds_on, after_rounds, grants, misses, is_earlier, has_turn_before, assignments_of, times, end_after, board_at_turn, IsRight, IsSettledOnce}
 use Rattle.us_calendar.specs.declared.settled.Settled.{Settled}
 use Rattle.us_calendar.specs.declared.settled.Settled.TheVariants as told
 use Rattle.us_calendar.specs.Kept.{settle_from, state_from}

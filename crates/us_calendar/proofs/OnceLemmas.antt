@@ -8,9 +8,9 @@ use Rattle.us_slots.specs.Times.{minislot_ticks}
 use Rattle.us_holes.specs.Boards.{Board, fits, assign_all}
 use Rattle.us_holes.proofs.LawLemmas.{first_of-is, assign_all-append}
 use Rattle.us_calendar.specs.Entries.{Entry, slots_of, owner_of, rank_of}
-use Rattle.us_calendar.specs.Occurrences.{Pace, ideal, starts_within, end_of, is_over, comes}
+use Rattle.us_calendar.specs.Occurrences.{Pace, ideal, starts_within, end_of, is_over, comes, window_end}
 use Rattle.us_calendar.specs.Settling.{Settlement, SettledEntry, spot, settlement, with_spot, told_as}
-use Rattle.us_calendar.specs.Runs.{grants, misses, is_name, is_earlier, has_turn_before, assignments_of, window_end, end_after, IsRight}
+use Rattle.us_calendar.specs.Runs.{grants, misses, is_name, is_earlier, has_turn_before, assignments_of, end_after, IsRight}
 use Rattle.us_calendar.specs.declared.settled.Settled.{Settled}
 use Rattle.us_calendar.specs.Kept.{behind, settle_from}
 use Rattle.us_calendar.proofs.IdealLemmas.{HasWindows, ideal-rises, number-below}

@@ -2,10 +2,10 @@
 use Rattle.std.specs.Prelude.{◌≡◌, ℕ, ◌+◌, List, [], ◌∷◌, true, Some, None, refl}
 use Rattle.us_holes.specs.Boards.{Owner, Board, empty_board, assign, first_of}
 use Rattle.us_calendar.specs.Entries.{Entry, in_order}
-use Rattle.us_calendar.specs.Occurrences.{Pace, ideal, due, coming}
+use Rattle.us_calendar.specs.Occurrences.{Pace, ideal, due, coming, window_end}
 use Rattle.us_calendar.specs.Settling.{EntryState, Settlement, opening_state, settle_each, settle_entry, settle_state}
 use Rattle.us_calendar.specs.Calendars.{Calendar, run_entries}
-use Rattle.us_calendar.specs.Runs.{rounds_on, after_rounds, end_after, window_end, times, grants, misses}
+use Rattle.us_calendar.specs.Runs.{rounds_on, after_rounds, end_after, times, grants, misses}
 use Rattle.us_calendar.specs.declared.kinds.Kind.{Kind}
 use Rattle.us_calendar.specs.declared.kinds.Kind.TheVariants as kinds
 

@@ -8,11 +8,11 @@ use Rattle.us_flows.specs.Lawful.{AreTables}
 use Rattle.us_holes.specs.Boards.{Board, assign_all, AllFit}
 use Rattle.us_calendar.specs.Entries.{Entry, IsEntry, slots_of, entries}
 use Rattle.us_calendar.specs.declared.silences.Silence.{Silence}
-use Rattle.us_calendar.specs.Occurrences.{Pace, ideal, end_of, comes}
+use Rattle.us_calendar.specs.Occurrences.{Pace, ideal, end_of, comes, window_end}
 use Rattle.us_calendar.specs.Activity.{activity, speaks_by}
 use Rattle.us_calendar.specs.Settling.{EntryState, settle_entry, closed}
 use Rattle.us_calendar.specs.Calendars.{run_entries, pace_of, opening}
-use Rattle.us_calendar.specs.Runs.{Round, assignments_of, rounds_on, after_rounds, end_after, window_end, IsOccurrence, IsSettledOnce}
+use Rattle.us_calendar.specs.Runs.{Round, assignments_of, rounds_on, after_rounds, end_after, IsOccurrence, IsSettledOnce}
 
 -- An entry of a kind and an id stands on one channel of the tables, and is one.
 abbrev pub EntriesAreApart : Type 0

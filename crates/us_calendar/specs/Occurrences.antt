@@ -19,6 +19,10 @@ abbrev pub starts_within : Timing → Entry → ℕ → ℕ → Bool
 starts_within time e n minislot =
     nat_le (ideal e n) (start_of time minislot) && nat_le (start_of time minislot) (ideal e n + e.jitter)
 
+-- the last moment of its window
+abbrev pub window_end : Entry → ℕ → ℕ
+window_end e n = ideal e n + e.jitter
+
 -- when a round ends
 abbrev pub end_of : Pace → ℕ → ℕ
 end_of pace round = start_of pace.time ((round + 1) * pace.len)

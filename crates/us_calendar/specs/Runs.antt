@@ -4,7 +4,7 @@ use Rattle.std.specs.List.{AllByRecursion, Contains}
 use Rattle.us_slots.specs.Times.{start_of}
 use Rattle.us_holes.specs.Boards.{Board, Assignment, fits, assign_all}
 use Rattle.us_calendar.specs.Entries.{Entry, slots_of, owner_of, rank_of}
-use Rattle.us_calendar.specs.Occurrences.{Pace, ideal, starts_within, comes}
+use Rattle.us_calendar.specs.Occurrences.{Pace, ideal, starts_within, window_end, comes}
 use Rattle.us_calendar.specs.Settling.{spot}
 use Rattle.us_calendar.specs.Calendars.{Calendar, ran, after}
 use Rattle.us_calendar.specs.declared.settled.Settled.{Settled}
@@ -32,10 +32,6 @@ after_rounds calendar (cut ∷ cuts) (board ∷ boards) = after_rounds (after ca
 -- when so many rounds have ended
 abbrev pub end_after : Pace → ℕ → ℕ
 end_after pace rounds = start_of pace.time (rounds * pace.len)
-
--- the last moment of an occurrence's window
-abbrev pub window_end : Entry → ℕ → ℕ
-window_end e n = ideal e n + e.jitter
 
 -- kind and id are those of an entry, and interval and place those of its occurrence `n`
 abbrev pub is_name : Entry → ℕ → ℕ → ℕ → ℕ → ℕ → Bool

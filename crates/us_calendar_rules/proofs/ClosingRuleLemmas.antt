@@ -12,8 +12,7 @@ use Rattle.us_flows.specs.declared.channels.Channel.{Channel}
 use Rattle.us_flows.specs.Tables.{Tables}
 use Rattle.us_flows.specs.Lawful.{AreTables}
 use Rattle.us_calendar.specs.Entries.{Entry, IsEntry}
-use Rattle.us_calendar.specs.Occurrences.{ideal}
-use Rattle.us_calendar.specs.Runs.{window_end}
+use Rattle.us_calendar.specs.Occurrences.{ideal, window_end}
 use Rattle.us_output.specs.declared.rows.Row.{Row}
 use Rattle.us_lawful.specs.declared.place.Place.{Place}
 use Rattle.us_lawful.specs.Runs.{Run, Judged}

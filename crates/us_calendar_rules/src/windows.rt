@@ -1,7 +1,7 @@
 ghost use Rattle.std.specs.Prelude.{◌≡◌, ◌+◌, ◌*◌, ◌^◌, ◌<◌, Contains, if◌then◌else◌};
 ghost use Rattle.us_flows.specs.Tables.{map_len};
 ghost use Rattle.us_calendar.specs.Occurrences as calendar;
-ghost use Rattle.us_calendar.specs.Runs.{window_end as spec_window_end};
+ghost use Rattle.us_calendar.specs.Occurrences.{window_end as spec_window_end};
 ghost use Rattle.us_output.specs.declared.rows.Row.TheVariants as rows;
 ghost use Rattle.us_lawful.specs.CalendarLines as lawful;
 ghost use Rattle.us_calendar_rules.specs.Marks.{numbers};

@@ -12,7 +12,7 @@ use Rattle.us_requests.specs.declared.asks.Counts.{Counts}
 use Rattle.us_calendar.specs.declared.settled.Settled.{Settled}
 use Rattle.us_calendar.specs.declared.settled.Settled.TheVariants as settled
 use Rattle.us_calendar.specs.Entries.{Entry, rank_of, entries, owner_of, slots_of}
-use Rattle.us_calendar.specs.Occurrences.{ideal}
+use Rattle.us_calendar.specs.Occurrences.{ideal, window_end}
 use Rattle.us_calendar.specs.Calendars.{pace_of}
 use Rattle.us_calendar.specs.Runs as runs
 use Rattle.us_calendar.specs.Runs.{is_name, grants, misses, board_at_turn, IsOccurrence, IsRight}
@@ -93,7 +93,7 @@ closing_all : (run : Run) (round : ℕ) (e : Entry) (Q : ℕ → Type 0) →
     ((n : ℕ) → is_there run e n ≡ true → closes run e n ≡ true → Q n) → AllByRecursion Q (closing_in run round e)
 unfolding closing_in
 closing_all run round e Q each =
-    let now : ℕ → Bool = λ n. runs.window_end e n / round_quarters run.tables == round in
+    let now : ℕ → Bool = λ n. window_end e n / round_quarters run.tables == round in
     filter_passes (λ n. is_there run e n && (closes run e n && now n)) Q
     (range_with_len 0 (run.rounds * round_quarters run.tables * e.grants))
     (λ n passes.
@@ -170,7 +170,7 @@ module _ (t : Tables) (cuts : List (List ℕ)) (counts : Counts) (lines : List R
       rw (
         eq-eqb c.id c.id refl,
         closing.0,
-        eq-eqb r (runs.window_end e n / round_quarters t) (sym closing.1),
+        eq-eqb r (window_end e n / round_quarters t) (sym closing.1),
       ) refl
 
   -- so that it marks one of an entry

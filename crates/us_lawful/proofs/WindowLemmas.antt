@@ -13,9 +13,9 @@ use Rattle.us_calendar.specs.declared.settled.Settled.{Settled}
 use Rattle.us_calendar.specs.declared.settled.Settled.TheVariants as settled
 use Rattle.us_calendar.specs.Activity.{active_in, speaks_by}
 use Rattle.us_calendar.specs.Entries.{Entry, rank_of}
-use Rattle.us_calendar.specs.Occurrences.{Pace, comes, end_of}
+use Rattle.us_calendar.specs.Occurrences.{Pace, comes, end_of, window_end}
 use Rattle.us_calendar.specs.Calendars.{Calendar, pace_of, opening, after}
-use Rattle.us_calendar.specs.Runs.{Round, rounds_on, end_after, window_end, is_name, grants, misses, times, IsSettledOnce}
+use Rattle.us_calendar.specs.Runs.{Round, rounds_on, end_after, is_name, grants, misses, times, IsSettledOnce}
 use Rattle.us_channel.specs.Reserves.{reserves}
 use Rattle.us_round.specs.ScheduleLaws.{boards_of}
 use Rattle.us_lawful.specs.CalendarLines.{round_quarters}

@@ -8,8 +8,7 @@ use Rattle.us_calendar.specs.declared.kinds.Kind.{Kind}
 use Rattle.us_calendar.specs.declared.kinds.Kind.TheVariants as kinds
 use Rattle.us_calendar.specs.Activity.{active_in}
 use Rattle.us_calendar.specs.Entries.{Entry, entries, owner_of, slots_of}
-use Rattle.us_calendar.specs.Occurrences.{comes, ideal, starts_within}
-use Rattle.us_calendar.specs.Runs.{window_end}
+use Rattle.us_calendar.specs.Occurrences.{comes, ideal, starts_within, window_end}
 use Rattle.us_output.specs.declared.rows.EntryWord.{EntryWord}
 use Rattle.us_output.specs.declared.rows.EntryWord.TheVariants as words
 use Rattle.us_output.specs.declared.rows.Grant.{Grant}
