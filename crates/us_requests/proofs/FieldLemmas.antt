@@ -1,9 +1,8 @@
 -- Fields: the one at a place, as `csv` finds it, and none behind the last.
 use Rattle.std.proofs.Common.{◌≡◌, ℕ, zero, suc, ◌≤◌, List, [], ◌∷◌, length, Option, Some, None, ap, refl, arith}
 use Rattle.csv.specs.Records.{field_at}
-use Rattle.us_requests.specs.Records.{Record}
 use Rattle.us_requests.specs.declared.requests.Kind.TheVariants as kinds
-use Rattle.us_requests.specs.Texts.{field_in, kind_of, number_of, number_from}
+use Rattle.us_requests.specs.Texts.{field_in, kind_of, number_of, number_from, Record}
 
 abbrev pub or_nothing : Option (List ℕ) → List ℕ
 or_nothing None = []

@@ -10,7 +10,8 @@ use Rattle.csv.specs.declared.parser.State.TheVariants as st
 use Rattle.csv.specs.declared.reader.Reader.{Reader}
 use Rattle.csv.specs.declared.reader.Trim.TheVariants as trim
 use Rattle.csv.specs.declared.error.Error.{Error}
-use Rattle.us_requests.specs.Records.{Record, records_of, records_at, records_behind, records_left, IsRecordReader, TakesRecord}
+use Rattle.us_requests.specs.Records.{records_at, records_behind, records_left, IsRecordReader, TakesRecord}
+use Rattle.us_requests.specs.Texts.{Record, records_of}
 use denote.Ref.{Bor}
 
 -- a record takes a byte at least, but for one that the end of the text ends

@@ -5,9 +5,7 @@
 pub mod Asks
 -- what is asked for in a round by each word: sums over the requests, in whatever order they stand
 pub mod Cuts
--- the records of a text, as `csv` splits it
-pub mod Records
--- the first fault of the records of a text, and the requests that they tell
+-- the records of a text, as `csv` splits it, their first fault, and the requests that they tell
 pub mod Texts
 -- what a trace says, as its readers see it
 pub mod Traces
@@ -15,6 +13,8 @@ pub mod Traces
 pub mod Readings
 -- the code of a fault
 pub mod Codes
+-- inside the crate: which records a reader has left
+pub mod Records
 -- inside the crate: what becomes of a request, and what it adds
 pub mod Outcomes
 -- inside the crate: asks in one list, and where those of a round stand

@@ -1,20 +1,13 @@
--- The records of a text, as `csv` reads them by default, and a reader of them as the list of those that are left.
+-- Inside the crate: a reader of the records of a text, as the list of those that are left.
 use Rattle.std.specs.Prelude.{◌≡◌, ℕ, suc, ◌⊎◌, Bool, true, false, List, [], ◌∷◌, length, Option, Some, None}
-use Rattle.csv.specs.Reading.{Ready, default_config, has_failed, is_flexible, reader_config, reader_state, reader_trim, records, records_from, source_of, strip_bom}
+use Rattle.csv.specs.Reading.{Ready, default_config, has_failed, is_flexible, reader_config, reader_state, reader_trim, records_from, source_of}
 use Rattle.csv.specs.declared.parser.State.{State}
 use Rattle.csv.specs.declared.reader.Reader.{Reader}
 use Rattle.csv.specs.declared.reader.Trim.TheVariants as trim
+use Rattle.us_requests.specs.Texts.{Record}
 use denote.Ref.{Bor}
 
--- a record: its fields, each as its bytes
-abbrev pub Record : Type 0
-Record = List (List ℕ)
-
--- the records of a text; a byte-order mark at its start isn't of the text
-abbrev pub records_of : List ℕ → List Record
-records_of text = records default_config (strip_bom text)
-
--- those of the bytes that are left from a state of the reader on
+-- the records of the bytes that are left from a state of the reader on
 unfoldable pub records_at : State → List ℕ → List Record
 records_at state bytes = records_from default_config (suc (length bytes)) state bytes
 

@@ -1,13 +1,22 @@
--- The text of a trace (ours): the first fault of its records, and the requests that they tell where there is none.
+-- The text of a trace (ours): its records, as `csv` reads them by default, their first fault, and the requests that they
+-- tell where there is none.
 use Rattle.std.specs.Prelude.{ℕ, ◌+◌, ◌-◌, ◌*◌, Bool, not, ◌==◌, nat_le, nat_lt, ◌&&◌, ◌||◌, if◌then◌else◌, List, [], ◌∷◌, length, map, drop, slice_index_or, codes, Option, Some, None}
 use Rattle.std.specs.List.{list_all}
 use Rattle.std.specs.Str.{bytes_eq}
+use Rattle.csv.specs.Reading.{default_config, records, strip_bom}
 use Rattle.us_requests.specs.declared.faults.TraceFault.{TraceFault}
 use Rattle.us_requests.specs.declared.faults.TraceFault.TheVariants as fault
 use Rattle.us_requests.specs.declared.requests.Kind.{Kind}
 use Rattle.us_requests.specs.declared.requests.Kind.TheVariants as kinds
 use Rattle.us_requests.specs.Asks.{Request}
-use Rattle.us_requests.specs.Records.{Record, records_of}
+
+-- a record: its fields, each as its bytes
+abbrev pub Record : Type 0
+Record = List (List ℕ)
+
+-- the records of a text; a byte-order mark at its start isn't of the text
+abbrev pub records_of : List ℕ → List Record
+records_of text = records default_config (strip_bom text)
 
 -- the most records of a trace, with the header
 abbrev pub max_records : ℕ

@@ -1,6 +1,7 @@
 ghost use Rattle.std.specs.Prelude.{◌≡◌, List, IfOk};
 ghost use Rattle.csv.specs.Records.{fields_of};
-ghost use Rattle.us_requests.specs.Records.{Record, records_of, records_left, IsRecordReader, TakesRecord};
+ghost use Rattle.us_requests.specs.Records.{records_left, IsRecordReader, TakesRecord};
+ghost use Rattle.us_requests.specs.Texts.{Record, records_of};
 
 use csv::{ByteRecord, Reader, ReaderBuilder};
 use std::alloc::{AllocError, Global};
