@@ -4,7 +4,8 @@ use Rattle.std.specs.Prelude.{◌↔◌}
 use Rattle.std.proofs.lemmas.Bool.{cases_lt}
 use Rattle.std.proofs.lemmas.List.{drop_more}
 use Rattle.us_bucket.specs.Levels.{Level, units_per_byte, refilled, spent, bytes_in, reserve_in, or_none, Has}
-use Rattle.us_bucket.specs.Allowances.{Limit, credits_from, credits_of, KeepsBound, AreLawful, IsAllowance, IsLimitedTo, IsReserve}
+use Rattle.us_bucket.specs.Allowances.{Limit, KeepsBound, AreLawful, IsAllowance, IsLimitedTo, IsReserve}
+use Rattle.us_bucket.specs.Spans.{credits_from, credits_of}
 use Rattle.us_bucket.specs.Laws.{level_after, HasEach, first_level, BucketKeepsBound, BucketIsAllowance, BucketIsReserve}
 use Rattle.us_bucket.specs.declared.events.Event.{Event}
 use Rattle.us_bucket.specs.declared.events.Event.TheVariants.{NextRound, Credit}

@@ -4,7 +4,8 @@ use Rattle.std.proofs.Common.{◌≡◌, ℕ, zero, suc, ◌+◌, ◌*◌, ◌<�
 use Rattle.std.specs.Prelude.{sum}
 use Rattle.std.proofs.lemmas.List.Sums.{sum_by-cons}
 use Rattle.us_bucket.specs.Levels.{Level, units_per_byte, full, refilled, spent}
-use Rattle.us_bucket.specs.Allowances.{Limit, credits_from}
+use Rattle.us_bucket.specs.Allowances.{Limit}
+use Rattle.us_bucket.specs.Spans.{credits_from}
 use Rattle.us_bucket.specs.Laws.{level_after, HasEach}
 use Rattle.us_bucket.specs.declared.events.Event.{Event}
 use Rattle.us_bucket.specs.declared.events.Event.TheVariants.{NextRound, Credit}

@@ -1,29 +1,16 @@
 -- What may be credited to a flow, by the bytes that were credited in each round; and what is reserved of it, by the bytes
 -- that were planned first in each round. No bucket is mentioned here.
-use Rattle.std.specs.Prelude.{◌≡◌, ◌⊎◌, ℕ, ◌+◌, ◌-◌, ◌*◌, ◌≤◌, ◌<◌, List, [], ◌∷◌, ◌++◌, length, take, drop, sum, Option, MatchOption}
+use Rattle.std.specs.Prelude.{◌≡◌, ◌⊎◌, ℕ, ◌+◌, ◌-◌, ◌*◌, ◌≤◌, ◌<◌, List, [], ◌∷◌, ◌++◌, length, Option, MatchOption}
 use Rattle.us_bucket.specs.Levels.{units_per_byte}
+use Rattle.us_bucket.specs.Spans.{credits_of, credited}
 use Rattle.us_bucket.specs.declared.events.Event.{Event}
-use Rattle.us_bucket.specs.declared.events.Event.TheVariants.{NextRound, Credit}
+use Rattle.us_bucket.specs.declared.events.Event.TheVariants.{Credit}
 
 -- a flow's limit, and the length of a round
 pub record Limit : Type 0 where
   pub rate : ℕ  -- in bit/s: the maximum sustained rate, or of a reserve the minimum one
   pub burst : ℕ  -- the maximum burst in bytes
   pub round_ticks : ℕ  -- in ticks of 6.25 microseconds
-
--- the bytes credited in each round, in order, where `first` bytes of the first round were counted before
-abbrev pub credits_from : ℕ → List Event → List ℕ
-credits_from first [] = first ∷ []
-credits_from first (NextRound ∷ events) = first ∷ credits_from 0 events
-credits_from first (Credit bytes ∷ events) = credits_from (first + bytes) events
-
--- the bytes credited in each round, from round 0 to the present one
-abbrev pub credits_of : List Event → List ℕ
-credits_of events = credits_from 0 events
-
--- the bytes credited in rounds i to j
-abbrev pub credited : List ℕ → ℕ → ℕ → ℕ
-credited credits i j = sum (take (j - i + 1) (drop i credits))
 
 -- the bound over every span of rounds: at most a burst, and the rate over the time from the first round of the span to
 -- the last

@@ -2,7 +2,7 @@
 use Rattle.std.specs.Prelude.{◌≡◌, ◌*◌, List, [], ◌∷◌, None, Some, refl}
 use Rattle.us_bucket.specs.Levels.{Level, full, refilled, spent, bytes_in, reserve_in, units_in}
 use Rattle.us_bucket.specs.RoundBuckets.{Kept, full_at_first, after_rounds, level_in, brought_to, less}
-use Rattle.us_bucket.specs.Allowances.{credits_of, credited}
+use Rattle.us_bucket.specs.Spans.{credits_of, credited}
 use Rattle.us_bucket.specs.Laws.{level_after}
 use Rattle.us_bucket.specs.declared.events.Event.{Event}
 use Rattle.us_bucket.specs.declared.events.Event.TheVariants.{NextRound, Credit}

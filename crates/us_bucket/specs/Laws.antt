@@ -1,7 +1,8 @@
 -- The laws of the bucket: it lets through what keeps the bound, and holds what may be credited, or what is reserved.
 use Rattle.std.specs.Prelude.{ℕ, ◌≤◌, ◌<◌, ◌↔◌, List, [], ◌∷◌}
 use Rattle.us_bucket.specs.Levels.{Level, full, refilled, spent, bytes_in, reserve_in, Has}
-use Rattle.us_bucket.specs.Allowances.{Limit, credits_of, KeepsBound, AreLawful, IsLimitedTo, IsReserve}
+use Rattle.us_bucket.specs.Allowances.{Limit, KeepsBound, AreLawful, IsLimitedTo, IsReserve}
+use Rattle.us_bucket.specs.Spans.{credits_of}
 use Rattle.us_bucket.specs.declared.events.Event.{Event}
 use Rattle.us_bucket.specs.declared.events.Event.TheVariants.{NextRound, Credit}
 

@@ -7,6 +7,8 @@
 pub mod Levels
 -- a bucket with the round as of which it stands, and its laws
 pub mod RoundBuckets
+-- the bytes that are credited in each round, and over a span of rounds
+pub mod Spans
 -- the bound over every span of rounds, and the greatest number of bytes that keeps it
 pub mod Allowances
 -- the laws of the bucket

@@ -6,7 +6,8 @@ use Rattle.std.proofs.lemmas.Bool.{cases_lt, and_from, and_parts, both_ways, fal
 use Rattle.std.proofs.lemmas.List.FromFn.{take-map-range_with_len, length-map-range_with_len}
 use Rattle.us_flows.specs.Tables.{Tables, FlowTable}
 use Rattle.us_bucket.specs.Levels.{Level, full, refilled, spent, units_per_byte}
-use Rattle.us_bucket.specs.Allowances.{Limit, KeepsBound, credits_from, credits_of, credited}
+use Rattle.us_bucket.specs.Allowances.{Limit, KeepsBound}
+use Rattle.us_bucket.specs.Spans.{credits_from, credits_of, credited}
 use Rattle.us_bucket.specs.Laws.{HasEach, first_level}
 use Rattle.us_bucket.proofs.AllowanceLemmas.{had}
 use Rattle.us_lawful.specs.Rates.{span_holds}

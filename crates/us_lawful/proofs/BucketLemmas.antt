@@ -7,7 +7,8 @@ use Rattle.std.proofs.lemmas.Option.{slice_get-map}
 use Rattle.us_flows.specs.Tables.{Tables, FlowTable}
 use Rattle.us_flows.specs.Lawful.{AreTables}
 use Rattle.us_bucket.specs.Levels.{Level, full, refilled, spent, bytes_in, Has}
-use Rattle.us_bucket.specs.Allowances.{Limit, credits_from, credits_of, KeepsBound}
+use Rattle.us_bucket.specs.Allowances.{Limit, KeepsBound}
+use Rattle.us_bucket.specs.Spans.{credits_from, credits_of}
 use Rattle.us_bucket.specs.Laws.{level_after, HasEach, first_level}
 use Rattle.us_bucket.specs.declared.events.Event.{Event}
 use Rattle.us_bucket.specs.declared.events.Event.TheVariants.{NextRound, Credit}

@@ -9,7 +9,8 @@ use Rattle.std.proofs.lemmas.Simd.{map-map}
 use Rattle.us_flows.specs.Tables.{Tables, FlowTable, rounds_fit}
 use Rattle.us_flows.specs.Lawful.{AreTables}
 use Rattle.us_bucket.specs.Levels.{units_per_byte}
-use Rattle.us_bucket.specs.Allowances.{Limit, KeepsBound, credited}
+use Rattle.us_bucket.specs.Allowances.{Limit, KeepsBound}
+use Rattle.us_bucket.specs.Spans.{credited}
 use Rattle.us_requests.specs.declared.asks.Counts.{Counts}
 use Rattle.us_output.specs.declared.rows.Row.{Row}
 use Rattle.us_round.specs.Rounds.{State, opening, is_of_flow}

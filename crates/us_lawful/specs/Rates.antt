@@ -4,7 +4,7 @@ use Rattle.std.specs.Prelude.{ℕ, ◌+◌, ◌-◌, ◌*◌, ◌==◌, nat_le, 
 use Rattle.std.specs.List.{list_all, range_with_len}
 use Rattle.us_flows.specs.Tables.{Tables, FlowTable}
 use Rattle.us_bucket.specs.Levels.{units_per_byte}
-use Rattle.us_bucket.specs.Allowances.{credited}
+use Rattle.us_bucket.specs.Spans.{credited}
 use Rattle.us_output.specs.declared.rows.Row.{Row}
 use Rattle.us_lawful.specs.declared.place.Place.{Place}
 use Rattle.us_lawful.specs.Runs.{Run, Judged, requested_in}
