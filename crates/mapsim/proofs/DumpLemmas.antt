@@ -8,7 +8,8 @@ use Rattle.std.specs.Io.KnownBytes.{Appends}
 use Rattle.us_slots.proofs.DeviceLemmas.{appends_nothing, appends_join}
 use Rattle.us_codec.specs.Bodies.{MapBody, IsMapBody, SpellsMap}
 use Rattle.us_codec.specs.declared.maps_files.Record.{Record}
-use Rattle.us_codec.specs.MapsFiles.{IsPiece, IsMapsFile, piece_at, maps_file}
+use Rattle.us_codec.specs.MapsFiles.{IsPiece, maps_file}
+use Rattle.us_codec.specs.Records.{IsMapsFile, piece_at}
 use Rattle.us_lawful.specs.declared.judged.RoundMap.{RoundMap}
 use Rattle.us_lawful.specs.Lawful.{IsRoundMap}
 use Rattle.us_lawful.specs.Texts.{record_of}

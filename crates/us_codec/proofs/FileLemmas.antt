@@ -12,7 +12,8 @@ use Rattle.us_codec.specs.declared.faults.MapFault.{MapFault}
 use Rattle.us_codec.specs.declared.faults.MapFault.TheVariants.{NoMemory, RecordCut}
 use Rattle.us_codec.specs.Answers.{ListUnlessNoMemory}
 use Rattle.us_codec.specs.declared.maps_files.Record.{Record}
-use Rattle.us_codec.specs.MapsFiles.{Piece, IsPiece, record_bytes, maps_file, places, piece_at, IsMapsFile, EndsInside, BeginsWhole}
+use Rattle.us_codec.specs.MapsFiles.{Piece, IsPiece, record_bytes, maps_file}
+use Rattle.us_codec.specs.Records.{places, piece_at, IsMapsFile, EndsInside, BeginsWhole}
 use Rattle.us_codec.proofs.WordLemmas.{AreBytes, four-bytes}
 
 -- the length that the first six bytes state

@@ -5,7 +5,8 @@ use Rattle.us_codec.specs.Elements.{MapElement, word_of, element_of, null_at}
 use Rattle.us_codec.specs.declared.heads.Head.{Head}
 use Rattle.us_codec.specs.Bodies.{MapBody, body_of, element_bytes, front, spelling}
 use Rattle.us_codec.specs.Faults.{front_fault, end_of, before_end, after_end, rises, rises_to_end, are_pending_after, ends_in_pendings, starts_at_zero, parts_fault, list_fault, build_fault, head_at, elements_at, read_fault, decode_answer, build_answer}
-use Rattle.us_codec.specs.MapsFiles.{record_bytes, maps_file, places}
+use Rattle.us_codec.specs.MapsFiles.{record_bytes, maps_file}
+use Rattle.us_codec.specs.Records.{places}
 
 -- channel 1 at minislot 0, with ranging backoff 2 to 6 and data backoff 3 to 8
 abbrev base_head : Head

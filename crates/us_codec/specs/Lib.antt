@@ -13,6 +13,8 @@ pub mod Faults
 pub mod Answers
 -- maps files: records, one behind another
 pub mod MapsFiles
+-- where these stand in bytes
+pub mod Records
 -- that no bytes have two readings
 pub mod Laws
 -- the code of a fault

@@ -1,6 +1,7 @@
 ghost use Rattle.std.specs.Prelude.{◌≡◌, ◌≢◌, ◌<◌, ◌≤◌, length, List, Ok, Err, IsOk, IfOk, IfErr};
 ghost use Rattle.std.specs.List.{All, AllByRecursion};
-ghost use Rattle.us_codec.specs.MapsFiles.{Piece, IsPiece, maps_file, places, IsMapsFile, EndsInside, BeginsWhole};
+ghost use Rattle.us_codec.specs.MapsFiles.{Piece, IsPiece, maps_file};
+ghost use Rattle.us_codec.specs.Records.{places, IsMapsFile, EndsInside, BeginsWhole};
 ghost use Rattle.us_codec.specs.Answers.{ListUnlessNoMemory};
 ghost use Rattle.us_codec.specs.declared.faults.MapFault.TheVariants.{NoMemory, RecordCut};
 

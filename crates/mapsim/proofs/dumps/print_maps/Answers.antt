@@ -1,5 +1,5 @@
 use Rattle.std.proofs.Common.{rules, sym, subst}
-use Rattle.us_codec.specs.MapsFiles.{IsMapsFile}
+use Rattle.us_codec.specs.Records.{IsMapsFile}
 use Rattle.mapsim.proofs.DumpLemmas.{none-printed, printed-next, all-printed}
 use Rattle.mapsim.proofs.dumps.print_maps.Goals as goal
 
