@@ -10,8 +10,8 @@ use Rattle.us_flows.specs.Clusters.{Cluster, Turn, IsTurnIn, table_order, words_
 use Rattle.us_flows.specs.Lawful.{AreTables}
 use Rattle.us_flows.proofs.TurnLaws.{table_order-turns}
 use Rattle.us_requests.specs.declared.asks.Counts.{Counts}
-use Rattle.us_split.specs.Asking as asking
-use Rattle.us_split.specs.Asking.{requested_by}
+use Rattle.us_split.specs.Requested as requested
+use Rattle.us_split.specs.Requested.{requested_by}
 use Rattle.us_split.proofs.RequestedLemmas.{requested-at}
 use Rattle.us_channel.specs.Placements.{credits}
 use Rattle.us_output.specs.declared.rows.Grant.{Grant}
@@ -78,9 +78,9 @@ requested_is : (t : Tables) (cuts : List (List ℕ)) (turn : Turn) → AreCuts t
     asked_of t turn.number cuts ≡ sum_by (λ cut. slice_index cut turn.number) cuts
 requested_is t cuts turn long known =
     let n : ℕ = turn.number in
-    sum_same (λ cut. slice_index (asking.requested_in (words_of t) cut) n) (λ cut. slice_index cut n) cuts
+    sum_same (λ cut. slice_index (requested.requested_in (words_of t) cut) n) (λ cut. slice_index cut n) cuts
     (all_weaker (λ cut. length cut ≡ length (words_of t))
-    (λ cut. slice_index (asking.requested_in (words_of t) cut) n ≡ slice_index cut n)
+    (λ cut. slice_index (requested.requested_in (words_of t) cut) n ≡ slice_index cut n)
     (λ cut same. requested-at (words_of t) cut n (omega (arith, same, known.number))
     ∙ ap (λ word. option_map_or (λ word. requested_by word (slice_index cut n)) word 0) known.word) cuts long)
 

@@ -9,7 +9,7 @@ use Rattle.us_flows.specs.Tables.{Tables, max_run_ticks, rounds_fit}
 use Rattle.us_flows.specs.Clusters.{Word, is_of_cluster, words_of}
 use Rattle.us_intake.specs.Tallies.{added}
 use Rattle.us_intake.proofs.TallyLemmas.{index-added, index-empty, index_le_sum}
-use Rattle.us_split.specs.Asking.{requested_by, requested_in, with_cut}
+use Rattle.us_split.specs.Requested.{requested_by, requested_in, with_cut}
 use Rattle.us_channel.specs.Placements.{PlacedClaim}
 use Rattle.us_round.specs.Rounds.{State, all_grants, begun, builds_of, final, uncredited, opening, round_from, round_of, schedule}
 use Rattle.us_output.specs.Outputs.{out_of}

@@ -9,7 +9,7 @@ use Rattle.us_flows.specs.Tables.{Tables}
 use Rattle.us_flows.specs.Clusters as words
 use Rattle.us_flows.specs.Clusters.{Word, words_of}
 use Rattle.us_calendar.specs.Calendars as calendars
-use Rattle.us_split.specs.Asking.{requested_by, requested_in, with_cut}
+use Rattle.us_split.specs.Requested.{requested_by, requested_in, with_cut}
 use Rattle.us_channel.specs.Placements.{PlacedClaim, credits}
 use Rattle.us_round.specs.Rounds.{State, all_grants, begun, build_planned, builds_of, fills_of, is_of_cluster, uncredited, opening, round_from, round_of, round_plan}
 use Rattle.us_output.specs.Outputs.{RoundOut, built_map, out_of}

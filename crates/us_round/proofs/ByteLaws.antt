@@ -4,7 +4,7 @@ use Rattle.std.proofs.lemmas.List.Sums.{sum_by-cons}
 use Rattle.us_flows.specs.Tables.{Tables}
 use Rattle.us_flows.specs.Lawful.{AreTables}
 use Rattle.us_flows.specs.Clusters.{words_of}
-use Rattle.us_split.specs.Asking.{requested_in, with_cut}
+use Rattle.us_split.specs.Requested.{requested_in, with_cut}
 use Rattle.us_split.proofs.RequestedLemmas.{requested-length}
 use Rattle.us_channel.specs.Placements.{PlacedClaim, credits}
 use Rattle.us_round.specs.Rounds.{State, opening, begun, builds_of, all_grants, is_of_cluster, uncredited, round_from, round_of, schedule, final}

@@ -8,7 +8,8 @@ use Rattle.us_flows.specs.Clusters.{words_of, turns_of}
 use Rattle.us_flows.specs.Lawful.{AreTables}
 use Rattle.us_bucket.specs.Levels.{Level, bytes_in, full, refilled, reserve_in}
 use Rattle.us_split.specs.Plans.{plan_for, reserved_for}
-use Rattle.us_split.specs.Asking.{Asking, all_asked_more, nobody_asks, numbers_of, pending_places, settled, with_cut}
+use Rattle.us_split.specs.Asking.{Asking, all_asked_more, nobody_asks, numbers_of, pending_places, settled}
+use Rattle.us_split.specs.Requested.{with_cut}
 use Rattle.us_split.specs.Planners.{Planner, before_planning}
 use Rattle.us_channel.specs.Channels.{Built}
 use Rattle.us_round.specs.Buckets.{Buckets, begun_buckets, full_buckets, full_reserves}

@@ -9,7 +9,7 @@ use Rattle.us_flows.specs.Clusters.{words_of}
 use Rattle.us_calendar.specs.Settling as calendar
 use Rattle.us_calendar.specs.Settling.{EntryState}
 use Rattle.us_calendar.specs.Calendars.{Calendar, heard_by, settled_in}
-use Rattle.us_split.specs.Asking.{requested_in, with_cut}
+use Rattle.us_split.specs.Requested.{requested_in, with_cut}
 use Rattle.us_split.proofs.RequestedLemmas.{requested-length}
 use Rattle.us_channel.specs.Channels.{Built, heard}
 use Rattle.us_round.proofs.PhaseLemmas.{zip_long}

@@ -10,7 +10,8 @@ use Rattle.us_bucket.specs.Levels.{Level, full, spent, bytes_in, reserve_in}
 use Rattle.us_holes.specs.Boards.{free_count}
 use Rattle.us_split.specs.Plans.{Planned, plan_for, reserved_for}
 use Rattle.us_split.specs.Claims.{Claim, all_claims}
-use Rattle.us_split.specs.Asking.{Asking, numbers_of, pending_places, with_cut}
+use Rattle.us_split.specs.Asking.{Asking, numbers_of, pending_places}
+use Rattle.us_split.specs.Requested.{with_cut}
 use Rattle.us_split.specs.Planners.{Planner}
 use Rattle.us_channel.specs.Placements.{PlacedClaim}
 use Rattle.us_output.specs.Outputs.{first_sid}

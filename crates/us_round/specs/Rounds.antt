@@ -6,7 +6,7 @@ use Rattle.us_bucket.specs.Levels.{Level, full, refilled, spent, bytes_in, reser
 use Rattle.us_holes.specs.Boards.{free_count}
 use Rattle.us_calendar.specs.Calendars as calendars
 use Rattle.us_calendar.specs.Calendars.{Calendar, heard_by}
-use Rattle.us_split.specs.Asking.{with_cut}
+use Rattle.us_split.specs.Requested.{with_cut}
 use Rattle.us_split.specs.Plans.{Planned, plan_for, reserved_for}
 use Rattle.us_split.specs.Claims.{claims_on}
 use Rattle.us_channel.specs.Placements.{PlacedClaim, credits}

@@ -8,7 +8,7 @@ use Rattle.us_flows.specs.Clusters.{turns_of, words_of}
 use Rattle.us_flows.specs.Lawful.{AreTables}
 use Rattle.us_bucket.specs.Levels.{bytes_in}
 use Rattle.us_holes.specs.Boards.{Board}
-use Rattle.us_split.specs.Asking.{requested_in}
+use Rattle.us_split.specs.Requested.{requested_in}
 use Rattle.us_split.specs.Plans.{ledger_of, plan_of}
 use Rattle.us_calendar.specs.Calendars as calendars
 use Rattle.us_calendar.specs.Runs.{rounds_on}

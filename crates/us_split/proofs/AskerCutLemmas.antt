@@ -6,7 +6,7 @@ use Rattle.std.proofs.lemmas.Bool.{cases_lt}
 use Rattle.std.proofs.lemmas.Nat.{le_or_l, le_or_r}
 use Rattle.std.proofs.lemmas.List.{length-append, get_or-drop, get_or-take, get_or-replicate}
 use Rattle.us_flows.specs.Clusters.{Word}
-use Rattle.us_split.specs.Asking.{requested_in}
+use Rattle.us_split.specs.Requested.{requested_in}
 use Rattle.us_split.specs.Askers.{HasNothing}
 use Rattle.us_split.proofs.AskerStepLemmas.{Fits, none-more, room-more, walked, walked-more}
 use Rattle.us_split.proofs.RequestedLemmas.{requested-idle}

@@ -8,7 +8,8 @@ use Rattle.std.proofs.lemmas.List.{get_or_default, get_or_past, length-set, leng
 use Rattle.us_flows.specs.Tables.{Tables}
 use Rattle.us_flows.specs.Clusters.{turns_of, words_of}
 use Rattle.us_flows.specs.Lawful.{AreTables}
-use Rattle.us_split.specs.Asking.{Asking, asked_more, asking, asks, more_of, numbers_of, places_from, pending_places, is_pending, requested_at}
+use Rattle.us_split.specs.Asking.{Asking, asked_more, asking, asks, more_of, numbers_of, places_from, pending_places, is_pending}
+use Rattle.us_split.specs.Requested.{requested_at}
 use Rattle.us_split.specs.Askers.{AreAskers, AreBytes, AreOnce, ArePlaces, IsPlaceOf, put_in}
 use Rattle.us_split.proofs.AskerLemmas.{filter-places, places-below, places-fewer, places-rise, put-more}
 use Rattle.us_split.proofs.RequestedLemmas.{requested-left, requested-more, requested-nothing}

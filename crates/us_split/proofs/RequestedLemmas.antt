@@ -4,7 +4,8 @@ use Rattle.std.specs.Prelude.{slice_index}
 use Rattle.std.specs.Option.{option_map_or}
 use Rattle.std.proofs.lemmas.Bool.{cases_Bool}
 use Rattle.us_flows.specs.Clusters.{Word, is_of_cluster, words_of}
-use Rattle.us_split.specs.Asking.{CutsAreOfClusters, more_of, requested_at, requested_by, requested_in}
+use Rattle.us_split.specs.Asking.{more_of}
+use Rattle.us_split.specs.Requested.{CutsAreOfClusters, requested_at, requested_by, requested_in}
 
 -- One word.
 

@@ -9,7 +9,8 @@ use Rattle.us_flows.specs.Tables.{Tables}
 use Rattle.us_flows.specs.Clusters.{Cluster, Turn, IsTurnIn, Word, Requests, is_of_cluster, turns_of, words_of}
 use Rattle.us_flows.specs.Lawful.{AreTables}
 use Rattle.us_flows.proofs.TurnLaws.{turns_are_of_clusters, turns_of-once, turns_of-turns}
-use Rattle.us_split.specs.Asking.{numbers_of, requested_at, requested_by}
+use Rattle.us_split.specs.Asking.{numbers_of}
+use Rattle.us_split.specs.Requested.{requested_at, requested_by}
 use Rattle.us_split.specs.Askers.{AreOnce}
 use Rattle.us_split.proofs.TurnAtLemmas.{few_clusters, few_turns}
 

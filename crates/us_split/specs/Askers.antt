@@ -3,7 +3,8 @@ use Rattle.std.specs.Prelude.{◌≡◌, ◌≢◌, ℕ, ◌^◌, ◌<◌, ◌�
 use Rattle.std.specs.List.{AllByRecursion}
 use Rattle.us_flows.specs.Tables.{Tables}
 use Rattle.us_flows.specs.Clusters.{turns_of, words_of}
-use Rattle.us_split.specs.Asking.{asking, numbers_of, requested_in}
+use Rattle.us_split.specs.Asking.{asking, numbers_of}
+use Rattle.us_split.specs.Requested.{requested_in}
 
 -- no number stands at two places
 abbrev pub AreOnce : List ℕ → Type 0

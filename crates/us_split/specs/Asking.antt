@@ -1,10 +1,10 @@
 -- Who asks in a round: the turns of which bytes are outstanding. The plan of a round is theirs.
-use Rattle.std.specs.Prelude.{◌≡◌, ℕ, ◌+◌, ◌-◌, ◌==◌, ◌<◌, nat_lt, Bool, ◌&&◌, if◌then◌else◌, List, [], ◌∷◌, length, map, set, replicate, zip, filter, filter_map, slice_get, slice_index, slice_index_or, Option, Some, None}
+use Rattle.std.specs.Prelude.{◌≡◌, ℕ, ◌+◌, ◌-◌, ◌==◌, nat_lt, Bool, ◌&&◌, if◌then◌else◌, List, [], ◌∷◌, length, map, set, replicate, zip, filter, filter_map, slice_get, slice_index, slice_index_or, Option, None}
 use Rattle.std.specs.List.{AllByRecursion}
-use Rattle.std.specs.Option.{option_map_or}
 use Rattle.us_flows.specs.declared.channels.Channel.{Channel}
 use Rattle.us_flows.specs.Tables.{Tables}
-use Rattle.us_flows.specs.Clusters.{Turn, Word, is_of_cluster, turns_of, words_of}
+use Rattle.us_flows.specs.Clusters.{Turn, turns_of, words_of}
+use Rattle.us_split.specs.Requested.{requested_at, with_cut}
 use Rattle.us_split.specs.Plans.{Planned, ledger_of, two_passes, plan_for}
 use Rattle.us_split.specs.Claims.{Claim, claim_on, claims_on}
 
@@ -43,20 +43,6 @@ is_pending outstanding left number =
 abbrev pub pending_places : List ℕ → List ℕ → List ℕ → List ℕ
 pending_places outstanding left numbers = places_from (is_pending outstanding left) 0 numbers
 
--- What is requested.
-
--- of the bytes that a word has in a round: all where it is a cluster's; that a flow is silent or active requests none
-abbrev pub requested_by : Word → ℕ → ℕ
-requested_by word bytes = if is_of_cluster word then bytes else 0
-
--- of a cut, word by word
-abbrev pub requested_in : List Word → List ℕ → List ℕ
-requested_in words cut = map (λ pair. requested_by pair.0 pair.1) (zip words cut)
-
--- of so many bytes that the word with this number has
-abbrev pub requested_at : List Word → ℕ → ℕ → ℕ
-requested_at words number bytes = option_map_or (λ word. requested_by word bytes) (slice_get words number) 0
-
 -- A round.
 
 -- the tables; what is outstanding of each word before the credits of a round, and what is left after them; and the places of
@@ -86,10 +72,6 @@ asked_more number bytes a = record a {
   outstanding = more_of number (requested_at (words_of a.tables) number bytes) a.outstanding;
   left = more_of number (requested_at (words_of a.tables) number bytes) a.left;
 }
-
--- each cluster asks for the bytes that a cut has of its word
-abbrev pub with_cut : Tables → List ℕ → List ℕ → List ℕ
-with_cut t counts cut = map (λ pair. pair.0 + pair.1) (zip counts (requested_in (words_of t) cut))
 
 abbrev pub all_asked_more : List ℕ → Asking → Asking
 all_asked_more cut a = record a {
@@ -144,10 +126,3 @@ AskersClaim = (t : Tables) (outstanding : List ℕ) (known allowances : List (Op
 abbrev pub TurnsPass : Type 0
 TurnsPass = (passes : ℕ → Bool) (turns : List Turn) →
     turns_at turns (places_from passes 0 (numbers_of turns)) ≡ filter (λ turn. passes turn.number) turns
-
--- A cut adds to what is outstanding of each cluster's word, and leaves that of other words as it is.
-abbrev pub CutsAreOfClusters : Type 0
-CutsAreOfClusters = (t : Tables) (counts cut : List ℕ) (number : ℕ) (word : Word) →
-    slice_get (words_of t) number ≡ Some word → number < length counts → number < length cut →
-    slice_index (with_cut t counts cut) number ≡
-    slice_index counts number + requested_by word (slice_index cut number)

@@ -10,7 +10,8 @@ use Rattle.us_flows.specs.Clusters.{turns_of}
 use Rattle.us_split.specs.Divisions.{divided}
 use Rattle.us_split.specs.Plans.{weights, shares_of, cost_on, after_turn, plan_of, after_plan, more_shares, after_both, second_of, two_passes, plan_for, reserved_for}
 use Rattle.us_split.specs.Claims.{Claim, claims_from, all_claims, share_of}
-use Rattle.us_split.specs.Asking.{asked_more, asking, asking_in, claims_at, nobody_asks, numbers_of, places_from, plan_of_askers, pending_places, with_cut}
+use Rattle.us_split.specs.Asking.{asked_more, asking, asking_in, claims_at, nobody_asks, numbers_of, places_from, plan_of_askers, pending_places}
+use Rattle.us_split.specs.Requested.{with_cut}
 
 -- what these computations unfold
 unfoldable all_steps : ⊤

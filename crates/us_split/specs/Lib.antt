@@ -1,8 +1,10 @@
--- Read in this order: the division of bytes over channels; the plan of a round; its claims, channel by channel; what holds
--- of every plan.
+-- Read in this order: what is requested; the division of bytes over channels; the plan of a round; its claims, channel by
+-- channel; what holds of every plan.
 -- In a definition `≡` is equals, `≤` compares, `×` is and, `⊎` or, `→` implies, `∷` one item before a list, and ℕ has
 -- the whole numbers from 0; `-` stops at 0, and `/` rounds down.
 
+-- what of a round's cut clusters request
+pub mod Requested
 -- bytes over channels, by their weights
 pub mod Divisions
 -- how many bytes each turn may send

@@ -3,6 +3,7 @@ ghost use Rattle.std.specs.List.{AllByRecursion};
 ghost use Rattle.us_flows.specs.Clusters.{words_of};
 ghost use Rattle.us_flows.specs.Lawful.{AreTables};
 ghost use Rattle.us_split.specs.Asking as spec;
+ghost use Rattle.us_split.specs.Requested.{requested_in};
 ghost use Rattle.us_split.specs.Askers.{AreAskers};
 
 use std::alloc::Global;
@@ -101,7 +102,7 @@ impl Askers {
     pub fn outstanding(&self) -> &[u64]
         ensures value { result.now ≡ self.now.outstanding }
         ensures words { length result.now ≡ length (words_of self.now.tables) }
-        ensures requested { spec.requested_in (words_of self.now.tables) result.now ≡ result.now }
+        ensures requested { requested_in (words_of self.now.tables) result.now ≡ result.now }
         ensures range { AllByRecursion (λ bytes. bytes < 2 ^ 62) result.now }
     {
         &self.outstanding
@@ -111,7 +112,7 @@ impl Askers {
     pub fn left(&self) -> &[u64]
         ensures value { result.now ≡ self.now.left }
         ensures words { length result.now ≡ length (words_of self.now.tables) }
-        ensures requested { spec.requested_in (words_of self.now.tables) result.now ≡ result.now }
+        ensures requested { requested_in (words_of self.now.tables) result.now ≡ result.now }
         ensures range { AllByRecursion (λ bytes. bytes < 2 ^ 62) result.now }
     {
         &self.left

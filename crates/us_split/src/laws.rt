@@ -1,6 +1,7 @@
 //! Laws of plans, of their claims and of those who ask, each as the contract of a function that does nothing.
 
-ghost use Rattle.us_split.specs.Asking.{AskersClaim, CutsAreOfClusters, TurnsPass};
+ghost use Rattle.us_split.specs.Asking.{AskersClaim, TurnsPass};
+ghost use Rattle.us_split.specs.Requested.{CutsAreOfClusters};
 ghost use Rattle.us_split.specs.Laws.{ClaimsAreOfTurns, ClustersClaimOnce, OnePassDoes};
 
 /// Each claim of a plan is of a turn of the tables: of its cluster, with its header, and with the cluster's SID on the

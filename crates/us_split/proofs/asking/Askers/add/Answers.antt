@@ -3,7 +3,8 @@ use Rattle.std.specs.Prelude.{slice_index, slice_index_or}
 use Rattle.std.proofs.lemmas.List.{get_or_default}
 use Rattle.us_flows.specs.Tables.{Tables}
 use Rattle.us_flows.specs.Clusters.{words_of}
-use Rattle.us_split.specs.Asking.{asked_more, more_of, requested_at}
+use Rattle.us_split.specs.Asking.{asked_more, more_of}
+use Rattle.us_split.specs.Requested.{requested_at}
 use Rattle.us_split.specs.Askers.{AreAskers, IsPlaceOf, put_in}
 use Rattle.us_split.proofs.AskerStepLemmas.{asked-none, askers-more, kept_place, listed-fewer, listed-rise, same_asking}
 use Rattle.us_split.proofs.TurnNumberLemmas.{requested-none, requested-turn}

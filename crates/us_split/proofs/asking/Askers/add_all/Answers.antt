@@ -4,7 +4,8 @@ use Rattle.std.specs.List.{AllByRecursion}
 use Rattle.std.proofs.lemmas.List.{length-set}
 use Rattle.us_flows.specs.Tables.{Tables}
 use Rattle.us_flows.specs.Clusters.{words_of}
-use Rattle.us_split.specs.Asking.{more_of, requested_at, requested_in, with_cut}
+use Rattle.us_split.specs.Asking.{more_of}
+use Rattle.us_split.specs.Requested.{requested_at, requested_in, with_cut}
 use Rattle.us_split.proofs.AskerStepLemmas.{Fits, room-more, same_asking, walked, walked-all, walked-more}
 use Rattle.us_split.proofs.AskerCutLemmas.{none-requested, room-passed, walked-passed}
 use Rattle.us_split.proofs.RequestedLemmas.{requested-at, requested-length}

@@ -1,7 +1,7 @@
 use Rattle.std.proofs.Common.{◌≡◌, ◌+◌, ◌-◌, ◌^◌, ◌<◌, ◌≤◌, length, drop, zip}
 use Rattle.std.specs.List.{AllByRecursion}
 use Rattle.us_flows.specs.Clusters.{words_of}
-use Rattle.us_split.specs.Asking.{requested_in, with_cut}
+use Rattle.us_split.specs.Requested.{requested_in, with_cut}
 use Rattle.us_split.proofs.AskerStepLemmas.{walked}
 use Rattle.us_split.proofs.asking.Askers.add_all.Given as goal
 

@@ -1,7 +1,7 @@
 use Rattle.std.proofs.Common.{◌≡◌, sym, subst}
 use Rattle.std.specs.List.{AllByRecursion}
 use Rattle.us_flows.specs.Clusters.{words_of}
-use Rattle.us_split.specs.Asking.{requested_in}
+use Rattle.us_split.specs.Requested.{requested_in}
 use Rattle.us_split.proofs.AskerStepLemmas.{IsSmall, small-left}
 use Rattle.us_split.proofs.RequestedLemmas.{requested-left}
 use Rattle.us_split.proofs.asking.Askers.left.Goals as goal
