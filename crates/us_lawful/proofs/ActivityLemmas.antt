@@ -30,7 +30,7 @@ use Rattle.us_split.specs.Plans.{Planned}
 use Rattle.us_channel.specs.Channels.{Built, fill}
 use Rattle.us_channel.specs.Reserves.{reserves}
 use Rattle.us_round.specs.Rounds.{State, opening, begun, round_plan, build_planned, builds_of, round_from, round_of, final}
-use Rattle.us_round.specs.States as states
+use Rattle.us_round.specs.FinalRows as finals
 use Rattle.us_output.proofs.PartLemmas.{all_append, all_found}
 use Rattle.us_lawful.specs.Finals.{active_after}
 use Rattle.us_lawful.proofs.RoundLemmas.{final_tables, found_made}
@@ -312,7 +312,7 @@ polls_fit t flow UnsolicitedGrant never is = absurd (false≢true never)
 -- and the calendar there knows at the end what the cuts say
 channel_tells : (t : Tables) (cuts : List (List ℕ)) (i : ℕ) (f : WordedFlow) → AreTables t →
     slice_get (with_words 0 t.flows) i ≡ Some f → tells_activity f.flow.kind ≡ true →
-    states.activity_on (final (opening t) cuts) (slice_index f.flow.channels 0) f.flow.id
+    finals.activity_on (final (opening t) cuts) (slice_index f.flow.channels 0) f.flow.id
     ≡ Some (active_after f.word true cuts)
 channel_tells t cuts i f lawful at tells =
     let end : State = final (opening t) cuts in
@@ -335,7 +335,7 @@ channel_tells t cuts i f lawful at tells =
 -- So the state that a schedule leaves tells of each flow what the cuts say, if that tells its activity.
 pub activity_told : (t : Tables) (cuts : List (List ℕ)) (i : ℕ) (f : WordedFlow) → AreTables t →
     slice_get (with_words 0 t.flows) i ≡ Some f →
-    states.activity_of (final (opening t) cuts) f.flow
+    finals.activity_of (final (opening t) cuts) f.flow
     ≡ (if tells_activity f.flow.kind then Some (active_after f.word true cuts) else None)
 activity_told t cuts i f lawful at = elim (cases_Bool (tells_activity f.flow.kind)) [
   | inl tells ↦ rw tells (channel_tells t cuts i f lawful at tells)

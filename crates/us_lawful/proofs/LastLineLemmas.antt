@@ -21,7 +21,7 @@ use Rattle.us_output.specs.declared.rows.Row.{Row}
 use Rattle.us_output.specs.declared.rows.TraceCounts.{TraceCounts}
 use Rattle.us_round.specs.Rounds.{State, opening, schedule, final, builds_of}
 use Rattle.us_output.specs.Outputs.{settled_row, grant_row, activity_row, activity_rows, final_row, out_of}
-use Rattle.us_round.specs.States.{activity_of, final_rows}
+use Rattle.us_round.specs.FinalRows.{activity_of, final_rows}
 use Rattle.us_round.specs.ScheduleLaws.{AreCuts}
 use Rattle.us_lawful.specs.Output.{counts_row, output_of, all_rows, judged_of, run_of}
 use Rattle.us_lawful.specs.Runs.{Run, as_activity, as_final, as_counts, activities_in, finals_in, counts_in, counts_told}

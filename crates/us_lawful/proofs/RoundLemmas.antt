@@ -22,7 +22,8 @@ use Rattle.us_output.specs.declared.rows.Row.{Row}
 use Rattle.us_output.specs.declared.rows.Row.TheVariants as rows
 use Rattle.us_round.specs.Rounds.{State, opening, builds_of, ended, round_from, round_of, schedule, final}
 use Rattle.us_output.specs.Outputs.{Scheduled, RoundOut, is_granted, settled_row, grant_row, by_start, granted_rows, missed_rows, rows_on, activity_rows, final_row, out_of}
-use Rattle.us_round.specs.States.{activity_of, final_rows, IsState, AreSound}
+use Rattle.us_round.specs.States.{IsState, AreSound}
+use Rattle.us_round.specs.FinalRows.{activity_of, final_rows}
 use Rattle.us_output.specs.Leftovers.{AreInside}
 use Rattle.us_round.specs.ScheduleLaws.{begun_rounds, AreCuts}
 use Rattle.us_output.proofs.PartLemmas.{all_append, all_found, all_weaker}

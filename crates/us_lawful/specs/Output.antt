@@ -5,7 +5,7 @@ use Rattle.us_flows.specs.Tables.{Tables}
 use Rattle.us_requests.specs.declared.asks.Counts.{Counts}
 use Rattle.us_round.specs.Rounds.{opening, schedule, final}
 use Rattle.us_output.specs.Outputs.{RoundOut, out_of}
-use Rattle.us_round.specs.States.{final_rows}
+use Rattle.us_round.specs.FinalRows.{final_rows}
 use Rattle.us_output.specs.declared.rows.Row.{Row}
 use Rattle.us_output.specs.declared.rows.Row.TheVariants as rows
 use Rattle.us_output.specs.Files.{records, round_lines, lines}

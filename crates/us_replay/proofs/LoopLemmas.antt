@@ -16,7 +16,7 @@ use Rattle.us_requests.specs.Traces.{TraceAsks, asks_in, asked_before, asks_befo
 use Rattle.us_output.specs.declared.rows.Row.{Row}
 use Rattle.us_round.specs.Rounds.{State, round_of, opening, schedule, final}
 use Rattle.us_output.specs.Outputs.{Scheduled, RoundOut, AreWithinLimits, out_of}
-use Rattle.us_round.specs.States.{final_rows}
+use Rattle.us_round.specs.FinalRows.{final_rows}
 use Rattle.us_replay.specs.Collecting.{AreAsks}
 use Rattle.us_output.specs.Files.{records, lines, is_granted, is_missed}
 use Rattle.us_lawful.specs.Output.{counts_row, all_rows, judged_of, output_of}

@@ -14,7 +14,8 @@ use Rattle.us_requests.specs.declared.asks.Counts.{Counts}
 use Rattle.us_requests.specs.Cuts.{cut_of}
 use Rattle.us_requests.specs.Traces.{TraceAsks, asks_in, asked_before, asks_before, max_ask, max_asked, max_asks}
 use Rattle.us_round.specs.Rounds.{State, RoundResult, opening, round_of, schedule, final}
-use Rattle.us_round.specs.States.{settled_by, final_rows}
+use Rattle.us_round.specs.States.{settled_by}
+use Rattle.us_round.specs.FinalRows.{final_rows}
 use Rattle.us_output.specs.declared.rows.Row.{Row}
 use Rattle.us_output.specs.Outputs.{RoundOut, AreWithinLimits, out_of}
 use Rattle.us_replay.specs.declared.summaries.Summary.{Summary}

@@ -9,7 +9,7 @@ use Rattle.us_calendar.specs.Calendars.{activity_in}
 use Rattle.us_channel.specs.Channels.{Built}
 use Rattle.us_round.specs.Cores.{Core}
 use Rattle.us_round.specs.Parts.{activity_by, activity_heard, state_of}
-use Rattle.us_round.specs.States.{activity_of, activity_on}
+use Rattle.us_round.specs.FinalRows.{activity_of, activity_on}
 
 -- beside its calendar a channel stands in both tables
 heard_in : (bs : List Built) (id flow : ℕ) → activity_heard bs id flow ≡

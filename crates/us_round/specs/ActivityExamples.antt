@@ -9,7 +9,7 @@ use Rattle.us_output.specs.Outputs.{RoundOut, out_of}
 use Rattle.us_output.specs.declared.rows.Row.TheVariants as rows
 use Rattle.us_round.specs.RoundExamples.{round_steps, channel_with, flow_with, tables}
 use Rattle.us_round.specs.Rounds.{State, final, opening, schedule}
-use Rattle.us_round.specs.States.{final_rows}
+use Rattle.us_round.specs.FinalRows.{final_rows}
 
 -- MAPs of 16 minislots, the last 2 of which are for contention; and three flows: one of a cluster, and around it two with a
 -- grant or a poll in each round. Words 0 and 3 mark these as silent, 1 and 4 as active; word 2 is the cluster's.

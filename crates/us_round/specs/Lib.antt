@@ -16,7 +16,9 @@ pub mod TurnExamples
 pub mod CalendarExamples
 -- and rounds with marks of activity
 pub mod ActivityExamples
--- what a round's grants take, and what a state keeps and tells
+-- the last lines of a report, which the last state tells
+pub mod FinalRows
+-- what a round's grants take, and what a state keeps
 pub mod States
 -- laws of the schedule
 pub mod ScheduleLaws

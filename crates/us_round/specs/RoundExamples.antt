@@ -22,7 +22,7 @@ use Rattle.us_channel.specs.Placements.{grants_of, spot}
 use Rattle.us_channel.specs.Maps.{elements_of, head_of, map_of}
 use Rattle.us_round.specs.Rounds.{RoundResult, build_planned, builds_of, final, opening, pending_sids, round_from, round_of, round_plan, schedule}
 use Rattle.us_output.specs.Outputs.{pendings_on, RoundOut, by_start, out_of, rows_on}
-use Rattle.us_round.specs.States.{final_rows}
+use Rattle.us_round.specs.FinalRows.{final_rows}
 use Rattle.us_output.specs.declared.rows.Grant.{Grant}
 use Rattle.us_output.specs.declared.rows.Row.TheVariants as rows
 use Rattle.us_output.specs.declared.rows.EntryWord.TheVariants as words

@@ -1,17 +1,16 @@
--- What a state keeps and tells, what of it the grants of a round may take, and what a round of it needs and leaves.
-use Rattle.std.specs.Prelude.{◌≡◌, ℕ, ◌+◌, ◌*◌, ◌^◌, ◌<◌, ◌≤◌, ◌==◌, Bool, if◌then◌else◌, List, ◌++◌, length, map, sum_by, zip, slice_index, slice_get, Option, Some, None, option_and_then}
-use Rattle.std.specs.List.{AllByRecursion, find}
-use Rattle.us_flows.specs.Tables.{FlowTable, max_run_ticks}
-use Rattle.us_flows.specs.Clusters.{table_order, tells_activity, words_of}
+-- What a state keeps, what of it the grants of a round may take, and what a round of it needs and leaves.
+use Rattle.std.specs.Prelude.{◌≡◌, ℕ, ◌+◌, ◌*◌, ◌^◌, ◌<◌, ◌≤◌, List, length, map, sum_by, zip, slice_index, slice_get, Some}
+use Rattle.std.specs.List.{AllByRecursion}
+use Rattle.us_flows.specs.Tables.{max_run_ticks}
+use Rattle.us_flows.specs.Clusters.{words_of}
 use Rattle.us_bucket.specs.Levels.{Level, bytes_in}
 use Rattle.us_split.specs.PlanLaws.{Within}
-use Rattle.us_calendar.specs.Calendars.{activity_in, pace_of, settled_in, max_settled, granted_in}
+use Rattle.us_calendar.specs.Calendars.{pace_of, settled_in, max_settled, granted_in}
 use Rattle.us_channel.specs.Placements.{PlacedClaim, credits}
 use Rattle.us_channel.specs.Channels.{Built}
 use Rattle.us_holes.specs.Boards.{max_assignments}
-use Rattle.us_output.specs.Outputs.{AreWithinLimits, activity_rows, final_row, out_of}
+use Rattle.us_output.specs.Outputs.{AreWithinLimits, out_of}
 use Rattle.us_output.specs.Leftovers.{IsBuiltFor, AreInside}
-use Rattle.us_output.specs.declared.rows.Row.{Row}
 use Rattle.us_round.specs.Rounds.{State, RoundResult, all_grants, begun, builds_of, is_of_cluster, is_of_flow, round_of}
 
 -- there is a number for each word, a bucket and a reserve for each flow, and a calendar for each channel, at this round
@@ -48,22 +47,6 @@ pub record AreSound (s : State) (builds : List Built) : Type 0 where
   pub boards : AllByRecursion (IsBuiltFor s.tables) builds
   pub inside : AllByRecursion AreInside builds
   pub few : AllByRecursion (λ b. granted_in b.settled + length b.grants ≤ b.board.standing) builds
-
--- what the calendar of the channel with this id knows of the activity of the flow with that id,
-abbrev pub activity_on : State → ℕ → ℕ → Option Bool
-activity_on s channel flow =
-    option_and_then (λ pair. activity_in flow pair.1)
-    (find (λ pair. pair.0.id == channel) (zip s.tables.channels s.calendars))
-
--- and whether a flow is active, if it tells that: its first channel knows
-abbrev pub activity_of : State → FlowTable → Option Bool
-activity_of s flow = if tells_activity flow.kind then activity_on s (slice_index flow.channels 0) flow.id else None
-
--- the last lines of a state: the F lines, and behind them the A lines, both in table order
-unfoldable pub final_rows : State → List Row
-final_rows state =
-    map (final_row state.outstanding state.buckets) (table_order state.tables)
-    ++ activity_rows state.tables.flows (map (activity_of state) state.tables.flows)
 
 -- the cut has a number for each word, which has room for it, and the round ends in time
 pub record CanMake (state : State) (cut : List ℕ) : Type 0 where

@@ -2,7 +2,8 @@ ghost use Rattle.std.specs.Prelude.{◌≡◌, ◌≤◌, length, map, IfErr, If
 ghost use Rattle.us_channel.specs.Channels as channels;
 ghost use Rattle.us_round.specs.Parts.{ArePartsOfState, state_of};
 ghost use Rattle.us_round.specs.Rounds as spec;
-ghost use Rattle.us_round.specs.States.{final_rows, IsState, settled_by, max_settled_by};
+ghost use Rattle.us_round.specs.States.{IsState, settled_by, max_settled_by};
+ghost use Rattle.us_round.specs.FinalRows.{final_rows};
 
 use crate::activities::activities;
 use crate::cores::Core;
@@ -89,7 +90,7 @@ impl State {
     }
 
     /// The same lines.
-    #[tactic(auto, unfolding(crate::specs::States::final_rows))]
+    #[tactic(auto, unfolding(crate::specs::FinalRows::final_rows))]
     fn last_rows(&self, alloc: Global) -> Result<Vec<Row>, NoMemory>
         ensures { IfOk result (λ rows. rows.items ≡ final_rows self.now) }
     {

@@ -4,7 +4,7 @@ use Rattle.us_flows.specs.Tables.{Tables}
 use Rattle.us_output.specs.Outputs.{activity_rows, final_row}
 use Rattle.us_round.specs.Parts.{activity_by}
 use Rattle.us_round.specs.Rounds.{State}
-use Rattle.us_round.specs.States.{activity_of, final_rows}
+use Rattle.us_round.specs.FinalRows.{activity_of, final_rows}
 use Rattle.us_round.proofs.ActivityLemmas.{activities_are}
 use Rattle.us_round.proofs.states.State.last_rows.Goals as goal
 
