@@ -1,6 +1,6 @@
 -- What a run is judged by, and what is judged (ours).
-use Rattle.std.specs.Prelude.{ℕ, ◌<◌, List, length, map, filter, filter_map, Option, Some, None, Bool, true, false}
-use Rattle.std.specs.List.{AllByRecursion, range_with_len}
+use Rattle.std.specs.Prelude.{ℕ, List, length, map, filter, filter_map, Option, Some, None, Bool, true, false}
+use Rattle.std.specs.List.{range_with_len}
 use Rattle.us_flows.specs.Tables.{Tables}
 use Rattle.us_flows.specs.Clusters.{words_of}
 use Rattle.us_requests.specs.declared.asks.Counts.{Counts}
@@ -31,10 +31,6 @@ cuts_in t v = map (λ round. cut_of (length (words_of t)) (asks_in v round)) (ra
 -- the run of such a trace
 abbrev pub run_in : Tables → TraceAsks → Run
 run_in t v = record { tables = t; rounds = v.rounds; cuts = cuts_in t v; counts = v.counts }
-
--- each of its asks names a word that is there
-abbrev pub AsksAreKnown : Tables → TraceAsks → Type 0
-AsksAreKnown t v = (round : ℕ) → AllByRecursion (λ ask. ask.cluster < length (words_of t)) (asks_in v round)
 
 -- what is judged: MAPs and lines
 pub record Judged : Type 0 where
