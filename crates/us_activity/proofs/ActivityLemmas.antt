@@ -9,12 +9,12 @@ use Rattle.std.proofs.lemmas.List.Sorted.{list_any-IsPermutation}
 use Rattle.us_flows.specs.Tables.{Tables}
 use Rattle.us_flows.specs.Clusters.{words_of}
 use Rattle.us_requests.specs.Cuts.{asked, cut_of}
-use Rattle.us_requests.specs.Traces.{TraceAsks, asks_in}
+use Rattle.us_requests.specs.Traces.{TraceAsks, asks_in, cuts_in}
 use Rattle.us_calendar.specs.declared.silences.Silence.{Silence}
 use Rattle.us_calendar.specs.Activity.{activity, hears_of, is_marked}
 use Rattle.us_activity.specs.declared.marks.Mark.{Mark}
 use Rattle.us_activity.specs.Marks.{active_before, is_mark, says}
-use Rattle.us_activity.specs.Activities.{AreMarksOf, cuts_told}
+use Rattle.us_activity.specs.Activities.{AreMarksOf}
 use Rattle.us_activity.specs.Kept.{is_silent, marks_in, silent_words}
 use Rattle.us_activity.proofs.MarkLemmas.{said_inside, said_outside}
 use Rattle.us_activity.proofs.WordLemmas.{are_noted}
@@ -76,7 +76,7 @@ module _ (words : ℕ) (v : TraceAsks) (marks : List Mark) (word slots : ℕ) (w
 
 pub are_marks : (t : Tables) (v : TraceAsks) (marks : List Mark) → IsPermutation (marks_in (silent_words t) v) marks →
     AreMarksOf t v marks
-unfolding cuts_told
+unfolding cuts_in
 are_marks t v marks moved = record {
   told = λ flow silence round at.
       let word : ℕ = silence.word in

@@ -1,21 +1,15 @@
 -- Who is active in which round of a trace (ours).
-use Rattle.std.specs.Prelude.{◌≡◌, ℕ, List, length, map, Some, slice_get}
-use Rattle.std.specs.List.{range_with_len}
+use Rattle.std.specs.Prelude.{◌≡◌, ℕ, Some, slice_get}
 use Rattle.us_flows.specs.Tables.{Tables, FlowTable}
 use Rattle.us_flows.specs.Clusters.{Silent, words_of}
-use Rattle.us_requests.specs.Cuts.{cut_of}
-use Rattle.us_requests.specs.Traces.{TraceAsks, asks_in}
+use Rattle.us_requests.specs.Traces.{TraceAsks, cuts_in}
 use Rattle.us_calendar.specs.declared.silences.Silence.{Silence}
 use Rattle.us_calendar.specs.Activity.{active_in}
 use Rattle.us_activity.specs.Marks.{Marks, is_active}
-
--- the cuts of all rounds of a trace that was read: what its asks add up to, in bytes by word
-unfoldable pub cuts_told : Tables → TraceAsks → List (List ℕ)
-cuts_told t v = map (λ round. cut_of (length (words_of t)) (asks_in v round)) (range_with_len 0 v.rounds)
 
 -- Marks tell of each flow that has a word for its silence in which rounds it is active, as these cuts do. Behind the last
 -- round it is as in that one. How many minislots its polls have is nothing to it.
 pub record AreMarksOf (t : Tables) (v : TraceAsks) (marks : Marks) : Type 0 where
   pub told : (flow : FlowTable) (silence : Silence) (round : ℕ) →
       slice_get (words_of t) silence.word ≡ Some (Silent flow) →
-      is_active marks silence.word round ≡ active_in (Some silence) (cuts_told t v) round
+      is_active marks silence.word round ≡ active_in (Some silence) (cuts_in t v) round

@@ -4,10 +4,9 @@ use Rattle.us_flows.specs.Tables.{Tables, FlowTable}
 use Rattle.us_flows.specs.declared.flows.SchedulingType.TheVariants.{BestEffort, ActivityDetection}
 use Rattle.us_requests.specs.declared.asks.Ask.{Ask}
 use Rattle.us_requests.specs.Cuts.{cut_of}
-use Rattle.us_requests.specs.Traces.{TraceAsks, of_round}
+use Rattle.us_requests.specs.Traces.{TraceAsks, of_round, cuts_in}
 use Rattle.us_calendar.specs.Activity.{active_in}
 use Rattle.us_activity.specs.declared.marks.Mark.{Mark}
-use Rattle.us_activity.specs.Activities.{cuts_told}
 use Rattle.us_activity.specs.Kept.{marks_in, silent_words}
 use Rattle.us_activity.specs.Marks.{is_active}
 
@@ -79,11 +78,11 @@ by_marks = (refl, refl)
 
 -- and by the cuts
 by_cuts :
-    (in_rounds (active_in (Some (record { word = 0; slots = 2 })) (cuts_told tables trace))
+    (in_rounds (active_in (Some (record { word = 0; slots = 2 })) (cuts_in tables trace))
     ≡ true ∷ false ∷ false ∷ true ∷ true ∷ true ∷ [])
-    × (in_rounds (active_in (Some (record { word = 3; slots = 2 })) (cuts_told tables trace))
+    × (in_rounds (active_in (Some (record { word = 3; slots = 2 })) (cuts_in tables trace))
     ≡ true ∷ true ∷ true ∷ false ∷ false ∷ false ∷ [])
-unfolding cuts_told cut_of of_round
+unfolding cuts_in cut_of of_round
 by_cuts = (refl, refl)
 
 -- without marks

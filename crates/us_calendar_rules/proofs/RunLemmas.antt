@@ -2,19 +2,13 @@
 use Rattle.std.proofs.Common.{◌≡◌, ℕ, Bool, true, List, [], ◌∷◌, take, ◌+◌, Option, Some, None, Contains, refl, ap, sym, ◌∙◌}
 use Rattle.us_flows.specs.Tables.{Tables}
 use Rattle.us_flows.specs.Lawful.{AreTables}
-use Rattle.us_requests.specs.Traces.{TraceAsks}
+use Rattle.us_requests.specs.Traces.{TraceAsks, cuts_in}
 use Rattle.us_calendar.specs.declared.silences.Silence.{Silence}
 use Rattle.us_calendar.specs.Activity.{active_in, activity}
-use Rattle.us_lawful.specs.Runs.{cuts_in}
 use Rattle.us_lawful.specs.CalendarLines.{ChannelEntry, channel_entries}
 use Rattle.us_activity.specs.Marks.{Marks, is_active}
-use Rattle.us_activity.specs.Activities.{AreMarksOf, cuts_told}
+use Rattle.us_activity.specs.Activities.{AreMarksOf}
 use Rattle.us_calendar_rules.proofs.ListedLemmas.{word_of}
-
--- the cuts of a trace are told alike
-told_as_cut : (t : Tables) (v : TraceAsks) → cuts_told t v ≡ cuts_in t v
-unfolding cuts_told cuts_in
-told_as_cut t v = refl
 
 -- A flow whose activity is detected is active in a round as the marks tell,
 pub speaks_as_told : (t : Tables) (v : TraceAsks) (marks : Marks) (l : ChannelEntry) (s : Silence) (round : ℕ) →
@@ -23,7 +17,6 @@ pub speaks_as_told : (t : Tables) (v : TraceAsks) (marks : Marks) (l : ChannelEn
 speaks_as_told t v marks l s round tables told has is =
     let word = word_of t l s tables has is in
     told.told word.0 s round word.1
-    ∙ ap (λ cuts. active_in (Some s) cuts round) (told_as_cut t v)
     ∙ ap (λ silence. active_in silence (cuts_in t v) round) (sym is)
 
 stays : (cuts : List (List ℕ)) (was : Bool) → activity None was cuts ≡ was

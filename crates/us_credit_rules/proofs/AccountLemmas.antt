@@ -10,11 +10,11 @@ use Rattle.us_flows.specs.Clusters.{Turn, IsTurnIn, table_order, words_of}
 use Rattle.us_flows.specs.Lawful.{AreTables}
 use Rattle.us_requests.specs.declared.asks.Ask.{Ask}
 use Rattle.us_requests.specs.Cuts.{asked, cut_of}
-use Rattle.us_requests.specs.Traces.{TraceAsks, asks_in}
+use Rattle.us_requests.specs.Traces.{TraceAsks, asks_in, cuts_in}
 use Rattle.us_output.specs.declared.rows.Grant.{Grant}
 use Rattle.us_output.specs.declared.rows.Row.{Row}
 use Rattle.us_output.specs.declared.rows.Row.TheVariants as rows
-use Rattle.us_lawful.specs.Runs.{cuts_in, is_requested, requested_in, run_in}
+use Rattle.us_lawful.specs.Runs.{is_requested, requested_in, run_in}
 use Rattle.us_lawful.specs.Credits.{asked_within, credited_within, is_of}
 use Rattle.us_lawful.proofs.CreditLineLaws.{of_requested, requested_sum}
 use Rattle.us_lawful.proofs.ItemLemmas.{sum_zero}

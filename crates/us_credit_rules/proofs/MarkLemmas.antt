@@ -11,9 +11,8 @@ use Rattle.us_flows.specs.Tables.{Tables}
 use Rattle.us_flows.specs.Clusters.{words_of}
 use Rattle.us_requests.specs.declared.asks.Ask.{Ask}
 use Rattle.us_requests.specs.Cuts.{asked, cut_of}
-use Rattle.us_requests.specs.Traces.{TraceAsks, asks_in}
+use Rattle.us_requests.specs.Traces.{TraceAsks, asks_in, cuts_in}
 use Rattle.us_calendar.specs.Activity.{hears, is_marked}
-use Rattle.us_lawful.specs.Runs.{cuts_in}
 use Rattle.us_lawful.specs.Finals.{active_after}
 use Rattle.us_lawful.proofs.SameLemmas.{sum_append}
 use Rattle.us_credit_rules.specs.Activities.{marks, up_to_mark}

@@ -1,11 +1,8 @@
 -- What a run is judged by, and what is judged (ours).
-use Rattle.std.specs.Prelude.{ℕ, List, length, map, filter, filter_map, Option, Some, None, Bool, true, false}
-use Rattle.std.specs.List.{range_with_len}
+use Rattle.std.specs.Prelude.{ℕ, List, filter, filter_map, Option, Some, None, Bool, true, false}
 use Rattle.us_flows.specs.Tables.{Tables}
-use Rattle.us_flows.specs.Clusters.{words_of}
 use Rattle.us_requests.specs.declared.asks.Counts.{Counts}
-use Rattle.us_requests.specs.Cuts.{cut_of}
-use Rattle.us_requests.specs.Traces.{TraceAsks, asks_in}
+use Rattle.us_requests.specs.Traces.{TraceAsks, cuts_in}
 use Rattle.us_output.specs.declared.rows.EntryWord.{EntryWord}
 use Rattle.us_output.specs.declared.rows.EntryWord.TheVariants as words
 use Rattle.us_output.specs.declared.rows.FinalActivity.{FinalActivity}
@@ -23,10 +20,6 @@ pub record Run : Type 0 where
   pub rounds : ℕ
   pub cuts : List (List ℕ)
   pub counts : Counts
-
--- the cuts of all rounds of a trace that was read: what its asks add up to
-unfoldable pub cuts_in : Tables → TraceAsks → List (List ℕ)
-cuts_in t v = map (λ round. cut_of (length (words_of t)) (asks_in v round)) (range_with_len 0 v.rounds)
 
 -- the run of such a trace
 abbrev pub run_in : Tables → TraceAsks → Run

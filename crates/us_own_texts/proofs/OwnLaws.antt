@@ -3,8 +3,8 @@ use Rattle.std.proofs.Common.{◌≡◌, ℕ, List, ap, sym, subst, ◌∙◌}
 use Rattle.us_flows.specs.Tables.{Tables}
 use Rattle.us_requests.specs.Asks.{Request, counts_of}
 use Rattle.us_requests.specs.Texts.{requests_of}
-use Rattle.us_requests.specs.Traces.{TraceAsks, IsTraceOf}
-use Rattle.us_lawful.specs.Runs.{cuts_in, run_in}
+use Rattle.us_requests.specs.Traces.{TraceAsks, IsTraceOf, cuts_in}
+use Rattle.us_lawful.specs.Runs.{run_in}
 use Rattle.us_lawful.specs.Output.{run_of}
 use Rattle.us_lawful.specs.Texts.{AreLawful}
 use Rattle.us_replay.specs.Replays.{run_for}

@@ -6,7 +6,7 @@ use Rattle.us_flows.specs.Clusters.{words_of}
 use Rattle.us_flows.specs.Lawful.{AreTables}
 use Rattle.us_requests.specs.Asks.{Request}
 use Rattle.us_requests.specs.Cuts.{cut_of}
-use Rattle.us_requests.specs.Traces.{TraceAsks, asks_in}
+use Rattle.us_requests.specs.Traces.{TraceAsks, asks_in, cuts_in}
 use Rattle.us_requests.specs.Texts.{requests_of}
 use Rattle.us_requests.specs.Readings.{Reads}
 use Rattle.us_round.specs.ScheduleLaws.{AreCuts}
@@ -17,7 +17,6 @@ use Rattle.us_lawful.proofs.LawfulLaws.{texts_of_schedules_are_lawful}
 use Rattle.us_replay.specs.declared.summaries.Summary.{Summary}
 use Rattle.us_replay.specs.declared.faults.RunFault.{RunFault}
 use Rattle.us_replay.specs.Replays.{Growth, WroteLawful, cuts_of}
-use Rattle.us_lawful.specs.Runs.{cuts_in}
 use Rattle.us_replay.specs.Progress.{IsLawfulOutput, RanTrace, output_in}
 use Rattle.us_replay.proofs.LoopLemmas.{length-cuts}
 use Rattle.us_replay.proofs.ReplayLemmas.{cuts-same}

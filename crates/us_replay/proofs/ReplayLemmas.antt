@@ -5,7 +5,7 @@ use Rattle.us_flows.specs.Tables.{Tables, rounds_fit}
 use Rattle.us_flows.specs.Clusters.{words_of}
 use Rattle.us_requests.specs.Asks.{Request, counts_of}
 use Rattle.us_requests.specs.Cuts.{cut_at, cut_of}
-use Rattle.us_requests.specs.Traces.{TraceAsks, IsTraceOf, asks_in}
+use Rattle.us_requests.specs.Traces.{TraceAsks, IsTraceOf, asks_in, cuts_in}
 use Rattle.us_requests.specs.Texts.{requests_of}
 use Rattle.us_requests.specs.Readings.{Reads}
 use Rattle.us_replay.specs.declared.summaries.Summary.{Summary}
@@ -13,7 +13,6 @@ use Rattle.us_replay.specs.declared.faults.RunFault.{RunFault}
 use Rattle.us_replay.specs.Endings.{Ending, Refused, StoppedBy, ended, rounds_done}
 use Rattle.us_lawful.specs.Output.{output_of}
 use Rattle.us_replay.specs.Replays.{Growth, Ran, RanText, KeptLimits, Stands, Replayed, cuts_of, output_for}
-use Rattle.us_lawful.specs.Runs.{cuts_in}
 use Rattle.us_replay.specs.Progress.{RanTrace}
 
 -- the asks of each round add up to the cut of the rows

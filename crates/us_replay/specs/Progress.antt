@@ -12,7 +12,7 @@ use Rattle.us_holes.specs.Boards.{max_assignments}
 use Rattle.us_requests.specs.declared.asks.Ask.{Ask}
 use Rattle.us_requests.specs.declared.asks.Counts.{Counts}
 use Rattle.us_requests.specs.Cuts.{cut_of}
-use Rattle.us_requests.specs.Traces.{TraceAsks, asks_in, asked_before, asks_before, max_ask, max_asked, max_asks}
+use Rattle.us_requests.specs.Traces.{TraceAsks, asks_in, asked_before, asks_before, max_ask, max_asked, max_asks, cuts_in}
 use Rattle.us_round.specs.Rounds.{State, RoundResult, opening, round_of, schedule, final}
 use Rattle.us_round.specs.States.{settled_by}
 use Rattle.us_round.specs.FinalRows.{final_rows}
@@ -24,7 +24,6 @@ use Rattle.us_replay.specs.Collecting.{AreAsks, chunk_quota}
 use Rattle.us_output.specs.Files.{records, round_lines, lines, is_granted, is_missed}
 use Rattle.us_lawful.specs.Output.{counts_row, judged_of, Output, all_rows, maps_text, output_of, report_text, run_of}
 use Rattle.us_replay.specs.Endings.{ended, rounds_done, Ending, Refused, StoppedBy, Maps, Report, Memory}
-use Rattle.us_lawful.specs.Runs.{cuts_in}
 use Rattle.us_lawful.specs.Texts.{AreLawful}
 use Rattle.us_output.specs.Lines.{HasFields}
 use Rattle.us_replay.specs.Replays.{Growth, Took, Ran, KeptLimits}

@@ -22,6 +22,10 @@ of_round asks round = map (λ placed. placed.ask) (filter (λ placed. placed.rou
 abbrev pub asks_in : TraceAsks → ℕ → List Ask
 asks_in t round = of_round t.asks round
 
+-- the cuts of all rounds of a trace that was read: what its asks add up to, in bytes by word
+unfoldable pub cuts_in : Tables → TraceAsks → List (List ℕ)
+cuts_in t v = map (λ round. cut_of (length (words_of t)) (asks_in v round)) (range_with_len 0 v.rounds)
+
 -- no round has more asks than this, and one has as many, if any has one; `asks` says how many a round has
 pub record IsMost (asks : ℕ → ℕ) (most : ℕ) : Type 0 where
   pub none_more : (round : ℕ) → asks round ≤ most

@@ -1,9 +1,8 @@
 use Rattle.std.proofs.Common.{◌≡◌, ◌<◌, ℕ, sym, ap, subst, ◌∙◌, arith, rules}
 use Rattle.us_flows.specs.Tables.{Tables}
-use Rattle.us_requests.specs.Traces.{TraceAsks}
+use Rattle.us_requests.specs.Traces.{TraceAsks, cuts_in}
 use Rattle.us_replay.specs.Endings.{ending_of}
 use Rattle.us_replay.specs.Replays.{KeptLimits}
-use Rattle.us_lawful.specs.Runs.{cuts_in}
 use Rattle.us_replay.specs.Progress.{Along, CanMake, EndsAs, Progress, output_in, summary_after}
 use Rattle.us_replay.proofs.ReplayStopLemmas.{passed-on, so-far-at, EndsBetween, stops-between, sent-stops, sent-kept, round-part, last-part, sent-round, sent-last, flush-stops, flushed-all, flushed-kept}
 use Rattle.us_replay.proofs.LoopLemmas.{along-opening, ends-at-once, fields-last, along-next, can-make, last-made, texts-here, some-next, texts-last, length-given, summary-is}
