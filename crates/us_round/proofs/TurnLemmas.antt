@@ -13,9 +13,9 @@ use Rattle.us_split.specs.Plans.{Planned}
 use Rattle.us_split.specs.Claims.{Claim, claim_at, claim_on, claims_from}
 use Rattle.us_split.proofs.ChannelShareLemmas.{first_place, later_place}
 use Rattle.us_channel.specs.Placements.{PlacedClaim, grant_of, grants_of, assignments, with_grant}
-use Rattle.us_channel.specs.Channels.{Filled, Built}
+use Rattle.us_channel.specs.Channels.{Filled, Built, ungranted}
 use Rattle.us_round.specs.Rounds.{build_planned, builds_of, fills_of, round_plan}
-use Rattle.us_round.specs.TurnByTurn.{ByTurnsIsByChannels, RoundsAreByTurns, place_channels, place_share, place_turns, unbuilt, with_claim_on, with_grant_on}
+use Rattle.us_round.specs.TurnByTurn.{ByTurnsIsByChannels, RoundsAreByTurns, place_channels, place_share, place_turns, with_claim_on, with_grant_on}
 use Rattle.us_output.proofs.PartLemmas.{all_found}
 use Rattle.us_round.proofs.SoundLemmas.{by_turns, turns_planned}
 
@@ -186,14 +186,14 @@ turns_claims turn (planned ∷ plan) b apart =
 
 built_alike : (plan : List Planned) (fs : List Filled) →
     AllByRecursion (λ planned. AreApart planned.turn.cluster.flow.channels) plan →
-    map (turns_on_one 0 plan) (map unbuilt fs) ≡ map (build_planned plan) fs
+    map (turns_on_one 0 plan) (map ungranted fs) ≡ map (build_planned plan) fs
 unfolding build_planned
 built_alike plan [] apart = refl
 built_alike plan (f ∷ fs) apart =
-    ap₂ (λ b bs. b ∷ bs) (turns_claims 0 plan (unbuilt f) apart) (built_alike plan fs apart)
+    ap₂ (λ b bs. b ∷ bs) (turns_claims 0 plan (ungranted f) apart) (built_alike plan fs apart)
 
 pub by_turns_is_by_channels : ByTurnsIsByChannels
-by_turns_is_by_channels plan fs apart = turns_mapped 0 plan (map unbuilt fs) ∙ built_alike plan fs apart
+by_turns_is_by_channels plan fs apart = turns_mapped 0 plan (map ungranted fs) ∙ built_alike plan fs apart
 
 -- the flows of a configuration have no channel twice
 turns_apart : (t : Tables) (turns : List Turn) → AreTables t → AllByRecursion (IsTurnIn t) turns →

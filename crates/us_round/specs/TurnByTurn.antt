@@ -6,12 +6,8 @@ use Rattle.us_flows.specs.Lawful.{AreApart, AreTables}
 use Rattle.us_split.specs.Plans.{Planned}
 use Rattle.us_split.specs.Claims.{Claim, claim_at}
 use Rattle.us_channel.specs.Placements.{PlacedClaim, grant_of, with_grant}
-use Rattle.us_channel.specs.Channels.{Filled, Built}
+use Rattle.us_channel.specs.Channels.{Filled, Built, ungranted}
 use Rattle.us_round.specs.Rounds.{State, fills_of, round_plan, build_planned, builds_of}
-
--- a channel on which no claim is placed yet
-abbrev pub unbuilt : Filled → Built
-unbuilt f = record { channel = f.channel; board = f.board; calendar = f.calendar; settled = f.settled; grants = [] }
 
 -- a channel with a grant, if there is one
 abbrev pub with_grant_on : Built → Option PlacedClaim → Built
@@ -45,9 +41,9 @@ place_turns turn (planned ∷ plan) builds =
 abbrev pub ByTurnsIsByChannels : Type 0
 ByTurnsIsByChannels = (plan : List Planned) (fs : List Filled) →
     AllByRecursion (λ planned. AreApart planned.turn.cluster.flow.channels) plan →
-    place_turns 0 plan (map unbuilt fs) ≡ map (build_planned plan) fs
+    place_turns 0 plan (map ungranted fs) ≡ map (build_planned plan) fs
 
 -- and so in each round of a configuration
 abbrev pub RoundsAreByTurns : Type 0
 RoundsAreByTurns = (state : State) → AreTables state.tables →
-    place_turns 0 (round_plan state) (map unbuilt (fills_of state)) ≡ builds_of state
+    place_turns 0 (round_plan state) (map ungranted (fills_of state)) ≡ builds_of state

@@ -1,8 +1,8 @@
 -- Placing turn by turn on small boards, computed by the definitions alone.
 use Rattle.std.specs.Prelude.{◌≡◌, ℕ, List, [], ◌∷◌, map, take, refl}
-use Rattle.us_channel.specs.Channels.{Built}
+use Rattle.us_channel.specs.Channels.{Built, ungranted}
 use Rattle.us_round.specs.Rounds.{State, fills_of, opening, round_plan}
-use Rattle.us_round.specs.TurnByTurn.{place_channels, place_turns, unbuilt}
+use Rattle.us_round.specs.TurnByTurn.{place_channels, place_turns}
 use Rattle.us_round.specs.RoundExamples.{channel_with, flow_with, round_steps, tables}
 
 -- two channels with 10 idle minislots each, and a flow of both, the second one first; 100 bytes are outstanding of its first
@@ -17,7 +17,7 @@ grants builds = map (λ b. map (λ g. (g.assignment.start, g.assignment.owner.si
 
 -- after so many turns
 abbrev after : ℕ → List (List (ℕ × ℕ × ℕ))
-after turns = grants (place_turns 0 (take turns (round_plan state)) (map unbuilt (fills_of state)))
+after turns = grants (place_turns 0 (take turns (round_plan state)) (map ungranted (fills_of state)))
 
 turn_by_turn :
     (after 0 ≡ [] ∷ [] ∷ []) ×
