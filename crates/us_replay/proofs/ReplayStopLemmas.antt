@@ -14,7 +14,7 @@ use Rattle.us_output.specs.Outputs.{RoundOut}
 use Rattle.us_output.specs.Files.{records, round_lines, lines}
 use Rattle.us_replay.specs.Endings.{Ending, Refused, StoppedBy, Maps, Report, Memory, rounds_done}
 use Rattle.us_lawful.specs.Output.{Output, maps_text, report_text}
-use Rattle.us_replay.specs.Replays.{Growth, Took, TookRounds, Holds, Stopped, Ran, KeptLimits}
+use Rattle.us_replay.specs.Replays.{Growth, Took, TookRounds, HasRounds, Stopped, Ran, KeptLimits}
 use Rattle.us_replay.specs.Progress.{Sent, Flushed, grown}
 
 -- Lists.
@@ -106,8 +106,8 @@ stopped out k m n to_maps to_report fronts short =
     }
   where
     most : (more : ℕ) (rest : List RoundOut) → drop k out.given ≡ rest →
-        Holds records out.given more (length (flat_map records (take k out.given)) + m) →
-        Holds round_lines out.given more (length (flat_map round_lines (take k out.given)) + n) →
+        HasRounds records out.given more (length (flat_map records (take k out.given)) + m) →
+        HasRounds round_lines out.given more (length (flat_map round_lines (take k out.given)) + n) →
         more ≤ length out.given → more ≤ k
     most more [] here in_maps in_report within = omega (arith, ended k out.given here, within)
     most more (next ∷ rest) here in_maps in_report within = elim (short next rest here) [

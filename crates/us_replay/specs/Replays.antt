@@ -49,8 +49,8 @@ Took g bytes = Appends g.before g.after bytes
 -- Runs that end early.
 
 -- `taken` bytes of a file have the parts of its first `done` rounds
-abbrev pub Holds : (RoundOut → List ℕ) → List RoundOut → ℕ → ℕ → Type 0
-Holds part given done taken = length (flat_map part (take done given)) ≤ taken
+abbrev pub HasRounds : (RoundOut → List ℕ) → List RoundOut → ℕ → ℕ → Type 0
+HasRounds part given done taken = length (flat_map part (take done given)) ≤ taken
 
 -- each writer took the beginning of its text, both have the first `done` rounds, and no greater number
 pub record Stopped (out : Output) (to_maps to_report : Growth) (done : ℕ) : Type 0 where
@@ -61,10 +61,10 @@ pub record Stopped (out : Output) (to_maps to_report : Growth) (done : ℕ) : Ty
   pub maps_front : Took to_maps (take maps_taken (maps_text out))
   pub report_front : Took to_report (take report_taken (report_text out))
   pub rounds : done ≤ length out.given
-  pub maps_hold : Holds records out.given done maps_taken
-  pub report_hold : Holds round_lines out.given done report_taken
-  pub greatest : (more : ℕ) → more ≤ length out.given → Holds records out.given more maps_taken
-      → Holds round_lines out.given more report_taken → more ≤ done
+  pub maps_hold : HasRounds records out.given done maps_taken
+  pub report_hold : HasRounds round_lines out.given done report_taken
+  pub greatest : (more : ℕ) → more ≤ length out.given → HasRounds records out.given more maps_taken
+      → HasRounds round_lines out.given more report_taken → more ≤ done
 
 -- each writer took just the texts of the first `done` rounds
 pub record TookRounds (out : Output) (done : ℕ) (to_maps to_report : Growth) : Type 0 where
