@@ -21,7 +21,7 @@ use Rattle.us_output.specs.declared.rows.FinalState.{FinalState}
 use Rattle.us_output.specs.declared.rows.Row.{Row}
 use Rattle.us_output.specs.declared.rows.Row.TheVariants as rows
 use Rattle.us_round.specs.Rounds.{State, opening, builds_of, ended, round_from, round_of, schedule, final}
-use Rattle.us_output.specs.Outputs.{Scheduled, RoundOut, is_granted, settled_row, grant_row, by_start, granted_rows, missed_rows, rows_on, activity_rows, final_row, out_of}
+use Rattle.us_output.specs.Outputs.{Scheduled, RoundOut, is_granted, settled_row, grant_row, in_order, start_of, granted_rows, missed_rows, rows_on, activity_rows, final_row, out_of}
 use Rattle.us_round.specs.States.{IsState, AreSound}
 use Rattle.us_round.specs.FinalRows.{activity_of, final_rows}
 use Rattle.us_output.specs.Leftovers.{AreInside}
@@ -202,13 +202,13 @@ sum_on f round b inside =
     let granted : List Settled = filter is_granted b.settled in
     let missed : List Settled = filter (λ s. not (is_granted s)) b.settled in
     let requested : List Row = map (grant_row round b.channel) b.grants in
-    let moved : sum_by f (granted_rows round b) ≡ sum_by f (by_start len (granted_rows round b)) =
-    same_moved (granted_rows round b) (by_start len (granted_rows round b))
+    let moved : sum_by f (granted_rows round b) ≡ sum_by f (in_order start_of len (granted_rows round b)) =
+    same_moved (granted_rows round b) (in_order start_of len (granted_rows round b))
     (by_start_moves len (granted_rows round b) (granted_inside round b inside)) f in
     omega (
       arith,
       moved,
-      sum_append f (by_start len (granted_rows round b)) (missed_rows round b),
+      sum_append f (in_order start_of len (granted_rows round b)) (missed_rows round b),
       sum_append f (map line granted) requested,
       sum_append f (map line b.settled) requested,
       sum_map f line granted,

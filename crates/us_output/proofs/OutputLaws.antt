@@ -10,16 +10,15 @@ use Rattle.us_calendar.specs.declared.settled.Settled.{Settled}
 use Rattle.us_calendar.specs.declared.settled.Settled.TheVariants as settled
 use Rattle.us_channel.specs.Placements.{PlacedClaim}
 use Rattle.us_output.specs.declared.rows.Row.{Row}
-use Rattle.us_output.specs.Outputs.{start_of, by_start, is_granted, settled_row, grant_row, granted_rows, missed_rows, rows_on}
-use Rattle.us_output.specs.Orders.{in_order}
+use Rattle.us_output.specs.Outputs.{start_of, is_granted, settled_row, grant_row, granted_rows, missed_rows, rows_on, in_order}
 use Rattle.us_output.specs.OutputLaws.{IsLineOf, ByStartMoves, LinesBearRound}
 use Rattle.us_output.proofs.PartLemmas.{all_append}
 use Rattle.us_output.proofs.OrderLemmas.{in_order-none, starting, upto, behind, in_parts, one_more}
 
 -- one more line
 moved : (len : ℕ) (lines : List Row) (g : Row) → start_of g < len →
-    IsPermutation lines (by_start len lines) → IsPermutation (lines ++ g ∷ []) (by_start len (lines ++ g ∷ []))
-unfolding by_start in_order
+    IsPermutation lines (in_order start_of len lines) → IsPermutation (lines ++ g ∷ []) (in_order start_of len (lines ++ g ∷ []))
+unfolding in_order
 moved len lines g inside so_far =
     let early : List Row = upto start_of lines (start_of g) in
     let later : List Row = behind start_of lines (start_of g) len in
@@ -34,15 +33,15 @@ moved len lines g inside so_far =
     (IsPermutation-trans (lines ++ g ∷ []) (early ++ (later ++ g ∷ [])) (early ++ g ∷ later) last front)
 
 all_moved : (len : ℕ) (done rest : List Row) → AllByRecursion (λ line. start_of line < len) rest →
-    IsPermutation done (by_start len done) → IsPermutation (done ++ rest) (by_start len (done ++ rest))
+    IsPermutation done (in_order start_of len done) → IsPermutation (done ++ rest) (in_order start_of len (done ++ rest))
 all_moved len done [] inside so_far =
-    subst (λ xs. IsPermutation xs (by_start len xs)) (sym (append-nil done)) so_far
+    subst (λ xs. IsPermutation xs (in_order start_of len xs)) (sym (append-nil done)) so_far
 all_moved len done (g ∷ rest) inside so_far =
-    subst (λ xs. IsPermutation xs (by_start len xs)) (append_assoc done (g ∷ []) rest)
+    subst (λ xs. IsPermutation xs (in_order start_of len xs)) (append_assoc done (g ∷ []) rest)
     (all_moved len (done ++ g ∷ []) rest inside.1 (moved len done g inside.0 so_far))
 
 pub by_start_moves : ByStartMoves
-unfolding by_start in_order
+unfolding in_order
 by_start_moves len lines inside =
     all_moved len [] lines inside
     (subst (λ xs. IsPermutation [] xs) (sym (in_order-none start_of len)) (IsPermutation-refl []))
@@ -64,8 +63,8 @@ all_starting P lines (start ∷ starts) h =
     (all_filtered P (λ line. start_of line == start) lines h) (all_starting P lines starts h)
 
 all_by_start : (P : Row → Type 0) (len : ℕ) (lines : List Row) → AllByRecursion P lines →
-    AllByRecursion P (by_start len lines)
-unfolding by_start
+    AllByRecursion P (in_order start_of len lines)
+unfolding in_order
 all_by_start P len lines h = all_starting P lines (range_with_len 0 len) h
 
 settled_lines : (round : ℕ) (c : Channel) (passes : Settled → Bool) (all : List Settled) →
@@ -89,7 +88,7 @@ pub lines_bear_round : LinesBearRound
 unfolding rows_on
 lines_bear_round round built =
     let c : Channel = built.channel in
-    all_append (IsLineOf round c) (by_start (length built.board.cells) (granted_rows round built)) (missed_rows round built)
+    all_append (IsLineOf round c) (in_order start_of (length built.board.cells) (granted_rows round built)) (missed_rows round built)
     (all_by_start (IsLineOf round c) (length built.board.cells) (granted_rows round built)
     (all_append (IsLineOf round c) (map (settled_row round c) (filter is_granted built.settled))
     (map (grant_row round c) built.grants)

@@ -10,12 +10,12 @@ use Rattle.us_flows.specs.declared.channels.Channel.{Channel}
 use Rattle.us_calendar.specs.declared.settled.Settled.{Settled}
 use Rattle.us_calendar.specs.declared.settled.Settled.TheVariants as settled
 use Rattle.us_channel.specs.Channels.{Built}
-use Rattle.us_output.specs.Outputs.{Scheduled, out_of, rows_on, settled_row}
+use Rattle.us_output.specs.Outputs.{Scheduled, out_of, rows_on, settled_row, in_order}
 use Rattle.us_output.specs.Outputs.{is_granted as settled_granted}
 use Rattle.us_output.specs.Files.{is_granted, is_missed, lines, round_lines}
 use Rattle.us_output.specs.Leftovers.{AreInside}
 use Rattle.us_output.specs.Lines.{text_of}
-use Rattle.us_output.specs.Orders.{grant_line, in_order, line_row, missed_of, ordered_lines, granted_line}
+use Rattle.us_output.specs.Orders.{grant_line, line_row, missed_of, ordered_lines, granted_line}
 use Rattle.us_output.specs.declared.orders.GrantLine.{GrantLine}
 use Rattle.us_output.specs.declared.rows.Row.{Row}
 use Rattle.us_output.proofs.LineLemmas.{both_parts, lines_of}

@@ -12,7 +12,7 @@ use Rattle.us_calendar.specs.declared.kinds.Kind.TheVariants as kinds
 use Rattle.us_calendar.specs.declared.settled.Settled.TheVariants as settled
 use Rattle.us_channel.specs.Placements.{PlacedClaim}
 use Rattle.us_channel.specs.Maps.{elements_of, head_of}
-use Rattle.us_output.specs.Outputs.{pendings_on, by_start, settled_row, rows_on, final_row, activity_rows}
+use Rattle.us_output.specs.Outputs.{pendings_on, in_order, settled_row, rows_on, final_row, activity_rows}
 use Rattle.us_output.specs.Leftovers.{still_asking}
 use Rattle.us_output.specs.declared.rows.Row.{Row}
 use Rattle.us_output.specs.declared.rows.Row.TheVariants as rows
@@ -145,7 +145,7 @@ lines_by_start : rows_on 4 (record {
       ∷ settled.Missed kinds.Station 2 3 0 ∷ [];
   grants = placed 5 30 ∷ placed 0 20 ∷ placed 3 10 ∷ [];
 }) ≡ line 0 20 ∷ polled ∷ line 3 10 ∷ line 5 30 ∷ unmaintained ∷ []
-unfolding rows_on by_start
+unfolding rows_on in_order
 lines_by_start = refl
 
 -- the poll of a silent flow, in its second interval

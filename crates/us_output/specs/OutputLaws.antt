@@ -3,14 +3,14 @@ use Rattle.std.specs.Prelude.{◌≡◌, ℕ, ◌<◌, List, IsPermutation}
 use Rattle.std.specs.List.{AllByRecursion}
 use Rattle.us_flows.specs.declared.channels.Channel.{Channel}
 use Rattle.us_channel.specs.Channels.{Built}
-use Rattle.us_output.specs.Outputs.{start_of, by_start, rows_on}
+use Rattle.us_output.specs.Outputs.{start_of, in_order, rows_on}
 use Rattle.us_output.specs.declared.rows.Row.{Row}
 use Rattle.us_output.specs.declared.rows.Row.TheVariants as rows
 
 -- lines by their start are the same lines, where all start inside the MAP
 abbrev pub ByStartMoves : Type 0
 ByStartMoves = (len : ℕ) (lines : List Row) → AllByRecursion (λ line. start_of line < len) lines →
-    IsPermutation lines (by_start len lines)
+    IsPermutation lines (in_order start_of len lines)
 
 -- a G or an M line of this round and channel
 abbrev pub IsLineOf : ℕ → Channel → Row → Type 0

@@ -49,9 +49,9 @@ abbrev pub start_of : Row → ℕ
 start_of (rows.Granted grant) = grant.start
 start_of _ = 0
 
--- lines of grants by where these start
-unfoldable pub by_start : ℕ → List Row → List Row
-by_start len lines = flat_map (λ start. filter (λ line. start_of line == start) lines) (range_with_len 0 len)
+-- items by a number that each has
+unfoldable pub in_order : {X : Type 0} → (X → ℕ) → ℕ → List X → List X
+in_order number len items = flat_map (λ n. filter (λ x. number x == n) items) (range_with_len 0 len)
 
 -- the word of a calendar's entry
 abbrev pub entry_word : Kind → EntryWord
@@ -117,7 +117,7 @@ missed_rows round built = map (settled_row round built.channel) (filter (λ s. n
 
 -- its lines: those of grants by their start, then those of what was missed
 unfoldable pub rows_on : ℕ → Built → List Row
-rows_on round built = by_start (length built.board.cells) (granted_rows round built) ++ missed_rows round built
+rows_on round built = in_order start_of (length built.board.cells) (granted_rows round built) ++ missed_rows round built
 
 -- the F line of a cluster, of what is outstanding of each cluster and the bucket of each flow
 abbrev pub final_row : List ℕ → List Level → Turn → Row

@@ -21,7 +21,7 @@ use Rattle.us_channel.specs.Reserves.{reserves}
 use Rattle.us_channel.specs.Placements.{grants_of, spot}
 use Rattle.us_channel.specs.Maps.{elements_of, head_of, map_of}
 use Rattle.us_round.specs.Rounds.{RoundResult, build_planned, builds_of, final, opening, pending_sids, round_from, round_of, round_plan, schedule}
-use Rattle.us_output.specs.Outputs.{pendings_on, RoundOut, by_start, out_of, rows_on}
+use Rattle.us_output.specs.Outputs.{pendings_on, RoundOut, in_order, out_of, rows_on}
 use Rattle.us_round.specs.FinalRows.{final_rows}
 use Rattle.us_output.specs.declared.rows.Grant.{Grant}
 use Rattle.us_output.specs.declared.rows.Row.TheVariants as rows
@@ -31,7 +31,7 @@ use Rattle.us_output.specs.declared.rows.EntryWord.TheVariants as words
 unfoldable pub round_steps : ⊤
 unfolding coded_length burst_cost greatest_up_to capacity_of turns_of bytes_in refilled spent units_in assign_all
     first_of longest_up_to runs_from divided after_turn cost_on plan_of shares_of weights after_plan more_shares after_both
-    second_of two_passes plan_for reserve_in reserved_for reserves claims_from grants_of spot build_planned builds_of final pending_sids pendings_on round_from round_of schedule by_start elements_of
+    second_of two_passes plan_for reserve_in reserved_for reserves claims_from grants_of spot build_planned builds_of final pending_sids pendings_on round_from round_of schedule in_order elements_of
     final_rows head_of map_of out_of rows_on word_of entries run_entries
 round_steps = tt
 
