@@ -10,7 +10,7 @@ use Rattle.us_crew.specs.Items.{AreAccepted}
 use Rattle.us_crew.specs.Values.{values_from, values_of}
 use Rattle.us_intake.specs.Tallies.{empty_tally, raised, added}
 use Rattle.us_intake.specs.Seats.{Intake, Seat, joined_seat, seat_after_submit, seat_after_split, spent}
-use Rattle.us_intake.proofs.TallyLemmas.{sum-added, length-added}
+use Rattle.us_intake.proofs.TallyLemmas.{sum-added, length-added, empty-added}
 use Rattle.us_requests.specs.declared.asks.Ask.{Ask}
 use Rattle.us_requests.specs.Cuts.{asked, cut_of}
 use Rattle.us_requests.specs.Traces.{max_ask}
@@ -37,13 +37,6 @@ added-added (x ∷ one) (y ∷ two) [] = refl
 added-added (x ∷ one) (y ∷ two) (z ∷ three) =
     let same : x + y + z ≡ x + (y + z) = omega arith in
     ap (λ n. n ∷ added (added one two) three) same ∙ ap (λ l. (x + (y + z)) ∷ l) (added-added one two three)
-
-pub empty-added : (n : ℕ) (tally : List ℕ) → length tally ≡ n → added (empty_tally n) tally ≡ tally
-empty-added zero tally row = refl
-empty-added (suc n) [] row = absurd (omega arith)
-empty-added (suc n) (x ∷ tally) row =
-    let same : 0 + x ≡ x = omega arith in
-    ap (λ m. m ∷ added (empty_tally n) tally) same ∙ ap (λ l. x ∷ l) (empty-added n tally (omega arith))
 
 pub added-empty : (n : ℕ) (tally : List ℕ) → length tally ≡ n → added tally (empty_tally n) ≡ tally
 added-empty zero [] row = refl
