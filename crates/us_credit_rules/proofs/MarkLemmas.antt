@@ -1,6 +1,6 @@
 -- How many rounds there are up to the last mark of a word, as a walk over the asks counts them, and what they say of a flow.
 use Rattle.std.proofs.Common.{◌≡◌, ℕ, zero, suc, ◌+◌, ◌<◌, ◌≤◌, ◌==◌, ◌⊎◌, Bool, true, false, cond, List, [], ◌∷◌, ◌++◌, length, map, get_or, take, set, replicate, refl, sym, ap, ap₂, ◌∙◌, inl, inr, arith, eq-eqb, ne_eqb}
-use Rattle.std.specs.Prelude.{if◌then◌else◌, nat_lt, nat_le, filter, sum_by}
+use Rattle.std.specs.Prelude.{if◌then◌else◌, nat_lt, nat_le, filter, sum_by, fold}
 use Rattle.std.specs.List.{range_with_len}
 use Rattle.std.proofs.lemmas.Bool.{cases_Bool, cases_eq, le-leb, lt-leb, lt-ltb}
 use Rattle.std.proofs.lemmas.List.{get_or-set_same, get_or-set_other, length-set}
@@ -13,7 +13,6 @@ use Rattle.us_requests.specs.declared.asks.Ask.{Ask}
 use Rattle.us_requests.specs.Cuts.{asked, cut_of}
 use Rattle.us_requests.specs.Traces.{TraceAsks, asks_in, cuts_in}
 use Rattle.us_calendar.specs.Activity.{hears, is_marked}
-use Rattle.us_lawful.specs.Finals.{active_after}
 use Rattle.us_lawful.proofs.SameLemmas.{sum_append}
 use Rattle.us_credit_rules.specs.Activities.{marks, up_to_mark}
 use Rattle.us_credit_rules.proofs.AccountLemmas.{cut_at}
@@ -107,7 +106,7 @@ round_marked v words round word before inside is =
 -- What marks say.
 
 active_append : (word : ℕ) (was : Bool) (cuts : List (List ℕ)) (cut : List ℕ) →
-    active_after word was (cuts ++ cut ∷ []) ≡ hears word (active_after word was cuts) cut
+    fold (hears word) was (cuts ++ cut ∷ []) ≡ hears word (fold (hears word) was cuts) cut
 active_append word was [] cut = refl
 active_append word was (first ∷ cuts) cut = active_append word (hears word was first) cuts cut
 
@@ -143,14 +142,14 @@ hears_later word n silent active cut first next one two low high =
     told false false = refl
 
 active_then : (t : Tables) (v : TraceAsks) (word n : ℕ) → word + 1 < length (words_of t) →
-    active_after word true (map (λ round. cut_of (length (words_of t)) (asks_in v round)) (range_with_len 0 n))
+    fold (hears word) true (map (λ round. cut_of (length (words_of t)) (asks_in v round)) (range_with_len 0 n))
     ≡ nat_le (up_to_mark v word n) (up_to_mark v (word + 1) n)
 active_then t v word zero inside = refl
 active_then t v word (suc n) inside =
     let words : ℕ = length (words_of t) in
     let cut : ℕ → List ℕ = λ round. cut_of words (asks_in v round) in
     let same : 0 + n ≡ n = omega arith in
-    ap (active_after word true) (range_append cut 0 n) ∙ active_append word true (map cut (range_with_len 0 n)) (cut (0 + n))
+    ap (fold (hears word) true) (range_append cut 0 n) ∙ active_append word true (map cut (range_with_len 0 n)) (cut (0 + n))
     ∙ ap₂ (λ was at. hears word was (cut at)) (active_then t v word n inside) same
     ∙ hears_later word n (up_to_mark v word n) (up_to_mark v (word + 1) n) (cut n) (marks v word n) (marks v (word + 1) n)
     (ap (nat_lt 0) (cut_at words word (asks_in v n) (omega (arith, inside))))
@@ -158,6 +157,6 @@ active_then t v word (suc n) inside =
 
 -- so a flow is active behind all rounds where no round marks it as silent behind the last that marks it as active
 pub active_is : (t : Tables) (v : TraceAsks) (word : ℕ) → word + 1 < length (words_of t) →
-    active_after word true (cuts_in t v) ≡ nat_le (up_to_mark v word v.rounds) (up_to_mark v (word + 1) v.rounds)
+    fold (hears word) true (cuts_in t v) ≡ nat_le (up_to_mark v word v.rounds) (up_to_mark v (word + 1) v.rounds)
 unfolding cuts_in
 active_is t v word inside = active_then t v word v.rounds inside

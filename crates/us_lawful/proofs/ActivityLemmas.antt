@@ -1,6 +1,6 @@
 -- What the calendars of a schedule know of the activity of flows: what its cuts say.
 use Rattle.std.proofs.Common.{◌≡◌, ℕ, zero, suc, ◌==◌, eq-eqb, eqb-true, Bool, true, false, List, [], ◌∷◌, ◌++◌, length, map, Contains, Option, Some, None, IfSome, refl, sym, ap, ap₂, ◌∙◌, arith, inl, inr}
-use Rattle.std.specs.Prelude.{◌&&◌, if◌then◌else◌, find, is_some, option_and_then, option_map, slice_get, slice_index, zip}
+use Rattle.std.specs.Prelude.{◌&&◌, if◌then◌else◌, find, is_some, option_and_then, option_map, slice_get, slice_index, zip, fold}
 use Rattle.std.specs.List.{AllByRecursion}
 use Rattle.std.proofs.lemmas.Bool.{cases_Bool, false≢true}
 use Rattle.std.proofs.lemmas.List.{length-map}
@@ -32,7 +32,6 @@ use Rattle.us_channel.specs.Reserves.{reserves}
 use Rattle.us_round.specs.Rounds.{State, opening, begun, round_plan, build_planned, builds_of, round_from, round_of, final}
 use Rattle.us_round.specs.FinalRows as finals
 use Rattle.us_output.proofs.PartLemmas.{all_append, all_found}
-use Rattle.us_lawful.specs.Finals.{active_after}
 use Rattle.us_lawful.proofs.RoundLemmas.{final_tables, found_made}
 use Rattle.us_lawful.proofs.ItemLemmas.{all_made, any_placed, find_some, made_there, moved_all}
 use Rattle.us_lawful.proofs.CalendarLineLemmas.{all_by_places}
@@ -201,13 +200,13 @@ beside id (d ∷ channels) (calendar ∷ cs) c found = elim (cases_Bool (d.id ==
 
 -- Words.
 
-activity_is : (s : Silence) (was : Bool) (cuts : List (List ℕ)) → activity (Some s) was cuts ≡ active_after s.word was cuts
+activity_is : (s : Silence) (was : Bool) (cuts : List (List ℕ)) → activity (Some s) was cuts ≡ fold (hears s.word) was cuts
 activity_is s was [] = refl
 activity_is s was (cut ∷ cuts) = activity_is s (hears s.word was cut) cuts
 
 -- the entries of a flow whose activity is detected are told by its word
 abbrev IsByWord : List (List ℕ) → WordedFlow → Entry → Type 0
-IsByWord cuts f e = is_heard f.flow.id e ≡ true → activity e.silence true cuts ≡ active_after f.word true cuts
+IsByWord cuts f e = is_heard f.flow.id e ≡ true → activity e.silence true cuts ≡ fold (hears f.word) true cuts
 
 flow_by_word : (t : Tables) (cuts : List (List ℕ)) (c : Channel) (i j : ℕ) (f x : WordedFlow) → AreTables t →
     slice_get (with_words 0 t.flows) i ≡ Some f → slice_get (with_words 0 t.flows) j ≡ Some x →
@@ -225,7 +224,7 @@ flow_by_word t cuts c i j f x lawful own other = by (slice_index x.flow.channels
     of_kind RealTimePolling = λ never. absurd (false≢true never)
     of_kind ActivityDetection =
         λ is. activity_is (record { word = x.word; slots = c.request_minislots }) true cuts
-        ∙ ap (λ word. active_after word true cuts) (word (eqb-true x.flow.id f.flow.id is))
+        ∙ ap (λ word. fold (hears word) true cuts) (word (eqb-true x.flow.id f.flow.id is))
     of_kind UnsolicitedGrant = λ never. absurd (false≢true never)
 
     by : (b : Bool) → IfSome (if b then scheduled c x.word x.flow x.flow.kind else None) (IsByWord cuts f)
@@ -264,7 +263,7 @@ entry_told : (t : Tables) (cuts : List (List ℕ)) (c : Channel) (i : ℕ) (f : 
     slice_get (with_words 0 t.flows) i ≡ Some f → slice_index f.flow.channels 0 ≡ c.id →
     tells_activity f.flow.kind ≡ true →
     option_map (λ (e : Entry). activity e.silence true cuts) (find (is_heard f.flow.id) (entries t c))
-    ≡ Some (active_after f.word true cuts)
+    ≡ Some (fold (hears f.word) true cuts)
 entry_told t cuts c i f lawful at first tells =
     let unsorted : List Entry = flows_first t c lawful ++ stations_then t c lawful in
     let each : AllByRecursion (IsByWord cuts f) unsorted =
@@ -313,7 +312,7 @@ polls_fit t flow UnsolicitedGrant never is = absurd (false≢true never)
 channel_tells : (t : Tables) (cuts : List (List ℕ)) (i : ℕ) (f : WordedFlow) → AreTables t →
     slice_get (with_words 0 t.flows) i ≡ Some f → tells_activity f.flow.kind ≡ true →
     finals.activity_on (final (opening t) cuts) (slice_index f.flow.channels 0) f.flow.id
-    ≡ Some (active_after f.word true cuts)
+    ≡ Some (fold (hears f.word) true cuts)
 channel_tells t cuts i f lawful at tells =
     let end : State = final (opening t) cuts in
     let id : ℕ = slice_index f.flow.channels 0 in
@@ -336,7 +335,7 @@ channel_tells t cuts i f lawful at tells =
 pub activity_told : (t : Tables) (cuts : List (List ℕ)) (i : ℕ) (f : WordedFlow) → AreTables t →
     slice_get (with_words 0 t.flows) i ≡ Some f →
     finals.activity_of (final (opening t) cuts) f.flow
-    ≡ (if tells_activity f.flow.kind then Some (active_after f.word true cuts) else None)
+    ≡ (if tells_activity f.flow.kind then Some (fold (hears f.word) true cuts) else None)
 activity_told t cuts i f lawful at = elim (cases_Bool (tells_activity f.flow.kind)) [
   | inl tells ↦ rw tells (channel_tells t cuts i f lawful at tells)
   | inr other ↦ rw other refl

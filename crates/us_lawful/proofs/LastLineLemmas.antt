@@ -1,6 +1,6 @@
 -- The lines at the end of a report: no other line is of their kinds.
 use Rattle.std.proofs.Common.{◌≡◌, ℕ, ◌+◌, Bool, true, false, List, [], ◌∷◌, ◌++◌, length, map, Option, Some, None, refl, ap, ap₂, ◌∙◌, arith, append-nil}
-use Rattle.std.specs.Prelude.{if◌then◌else◌, filter, filter_map, option_and_then, option_map, slice_get, slice_index, sum_by}
+use Rattle.std.specs.Prelude.{if◌then◌else◌, filter, filter_map, option_and_then, option_map, slice_get, slice_index, sum_by, fold}
 use Rattle.std.specs.List.{AllByRecursion, cons_option}
 use Rattle.std.proofs.lemmas.List.Elements.{filter_map-append}
 use Rattle.std.proofs.lemmas.List.Sums.{sum_by-cons}
@@ -10,6 +10,7 @@ use Rattle.us_flows.specs.Clusters.{Turn, table_order, tells_activity, words_in}
 use Rattle.us_flows.specs.Lawful.{AreTables}
 use Rattle.us_bucket.specs.Levels.{Level, units_in}
 use Rattle.us_requests.specs.declared.asks.Counts.{Counts}
+use Rattle.us_calendar.specs.Activity.{hears}
 use Rattle.us_calendar.specs.Entries.{WordedFlow, with_words}
 use Rattle.us_calendar.specs.declared.settled.Settled.{Settled}
 use Rattle.us_calendar.specs.declared.settled.Settled.TheVariants as settled
@@ -26,7 +27,7 @@ use Rattle.us_round.specs.ScheduleLaws.{AreCuts}
 use Rattle.us_lawful.specs.Output.{counts_row, output_of, all_rows, judged_of, run_of}
 use Rattle.us_lawful.specs.Runs.{Run, as_activity, as_final, as_counts, activities_in, finals_in, counts_in, counts_told}
 use Rattle.us_lawful.specs.Finals as lawful
-use Rattle.us_lawful.specs.Finals.{active_after, talking}
+use Rattle.us_lawful.specs.Finals.{talking}
 use Rattle.us_lawful.proofs.SameLemmas.{worth, sum_append, sum_flat_map, sum_map}
 use Rattle.us_lawful.proofs.RoundLemmas.{final_tables, last_rows, round_rows, rounds_of, rows_in, sum_lines}
 use Rattle.us_lawful.proofs.CalendarLineLemmas.{all_by_places}
@@ -175,7 +176,7 @@ no_activities outstanding buckets (turn ∷ turns) = no_activities outstanding b
 
 -- that of a flow is there, and is what the cuts say, if the flow tells its activity
 one_told : (run : Run) (f : WordedFlow) (tells : Bool) (active : Option Bool) (lines : List Row) (rest : List WordedFlow) →
-    active ≡ (if tells then Some (active_after f.word true run.cuts) else None) →
+    active ≡ (if tells then Some (fold (hears f.word) true run.cuts) else None) →
     filter_map as_activity lines ≡ map (lawful.activity_of run) rest →
     filter_map as_activity (cons_option (option_map (activity_row f.flow) active) lines)
     ≡ map (lawful.activity_of run) (if tells then f ∷ rest else rest)
@@ -184,7 +185,7 @@ one_told run f false active lines rest is others = rw is others
 
 activities_told : (run : Run) (active : FlowTable → Option Bool) (word : ℕ) (flows : List FlowTable) →
     AllByRecursion (λ (f : WordedFlow). active f.flow
-    ≡ (if tells_activity f.flow.kind then Some (active_after f.word true run.cuts) else None)) (with_words word flows) →
+    ≡ (if tells_activity f.flow.kind then Some (fold (hears f.word) true run.cuts) else None)) (with_words word flows) →
     filter_map as_activity (activity_rows flows (map active flows))
     ≡ map (lawful.activity_of run) (filter (λ f. tells_activity f.flow.kind) (with_words word flows))
 activities_told run active word [] each = refl
@@ -207,7 +208,7 @@ activities_are t cuts counts lawful long =
     ∙ append-nil (told end.tables) ∙ ap told (final_tables (opening t) cuts)
     ∙ activities_told (run_of t cuts counts) (activity_of end) 0 t.flows
     (all_by_places (λ (f : WordedFlow). activity_of end f.flow
-    ≡ (if tells_activity f.flow.kind then Some (active_after f.word true cuts) else None)) (with_words 0 t.flows)
+    ≡ (if tells_activity f.flow.kind then Some (fold (hears f.word) true cuts) else None)) (with_words 0 t.flows)
     (λ place f at. activity_told t cuts place f lawful at))
 
 -- The U line.

@@ -1,6 +1,6 @@
 -- P6, at the end of a report: one F line for each cluster, with what its other lines leave of it, one A line for each flow
 -- that tells its activity, with what its last mark says, and one U line.
-use Rattle.std.specs.Prelude.{ℕ, ◌-◌, ◌==◌, ◌&&◌, nat_eq, if◌then◌else◌, Bool, true, List, [], ◌∷◌, length, filter, count_by, Option}
+use Rattle.std.specs.Prelude.{ℕ, ◌-◌, ◌==◌, ◌&&◌, nat_eq, if◌then◌else◌, Bool, true, List, [], ◌∷◌, length, fold, filter, count_by, Option}
 use Rattle.std.specs.List.{list_all, list_any}
 use Rattle.std.specs.Option.{option_eq}
 use Rattle.us_flows.specs.Tables.{FlowTable, Tables}
@@ -67,14 +67,9 @@ finals_hold run judged p =
 abbrev pub talking : Tables → List WordedFlow
 talking t = filter (λ f. tells_activity f.flow.kind) (with_words 0 t.flows)
 
--- whether such a flow is active after these cuts, where it was before them or not
-abbrev pub active_after : ℕ → Bool → List (List ℕ) → Bool
-active_after word was [] = was
-active_after word was (cut ∷ cuts) = active_after word (hears word was cut) cuts
-
--- its A line: every flow is active at first
+-- the A line of such a flow: it is active at first, and then as it was or as a cut says, one cut behind another
 abbrev pub activity_of : Run → WordedFlow → FinalActivity
-activity_of run f = record { flow = f.flow.id; active = if active_after f.word true run.cuts then 1 else 0 }
+activity_of run f = record { flow = f.flow.id; active = if fold (hears f.word) true run.cuts then 1 else 0 }
 
 abbrev pub is_same_activity : FinalActivity → FinalActivity → Bool
 is_same_activity a other = (a.flow == other.flow) && (a.active == other.active)
