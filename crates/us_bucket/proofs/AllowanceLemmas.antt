@@ -1,9 +1,9 @@
 -- The laws of the bucket, and how events are joined.
 use Rattle.std.proofs.Common.{◌≡◌, ℕ, ◌+◌, ◌-◌, ◌/◌, ◌<◌, List, [], ◌∷◌, ◌++◌, Option, Some, None, refl, ap, ◌∙◌, inl, inr, add-one, arith, drop, get_or, subst, length}
-use Rattle.std.specs.Prelude.{◌↔◌}
+use Rattle.std.specs.Prelude.{◌↔◌, unwrap_or}
 use Rattle.std.proofs.lemmas.Bool.{cases_lt}
 use Rattle.std.proofs.lemmas.List.{drop_more}
-use Rattle.us_bucket.specs.Levels.{Level, units_per_byte, refilled, spent, bytes_in, reserve_in, or_none, Has}
+use Rattle.us_bucket.specs.Levels.{Level, units_per_byte, refilled, spent, bytes_in, reserve_in, Has}
 use Rattle.us_bucket.specs.Allowances.{Limit, KeepsBound, AreLawful, IsAllowance, IsLimitedTo, IsReserve}
 use Rattle.us_bucket.specs.Spans.{credits_from, credits_of}
 use Rattle.us_bucket.specs.Laws.{level_after, HasEach, first_level, BucketKeepsBound, BucketIsAllowance, BucketIsReserve}
@@ -143,7 +143,7 @@ is-allowance limit events lawful =
 
 -- an allowance, read as nothing where there is no limit
 pub limited-reserve : (limit : Limit) (events : List Event) (allowed : Option ℕ) → IsLimitedTo limit events allowed →
-    IsReserve limit events (or_none allowed)
+    IsReserve limit events (unwrap_or allowed 0)
 limited-reserve limit events (Some most) is = inr is
 limited-reserve limit events None is = inl (is, refl)
 

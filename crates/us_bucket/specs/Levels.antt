@@ -1,6 +1,6 @@
 -- Levels of a token bucket. It counts in units of 1/1,280,000 byte: at R bit/s a tick of 6.25 microseconds adds R
 -- units, since a second has 160,000 ticks and a byte 8 bits.
-use Rattle.std.specs.Prelude.{ℕ, ◌+◌, ◌-◌, ◌*◌, ◌/◌, ◌≤◌, min, ◌==◌, if◌then◌else◌, Option, Some, None, IfSome}
+use Rattle.std.specs.Prelude.{ℕ, ◌+◌, ◌-◌, ◌*◌, ◌/◌, ◌≤◌, min, ◌==◌, if◌then◌else◌, Option, Some, None, IfSome, unwrap_or}
 
 -- a flow's limit, and what its bucket holds
 pub record Level : Type 0 where
@@ -39,12 +39,8 @@ unfoldable pub bytes_in : Level → Option ℕ
 bytes_in l = limited l (l.units / units_per_byte)
 
 -- the whole bytes that the bucket of a minimum rate reserves: those in it, and nothing where there is no such rate
-abbrev pub or_none : Option ℕ → ℕ
-or_none (Some bytes) = bytes
-or_none None = 0
-
 unfoldable pub reserve_in : Level → ℕ
-reserve_in l = or_none (bytes_in l)
+reserve_in l = unwrap_or (bytes_in l) 0
 
 -- and all of its units
 unfoldable pub units_in : Level → Option ℕ
