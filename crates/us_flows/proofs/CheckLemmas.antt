@@ -1,10 +1,11 @@
 -- No first fault: no check finds one.
 use Rattle.std.proofs.Common.{◌≡◌, false, List, [], ◌∷◌, Option, Some, None, refl, inl, inr}
 use Rattle.std.proofs.lemmas.Bool.{cases_Bool}
+use Rattle.std.specs.Option.{option_or}
 use Rattle.us_flows.specs.declared.faults.ConfigFault.{ConfigFault}
-use Rattle.us_flows.specs.Checks.{Check, first_of, or_else}
+use Rattle.us_flows.specs.Checks.{Check, first_of}
 
-pub or_else_none : (a b : Option ConfigFault) → or_else a b ≡ None → (a ≡ None) × (b ≡ None)
+pub or_else_none : (a b : Option ConfigFault) → option_or a b ≡ None → (a ≡ None) × (b ≡ None)
 or_else_none None b h = (refl, h)
 or_else_none (Some f) b h = let no : Some f ≡ None = h in cc
 

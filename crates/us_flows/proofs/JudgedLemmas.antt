@@ -1,6 +1,7 @@
 -- The answers to a flow's table: the first fault of a list of checks is its first fault, if no list before it finds one.
 use Rattle.std.proofs.Common.{◌≡◌, ℕ, ◌+◌, ◌≤◌, ◌<◌, List, [], ◌∷◌, ◌++◌, length, get_or, drop, append_assoc, codes, Option, Some, None, refl, sym, ◌∙◌, ap, arith, inl, inr}
 use Rattle.std.specs.Prelude.{Err}
+use Rattle.std.specs.Option.{option_or}
 use Rattle.std.proofs.lemmas.Bool.{cases_Bool}
 use Rattle.std.proofs.lemmas.List.{drop_more, length-append}
 use Rattle.toml.specs.Data.{Data, string, integer, float, boolean, datetime, array, table, as_table, Members, Items, no_items, item}
@@ -15,7 +16,7 @@ use Rattle.us_flows.specs.Tables.{FlowTable}
 use Rattle.us_flows.specs.Documents.{items_at}
 use Rattle.us_flows.specs.Shapes.{count}
 use Rattle.us_flows.specs.Reading.{flow_of, all_of}
-use Rattle.us_flows.specs.Checks.{Check, first_of, or_else, top, in_turn, flow_place, flow_shape, flow_names, flow_grants, flow_fault}
+use Rattle.us_flows.specs.Checks.{Check, first_of, top, in_turn, flow_place, flow_shape, flow_names, flow_grants, flow_fault}
 use Rattle.us_flows.specs.Answers.{Judged}
 use Rattle.us_flows.proofs.CheckLemmas.{none_finds}
 use Rattle.us_flows.proofs.ShapeLemmas.{length-lists_of}
@@ -162,12 +163,12 @@ module _ {A : Type 0} (of : Members → A) (fault_of : List A → Members → Op
       (in_turn of fault_of earlier (item d no_items) ≡ None) × (earlier ++ a ∷ [] ≡ earlier ++ all_of of (item d no_items))
   accepted_table earlier d t a some none is = (rw (is_table d t some, none) refl, rw (is_table d t some, is) refl)
 
-  or_none : (first later : Option ConfigFault) → or_else first later ≡ or_else (or_else first None) later
+  or_none : (first later : Option ConfigFault) → option_or first later ≡ option_or (option_or first None) later
   or_none None later = refl
   or_none (Some f) later = refl
 
   parted : (earlier : List A) (d : Data) (rest : Items) → in_turn of fault_of earlier (item d rest) ≡
-      or_else (in_turn of fault_of earlier (item d no_items))
+      option_or (in_turn of fault_of earlier (item d no_items))
       (in_turn of fault_of (earlier ++ all_of of (item d no_items)) rest)
   parted earlier (table ms) rest = or_none (fault_of earlier ms) (in_turn of fault_of (earlier ++ of ms ∷ []) rest)
   parted earlier (string s) rest = refl
@@ -181,7 +182,7 @@ module _ {A : Type 0} (of : Members → A) (fault_of : List A → Members → Op
   module _ (values : List Value) (earlier : List A) (i : ℕ) (value d : Value)
       (within : i < length values) (is : value ≡ get_or values i d)
       (left : in_turn of fault_of earlier (items_view (drop i values)) ≡ in_turn of fault_of [] (items_view values)) where
-    found_next : or_else (in_turn of fault_of earlier (item (view value) no_items))
+    found_next : option_or (in_turn of fault_of earlier (item (view value) no_items))
         (in_turn of fault_of (earlier ++ all_of of (item (view value) no_items)) (items_view (drop (i + 1) values)))
         ≡ in_turn of fault_of [] (items_view values)
     found_next =

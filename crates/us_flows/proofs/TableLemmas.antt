@@ -2,6 +2,7 @@
 use Rattle.std.proofs.Common.{◌≡◌, ℕ, zero, suc, ◌+◌, ◌*◌, ◌/◌, ◌%◌, ◌^◌, ◌<◌, ◌≤◌, ◌==◌, max, nat_eq, nat_lt, nat_le, Bool, true, false, not, ◌&&◌, List, [], ◌∷◌, ◌++◌, length, map, flat_map, codes, Option, Some, None, append_assoc, refl, sym, subst, ◌∙◌, ap, arith, inl, inr}
 use Rattle.std.specs.Prelude.{Err, is_some, option_and_then, slice_get}
 use Rattle.std.specs.List.{AllByRecursion, list_all, list_any}
+use Rattle.std.specs.Option.{option_or}
 use Rattle.std.proofs.lemmas.Bool.{cases_Bool, and_parts, or_parts, eqb-true, lt-ltb, le-ltb, ltb-false, leb-false, not-false, false≢true}
 use Rattle.std.proofs.Math.Nat.{div-le_self}
 use Rattle.std.proofs.lemmas.Nat.{div-add-mod'}
@@ -24,7 +25,7 @@ use Rattle.us_flows.specs.Keys.{top_keys}
 use Rattle.us_flows.specs.Lawful.{Between, AreApart, Fits, IsSchedule, IsChannel, IsRequesting, IsPolled, IsUnsolicited, IsScheduled, IsFlow, IsStation, AreTables}
 use Rattle.us_flows.specs.Documents.{number_at, flag_at, numbers_of, lists_of, items_of, items_at, read_or}
 use Rattle.us_flows.specs.Shapes.{is_number, is_number_list, is_list, is_table, count, all_items, allows, lacks, strays}
-use Rattle.us_flows.specs.Checks.{first_of, or_else, top_checks, channel_shape, channel_rules, channel_fault, repeats, same_sid, is_taken, has_flow, flow_place, flow_shape, flow_names, grant_slots, is_too_long, flow_grants, flow_fault, station_shape, station_rules, station_fault, in_turn, channels_fault, flows_fault, stations_fault, first_fault}
+use Rattle.us_flows.specs.Checks.{first_of, top_checks, channel_shape, channel_rules, channel_fault, repeats, same_sid, is_taken, has_flow, flow_place, flow_shape, flow_names, grant_slots, is_too_long, flow_grants, flow_fault, station_shape, station_rules, station_fault, in_turn, channels_fault, flows_fault, stations_fault, first_fault}
 use Rattle.us_flows.specs.Reading.{channel_of, kind_at, flow_of, station_of, all_of, round_ticks_of, channels_of, flows_of, stations_of, tables_of}
 use Rattle.us_flows.specs.Answers.{Judged}
 use Rattle.us_flows.proofs.DocumentLemmas.{count_view}
@@ -300,7 +301,7 @@ flow_is t earlier m h =
     let f : FlowTable = flow_of m in
     let names_fault : Option ConfigFault = first_of (flow_names place t.channels earlier f) in
     let grants_fault : Option ConfigFault = first_of (flow_grants place t.round_ticks t.channels f) in
-    let parts = or_else_none (first_of (flow_shape place m)) (or_else names_fault grants_fault) h in
+    let parts = or_else_none (first_of (flow_shape place m)) (option_or names_fault grants_fault) h in
     let rest = or_else_none names_fault grants_fault parts.1 in
     let shape = none_finds (flow_shape place m) parts.0 in
     let names = none_finds (flow_names place t.channels earlier f) rest.0 in
@@ -345,7 +346,7 @@ flows_stay_apart round channels earlier m h apart =
     let f : FlowTable = flow_of m in
     let names_fault : Option ConfigFault = first_of (flow_names place channels earlier f) in
     let grants_fault : Option ConfigFault = first_of (flow_grants place round channels f) in
-    let parts = or_else_none (first_of (flow_shape place m)) (or_else names_fault grants_fault) h in
+    let parts = or_else_none (first_of (flow_shape place m)) (option_or names_fault grants_fault) h in
     let rest = or_else_none names_fault grants_fault parts.1 in
     let names = none_finds (flow_names place channels earlier f) rest.0 in
     let ids = or_parts (has_flow earlier f.id) (repeats nat_eq f.channels) names.1.0 in
@@ -397,8 +398,8 @@ tables_are doc h =
     let channels = channels_fault (round_ticks_of doc) channel_items in
     let flows = flows_fault (round_ticks_of doc) (channels_of doc) flow_items in
     let stations = stations_fault (round_ticks_of doc) (channels_of doc) station_items in
-    let top = or_else_none (first_of (top_checks doc)) (or_else channels (or_else flows stations)) h in
-    let rest = or_else_none channels (or_else flows stations) top.1 in
+    let top = or_else_none (first_of (top_checks doc)) (option_or channels (option_or flows stations)) h in
+    let rest = or_else_none channels (option_or flows stations) top.1 in
     let last = or_else_none flows stations rest.1 in
     let ranges = top_is doc top.0 in
     let t : Tables = tables_of doc in
@@ -471,7 +472,7 @@ found_in_channels doc round f top round_is found = rw (top, rw round_is at found
 -- the fault of the flows and the stations
 abbrev pub rest_fault : Members → ℕ → List Channel → Option ConfigFault
 rest_fault doc round channels =
-    or_else (flows_fault round channels (items_at (codes "flow") doc))
+    option_or (flows_fault round channels (items_at (codes "flow") doc))
     (stations_fault round channels (items_at (codes "station") doc))
 
 pub found_in_flows : (doc : Members) (round : ℕ) (channels : List Channel) (items : Items) (f : ConfigFault) →

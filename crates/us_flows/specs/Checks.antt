@@ -2,6 +2,7 @@
 -- station.
 use Rattle.std.specs.Prelude.{ℕ, ◌+◌, ◌*◌, ◌/◌, ◌%◌, max, Bool, false, not, nat_eq, ◌==◌, nat_lt, nat_le, ◌&&◌, ◌||◌, if◌then◌else◌, List, [], ◌∷◌, ◌++◌, length, flat_map, codes, is_none, Option, Some, None}
 use Rattle.std.specs.List.{list_all, list_any}
+use Rattle.std.specs.Option.{option_or}
 use Rattle.toml.specs.Data.{Data, table, Items, no_items, item, Members, get_member}
 use Rattle.us_slots.specs.Times.{minislot_ticks}
 use Rattle.us_slots.specs.Bursts.{burst_cost}
@@ -25,14 +26,10 @@ use Rattle.us_flows.specs.Reading.{channel_of, kind_at, flow_of, station_of, rou
 abbrev pub Check : Type 0
 Check = Bool × ConfigFault
 
--- the first fault of a list of checks, and of two answers
+-- the first fault of a list of checks
 abbrev pub first_of : List Check → Option ConfigFault
 first_of [] = None
 first_of (check ∷ checks) = if check.0 then Some check.1 else first_of checks
-
-abbrev pub or_else : Option ConfigFault → Option ConfigFault → Option ConfigFault
-or_else (Some first) later = Some first
-or_else None later = later
 
 abbrev pub top : Place
 top = record { table = name.Top; index = 0 }
@@ -83,7 +80,7 @@ channel_rules place round earlier c =
 unfoldable pub channel_fault : ℕ → List Channel → Members → Option ConfigFault
 channel_fault round earlier t =
     let place : Place = record { table = name.Channel; index = length earlier } in
-    or_else (first_of (channel_shape place t)) (first_of (channel_rules place round earlier (channel_of t)))
+    option_or (first_of (channel_shape place t)) (first_of (channel_rules place round earlier (channel_of t)))
 
 -- a flow: the shape of its table, of which the type is looked at first,
 abbrev pub flow_shape : Place → Members → List Check
@@ -147,8 +144,8 @@ flow_place earlier = record { table = name.Flow; index = length earlier }
 unfoldable pub flow_fault : ℕ → List Channel → List FlowTable → Members → Option ConfigFault
 flow_fault round channels earlier t =
     let place : Place = flow_place earlier in
-    or_else (first_of (flow_shape place t))
-    (or_else (first_of (flow_names place channels earlier (flow_of t)))
+    option_or (first_of (flow_shape place t))
+    (option_or (first_of (flow_names place channels earlier (flow_of t)))
     (first_of (flow_grants place round channels (flow_of t))))
 
 -- a station: the shape of its table,
@@ -171,13 +168,13 @@ station_rules place round channels earlier s =
 unfoldable pub station_fault : ℕ → List Channel → List Station → Members → Option ConfigFault
 station_fault round channels earlier t =
     let place : Place = record { table = name.Station; index = length earlier } in
-    or_else (first_of (station_shape place t)) (first_of (station_rules place round channels earlier (station_of t)))
+    option_or (first_of (station_shape place t)) (first_of (station_rules place round channels earlier (station_of t)))
 
 -- the tables of a list in turn, each judged beside those before it
 module _ {A : Type 0} (of : Members → A) (fault_of : List A → Members → Option ConfigFault) where
   abbrev pub in_turn : List A → Items → Option ConfigFault
   in_turn earlier no_items = None
-  in_turn earlier (item (table t) rest) = or_else (fault_of earlier t) (in_turn (earlier ++ of t ∷ []) rest)
+  in_turn earlier (item (table t) rest) = option_or (fault_of earlier t) (in_turn (earlier ++ of t ∷ []) rest)
   in_turn earlier (item _ rest) = Some (fault.Range top)
 
 abbrev pub channels_fault : ℕ → Items → Option ConfigFault
@@ -192,7 +189,7 @@ stations_fault round channels items = in_turn station_of (station_fault round ch
 -- the first fault of a document
 unfoldable pub first_fault : Members → Option ConfigFault
 first_fault doc =
-    or_else (first_of (top_checks doc))
-    (or_else (channels_fault (round_ticks_of doc) (items_at (codes "channel") doc))
-    (or_else (flows_fault (round_ticks_of doc) (channels_of doc) (items_at (codes "flow") doc))
+    option_or (first_of (top_checks doc))
+    (option_or (channels_fault (round_ticks_of doc) (items_at (codes "channel") doc))
+    (option_or (flows_fault (round_ticks_of doc) (channels_of doc) (items_at (codes "flow") doc))
     (stations_fault (round_ticks_of doc) (channels_of doc) (items_at (codes "station") doc))))

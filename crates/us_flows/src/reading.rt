@@ -1,8 +1,9 @@
 ghost use Rattle.std.specs.Prelude.{◌≡◌, ◌<◌, codes, length, None, Err, IfSome};
+ghost use Rattle.std.specs.Option.{option_or};
 ghost use Rattle.us_flows.specs.declared.faults.ConfigFault.TheVariants as fault;
 ghost use Rattle.us_flows.specs.Ranges.{max_config_bytes};
 ghost use Rattle.us_flows.specs.Documents;
-ghost use Rattle.us_flows.specs.Checks.{first_of, or_else, top_checks, channels_fault, flows_fault, stations_fault, first_fault};
+ghost use Rattle.us_flows.specs.Checks.{first_of, top_checks, channels_fault, flows_fault, stations_fault, first_fault};
 ghost use Rattle.us_flows.specs.Reading;
 ghost use Rattle.us_flows.specs.Answers.{Answers, Judged};
 ghost use Rattle.toml.specs.View.{table_view};
@@ -98,7 +99,7 @@ fn flows_and_stations(
     channels: &Channels,
 ) -> Result<(Flows, Stations), ConfigFault>
     requires { first_of (top_checks (table_view document.now)) ≡ None }
-    ensures { Judged result (or_else
+    ensures { Judged result (option_or
         (flows_fault round_ticks channels.now (Documents.items_at (codes "flow") (table_view document.now)))
         (stations_fault round_ticks channels.now (Documents.items_at (codes "station") (table_view document.now))))
         (λ both. (both.0 ≡ Reading.flows_of (table_view document.now)) ×

@@ -2,12 +2,13 @@
 use Rattle.std.proofs.Common.{◌≡◌, ℕ, ◌+◌, ◌≤◌, Bool, true, false, List, [], ◌∷◌, ◌++◌, length, map, Option, Some, None, Vec, Global, refl, ap, sym, ◌∙◌, append_assoc, append-nil, arith}
 use Rattle.std.specs.Prelude.{Result, Ok, Err, IsErrAnd, nat_lt, not, ◌==◌, if◌then◌else◌}
 use Rattle.std.specs.List.{AllByRecursion}
+use Rattle.std.specs.Option.{option_or}
 use Rattle.std.proofs.lemmas.List.{length-append}
 use Rattle.us_requests.specs.declared.faults.TraceFault.{TraceFault}
 use Rattle.us_requests.specs.declared.faults.TraceFault.TheVariants as fault
 use Rattle.us_requests.specs.Asks.{Request}
 use Rattle.us_requests.specs.Records.{TakesRecord}
-use Rattle.us_requests.specs.Texts.{max_records, are_numbers, request_of, record_checks, first_of, or_else, fault_from, Record}
+use Rattle.us_requests.specs.Texts.{max_records, are_numbers, request_of, record_checks, first_of, fault_from, Record}
 use Rattle.us_requests.specs.Readings.{AreRequests, Tells, IsFirst}
 
 -- of these records behind a header of so many columns, such requests were read and these records are left, the first of
@@ -30,10 +31,10 @@ small-more (r ∷ rest) q all small = (all.0, small-more rest q all.1 small)
 -- a record in its place
 at-record : (columns number : ℕ) (old left : List Record) (fields : Record) (f : Option TraceFault) →
     TakesRecord old left fields true → first_of (record_checks columns number fields) ≡ f →
-    fault_from columns number old ≡ or_else f (fault_from columns (number + 1) left)
+    fault_from columns number old ≡ option_or f (fault_from columns (number + 1) left)
 unfolding fault_from
 at-record columns number old left fields f takes found =
-    ap (λ rs. fault_from columns number rs) takes ∙ ap (λ o. or_else o (fault_from columns (number + 1) left)) found
+    ap (λ rs. fault_from columns number rs) takes ∙ ap (λ o. option_or o (fault_from columns (number + 1) left)) found
 
 pub record-read : (all : List Record) (columns number : ℕ) (requests : List Request) (old left : List Record)
     (fields : Record) (q : Request) →

@@ -2,6 +2,7 @@
 -- tell where there is none.
 use Rattle.std.specs.Prelude.{ℕ, ◌+◌, ◌-◌, ◌*◌, Bool, not, ◌==◌, nat_le, nat_lt, ◌&&◌, ◌||◌, if◌then◌else◌, List, [], ◌∷◌, length, map, drop, slice_index_or, codes, Option, Some, None}
 use Rattle.std.specs.List.{list_all}
+use Rattle.std.specs.Option.{option_or}
 use Rattle.std.specs.Str.{bytes_eq}
 use Rattle.csv.specs.Reading.{default_config, records, strip_bom}
 use Rattle.us_requests.specs.declared.faults.TraceFault.{TraceFault}
@@ -88,15 +89,11 @@ abbrev pub first_of : List (Bool × TraceFault) → Option TraceFault
 first_of [] = None
 first_of (check ∷ more) = if check.0 then Some check.1 else first_of more
 
-abbrev pub or_else : Option TraceFault → Option TraceFault → Option TraceFault
-or_else None later = later
-or_else (Some fault) later = Some fault
-
 -- the first fault of records behind such a header, the first of which has this number
 unfoldable pub fault_from : ℕ → ℕ → List Record → Option TraceFault
 fault_from columns number [] = None
 fault_from columns number (fields ∷ rest) =
-    or_else (first_of (record_checks columns number fields)) (fault_from columns (number + 1) rest)
+    option_or (first_of (record_checks columns number fields)) (fault_from columns (number + 1) rest)
 
 -- the first fault of all records, with the header
 abbrev pub records_fault : List Record → Option TraceFault
