@@ -15,7 +15,7 @@ use Rattle.us_bucket.specs.declared.events.Event.TheVariants.{NextRound, Credit}
 use Rattle.us_bucket.proofs.AllowanceLemmas.{kept}
 use Rattle.us_split.specs.PlanLaws.{Within}
 use Rattle.us_channel.specs.Placements.{PlacedClaim, credits}
-use Rattle.us_round.specs.Rounds.{State, opening, grown, begun, builds_of, all_grants, is_of_flow, spent_of, round_from, round_of, final}
+use Rattle.us_round.specs.Rounds.{State, opening, brought, begun, builds_of, all_grants, is_of_flow, spent_of, round_from, round_of, final}
 use Rattle.us_round.specs.States.{AreSound}
 use Rattle.us_round.specs.ScheduleLaws.{begun_rounds, AreCuts}
 use Rattle.us_output.proofs.PartLemmas.{all_weaker}
@@ -79,17 +79,17 @@ spent_at grants from (bucket ∷ more) (suc n) l at =
     spent_at grants (from + 1) more n l at ∙ ap (λ k. Some (spent (credits (is_of_flow k) grants) l)) own
 
 -- a round takes its credits from the bucket
-after_round : (s : State) (cut : List ℕ) (place : ℕ) (l : Level) → slice_get (grown s) place ≡ Some l →
+after_round : (s : State) (cut : List ℕ) (place : ℕ) (l : Level) → slice_get (brought s s.buckets) place ≡ Some l →
     slice_get (round_of s cut).state.buckets place ≡ Some (spent (flow_bytes place (begun s cut)) l)
 unfolding round_of round_from
 after_round s cut place l at =
     let grants : List PlacedClaim = all_grants (builds_of (begun s cut)) in
     let own : 0 + place ≡ place = omega arith in
-    spent_at grants 0 (grown s) place l at ∙ ap (λ k. Some (spent (credits (is_of_flow k) grants) l)) own
+    spent_at grants 0 (brought s s.buckets) place l at ∙ ap (λ k. Some (spent (credits (is_of_flow k) grants) l)) own
 
 -- and before them, in all rounds but the first, it grows
 grown_later : (s : State) (place : ℕ) (l : Level) → 1 ≤ s.round → slice_get s.buckets place ≡ Some l →
-    slice_get (grown s) place ≡ Some (refilled s.tables.round_ticks l)
+    slice_get (brought s s.buckets) place ≡ Some (refilled s.tables.round_ticks l)
 grown_later s place l later at =
     rw (ne_eqb s.round 0 (omega (arith, later)))
     (slice_get-map (refilled s.tables.round_ticks) s.buckets place ∙ ap (option_map (refilled s.tables.round_ticks)) at)
@@ -118,7 +118,7 @@ unfolding begun_rounds round_of round_from
 later_has s [] place l later at sound = tt
 later_has s (cut ∷ cuts) place l later at sound =
     let now : Level = refilled s.tables.round_ticks l in
-    let here : slice_get (grown s) place ≡ Some now = grown_later s place l later at in (
+    let here : slice_get (brought s s.buckets) place ≡ Some now = grown_later s place l later at in (
       has_credits (begun s cut) place now sound.0 here,
       later_has (round_of s cut).state cuts place (spent (flow_bytes place (begun s cut)) now) (omega arith)
           (after_round s cut place now here) sound.1,

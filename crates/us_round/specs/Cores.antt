@@ -20,7 +20,7 @@ use Rattle.us_calendar.specs.Calendars as calendars
 use Rattle.us_calendar.specs.Calendars.{Calendar, pace_of, settled_in, granted_in}
 use Rattle.us_channel.specs.Channels.{Filled, Built}
 use Rattle.us_round.specs.States.{Covers}
-use Rattle.us_round.specs.Rounds.{State, grown, grown_reserves, all_grants, uncredited, spent_of, unreserved}
+use Rattle.us_round.specs.Rounds.{State, brought, all_grants, uncredited, spent_of, unreserved}
 
 -- all of a state but its calendars
 pub record Core : Type 0 where
@@ -71,8 +71,8 @@ abbrev pub begun_core : Core → List ℕ → Core
 begun_core core cut = record core {
   told = core.round;
   outstanding = with_cut core.tables core.outstanding cut;
-  buckets = grown (with_calendars core []);
-  reserves = grown_reserves (with_calendars core []);
+  buckets = brought (with_calendars core []) core.buckets;
+  reserves = brought (with_calendars core []) core.reserves;
 }
 
 -- what is idle on channels with reserves and calendars, and the plan of that

@@ -36,17 +36,10 @@ opening t = record {
 
 -- The start of a round.
 
--- in every round but the first buckets grow by what a round's time brings,
+-- in every round but the first buckets grow by what a round's time brings, those that limit flows and those of minimum
+-- rates
 abbrev pub brought : State → List Level → List Level
 brought state levels = if state.round == 0 then levels else map (refilled state.tables.round_ticks) levels
-
--- those that limit flows
-abbrev pub grown : State → List Level
-grown state = brought state state.buckets
-
--- and those of minimum rates
-abbrev pub grown_reserves : State → List Level
-grown_reserves state = brought state state.reserves
 
 -- Channels.
 
@@ -116,8 +109,8 @@ pub record RoundResult : Type 0 where
 abbrev pub begun : State → List ℕ → State
 begun state cut = record state {
   outstanding = with_cut state.tables state.outstanding cut;
-  buckets = grown state;
-  reserves = grown_reserves state;
+  buckets = brought state state.buckets;
+  reserves = brought state state.reserves;
   calendars = map (heard_by cut) state.calendars;
 }
 
