@@ -9,7 +9,7 @@ use Rattle.us_slots.specs.Bursts.{burst_cost}
 use Rattle.us_slots.proofs.CostLemmas.{burst_cost-some}
 use Rattle.us_flows.specs.Ranges.{max_unicast_sid}
 use Rattle.us_flows.specs.Tables.{Tables, FlowTable, map_len, channel_with, first_channel}
-use Rattle.us_flows.specs.Lawful.{AreApart, AreTables, Between, Fits, IsChannel, IsFlow, IsScheduled, IsSchedule, IsStation}
+use Rattle.us_flows.specs.Lawful.{AreApart, AreTables, Fits, IsChannel, IsFlow, IsScheduled, IsSchedule, IsStation}
 use Rattle.us_flows.specs.declared.channels.Channel.{Channel}
 use Rattle.us_flows.specs.declared.stations.Station.{Station}
 use Rattle.us_flows.specs.declared.flows.SchedulingType.{SchedulingType}
@@ -18,6 +18,7 @@ use Rattle.us_flows.specs.Clusters.{Silent, Active, tells_activity, words_before
 use Rattle.us_flows.proofs.KeyLaws.{item_of_key, channel_found}
 use Rattle.us_flows.proofs.WordLaws.{activity_has_words}
 use Rattle.std.proofs.lemmas.List.{length-append}
+use Rattle.std.specs.Int.{IsInRange}
 use Rattle.us_holes.specs.Boards.{IsOwner}
 use Rattle.us_calendar.specs.declared.kinds.Kind.{Kind}
 use Rattle.us_calendar.specs.declared.kinds.Kind.TheVariants as kinds
@@ -153,7 +154,7 @@ first_id [] some = absurd (omega (arith, some))
 first_id (id ∷ ids) some = refl
 
 first_sid-most : (clusters : List (List ℕ)) (channels : ℕ) → 1 ≤ length clusters → 1 ≤ channels →
-    AllByRecursion (λ sids. (length sids ≡ channels) × AllByRecursion (Between 1 max_unicast_sid) sids) clusters →
+    AllByRecursion (λ sids. (length sids ≡ channels) × AllByRecursion (IsInRange 1 max_unicast_sid) sids) clusters →
     slice_index (unwrap_or (slice_get clusters 0) []) 0 ≤ max_unicast_sid
 first_sid-most [] channels some long all = absurd (omega (arith, some))
 first_sid-most ([] ∷ clusters) channels some long all = absurd (omega (arith, all.0.0, long))

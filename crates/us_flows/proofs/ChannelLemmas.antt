@@ -1,14 +1,15 @@
 -- A channel's table without a fault in its shape: all its values are in their ranges.
 use Rattle.std.proofs.Common.{◌≡◌, ℕ, zero, suc, ◌+◌, ◌*◌, ◌≤◌, Bool, true, false, ◌||◌, List, codes, Some, refl, sym, ◌∙◌, arith, nat_lt, leb}
 use Rattle.std.proofs.lemmas.Bool.{or_parts, and_parts, false≢true, ltb-false, leb-true}
+use Rattle.std.specs.Int.{IsInRange, is_in_range}
 use Rattle.toml.specs.Data.{Data, string, integer, float, boolean, datetime, array, table, Items, no_items, item, Members, no_members}
 use Rattle.us_slots.specs.Times.{IsTiming}
 use Rattle.us_slots.specs.Bursts.{IsBurstProfile, IsChannelBursts}
 use Rattle.us_flows.specs.Ranges.{min_bits, min_fec_k, max_bits, max_channel_id, max_codeword, max_exponent, max_fec_k, max_fec_t, max_guard, max_maintenance_every, max_minislot_log2, max_preamble, max_rate_log2, max_request_minislots, max_reserve_minislots, max_short_minislots, max_station_minislots, max_ucd_count}
 use Rattle.us_flows.specs.Keys.{Key, channel_keys, profile_keys, short_keys}
-use Rattle.us_flows.specs.Lawful.{Between, IsBackoff}
+use Rattle.us_flows.specs.Lawful.{IsBackoff}
 use Rattle.us_flows.specs.Documents.{number_at, number_in, items_at, items_of, table_of, pair_at, table_at, read_or}
-use Rattle.us_flows.specs.Shapes.{is_number, is_list, is_between, count, all_items, is_table, allows, lacks, strays}
+use Rattle.us_flows.specs.Shapes.{is_number, is_list, count, all_items, is_table, allows, lacks, strays}
 use Rattle.us_flows.specs.Checks.{lacks_within, is_table_without, profile_strays, channel_lacks, channel_strays}
 use Rattle.us_flows.specs.Reading.{profile_of, time_of, bursts_of}
 use Rattle.us_flows.proofs.ShapeLemmas.{value_kept, number_in_range, number_between, demands}
@@ -22,9 +23,9 @@ number_in_below least most (suc i) (item d ds) h =
     number_in_below least most i ds (and_parts (is_number least most d) (all_items (is_number least most) ds) h).1
 
 pub list_items : (fewest many : ℕ) (passes : Data → Bool) (d : Data) → is_list fewest many passes d ≡ true →
-    (Between fewest many (count (items_of d))) × (all_items passes (items_of d) ≡ true)
+    (IsInRange fewest many (count (items_of d))) × (all_items passes (items_of d) ≡ true)
 list_items fewest many passes (array ds) h =
-    let parts = and_parts (is_between fewest many (count ds)) (all_items passes ds) h in
+    let parts = and_parts (is_in_range fewest many (count ds)) (all_items passes ds) h in
     let bounds = and_parts (leb fewest (count ds)) (leb (count ds) many) parts.0 in
     ((leb-true fewest (count ds) bounds.0, leb-true (count ds) many bounds.1), parts.1)
 list_items fewest many passes (integer z) h = absurd (false≢true h)
@@ -37,7 +38,7 @@ list_items fewest many passes (table ms) h = absurd (false≢true h)
 pub list_in_range : (keys : List Key) (t : Members) (k : List ℕ) (fewest many : ℕ) (passes : Data → Bool) →
     lacks keys t ≡ false → strays keys t ≡ false → demands keys k ≡ true →
     ((d : Data) → allows keys k d ≡ is_list fewest many passes d) →
-    (Between fewest many (count (items_at k t))) × (all_items passes (items_at k t) ≡ true)
+    (IsInRange fewest many (count (items_at k t))) × (all_items passes (items_at k t) ≡ true)
 list_in_range keys t k fewest many passes whole ranged listed by_rule =
     let kept = value_kept keys k t whole ranged listed in
     rw kept.1 (list_items fewest many passes kept.0 (sym (by_rule kept.0) ∙ kept.2))
@@ -79,7 +80,7 @@ profile_is t whole h =
     }
 
 short_profile_is : (t : Members) → lacks short_keys t ≡ false → profile_strays short_keys t ≡ false →
-    IsBurstProfile (profile_of t) × Between 1 max_short_minislots (number_at (codes "max_minislots") t)
+    IsBurstProfile (profile_of t) × IsInRange 1 max_short_minislots (number_at (codes "max_minislots") t)
 unfolding short_keys profile_keys
 short_profile_is t whole h =
     let parts = or_parts (strays short_keys t) (nat_lt max_codeword (number_at (codes "fec_k") t + 2 * number_at
@@ -121,16 +122,16 @@ whole_within keys t k whole ranged listed by_rule h =
     rw kept.1 (whole_of_table keys kept.0 (sym (by_rule kept.0) ∙ kept.2) (rw kept.1 at h))
 
 pub record ChannelRanges (t : Members) : Type 0 where
-  pub id : Between 1 max_channel_id (number_at (codes "id") t)
+  pub id : IsInRange 1 max_channel_id (number_at (codes "id") t)
   pub bursts : IsChannelBursts (bursts_of t)
   pub ucd_count : number_at (codes "ucd_count") t ≤ max_ucd_count
   pub ranging : IsBackoff (pair_at (codes "ranging_backoff") t)
   pub data_backoff : IsBackoff (pair_at (codes "data_backoff") t)
-  pub request_minislots : Between 1 max_request_minislots (number_at (codes "request_minislots") t)
+  pub request_minislots : IsInRange 1 max_request_minislots (number_at (codes "request_minislots") t)
   pub contention_minislots : number_at (codes "contention_minislots") t ≤ max_reserve_minislots
   pub maintenance_minislots : number_at (codes "maintenance_minislots") t ≤ max_reserve_minislots
-  pub maintenance_every : Between 1 max_maintenance_every (number_at (codes "maintenance_every") t)
-  pub station_minislots : Between 1 max_station_minislots (number_at (codes "station_minislots") t)
+  pub maintenance_every : IsInRange 1 max_maintenance_every (number_at (codes "maintenance_every") t)
+  pub station_minislots : IsInRange 1 max_station_minislots (number_at (codes "station_minislots") t)
 
 pub channel_ranges : (t : Members) → channel_lacks t ≡ false → channel_strays t ≡ false → ChannelRanges t
 unfolding channel_keys channel_lacks channel_strays

@@ -2,6 +2,7 @@
 use Rattle.std.proofs.Common.{◌≡◌, ℕ, ◌+◌, ◌≤◌, ◌<◌, ◌==◌, pos, negsuc, Bool, true, false, ◌||◌, List, length, get_or, drop, codes, Option, Some, None, refl, sym, ◌∙◌, arith, inl, inr}
 use Rattle.std.proofs.lemmas.Bool.{and_parts, false≢true, cases_Bool, eqb-true}
 use Rattle.std.proofs.lemmas.List.{drop_more}
+use Rattle.std.specs.Int.{IsInRange}
 use Rattle.toml.specs.Data.{Data, string, integer, float, boolean, datetime, array, table, Members, get_member}
 use Rattle.toml.specs.declared.value.Value.{Value}
 use Rattle.toml.specs.View.{view, items_view}
@@ -9,7 +10,7 @@ use Rattle.us_flows.specs.Ranges.{min_interval_us, max_burst, max_channel_id, ma
 use Rattle.us_flows.specs.declared.flows.SchedulingType.{SchedulingType}
 use Rattle.us_flows.specs.declared.flows.SchedulingType.TheVariants.{BestEffort, NonRealTimePolling, RealTimePolling, ActivityDetection, UnsolicitedGrant}
 use Rattle.us_flows.specs.Keys.{Key, all_flow_keys, flow_keys}
-use Rattle.us_flows.specs.Lawful.{Between, IsUnit, HasNoGrants, HasNoOthers, HasNoSchedule, MakesNoRequests}
+use Rattle.us_flows.specs.Lawful.{IsUnit, HasNoGrants, HasNoOthers, HasNoSchedule, MakesNoRequests}
 use Rattle.us_flows.specs.Documents.{number_of, number_at, flag_of, flag_at, items_of, items_at, read_or}
 use Rattle.us_flows.specs.Reading.{kind_at, flow_of}
 use Rattle.us_flows.specs.Shapes.{is_number, is_unit, is_number_list, count, all_items, allows, lacks, strays}
@@ -149,10 +150,10 @@ others_absent t UnsolicitedGrant r = unsolicited_others t r
 -- The ranges that all types have.
 
 pub record FlowRanges (t : Members) : Type 0 where
-  pub id : Between 1 max_id (number_at (codes "id") t)
-  pub channels : Between 1 max_channels_of_flow (count (items_at (codes "channels") t))
+  pub id : IsInRange 1 max_id (number_at (codes "id") t)
+  pub channels : IsInRange 1 max_channels_of_flow (count (items_at (codes "channels") t))
   pub channel_ids : all_items (is_number 1 max_channel_id) (items_at (codes "channels") t) ≡ true
-  pub clusters : Between 1 max_clusters_of_flow (count (items_at (codes "clusters") t))
+  pub clusters : IsInRange 1 max_clusters_of_flow (count (items_at (codes "clusters") t))
   pub sids : all_items (is_number_list 1 max_unicast_sid) (items_at (codes "clusters") t) ≡ true
   pub priority : number_at (codes "priority") t ≤ max_priority
   pub rate : number_at (codes "rate") t ≤ max_rate

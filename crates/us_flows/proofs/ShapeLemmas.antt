@@ -6,9 +6,9 @@ use Rattle.std.specs.Ordering.{match_ordering}
 use Rattle.std.proofs.lemmas.Bool.{cases_Bool, or_parts, and_parts, leb-true, false≢true}
 use Rattle.std.proofs.lemmas.Map.Text.{is_eq-slice_cmp}
 use Rattle.std.proofs.lemmas.Slice.Eq.{bytes_eq-Decides}
+use Rattle.std.specs.Int.{IsInRange}
 use Rattle.toml.specs.Data.{Data, string, integer, float, boolean, datetime, array, table, Items, no_items, item, Members, no_members, member, get_member}
 use Rattle.us_flows.specs.Keys.{Key}
-use Rattle.us_flows.specs.Lawful.{Between}
 use Rattle.us_flows.specs.Documents.{number_of, number_at, numbers_of, lists_of, read_or}
 use Rattle.us_flows.specs.Shapes.{is_number, count, allows, lacks, strays, is_optional}
 
@@ -79,7 +79,7 @@ value_kept keys k t whole ranged listed =
     let there = not_lacking keys k t whole listed in
     (there.0, there.1, found_allowed keys k there.0 t ranged there.1)
 
-pub number_between : (least most : ℕ) (d : Data) → is_number least most d ≡ true → Between least most (number_of d)
+pub number_between : (least most : ℕ) (d : Data) → is_number least most d ≡ true → IsInRange least most (number_of d)
 number_between least most (integer (pos n)) h =
     let parts = and_parts (nat_le least n) (nat_le n most) h in
     (leb-true least n parts.0, leb-true n most parts.1)
@@ -93,7 +93,7 @@ number_between least most (table ms) h = absurd (false≢true h)
 
 pub number_in_range : (keys : List Key) (t : Members) (k : List ℕ) (least most : ℕ) →
     lacks keys t ≡ false → strays keys t ≡ false → demands keys k ≡ true →
-    ((d : Data) → allows keys k d ≡ is_number least most d) → Between least most (number_at k t)
+    ((d : Data) → allows keys k d ≡ is_number least most d) → IsInRange least most (number_at k t)
 number_in_range keys t k least most whole ranged listed by_rule =
     let kept = value_kept keys k t whole ranged listed in
     rw kept.1 (number_between least most kept.0 (sym (by_rule kept.0) ∙ kept.2))

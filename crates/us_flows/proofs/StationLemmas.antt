@@ -1,19 +1,19 @@
 -- A station's table without a fault in its shape: all its values are in their ranges.
 use Rattle.std.proofs.Common.{◌≡◌, ◌≤◌, false, codes, refl, arith}
+use Rattle.std.specs.Int.{IsInRange}
 use Rattle.toml.specs.Data.{Members}
 use Rattle.us_flows.specs.Ranges.{min_interval_us, max_channel_id, max_id, max_unicast_sid, max_us}
 use Rattle.us_flows.specs.Keys.{station_keys}
-use Rattle.us_flows.specs.Lawful.{Between}
 use Rattle.us_flows.specs.Documents.{number_at}
 use Rattle.us_flows.specs.Shapes.{lacks, strays}
 use Rattle.us_flows.proofs.ShapeLemmas.{number_in_range}
 
 pub record StationRanges (t : Members) : Type 0 where
-  pub id : Between 1 max_id (number_at (codes "id") t)
-  pub channel : Between 1 max_channel_id (number_at (codes "channel") t)
-  pub sid : Between 1 max_unicast_sid (number_at (codes "sid") t)
+  pub id : IsInRange 1 max_id (number_at (codes "id") t)
+  pub channel : IsInRange 1 max_channel_id (number_at (codes "channel") t)
+  pub sid : IsInRange 1 max_unicast_sid (number_at (codes "sid") t)
   pub start_us : number_at (codes "start_us") t ≤ max_us
-  pub interval_us : Between min_interval_us max_us (number_at (codes "interval_us") t)
+  pub interval_us : IsInRange min_interval_us max_us (number_at (codes "interval_us") t)
   pub jitter_us : number_at (codes "jitter_us") t ≤ max_us
 
 pub station_ranges : (t : Members) → lacks station_keys t ≡ false → strays station_keys t ≡ false → StationRanges t

@@ -7,6 +7,7 @@ use Rattle.std.proofs.lemmas.Bool.{cases_Bool, and_parts, or_parts, eqb-true, lt
 use Rattle.std.proofs.Math.Nat.{div-le_self}
 use Rattle.std.proofs.lemmas.Nat.{div-add-mod'}
 use Rattle.std.proofs.lemmas.List.{append-nil}
+use Rattle.std.specs.Int.{IsInRange}
 use Rattle.toml.specs.Data.{Data, string, integer, float, boolean, datetime, array, table, Items, no_items, item, Members, get_member}
 use Rattle.toml.specs.declared.value.Value.{Value}
 use Rattle.toml.specs.View.{items_view}
@@ -22,7 +23,7 @@ use Rattle.us_flows.specs.declared.faults.ConfigFault.{ConfigFault}
 use Rattle.us_flows.specs.Tables.{Tables, FlowTable, map_len, has_channel, channel_with, first_channel, sids_of}
 use Rattle.us_flows.specs.Clusters.{makes_requests, has_intervals}
 use Rattle.us_flows.specs.Keys.{top_keys}
-use Rattle.us_flows.specs.Lawful.{Between, AreApart, Fits, IsSchedule, IsChannel, IsRequesting, IsPolled, IsUnsolicited, IsScheduled, IsFlow, IsStation, AreTables}
+use Rattle.us_flows.specs.Lawful.{AreApart, Fits, IsSchedule, IsChannel, IsRequesting, IsPolled, IsUnsolicited, IsScheduled, IsFlow, IsStation, AreTables}
 use Rattle.us_flows.specs.Documents.{number_at, flag_at, numbers_of, lists_of, items_of, items_at, read_or}
 use Rattle.us_flows.specs.Shapes.{is_number, is_number_list, is_list, is_table, count, all_items, allows, lacks, strays}
 use Rattle.us_flows.specs.Checks.{first_of, top_checks, channel_shape, channel_rules, channel_fault, repeats, same_sid, is_taken, has_flow, flow_place, flow_shape, flow_names, grant_slots, is_too_long, flow_grants, flow_fault, station_shape, station_rules, station_fault, in_turn, channels_fault, flows_fault, stations_fault, first_fault}
@@ -40,9 +41,9 @@ use Rattle.us_flows.proofs.StationLemmas.{station_ranges}
 -- The top level.
 
 pub record TopRanges (doc : Members) : Type 0 where
-  pub round_ticks : Between 1 max_round_ticks (number_at (codes "round_ticks") doc)
-  pub lead_ticks : Between 1 max_lead_ticks (number_at (codes "lead_ticks") doc)
-  pub channels : Between 1 max_channels (count (items_at (codes "channel") doc))
+  pub round_ticks : IsInRange 1 max_round_ticks (number_at (codes "round_ticks") doc)
+  pub lead_ticks : IsInRange 1 max_lead_ticks (number_at (codes "lead_ticks") doc)
+  pub channels : IsInRange 1 max_channels (count (items_at (codes "channel") doc))
   pub flows : count (items_at (codes "flow") doc) ≤ max_flows
   pub stations : count (items_at (codes "station") doc) ≤ max_stations
 
@@ -117,7 +118,7 @@ whole_round round ticks h =
     omega (arith, none, parts)
 
 -- a round of whole minislots has one at least, and no more than it has ticks
-some_minislots : (round ticks : ℕ) → Between 1 max_round_ticks round → round / ticks * ticks ≡ round → Between 1 max_round_ticks (round / ticks)
+some_minislots : (round ticks : ℕ) → IsInRange 1 max_round_ticks round → round / ticks * ticks ≡ round → IsInRange 1 max_round_ticks (round / ticks)
 some_minislots round ticks range whole =
     (some (round / ticks) ticks whole, omega (arith, div-le_self round ticks, range.1))
   where
@@ -125,7 +126,7 @@ some_minislots round ticks range whole =
     some zero ticks h = absurd (omega (arith, h, range.0))
     some (suc len) ticks h = omega arith
 
-channel_is : (t : Tables) → Between 1 max_round_ticks t.round_ticks → (earlier : List Channel) (m : Members) →
+channel_is : (t : Tables) → IsInRange 1 max_round_ticks t.round_ticks → (earlier : List Channel) (m : Members) →
     channel_fault t.round_ticks earlier m ≡ None → IsChannel t (channel_of m)
 unfolding channel_fault
 channel_is t range earlier m h =
@@ -163,7 +164,7 @@ channels_stay_apart round earlier m h apart =
 -- Flows.
 
 all_between : (least most : ℕ) (items : Items) → all_items (is_number least most) items ≡ true →
-    AllByRecursion (Between least most) (numbers_of items)
+    AllByRecursion (IsInRange least most) (numbers_of items)
 all_between least most no_items h = tt
 all_between least most (item d ds) h =
     let parts = and_parts (is_number least most d) (all_items (is_number least most) ds) h in
@@ -171,7 +172,7 @@ all_between least most (item d ds) h =
 
 all_clusters : (n : ℕ) (items : Items) → all_items (is_number_list 1 max_unicast_sid) items ≡ true →
     list_all (λ sids. length sids == n) (lists_of items) ≡ true →
-    AllByRecursion (λ sids. (length sids ≡ n) × AllByRecursion (Between 1 max_unicast_sid) sids) (lists_of items)
+    AllByRecursion (λ sids. (length sids ≡ n) × AllByRecursion (IsInRange 1 max_unicast_sid) sids) (lists_of items)
 all_clusters n no_items h k = tt
 all_clusters n (item d ds) h k =
     let sids : List ℕ = numbers_of (items_of d) in

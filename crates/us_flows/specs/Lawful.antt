@@ -1,6 +1,7 @@
 -- What holds of all tables that are accepted: their ranges, and what one table has to do with another.
 use Rattle.std.specs.Prelude.{◌≡◌, ◌≢◌, ◌⊎◌, ℕ, ◌+◌, ◌*◌, ◌<◌, ◌≤◌, ⊤, true, false, List, [], ◌∷◌, length, map, flat_map, Option, Some, None}
 use Rattle.std.specs.List.{AllByRecursion}
+use Rattle.std.specs.Int.{IsInRange}
 use Rattle.us_slots.specs.Times.{minislot_ticks}
 use Rattle.us_slots.specs.Bursts.{IsChannelBursts, burst_cost}
 use Rattle.us_flows.specs.Ranges.{max_channels, max_flows, max_stations, max_round_ticks, max_lead_ticks, max_channel_id, max_ucd_count, max_exponent, max_request_minislots, max_station_minislots, max_maintenance_every, max_id, max_unicast_sid, max_channels_of_flow, max_clusters_of_flow, max_priority, max_rate, max_burst, max_unit, max_grant_bytes, max_grants, min_interval_us, max_us}
@@ -9,10 +10,6 @@ use Rattle.us_flows.specs.declared.stations.Station.{Station}
 use Rattle.us_flows.specs.declared.flows.SchedulingType.{SchedulingType}
 use Rattle.us_flows.specs.declared.flows.SchedulingType.TheVariants.{BestEffort, NonRealTimePolling, RealTimePolling, ActivityDetection, UnsolicitedGrant}
 use Rattle.us_flows.specs.Tables.{Tables, FlowTable, map_len, has_channel, channel_with, first_channel, sids_of}
-
--- a number is from the least to the most one
-abbrev pub Between : ℕ → ℕ → ℕ → Type 0
-Between least most n = (least ≤ n) × (n ≤ most)
 
 -- no item stands in a list twice
 abbrev pub AreApart : {A : Type 0} → List A → Type 0
@@ -25,16 +22,16 @@ pub record IsBackoff (b : List ℕ) : Type 0 where
   pub each : AllByRecursion (λ exponent. exponent ≤ max_exponent) b
 
 pub record IsChannel (t : Tables) (c : Channel) : Type 0 where
-  pub id : Between 1 max_channel_id c.id
+  pub id : IsInRange 1 max_channel_id c.id
   pub bursts : IsChannelBursts c.bursts
   pub ucd_count : c.ucd_count ≤ max_ucd_count
   pub ranging_backoff : IsBackoff c.ranging_backoff
   pub data_backoff : IsBackoff c.data_backoff
-  pub request_minislots : Between 1 max_request_minislots c.request_minislots
-  pub maintenance_every : Between 1 max_maintenance_every c.maintenance_every
-  pub station_minislots : Between 1 max_station_minislots c.station_minislots
+  pub request_minislots : IsInRange 1 max_request_minislots c.request_minislots
+  pub maintenance_every : IsInRange 1 max_maintenance_every c.maintenance_every
+  pub station_minislots : IsInRange 1 max_station_minislots c.station_minislots
   -- a MAP has a minislot at least, and a round is a whole number of them
-  pub len : Between 1 max_round_ticks (map_len t c)
+  pub len : IsInRange 1 max_round_ticks (map_len t c)
   pub whole : map_len t c * minislot_ticks c.bursts.time ≡ t.round_ticks
   -- and both reserves together have room in it
   pub reserves : c.maintenance_minislots + c.contention_minislots ≤ map_len t c
@@ -51,7 +48,7 @@ IsUnit n = (n ≡ 1) ⊎ ((n ≡ 2) ⊎ ((n ≡ 4) ⊎ ((n ≡ 8) ⊎ (n ≡ 16)
 -- when intervals begin, how long they are, and the jitter, which is below that, in microseconds
 pub record IsSchedule (start_us interval_us jitter_us : ℕ) : Type 0 where
   pub start : start_us ≤ max_us
-  pub interval : Between min_interval_us max_us interval_us
+  pub interval : IsInRange min_interval_us max_us interval_us
   pub jitter : jitter_us < interval_us
 
 -- a flow that makes requests; under a maximum rate its minimum rate is at most that, and without segment headers it has
@@ -114,15 +111,15 @@ IsScheduled t f ActivityDetection = IsUnsolicited t f × IsPolled t f
 IsScheduled t f UnsolicitedGrant = IsUnsolicited t f
 
 pub record IsFlow (t : Tables) (f : FlowTable) : Type 0 where
-  pub id : Between 1 max_id f.id
+  pub id : IsInRange 1 max_id f.id
   -- each of its channels is one of the table, and is there once
-  pub some_channels : Between 1 max_channels_of_flow (length f.channels)
+  pub some_channels : IsInRange 1 max_channels_of_flow (length f.channels)
   pub channels : AllByRecursion (λ id. has_channel t.channels id ≡ true) f.channels
   pub apart : AreApart f.channels
   -- a cluster has a SID for each channel
-  pub some_clusters : Between 1 max_clusters_of_flow (length f.clusters)
+  pub some_clusters : IsInRange 1 max_clusters_of_flow (length f.clusters)
   pub sids : AllByRecursion
-      (λ sids. (length sids ≡ length f.channels) × AllByRecursion (Between 1 max_unicast_sid) sids) f.clusters
+      (λ sids. (length sids ≡ length f.channels) × AllByRecursion (IsInRange 1 max_unicast_sid) sids) f.clusters
   -- whatever its type is,
   pub priority : f.priority ≤ max_priority
   pub rate : f.rate ≤ max_rate
@@ -139,19 +136,19 @@ pub record IsFlow (t : Tables) (f : FlowTable) : Type 0 where
   pub others : HasNoOthers f f.kind
 
 pub record IsStation (t : Tables) (s : Station) : Type 0 where
-  pub id : Between 1 max_id s.id
+  pub id : IsInRange 1 max_id s.id
   pub channel : has_channel t.channels s.channel ≡ true
-  pub sid : Between 1 max_unicast_sid s.sid
+  pub sid : IsInRange 1 max_unicast_sid s.sid
   pub schedule : IsSchedule s.start_us s.interval_us s.jitter_us
   pub maintenance : Fits t (λ channel. channel.station_minislots) (channel_with t.channels s.channel)
 
 pub record AreTables (t : Tables) : Type 0 where
-  pub round_ticks : Between 1 max_round_ticks t.round_ticks
-  pub lead_ticks : Between 1 max_lead_ticks t.lead_ticks
+  pub round_ticks : IsInRange 1 max_round_ticks t.round_ticks
+  pub lead_ticks : IsInRange 1 max_lead_ticks t.lead_ticks
   pub channels : AllByRecursion (IsChannel t) t.channels
   pub flows : AllByRecursion (IsFlow t) t.flows
   pub stations : AllByRecursion (IsStation t) t.stations
-  pub some_channels : Between 1 max_channels (length t.channels)
+  pub some_channels : IsInRange 1 max_channels (length t.channels)
   pub few_flows : length t.flows ≤ max_flows
   pub few_stations : length t.stations ≤ max_stations
   -- ids are apart, and on a channel no SID belongs to two clusters

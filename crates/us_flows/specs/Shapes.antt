@@ -1,17 +1,15 @@
 -- The shape of one table: the keys that it has to have, and what their values may be.
-use Rattle.std.specs.Prelude.{ℕ, ◌+◌, pos, Bool, true, false, not, ◌==◌, nat_le, ◌&&◌, ◌||◌, if◌then◌else◌, List, [], ◌∷◌, is_none}
+use Rattle.std.specs.Prelude.{ℕ, ◌+◌, pos, Bool, true, false, not, ◌==◌, ◌&&◌, ◌||◌, if◌then◌else◌, List, [], ◌∷◌, is_none}
+use Rattle.std.specs.Int.{is_in_range}
 use Rattle.std.specs.Str.{bytes_eq}
 use Rattle.toml.specs.Data.{Data, integer, boolean, array, table, Items, no_items, item, Members, no_members, member, get_member}
 use Rattle.us_flows.specs.declared.keys.Rule.{Rule}
 use Rattle.us_flows.specs.declared.keys.Rule.TheVariants as rule
 use Rattle.us_flows.specs.Keys.{Key}
 
-abbrev pub is_between : ℕ → ℕ → ℕ → Bool
-is_between least most n = nat_le least n && nat_le n most
-
 -- a whole number in the range
 abbrev pub is_number : ℕ → ℕ → Data → Bool
-is_number least most (integer (pos n)) = is_between least most n
+is_number least most (integer (pos n)) = is_in_range least most n
 is_number least most _ = false
 
 -- 2, 3, 4, 5 or 6, as the standard numbers scheduling types
@@ -43,7 +41,7 @@ all_items passes (item d ds) = passes d && all_items passes ds
 
 -- a list of so many items that each pass a test
 abbrev pub is_list : ℕ → ℕ → (Data → Bool) → Data → Bool
-is_list fewest most passes (array ds) = is_between fewest most (count ds) && all_items passes ds
+is_list fewest most passes (array ds) = is_in_range fewest most (count ds) && all_items passes ds
 is_list fewest most passes _ = false
 
 -- a list, of any length, of numbers in the range

@@ -1,4 +1,5 @@
 ghost use Rattle.std.specs.Prelude.{◌≡◌};
+ghost use Rattle.std.specs.Int.{is_in_range};
 ghost use Rattle.toml.specs.View.{view, table_view, items_view};
 ghost use Rattle.us_flows.specs.Keys.{keys_of, flow_keys};
 ghost use Rattle.us_flows.specs.Shapes;
@@ -127,7 +128,7 @@ fn is_unit(value: &Value) -> bool
 /// Whether there are from `fewest` to `most` items.
 #[tactic(auto, using(crate::proofs::DocumentLemmas::count_view))]
 fn are_so_many(items: &[Value], fewest: u32, most: u32) -> bool
-    ensures { result ≡ Shapes.is_between fewest most (Shapes.count (items_view items.now)) }
+    ensures { result ≡ is_in_range fewest most (Shapes.count (items_view items.now)) }
 {
     fewest as usize <= items.len() && items.len() <= most as usize
 }

@@ -4,11 +4,12 @@ use Rattle.std.specs.Prelude.{zip, filter, filter_map, option_map, option_and_th
 use Rattle.std.specs.List.{AllByRecursion, cons_option}
 use Rattle.std.proofs.lemmas.List.{append-nil, take_all, drop_all, drop_more, length-append}
 use Rattle.std.proofs.lemmas.Option.{slice_get-get_or, slice_get-map, slice_get_past}
+use Rattle.std.specs.Int.{IsInRange}
 use Rattle.us_flows.specs.declared.turns.Turn as places
 use Rattle.us_flows.specs.Tables.{Tables, FlowTable}
 use Rattle.us_flows.specs.Turns.{turn_at, in_flow}
 use Rattle.us_flows.specs.Clusters.{turns_of}
-use Rattle.us_flows.specs.Lawful.{AreTables, IsFlow, Between}
+use Rattle.us_flows.specs.Lawful.{AreTables, IsFlow}
 use Rattle.us_output.specs.Outputs.{first_sid}
 use Rattle.us_output.specs.Leftovers.{still_asking, still_asking_at}
 use Rattle.us_output.proofs.PartLemmas.{all_found, all_weaker}
@@ -165,7 +166,7 @@ pub known_sids : (t : Tables) (place : ℕ) (flow : FlowTable) → AreTables t �
     AllByRecursion (λ sids. AllByRecursion (λ sid. sid < 2 ^ 14) sids) flow.clusters
 known_sids t place flow lawful found =
     let is : IsFlow t flow = all_found (IsFlow t) t.flows place flow lawful.flows found in
-    all_weaker (λ (sids : List ℕ). (length sids ≡ length flow.channels) × AllByRecursion (Between 1 15871) sids)
+    all_weaker (λ (sids : List ℕ). (length sids ≡ length flow.channels) × AllByRecursion (IsInRange 1 15871) sids)
     (λ sids. AllByRecursion (λ sid. sid < 2 ^ 14) sids)
-    (λ sids h. all_weaker (Between 1 15871) (λ sid. sid < 2 ^ 14) (λ sid b. omega (arith, b.1)) sids h.1)
+    (λ sids h. all_weaker (IsInRange 1 15871) (λ sid. sid < 2 ^ 14) (λ sid b. omega (arith, b.1)) sids h.1)
     flow.clusters is.sids

@@ -6,12 +6,13 @@ use Rattle.std.proofs.lemmas.Bool.{cases_Bool, cases_eq, cases_lt, eqb-true}
 use Rattle.std.proofs.lemmas.List.{get_or_past}
 use Rattle.std.proofs.lemmas.List.Elements.{All-from_recursion}
 use Rattle.std.proofs.lemmas.Option.{slice_get_within, get_or_from_slice_get}
+use Rattle.std.specs.Int.{IsInRange}
 use Rattle.us_slots.specs.Bursts.{IsChannelBursts, grant_cost}
 use Rattle.us_slots.proofs.CostLaws.{bytes_cost_minislots}
 use Rattle.us_flows.specs.declared.channels.Channel.{Channel}
 use Rattle.us_flows.specs.Tables.{Tables, has_channel, header_bytes}
 use Rattle.us_flows.specs.Clusters.{Turn, IsTurnIn}
-use Rattle.us_flows.specs.Lawful.{AreApart, AreTables, Between, IsChannel, IsFlow}
+use Rattle.us_flows.specs.Lawful.{AreApart, AreTables, IsChannel, IsFlow}
 use Rattle.us_flows.proofs.TurnLaws.{turns_of-turns}
 use Rattle.us_flows.proofs.TurnLemmas.{all-append}
 use Rattle.us_split.specs.Plans.{IsIdle, Planned, plan_for}
@@ -55,9 +56,9 @@ flow_of t turn lawful is = all_at (IsFlow t) t.flows turn.place turn.cluster.flo
 
 -- What holds of each claim.
 
-small_sid : (sids : List ℕ) (k : ℕ) → AllByRecursion (Between 1 15871) sids → slice_index sids k < 16384
+small_sid : (sids : List ℕ) (k : ℕ) → AllByRecursion (IsInRange 1 15871) sids → slice_index sids k < 16384
 small_sid sids k all = elim (cases_lt k (length sids)) [
-  | inl within ↦ omega (arith, (All-from_recursion (Between 1 15871) sids all k 0 within).1)
+  | inl within ↦ omega (arith, (All-from_recursion (IsInRange 1 15871) sids all k 0 within).1)
   | inr past ↦ omega (arith, get_or_past sids k 0 past)
 ]
 
@@ -77,7 +78,7 @@ claim_lawful t c place planned None bursts lawful is = tt
 claim_lawful t c place planned (Some k) bursts lawful is = elim (cases_eq (slice_index planned.shares k) 0) [
   | inl none ↦ rw (eq-eqb (slice_index planned.shares k) 0 none) tt
   | inr some ↦
-      let sids = all_at (λ sids. (length sids ≡ length planned.turn.cluster.flow.channels) × AllByRecursion (Between 1 15871) sids)
+      let sids = all_at (λ sids. (length sids ≡ length planned.turn.cluster.flow.channels) × AllByRecursion (IsInRange 1 15871) sids)
       planned.turn.cluster.flow.clusters planned.turn.cluster.list planned.turn.cluster.sids
       (flow_of t planned.turn lawful is.turn).sids is.turn.sids in
       let above : 1 ≤ slice_index planned.shares k = elim (cases_lt 0 (slice_index planned.shares k)) [

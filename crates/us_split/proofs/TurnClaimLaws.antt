@@ -4,11 +4,12 @@ use Rattle.std.specs.Prelude.{position, slice_index, option_and_then, option_to_
 use Rattle.std.specs.List.{AllByRecursion, list_any}
 use Rattle.std.proofs.lemmas.Bool.{cases_Bool}
 use Rattle.std.proofs.lemmas.List.Sums.{sum_by-append, sum_by-cons}
+use Rattle.std.specs.Int.{IsInRange}
 use Rattle.us_slots.specs.Bursts.{grant_cost}
 use Rattle.us_flows.specs.declared.channels.Channel.{Channel}
 use Rattle.us_flows.specs.Tables.{Tables, header_bytes}
 use Rattle.us_flows.specs.Clusters.{Turn, IsTurnIn, has_sid}
-use Rattle.us_flows.specs.Lawful.{AreTables, Between}
+use Rattle.us_flows.specs.Lawful.{AreTables}
 use Rattle.us_flows.proofs.TurnLaws.{turns_of-once, turns_of-turns}
 use Rattle.us_flows.proofs.TurnLemmas.{all-append}
 use Rattle.us_split.specs.Plans.{Planned, plan_for}
@@ -95,7 +96,7 @@ of_turn : (t : Tables) (c : Channel) (place : ℕ) (planned : Planned) (claim : 
     IsTurnIn t planned.turn → claim_on c place planned ≡ Some claim → IsOfTurn t c claim
 of_turn t c place planned claim lawful is at =
     let own = made c place planned claim at in
-    let sids = all_at (λ sids. (length sids ≡ length planned.turn.cluster.flow.channels) × AllByRecursion (Between 1 15871) sids)
+    let sids = all_at (λ sids. (length sids ≡ length planned.turn.cluster.flow.channels) × AllByRecursion (IsInRange 1 15871) sids)
     planned.turn.cluster.flow.clusters planned.turn.cluster.list planned.turn.cluster.sids
     (flow_of t planned.turn lawful is).sids is.sids in
     record {
