@@ -9,7 +9,7 @@ pub mod Entries
 pub mod Occurrences
 -- which flows are active, and which are silent
 pub mod Activity
--- what a round does with them
+-- what a round does with occurrences that are due
 pub mod Settling
 -- the calendar of a channel, from round to round
 pub mod Calendars

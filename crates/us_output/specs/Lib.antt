@@ -4,8 +4,9 @@
 
 -- the MAPs and the lines that a round comes to
 pub mod Outputs
--- the text of a line, and files
+-- the text of a line
 pub mod Lines
+-- what a round writes to each file
 pub mod Files
 -- who is pending, by what is outstanding before and after the grants; what boards keep
 pub mod Leftovers
