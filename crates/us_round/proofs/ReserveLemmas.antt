@@ -15,6 +15,7 @@ use Rattle.us_split.specs.Asking.{AgreeOn, asking_in, asks, turns_at}
 use Rattle.us_split.specs.Plans.{Ledger, Planned, after_turn, flow_bytes, plan_of, reserved_for, shares_of}
 use Rattle.us_split.specs.PlanLaws.{AreWithinReserves}
 use Rattle.us_split.proofs.AskingLaws.{turns_pass}
+use Rattle.us_split.proofs.MinRateLemmas.{reserved_within}
 use Rattle.us_split.proofs.PlanLawLemmas.{shares_of-asked}
 use Rattle.us_output.proofs.PartLemmas.{all_append}
 use Rattle.us_round.specs.Cores.{AreAllowed, AreReserved, flow_at, left_at, left_in}
@@ -253,7 +254,8 @@ left-is t turns outstanding allowances levels idle noted left these same asking 
         let inside : flow < length levels = slice_get_within levels flow l at in
         let own : slice_index (map reserve_in levels) flow ≡ reserve_in l =
         get_or-map reserve_in levels flow l 0 inside ∙ ap reserve_in (get_or_from_slice_get levels flow l l at) in
-        let most : reserved flow ≤ slice_index (map reserve_in levels) flow = within flow (omega (arith, inside, long)) in
+        let most : reserved flow ≤ slice_index (map reserve_in levels) flow =
+        omega (arith, within flow (omega (arith, inside, long)), reserved_within t.flows (map reserve_in levels) flow) in
         elim (left_found (λ f. slice_index noted f ≡ slice_index (map reserve_in levels) f) turns left these levels flow l are at) [
           | inl done ↦
               let spends : reserve_in l - slice_index left flow ≡ reserved flow =

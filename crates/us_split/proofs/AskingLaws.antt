@@ -8,9 +8,10 @@ use Rattle.us_flows.specs.declared.channels.Channel.{Channel}
 use Rattle.us_flows.specs.Tables.{Tables}
 use Rattle.us_flows.specs.Clusters.{Turn, turns_of}
 use Rattle.us_split.specs.Divisions.{divided}
-use Rattle.us_split.specs.Plans.{Budget, Ledger, Planned, at_most, weights, shares_of, lowered, allowed_less, after_turn, after_plan, plan_of, plan_for, ledger_of, first_limits, first_of, given_back, minus, more_shares, with_more, after_both, second_of, two_passes}
+use Rattle.us_split.specs.Plans.{Budget, Ledger, Planned, at_most, weights, shares_of, lowered, allowed_less, after_turn, after_plan, plan_of, plan_for, ledger_of, min_rate_reserves, first_limits, first_of, given_back, minus, more_shares, with_more, after_both, second_of, two_passes}
 use Rattle.us_split.specs.Claims.{Claim, all_claims, claim_on, claims_from, claims_on}
 use Rattle.us_split.specs.Asking.{AgreeOn, AskersClaim, TurnsPass, asking, asking_in, asks, claims_at, numbers_of, places_from, plan_of_askers, turns_at}
+use Rattle.us_split.proofs.MinRateLemmas.{rates_agree}
 use Rattle.us_split.proofs.OnePassLaws.{budgets_stay, ledger_stays, limit-at, limits-length, nothing_returned}
 use Rattle.us_split.proofs.PartialPlanLemmas.{no_claim, none_less}
 use Rattle.us_split.proofs.PlanLawLemmas.{plan_of-turns, planned_of, shares_of-asked}
@@ -371,8 +372,12 @@ askers_claim t outstanding known allowances known_reserves reserves idle c agree
     turns_pass (asks outstanding) turns in
     let agreed : AgreeOn (filter (λ turn. asks outstanding turn.number) turns) known allowances known_reserves reserves =
     subst (λ ts. AgreeOn ts known allowances known_reserves reserves) pass agree in
-    ap (λ ts. claims_at c (asking_in t outstanding) (two_passes outstanding (ledger_of t known idle) known_reserves ts)) pass ∙
-    passes_same t outstanding known allowances known_reserves reserves idle c agreed
+    ap (λ ts. claims_at c (asking_in t outstanding)
+    (two_passes outstanding (ledger_of t known idle) (min_rate_reserves t.flows known_reserves) ts)) pass ∙
+    passes_same t outstanding known allowances (min_rate_reserves t.flows known_reserves) (min_rate_reserves t.flows reserves)
+    idle c
+    (rates_agree t.flows (filter (λ turn. asks outstanding turn.number) (turns_of t)) known allowances known_reserves reserves
+    agreed)
 
 -- and so on all channels
 pub askers_claim_all : (t : Tables) (outstanding : List ℕ) (known allowances : List (Option ℕ)) (known_reserves reserves idle : List ℕ) →

@@ -5,6 +5,7 @@ pub mod TurnAtLemmas
 pub mod ShareLemmas
 pub mod PlanLawLemmas
 pub mod SecondPassLemmas
+pub mod MinRateLemmas
 pub mod OnePassLaws
 pub mod TwoPassLaws
 pub mod ClaimLemmas

@@ -10,9 +10,10 @@ use Rattle.us_flows.specs.Tables.{FlowTable}
 use Rattle.us_flows.specs.Clusters.{Turn, IsTurnIn, turns_of}
 use Rattle.us_flows.proofs.TurnLaws.{turns_of-turns}
 use Rattle.us_split.specs.Divisions.{divided}
-use Rattle.us_split.specs.Plans.{Budget, Ledger, Planned, at_most, weights, shares_of, cost_on, lowered, allowed_less, after_turn, after_plan, plan_of, plan_for, ledger_of, first_limits, first_of, given_back, plus, minus, more_shares, with_more, after_both, second_of, two_passes}
+use Rattle.us_split.specs.Plans.{Budget, Ledger, Planned, at_most, weights, shares_of, cost_on, lowered, allowed_less, after_turn, after_plan, plan_of, plan_for, ledger_of, min_rate_reserves, first_limits, first_of, given_back, plus, minus, more_shares, with_more, after_both, second_of, two_passes}
 use Rattle.us_split.specs.Laws.{OnePassDoes}
 use Rattle.us_split.proofs.DivisionLemmas.{sum-cons}
+use Rattle.us_split.proofs.MinRateLemmas.{reserved_within}
 use Rattle.us_split.proofs.PartialPlanLemmas.{no_cost, none_less}
 use Rattle.us_split.proofs.PlanLawLemmas.{at_most-le, plan_of-turns, planned_of, shares_of-allowed}
 use Rattle.us_split.proofs.SecondPassLemmas.{HasOneEach, more-length}
@@ -180,12 +181,18 @@ nothing_first allowances reserves place within none =
 pub one_pass_does : OnePassDoes
 unfolding plan_for
 one_pass_does t outstanding allowances reserves idle flows none =
-    one_pass outstanding (ledger_of t allowances idle) reserves (turns_of t) (limits (turns_of t) (turns_of-turns t))
+    one_pass outstanding (ledger_of t allowances idle) (min_rate_reserves t.flows reserves) (turns_of t)
+    (limits (turns_of t) (turns_of-turns t))
   where
-    limits : (turns : List Turn) → AllByRecursion (IsTurnIn t) turns → NothingFirst allowances reserves turns
+    none_at : (place : ℕ) → slice_index (min_rate_reserves t.flows reserves) place ≡ 0
+    none_at place = omega (arith, reserved_within t.flows reserves place, none_reserved reserves place none)
+
+    limits : (turns : List Turn) → AllByRecursion (IsTurnIn t) turns →
+        NothingFirst allowances (min_rate_reserves t.flows reserves) turns
     limits [] all = tt
     limits (turn ∷ turns) all =
         let within = slice_get_within t.flows turn.place turn.cluster.flow all.0.flow in (
-          nothing_first allowances reserves turn.place (omega (arith, flows, within)) (none_reserved reserves turn.place none),
+          nothing_first allowances (min_rate_reserves t.flows reserves) turn.place (omega (arith, flows, within))
+              (none_at turn.place),
           limits turns all.1,
         )

@@ -1,5 +1,5 @@
 -- Two passes by rows, step by step: what a turn does to a pass, and one turn more.
-use Rattle.std.proofs.Common.{◌≡◌, ℕ, zero, suc, ◌+◌, ◌-◌, ◌<◌, ◌||◌, Bool, false, nat_lt, min, List, [], ◌∷◌, ◌++◌, length, map, set, drop, replicate, get_or, Option, Some, None, option_map, slice_get, refl, sym, ap, ap₂, ◌∙◌, subst, inl, inr, arith}
+use Rattle.std.proofs.Common.{◌≡◌, ℕ, zero, suc, ◌+◌, ◌-◌, ◌<◌, ◌||◌, Bool, true, false, nat_lt, if◌then◌else◌, min, List, [], ◌∷◌, ◌++◌, length, map, set, drop, replicate, get_or, Option, Some, None, option_map, slice_get, refl, sym, ap, ap₂, ◌∙◌, subst, inl, inr, arith}
 use Rattle.std.specs.Prelude.{sum, slice_index, slice_index_or}
 use Rattle.std.proofs.Math.Seq.{get_or-append_seam}
 use Rattle.std.proofs.lemmas.Bool.{cases_lt}
@@ -11,7 +11,7 @@ use Rattle.us_split.specs.declared.turn_rows.Seat.{Seat}
 use Rattle.us_split.specs.Divisions.{divided}
 use Rattle.us_split.specs.Plans.{at_most, plus}
 use Rattle.us_split.specs.PartialPlans.{ChannelPlan, PartialPlan, taken}
-use Rattle.us_split.specs.TurnRows.{AreFirsts, FirstPass, FitsIf, FitsRow, TurnRow, at_seats, changed, first_in, is_reserved, more_at, more_in, partial_of, pass_of, put_from, returned_at, some_reserved, taken_at, weight_at, with_first_if, with_first_row, with_firsts, with_second_if, with_second_row, with_seconds}
+use Rattle.us_split.specs.TurnRows.{AreFirsts, FirstPass, FitsIf, FitsRow, TurnRow, at_seats, changed, first_in, is_reserved, more_at, more_in, partial_of, pass_of, put_from, reserve_for, returned_at, some_reserved, taken_at, weight_at, with_first_if, with_first_row, with_firsts, with_second_if, with_second_row, with_seconds}
 use Rattle.us_split.proofs.DivisionLemmas.{divided-length, sum-cons}
 use Rattle.us_split.proofs.PartialPlanLemmas.{none_divided, share-le-sum}
 use Rattle.us_split.proofs.RowPlanLemmas.{none_spent}
@@ -26,7 +26,7 @@ zeros (x ∷ xs) none =
 
 -- where a turn may have nothing its shares are 0,
 none_first : (row : TurnRow) (bytes : ℕ) (cs : List ChannelPlan) (allowances : List (Option ℕ)) (reserves : List ℕ) →
-    min (at_most (slice_index_or allowances row.asker.claimant.place None) bytes) (slice_index reserves row.asker.claimant.place) ≡ 0 →
+    min (at_most (slice_index_or allowances row.asker.claimant.place None) bytes) (reserve_for row reserves) ≡ 0 →
     first_in row bytes (partial_of cs allowances) reserves ≡ replicate (length row.seats) 0
 none_first row bytes cs allowances reserves none =
     let ws : List ℕ = map (λ (seat : Seat). weight_at row.asker.header cs seat.place) row.seats in
@@ -63,7 +63,7 @@ none_reserved reserves place bytes none =
 -- and change nothing
 pub nothing_first : (row : TurnRow) (bytes : ℕ) (shares : List ℕ) (cs : List ChannelPlan) (allowances : List (Option ℕ))
     (reserves : List ℕ) (firsts : List (List ℕ)) → shares ≡ replicate (length row.seats) 0 →
-    min (at_most (slice_index_or allowances row.asker.claimant.place None) bytes) (slice_index reserves row.asker.claimant.place) ≡ 0 →
+    min (at_most (slice_index_or allowances row.asker.claimant.place None) bytes) (reserve_for row reserves) ≡ 0 →
     pass_of cs allowances reserves (firsts ++ shares ∷ []) ≡ with_first_row row bytes (pass_of cs allowances reserves firsts)
 nothing_first row bytes shares cs allowances reserves firsts are none =
     let own : List ℕ = first_in row bytes (partial_of cs allowances) reserves in
@@ -112,8 +112,11 @@ firsts_more rows places firsts items shares place i row all long here within at 
 -- whether something is reserved for the turn at a place, or for those after it
 none_at : (reserves : List ℕ) (found : Option TurnRow) → length reserves ≡ 0 → is_reserved found reserves ≡ false
 none_at reserves None none = refl
-none_at reserves (Some row) none =
-    ap (λ n. nat_lt 0 n) (get_or_past reserves row.asker.claimant.place 0 (omega (arith, none)))
+none_at reserves (Some row) none = by row.has_min_rate
+  where
+    by : (has : Bool) → nat_lt 0 (if has then slice_index reserves row.asker.claimant.place else 0) ≡ false
+    by true = ap (λ n. nat_lt 0 n) (get_or_past reserves row.asker.claimant.place 0 (omega (arith, none)))
+    by false = refl
 
 -- where no reserve is listed, nothing is reserved
 pub none_listed : (rows : List TurnRow) (reserves places : List ℕ) → length reserves ≡ 0 →
@@ -123,11 +126,11 @@ none_listed rows reserves (place ∷ places) none =
     ap (λ b. b || some_reserved rows reserves places) (none_at reserves (slice_get rows place) none)
     ∙ none_listed rows reserves places none
 
-pub reserved_at : (rows : List TurnRow) (reserves places : List ℕ) (i place flow bytes : ℕ) (row : TurnRow) →
+pub reserved_at : (rows : List TurnRow) (reserves places : List ℕ) (i place bytes : ℕ) (row : TurnRow) →
     AllByRecursion (λ place. place < length rows) places → i < length places → place ≡ get_or places i 0 →
-    row ≡ get_or rows place row → flow ≡ row.asker.claimant.place → bytes ≡ slice_index reserves flow →
+    row ≡ get_or rows place row → bytes ≡ reserve_for row reserves →
     some_reserved rows reserves (drop i places) ≡ (nat_lt 0 bytes || some_reserved rows reserves (drop (i + 1) places))
-reserved_at rows reserves places i place flow bytes row all some at row_at flow_at is =
+reserved_at rows reserves places i place bytes row all some at row_at is =
     let here : ℕ = get_or places i 0 in
     let rest : Bool = some_reserved rows reserves (drop (i + 1) places) in
     let within : here < length rows = All-from_recursion (λ place. place < length rows) places all i 0 some in
@@ -135,7 +138,7 @@ reserved_at rows reserves places i place flow bytes row all some at row_at flow_
     slice_get_read rows (length rows) here row refl within (row_at ∙ ap (λ n. get_or rows n row) at) in
     ap (some_reserved rows reserves) (drop_more places i 0 some) ∙
     ap (λ found. is_reserved found reserves || rest) found ∙
-    ap (λ n. nat_lt 0 n || rest) (sym (is ∙ ap (slice_index reserves) flow_at))
+    ap (λ n. nat_lt 0 n || rest) (sym is)
 
 -- The second pass.
 

@@ -16,15 +16,16 @@ use Rattle.us_flows.specs.Lawful.{AreApart, AreTables, IsFlow}
 use Rattle.us_flows.proofs.TurnLaws.{turns_of-turns}
 use Rattle.us_split.specs.declared.turn_rows.Seat.{Seat}
 use Rattle.us_split.specs.Divisions.{divided}
-use Rattle.us_split.specs.Plans.{IsIdle, Budget, Ledger, Planned, at_most, weights, shares_of, share_at, share_cost, cost_on, lowered, allowed_less, after_turn, after_plan, plan_of, plan_for, ledger_of, first_limits, first_of, given_back, minus, plus, more_shares, with_more, after_both, second_of, two_passes, flow_bytes, reserved_for}
+use Rattle.us_split.specs.Plans.{IsIdle, Budget, Ledger, Planned, at_most, weights, shares_of, share_at, share_cost, cost_on, lowered, allowed_less, after_turn, after_plan, plan_of, plan_for, ledger_of, min_rate_reserves, first_limits, first_of, given_back, minus, plus, more_shares, with_more, after_both, second_of, two_passes, flow_bytes, reserved_for}
 use Rattle.us_split.specs.Claims.{Claim, all_claims}
 use Rattle.us_split.specs.Asking.{AgreeOn, asking_in, asks, claims_at, plan_of_askers, turns_at}
 use Rattle.us_split.specs.PartialPlans.{Asker, ChannelPlan, IsPlaceOf, PartialPlan, asker_of, budget_in, idle_plan, ledger_in, most_slots, with_turn}
-use Rattle.us_split.specs.TurnRows.{FirstPass, TurnRow, at_seats, changed, cleared, first_in, first_pass, is_reserved, last_pass, more_in, no_firsts, partial_of, pass_of, place_of, put_from, returned_at, row_of, rows_from, seats_from, some_reserved, taken_at, weight_at, with_first_if, with_first_row, with_firsts, with_second_if, with_second_row, with_seconds}
+use Rattle.us_split.specs.TurnRows.{FirstPass, TurnRow, at_seats, changed, cleared, first_in, first_pass, is_reserved, last_pass, more_in, no_firsts, partial_of, pass_of, place_of, put_from, reserve_for, returned_at, row_of, rows_from, seats_from, some_reserved, taken_at, weight_at, with_first_if, with_first_row, with_firsts, with_second_if, with_second_row, with_seconds}
 use Rattle.us_split.proofs.AskingLaws.{AreIdle, asked_in, askers_claim_all, first_idle, first_same, limits_agree, turns_pass}
 use Rattle.us_split.proofs.ChannelPlanLemmas.{absent, claimed_turn, ids, later, not_first}
 use Rattle.us_split.proofs.ChannelShareLemmas.{first_place, later_place}
 use Rattle.us_split.proofs.ClaimLemmas.{all_at, flow_of}
+use Rattle.us_split.proofs.MinRateLemmas.{flow_reserve, rates_agree, reserved_less}
 use Rattle.us_split.proofs.OnePassLaws.{IsNone, NothingFirst, limit-at, none_in_first, nothing_first, one_pass}
 use Rattle.us_split.proofs.PartialPlanLemmas.{after_with, idle_budgets}
 use Rattle.us_split.proofs.PlanLawLemmas.{idle-budgets}
@@ -228,11 +229,11 @@ abbrev firsts_through : List Planned → FirstPass → FirstPass
 firsts_through [] pass = pass
 firsts_through (planned ∷ plan) pass = firsts_through plan (first_further planned pass)
 
--- what turns may plan with in the first pass
-abbrev limited_in : FirstPass → Ledger
-limited_in pass = record {
+-- what turns of these flows may plan with in the first pass
+abbrev limited_in : List FlowTable → FirstPass → Ledger
+limited_in flows pass = record {
   budgets = map budget_in pass.partial.channels;
-  allowances = first_limits pass.partial.allowances pass.reserves;
+  allowances = first_limits pass.partial.allowances (min_rate_reserves flows pass.reserves);
 }
 
 least_of_three : (allowance : Option ℕ) (bytes reserve : ℕ) →
@@ -245,26 +246,29 @@ first_shares : (t : Tables) (outstanding : List ℕ) (place : ℕ) (turn : Turn)
     IsTurnIn t turn → map (λ c. c.channel) pass.partial.channels ≡ t.channels →
     length pass.partial.allowances ≡ length t.flows →
     first_in (row_of t.channels place turn) (slice_index outstanding turn.number) pass.partial pass.reserves ≡
-    shares_of outstanding (limited_in pass) turn
+    shares_of outstanding (limited_in t.flows pass) turn
 unfolding shares_of weights
 first_shares t outstanding place turn pass lawful is same flows =
     let f : FlowTable = turn.cluster.flow in
     let bytes : ℕ = slice_index outstanding turn.number in
     let allowance : Option ℕ = slice_index_or pass.partial.allowances turn.place None in
-    let reserve : ℕ = slice_index pass.reserves turn.place in
+    let reserve : ℕ = reserve_for (row_of t.channels place turn) pass.reserves in
     let within = slice_get_within t.flows turn.place f is.flow in
-    let limit = limit-at pass.partial.allowances pass.reserves turn.place (omega (arith, within, flows)) in
+    let limit = limit-at pass.partial.allowances (min_rate_reserves t.flows pass.reserves) turn.place (omega (arith, within, flows)) in
+    let reserved : slice_index (min_rate_reserves t.flows pass.reserves) turn.place ≡ reserve =
+    flow_reserve t.flows pass.reserves turn.place f is.flow in
     ap₂ divided
-    (least_of_three allowance bytes reserve ∙ ap (λ most. at_most most bytes) (sym limit))
+    (least_of_three allowance bytes reserve ∙
+    ap (λ most. at_most most bytes) (sym (limit ∙ ap (λ n. Some (at_most allowance n)) reserved)))
     (weights_there t.channels (header_bytes f) 0 f.channels turn.cluster.sids pass.partial.channels same lawful.channels_apart
     (flow_of t turn lawful is).channels)
 
 first_step : (t : Tables) (outstanding : List ℕ) (place : ℕ) (turn : Turn) (pass : FirstPass) → AreTables t → IsTurnIn t turn →
     map (λ c. c.channel) pass.partial.channels ≡ t.channels → length pass.partial.allowances ≡ length t.flows →
     with_first_row (row_of t.channels place turn) (slice_index outstanding turn.number) pass ≡
-    first_further (record { turn = turn; shares = shares_of outstanding (limited_in pass) turn }) pass
+    first_further (record { turn = turn; shares = shares_of outstanding (limited_in t.flows pass) turn }) pass
 first_step t outstanding place turn pass lawful is same flows =
-    let shares : List ℕ = shares_of outstanding (limited_in pass) turn in
+    let shares : List ℕ = shares_of outstanding (limited_in t.flows pass) turn in
     let seats : List Seat = seats_from t.channels 0 turn.cluster.flow.channels turn.cluster.sids in
     ap (λ ss. pass_of (taken_at (header_bytes turn.cluster.flow) ss seats pass.partial.channels)
     (allowed_less (record { turn = turn; shares = ss }) pass.partial.allowances)
@@ -304,12 +308,15 @@ claims_taken : (planned : Planned) (f : Channel → List Claim) (cs : List Chann
 claims_taken planned f [] = refl
 claims_taken planned f (c ∷ cs) = ap (λ xs. (c.claims ++ f c.channel) ∷ xs) (claims_taken planned f cs)
 
-limited_after : (planned : Planned) (pass : FirstPass) → limited_in (first_further planned pass) ≡ after_turn (limited_in pass) planned
+limited_after : (flows : List FlowTable) (planned : Planned) (pass : FirstPass) →
+    limited_in flows (first_further planned pass) ≡ after_turn (limited_in flows pass) planned
 unfolding after_turn
-limited_after planned pass =
+limited_after flows planned pass =
     ap₂ (λ budgets allowances. let l : Ledger = record { budgets = budgets; allowances = allowances } in l)
     (budgets_taken planned pass.partial.channels)
-    (limits_less pass.partial.allowances pass.reserves planned.turn.place (sum planned.shares))
+    (ap (first_limits (allowed_less planned pass.partial.allowances))
+    (reserved_less flows pass.reserves planned.turn.place (sum planned.shares)) ∙
+    limits_less pass.partial.allowances (min_rate_reserves flows pass.reserves) planned.turn.place (sum planned.shares))
 
 -- all turns at places
 
@@ -329,14 +336,14 @@ module _ (t : Tables) (outstanding : List ℕ) (lawful : AreTables t) where
   pub firsts_of_rows : (places : List ℕ) (pass : FirstPass) → map (λ c. c.channel) pass.partial.channels ≡ t.channels →
       length pass.partial.allowances ≡ length t.flows → AllByRecursion (λ place. place < length all_turns) places →
       with_firsts all_rows outstanding places pass ≡
-      firsts_through (plan_of outstanding (limited_in pass) (turns_at all_turns places)) pass
+      firsts_through (plan_of outstanding (limited_in t.flows pass) (turns_at all_turns places)) pass
   unfolding plan_of
   firsts_of_rows [] pass same flows inside = refl
   firsts_of_rows (place ∷ places) pass same flows inside =
       let found = some_at all_turns place inside.0 in
       let turn : Turn = found.0 in
       let is : IsTurnIn t turn = all_at (IsTurnIn t) all_turns place turn (turns_of-turns t) found.1 in
-      let planned : Planned = record { turn = turn; shares = shares_of outstanding (limited_in pass) turn } in
+      let planned : Planned = record { turn = turn; shares = shares_of outstanding (limited_in t.flows pass) turn } in
       let next : FirstPass = first_further planned pass in
       let step : with_first_if (slice_get all_rows place) outstanding pass ≡ next =
       ap (λ o. with_first_if o outstanding pass) (row_found place turn found.1) ∙
@@ -347,8 +354,8 @@ module _ (t : Tables) (outstanding : List ℕ) (lawful : AreTables t) where
       length-set pass.partial.allowances turn.place (option_map (λ most. most - sum planned.shares) (slice_index_or pass.partial.allowances turn.place None)) ∙ flows in
       ap (with_firsts all_rows outstanding places) step ∙
       firsts_of_rows places next (channels_taken planned pass.partial.channels ∙ same) long inside.1 ∙
-      ap (λ l. firsts_through (plan_of outstanding l (turns_at all_turns places)) next) (limited_after planned pass) ∙
-      ap (λ ts. firsts_through (plan_of outstanding (limited_in pass) ts) pass) (sym rest)
+      ap (λ l. firsts_through (plan_of outstanding l (turns_at all_turns places)) next) (limited_after t.flows planned pass) ∙
+      ap (λ ts. firsts_through (plan_of outstanding (limited_in t.flows pass) ts) pass) (sym rest)
 
 -- what it comes to
 
@@ -554,27 +561,36 @@ module _ (t : Tables) (outstanding : List ℕ) (places reserves : List ℕ) (par
   abbrev rows : List TurnRow
   rows = rows_from t.channels 0 (turns_of t)
 
+  -- what is reserved for flows with a minimum rate
+  abbrev kept : List ℕ
+  kept = min_rate_reserves t.flows reserves
+
   abbrev firsts : List Planned
-  firsts = first_of outstanding (ledger_in partial) reserves these
+  firsts = first_of outstanding (ledger_in partial) kept these
 
   -- where nothing is reserved for these turns the first pass gives nothing
   nothing_at : (places : List ℕ) → AllByRecursion (λ place. place < length (turns_of t)) places →
-      some_reserved rows reserves places ≡ false → NothingFirst partial.allowances reserves (turns_at (turns_of t) places)
+      some_reserved rows reserves places ≡ false → NothingFirst partial.allowances kept (turns_at (turns_of t) places)
   nothing_at [] inside none = tt
   nothing_at (place ∷ places) inside none =
       let found = some_at (turns_of t) place inside.0 in
       let turn : Turn = found.0 in
       let is : IsTurnIn t turn = all_at (IsTurnIn t) (turns_of t) place turn (turns_of-turns t) found.1 in
       let within = slice_get_within t.flows turn.place turn.cluster.flow is.flow in
-      let here : (nat_lt 0 (slice_index reserves turn.place) || some_reserved rows reserves places) ≡ false =
+      let own : ℕ = reserve_for (row_of t.channels place turn) reserves in
+      let here : (nat_lt 0 own || some_reserved rows reserves places) ≡ false =
       ap (λ o. is_reserved o reserves || some_reserved rows reserves places) (sym (row_found t outstanding lawful place turn found.1)) ∙ none in
-      let parts = both_false (nat_lt 0 (slice_index reserves turn.place)) (some_reserved rows reserves places) here in
-      let empty : slice_index reserves turn.place ≡ 0 = omega (arith, ltb-false 0 (slice_index reserves turn.place) parts.0) in
+      let parts = both_false (nat_lt 0 own) (some_reserved rows reserves places) here in
+      let empty : slice_index kept turn.place ≡ 0 =
+      flow_reserve t.flows reserves turn.place turn.cluster.flow is.flow ∙ none_above own parts.0 in
       let rest : turns_at (turns_of t) (place ∷ places) ≡ turn ∷ turns_at (turns_of t) places =
       ap (λ o. cons_option o (turns_at (turns_of t) places)) found.1 in
-      subst (NothingFirst partial.allowances reserves) (sym rest)
-      (nothing_first partial.allowances reserves turn.place (omega (arith, within, flows)) empty, nothing_at places inside.1 parts.1)
+      subst (NothingFirst partial.allowances kept) (sym rest)
+      (nothing_first partial.allowances kept turn.place (omega (arith, within, flows)) empty, nothing_at places inside.1 parts.1)
     where
+      none_above : (n : ℕ) → nat_lt 0 n ≡ false → n ≡ 0
+      none_above n is = omega (arith, ltb-false 0 n is)
+
       both_false : (a b : Bool) → (a || b) ≡ false → (a ≡ false) × (b ≡ false)
       both_false true b is = let no : true ≡ false = is in cc
       both_false false b is = (refl, is)
@@ -582,14 +598,14 @@ module _ (t : Tables) (outstanding : List ℕ) (places reserves : List ℕ) (par
   pub claims_of_passes : AllByRecursion IsBudget (map budget_in partial.channels) →
       AreApart (map (λ b. b.channel.id) (map budget_in partial.channels)) →
       map (λ c. c.claims) (last_pass rows outstanding places partial reserves).channels ≡
-      map (λ c. c.claims ++ claims_at c.channel places (two_passes outstanding (ledger_in partial) reserves these)) partial.channels
+      map (λ c. c.claims ++ claims_at c.channel places (two_passes outstanding (ledger_in partial) kept these)) partial.channels
   unfolding two_passes
   claims_of_passes budgets apart = elim (cases_Bool (some_reserved rows reserves places)) [
     | inr none ↦
         rw none
         (claims_of_rows t outstanding places partial lawful same inside ∙
         ap (λ plan. map (λ c. c.claims ++ claims_at c.channel places plan) partial.channels)
-        (sym (one_pass outstanding (ledger_in partial) reserves these (nothing_at places inside none))))
+        (sym (one_pass outstanding (ledger_in partial) kept these (nothing_at places inside none))))
     | inl some ↦
         let pass : FirstPass = firsts_through firsts (no_firsts partial reserves) in
         let passed : with_firsts rows outstanding places (no_firsts partial reserves) ≡ pass =
@@ -599,12 +615,12 @@ module _ (t : Tables) (outstanding : List ℕ) (places reserves : List ℕ) (par
         through-ledger firsts (no_firsts partial reserves) in
         let held : AllByRecursion (IsHeld firsts) (map budget_in pass.partial.channels) =
         subst (λ (l : Ledger). AllByRecursion (IsHeld firsts) l.budgets) (sym ledger)
-        (held_after outstanding (ledger_in partial) reserves these budgets apart) in
+        (held_after outstanding (ledger_in partial) kept these budgets apart) in
         rw some
         (ap (λ (p : FirstPass). map (λ c. c.claims) (with_seconds rows outstanding places p.firsts p.partial).channels) passed ∙
         ap (λ fs. map (λ c. c.claims) (with_seconds rows outstanding places fs pass.partial).channels) shares ∙
         seconds_of_rows t outstanding lawful places firsts pass.partial
-        (planned_placed outstanding (turns_of t) (limited_in (no_firsts partial reserves)) places inside)
+        (planned_placed outstanding (turns_of t) (limited_in t.flows (no_firsts partial reserves)) places inside)
         (through-channels firsts (no_firsts partial reserves) ∙ same) held ∙
         ap (λ l. map (λ c. c.claims ++ claims_at c.channel places (second_of outstanding l firsts)) pass.partial.channels) ledger ∙
         through-claims firsts (no_firsts partial reserves)
@@ -626,7 +642,7 @@ module _ (t : Tables) (outstanding : List ℕ) (places reserves : List ℕ) (par
   reserves_of_passes place = elim (cases_Bool (some_reserved rows reserves places)) [
     | inr none ↦
         let empty : flow_bytes firsts place ≡ 0 =
-        none_taken firsts place (none_in_first outstanding (ledger_in partial) reserves these (nothing_at places inside none)) in
+        none_taken firsts place (none_in_first outstanding (ledger_in partial) kept these (nothing_at places inside none)) in
         rw none (omega (arith, empty))
     | inl some ↦
         rw some
@@ -703,27 +719,31 @@ module _ (t : Tables) (outstanding askers idle : List ℕ) (known allowed : List
       claims_of_passes t outstanding places known_reserves start lawful own_start flows (askers_inside t outstanding) budgets
       apart ∙
       ap (λ bs. map (λ c. c.claims ++ claims_at c.channel places
-      (two_passes outstanding (record { budgets = bs; allowances = known }) known_reserves turns)) start.channels)
+      (two_passes outstanding (record { budgets = bs; allowances = known }) (min_rate_reserves t.flows known_reserves) turns))
+      start.channels)
       (idle_budgets t.channels idle) ∙
       idle_claims_by (λ c. claims_at c places (plan_of_askers t outstanding known known_reserves idle)) t.channels idle is.one_each ∙
       askers_claim_all t outstanding known allowed known_reserves reserves idle agreed
 
   first_bytes : (place : ℕ) →
-      flow_bytes (first_of outstanding (ledger_in start) known_reserves (turns_at (turns_of t) places)) place ≡
+      flow_bytes (first_of outstanding (ledger_in start) (min_rate_reserves t.flows known_reserves) (turns_at (turns_of t) places)) place ≡
       reserved_for t outstanding allowed reserves idle place
   unfolding reserved_for
   first_bytes place =
       let these : List Turn = filter (λ turn. asks outstanding turn.number) (turns_of t) in
       let pass : turns_at (turns_of t) places ≡ these = turns_pass (asks outstanding) (turns_of t) in
       let all : List Budget = (ledger_of t known idle).budgets in
-      let limited : Ledger = record { budgets = all; allowances = first_limits allowed reserves } in
-      ap (λ bs. flow_bytes (first_of outstanding (record { budgets = bs; allowances = known }) known_reserves (turns_at (turns_of t) places)) place)
+      let asked : List ℕ = min_rate_reserves t.flows known_reserves in
+      let kept : List ℕ = min_rate_reserves t.flows reserves in
+      let limited : Ledger = record { budgets = all; allowances = first_limits allowed kept } in
+      ap (λ bs. flow_bytes (first_of outstanding (record { budgets = bs; allowances = known }) asked (turns_at (turns_of t) places)) place)
       (idle_budgets t.channels idle) ∙
-      ap (λ ts. flow_bytes (first_of outstanding (ledger_of t known idle) known_reserves ts) place) pass ∙
+      ap (λ ts. flow_bytes (first_of outstanding (ledger_of t known idle) asked ts) place) pass ∙
       ap (λ plan. flow_bytes plan place)
-      (first_same outstanding (turns_of t) all (first_limits known known_reserves) (first_limits allowed reserves)
-      (limits_agree these known allowed known_reserves reserves
-      (subst (λ ts. AgreeOn ts known allowed known_reserves reserves) pass agreed))) ∙
+      (first_same outstanding (turns_of t) all (first_limits known asked) (first_limits allowed kept)
+      (limits_agree these known allowed asked kept
+      (rates_agree t.flows these known allowed known_reserves reserves
+      (subst (λ ts. AgreeOn ts known allowed known_reserves reserves) pass agreed)))) ∙
       asked_bytes outstanding (plan_of outstanding limited (turns_of t)) place (first_idle outstanding limited (turns_of t))
 
   pub reserves_of_round : (left : List ℕ) →

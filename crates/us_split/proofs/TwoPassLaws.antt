@@ -9,7 +9,7 @@ use Rattle.us_flows.specs.Tables.{Tables}
 use Rattle.us_flows.specs.Clusters.{Turn, turns_of}
 use Rattle.us_flows.specs.Lawful.{AreApart, AreTables}
 use Rattle.us_flows.proofs.TurnLaws.{turns_of-once}
-use Rattle.us_split.specs.Plans.{IsIdle, Budget, Ledger, Planned, at_most, budget_of, cost_on, after_turn, after_plan, plan_of, plan_for, ledger_of, first_limits, first_of, two_passes, flow_bytes, reserved_for}
+use Rattle.us_split.specs.Plans.{IsIdle, Budget, Ledger, Planned, at_most, budget_of, cost_on, after_turn, after_plan, plan_of, plan_for, ledger_of, min_rate_reserves, first_limits, first_of, two_passes, flow_bytes, reserved_for}
 use Rattle.us_split.specs.PlanLaws.{AreBursts, Within, AreWithinReserves, IsLawfulPlan, planned_bytes}
 use Rattle.us_split.proofs.OnePassLaws.{limit-at}
 use Rattle.us_split.proofs.PlanLawLemmas.{asked_by_cluster, at_most-le, at_most-within, idle_budgets, idle-budgets, idle-found, plan_of-allowed, plan_of-asked, plan_of-bursts, plan_of-room, plan_of-turns, planned_of}
@@ -153,22 +153,22 @@ plan_for-lawful t outstanding allowances reserves idle lawful is = record {
   room = λ place c at.
       let b : Budget = record { channel = c; slots = slice_index idle place } in
       let budget = idle-found t.channels idle place c is.one_each lawful.channels_apart at in
-      two_passes-room outstanding (ledger_of t allowances idle) reserves (turns_of t) b (found_budget (ledger_of t allowances idle).budgets c.id b budgets budget) budget;
+      two_passes-room outstanding (ledger_of t allowances idle) (min_rate_reserves t.flows reserves) (turns_of t) b (found_budget (ledger_of t allowances idle).budgets c.id b budgets budget) budget;
   asked = λ n.
-      let plan : List Planned = two_passes outstanding (ledger_of t allowances idle) reserves (turns_of t) in
+      let plan : List Planned = two_passes outstanding (ledger_of t allowances idle) (min_rate_reserves t.flows reserves) (turns_of t) in
       let count : ℕ = count_by (λ turn. turn.number == n) (turns_of t) in
       let once : count ≤ 1 = turns_of-once t n in
       let product : slice_index outstanding n * count ≤ slice_index outstanding n * 1 =
       mul-le (slice_index outstanding n) count (slice_index outstanding n) 1 (omega arith) once in
       let same : count_by (λ turn. turn.number == n) (map (λ planned. planned.turn) plan) ≡ count =
       ap (λ turns. count_by (λ turn. turn.number == n) turns)
-      (two_passes-turns outstanding (ledger_of t allowances idle) reserves (turns_of t)) in
+      (two_passes-turns outstanding (ledger_of t allowances idle) (min_rate_reserves t.flows reserves) (turns_of t)) in
       let within : planned_bytes (filter (λ planned. planned.turn.number == n) plan) ≤ slice_index outstanding n * count =
       subst (λ times. planned_bytes (filter (λ planned. planned.turn.number == n) plan) ≤ slice_index outstanding n * times) same
-      (asked_by_cluster outstanding plan n (two_passes-asked outstanding (ledger_of t allowances idle) reserves (turns_of t))) in
+      (asked_by_cluster outstanding plan n (two_passes-asked outstanding (ledger_of t allowances idle) (min_rate_reserves t.flows reserves) (turns_of t))) in
       omega (arith, within, product);
   allowed = λ place allowance at. allowed place allowance at;
-  bursts = two_passes-bursts outstanding (ledger_of t allowances idle) reserves (turns_of t) budgets
+  bursts = two_passes-bursts outstanding (ledger_of t allowances idle) (min_rate_reserves t.flows reserves) (turns_of t) budgets
       (subst AreApart (sym (idle_ids t.channels idle is.one_each)) lawful.channels_apart);
 }
   where
@@ -176,32 +176,32 @@ plan_for-lawful t outstanding allowances reserves idle lawful is = record {
     budgets = idle-budgets t t.channels idle lawful.round_ticks.1 lawful.channels is.within
 
     allowed : (place : ℕ) (allowance : Option ℕ) → slice_get allowances place ≡ Some allowance →
-        Within allowance (flow_bytes (two_passes outstanding (ledger_of t allowances idle) reserves (turns_of t)) place)
+        Within allowance (flow_bytes (two_passes outstanding (ledger_of t allowances idle) (min_rate_reserves t.flows reserves) (turns_of t)) place)
     allowed place None at = tt
     allowed place (Some most) at =
-        two_passes-allowed outstanding (ledger_of t allowances idle) reserves (turns_of t) place most (slice_get_within allowances place (Some most) at)
+        two_passes-allowed outstanding (ledger_of t allowances idle) (min_rate_reserves t.flows reserves) (turns_of t) place most (slice_get_within allowances place (Some most) at)
         (get_or_from_slice_get allowances place (Some most) None at)
 
--- and no more of a flow is taken in the first pass than is reserved
+-- and no more of a flow is taken in the first pass than is reserved, nothing of one without a minimum rate
 pub reserved-within : (t : Tables) (outstanding : List ℕ) (allowances : List (Option ℕ)) (reserves idle : List ℕ) →
     AreWithinReserves t outstanding allowances reserves idle
 unfolding reserved_for
 reserved-within t outstanding allowances reserves idle place within =
-    first-reserved outstanding (ledger_of t allowances idle) reserves (turns_of t) place within
+    first-reserved outstanding (ledger_of t allowances idle) (min_rate_reserves t.flows reserves) (turns_of t) place within
 
 -- the turns of a plan are those of the round,
 pub plan_for-turns : (t : Tables) (outstanding : List ℕ) (allowances : List (Option ℕ)) (reserves idle : List ℕ) →
     map (λ planned. planned.turn) (plan_for t outstanding allowances reserves idle) ≡ turns_of t
 unfolding plan_for
 plan_for-turns t outstanding allowances reserves idle =
-    two_passes-turns outstanding (ledger_of t allowances idle) reserves (turns_of t)
+    two_passes-turns outstanding (ledger_of t allowances idle) (min_rate_reserves t.flows reserves) (turns_of t)
 
 -- and each has a share for each channel of its flow
 pub plan_for-one_each : (t : Tables) (outstanding : List ℕ) (allowances : List (Option ℕ)) (reserves idle : List ℕ) →
     AllByRecursion HasOneEach (plan_for t outstanding allowances reserves idle)
 unfolding plan_for
 plan_for-one_each t outstanding allowances reserves idle =
-    two_passes-one_each outstanding (ledger_of t allowances idle) reserves (turns_of t)
+    two_passes-one_each outstanding (ledger_of t allowances idle) (min_rate_reserves t.flows reserves) (turns_of t)
 
 -- what the proof of `plan` rests on
 pub ruleset plan_facts = (plan_for-lawful, reserved-within)

@@ -5,7 +5,7 @@ use Rattle.us_flows.specs.declared.channels.Channel.{Channel}
 use Rattle.us_flows.specs.Tables.{Tables}
 use Rattle.us_flows.specs.Clusters.{Turn, turns_of, words_of}
 use Rattle.us_split.specs.Requested.{requested_at, with_cut}
-use Rattle.us_split.specs.Plans.{Planned, ledger_of, two_passes, plan_for}
+use Rattle.us_split.specs.Plans.{Planned, ledger_of, min_rate_reserves, two_passes, plan_for}
 use Rattle.us_split.specs.Claims.{Claim, claim_on, claims_on}
 
 -- Places.
@@ -98,7 +98,8 @@ asking_in t outstanding = asking outstanding (numbers_of (turns_of t))
 
 abbrev pub plan_of_askers : Tables → List ℕ → List (Option ℕ) → List ℕ → List ℕ → List Planned
 plan_of_askers t outstanding allowances reserves idle =
-    two_passes outstanding (ledger_of t allowances idle) reserves (turns_at (turns_of t) (asking_in t outstanding))
+    two_passes outstanding (ledger_of t allowances idle) (min_rate_reserves t.flows reserves)
+    (turns_at (turns_of t) (asking_in t outstanding))
 
 -- the claims on a channel of planned turns that have these places among all turns
 abbrev pub claims_at : Channel → List ℕ → List Planned → List Claim

@@ -119,40 +119,53 @@ no_room = (refl, refl)
 
 -- Reserves.
 
--- a channel with a flow of priority 7, and one of priority 0 with these clusters
-abbrev beside : List (List ℕ) → Tables
-beside clusters = record {
+-- a channel with a flow of priority 7 and without a minimum rate, and one of priority 0 with these clusters and this minimum
+-- rate
+abbrev beside : ℕ → List (List ℕ) → Tables
+beside min_rate clusters = record {
   round_ticks = 320;
   lead_ticks = 160;
   channels = channel 1 ∷ [];
   flows =
       record (flow (1 ∷ []) ((291 ∷ []) ∷ [])) { priority = 7 } ∷
-      record (flow (1 ∷ []) clusters) { id = 2 } ∷ [];
+      record (flow (1 ∷ []) clusters) { id = 2; burst = 1522; min_rate = min_rate } ∷ [];
   stations = [];
 }
 
 -- the shares of all turns, the flow of priority 7 first, where so much is reserved for the other one, and 150 minislots are
 -- idle
-abbrev shares_beside : List (List ℕ) → List ℕ → ℕ → List (List ℕ)
-shares_beside clusters outstanding reserve =
+abbrev shares_beside : ℕ → List (List ℕ) → List ℕ → ℕ → List (List ℕ)
+shares_beside min_rate clusters outstanding reserve =
     map (λ planned. planned.shares)
-    (plan_for (beside clusters) outstanding (None ∷ None ∷ []) (0 ∷ reserve ∷ []) (150 ∷ []))
+    (plan_for (beside min_rate clusters) outstanding (None ∷ None ∷ []) (0 ∷ reserve ∷ []) (150 ∷ []))
+
+-- and what is taken of that
+abbrev taken_beside : ℕ → List (List ℕ) → List ℕ → ℕ → ℕ
+taken_beside min_rate clusters outstanding reserve =
+    reserved_for (beside min_rate clusters) outstanding (None ∷ None ∷ []) (0 ∷ reserve ∷ []) (150 ∷ []) 1
 
 -- 1,530 bytes are 49 minislots, and the 101 that are left carry 3,216: a header, and 3,208 bytes. So 49 minislots are left
 -- for the reserved bytes and 22 more. 328 bytes are 11 minislots; without a reserve nothing is left
 one_reserve :
-    (shares_beside ((292 ∷ []) ∷ []) (262140 ∷ 10000 ∷ []) 1522 ≡ (3208 ∷ []) ∷ (1544 ∷ []) ∷ []) ×
-    (shares_beside ((292 ∷ []) ∷ []) (258932 ∷ 8456 ∷ []) 320 ≡ (4424 ∷ []) ∷ (328 ∷ []) ∷ []) ×
-    (shares_beside ((292 ∷ []) ∷ []) (262140 ∷ 10000 ∷ []) 0 ≡ (4776 ∷ []) ∷ (0 ∷ []) ∷ [])
+    (shares_beside 1280000 ((292 ∷ []) ∷ []) (262140 ∷ 10000 ∷ []) 1522 ≡ (3208 ∷ []) ∷ (1544 ∷ []) ∷ []) ×
+    (taken_beside 1280000 ((292 ∷ []) ∷ []) (262140 ∷ 10000 ∷ []) 1522 ≡ 1522) ×
+    (shares_beside 1280000 ((292 ∷ []) ∷ []) (258932 ∷ 8456 ∷ []) 320 ≡ (4424 ∷ []) ∷ (328 ∷ []) ∷ []) ×
+    (shares_beside 1280000 ((292 ∷ []) ∷ []) (262140 ∷ 10000 ∷ []) 0 ≡ (4776 ∷ []) ∷ (0 ∷ []) ∷ [])
 unfolding all_steps
-one_reserve = (refl, refl, refl)
+one_reserve = (refl, refl, refl, refl)
+
+-- a flow without a minimum rate has no part in the first pass, whatever is said to be reserved for it
+no_minimum_rate :
+    (shares_beside 0 ((292 ∷ []) ∷ []) (262140 ∷ 10000 ∷ []) 1522 ≡ (4776 ∷ []) ∷ (0 ∷ []) ∷ []) ×
+    (taken_beside 0 ((292 ∷ []) ∷ []) (262140 ∷ 10000 ∷ []) 1522 ≡ 0)
+unfolding all_steps
+no_minimum_rate = (refl, refl)
 
 -- both clusters of a flow have their bytes of its reserve
 both_reserved :
-    (shares_beside ((292 ∷ []) ∷ (293 ∷ []) ∷ []) (262140 ∷ 1000 ∷ 1000 ∷ []) 5000 ≡
-    (2728 ∷ []) ∷ (1000 ∷ []) ∷ (1000 ∷ []) ∷ []) ×
-    (reserved_for (beside ((292 ∷ []) ∷ (293 ∷ []) ∷ [])) (262140 ∷ 1000 ∷ 1000 ∷ []) (None ∷ None ∷ [])
-    (0 ∷ 5000 ∷ []) (150 ∷ []) 1 ≡ 2000)
+    (shares_beside 1280000 ((292 ∷ []) ∷ (293 ∷ []) ∷ []) (262140 ∷ 700 ∷ 700 ∷ []) 1522 ≡
+    (3304 ∷ []) ∷ (700 ∷ []) ∷ (700 ∷ []) ∷ []) ×
+    (taken_beside 1280000 ((292 ∷ []) ∷ (293 ∷ []) ∷ []) (262140 ∷ 700 ∷ 700 ∷ []) 1522 ≡ 1400)
 unfolding all_steps
 both_reserved = (refl, refl)
 

@@ -3,7 +3,7 @@ use Rattle.std.specs.Prelude.{◌≡◌, ◌⊎◌, ℕ, ◌+◌, ◌<◌, ◌�
 use Rattle.std.specs.List.{AllByRecursion}
 use Rattle.us_flows.specs.declared.channels.Channel.{Channel}
 use Rattle.us_flows.specs.Tables.{Tables, header_bytes}
-use Rattle.us_split.specs.Plans.{Planned, cost_on, max_burst_bytes, reserved_for}
+use Rattle.us_split.specs.Plans.{Planned, cost_on, max_burst_bytes, min_rate_reserves, reserved_for}
 
 -- at most so many bytes, where there is a limit
 abbrev pub Within : Option ℕ → ℕ → Type 0
@@ -33,7 +33,7 @@ pub record IsLawfulPlan (t : Tables) (outstanding : List ℕ) (allowances : List
   -- and each with its header is a burst
   pub bursts : AllByRecursion AreBursts plan
 
--- and of no flow more is taken in the first pass than is reserved
+-- and of no flow more is taken in the first pass than is reserved; of one without a minimum rate nothing is
 abbrev pub AreWithinReserves : Tables → List ℕ → List (Option ℕ) → List ℕ → List ℕ → Type 0
 AreWithinReserves t outstanding allowances reserves idle = (place : ℕ) → place < length allowances →
-    reserved_for t outstanding allowances reserves idle place ≤ slice_index reserves place
+    reserved_for t outstanding allowances reserves idle place ≤ slice_index (min_rate_reserves t.flows reserves) place

@@ -1,6 +1,6 @@
 -- The plan of a round (ours): how many bytes each turn may send on each of its flow's channels. It is made in two passes: in
--- the first one each flow gets what is reserved for it, and in the second one all turns get what is left.
-use Rattle.std.specs.Prelude.{ℕ, ◌+◌, ◌-◌, ◌≤◌, ◌≡◌, ◌==◌, min, if◌then◌else◌, List, [], ◌∷◌, map, zip, filter, find, position, set, length, sum, sum_by, slice_get, slice_index, slice_index_or, Option, Some, None, option_map}
+-- the first one each flow with a minimum rate gets what is reserved for it, and in the second one all turns get what is left.
+use Rattle.std.specs.Prelude.{ℕ, ◌+◌, ◌-◌, ◌≤◌, ◌≡◌, ◌==◌, nat_lt, min, if◌then◌else◌, List, [], ◌∷◌, map, zip, filter, find, position, set, length, sum, sum_by, slice_get, slice_index, slice_index_or, Option, Some, None, option_map}
 use Rattle.us_slots.specs.Bursts.{grant_cost}
 use Rattle.us_slots.specs.Capacities.{capacity_of}
 use Rattle.us_flows.specs.declared.channels.Channel.{Channel}
@@ -110,6 +110,10 @@ after_plan ledger (planned ∷ plan) = after_plan (after_turn ledger planned) pl
 
 -- The first pass: what is reserved.
 
+-- what is reserved for flows with a minimum rate; for others nothing is
+abbrev pub min_rate_reserves : List FlowTable → List ℕ → List ℕ
+min_rate_reserves flows reserves = map (λ pair. if nat_lt 0 pair.0.min_rate then pair.1 else 0) (zip flows reserves)
+
 -- a flow gets no more than its reserve, and than its bucket allows; no reserve is said to be 0, and need not be listed
 abbrev pub first_limits : List (Option ℕ) → List ℕ → List (Option ℕ)
 first_limits [] reserves = []
@@ -192,7 +196,7 @@ ledger_of t allowances idle = record {
 -- by channel
 unfoldable pub plan_for : Tables → List ℕ → List (Option ℕ) → List ℕ → List ℕ → List Planned
 plan_for t outstanding allowances reserves idle =
-    two_passes outstanding (ledger_of t allowances idle) reserves (turns_of t)
+    two_passes outstanding (ledger_of t allowances idle) (min_rate_reserves t.flows reserves) (turns_of t)
 
 -- the bytes of all shares of the flow at a place,
 abbrev pub flow_bytes : List Planned → ℕ → ℕ
@@ -202,4 +206,4 @@ flow_bytes plan place =
 -- and what the plan of a round takes of the flow's reserve: its first shares
 unfoldable pub reserved_for : Tables → List ℕ → List (Option ℕ) → List ℕ → List ℕ → ℕ → ℕ
 reserved_for t outstanding allowances reserves idle place =
-    flow_bytes (first_of outstanding (ledger_of t allowances idle) reserves (turns_of t)) place
+    flow_bytes (first_of outstanding (ledger_of t allowances idle) (min_rate_reserves t.flows reserves) (turns_of t)) place

@@ -17,9 +17,11 @@ pub record IsTable (b : ChannelBursts) (table : List ℕ) : Type 0 where
   pub each : (slots : ℕ) → slots < length table → slice_index table slots ≡ capacity_of b.time b.long slots
   pub bursts : (slots : ℕ) → slice_index table slots ≤ max_burst_bytes
 
--- a turn: who asks, and where its cluster has its SIDs, a seat for each channel of its flow
+-- a turn: who asks, whether its flow has a minimum rate, and where its cluster has its SIDs, a seat for each channel of its
+-- flow
 pub record TurnRow : Type 0 where
   pub asker : Asker
+  pub has_min_rate : Bool
   pub seats : List Seat
 
 abbrev pub place_or_first : Option ℕ → ℕ
@@ -40,6 +42,7 @@ seats_from channels position (id ∷ ids) sids =
 abbrev pub row_of : List Channel → ℕ → Turn → TurnRow
 row_of channels place turn = record {
   asker = asker_of place turn;
+  has_min_rate = nat_lt 0 turn.cluster.flow.min_rate;
   seats = seats_from channels 0 turn.cluster.flow.channels turn.cluster.sids;
 }
 
@@ -138,12 +141,16 @@ abbrev pub pass_of : List ChannelPlan → List (Option ℕ) → List ℕ → Lis
 pass_of channels allowances reserves firsts =
     record { partial = partial_of channels allowances; reserves = reserves; firsts = firsts }
 
+-- what is reserved for a turn: nothing where its flow has no minimum rate
+abbrev pub reserve_for : TurnRow → List ℕ → ℕ
+reserve_for row reserves = if row.has_min_rate then slice_index reserves row.asker.claimant.place else 0
+
 -- the first shares of a turn of so many outstanding bytes,
 abbrev pub first_in : TurnRow → ℕ → PartialPlan → List ℕ → List ℕ
 first_in row bytes partial reserves =
     shares_at row
-    (min (at_most (slice_index_or partial.allowances row.asker.claimant.place None) bytes)
-    (slice_index reserves row.asker.claimant.place)) partial.channels
+    (min (at_most (slice_index_or partial.allowances row.asker.claimant.place None) bytes) (reserve_for row reserves))
+    partial.channels
 
 -- and what they leave
 abbrev pub with_first : TurnRow → List ℕ → FirstPass → FirstPass
@@ -214,7 +221,7 @@ with_seconds rows outstanding (place ∷ places) (first ∷ firsts) partial =
 -- whether something is reserved for one of these turns
 abbrev pub is_reserved : Option TurnRow → List ℕ → Bool
 is_reserved None reserves = false
-is_reserved (Some row) reserves = nat_lt 0 (slice_index reserves row.asker.claimant.place)
+is_reserved (Some row) reserves = nat_lt 0 (reserve_for row reserves)
 
 abbrev pub some_reserved : List TurnRow → List ℕ → List ℕ → Bool
 some_reserved rows reserves [] = false

@@ -72,9 +72,10 @@ impl Planner {
     /// are told no more.
     ///
     /// `allowances` has what the bucket of each flow allows, in table order, and `reserves` what is reserved for it, 0
-    /// where nothing is listed; an empty list spares a look at each turn. What the plan takes of reserves, in first shares, is taken off. What both lists have of
-    /// other flows than those of the turns isn't read, and nothing is said of allowances afterwards. After want of memory
-    /// nothing is said of reserves and claims either.
+    /// where nothing is listed; an empty list spares a look at each turn. What the plan takes of reserves, in first shares,
+    /// is taken off; of flows without a minimum rate it takes nothing. What both lists have of other flows than those of
+    /// the turns isn't read, and nothing is said of allowances afterwards. After want of memory nothing is said of
+    /// reserves and claims either.
     pub fn plan(
         &mut self,
         askers: &[u16],
@@ -105,7 +106,7 @@ impl Planner {
             IsLawfulPlan self.old.tables outstanding.now allowed idle.now
             (plan_for self.old.tables outstanding.now allowed kept idle.now) }
 
-        // nor than is reserved for it in the first pass,
+        // nor than is reserved for it in the first pass, in which a flow without a minimum rate gets nothing,
         ensures within { (allowed : List (Option ℕ)) (kept : List ℕ) →
             AreWithinReserves self.old.tables outstanding.now allowed kept idle.now }
 

@@ -19,10 +19,10 @@ use us_slots::NoMemory;
 /// allows, in table order, `None` where it has no limit; `reserves` what is reserved for each flow, 0 where nothing is
 /// listed; `idle` the idle minislots of each channel, in table order.
 ///
-/// First each turn asks for the outstanding bytes of its cluster, as far as its flow's reserve and allowance go, and
-/// they are divided over its channels by what these can carry in the minislots that the turns before it left. So a flow
-/// of which nothing is reserved, as one without a minimum rate, has no part in it. Then each asks for the rest, as far as
-/// its flow's allowance goes, and has what that and its first shares take together.
+/// First each turn of a flow with a minimum rate asks for the outstanding bytes of its cluster, as far as its flow's
+/// reserve and allowance go, and they are divided over its channels by what these can carry in the minislots that the
+/// turns before it left. A flow without a minimum rate has no part in it, whatever is listed for it. Then each turn asks
+/// for the rest, as far as its flow's allowance goes, and has what that and its first shares take together.
 #[tactic(auto, using(crate::proofs::TwoPassLaws::plan_facts))]
 pub fn plan(
     alloc: Global,
@@ -48,7 +48,7 @@ pub fn plan(
     ensures law { IsLawfulPlan config.now outstanding.now allowances.now idle.now
         (plan_for config.now outstanding.now allowances.now reserves.now idle.now) }
 
-    // nor than is reserved for it in the first pass.
+    // nor than is reserved for it in the first pass, in which a flow without a minimum rate gets nothing.
     ensures within { AreWithinReserves config.now outstanding.now allowances.now reserves.now idle.now }
 
     // Each claim on a channel is a burst there, at its cost.

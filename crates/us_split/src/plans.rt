@@ -40,8 +40,8 @@ impl Plan {
         }
     }
 
-    /// The bytes that are taken of the reserve of the flow at this place: the first shares of its turns. 0 where there is no
-    /// such flow.
+    /// The bytes that are taken of the reserve of the flow at this place: the first shares of its turns, none of a flow
+    /// without a minimum rate. 0 where there is no such flow.
     pub fn reserved(&self, flow: usize) -> u64
         ensures { result ≡ slice_index self.now.reserved flow }
     {

@@ -43,6 +43,17 @@ pub(crate) fn reserve_of(reserves: &[u64], flow: usize) -> u64
     }
 }
 
+/// What is reserved for a turn: nothing where its flow has no minimum rate.
+fn reserve_for(row: &TurnRow, reserves: &[u64]) -> u64
+    ensures { result ≡ spec.reserve_for row.now reserves.now }
+{
+    if row.has_min_rate() {
+        reserve_of(reserves, row.flow())
+    } else {
+        0
+    }
+}
+
 /// Takes so many bytes off what is reserved for the flow at this place.
 fn spend_reserve(reserves: &mut [u64], flow: usize, bytes: u64)
     ensures { reserves.new ≡ set reserves.old flow (slice_index reserves.old flow - bytes) }
@@ -62,7 +73,7 @@ fn some_reserved(rows: &[TurnRow], askers: &[u16], reserves: &[u64]) -> bool
     }
     for place in askers {
         let row = &rows[usize::from(*place)];
-        if reserve_of(reserves, row.flow()) > 0 {
+        if reserve_for(row, reserves) > 0 {
             return true;
         }
     }
@@ -157,10 +168,8 @@ fn plan_first(
     ensures kept { map (λ c. c.channel) channels.new ≡ map (λ c. c.channel) channels.old }
     ensures flows { length allowances.new ≡ length allowances.old }
 {
-    let demand = demand_of(allowances, row.flow(), outstanding).min(reserve_of(
-        reserves,
-        row.flow(),
-    ));
+    let reserve = reserve_for(row, reserves);
+    let demand = demand_of(allowances, row.flow(), outstanding).min(reserve);
     if demand == 0 {
         return row.no_shares();
     }

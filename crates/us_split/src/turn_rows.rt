@@ -1,4 +1,4 @@
-ghost use Rattle.std.specs.Prelude.{◌≡◌, ℕ, List, Some, ◌==◌, ◌<◌, ◌≤◌, length, position, replicate, slice_get, IfOk, IfSome};
+ghost use Rattle.std.specs.Prelude.{◌≡◌, ℕ, List, Some, ◌==◌, ◌<◌, ◌≤◌, nat_lt, length, position, replicate, slice_get, IfOk, IfSome};
 ghost use Rattle.us_flows.specs.Clusters;
 ghost use Rattle.us_flows.specs.Clusters.{turns_of};
 ghost use Rattle.us_flows.specs.Lawful.{AreTables};
@@ -28,11 +28,12 @@ pub(crate) struct Seat {
     pub sid: u16,
 }
 
-/// A turn with what its plan needs of the tables: who asks, and a seat for each channel of its flow. It has no memory of
-/// its own.
+/// A turn with what its plan needs of the tables: who asks, whether its flow has a minimum rate, and a seat for each channel
+/// of its flow. It has no memory of its own.
 #[derive(Drop)]
 pub(crate) struct TurnRow {
     asker: Asker,
+    has_min_rate: bool,
     count: u8,
     seats: [Seat; MAX_CHANNELS_OF_FLOW],
 }
@@ -45,7 +46,7 @@ impl Model for TurnRow {
 
     ghost Value = { spec.TurnRow };
 
-    ghost view = { λ r. record { asker = r.asker; seats = take r.count r.seats } };
+    ghost view = { λ r. record { asker = r.asker; has_min_rate = r.has_min_rate; seats = take r.count r.seats } };
 
     ghost invariant = { λ r. r.count ≤ max_channels_of_flow };
 }
@@ -64,6 +65,7 @@ impl TurnRow {
         find_seats(config.channels(), ids, sids, &mut seats[..ids.len()]);
         TurnRow {
             asker: asker_of(place, turn, flow),
+            has_min_rate: has_min_rate(flow),
             count: ids.len() as u8,
             seats,
         }
@@ -90,6 +92,13 @@ impl TurnRow {
     {
         let claimant = self.asker.claimant;
         usize::from(claimant.place)
+    }
+
+    /// Whether its flow has a minimum rate.
+    pub(crate) fn has_min_rate(&self) -> bool
+        ensures { result ≡ self.now.has_min_rate }
+    {
+        self.has_min_rate
     }
 
     /// The bytes of its segment header.
@@ -156,6 +165,13 @@ fn header_of(flow: &Flow) -> u8
     ensures few { result ≤ segment_header_bytes }
 {
     if flow.headers() { HEADER_BYTES } else { 0 }
+}
+
+/// Whether a flow has a minimum rate.
+fn has_min_rate(flow: &Flow) -> bool
+    ensures { result ≡ nat_lt 0 flow.now.min_rate }
+{
+    flow.min_rate() > 0
 }
 
 /// Where the channel with this id stands in the table.

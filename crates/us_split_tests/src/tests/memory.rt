@@ -7,6 +7,6 @@ use super::plans::{RUNS, are_planned};
 #[test]
 fn refused_memory(rt: HostRuntime) {
     let _ = are_planned(&rt, rt.alloc(), &RUNS[0]);
-    let _ = are_planned(&rt, rt.alloc(), &RUNS[4]);
+    let _ = are_planned(&rt, rt.alloc(), &RUNS[5]);
     let _ = walk(&rt, rt.alloc());
 }

@@ -33,7 +33,7 @@ pub struct Round<'a> {
 }
 
 /// The first is planned in one pass a round, and the last in two.
-pub static RUNS: [Run<'static>; 5] = [
+pub static RUNS: [Run<'static>; 6] = [
     // A flow with two clusters on two channels, and segment headers.
     Run {
         channels: 2,
@@ -164,7 +164,7 @@ headers = true
                 [7, 0, 291, 126, 5, 9]",
         }],
     },
-    // A flow that goes first and asks for all the room, and one that goes last.
+    // A flow that goes first and asks for all the room, and one that goes last and has a minimum rate.
     Run {
         channels: 1,
         flows: "[[flow]]
@@ -184,7 +184,8 @@ channels = [1]
 clusters = [[292]]
 priority = 0
 rate = 0
-burst = 3044
+burst = 1522
+min_rate = 1280000
 unit = 4
 headers = true
 ",
@@ -223,7 +224,50 @@ headers = true
             },
         ],
     },
-    // Three flows with reserves, one of them without headers.
+    // The same two flows without a minimum rate: the first pass is of none, whatever is reserved.
+    Run {
+        channels: 1,
+        flows: "[[flow]]
+id = 1
+type = 2
+channels = [1]
+clusters = [[291]]
+priority = 7
+rate = 0
+burst = 3044
+unit = 4
+headers = true
+[[flow]]
+id = 2
+type = 2
+channels = [1]
+clusters = [[292]]
+priority = 0
+rate = 0
+burst = 1522
+unit = 4
+headers = true
+",
+        rounds: &[
+            Round {
+                name: "reserves without minimum rates",
+                outstanding: &[262_140, 10_000],
+                allowances: [None, None, None],
+                reserves: [700, 1522, 0],
+                idle: &[150],
+                answer: "left [700, 1522, 0] [0, 0, 291, 4776, 150, 10]",
+            },
+            Round {
+                name: "the other flow alone",
+                outstanding: &[0, 10_000],
+                allowances: [None, None, None],
+                reserves: [0, 1522, 0],
+                idle: &[150],
+                answer: "left [0, 1522, 0] [0, 1, 292, 4776, 150, 10]",
+            },
+        ],
+    },
+    // Three flows with minimum rates, one of them without headers.
     Run {
         channels: 2,
         flows: "[[flow]]
@@ -234,6 +278,7 @@ clusters = [[291, 292], [293, 294]]
 priority = 5
 rate = 0
 burst = 3044
+min_rate = 1280000
 unit = 4
 headers = true
 [[flow]]
@@ -244,6 +289,7 @@ clusters = [[295]]
 priority = 5
 rate = 0
 burst = 3044
+min_rate = 1280000
 unit = 4
 headers = false
 [[flow]]
@@ -254,6 +300,7 @@ clusters = [[296, 297]]
 priority = 7
 rate = 0
 burst = 3044
+min_rate = 1280000
 unit = 4
 headers = true
 ",

@@ -9,6 +9,7 @@ use Rattle.us_split.specs.Planners.{Planner}
 use Rattle.us_split.specs.Plans.{plan_for, reserved_for}
 use Rattle.us_split.proofs.AskingLaws.{same_agree}
 use Rattle.us_split.proofs.ClaimLemmas.{plan_for-claims, share_of-plan}
+use Rattle.us_split.proofs.MinRateLemmas.{reserved_within}
 use Rattle.us_split.proofs.TwoPassLaws.{reserved-within}
 use Rattle.us_split.proofs.planning.plan.Goals as goal
 
@@ -81,6 +82,7 @@ returns-clause-reserved c = λ flow within.
       ap (λ t. reserved_for t c.args.outstanding.now c.args.allowances.now c.args.reserves.now c.args.idle.now flow) same,
       reserved-within t c.args.outstanding.now c.args.allowances.now c.args.reserves.now c.args.idle.now flow
           (omega (arith, within, c.requires.flows)),
+      reserved_within t.flows c.args.reserves.now flow,
     )
 
 pub returns-clause-shares : goal.returns-clause-shares

@@ -1,5 +1,5 @@
 use Rattle.std.proofs.Common.{None, min, ap, ap₂, ◌∙◌, sym}
-use Rattle.std.specs.Prelude.{slice_index, slice_index_or}
+use Rattle.std.specs.Prelude.{slice_index_or}
 use Rattle.us_split.specs.Plans.{at_most}
 use Rattle.us_split.proofs.RowPassLemmas.{nothing_first}
 use Rattle.us_split.proofs.row_plans.plan_first.Goals as goal
@@ -11,5 +11,5 @@ returns-then-demand-eq0-clause-pass c = λ firsts.
     (ap₂ min
     (ap (λ place. at_most (slice_index_or c.args.allowances.now place None) c.args.outstanding) (sym c.flow.ensures) ∙
     sym c.demand_of.ensures)
-    (ap (slice_index c.args.reserves.now) (sym c.flow-2.ensures) ∙ sym c.reserve_of.ensures) ∙
+    (sym c.reserve_for-reserve.ensures) ∙
     sym c.min-demand.ensures ∙ c.if-demand-eq0.true)

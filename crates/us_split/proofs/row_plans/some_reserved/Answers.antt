@@ -8,22 +8,22 @@ returns-then-is_empty c =
     sym (none_listed c.args.rows.now c.args.reserves.now c.args.askers.now
     (eqb-true (length c.args.reserves.now) 0 (sym c.is_empty.ensures ∙ c.if-is_empty.true)))
 
-pub returns-then-reserve_of-gt0 : goal.returns-then-reserve_of-gt0
-returns-then-reserve_of-gt0 c =
+pub returns-then-reserve_for-gt0 : goal.returns-then-reserve_for-gt0
+returns-then-reserve_for-gt0 c =
     let i : ℕ = c.loop-place.place-index in
     let rest : Bool = some_reserved c.args.rows.now c.args.reserves.now (drop (i + 1) c.args.askers.now) in
     sym (sym c.loop-place.invariant ∙
-    reserved_at c.args.rows.now c.args.reserves.now c.args.askers.now i c.from.result c.flow.result c.reserve_of.result
-    c.index-rows-from.result c.requires.askers c.loop-place-test.true c.from.ensures c.index-rows-from.is c.flow.ensures
-    c.reserve_of.ensures ∙
-    ap (λ b. b || rest) (lt-ltb 0 c.reserve_of.result c.if-reserve_of-gt0.true))
+    reserved_at c.args.rows.now c.args.reserves.now c.args.askers.now i c.from.result c.reserve_for.result
+    c.index-rows-from.result c.requires.askers c.loop-place-test.true c.from.ensures c.index-rows-from.is
+    c.reserve_for.ensures ∙
+    ap (λ b. b || rest) (lt-ltb 0 c.reserve_for.result c.if-reserve_for-gt0.true))
 
 pub loop-place-preserved : goal.loop-place-preserved
 loop-place-preserved c =
     let i : ℕ = c.loop-place.place-index in
     let rest : Bool = some_reserved c.args.rows.now c.args.reserves.now (drop (i + 1) c.args.askers.now) in
-    sym (reserved_at c.args.rows.now c.args.reserves.now c.args.askers.now i c.from.result c.flow.result c.reserve_of.result
-    c.index-rows-from.result c.requires.askers c.loop-place-test.true c.from.ensures c.index-rows-from.is c.flow.ensures
-    c.reserve_of.ensures ∙
-    ap (λ b. b || rest) (le-ltb 0 c.reserve_of.result c.if-reserve_of-gt0.false)) ∙
+    sym (reserved_at c.args.rows.now c.args.reserves.now c.args.askers.now i c.from.result c.reserve_for.result
+    c.index-rows-from.result c.requires.askers c.loop-place-test.true c.from.ensures c.index-rows-from.is
+    c.reserve_for.ensures ∙
+    ap (λ b. b || rest) (le-ltb 0 c.reserve_for.result c.if-reserve_for-gt0.false)) ∙
     c.loop-place.invariant
