@@ -6,10 +6,10 @@ use Rattle.std.proofs.lemmas.Bool.{cases_Bool, cases_eq, cases_lt, false≢true}
 use Rattle.std.proofs.lemmas.Nat.{le-div, mul-le}
 use Rattle.us_flows.specs.declared.channels.Channel.{Channel}
 use Rattle.us_calendar.specs.Entries.{Entry}
-use Rattle.us_calendar.specs.Occurrences.{window_end}
+use Rattle.us_calendar.specs.Occurrences.{window_end, comes}
 use Rattle.us_lawful.specs.declared.place.Place.{Place}
 use Rattle.us_lawful.specs.Runs.{Run}
-use Rattle.us_lawful.specs.CalendarLines.{ChannelEntry, closes, closing_round, is_there, round_quarters}
+use Rattle.us_lawful.specs.CalendarLines.{ChannelEntry, closes, closing_round, round_quarters, speaks_in}
 use Rattle.us_breaches.specs.Order.{goes_before}
 use Rattle.us_breaches.specs.Breaches.{IsFirstFailure}
 use Rattle.us_calendar_rules.specs.Marks.{numbers}
@@ -58,10 +58,10 @@ is_closed false round told is = absurd (cc is)
 
 module _ (channels : List Channel) (run : Run) (marks : List ℕ) (l : ChannelEntry) (number : ℕ)
     (first : IsFirstUnmarked marks l number) where
-  -- The first that isn't marked once is there: else an earlier one would be marked as often.
-  unmarked_there : number < numbers → IsAlike run marks l → is_there run l.entry number ≡ true
-  unmarked_there few alike = elim (cases_Bool (is_there run l.entry number)) [
-    | inl there ↦ there
+  -- The first that isn't marked once comes: else an earlier one would be marked as often.
+  unmarked_comes : number < numbers → IsAlike run marks l → comes l.entry (speaks_in run l.entry) number ≡ true
+  unmarked_comes few alike = elim (cases_Bool (comes l.entry (speaks_in run l.entry) number)) [
+    | inl come ↦ come
     | inr out ↦
         let other = alike number few out in
         absurd (first.wrong (other.2 ∙ first.before other.0 other.1))
@@ -85,7 +85,7 @@ module _ (channels : List Channel) (run : Run) (marks : List ℕ) (l : ChannelEn
   first_closes at few alike closed is = (
     record {
       number = number;
-      there = unmarked_there few alike;
+      come = unmarked_comes few alike;
       closes = closed;
       place = is;
       wrong = first.wrong;

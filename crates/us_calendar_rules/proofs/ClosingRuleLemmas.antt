@@ -1,5 +1,5 @@
 -- The rule of closings, told by marks: where it fails, an occurrence of a listed entry closes that isn't marked once.
-use Rattle.std.proofs.Common.{◌≡◌, ℕ, ◌+◌, ◌*◌, ◌/◌, ◌%◌, ◌^◌, ◌<◌, ◌≤◌, ◌==◌, ◌&&◌, ◌||◌, Bool, true, false, List, [], ◌∷◌, Option, Contains, get_or, refl, ap, sym, subst, ◌∙◌, inl, inr, arith, div-lt_iff_lt-mul, ltb-true, eq-eqb, ne_eqb, eqb-true}
+use Rattle.std.proofs.Common.{◌≡◌, ℕ, ◌+◌, ◌*◌, ◌/◌, ◌%◌, ◌^◌, ◌<◌, ◌≤◌, ◌==◌, nat_lt, ◌&&◌, ◌||◌, Bool, true, false, List, [], ◌∷◌, Option, Contains, get_or, refl, ap, sym, subst, ◌∙◌, inl, inr, arith, div-lt_iff_lt-mul, ltb-true, eq-eqb, ne_eqb, eqb-true}
 use Rattle.std.specs.Prelude.{All, ◌↔◌, filter, not}
 use Rattle.std.specs.List.{list_all, range_with_len}
 use Rattle.std.proofs.Math.Nat.{mod-lt}
@@ -12,7 +12,7 @@ use Rattle.us_flows.specs.declared.channels.Channel.{Channel}
 use Rattle.us_flows.specs.Tables.{Tables}
 use Rattle.us_flows.specs.Lawful.{AreTables}
 use Rattle.us_calendar.specs.Entries.{Entry, IsEntry}
-use Rattle.us_calendar.specs.Occurrences.{ideal, window_end}
+use Rattle.us_calendar.specs.Occurrences.{ideal, window_end, comes}
 use Rattle.us_output.specs.declared.rows.Row.{Row}
 use Rattle.us_lawful.specs.declared.place.Place.{Place}
 use Rattle.us_lawful.specs.Runs.{Run, Judged}
@@ -26,6 +26,7 @@ use Rattle.us_calendar_rules.specs.Marks.{AreMarks, marked, numbers}
 use Rattle.us_calendar_rules.specs.Failures.{ClosingFails, IsAlike}
 use Rattle.us_calendar_rules.proofs.FoundLemmas.{contains_later}
 use Rattle.us_calendar_rules.proofs.ListedLemmas.{entry_lawful}
+use Rattle.us_calendar_rules.proofs.NamingLemmas.{closed_begins}
 use Rattle.us_calendar_rules.proofs.TimesLemmas.{alike_marked, times_marked}
 
 -- Items that fail.
@@ -85,11 +86,12 @@ module _ (run : Run) (lines : List Row) (e : Entry) (p : Place) where
   looked_at = range_with_len 0 (run.rounds * round_quarters run.tables * e.grants)
 
   closing_parts : (n : ℕ) → closes_there n ≡ true →
-      (is_there run e n ≡ true) × (closes run e n ≡ true) × (closing_round run.tables e n ≡ p.round)
+      (comes e (speaks_in run e) n ≡ true) × (closes run e n ≡ true) × (closing_round run.tables e n ≡ p.round)
   closing_parts n there =
       let parts = and_parts (is_there run e n) (closes run e n && (closing_round run.tables e n == p.round)) there in
+      let own = and_parts (nat_lt (ideal e n) (run.rounds * round_quarters run.tables)) (comes e (speaks_in run e) n) parts.0 in
       let closing = and_parts (closes run e n) (closing_round run.tables e n == p.round) parts.1 in
-      (parts.0, closing.0, eqb-true (closing_round run.tables e n) p.round closing.1)
+      (own.1, closing.0, eqb-true (closing_round run.tables e n) p.round closing.1)
 
   -- where not all that close there are named once, one isn't,
   some_fails : list_all once (closing_in run p.round e) ≡ false →
@@ -116,7 +118,7 @@ module _ (run : Run) (lines : List Row) (e : Entry) (p : Place) where
       (omega (arith, within, length-range_with_len 0 (end * e.grants)))
       (subst (λ m. (closes_there m ≡ true) × (once m ≡ false)) (sym here) (there, wrong))))
 
--- Occurrences that aren't there.
+-- Occurrences that don't come.
 
 positive : (k : ℕ) → (k == 0) ≡ false → 0 < k
 positive k apart = elim (cases_lt 0 k) [
@@ -156,10 +158,10 @@ module _ (run : Run) (es : List ChannelEntry) (listed : AreListed run.tables es)
       || list_all (λ n. times l.entry n judged.lines == 1) (closing_in run p.round l.entry)
 
   -- an occurrence that closes is named as often as it is marked
-  marked_closing : (l : ChannelEntry) (n : ℕ) → Contains es l → is_there run l.entry n ≡ true →
+  marked_closing : (l : ChannelEntry) (n : ℕ) → Contains es l → comes l.entry (speaks_in run l.entry) n ≡ true →
       closes run l.entry n ≡ true → marked marks l n ≡ times l.entry n judged.lines
-  marked_closing l n has there closed =
-      times_marked run es listed l n has there
+  marked_closing l n has come closed =
+      times_marked run es listed l n has come
       (number_few run.tables l.entry n run.rounds listed.tables (entry_lawful run.tables es listed l has) few
       (ltb-true (window_end l.entry n) (run.rounds * round_quarters run.tables) closed))
       judged.lines marks are
@@ -174,7 +176,7 @@ module _ (run : Run) (es : List ChannelEntry) (listed : AreListed run.tables es)
       let closing = closing_parts run judged.lines l.entry p one.0 one.1 in
       record {
         number = one.0;
-        there = closing.0;
+        come = closing.0;
         closes = closing.1;
         place = place-is p
             (record { round = closing_round run.tables l.entry one.0; channel = l.channel.id; third = l.entry.id })
@@ -188,8 +190,10 @@ module _ (run : Run) (es : List ChannelEntry) (listed : AreListed run.tables es)
   fails_entry : (l : ChannelEntry) (p : Place) → Contains es l → ClosingFails run marks l p → holds_for l p ≡ false
   fails_entry l p has fails =
       let n : ℕ = fails.number in
+      let own = and_from (nat_lt (ideal l.entry n) (run.rounds * round_quarters run.tables))
+      (comes l.entry (speaks_in run l.entry) n) (closed_begins run l.entry n fails.closes) fails.come in
       let there = and_from (is_there run l.entry n)
-      (closes run l.entry n && (closing_round run.tables l.entry n == p.round)) fails.there
+      (closes run l.entry n && (closing_round run.tables l.entry n == p.round)) own
       (and_from (closes run l.entry n) (closing_round run.tables l.entry n == p.round) fails.closes
       (eq-eqb (closing_round run.tables l.entry n) p.round (ap (λ q. q.round) (sym fails.place)))) in
       let here = and_from (l.channel.id == p.channel) (l.entry.id == p.third)
@@ -199,7 +203,7 @@ module _ (run : Run) (es : List ChannelEntry) (listed : AreListed run.tables es)
       ap (λ b. not b || all) here
       ∙ one_fails run judged.lines l.entry p n (entry_lawful run.tables es listed l has) there
       (ne_eqb (times l.entry n judged.lines) 1
-      (λ single. fails.wrong (marked_closing l n has fails.there fails.closes ∙ single)))
+      (λ single. fails.wrong (marked_closing l n has fails.come fails.closes ∙ single)))
 
   -- The rule of closings fails just where one of an entry does.
   pub closings_fail : (p : Place) → (closings_hold run judged p ≡ false) ↔ Any (ClosingFails run marks) es p

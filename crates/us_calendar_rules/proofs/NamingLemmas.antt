@@ -1,14 +1,15 @@
 -- What a line names: the number of an occurrence of the entry that it calls.
-use Rattle.std.proofs.Common.{◌≡◌, ℕ, ◌+◌, ◌*◌, ◌%◌, ◌^◌, ◌<◌, ◌≤◌, ◌==◌, nat_lt, ◌&&◌, Bool, true, false, List, Option, Some, None, Contains, refl, ap, sym, subst, ◌∙◌, inl, inr, arith, ltb-true, eq-eqb, eqb-true}
+use Rattle.std.proofs.Common.{◌≡◌, ℕ, ◌+◌, ◌*◌, ◌%◌, ◌^◌, ◌<◌, ◌≤◌, ◌==◌, nat_lt, ◌&&◌, Bool, true, false, List, Option, Some, None, Contains, refl, ap, sym, subst, ◌∙◌, inl, inr, arith, lt-ltb, ltb-true, eq-eqb, eqb-true}
 use Rattle.std.specs.Prelude.{if◌then◌else◌, option_and_then}
 use Rattle.std.specs.List.{find}
 use Rattle.std.proofs.lemmas.Bool.{false≢true, or_cases, or_left, or_right}
 use Rattle.std.proofs.lemmas.Nat.{div-mul-add, mod-mul-add, mul-le}
 use Rattle.us_calendar.specs.Entries.{Entry, IsEntry}
-use Rattle.us_calendar.specs.Occurrences.{ideal}
+use Rattle.us_calendar.specs.Occurrences.{comes, ideal}
+use Rattle.us_calendar.specs.Runs.{window_end}
 use Rattle.us_output.specs.declared.rows.EntryWord.{EntryWord}
 use Rattle.us_lawful.specs.Runs.{Run}
-use Rattle.us_lawful.specs.CalendarLines.{ChannelEntry, is_named, is_there, is_word, speaks_in}
+use Rattle.us_lawful.specs.CalendarLines.{ChannelEntry, closes, is_named, is_word, round_quarters, speaks_in}
 use Rattle.us_calendar_rules.specs.declared.naming.CalendarLine.{CalendarLine}
 use Rattle.us_calendar_rules.specs.declared.naming.Occurrence.{Occurrence}
 use Rattle.us_calendar_rules.specs.Listed.{is_called}
@@ -33,9 +34,9 @@ pub speaks_inside : (run : Run) (l : ChannelEntry) (i k : ℕ) → k < l.entry.g
     speaks_in run l.entry (ideal l.entry (i * l.entry.grants + k)) ≡ speaks_at run l i
 speaks_inside run l i k inside = ap (speaks_in run l.entry) (ideal_at l.entry i k inside)
 
--- and of a silent one none but the first is there
+-- and of a silent one none but the first comes
 pub first_there : (run : Run) (l : ChannelEntry) (i k : ℕ) → k < l.entry.grants → speaks_at run l i ≡ false →
-    is_there run l.entry (i * l.entry.grants + k) ≡ true → k ≡ 0
+    comes l.entry (speaks_in run l.entry) (i * l.entry.grants + k) ≡ true → k ≡ 0
 first_there run l i k inside silent there = elim (or_cases
     (speaks_in run l.entry (ideal l.entry (i * l.entry.grants + k)))
     ((i * l.entry.grants + k) % l.entry.grants == 0) there) [
@@ -45,10 +46,10 @@ first_there run l i k inside silent there = elim (or_cases
           ∙ eqb-true ((i * l.entry.grants + k) % l.entry.grants) 0 first
     ]
 
--- What is there is all of an interval that begins while the flow is active, and of one while it is silent the first alone.
+-- What comes is all of an interval that begins while the flow is active, and of one while it is silent the first alone.
 pub there_at : (run : Run) (l : ChannelEntry) (i k : ℕ) (active : Bool) → 1 ≤ l.entry.grants →
     speaks_at run l i ≡ active → nat_lt k (if active then l.entry.grants else 1) ≡ true →
-    is_there run l.entry (i * l.entry.grants + k) ≡ true
+    comes l.entry (speaks_in run l.entry) (i * l.entry.grants + k) ≡ true
 there_at run l i k true some speaks inside =
     or_left (speaks_in run l.entry (ideal l.entry (i * l.entry.grants + k)))
     ((i * l.entry.grants + k) % l.entry.grants == 0)
@@ -59,6 +60,13 @@ there_at run l i k false some speaks inside =
     ((i * l.entry.grants + k) % l.entry.grants == 0)
     (eq-eqb ((i * l.entry.grants + k) % l.entry.grants) 0
     (mod-mul-add i l.entry.grants k (omega (arith, first, some)) ∙ first))
+
+-- What closes in the run begins in it.
+pub closed_begins : (run : Run) (e : Entry) (n : ℕ) → closes run e n ≡ true →
+    nat_lt (ideal e n) (run.rounds * round_quarters run.tables) ≡ true
+closed_begins run e n closed =
+    let last = ltb-true (window_end e n) (run.rounds * round_quarters run.tables) closed in
+    lt-ltb (ideal e n) (run.rounds * round_quarters run.tables) (omega (arith, last))
 
 -- Names of occurrences.
 

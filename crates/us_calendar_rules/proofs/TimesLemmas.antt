@@ -1,4 +1,4 @@
--- How often lines name an occurrence that is there: as often as it is marked.
+-- How often lines name an occurrence that comes: as often as it is marked.
 use Rattle.std.proofs.Common.{◌≡◌, ℕ, ◌+◌, ◌-◌, ◌*◌, ◌^◌, ◌<◌, ◌≤◌, ◌==◌, nat_lt, ◌&&◌, Bool, true, false, cond, List, [], ◌∷◌, flat_map, Option, Some, None, Contains, option_map, refl, ap, sym, subst, ◌∙◌, inl, inr, arith, lt-ltb, ltb-true, ltb-false, eq-eqb, eqb-true, ne_eqb}
 use Rattle.std.specs.Prelude.{if◌then◌else◌, not, IfSome, option_and_then, unwrap_or}
 use Rattle.std.specs.List.{AllByRecursion, find}
@@ -8,12 +8,13 @@ use Rattle.std.proofs.lemmas.List.Sorted.{sum_by-IsPermutation}
 use Rattle.std.proofs.lemmas.Nat.{same_from_place}
 use Rattle.us_calendar.specs.declared.kinds.Kind.{Kind}
 use Rattle.us_calendar.specs.Entries.{Entry, rank_of}
+use Rattle.us_calendar.specs.Occurrences.{comes}
 use Rattle.us_output.specs.declared.rows.EntryWord.{EntryWord}
 use Rattle.us_output.specs.declared.rows.EntryWord.TheVariants as words
 use Rattle.us_output.specs.declared.rows.Row.{Row}
 use Rattle.us_output.specs.declared.rows.Row.TheVariants as rows
 use Rattle.us_lawful.specs.Runs.{Run, is_requested}
-use Rattle.us_lawful.specs.CalendarLines.{ChannelEntry, is_named, is_there, is_word, names, times}
+use Rattle.us_lawful.specs.CalendarLines.{ChannelEntry, is_named, is_word, names, speaks_in, times}
 use Rattle.us_lawful.proofs.NameLemmas.{no_request, same_kind}
 use Rattle.us_calendar_rules.specs.declared.naming.CalendarLine.{CalendarLine}
 use Rattle.us_calendar_rules.specs.declared.naming.Occurrence.{Occurrence}
@@ -112,8 +113,8 @@ module _ (run : Run) (es : List ChannelEntry) (listed : AreListed run.tables es)
     abbrev number : CalendarLine → ℕ
     number line = line.i * l.entry.grants + line.k
 
-    -- An occurrence that is there is marked just where it is named,
-    there_hits : (line : CalendarLine) (n : ℕ) → is_there run l.entry n ≡ true → (active inside : Bool) →
+    -- An occurrence that comes is marked just where it is named,
+    there_hits : (line : CalendarLine) (n : ℕ) → comes l.entry (speaks_in run l.entry) n ≡ true → (active inside : Bool) →
         speaks_at run l line.i ≡ active → nat_lt line.k (if active then l.entry.grants else 1) ≡ inside →
         hits n (given line active inside) ≡ cond (nat_lt line.k l.entry.grants && (number line == n)) 1 0
     there_hits line n there true true speaks place = elim (cases_eq (number line) n) [
@@ -144,7 +145,7 @@ module _ (run : Run) (es : List ChannelEntry) (listed : AreListed run.tables es)
               let within : k < l.entry.grants = omega (arith, low, high) in
               let is : n ≡ line.i * l.entry.grants + k = omega (arith, low, first) in
               let none = first_there run l line.i k within speaks
-              (ap (is_there run l.entry) (sym is) ∙ there) in
+              (ap (comes l.entry (speaks_in run l.entry)) (sym is) ∙ there) in
               apart (omega (arith, is, none, first)))
               ∙ sym (ap (λ b. cond {A = ℕ} (b && (number line == n)) 1 0) (lt-ltb line.k l.entry.grants inside)
               ∙ ap (λ b. cond {A = ℕ} b 1 0) (ne_eqb (number line) n apart))
@@ -155,7 +156,7 @@ module _ (run : Run) (es : List ChannelEntry) (listed : AreListed run.tables es)
         let parts = and_parts (nat_lt line.k l.entry.grants) (number line == n) both in
         let is = eqb-true (number line) n parts.1 in
         let none = first_there run l line.i line.k (ltb-true line.k l.entry.grants parts.0) speaks
-        (ap (is_there run l.entry) is ∙ there) in
+        (ap (comes l.entry (speaks_in run l.entry)) is ∙ there) in
         omega (arith, none, ltb-false line.k 1 place)) in
         sym (ap (λ b. cond {A = ℕ} b 1 0) out)
 
@@ -192,7 +193,7 @@ module _ (run : Run) (es : List ChannelEntry) (listed : AreListed run.tables es)
 
     -- Lines.
 
-    line_times : (line : CalendarLine) (n : ℕ) → is_there run l.entry n ≡ true → n < numbers → line.i < 2 ^ 64 →
+    line_times : (line : CalendarLine) (n : ℕ) → comes l.entry (speaks_in run l.entry) n ≡ true → n < numbers → line.i < 2 ^ 64 →
         hits n (occurrence_named run es line)
         ≡ cond (is_named l.entry n line.entry line.at.third line.i line.k) 1 0
     line_times line n there below interval = elim (cases_Bool (is_called line.entry line.at.third l)) [
@@ -229,7 +230,7 @@ module _ (run : Run) (es : List ChannelEntry) (listed : AreListed run.tables es)
           (occurrence_named run es line) refl)
     ]
 
-    row_times : (row : Row) (n : ℕ) → is_there run l.entry n ≡ true → n < numbers → HasInterval row →
+    row_times : (row : Row) (n : ℕ) → comes l.entry (speaks_in run l.entry) n ≡ true → n < numbers → HasInterval row →
         times_in (mark_at l n) (marks_in run es row) ≡ cond (names l.entry n row) 1 0
     row_times (rows.Granted g) n there below interval = by (is_requested g.entry) refl interval
       where
@@ -262,7 +263,7 @@ module _ (run : Run) (es : List ChannelEntry) (listed : AreListed run.tables es)
     row_times (rows.Activity a) n there below interval = refl
     row_times (rows.Counts c) n there below interval = refl
 
-    rows_times : (lines : List Row) (n : ℕ) → is_there run l.entry n ≡ true → n < numbers →
+    rows_times : (lines : List Row) (n : ℕ) → comes l.entry (speaks_in run l.entry) n ≡ true → n < numbers →
         AllByRecursion HasInterval lines →
         AllByRecursion (λ row. times_in (mark_at l n) (marks_in run es row) ≡ cond (names l.entry n row) 1 0) lines
     rows_times [] n there below intervals = tt
@@ -286,9 +287,9 @@ module _ (run : Run) (es : List ChannelEntry) (listed : AreListed run.tables es)
       rows_alike lines i k silent within below intervals.1,
     )
 
--- Lines name an occurrence that is there as often as it is marked.
+-- Lines name an occurrence that comes as often as it is marked.
 pub times_marked : (run : Run) (es : List ChannelEntry) (listed : AreListed run.tables es) (l : ChannelEntry) (n : ℕ)
-    (has : Contains es l) → is_there run l.entry n ≡ true → n < numbers → (lines : List Row) (marks : List ℕ) →
+    (has : Contains es l) → comes l.entry (speaks_in run l.entry) n ≡ true → n < numbers → (lines : List Row) (marks : List ℕ) →
     AreMarks run es lines marks → marked marks l n ≡ times l.entry n lines
 times_marked run es listed l n has there below lines marks are =
     sum_by-IsPermutation (λ mark. cond (mark == mark_at l n) 1 0) (flat_map (marks_in run es) lines) marks are.all

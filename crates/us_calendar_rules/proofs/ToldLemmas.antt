@@ -9,11 +9,12 @@ use Rattle.std.proofs.lemmas.List.Folds.{list_any_at, list_any_none}
 use Rattle.std.proofs.lemmas.List.Sorted.{list_any-IsPermutation}
 use Rattle.std.proofs.lemmas.Nat.{div-mul-add, mod-mul-add}
 use Rattle.us_calendar.specs.Entries.{IsEntry}
+use Rattle.us_calendar.specs.Occurrences.{comes, ideal}
 use Rattle.us_output.specs.declared.rows.Row.{Row}
 use Rattle.us_output.specs.declared.rows.Row.TheVariants as rows
 use Rattle.us_lawful.specs.declared.place.Place.{Place}
 use Rattle.us_lawful.specs.Runs.{Run, is_requested}
-use Rattle.us_lawful.specs.CalendarLines.{ChannelEntry, channel_entries, closes, is_calendar_line_at, is_named, is_right_line, is_there, speaks_in, tells_one_of, times}
+use Rattle.us_lawful.specs.CalendarLines.{ChannelEntry, channel_entries, closes, is_calendar_line_at, is_named, is_right_line, is_there, round_quarters, speaks_in, tells_one_of, times}
 use Rattle.us_breaches.specs.Breaches.{At}
 use Rattle.us_breaches.proofs.BreachLemmas.{at_there}
 use Rattle.us_calendar_rules.specs.declared.naming.CalendarLine.{CalendarLine}
@@ -23,7 +24,7 @@ use Rattle.us_calendar_rules.specs.Marks.{AreMarks, HasInterval}
 use Rattle.us_calendar_rules.specs.Failures.{FailsAsLine, LineFails, is_told}
 use Rattle.us_calendar_rules.proofs.FoundLemmas.{find_one, find_some}
 use Rattle.us_calendar_rules.proofs.ListedLemmas.{entry_lawful, one_listed, same_called}
-use Rattle.us_calendar_rules.proofs.NamingLemmas.{named_by, number_below}
+use Rattle.us_calendar_rules.proofs.NamingLemmas.{closed_begins, named_by, number_below}
 use Rattle.us_calendar_rules.proofs.TimesLemmas.{times_marked}
 
 -- Tests that one item alone can pass.
@@ -63,9 +64,9 @@ module _ {X : Type 0} (p q : X → Bool) (xs : List X) (within : (x : X) → p x
 
 -- A line of a calendar.
 
--- of an interval all grants are there while the flow is active, and the first alone while it is silent
+-- of an interval all grants come while the flow is active, and the first alone while it is silent
 there_inside : (run : Run) (l : ChannelEntry) (i k : ℕ) → 1 ≤ l.entry.grants →
-    (nat_lt k l.entry.grants && is_there run l.entry (i * l.entry.grants + k))
+    (nat_lt k l.entry.grants && comes l.entry (speaks_in run l.entry) (i * l.entry.grants + k))
     ≡ nat_lt k (if speaks_at run l i then l.entry.grants else 1)
 there_inside run l i k some = elim (cases_lt k l.entry.grants) [
   | inl inside ↦
@@ -74,7 +75,7 @@ there_inside run l i k some = elim (cases_lt k l.entry.grants) [
       (div-mul-add i l.entry.grants k inside) (mod-mul-add i l.entry.grants k inside))
       ∙ within (speaks_at run l i) inside
   | inr out ↦
-      ap (λ b. b && is_there run l.entry (i * l.entry.grants + k)) (le-ltb k l.entry.grants out)
+      ap (λ b. b && comes l.entry (speaks_in run l.entry) (i * l.entry.grants + k)) (le-ltb k l.entry.grants out)
       ∙ sym (beyond (speaks_at run l i) out)
 ]
   where
@@ -86,14 +87,28 @@ there_inside run l i k some = elim (cases_lt k l.entry.grants) [
     beyond true out = le-ltb k l.entry.grants out
     beyond false out = le-ltb k 1 (omega (arith, out, some))
 
-regrouped : (a b c : Bool) → ((a && true) && (b && c)) ≡ ((a && b) && c)
-regrouped true b c = refl
-regrouped false b c = refl
+regrouped : (a b c d : Bool) → ((a && true) && ((b && c) && d)) ≡ ((a && c) && (b && d))
+regrouped true true c d = refl
+regrouped true false true d = refl
+regrouped true false false d = refl
+regrouped false b c d = refl
+
+-- what closes begins, so that it is asked of the others alone
+asked_once : (begins closed right once : Bool) → (closed ≡ true → begins ≡ true) →
+    (begins && (right && (closed || once))) ≡ (right && (closed || (begins && once)))
+asked_once true closed right once before = refl
+asked_once false true right once before = absurd (false≢true (before refl))
+asked_once false false true once before = refl
+asked_once false false false once before = refl
 
 module _ (run : Run) (es : List ChannelEntry) (listed : AreListed run.tables es) (lines : List Row) (marks : List ℕ)
     (are : AreMarks run es lines marks) where
   abbrev number : CalendarLine → ChannelEntry → ℕ
   number line l = line.i * l.entry.grants + line.k
+
+  -- it is ideal before the run ends
+  abbrev begins : CalendarLine → ChannelEntry → Bool
+  begins line l = nat_lt (ideal l.entry (number line l)) (run.rounds * round_quarters run.tables)
 
   -- what is said of the occurrence that is named
   abbrev holds_for : Row → CalendarLine → ChannelEntry → Bool
@@ -125,23 +140,27 @@ module _ (run : Run) (es : List ChannelEntry) (listed : AreListed run.tables es)
       (named_by l (number line l) line.entry line.at.third line.i line.k
       ∙ ap (λ b. b && (nat_lt line.k l.entry.grants && (number line l == number line l))) called
       ∙ ap (λ b. nat_lt line.k l.entry.grants && b) (eq-eqb (number line l) (number line l) refl))
-      ∙ regrouped (nat_lt line.k l.entry.grants) (is_there run l.entry (number line l)) (holds_for row line l)
-      ∙ ap (λ b. b && holds_for row line l) (there_inside run l line.i line.k lawful.grants)
+      ∙ regrouped (nat_lt line.k l.entry.grants) (begins line l) (comes l.entry (speaks_in run l.entry) (number line l))
+      (holds_for row line l)
+      ∙ ap (λ b. b && (begins line l && holds_for row line l)) (there_inside run l line.i line.k lawful.grants)
       ∙ by (nat_lt line.k (if speaks_at run l line.i then l.entry.grants else 1)) refl
     where
       lawful : IsEntry l.entry
       lawful = entry_lawful run.tables es listed l has
 
       by : (b : Bool) → nat_lt line.k (if speaks_at run l line.i then l.entry.grants else 1) ≡ b →
-          (b && holds_for row line l)
+          (b && (begins line l && holds_for row line l))
           ≡ is_told run marks row
           (if b then Some (record { of = l; number = number line l; active = speaks_at run l line.i }) else None)
       by true inside =
-          let there = and_parts (nat_lt line.k l.entry.grants) (is_there run l.entry (number line l))
+          let there = and_parts (nat_lt line.k l.entry.grants) (comes l.entry (speaks_in run l.entry) (number line l))
           (there_inside run l line.i line.k lawful.grants ∙ inside) in
           let below =
           number_below l.entry line.i line.k lawful interval (ltb-true line.k l.entry.grants there.0) in
-          ap (λ n. is_right_line run l (number line l) row && (closes run l.entry (number line l) || nat_le n 1))
+          asked_once (begins line l) (closes run l.entry (number line l)) (is_right_line run l (number line l) row)
+          (nat_le (times l.entry (number line l) lines) 1) (closed_begins run l.entry (number line l))
+          ∙ ap (λ n. is_right_line run l (number line l) row
+          && (closes run l.entry (number line l) || (begins line l && nat_le n 1)))
           (sym (times_marked run es listed l (number line l) has there.1 below lines marks are))
       by false out = refl
 

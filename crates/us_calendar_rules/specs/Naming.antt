@@ -4,7 +4,7 @@ use Rattle.us_calendar.specs.Occurrences.{ideal}
 use Rattle.us_output.specs.declared.rows.Row.{Row}
 use Rattle.us_output.specs.declared.rows.Row.TheVariants as rows
 use Rattle.us_lawful.specs.Runs.{Run, is_requested}
-use Rattle.us_lawful.specs.CalendarLines.{ChannelEntry, speaks_in}
+use Rattle.us_lawful.specs.CalendarLines.{ChannelEntry, round_quarters, speaks_in}
 use Rattle.us_calendar_rules.specs.declared.naming.CalendarLine.{CalendarLine}
 use Rattle.us_calendar_rules.specs.declared.naming.Occurrence.{Occurrence}
 use Rattle.us_calendar_rules.specs.Listed.{is_called}
@@ -32,6 +32,10 @@ speaks_at run l i = speaks_in run l.entry (l.entry.start + i * l.entry.interval)
 -- and as the interval of an occurrence does
 abbrev pub speaks_of : Run → Occurrence → Bool
 speaks_of run o = speaks_in run o.of.entry (ideal o.of.entry o.number)
+
+-- an occurrence is ideal before the run ends
+abbrev pub begins_in : Run → Occurrence → Bool
+begins_in run o = nat_lt (ideal o.of.entry o.number) (run.rounds * round_quarters run.tables)
 
 -- the occurrence of an entry with this interval and place, if the interval has so many grants
 abbrev pub occurrence_at : Run → CalendarLine → ChannelEntry → Option Occurrence

@@ -11,7 +11,7 @@ use crate::listed::ChannelEntry;
 use crate::marks::at_most_once;
 use crate::naming::{Occurrence, calendar_line, occurrence_named};
 use crate::runs::JudgedRun;
-use crate::windows::{closing, is_right};
+use crate::windows::{begins, closing, is_right};
 use us_breaches::earlier;
 use us_lawful::Place;
 use us_round::Row;
@@ -55,7 +55,8 @@ fn line_breach(
     }
 }
 
-/// Whether a line is right for the occurrence that it names, and no other line names that while it is open.
+/// Whether a line is right for the occurrence that it names; and while that is open, whether it begins before the run ends
+/// and no other line names it.
 fn is_told_right(run: &JudgedRun<'_>, marks: &[u128], occurrence: &Occurrence, row: &Row) -> bool
     requires entry { Contains (channel_entries run.now.tables) occurrence.now.of }
     requires active { occurrence.now.active ≡ speaks_of run.now occurrence.now }
@@ -65,5 +66,5 @@ fn is_told_right(run: &JudgedRun<'_>, marks: &[u128], occurrence: &Occurrence, r
 {
     is_right(run, occurrence, row)
         && (closing(run, &occurrence.of, occurrence.number).is_some()
-            || at_most_once(marks, occurrence))
+            || (begins(run, occurrence) && at_most_once(marks, occurrence)))
 }

@@ -5,7 +5,7 @@ ghost use Rattle.us_calendar.specs.Occurrences.{window_end as spec_window_end};
 ghost use Rattle.us_output.specs.declared.rows.Row.TheVariants as rows;
 ghost use Rattle.us_lawful.specs.CalendarLines as lawful;
 ghost use Rattle.us_calendar_rules.specs.Marks.{numbers};
-ghost use Rattle.us_calendar_rules.specs.Naming.{speaks_of};
+ghost use Rattle.us_calendar_rules.specs.Naming.{begins_in, speaks_of};
 
 use crate::listed::ChannelEntry;
 use crate::naming::Occurrence;
@@ -27,6 +27,17 @@ pub(crate) fn closing(run: &JudgedRun<'_>, of: &ChannelEntry, number: u128) -> O
         return None;
     }
     Some(end as u64 / round_quarters)
+}
+
+/// Whether an occurrence is ideal before the run ends.
+pub(crate) fn begins(run: &JudgedRun<'_>, occurrence: &Occurrence) -> bool
+    requires { occurrence.now.number < numbers }
+    ensures { result ≡ begins_in run.now occurrence.now }
+{
+    let of = occurrence.of;
+    let round_quarters = run.round_quarters();
+    let run_quarters = u64::from(run.trace.rounds()) * round_quarters;
+    ideal(&of.entry, occurrence.number) < u128::from(run_quarters)
 }
 
 /// Whether a line is right for the occurrence that it names.

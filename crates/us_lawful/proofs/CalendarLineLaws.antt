@@ -1,5 +1,5 @@
 -- Each occurrence is granted in its window, or missed in the round in which that closes, and told so by one line.
-use Rattle.std.proofs.Common.{◌≡◌, ℕ, zero, suc, ◌+◌, ◌*◌, ◌/◌, ◌<◌, ◌==◌, nat_le, ◌&&◌, ◌||◌, Bool, true, false, List, [], ◌∷◌, ◌++◌, length, map, flat_map, filter, slice_get, option_map, Some, Contains, refl, sym, ap, subst, ◌∙◌, arith, inl, inr, eq-eqb, le-leb}
+use Rattle.std.proofs.Common.{◌≡◌, ℕ, zero, suc, ◌+◌, ◌*◌, ◌/◌, ◌<◌, ◌==◌, nat_le, nat_lt, ◌&&◌, ◌||◌, Bool, true, false, List, [], ◌∷◌, ◌++◌, length, map, flat_map, filter, slice_get, option_map, Some, Contains, refl, sym, ap, subst, ◌∙◌, arith, inl, inr, eq-eqb, le-leb}
 use Rattle.std.specs.Prelude.{not}
 use Rattle.std.specs.List.{AllByRecursion, list_all, list_any, range_with_len}
 use Rattle.std.proofs.lemmas.Bool.{and_from, and_parts, cases_Bool, or_cases, or_left, or_right}
@@ -12,7 +12,7 @@ use Rattle.us_requests.specs.declared.asks.Counts.{Counts}
 use Rattle.us_calendar.specs.declared.settled.Settled.{Settled}
 use Rattle.us_calendar.specs.declared.settled.Settled.TheVariants as settled
 use Rattle.us_calendar.specs.Entries.{Entry, rank_of, entries, owner_of, slots_of}
-use Rattle.us_calendar.specs.Occurrences.{ideal, window_end}
+use Rattle.us_calendar.specs.Occurrences.{ideal, window_end, comes}
 use Rattle.us_calendar.specs.Calendars.{pace_of}
 use Rattle.us_calendar.specs.Runs as runs
 use Rattle.us_calendar.specs.Runs.{is_name, grants, misses, board_at_turn, IsOccurrence, IsRight}
@@ -31,7 +31,7 @@ use Rattle.us_lawful.proofs.TestLemmas.{all_pass, any_before, any_behind, any_fi
 use Rattle.us_lawful.proofs.SameLemmas.{same_all}
 use Rattle.us_lawful.proofs.RoundLemmas.{rounds_of, IsRoundOf, rounds_are, round_at, rows_in, round_rows, last_rows, last_all}
 use Rattle.us_lawful.proofs.NameLemmas.{row_names, number_told}
-use Rattle.us_lawful.proofs.WindowLemmas.{rounds_for, closing_in_round, closed_once, open_once, settled_come}
+use Rattle.us_lawful.proofs.WindowLemmas.{rounds_for, before_the_end, closing_in_round, closed_once, open_once, settled_before, settled_come}
 use Rattle.us_lawful.proofs.CalendarLineLemmas.{IsListed, IsBuiltAt, AreBuilt, all_by_places, channel_lawful, some_grants, listed_once, occurrences_built}
 use Rattle.us_lawful.proofs.TimesLemmas.{rounds_built, all_lines, lines_counted}
 
@@ -119,9 +119,10 @@ module _ (t : Tables) (cuts : List (List ℕ)) (counts : Counts) (lines : List R
   closed_named : (place : ℕ) (c : Channel) (e : Entry) (n : ℕ) → IsListed t place c e → is_there run e n ≡ true →
       closes run e n ≡ true → times e n lines ≡ 1
   closed_named place c e n is there closed =
+      let parts = and_parts (nat_lt (ideal e n) (length cuts * round_quarters t)) (comes e (speaks_in run e) n) there in
       counted place c e n is
       ∙ closed_once t c cuts (speaks_in run e) e n (channel_lawful t place c lawful is.at)
-      (listed_once t cuts counts place c e n lawful is) there closed
+      (listed_once t cuts counts place c e n lawful is) parts.1 closed
 
   -- and what doesn't at most once
   named_once : (place : ℕ) (c : Channel) (e : Entry) (n : ℕ) → IsListed t place c e →
@@ -175,12 +176,16 @@ module _ (t : Tables) (cuts : List (List ℕ)) (counts : Counts) (lines : List R
 
   -- so that it marks one of an entry
   told_marks : (place : ℕ) (c : Channel) (e : Entry) (n r : ℕ) (board : Board) (s : Settled) →
-      IsListed t place c e → r < length cuts → (grants e n s || misses e n s) ≡ true → is_there run e n ≡ true →
+      IsListed t place c e → r < length cuts → (grants e n s || misses e n s) ≡ true → comes e (speaks_in run e) n ≡ true →
       IsRight (pace_of t c) r e (speaks_in run e (ideal e n)) n board s →
       list_any (tells_one_of run lines (settled_row r c s)) (channel_entries t) ≡ true
-  told_marks place c e n r board s is before named there right =
+  told_marks place c e n r board s is before named come right =
       let l : ChannelEntry = listed_on c e in
       let row : Row = settled_row r c s in
+      let begins = before_the_end t c e n r (length cuts) (channel_lawful t place c lawful is.at) before
+      (settled_before (pace_of t c) r e (speaks_in run e (ideal e n)) n board s named right) in
+      let there : is_there run e n ≡ true =
+      and_from (nat_lt (ideal e n) (length cuts * round_quarters t)) (comes e (speaks_in run e) n) begins come in
       let once : ℕ → Bool = λ m. closes run e m || nat_le (times e m lines) 1 in
       listed_any t (tells_one_of run lines row) place c e is
       (subst (λ m. (names e m row && (is_there run e m && (is_right_line run l m row && once m))) ≡ true)
@@ -192,10 +197,10 @@ module _ (t : Tables) (cuts : List (List ℕ)) (counts : Counts) (lines : List R
       (told_right c e n r board s (channel_lawful t place c lawful is.at) before named right)
       (named_once place c e n is)))))
 
-  -- what the calendar of the channel settled in a round is told so: it is there, and right
+  -- what the calendar of the channel settled in a round is told so: it comes, and is right
   abbrev AreRight : Channel → ℕ → runs.Round → Entry → ℕ → List Settled → Type 0
   AreRight c r round e n all =
-      AllByRecursion (λ s. (grants e n s || misses e n s) ≡ true → is_there run e n ≡ true) all
+      AllByRecursion (λ s. (grants e n s || misses e n s) ≡ true → comes e (speaks_in run e) n ≡ true) all
       × AllByRecursion (IsRight (pace_of t c) r e (speaks_in run e (ideal e n)) n (board_at_turn e n round)) all
 
   -- So hold the lines of a channel's round.

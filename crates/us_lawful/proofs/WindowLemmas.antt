@@ -1,10 +1,10 @@
 -- When windows close: what becomes of an occurrence in the rounds of a run, told by the run's quarters.
-use Rattle.std.proofs.Common.{◌≡◌, ℕ, suc, ◌+◌, ◌-◌, ◌*◌, ◌/◌, ◌<◌, ◌≤◌, nat_lt, ◌||◌, Bool, true, false, cond, List, [], ◌∷◌, length, sum_by, count_by, slice_get, Some, refl, sym, ap, subst, ◌∙◌, arith, inl, inr, lt-ltb, ltb-true, ltb-false}
+use Rattle.std.proofs.Common.{◌≡◌, ℕ, suc, ◌+◌, ◌-◌, ◌*◌, ◌/◌, ◌<◌, ◌≤◌, nat_lt, nat_le, ◌||◌, Bool, true, false, cond, List, [], ◌∷◌, length, sum_by, count_by, slice_get, Some, refl, sym, ap, subst, ◌∙◌, arith, inl, inr, lt-ltb, ltb-true, ltb-false}
 use Rattle.std.specs.List.{AllByRecursion}
-use Rattle.std.proofs.lemmas.Bool.{cases_Bool, false≢true}
+use Rattle.std.proofs.lemmas.Bool.{and_parts, cases_Bool, false≢true, leb-true, or_cases}
 use Rattle.std.proofs.lemmas.List.FromFn.{length-map-range_with_len}
-use Rattle.std.proofs.lemmas.Nat.{div-mul-add, mul-le}
-use Rattle.us_slots.specs.Times.{minislot_ticks}
+use Rattle.std.proofs.lemmas.Nat.{div-mul-add, mul-le, pow_pos}
+use Rattle.us_slots.specs.Times.{minislot_ticks, start_of}
 use Rattle.us_flows.specs.declared.channels.Channel.{Channel}
 use Rattle.us_flows.specs.Tables.{Tables, map_len}
 use Rattle.us_flows.specs.Lawful.{IsChannel}
@@ -13,9 +13,9 @@ use Rattle.us_calendar.specs.declared.settled.Settled.{Settled}
 use Rattle.us_calendar.specs.declared.settled.Settled.TheVariants as settled
 use Rattle.us_calendar.specs.Activity.{active_in, speaks_by}
 use Rattle.us_calendar.specs.Entries.{Entry, rank_of}
-use Rattle.us_calendar.specs.Occurrences.{Pace, comes, end_of, window_end}
+use Rattle.us_calendar.specs.Occurrences.{Pace, comes, end_of, window_end, ideal}
 use Rattle.us_calendar.specs.Calendars.{Calendar, pace_of, opening, after}
-use Rattle.us_calendar.specs.Runs.{Round, rounds_on, end_after, is_name, grants, misses, times, IsSettledOnce}
+use Rattle.us_calendar.specs.Runs.{Round, rounds_on, end_after, is_name, grants, misses, times, IsSettledOnce, IsRight}
 use Rattle.us_channel.specs.Reserves.{reserves}
 use Rattle.us_round.specs.ScheduleLaws.{boards_of}
 use Rattle.us_lawful.specs.CalendarLines.{round_quarters}
@@ -53,6 +53,45 @@ closing_in_round t c e n r count is before low high =
     (subst (λ end. end ≤ window_end e n) (rounds_end t c r is) low)
     (subst (λ end. window_end e n < end) (rounds_end t c (r + 1) is) high) in
     (lt-ltb (window_end e n) (count * round_quarters t) both.0, both.1)
+
+-- What is settled in a round is ideal before the round ends:
+
+-- a minislot of the round starts before its end,
+starts_before : (r len start ticks : ℕ) → start < len → 0 < ticks →
+    25 * ((r * len + start) * ticks) < 25 * ((r + 1) * len * ticks)
+starts_before r len start ticks inside some =
+    let next : (r + 1) * len ≡ r * len + len = grind arith in
+    let place : r * len + start + 1 ≤ (r + 1) * len = omega (arith, inside, next) in
+    let product : (r * len + start + 1) * ticks ≤ (r + 1) * len * ticks =
+    mul-le (r * len + start + 1) ticks ((r + 1) * len) ticks place (omega arith) in
+    let parts : (r * len + start + 1) * ticks ≡ (r * len + start) * ticks + ticks = grind arith in
+    omega (arith, product, parts, some)
+
+-- and so does a window that ends there
+pub settled_before : (pace : Pace) (r : ℕ) (e : Entry) (active : Bool) (n : ℕ) (board : Board) (s : Settled) →
+    (grants e n s || misses e n s) ≡ true → IsRight pace r e active n board s → ideal e n < end_after pace (r + 1)
+settled_before pace r e active n board (settled.Granted kind id i k start slots owner) named right =
+    let name : is_name e n (rank_of kind) id i k ≡ true =
+    elim (or_cases (is_name e n (rank_of kind) id i k) false named) [ inl own ↦ own | inr never ↦ absurd (cc never) ] in
+    let facts = right name in
+    let moment : ℕ = start_of pace.time (r * pace.len + start) in
+    let parts = and_parts (nat_le (ideal e n) moment) (nat_le moment (ideal e n + e.jitter)) facts.1 in
+    let early : ideal e n ≤ moment = leb-true (ideal e n) moment parts.0 in
+    let before = starts_before r pace.len start (minislot_ticks pace.time) facts.0 (pow_pos pace.time.minislot_log2) in
+    omega (arith, early, before)
+settled_before pace r e active n board (settled.Missed kind id i k) named right =
+    let facts = right named in
+    omega (arith, facts.1)
+
+-- so in a round of the run it is ideal before the run ends
+pub before_the_end : (t : Tables) (c : Channel) (e : Entry) (n r count : ℕ) → IsChannel t c → r < count →
+    ideal e n < end_after (pace_of t c) (r + 1) → nat_lt (ideal e n) (count * round_quarters t) ≡ true
+before_the_end t c e n r count is before early =
+    let inside : (r + 1) * round_quarters t ≤ count * round_quarters t =
+    mul-le (r + 1) (round_quarters t) count (round_quarters t) (omega (arith, before)) (omega arith) in
+    let soon : ideal e n < (r + 1) * round_quarters t =
+    subst (λ end. ideal e n < end) (rounds_end t c (r + 1) is) early in
+    lt-ltb (ideal e n) (count * round_quarters t) (omega (arith, soon, inside))
 
 -- What a channel's calendar settles.
 

@@ -44,9 +44,10 @@ closes run e n = nat_lt (window_end e n) (run.rounds * round_quarters run.tables
 abbrev pub speaks_in : Run → Entry → ℕ → Bool
 speaks_in run e time = active_in e.silence run.cuts (time / round_quarters run.tables)
 
--- an occurrence is there: all of an interval that begins while the flow is active, and the first alone of a silent one
+-- an occurrence is there: it is ideal before the run ends; and of an interval that begins while the flow is active all come, of
+-- a silent one the first alone
 abbrev pub is_there : Run → Entry → ℕ → Bool
-is_there run e n = comes e (speaks_in run e) n
+is_there run e n = nat_lt (ideal e n) (run.rounds * round_quarters run.tables) && comes e (speaks_in run e) n
 
 -- the occurrences that close in a round of the run. An interval lasts a quarter microsecond at least, so that all of them
 -- are among these numbers.

@@ -1,4 +1,4 @@
-use super::base::{Case, FIRST, OPEN, OTHERS, SECOND, compare};
+use super::base::{Case, FIRST, OPEN, OTHERS, SECOND, compare, compare_by};
 
 #[test]
 fn right_lines(rt: HostRuntime) {
@@ -48,6 +48,47 @@ fn lines_of_nothing(rt: HostRuntime) {
         answer: Some((9, 1, 1)),
     };
     compare(&rt, rt.alloc(), &[word, missed, third, limits]);
+}
+
+#[test]
+fn occurrences_behind_the_run(rt: HostRuntime) {
+    let open = Case {
+        name: "an occurrence that begins in the run, granted behind it",
+        lines: &[OTHERS, FIRST, SECOND, "G,3,1,ugs,1,1,0,513,11,0,1,0"],
+        answer: None,
+    };
+    let behind = Case {
+        name: "one that begins behind the run",
+        lines: &[OTHERS, FIRST, SECOND, "G,4,1,ugs,1,2,0,513,11,152,1,0"],
+        answer: Some((4, 1, 1)),
+    };
+    compare(&rt, rt.alloc(), &[open, behind]);
+}
+
+/// A station of which the second interval begins as the run ends.
+const AT_THE_END: &str = "
+[[station]]
+id = 7
+channel = 1
+sid = 5
+start_us = 2000
+interval_us = 4000
+jitter_us = 2000
+";
+
+#[test]
+fn occurrences_at_the_end(rt: HostRuntime) {
+    let none = Case {
+        name: "no line of it",
+        lines: &["M,2,1,station,7,0,0"],
+        answer: None,
+    };
+    let granted = Case {
+        name: "granted as the run ends",
+        lines: &["M,2,1,station,7,0,0", "G,3,1,station,7,1,0,5,4,0,4,0"],
+        answer: Some((3, 1, 7)),
+    };
+    compare_by(&rt, rt.alloc(), AT_THE_END, &[none, granted]);
 }
 
 #[test]
