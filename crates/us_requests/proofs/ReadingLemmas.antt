@@ -1,11 +1,12 @@
 -- Reading a trace: what is answered where its source was not read to its end.
-use Rattle.std.proofs.Common.{◌≡◌, ℕ, suc, ◌<◌, List, length, replicate, Option, Some, None, refl, inl, arith}
+use Rattle.std.proofs.Common.{◌≡◌, ℕ, suc, ◌<◌, List, length, replicate, Option, Some, None, refl, sym, ◌∙◌, inl, arith}
 use Rattle.std.specs.Prelude.{Result, Ok, Err, IsErrAnd, IfSome}
 use Rattle.std.proofs.lemmas.List.{length-replicate}
 use Rattle.us_slots.specs.declared.devices.reading.ReadFault.{ReadFault}
 use Rattle.us_slots.specs.declared.devices.reading.ReadFault.TheVariants as read_fault
 use Rattle.us_flows.specs.Tables.{Tables}
 use Rattle.us_requests.specs.declared.faults.TraceFault.{TraceFault}
+use Rattle.us_requests.specs.declared.faults.TraceFault.TheVariants as fault
 use Rattle.us_requests.specs.Traces.{TraceAsks}
 use Rattle.us_requests.specs.Readings.{Reads, TellsOf, max_bytes, of_read_fault}
 
@@ -31,3 +32,17 @@ not-read t rounds told (Err g) read_fault.TooLarge given large =
     rw given (long.0, long.1, inl long.2)
 not-read t rounds told (Err g) read_fault.Failed given large = rw given tt
 not-read t rounds told (Err g) read_fault.NoMemory given large = rw given tt
+
+-- where that is want of memory, so was the answer of the reading of its source
+pub was_wanting : (r : Result TraceAsks TraceFault) (f : ReadFault) → IsErrAnd r (λ given. given ≡ of_read_fault f) →
+    r ≡ Err fault.NoMemory → f ≡ read_fault.NoMemory
+was_wanting (Ok trace) f given is = absurd given
+was_wanting (Err g) read_fault.TooLarge given is =
+    let same : g ≡ fault.NoMemory = cc is in
+    let never : fault.TooLarge ≡ fault.NoMemory = sym given ∙ same in
+    absurd (cc never)
+was_wanting (Err g) read_fault.Failed given is =
+    let same : g ≡ fault.NoMemory = cc is in
+    let never : fault.Read ≡ fault.NoMemory = sym given ∙ same in
+    absurd (cc never)
+was_wanting (Err g) read_fault.NoMemory given is = refl

@@ -25,8 +25,8 @@ pub record IsTextOf (told : Option (List ℕ)) (text : List ℕ) : Type 0 where
   pub tells : TellsOf told text
   pub short : length text ≤ max_bytes
 
--- what a read answers, by cases on the answer; of want of memory it says nothing, and of a source that failed another
--- clause does
+-- what a read answers, by cases on the answer; of want of memory, and of a source that failed, other clauses say how much
+-- was taken
 abbrev pub Reads : Tables → ℕ → Option (List ℕ) → Result TraceAsks TraceFault → Type 0
 Reads t rounds told (Ok trace) =
     (text : List ℕ) × IsTextOf told text × (trace_fault text ≡ None) × IsTraceOf t rounds (requests_of text) trace

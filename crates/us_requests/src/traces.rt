@@ -41,7 +41,8 @@ impl Model for Trace {
 
 impl Trace {
     /// Reads a trace for a run of so many rounds: first all bytes of `source`, then its records. The faults are TR1 to
-    /// TR6, in the order of [`TraceFault`].
+    /// TR6, in the order of [`TraceFault`]. Where more bytes were taken than a trace may have, it answers TR4, and never
+    /// want of memory.
     pub fn read<R: Source>(
         alloc: Global,
         source: &mut R,
@@ -52,6 +53,8 @@ impl Trace {
         requires ready { R.failed source.old ≡ false }
         ensures read { Reads config.now rounds (R.remaining source.old) result }
         ensures taken { result ≡ Err fault.Read →
+            TookAtMost max_bytes (R.remaining source.old) (R.remaining source.new) }
+        ensures wanting { result ≡ Err fault.NoMemory →
             TookAtMost max_bytes (R.remaining source.old) (R.remaining source.new) }
         ensures failed { (R.failed source.new ≡ true) ↔ (result ≡ Err fault.Read) }
     {

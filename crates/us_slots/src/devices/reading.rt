@@ -71,11 +71,12 @@ impl<T: Drop> From<AllocFailed<T>> for ReadFault {
 }
 
 /// All bytes of `source`, of which there are at most `most`. Reading stops where a byte past `most` is met, so a read
-/// that fails comes before it.
+/// that fails comes before it: at most `most` bytes are taken, unless the source has more.
 pub fn read_all<S: Source>(alloc: Global, source: &mut S, most: usize) -> Result<Vec<u8>, ReadFault>
     requires { S.failed source.old ≡ false }
     ensures value { IfOk result (λ v. IfSome (S.remaining source.old) (λ bytes. v.items ≡ bytes)) }
     ensures bound { IfOk result (λ v. length v.items ≤ most) }
+    ensures whole { IfOk result (λ _. TookAtMost most (S.remaining source.old) (S.remaining source.new)) }
     ensures large { result ≡ Err ReadFault.TooLarge → IfSome (S.remaining source.old) (λ bytes. most < length bytes) }
     ensures taken { result ≡ Err ReadFault.Failed →
         TookAtMost most (S.remaining source.old) (S.remaining source.new) }
