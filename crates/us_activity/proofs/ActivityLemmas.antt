@@ -16,8 +16,9 @@ use Rattle.us_activity.specs.declared.marks.Mark.{Mark}
 use Rattle.us_activity.specs.Marks.{active_before, is_mark, says}
 use Rattle.us_activity.specs.Activities.{AreMarksOf}
 use Rattle.us_activity.specs.Kept.{is_silent, marks_in, silent_words}
-use Rattle.us_activity.proofs.MarkLemmas.{said_inside, said_outside}
-use Rattle.us_activity.proofs.WordLemmas.{are_noted}
+use Rattle.us_activity.proofs.MarkLemmas.{never_said, said_inside, said_outside}
+use Rattle.us_activity.proofs.SearchLemmas.{none_said}
+use Rattle.us_activity.proofs.WordLemmas.{are_noted, not_noted}
 
 -- one round more
 activity-more : (silence : Option Silence) (was : Bool) (cuts : List (List ℕ)) (cut : List ℕ) →
@@ -89,6 +90,10 @@ are_marks t v marks moved = record {
             sym (list_any-IsPermutation (is_mark word r active) (marks_in (silent_words t) v) marks moved)
             ∙ said_outside (silent_words t) word noted.silent_is noted.active_is v r active late;
       }) (round + 1);
+  others = λ word round none.
+      none_said marks word (round + 1) (λ r active early.
+      sym (list_any-IsPermutation (is_mark word r active) (marks_in (silent_words t) v) marks moved)
+      ∙ never_said (silent_words t) word (not_noted t word none) v r active);
 }
 
 -- where no word marks a flow as silent, there is nothing to tell
@@ -102,4 +107,5 @@ none_marks t v none = record {
       omega (arith, noted.within, length-map (words_of t) is_silent) in
       let never : true ≡ false = sym noted.silent_is ∙ none word false inside in
       absurd cc;
+  others = λ word round none. none_said [] word (round + 1) (λ r active early. refl);
 }

@@ -223,6 +223,49 @@ module _ (silent : List Bool) (word : ℕ) (silent_is : silent_at silent word �
         says (marks_in silent v) word round active ≡ false
     said_outside round active late = outside 0 v.rounds round active (inr (omega (arith, late)))
 
+-- A word that marks no flow as silent has no mark.
+
+module _ (silent : List Bool) (word : ℕ) (out : silent_at silent word ≡ false) where
+  apart : (by : ℕ) → silent_at silent by ≡ true → by ≡ word → ⊥
+  apart by s is =
+      let never : true ≡ false = sym s ∙ ap (silent_at silent) is ∙ out in
+      absurd cc
+
+  no_mark : (round other : ℕ) (active : Bool) (ask : Ask) →
+      passes (is_mark word round active) (mark_of silent other ask) ≡ false
+  no_mark round other active ask = elim (cases_eq ask.bytes 0) [
+    | inl none ↦ rw (eq-eqb ask.bytes 0 none) refl
+    | inr some ↦
+        rw (ne_eqb ask.bytes 0 some)
+        (elim (cases_Bool (silent_at silent ask.cluster)) [
+          | inl s ↦ rw (s, ne_eqb ask.cluster word (apart ask.cluster s)) refl
+          | inr n ↦ elim (cases_Bool (nat_lt 0 ask.cluster && silent_at silent (ask.cluster - 1))) [
+            | inl a ↦
+                let parts = and_parts (nat_lt 0 ask.cluster) (silent_at silent (ask.cluster - 1)) a in
+                rw (n, a, ne_eqb (ask.cluster - 1) word (apart (ask.cluster - 1) parts.1)) refl
+            | inr b ↦ rw (n, b) refl
+          ]
+        ])
+  ]
+
+  none_by : (v : TraceAsks) (round other : ℕ) (active : Bool) →
+      list_any (is_mark word round active) (round_marks silent v other) ≡ false
+  none_by v round other active =
+      any-kept (is_mark word round active) (mark_of silent other) (asks_in v other)
+      ∙ any-none (λ ask. passes (is_mark word round active) (mark_of silent other ask)) (asks_in v other)
+      (λ ask. no_mark round other active ask)
+
+  pub never_said : (v : TraceAsks) (round : ℕ) (active : Bool) → says (marks_in silent v) word round active ≡ false
+  never_said v round active = over (range_with_len 0 v.rounds)
+    where
+      over : (rounds : List ℕ) →
+          list_any (is_mark word round active) (flat_map (round_marks silent v) rounds) ≡ false
+      over [] = refl
+      over (other ∷ rounds) =
+          list_any-append (is_mark word round active) (round_marks silent v other)
+          (flat_map (round_marks silent v) rounds)
+          ∙ rw (none_by v round other active, over rounds) refl
+
 -- one round more
 range_more : (f : ℕ → List Mark) (from n : ℕ) →
     flat_map f (range_with_len from (suc n)) ≡ flat_map f (range_with_len from n) ++ f (from + n)

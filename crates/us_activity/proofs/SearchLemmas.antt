@@ -16,7 +16,7 @@ fails false never = refl
 
 -- Marks of rounds.
 
-none_said : (marks : List Mark) (word n : ℕ) →
+pub none_said : (marks : List Mark) (word n : ℕ) →
     ((r : ℕ) (active : Bool) → r < n → says marks word r active ≡ false) → active_before marks word n ≡ true
 none_said marks word zero none = refl
 none_said marks word (suc n) none =

@@ -1,5 +1,5 @@
 -- The words that mark flows as silent.
-use Rattle.std.proofs.Common.{◌≡◌, ℕ, zero, suc, ◌+◌, ◌<◌, ◌==◌, Bool, true, false, List, [], ◌∷◌, ◌++◌, length, map, take, get_or, flat_map, Some, None, append_assoc, refl, sym, ap, ◌∙◌, arith}
+use Rattle.std.proofs.Common.{◌≡◌, ◌≢◌, ℕ, zero, suc, ◌+◌, ◌<◌, ◌==◌, Bool, true, false, List, [], ◌∷◌, ◌++◌, length, map, take, get_or, flat_map, Some, None, append_assoc, refl, sym, ap, ◌∙◌, arith}
 use Rattle.std.specs.Prelude.{◌&&◌, slice_get}
 use Rattle.std.proofs.lemmas.Grind.{flat_map-append}
 use Rattle.std.proofs.lemmas.List.{append-nil, map-append, take_more}
@@ -113,6 +113,22 @@ there : (words : List Word) (k : ℕ) (word : Word) → slice_get words k ≡ So
 there [] k word at = let never : None ≡ Some word = at in cc
 there (first ∷ words) zero word at = omega arith
 there (first ∷ words) (suc k) word at = omega (arith, there words k word at)
+
+-- and of one that marks no flow as silent
+not_silent : (words : List Word) (k : ℕ) → ((flow : FlowTable) → slice_get words k ≢ Some (Silent flow)) →
+    silent_at (map is_silent words) k ≡ false
+not_silent [] k none = refl
+not_silent (first ∷ words) zero none = by first none
+  where
+    by : (word : Word) → ((flow : FlowTable) → Some word ≢ Some (Silent flow)) → is_silent word ≡ false
+    by (Requests cluster) other = refl
+    by (Silent flow) other = absurd (other flow refl)
+    by (Active flow) other = refl
+not_silent (first ∷ words) (suc k) none = not_silent words k none
+
+pub not_noted : (t : Tables) (word : ℕ) → ((flow : FlowTable) → slice_get (words_of t) word ≢ Some (Silent flow)) →
+    silent_at (silent_words t) word ≡ false
+not_noted t word none = not_silent (words_of t) word none
 
 -- a flow's two words, among so many and as they are noted
 pub record AreNoted (silent : List Bool) (words word : ℕ) : Type 0 where

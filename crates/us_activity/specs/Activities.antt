@@ -1,5 +1,5 @@
 -- Who is active in which round of a trace (ours).
-use Rattle.std.specs.Prelude.{◌≡◌, ℕ, Some, slice_get}
+use Rattle.std.specs.Prelude.{◌≡◌, ◌≢◌, ℕ, true, Some, slice_get}
 use Rattle.us_flows.specs.Tables.{Tables, FlowTable}
 use Rattle.us_flows.specs.Clusters.{Silent, words_of}
 use Rattle.us_requests.specs.Traces.{TraceAsks, cuts_in}
@@ -13,3 +13,6 @@ pub record AreMarksOf (t : Tables) (v : TraceAsks) (marks : Marks) : Type 0 wher
   pub told : (flow : FlowTable) (silence : Silence) (round : ℕ) →
       slice_get (words_of t) silence.word ≡ Some (Silent flow) →
       is_active marks silence.word round ≡ active_in (Some silence) (cuts_in t v) round
+  -- By each other word nothing is told: an ask by a cluster's word is no mark.
+  pub others : (word round : ℕ) → ((flow : FlowTable) → slice_get (words_of t) word ≢ Some (Silent flow)) →
+      is_active marks word round ≡ true

@@ -85,6 +85,20 @@ by_cuts :
 unfolding cuts_in cut_of of_round
 by_cuts = (refl, refl)
 
+-- By a word that marks no flow as silent nothing is told, be it a cluster's or one that marks a flow as active;
+by_other_words :
+    (in_rounds (is_active marks 2) ≡ true ∷ true ∷ true ∷ true ∷ true ∷ true ∷ [])
+    × (in_rounds (is_active marks 1) ≡ true ∷ true ∷ true ∷ true ∷ true ∷ true ∷ [])
+    × (in_rounds (is_active marks 4) ≡ true ∷ true ∷ true ∷ true ∷ true ∷ true ∷ [])
+by_other_words = (refl, refl, refl)
+
+-- read as marks, what the cuts have of the cluster's word would tell that some flow is silent in round 1
+as_marks :
+    in_rounds (active_in (Some (record { word = 2; slots = 2 })) (cuts_in tables trace))
+    ≡ true ∷ false ∷ true ∷ true ∷ true ∷ true ∷ []
+unfolding cuts_in cut_of of_round
+as_marks = refl
+
 -- without marks
 none : in_rounds (is_active [] 0) ≡ true ∷ true ∷ true ∷ true ∷ true ∷ true ∷ []
 none = refl

@@ -27,7 +27,7 @@ impl Model for Activities {
 }
 
 impl Activities {
-    /// Those of a configuration, in the rounds of a trace.
+    /// Those of a configuration, in the rounds of a trace. An ask by a cluster's word is no mark.
     pub fn of(alloc: Global, config: &Config, trace: &Trace) -> Result<Activities, NoMemory>
         ensures { IfOk result (AreMarksOf config.now trace.now) }
     {
@@ -43,7 +43,8 @@ impl Activities {
         })
     }
 
-    /// Whether the flow that this word marks as silent is active in a round. Behind the last round it is as in that one.
+    /// Whether the flow that this word marks as silent is active in a round. Behind the last round it is as in that one. By
+    /// a word that marks no flow as silent the answer is always that it is.
     pub fn is_active(&self, word: u16, round: u128) -> bool
         ensures { result ≡ spec.is_active self.now word round }
     {
