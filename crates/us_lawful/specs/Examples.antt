@@ -1,10 +1,8 @@
--- The stored run, in which one modem asks for 1,000 bytes: what it is judged by, and what is judged of it. Beside it
--- headings, and lines of rounds and channels that it lacks.
-use Rattle.std.specs.Prelude.{◌≡◌, ℕ, true, false, List, [], ◌∷◌, ◌++◌, map, codes, Some, None, IfSome, ⊤, refl}
-use Rattle.std.proofs.Common.{subst, arith}
+-- The stored run, in which one modem asks for 1,000 bytes: what it is judged by, and what is judged of it. Beside it lines
+-- of rounds and channels that it lacks.
+use Rattle.std.specs.Prelude.{◌≡◌, ℕ, true, false, List, [], ◌∷◌, ◌++◌, codes, None, ⊤, refl}
 use Rattle.std.specs.Fmt.{digits}
 use Rattle.us_slots.specs.Bursts.{coded_length, burst_cost}
-use Rattle.us_codec.specs.declared.heads.Head.{Head}
 use Rattle.us_codec.specs.Elements.{MapElement, null_at}
 use Rattle.us_codec.specs.Bodies.{MapBody}
 use Rattle.us_flows.specs.declared.flows.SchedulingType.TheVariants.{ActivityDetection}
@@ -21,7 +19,6 @@ use Rattle.us_round.specs.RoundExamples.{base, base_channel, base_flow, round_st
 use Rattle.us_lawful.specs.declared.place.Place.{Place}
 use Rattle.us_lawful.specs.declared.judged.RoundMap.{RoundMap}
 use Rattle.us_lawful.specs.Runs.{Run, Judged}
-use Rattle.us_lawful.specs.Headings.{heading_of, heading_told, headings_of, HeadingsHold}
 use Rattle.us_lawful.specs.Places.{places_hold}
 use Rattle.us_lawful.specs.Regions.{element_regions, regions_hold}
 use Rattle.us_lawful.specs.Credits.{credits_hold}
@@ -130,54 +127,7 @@ silent_report :
 unfolding steps round_steps output_of lines digits coming due settle_each settle_entry
 silent_report = refl
 
--- Headings.
-
-lawful_headings : map heading_told told.maps ≡ headings_of stored
-unfolding steps
-lawful_headings = refl
-
--- where the Null stands a minislot early, that is the length that is told
-early_null :
-    let body : MapBody = record { head = head_of base 0 base_channel; elements = element 0 1 0 ∷ null_at 159 ∷ [] } in
-    (heading_told (record { round = 0; body = body })).len ≡ Some 159
-unfolding steps
-early_null = refl
-
--- the round that is told, and the Alloc Start Time
-other_round :
-    let body : MapBody = record granted_map.body { head = record granted_map.body.head { alloc_start = 161 } } in
-    (map (λ h. h.round) (map heading_told (quiet_map ∷ record granted_map { round = 7 } ∷ [])) ≡ 0 ∷ 7 ∷ [])
-    × (map (λ h. h.round) (headings_of stored) ≡ 0 ∷ 1 ∷ [])
-    × ((heading_told (record granted_map { body = body })).head.alloc_start ≡ 161)
-    × (map (λ h. h.head.alloc_start) (headings_of stored) ≡ 0 ∷ 160 ∷ [])
-unfolding steps
-other_round = (refl, refl, refl, refl)
-
--- with a MAP missing, and with an Ack Time of 81, they differ from those that must be there
-other_headings :
-    let late_head : Head = record granted_map.body.head { ack = 81 } in
-    let late : RoundMap = record { round = 1; body = record granted_map.body { head = late_head } } in
-    (map heading_told (quiet_map ∷ []) ≡ heading_of base 0 base_channel ∷ [])
-    × (map (λ h. h.head.ack) (map heading_told (quiet_map ∷ late ∷ [])) ≡ 0 ∷ 81 ∷ [])
-    × (map (λ h. h.head.ack) (headings_of stored) ≡ 0 ∷ 80 ∷ [])
-unfolding steps
-other_headings = (refl, refl, refl)
-
--- so the rule fails at the second MAP, and holds at the first; with the second MAP missing it fails there too
-second_heading :
-    let late_head : Head = record granted_map.body.head { ack = 81 } in
-    let late : RoundMap = record { round = 1; body = record granted_map.body { head = late_head } } in
-    HeadingsHold stored (with_maps quiet_map late) (at 0 0 0)
-    × (HeadingsHold stored (with_maps quiet_map late) (at 0 0 1) → ⊥)
-unfolding steps
-second_heading =
-    (λ _ _. refl, λ holds. omega (arith, subst (λ told. IfSome told (λ h. h.head.ack ≡ 81)) (holds refl refl) refl))
-
-missing_heading :
-    let judged : Judged = record { maps = quiet_map ∷ []; lines = ends 1000 } in
-    HeadingsHold stored judged (at 0 0 0) × (HeadingsHold stored judged (at 0 0 1) → ⊥)
-unfolding steps
-missing_heading = (λ _ _. refl, λ holds. subst (λ told. IfSome told (λ h. ⊥)) (holds refl refl) tt)
+-- Rounds and channels.
 
 -- A line of a round that the run lacks: all else holds, and the F line is as if nothing was credited.
 round_past_the_end :

@@ -36,6 +36,7 @@ pub mod LineExamples
 -- the stored run,
 pub mod Examples
 -- and each rule
+pub mod HeadingExamples
 pub mod RegionExamples
 pub mod CalendarLineExamples
 pub mod CreditExamples
