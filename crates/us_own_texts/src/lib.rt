@@ -7,7 +7,12 @@
 
 ghost use Rattle.us_own_texts.specs.OwnTexts.{OwnTextsHold};
 
-/// What a replay wrote that answered Ok holds, with the same tables, trace and rounds, unless memory is wanting.
+/// What a replay wrote that answered Ok holds, with the same tables and rounds, and a trace that was read of the same bytes,
+/// unless memory is wanting. It takes what the clauses of `replay` (`lawful`), `Trace::read` (`read`) and `check` say, of a
+/// source and of writers that tell their bytes, and nothing else.
 pub fn own_texts_hold()
     ensures { OwnTextsHold }
 {}
+
+#[cfg(test)]
+mod tests;
