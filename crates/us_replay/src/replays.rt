@@ -39,6 +39,11 @@ mod whole_run;
 /// (RU3). Each round writes its records and then its lines, the channels in table order; after the last one the F lines,
 /// the A lines and the U line are written, and both writers are flushed, the maps file's first. The first fault ends the
 /// replay (RU4, RU5, RU6).
+///
+/// The requests of a round are added to their words by whichever workers, and then taken: one swap for each, of the word
+/// that it names, and of no other word. To take a word that holds nothing would change nothing but that it counts as
+/// taken. With a take of each word that no request names, and of each named one where it comes first, a round's steps are
+/// complete, with the same cut, and leave nothing in any word (`taking_nothing` and `replays_are_complete` of `us_steps`).
 pub fn replay<H: Threads + Wait + Sync, R: Source, W1: Sink, W2: Sink, G: Gate + Sync>(
     threads: &H,
     alloc: Global,

@@ -7,3 +7,4 @@ pub mod MachineLemmas
 pub mod ChannelLemmas
 pub mod SeatLaws
 pub mod PlayLaws
+pub mod ReplayLaws

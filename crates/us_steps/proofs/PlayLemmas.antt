@@ -89,7 +89,7 @@ mapped f a (x ∷ xs) each =
     mapped f (a + 1) xs (λ q below. each (suc q) (omega (arith, below)) ∙ ap f (next q)) in
     ap (λ y. y ∷ xs) first ∙ ap (λ ys. f a ∷ ys) rest
 
-mapped-at : (f : ℕ → ℕ) (xs : List ℕ) (n : ℕ) → length xs ≡ n → ((q : ℕ) → q < n → slice_index xs q ≡ f q) →
+pub mapped-at : (f : ℕ → ℕ) (xs : List ℕ) (n : ℕ) → length xs ≡ n → ((q : ℕ) → q < n → slice_index xs q ≡ f q) →
     xs ≡ map f (range_with_len 0 n)
 mapped-at f xs n long each =
     let by : xs ≡ map f (range_with_len 0 (length xs)) =

@@ -1,8 +1,9 @@
 -- Small lists of steps, computed by the definitions alone.
 use Rattle.std.specs.Prelude.{◌≡◌, ℕ, List, [], ◌∷◌, slice_index, false, Option, Some, None, option_map, refl}
 use Rattle.std.specs.List.{AllByRecursion}
-use Rattle.std.proofs.Common.{arith}
+use Rattle.std.proofs.Common.{ap, arith}
 use Rattle.us_requests.specs.declared.asks.Ask.{Ask}
+use Rattle.us_requests.specs.Cuts as requests
 use Rattle.us_steps.specs.Steps.{adds, builds, count, cut_of, left_of, IsComplete}
 use Rattle.us_flows.specs.declared.channels.Channel.{Channel}
 use Rattle.us_calendar.specs.Calendars.{Calendar}
@@ -10,6 +11,7 @@ use Rattle.us_round.specs.Rounds.{State, begun}
 use Rattle.us_steps.specs.Machines.{Stand, Home, Done, Machine, no_seats, filled_by, placed, after_step, run}
 use Rattle.us_steps.specs.Plays.{cuts_of, words_after}
 use Rattle.us_steps.specs.Laws.{IsSeated, all_added, all_took}
+use Rattle.us_steps.specs.Replaying.{ReplaysAreComplete, counted_as_taken, replay_steps}
 use Rattle.us_steps.specs.declared.steps.Step.{Step}
 use Rattle.us_steps.specs.declared.steps.Step.TheVariants as step
 
@@ -134,3 +136,57 @@ balance : (s : State) (c : Channel) (calendar : Calendar) →
     (run s rows (start 30 c calendar) one_late) ≡ Some (1200, 730, 500)
 unfolding run after_step
 balance s c calendar = refl
+
+-- A replay.
+
+-- 300 bytes of word 0, and twice some of word 2
+abbrev asks : List Ask
+asks = record { cluster = 0; bytes = 300 } ∷ record { cluster = 2; bytes = 500 } ∷ record { cluster = 2; bytes = 700 } ∷ []
+
+-- it takes word 0 and word 2; with a take of word 1 too, which holds nothing,
+abbrev built_once : List Step
+built_once = step.Open 0 ∷ step.Built 0 ∷ []
+
+abbrev replayed : List Step
+replayed =
+    step.Add 2 0 ∷ step.Add 0 0 ∷ step.Add 1 0 ∷
+    step.Take 0 0 ∷ step.Take 2 0 ∷ step.Take 1 0 ∷ built_once
+
+as_steps : replay_steps 3 asks 0 (step.Add 2 0 ∷ step.Add 0 0 ∷ step.Add 1 0 ∷ []) built_once ≡ replayed
+as_steps = refl
+
+-- its cut is the sum of its asks, in whatever order and by whichever seats they are added
+any_order : ReplaysAreComplete → (adding : List Step) → IsComplete 3 0 0 adding → IsComplete 0 0 1 built_once →
+    cut_of (0 ∷ 0 ∷ 0 ∷ []) asks (replay_steps 3 asks 0 adding built_once) ≡ 300 ∷ 0 ∷ 1200 ∷ []
+unfolding requests.cut_of
+any_order law adding added built =
+    (law 3 1 asks 0 adding built_once (omega arith, (omega arith, (omega arith, tt))) added built).1
+
+-- a row of a word that isn't there is taken from none, and its steps aren't complete
+abbrev unknown : List Ask
+unknown = record { cluster = 5; bytes = 7 } ∷ []
+
+never_known : ¬ IsComplete 1 1 0 (replay_steps 1 unknown 0 (step.Add 0 0 ∷ []) [])
+never_known all = omega (arith, all.there.1.0)
+
+-- Nothing is cut of a word that holds nothing;
+abbrev after_take : ℕ → State → Channel → Calendar → Option Machine
+after_take word s c calendar = after_step s rows (start word c calendar) (step.Take 0 3)
+
+nothing_taken : (s : State) (c : Channel) (calendar : Calendar) →
+    option_map {U = List ℕ × List ℕ × ℕ} (λ (m : Machine). (m.words, m.cut, m.seats.took 3 0)) (after_take 0 s c calendar)
+    ≡ Some (0 ∷ [], 0 ∷ [], 0)
+unfolding after_step
+nothing_taken s c calendar = refl
+
+-- of one that holds 7 these are
+abbrev left_in : Option Machine → ℕ
+left_in None = 0
+left_in (Some m) = slice_index m.words 0
+
+something_taken : (s : State) (c : Channel) (calendar : Calendar) →
+    ¬ (after_take 7 s c calendar ≡ Some (counted_as_taken (start 7 c calendar) 0))
+unfolding after_step
+something_taken s c calendar same =
+    let seven : 0 ≡ 7 = ap left_in same in
+    omega (arith, seven)

@@ -1,6 +1,7 @@
 //! Laws of the definitions of steps and plays, each as the contract of a function that does nothing.
 
 ghost use Rattle.us_steps.specs.Laws.{MachineMakesRounds, EachChannelIsFilled, SeatsChangeNothing, PlaysAreRounds, NothingIsLost};
+ghost use Rattle.us_steps.specs.Replaying.{TakingNothing, ReplaysAreComplete};
 
 /// The machine goes through complete lists of steps alone. It ends with the words and the cut that `play` tells, and each
 /// channel as the round of that cut has it, in whichever order channels were opened and built; and what the seats added
@@ -27,4 +28,16 @@ pub fn plays_are_rounds()
 /// The cuts of a word and what is left in it are what it had at first, and all its rows.
 pub fn nothing_is_lost()
     ensures { NothingIsLost }
+{}
+
+/// Where no channel is open, to take a word that holds nothing and wasn't taken changes neither words nor cut nor what seats
+/// took; it counts as taken then.
+pub fn taking_nothing()
+    ensures { TakingNothing }
+{}
+
+/// A replay takes the words that its rows name, and no others. With a take of each other word, and of each named one where it
+/// comes first, its steps are a complete list, with the same cut, and leave nothing in any word.
+pub fn replays_are_complete()
+    ensures { ReplaysAreComplete }
 {}

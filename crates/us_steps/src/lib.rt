@@ -27,7 +27,7 @@ mod laws;
 
 pub use laws::{
     each_channel_is_filled, machine_makes_rounds, nothing_is_lost, plays_are_rounds,
-    seats_change_nothing,
+    replays_are_complete, seats_change_nothing, taking_nothing,
 };
 pub use plays::play;
 pub use steps::Step;
