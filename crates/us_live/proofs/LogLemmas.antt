@@ -4,7 +4,7 @@ use Rattle.std.proofs.lemmas.List.Sums.{sum_by-append}
 use Rattle.us_intake.specs.Seats.{Intake, Seat, first_seat, joined_seat}
 use Rattle.us_intake.proofs.TallyLemmas.{index-added, index-empty}
 use Rattle.us_live.specs.Lives.{Live, logged, with_entry, Feeds, IsCut}
-use Rattle.us_live.specs.Laws.{CutByRounds, opened, submitted, split, joined, joined_to, made, LogBalances, SeatsFeed}
+use Rattle.us_live.specs.Laws.{CutByRounds, opened, submitted, split, joined, joined_to, made, not_made, LogBalances, SeatsFeed}
 
 pub logged-more : (log : List (List ℕ)) (cut : List ℕ) (cluster : ℕ) →
     logged (log ++ cut ∷ []) cluster ≡ logged log cluster + slice_index cut cluster
@@ -122,22 +122,31 @@ feeds-joined live intake seat other both feeds own same =
 
 -- The account of the log.
 
-took-log : {intake : Intake} {log : List (List ℕ)} {seat : Seat} → CutByRounds intake log seat → (cluster : ℕ) →
-    slice_index seat.taken cluster ≡ logged log cluster
-took-log {intake} opened cluster = index-empty intake.clusters cluster
-took-log (submitted log seat at bytes so_far) cluster = took-log so_far cluster
-took-log (split log seat quota so_far) cluster = took-log so_far cluster
-took-log (joined log seat other so_far known idle) cluster =
+took-log : {intake : Intake} {live : Live} {seat : Seat} → CutByRounds intake live seat → (cluster : ℕ) →
+    slice_index seat.taken cluster ≡ logged live.log cluster
+took-log {intake} (opened t rounds) cluster = index-empty intake.clusters cluster
+took-log (submitted live seat at bytes so_far) cluster = took-log so_far cluster
+took-log (split live seat quota so_far) cluster = took-log so_far cluster
+took-log (joined live seat other so_far known idle) cluster =
     omega (arith, took-log so_far cluster, index-added seat.taken other.taken cluster, known.idle idle cluster)
-took-log (joined_to log seat other so_far known idle) cluster =
+took-log (joined_to live seat other so_far known idle) cluster =
     omega (arith, took-log so_far cluster, index-added other.taken seat.taken cluster, known.idle idle cluster)
-took-log (made log seat after cut so_far is) cluster =
-    omega (arith, took-log so_far cluster, taken-more seat after cut is cluster, logged-more log cut cluster)
+took-log (made live after seat next cut out so_far is) cluster =
+    omega (
+      arith,
+      took-log so_far cluster,
+      taken-more seat next cut is.cut_is cluster,
+      logged-more live.log cut cluster,
+      ap (λ (l : Live). logged l.log cluster) is.logs,
+    )
+took-log (not_made live after seat next so_far log same) cluster =
+    ap (λ (s : Seat). slice_index s.taken cluster) same ∙ took-log so_far cluster
+    ∙ sym (ap (λ (l : List (List ℕ)). logged l cluster) log)
 
 pub log-balances : LogBalances
 log-balances = record {
-  took = λ intake log seat rounds. took-log rounds;
-  closed = λ intake log seat left rounds balanced cluster. omega (
+  took = λ intake live seat rounds. took-log rounds;
+  closed = λ intake live seat left rounds balanced cluster. omega (
     arith,
     took-log rounds cluster,
     ap (λ tally. slice_index tally cluster) balanced,

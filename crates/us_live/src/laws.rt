@@ -1,9 +1,9 @@
-//! Laws of a log and of the seats of its intake, each as the contract of a function that does nothing.
+//! Laws of the log of a `Live` and of the seats of its intake, each as the contract of a function that does nothing.
 
 ghost use Rattle.us_live.specs.Laws.{LogBalances, SeatsFeed};
 
-/// Where only the rounds of one `Live` cut an intake, the one seat that takes took what is in the log; so what is left
-/// when the intake is closed, with the entries of the log, is all that was submitted.
+/// Where only the rounds of one `Live` cut an intake, the one seat that takes took what is in the log that they leave; so
+/// what is left when the intake is closed, with the entries of this log, is all that was submitted.
 pub fn log_balances()
     ensures { LogBalances }
 {}

@@ -167,7 +167,7 @@ builds-in [] = refl
 builds-in (b ∷ bs) = ap (λ more. b ∷ more) (builds-in bs)
 
 -- as many channels are filled as have a calendar
-each-long : {X Y Z : Type 0} (f : X × Y → Z) (xs : List X) (ys : List Y) → length ys ≡ length xs →
+pub each-long : {X Y Z : Type 0} (f : X × Y → Z) (xs : List X) (ys : List Y) → length ys ≡ length xs →
     length (map f (zip xs ys)) ≡ length xs
 each-long f [] [] same = refl
 each-long f [] (y ∷ ys) same = absurd (omega (arith, same))

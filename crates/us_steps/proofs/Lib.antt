@@ -7,4 +7,5 @@ pub mod MachineLemmas
 pub mod ChannelLemmas
 pub mod SeatLaws
 pub mod PlayLaws
+pub mod RunLaws
 pub mod ReplayLaws

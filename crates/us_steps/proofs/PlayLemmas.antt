@@ -34,7 +34,7 @@ unadded-fresh q [] = refl
 unadded-fresh q (ask ∷ asks) = ap (λ n. bytes_for q ask + n) (unadded-fresh q asks)
 
 -- no row is of a cluster that isn't there
-none-past : (q n : ℕ) (asks : List Ask) → AllByRecursion (λ ask. ask.cluster < n) asks → n ≤ q →
+pub none-past : (q n : ℕ) (asks : List Ask) → AllByRecursion (λ ask. ask.cluster < n) asks → n ≤ q →
     total (bytes_for q) asks ≡ 0
 none-past q n [] all past = refl
 none-past q n (ask ∷ asks) all past = elim (cases_Bool (ask.cluster == q)) [

@@ -1,16 +1,19 @@
 -- Small lists of steps, computed by the definitions alone.
-use Rattle.std.specs.Prelude.{◌≡◌, ℕ, List, [], ◌∷◌, slice_index, false, Option, Some, None, option_map, refl}
+use Rattle.std.specs.Prelude.{◌≡◌, ℕ, ◌+◌, ◌<◌, List, [], ◌∷◌, map, slice_index, false, Option, Some, None, option_map, refl}
 use Rattle.std.specs.List.{AllByRecursion}
-use Rattle.std.proofs.Common.{ap, arith}
+use Rattle.std.proofs.Common.{ap, subst, ◌∙◌, arith}
 use Rattle.us_requests.specs.declared.asks.Ask.{Ask}
 use Rattle.us_requests.specs.Cuts as requests
-use Rattle.us_steps.specs.Steps.{adds, builds, count, cut_of, left_of, IsComplete}
+use Rattle.us_steps.specs.Steps.{adds, builds, count, total, cut_of, left_of, IsComplete}
 use Rattle.us_flows.specs.declared.channels.Channel.{Channel}
 use Rattle.us_calendar.specs.Calendars.{Calendar}
-use Rattle.us_round.specs.Rounds.{State, begun}
+use Rattle.us_flows.specs.Tables.{Tables}
+use Rattle.us_round.specs.Rounds.{State, opening, begun, schedule}
+use Rattle.us_output.specs.Outputs.{out_of}
 use Rattle.us_steps.specs.Machines.{Stand, Home, Done, Machine, no_seats, filled_by, placed, after_step, run}
-use Rattle.us_steps.specs.Plays.{cuts_of, words_after}
+use Rattle.us_steps.specs.Plays.{Play, cuts_of, words_after}
 use Rattle.us_steps.specs.Laws.{IsSeated, all_added, all_took}
+use Rattle.us_steps.specs.MachinePlays.{MachineRun, run_plays, IsRun, RunsThrough, MachineRunsAreSchedules}
 use Rattle.us_steps.specs.Replaying.{ReplaysAreComplete, counted_as_taken, replay_steps}
 use Rattle.us_steps.specs.declared.steps.Step.{Step}
 use Rattle.us_steps.specs.declared.steps.Step.TheVariants as step
@@ -136,6 +139,38 @@ balance : (s : State) (c : Channel) (calendar : Calendar) →
     (run s rows (start 30 c calendar) one_late) ≡ Some (1200, 730, 500)
 unfolding run after_step
 balance s c calendar = refl
+
+-- Plays by the machine.
+
+-- the round with a late row, and one more: where the machine goes through both, its rounds are those of the two cuts, and all
+-- 2,400 bytes are cut
+abbrev two_plays : List Play
+two_plays = record { rows = rows; steps = one_late } ∷ record { rows = rows; steps = in_time } ∷ []
+
+both_cut : MachineRunsAreSchedules → (t : Tables) (ran : MachineRun) → run_plays (opening t) (0 ∷ []) two_plays ≡ Some ran →
+    (ran.outs ≡ map (out_of t) (schedule (opening t) ((700 ∷ []) ∷ (1700 ∷ []) ∷ [])))
+    × (total (λ cut. slice_index cut 0) ran.cuts + slice_index ran.words 0 ≡ 2400)
+unfolding cuts_of words_after cut_of left_of
+both_cut law t ran made =
+    let known : AllByRecursion (λ (p : Play). AllByRecursion (λ (ask : Ask). ask.cluster < 1) p.rows) two_plays =
+    ((omega arith, (omega arith, tt)), ((omega arith, (omega arith, tt)), tt)) in
+    let is : IsRun t (0 ∷ []) two_plays ran =
+    subst (λ found. RunsThrough t (0 ∷ []) two_plays found) made (law t (0 ∷ []) two_plays known) in
+    let rounds : ran.cuts ≡ (700 ∷ []) ∷ (1700 ∷ []) ∷ [] = is.cuts in
+    (is.outs ∙ ap (λ cuts. map (out_of t) (schedule (opening t) cuts)) rounds, is.kept 0)
+
+-- a row of a word that isn't there is lost: the machine goes through, but of word 1 it neither cuts nor leaves its 7 bytes
+abbrev no_word : List Play
+no_word = record { rows = record { cluster = 1; bytes = 7 } ∷ []; steps = step.Add 0 0 ∷ step.Take 0 0 ∷ [] } ∷ []
+
+lost : (t : Tables) → option_map {U = ℕ × ℕ}
+    (λ (ran : MachineRun). (total (λ cut. slice_index cut 1) ran.cuts, slice_index ran.words 1))
+    (run_plays (opening (record t { channels = [] })) (0 ∷ []) no_word) ≡ Some (0, 0)
+unfolding run_plays run after_step
+lost t = refl
+
+seven_asked : total (λ (p : Play). requests.asked p.rows 1) no_word ≡ 7
+seven_asked = refl
 
 -- A replay.
 

@@ -1,6 +1,7 @@
 //! Laws of the definitions of steps and plays, each as the contract of a function that does nothing.
 
 ghost use Rattle.us_steps.specs.Laws.{MachineMakesRounds, EachChannelIsFilled, SeatsChangeNothing, PlaysAreRounds, NothingIsLost};
+ghost use Rattle.us_steps.specs.MachinePlays.{MachineRunsAreSchedules};
 ghost use Rattle.us_steps.specs.Replaying.{TakingNothing, ReplaysAreComplete};
 
 /// The machine goes through complete lists of steps alone. It ends with the words and the cut that `play` tells, and each
@@ -28,6 +29,13 @@ pub fn plays_are_rounds()
 /// The cuts of a word and what is left in it are what it had at first, and all its rows.
 pub fn nothing_is_lost()
     ensures { NothingIsLost }
+{}
+
+/// The machine goes, play after play, through plays whose steps are all complete, and through no others. From the opening on
+/// its rounds are the schedule over the cuts that the plays tell, and leave its state; and a word's cuts and what is left in
+/// it are what it had at first, and all its rows.
+pub fn machine_runs_are_schedules()
+    ensures { MachineRunsAreSchedules }
 {}
 
 /// Where no channel is open, to take a word that holds nothing and wasn't taken changes neither words nor cut nor what seats

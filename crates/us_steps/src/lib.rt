@@ -26,8 +26,8 @@ mod plays;
 mod laws;
 
 pub use laws::{
-    each_channel_is_filled, machine_makes_rounds, nothing_is_lost, plays_are_rounds,
-    replays_are_complete, seats_change_nothing, taking_nothing,
+    each_channel_is_filled, machine_makes_rounds, machine_runs_are_schedules, nothing_is_lost,
+    plays_are_rounds, replays_are_complete, seats_change_nothing, taking_nothing,
 };
 pub use plays::play;
 pub use steps::Step;
