@@ -21,6 +21,7 @@ pub mod FitLaws
 pub mod OnceLemmas
 pub mod ActivityLemmas
 pub mod OnceLaws
+pub mod ByCutsLaws
 pub mod SortedLemmas
 pub mod NameLaws
 pub mod EntryLaws

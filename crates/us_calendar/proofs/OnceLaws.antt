@@ -549,21 +549,23 @@ module _ (pace : Pace) (cuts : List (List ℕ)) (e : Entry) (windows : HasWindow
       (story n left boards (before ++ cut ∷ []) (r + 1) p done.states (more_before before left cut all)
       (longer before cut r long) (then_ordered before left cut r p states board all long ordered s) behind)
 
-  -- after all of them
-  pub through : (left : List (List ℕ)) (boards : List Board) (before : List (List ℕ)) (r p : ℕ)
-      (states : List EntryState) → cuts ≡ before ++ left → length before ≡ r → length left ≡ length boards →
+  -- after all of them, and before others of the run
+  pub through : (rest left : List (List ℕ)) (boards : List Board) (before : List (List ℕ)) (r p : ℕ)
+      (states : List EntryState) → cuts ≡ before ++ (left ++ rest) → length before ≡ r → length left ≡ length boards →
       IsOrdered (entries_of states) → Stands before p states →
-      Stands cuts p (after_rounds (record { pace = pace; next_round = r; states = states }) left boards).states
-  through [] boards before r p states all long many ordered s =
-      subst (λ cs. Stands cs p states) (sym (all ∙ append-nil before)) s
-  through (cut ∷ left) [] before r p states all long many ordered s = absurd (omega (arith, many))
-  through (cut ∷ left) (board ∷ boards) before r p states all long many ordered s =
+      Stands (before ++ left) p (after_rounds (record { pace = pace; next_round = r; states = states }) left boards).states
+  through rest [] boards before r p states all long many ordered s =
+      subst (λ cs. Stands cs p states) (sym (append-nil before)) s
+  through rest (cut ∷ left) [] before r p states all long many ordered s = absurd (omega (arith, many))
+  through rest (cut ∷ left) (board ∷ boards) before r p states all long many ordered s =
       let done : Ran = run_entries pace r (map (heard cut) states) board in
-      through left boards (before ++ cut ∷ []) (r + 1) p done.states (more_before before left cut all)
+      let next : Calendar = record { pace = pace; next_round = r + 1; states = done.states } in
+      subst (λ cs. Stands cs p (after_rounds next left boards).states) (append_assoc before (cut ∷ []) left)
+      (through rest left boards (before ++ cut ∷ []) (r + 1) p done.states (more_before before (left ++ rest) cut all)
       (longer before cut r long) (omega (arith, many))
-      (then_ordered before left cut r p states board all long ordered s)
-      (then_stands before left cut r p states board all long ordered s 0
-      (its_round before left cut r p states board all long ordered s 0))
+      (then_ordered before (left ++ rest) cut r p states board all long ordered s)
+      (then_stands before (left ++ rest) cut r p states board all long ordered s 0
+      (its_round before (left ++ rest) cut r p states board all long ordered s 0)))
 
 -- of a calendar from round 0 on
 
@@ -646,29 +648,29 @@ as_first pace cuts e active waiting first windows held =
     subst (AreFirst (end_after pace (length cuts)) e (speaks_by pace cuts e) settled) (sym number)
     (first_of_all (end_after pace (length cuts)) e (speaks_by pace cuts e) first windows held.comes held.not_over settled refl)
 
-stands_so : (P : EntryState → Type 0) (pace : Pace) (cuts : List (List ℕ)) (e : Entry) (windows : HasWindows e) (p : ℕ)
+stands_so : (P : EntryState → Type 0) (pace : Pace) (cuts before : List (List ℕ)) (e : Entry) (windows : HasWindows e) (p : ℕ)
     (states : List EntryState) (state : EntryState) →
-    ((active : Bool) (waiting : Option Bool) (first : ℕ) → Held pace cuts e cuts active waiting first →
-    P (state_from e active waiting first)) → Stands pace cuts e windows cuts p states → slice_get states p ≡ Some state → P state
-stands_so P pace cuts e windows p states state so s at =
+    ((active : Bool) (waiting : Option Bool) (first : ℕ) → Held pace cuts e before active waiting first →
+    P (state_from e active waiting first)) → Stands pace cuts e windows before p states → slice_get states p ≡ Some state → P state
+stands_so P pace cuts before e windows p states state so s at =
     let is : EntryState = state_from e s.active s.waiting s.first in
     let same : Some is ≡ Some state = sym s.there ∙ at in
     subst P (the_some is state same) (so s.active s.waiting s.first s.held)
 
--- what is so of each that is kept so is so of all of them
-after_all : (P : EntryState → Type 0) (pace : Pace) (es : List Entry) (cuts : List (List ℕ)) (boards : List Board) →
-    ((e : Entry) (active : Bool) (waiting : Option Bool) (first : ℕ) → HasWindows e →
-    Held pace cuts e cuts active waiting first → P (state_from e active waiting first)) → IsOrdered es →
+-- what is so of each that is kept so is so of all of them, after the first rounds of a run
+pub after_all : (P : EntryState → Type 0) (pace : Pace) (es : List Entry) (run cuts rest : List (List ℕ)) (boards : List Board) →
+    run ≡ cuts ++ rest → ((e : Entry) (active : Bool) (waiting : Option Bool) (first : ℕ) → HasWindows e →
+    Held pace run e cuts active waiting first → P (state_from e active waiting first)) → IsOrdered es →
     AllByRecursion HasWindows es → length cuts ≡ length boards →
     AllByRecursion P (after_rounds (record { pace = pace; next_round = 0; states = map opening_state es }) cuts boards).states
-after_all P pace es cuts boards so ordered windows many = all_places P last (λ p state at.
+after_all P pace es run cuts rest boards parts so ordered windows many = all_places P last (λ p state at.
     let e : Entry = state.entry in
     let place : slice_get es p ≡ Some e = subst (λ ds. slice_get ds p ≡ Some e)
     (entries_after opening cuts boards ∙ entries_again es) (mapped_at (λ s. s.entry) last p state at) in
     let has = at_place HasWindows es p e windows place in
-    stands_so P pace cuts e has p last state (λ active waiting first held. so e active waiting first has held)
-    (through pace cuts e has cuts boards [] 0 p (map opening_state es) refl refl many
-    (subst IsOrdered (sym (entries_again es)) ordered) (opening_stands pace cuts es p e has place)) at)
+    stands_so P pace run cuts e has p last state (λ active waiting first held. so e active waiting first has held)
+    (through pace run e has rest cuts boards [] 0 p (map opening_state es) parts refl many
+    (subst IsOrdered (sym (entries_again es)) ordered) (opening_stands pace run es p e has place)) at)
   where
     opening : Calendar
     opening = record { pace = pace; next_round = 0; states = map opening_state es }
@@ -680,9 +682,11 @@ pub kinds_as_heard : (pace : Pace) (es : List Entry) (cuts : List (List ℕ)) (b
     AllByRecursion HasWindows es → length cuts ≡ length boards → AllByRecursion (IsAsHeard pace cuts)
     (after_rounds (record { pace = pace; next_round = 0; states = map opening_state es }) cuts boards).states
 kinds_as_heard pace es cuts boards =
-    after_all (IsAsHeard pace cuts) pace es cuts boards (λ e active waiting first _. as_heard pace cuts e active waiting first)
+    after_all (IsAsHeard pace cuts) pace es cuts cuts [] boards (sym (append-nil cuts))
+    (λ e active waiting first _. as_heard pace cuts e active waiting first)
 
 pub rows_stand_first : (pace : Pace) (es : List Entry) (cuts : List (List ℕ)) (boards : List Board) → IsOrdered es →
     AllByRecursion HasWindows es → length cuts ≡ length boards → AllByRecursion (IsFirst pace cuts)
     (after_rounds (record { pace = pace; next_round = 0; states = map opening_state es }) cuts boards).states
-rows_stand_first pace es cuts boards = after_all (IsFirst pace cuts) pace es cuts boards (as_first pace cuts)
+rows_stand_first pace es cuts boards =
+    after_all (IsFirst pace cuts) pace es cuts cuts [] boards (sym (append-nil cuts)) (as_first pace cuts)

@@ -135,6 +135,7 @@ module _ (pace : Pace) (r : ℕ) (e : Entry) (speaks : ℕ → Bool) (n : ℕ) w
           both.1,
           ap (λ m. slots_of e (speaks (ideal e m))) (sym same),
           ap (λ m. owner_of e (speaks (ideal e m))) (sym same),
+          subst (λ m. spot pace r e (speaks (ideal e m)) m board ≡ Some at) (sym same) is,
         );
         any = λ other b named.
             let never : false ≡ true = sym (other_name e n first (λ same. other (sym same))) ∙ named in absurd cc;

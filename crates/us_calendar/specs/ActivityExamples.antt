@@ -1,12 +1,16 @@
 -- Flows that fall silent and are active again, computed by the definitions alone.
-use Rattle.std.specs.Prelude.{◌≡◌, ℕ, List, [], ◌∷◌, map, Bool, true, false, Some, None, refl}
+use Rattle.std.specs.Prelude.{◌≡◌, ℕ, List, [], ◌∷◌, ◌++◌, map, Bool, true, false, Some, None, refl}
+use Rattle.us_flows.specs.declared.channels.Channel.{Channel}
+use Rattle.us_flows.specs.Tables.{Tables}
+use Rattle.us_flows.specs.Lawful.{AreTables}
 use Rattle.us_holes.specs.Boards.{Owner, Board, empty_board, assign, first_of}
 use Rattle.us_calendar.specs.Entries.{Entry}
 use Rattle.us_calendar.specs.Activity.{active_in}
 use Rattle.us_calendar.specs.Occurrences.{Pace, due, coming}
 use Rattle.us_calendar.specs.Settling.{opening_state, settle_each, settle_entry}
-use Rattle.us_calendar.specs.Calendars.{Calendar, run_entries}
+use Rattle.us_calendar.specs.Calendars.{Calendar, run_entries, pace_of, opening, ran}
 use Rattle.us_calendar.specs.Runs.{Round, rounds_on, after_rounds}
+use Rattle.us_calendar.specs.ByCuts.{settle_by, SettlesByCuts}
 use Rattle.us_calendar.specs.declared.settled.Settled.{Settled}
 use Rattle.us_calendar.specs.declared.settled.Settled.TheVariants as told
 use Rattle.us_calendar.specs.declared.kinds.Kind.TheVariants as kinds
@@ -143,3 +147,40 @@ in_rounds = map (active_in (Some (record { word = 0; slots = 2 })) (none ∷ sil
 
 fold : in_rounds ≡ true ∷ false ∷ false ∷ true ∷ []
 fold = refl
+
+-- By all cuts so far.
+
+-- what a round settles so, behind rounds with these boards
+abbrev by_cuts : Entry → List (List ℕ) → List Board → ℕ → List ℕ → Board → List Settled
+by_cuts e cuts boards round cut board =
+    (settle_by pace (cuts ++ cut ∷ []) round (after_rounds (calendar e) cuts boards).states board).settled
+
+-- the third of the three rounds above, and the interval that goes on in round 1
+third_round : by_cuts (entry 0 100 50) (none ∷ silent ∷ []) (idle ∷ idle ∷ []) 2 active idle ≡ granted 2
+unfolding run_entries settle_entry settle_each settle_by coming due first_of
+third_round = refl
+
+goes_on : by_cuts (entry 90 200 40) (none ∷ []) (idle ∷ []) 1 silent idle ≡ granted 0
+unfolding run_entries settle_entry settle_each settle_by coming due first_of
+goes_on = refl
+
+-- what any channel of accepted tables settles in round 0 of a run
+first_round : SettlesByCuts → (t : Tables) (c : Channel) (cut : List ℕ) (board : Board) → AreTables t →
+    (ran (opening t c) cut board).settled ≡ (settle_by (pace_of t c) (cut ∷ []) 0 (opening t c).states board).settled
+first_round law t c cut board lawful = (law t c [] [] cut board lawful refl).settled
+
+-- An entry with a jitter above its interval, which no accepted tables have. Intervals 0 and 1 both wait until round 2, and what
+-- is kept is of the first alone: the second begins in a silent round, but gets its grants,
+abbrev full : Board
+full = assign idle 0 4 grant
+
+both_wait : settled_on (entry 0 100 250) (none ∷ silent ∷ active ∷ []) (full ∷ full ∷ idle ∷ []) ≡
+    [] ∷ [] ∷ (granted 0 ++ told.Granted kinds.Activity 1 1 0 2 1 grant ∷ told.Granted kinds.Activity 1 1 1 3 1 grant ∷ []) ∷ []
+unfolding run_entries settle_entry settle_each coming due first_of
+both_wait = refl
+
+-- where by the cuts it has a poll
+polled_by_cuts : by_cuts (entry 0 100 250) (none ∷ silent ∷ []) (full ∷ full ∷ []) 2 active idle ≡
+    granted 0 ++ told.Granted kinds.Activity 1 1 0 2 2 poll ∷ []
+unfolding run_entries settle_entry settle_each settle_by coming due first_of
+polled_by_cuts = refl

@@ -17,6 +17,8 @@ pub mod Calendars
 pub mod Runs
 -- laws of settling
 pub mod Laws
+-- what a round settles by all cuts so far, and the law of it
+pub mod ByCuts
 -- the definitions at small inputs: entries,
 pub mod EntryExamples
 -- what becomes of their occurrences,

@@ -78,11 +78,12 @@ abbrev pub board_at_turn : Entry → ℕ → Round → Board
 board_at_turn e n round = assign_all round.board (flat_map assignments_of (filter (is_earlier e n) round.settled))
 
 -- Where round `r` grants an occurrence, it starts in its window, with the minislots and the owner of its entry, as a grant
--- or as a poll, and fits on the board that it met. Where the round misses it, its window ends in that round.
+-- or as a poll, and fits on the board that it met, and nowhere before in its window. Where the round misses it, its window
+-- ends in that round.
 abbrev pub IsRight : Pace → ℕ → Entry → Bool → ℕ → Board → Settled → Type 0
 IsRight pace r e active n board (told.Granted kind id i k start slots owner) = is_name e n (rank_of kind) id i k ≡ true →
     (start < pace.len) × (starts_within pace.time e n (r * pace.len + start) ≡ true) × (fits board slots start ≡ true)
-    × (slots ≡ slots_of e active) × (owner ≡ owner_of e active)
+    × (slots ≡ slots_of e active) × (owner ≡ owner_of e active) × (spot pace r e active n board ≡ Some start)
 IsRight pace r e active n board (told.Missed kind id i k) = is_name e n (rank_of kind) id i k ≡ true →
     (end_after pace r ≤ window_end e n) × (window_end e n < end_after pace (r + 1))
 

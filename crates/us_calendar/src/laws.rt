@@ -1,5 +1,6 @@
 //! Laws of the definitions of the calendar, each as the contract of a function that does nothing.
 
+ghost use Rattle.us_calendar.specs.ByCuts.{SettlesByCuts};
 ghost use Rattle.us_calendar.specs.Laws.{AreOccurrences, EntriesAreApart, EntriesAreLawful, EntriesHaveWords, FirstOnes, GrantsFit, KindsAsHeard, RowsStandFirst, SettledOnce};
 
 /// An entry of a kind and an id stands on one channel, and is one.
@@ -35,6 +36,12 @@ pub fn grants_fit()
 /// What is kept of which flows are silent is what the cuts say.
 pub fn kinds_as_heard()
     ensures { KindsAsHeard }
+{}
+
+/// After any rounds the next one settles what all cuts so far say: each interval is of the kind that they tell at its ideal
+/// time, and each grant starts at the least minislot of its window where it fits.
+pub fn settles_by_cuts()
+    ensures { SettlesByCuts }
 {}
 
 /// Each occurrence that comes is granted in its window or missed, once, where its window ends in a run.
