@@ -14,6 +14,7 @@ pub mod NoRateLemmas
 pub mod CoreLemmas
 pub mod SoundLemmas
 pub mod ScheduleLaws
+pub mod MinimumLaws
 pub mod OnePassLaws
 pub mod ChannelRunLaws
 pub mod RoundLemmas

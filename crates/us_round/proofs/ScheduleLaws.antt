@@ -1,14 +1,16 @@
 -- The rounds of a schedule, one after another: each begins with a state, and is sound.
-use Rattle.std.proofs.Common.{◌≡◌, ℕ, ◌+◌, ◌<◌, ◌==◌, List, [], ◌∷◌, length, map, refl, ap, sym, subst, ◌∙◌, inl, inr, arith}
+use Rattle.std.proofs.Common.{◌≡◌, ℕ, ◌+◌, ◌<◌, ◌≤◌, ◌==◌, List, [], ◌∷◌, length, map, refl, ap, sym, subst, ◌∙◌, inl, inr, arith}
+use Rattle.std.specs.Prelude.{slice_get, slice_index, option_map, Some}
 use Rattle.std.specs.List.{AllByRecursion}
 use Rattle.std.proofs.lemmas.Bool.{cases_Bool}
 use Rattle.std.proofs.lemmas.List.{length-map}
+use Rattle.std.proofs.lemmas.Option.{slice_get-map, slice_get_within, get_or_from_slice_get}
 use Rattle.us_flows.specs.Tables.{Tables}
 use Rattle.us_flows.specs.Clusters.{words_of}
 use Rattle.us_flows.specs.Lawful.{AreTables}
 use Rattle.us_bucket.specs.Levels.{Level, refilled, bytes_in, reserve_in}
 use Rattle.us_split.specs.Plans.{IsIdle}
-use Rattle.us_split.proofs.TwoPassLaws.{plan_for-lawful}
+use Rattle.us_split.proofs.TwoPassLaws.{plan_for-lawful, reserved-within}
 use Rattle.us_round.specs.Rounds.{State, opening, brought, begun, fills_of, idle, builds_of, credited, round_from, round_of, schedule, reserved_in}
 use Rattle.us_round.specs.Cores.{Core, AreCalendars, IsFilledFor}
 use Rattle.us_round.specs.States.{IsState, AreSound}
@@ -73,13 +75,26 @@ pub state_idle : (s : State) → AreTables s.tables → IsState s → IsIdle s.t
 state_idle s lawful is =
     filled_idle s.tables s.round s.calendars (fills_of s) (calendars_in s is) refl (state_filled s lawful is)
 
+-- takes no more first than is reserved,
+state_reserved : (s : State) → IsState s → (place : ℕ) (bucket : Level) → slice_get s.reserves place ≡ Some bucket →
+    reserved_in s place ≤ reserve_in bucket
+state_reserved s is place bucket at =
+    let inside : place < length s.reserves = slice_get_within s.reserves place bucket at in
+    let many : length (map bytes_in s.buckets) ≡ length s.buckets = length-map s.buckets bytes_in in
+    let own : slice_index (map reserve_in s.reserves) place ≡ reserve_in bucket =
+    get_or_from_slice_get (map reserve_in s.reserves) place (reserve_in bucket) 0
+    (slice_get-map reserve_in s.reserves place ∙ ap (option_map reserve_in) at) in
+    let within = reserved-within s.tables s.outstanding (map bytes_in s.buckets) (map reserve_in s.reserves) (idle (fills_of s))
+    place (omega (arith, inside, many, is.flows, is.reserves)) in
+    omega (arith, within, own)
+
 -- and is sound
 pub state_sound : (s : State) → AreTables s.tables → IsState s → AreSound s (builds_of s)
 state_sound s lawful is =
     sound s lawful (calendars_in s is) is.words is.flows
     (plan_for-lawful s.tables s.outstanding (map bytes_in s.buckets) (map reserve_in s.reserves) (idle (fills_of s)) lawful
     (state_idle s lawful is))
-    (turns_planned s) (state_filled s lawful is)
+    (state_reserved s is) (turns_planned s) (state_filled s lawful is)
 
 -- All rounds.
 

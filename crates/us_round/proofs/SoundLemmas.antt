@@ -22,7 +22,7 @@ use Rattle.us_crew.specs.Values.{values_from}
 use Rattle.us_split.specs.PlanLaws.{IsLawfulPlan, planned_bytes}
 use Rattle.us_channel.specs.Placements.{PlacedClaim, Spot, spot, grant_at, grants_of, with_grant, assignments, credits}
 use Rattle.us_channel.specs.Channels.{Filled, Built, build_on, ungranted, filled_part}
-use Rattle.us_round.specs.Rounds.{State, idle, fills_of, build_planned, builds_of, round_plan, all_grants, is_of_flow}
+use Rattle.us_round.specs.Rounds.{State, idle, fills_of, build_planned, builds_of, round_plan, reserved_in, all_grants, is_of_flow}
 use Rattle.us_round.specs.Parts.{AreClaimsOn, built_by}
 use Rattle.us_output.specs.Leftovers.{StartsInside, IsBuiltFor, AreInside}
 use Rattle.us_round.specs.States.{IsKnown, AreSound}
@@ -159,10 +159,11 @@ channels_sound t plan (f ∷ fs) are long =
 pub sound : (s : State) → AreTables s.tables → AreCalendars s.tables s.round s.calendars →
     length s.outstanding ≡ length (words_of s.tables) → length s.buckets ≡ length s.tables.flows →
     IsLawfulPlan s.tables s.outstanding (map bytes_in s.buckets) (idle (fills_of s)) (round_plan s) →
+    ((place : ℕ) (bucket : Level) → slice_get s.reserves place ≡ Some bucket → reserved_in s place ≤ reserve_in bucket) →
     map (λ planned. planned.turn) (round_plan s) ≡ turns_of s.tables →
     AllByRecursion (IsFilledFor s.tables) (fills_of s) → AreSound s (builds_of s)
 unfolding builds_of
-sound s lawful all clusters flows law turns long =
+sound s lawful all clusters flows law reserved turns long =
     let fs : List Filled = fills_of s in
     let plan : List Planned = round_plan s in
     let are : AllByRecursion (λ f. IsChannel s.tables f.channel) fs =
@@ -183,6 +184,7 @@ sound s lawful all clusters flows law turns long =
             (credits_planned (λ c. c.place == place) plan fs bursts apart)
             (law.allowed place (bytes_in bucket) (slice_get-map bytes_in s.buckets place ∙ ap (λ o. option_map bytes_in o) at));
       };
+      reserved = reserved;
       boards = channels.0;
       inside = channels.1;
       few = channels.2;

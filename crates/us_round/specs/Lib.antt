@@ -22,6 +22,10 @@ pub mod FinalRows
 pub mod States
 -- laws of the schedule
 pub mod ScheduleLaws
+-- what its rounds plan first of flows with a minimum rate,
+pub mod MinimumRates
+-- and that at small inputs
+pub mod MinimumExamples
 -- the texts of faults
 pub mod Faults
 -- buckets that are refilled when they are asked for,

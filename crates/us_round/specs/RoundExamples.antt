@@ -305,14 +305,14 @@ limited_round = (refl, refl, refl, refl, refl)
 -- Minimum rates.
 
 -- a flow of priority 7 that asks for all, and one for which 1,522 bytes are reserved, and 320 more in each round
-abbrev reserved : Tables
+abbrev pub reserved : Tables
 reserved =
     tables (base_channel ∷ [])
     (flow_with 1 7 (1 ∷ []) ((291 ∷ []) ∷ [])
     ∷ record (flow_with 2 0 (1 ∷ []) ((292 ∷ []) ∷ [])) { burst = 1522; min_rate = 1280000 } ∷ [])
 
 -- so many bytes are asked for in round 1
-abbrev cuts : List (List ℕ)
+abbrev pub cuts : List (List ℕ)
 cuts = (0 ∷ 0 ∷ []) ∷ (262140 ∷ 10000 ∷ []) ∷ (0 ∷ 0 ∷ []) ∷ []
 
 -- the second flow has 1,544 bytes in round 1 and 328 in round 2, of which 22 and 8 aren't taken of its reserve

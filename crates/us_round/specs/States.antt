@@ -3,7 +3,7 @@ use Rattle.std.specs.Prelude.{◌≡◌, ℕ, ◌+◌, ◌*◌, ◌^◌, ◌<◌
 use Rattle.std.specs.List.{AllByRecursion}
 use Rattle.us_flows.specs.Tables.{max_run_ticks}
 use Rattle.us_flows.specs.Clusters.{words_of}
-use Rattle.us_bucket.specs.Levels.{Level, bytes_in}
+use Rattle.us_bucket.specs.Levels.{Level, bytes_in, reserve_in}
 use Rattle.us_split.specs.PlanLaws.{Within}
 use Rattle.us_calendar.specs.Calendars.{pace_of, settled_in, max_settled, granted_in}
 use Rattle.us_channel.specs.Placements.{PlacedClaim, credits}
@@ -11,7 +11,7 @@ use Rattle.us_channel.specs.Channels.{Built}
 use Rattle.us_holes.specs.Boards.{max_assignments}
 use Rattle.us_output.specs.Outputs.{AreWithinLimits, out_of}
 use Rattle.us_output.specs.Leftovers.{IsBuiltFor, AreInside}
-use Rattle.us_round.specs.Rounds.{State, RoundResult, all_grants, begun, builds_of, is_of_cluster, is_of_flow, round_of}
+use Rattle.us_round.specs.Rounds.{State, RoundResult, all_grants, begun, builds_of, is_of_cluster, is_of_flow, reserved_in, round_of}
 
 -- there is a number for each word, a bucket and a reserve for each flow, and a calendar for each channel, at this round
 pub record IsState (s : State) : Type 0 where
@@ -41,9 +41,12 @@ pub record Covers (outstanding : List ℕ) (buckets : List Level) (grants : List
   pub allowed : (place : ℕ) (bucket : Level) → slice_get buckets place ≡ Some bucket →
       Within (bytes_in bucket) (credits (is_of_flow place) grants)
 
--- the channels of a state's round: grants take what is there, start inside the MAPs, and stand on the boards
+-- the channels of a state's round: grants take what is there, and first shares what is reserved; grants start inside the MAPs,
+-- and stand on the boards
 pub record AreSound (s : State) (builds : List Built) : Type 0 where
   pub covers : Covers s.outstanding s.buckets (all_grants builds)
+  pub reserved : (place : ℕ) (bucket : Level) → slice_get s.reserves place ≡ Some bucket →
+      reserved_in s place ≤ reserve_in bucket
   pub boards : AllByRecursion (IsBuiltFor s.tables) builds
   pub inside : AllByRecursion AreInside builds
   pub few : AllByRecursion (λ b. granted_in b.settled + length b.grants ≤ b.board.standing) builds

@@ -67,8 +67,8 @@ pub use placing_laws::turns_are_placed_in_order;
 pub use round_mail::{BuildMail, FillMail, RoundMail};
 pub use rounds::{round, step};
 pub use schedule_laws::{
-    bytes_are_kept, calendars_run, maps_are_lawful, one_pass_does, rounds_are_sound,
-    rounds_follow_on,
+    bytes_are_kept, calendars_run, maps_are_lawful, minimum_rates_are_kept, one_pass_does,
+    rounds_are_sound, rounds_follow_on,
 };
 pub use states::State;
 pub use us_output::{

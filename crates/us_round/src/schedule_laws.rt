@@ -1,5 +1,6 @@
 //! Laws of the schedule, each as the contract of a function that does nothing.
 
+ghost use Rattle.us_round.specs.MinimumRates.{MinimumRatesAreKept};
 ghost use Rattle.us_round.specs.ScheduleLaws.{BytesAreKept, CalendarsRun, ChannelsStay, MapsAreLawful, OnePassDoes, RoundsAreNumbered, RoundsAreSound, ScheduleIsOfBegunRounds, TablesStay};
 
 /// A schedule is what its rounds come to, each from the state that it begins with. They are numbered one after another,
@@ -18,6 +19,12 @@ pub fn rounds_are_sound()
 /// Where no flow has a minimum rate, every round from the opening on is planned in one pass.
 pub fn one_pass_does()
     ensures { OnePassDoes }
+{}
+
+/// What is planned first of a flow with a minimum rate keeps the bound of that rate over every span of rounds, and its reserve
+/// is in each round the most that keeps it.
+pub fn minimum_rates_are_kept()
+    ensures { MinimumRatesAreKept }
 {}
 
 /// A round's channels are those of the tables, and the calendar of each goes over the boards of its reserves, with the cuts of
