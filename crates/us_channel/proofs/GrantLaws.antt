@@ -23,7 +23,7 @@ pub record IsGrantOf (b : ChannelBursts) (board : Board) (claim : Claim) (g : Pl
   pub slots : 0 < g.assignment.slots
   pub fits : fits board g.assignment.slots g.assignment.start ≡ true
 
-cost_usage : (b : ChannelBursts) (bytes : ℕ) → ((grant_cost b bytes).1 ≡ 9) ⊎ ((grant_cost b bytes).1 ≡ 10)
+pub cost_usage : (b : ChannelBursts) (bytes : ℕ) → ((grant_cost b bytes).1 ≡ 9) ⊎ ((grant_cost b bytes).1 ≡ 10)
 cost_usage b bytes =
     elim (cases_Bool (nat_le (burst_cost b.time b.short bytes) b.short_max
     && nat_le (burst_cost b.time b.short bytes) (burst_cost b.time b.long bytes))) [

@@ -25,7 +25,9 @@ pub mod RateLaws
 pub mod ActivityLemmas
 pub mod LastLineLemmas
 pub mod FinalLaws
+pub mod FieldLaws
 pub mod LawfulLaws
+pub mod TraceTextLaws
 pub mod ReportReaderLemmas
 pub mod ReportLineLemmas
 pub mod ReportLemmas

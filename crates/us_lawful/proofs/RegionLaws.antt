@@ -186,7 +186,7 @@ opening_known t c lawful has =
     (λ e is. (is.entry.owner, λ active. has_minislots e active is.entry)) (entries t c)
     (entries_are_lawful t lawful c has))
 
-settled_have : (t : Tables) (cuts : List (List ℕ)) → AreTables t → (r place : ℕ) (c : Channel) (s : State) (b : Built) →
+pub settled_have : (t : Tables) (cuts : List (List ℕ)) → AreTables t → (r place : ℕ) (c : Channel) (s : State) (b : Built) →
     slice_get t.channels place ≡ Some c → slice_get (rounds_of t cuts) r ≡ Some s →
     slice_get (builds_of s) place ≡ Some b → HaveOwners (flat_map assignments_of b.settled)
 settled_have t cuts lawful r place c s b is at there =
@@ -229,7 +229,7 @@ builds_made t end s lawful is =
 
 -- One channel of a round.
 
-placed_round : (t : Tables) (cuts : List (List ℕ)) → AreTables t → AreCuts t cuts → rounds_fit t (length cuts) ≡ true →
+pub placed_round : (t : Tables) (cuts : List (List ℕ)) → AreTables t → AreCuts t cuts → rounds_fit t (length cuts) ≡ true →
     (r place : ℕ) (c : Channel) (s : State) (b : Built) → slice_get t.channels place ≡ Some c →
     slice_get (rounds_of t cuts) r ≡ Some s → slice_get (builds_of s) place ≡ Some b →
     IsPlacedRound t s.round (ended s (builds_of s)).scheduled.pending b

@@ -1,12 +1,15 @@
 -- The stored run, in which one modem asks for 1,000 bytes: what it is judged by, and what is judged of it. Beside it lines
 -- of rounds and channels that it lacks.
-use Rattle.std.specs.Prelude.{◌≡◌, ℕ, true, false, List, [], ◌∷◌, ◌++◌, codes, None, ⊤, refl}
+use Rattle.std.specs.Prelude.{◌≡◌, ℕ, zero, suc, ◌^◌, ◌<◌, true, false, List, [], ◌∷◌, ◌++◌, map, slice_index, sum_by, codes, Some, None, IfSome, ⊤, refl}
+use Rattle.std.specs.List.{AllByRecursion}
+use Rattle.std.proofs.Common.{subst, arith}
 use Rattle.std.specs.Fmt.{digits}
 use Rattle.us_slots.specs.Bursts.{coded_length, burst_cost}
 use Rattle.us_codec.specs.Elements.{MapElement, null_at}
 use Rattle.us_codec.specs.Bodies.{MapBody}
 use Rattle.us_flows.specs.declared.flows.SchedulingType.TheVariants.{ActivityDetection}
 use Rattle.us_flows.specs.Tables.{FlowTable}
+use Rattle.us_flows.specs.Lawful.{AreTables}
 use Rattle.us_bucket.specs.Levels.{refilled, spent, units_in}
 use Rattle.us_calendar.specs.Occurrences.{coming, due}
 use Rattle.us_calendar.specs.Settling.{settle_each, settle_entry}
@@ -15,7 +18,10 @@ use Rattle.us_output.specs.declared.rows.EntryWord.TheVariants as words
 use Rattle.us_output.specs.declared.rows.Grant.{Grant}
 use Rattle.us_output.specs.declared.rows.Row.{Row}
 use Rattle.us_output.specs.declared.rows.Row.TheVariants as rows
-use Rattle.us_round.specs.RoundExamples.{base, base_channel, base_flow, round_steps}
+use Rattle.us_requests.specs.declared.asks.Counts.{Counts}
+use Rattle.us_round.specs.Rounds.{final, schedule}
+use Rattle.us_round.specs.States.{final_rows}
+use Rattle.us_round.specs.RoundExamples.{base, base_channel, base_flow, round_steps, without_flows}
 use Rattle.us_lawful.specs.declared.place.Place.{Place}
 use Rattle.us_lawful.specs.declared.judged.RoundMap.{RoundMap}
 use Rattle.us_lawful.specs.Runs.{Run, Judged}
@@ -24,7 +30,10 @@ use Rattle.us_lawful.specs.Regions.{element_regions, regions_hold}
 use Rattle.us_lawful.specs.Credits.{credits_hold}
 use Rattle.us_lawful.specs.Finals.{level_left, finals_hold}
 use Rattle.us_output.specs.Files.{lines}
-use Rattle.us_lawful.specs.Output.{judged_of, output_of, report_text}
+use Rattle.us_output.specs.Lines.{HasFields}
+use Rattle.us_lawful.specs.Output.{judged_of, maps_text, output_of, report_text}
+use Rattle.us_lawful.specs.Texts.{AreLawful}
+use Rattle.us_lawful.specs.Laws.{AreSmall, LinesHaveFields, TextsOfSchedulesAreLawful}
 
 -- The stored run.
 
@@ -152,3 +161,31 @@ unknown_channel :
     × (credits_hold stored judged (at 1 0 1) ≡ true) × (finals_hold stored judged (at 2 0 1) ≡ true)
 unfolding steps
 unknown_channel = (refl, refl, refl, refl, refl, refl)
+
+-- The laws of texts.
+
+-- of the one word 1,000 bytes are cut in all
+stored_asked : (number : ℕ) → sum_by (λ cut. slice_index cut number) ((0 ∷ []) ∷ (1000 ∷ []) ∷ []) < 2 ^ 64
+stored_asked zero = omega arith
+stored_asked (suc number) =
+    let none : sum_by (λ cut. slice_index cut (suc number)) ((0 ∷ []) ∷ (1000 ∷ []) ∷ []) ≡ 0 = refl in
+    omega (arith, none)
+
+stored_small : AreSmall stored.cuts stored.counts
+stored_small = record { asked = stored_asked; unknown = omega arith; not_requestable = omega arith; late = omega arith }
+
+-- so the texts of its schedule are lawful for the stored run
+stored_texts : LinesHaveFields → TextsOfSchedulesAreLawful → AreTables base →
+    AreLawful stored (maps_text (output_of base stored.cuts stored.counts))
+    (report_text (output_of base stored.cuts stored.counts))
+stored_texts fields texts lawful =
+    texts base stored.cuts stored.counts lawful (refl, (refl, tt)) refl
+    (fields base stored.cuts stored.counts lawful (refl, (refl, tt)) refl stored_small)
+
+-- and a count of 65 bits has no line
+abbrev too_many : Counts
+too_many = record { unknown = 0; not_requestable = 0; late = 2 ^ 64 }
+
+no_fields : ¬ AllByRecursion HasFields (judged_of (output_of without_flows [] too_many)).lines
+unfolding output_of schedule final final_rows
+no_fields all = omega (arith, all.0.1.1.0)

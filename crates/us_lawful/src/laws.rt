@@ -1,6 +1,6 @@
 //! Laws, each as the contract of a function that does nothing.
 
-ghost use Rattle.us_lawful.specs.Laws.{OrderedAssignmentsHold, ReportsReadBack, SchedulesAreLawful, TextsOfSchedulesAreLawful};
+ghost use Rattle.us_lawful.specs.Laws.{LinesHaveFields, OrderedAssignmentsHold, ReportsReadBack, SchedulesAreLawful, TextsOfSchedulesAreLawful, TextsOfTracesAreLawful};
 ghost use Rattle.us_lawful.specs.Reports.{OneReading};
 
 /// All that a schedule gives is lawful: of all accepted tables, of rounds that fit into a run, and of cuts with a number for
@@ -12,6 +12,16 @@ pub fn schedules_are_lawful()
 /// So are the maps file and the report of a schedule, where all numbers of its lines have 64 bits.
 pub fn texts_of_schedules_are_lawful()
     ensures { TextsOfSchedulesAreLawful }
+{}
+
+/// All numbers of the lines of a schedule have 64 bits, where those of its counts have, and of each word all cuts together.
+pub fn lines_have_fields()
+    ensures { LinesHaveFields }
+{}
+
+/// The maps file and the report of the schedule of any trace without a fault are lawful.
+pub fn texts_of_traces_are_lawful()
+    ensures { TextsOfTracesAreLawful }
 {}
 
 /// The report of a schedule reads back as its lines.

@@ -27,8 +27,8 @@ mod laws;
 
 pub use judged::{Judged, RoundMap};
 pub use laws::{
-    one_reading, ordered_assignments_hold, reports_read_back, schedules_are_lawful,
-    texts_of_schedules_are_lawful,
+    lines_have_fields, one_reading, ordered_assignments_hold, reports_read_back,
+    schedules_are_lawful, texts_of_schedules_are_lawful, texts_of_traces_are_lawful,
 };
 pub use place::Place;
 pub use report_faults::ReportFault;

@@ -9,7 +9,7 @@ use Rattle.us_lawful.specs.Runs.{run_in, Run}
 use Rattle.us_lawful.specs.Output.{run_of}
 use Rattle.us_lawful.specs.Texts.{AreLawful}
 use Rattle.us_replay.specs.Replays.{WroteLawful, run_for}
-use Rattle.us_replay.proofs.LoopLemmas.{length-cuts}
+use Rattle.us_lawful.proofs.TraceTextLaws.{length-cuts}
 use Rattle.us_replay.proofs.ReplayLemmas.{cuts-same}
 use Rattle.us_map_rules.specs.MapsReading.{OneReadingOfMaps}
 use Rattle.us_own_texts.specs.OwnTexts.{OwnTextsHold, grown_by}

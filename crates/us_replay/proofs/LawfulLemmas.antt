@@ -1,36 +1,22 @@
 -- What a replay writes is lawful.
-use Rattle.std.proofs.Common.{◌≡◌, ℕ, zero, suc, ◌+◌, true, List, length, map, Option, Result, Ok, Err, OnOk, ap, subst, ◌∙◌}
-use Rattle.std.specs.List.{AllByRecursion, range_with_len}
+use Rattle.std.proofs.Common.{◌≡◌, ℕ, true, List, Option, Result, Ok, Err, OnOk, ap, subst, ◌∙◌}
+use Rattle.std.specs.List.{AllByRecursion}
 use Rattle.us_flows.specs.Tables.{Tables, rounds_fit}
-use Rattle.us_flows.specs.Clusters.{words_of}
 use Rattle.us_flows.specs.Lawful.{AreTables}
 use Rattle.us_requests.specs.Asks.{Request}
-use Rattle.us_requests.specs.Cuts.{cut_of}
-use Rattle.us_requests.specs.Traces.{TraceAsks, asks_in, cuts_in}
+use Rattle.us_requests.specs.Traces.{TraceAsks, cuts_in}
 use Rattle.us_requests.specs.Texts.{requests_of}
 use Rattle.us_requests.specs.Readings.{Reads}
-use Rattle.us_round.specs.ScheduleLaws.{AreCuts}
 use Rattle.us_lawful.specs.Output.{judged_of, maps_text, report_text, run_of}
 use Rattle.us_lawful.specs.Texts.{AreLawful}
 use Rattle.us_output.specs.Lines.{HasFields}
 use Rattle.us_lawful.proofs.LawfulLaws.{texts_of_schedules_are_lawful}
+use Rattle.us_lawful.proofs.TraceTextLaws.{are-cuts, length-cuts}
 use Rattle.us_replay.specs.declared.summaries.Summary.{Summary}
 use Rattle.us_replay.specs.declared.faults.RunFault.{RunFault}
 use Rattle.us_replay.specs.Replays.{Growth, WroteLawful, cuts_of}
 use Rattle.us_replay.specs.Progress.{IsLawfulOutput, RanTrace, output_in}
-use Rattle.us_replay.proofs.LoopLemmas.{length-cuts}
 use Rattle.us_replay.proofs.ReplayLemmas.{cuts-same}
-use Rattle.us_replay.proofs.SumLemmas.{length-cut}
-
--- each cut has a number for each cluster
-are-cuts : (t : Tables) (v : TraceAsks) → AreCuts t (cuts_in t v)
-unfolding cuts_in
-are-cuts t v = each 0 v.rounds
-  where
-    each : (from n : ℕ) →
-        AreCuts t (map (λ round. cut_of (length (words_of t)) (asks_in v round)) (range_with_len from n))
-    each from zero = tt
-    each from (suc n) = (length-cut (length (words_of t)) (asks_in v from), each (from + 1) n)
 
 pub lawful-output : (t : Tables) (v : TraceAsks) (result : Result Summary RunFault) → AreTables t →
     rounds_fit t v.rounds ≡ true → OnOk result (AllByRecursion HasFields (judged_of (output_in t v)).lines) →

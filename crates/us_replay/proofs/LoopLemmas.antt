@@ -23,6 +23,7 @@ use Rattle.us_lawful.specs.Output.{counts_row, all_rows, judged_of, output_of}
 use Rattle.us_output.proofs.PartLemmas.{all_append}
 use Rattle.us_output.specs.Lines.{HasFields}
 use Rattle.us_replay.specs.Replays.{KeptLimits, summary_of}
+use Rattle.us_lawful.proofs.TraceTextLaws.{length-cuts}
 use Rattle.us_replay.specs.Progress.{Progress, Along, EndsAs, grown, CanMake, IsMade, last_rows, opening_progress, out_after, output_in, step_of, summary_after, with_last, with_round}
 use Rattle.us_replay.proofs.RoundLemmas.{After, after, HasCalendars, opening-calendars, next-calendars, some-records}
 use Rattle.us_replay.proofs.CollectingLemmas.{all-within, are-asks}
@@ -252,10 +253,6 @@ length-schedule : (state : State) (cuts : List (List ℕ)) → length (schedule 
 unfolding schedule
 length-schedule state [] = refl
 length-schedule state (cut ∷ cuts) = omega (arith, length-schedule (round_of state cut).state cuts)
-
-pub length-cuts : (t : Tables) (v : TraceAsks) → length (cuts_in t v) ≡ v.rounds
-unfolding cuts_in
-length-cuts t v = length-map-range_with_len (λ round. cut_of (length (words_of t)) (asks_in v round)) 0 v.rounds
 
 pub length-given : (t : Tables) (v : TraceAsks) → length (output_in t v).given ≡ v.rounds
 unfolding output_of

@@ -10,6 +10,8 @@ pub mod SpanLemmas
 pub mod SearchLemmas
 -- the text of a trace, record by record
 pub mod TextLemmas
+-- that a text without a fault tells no more than a trace may have
+pub mod SoundTextLaws
 -- clusters, bytes and rounds of asks
 pub mod AskLemmas
 -- SIDs that are kept
