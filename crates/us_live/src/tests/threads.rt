@@ -88,3 +88,52 @@ fn threads_balance(rt: HostRuntime) {
         same(&rt, life(&rt, rt.alloc()), Ok((20, 1_225)));
     }
 }
+
+/// Makes one round.
+fn make_one<R: Threads + Wait + Sync>(
+    rt: &R,
+    alloc: Global,
+    mut live: Live,
+    intake: &Intake,
+    mut seat: Seat,
+) -> (Live, Seat)
+    requires { Feeds live intake.now seat }
+    ensures { Feeds result.0 intake.now result.1 }
+{
+    let _ = next(rt, alloc, &mut live, intake, &mut seat, 1, &OpenGate);
+    (live, seat)
+}
+
+/// One round here, one by another thread, which has scheduler and seat for it, and one more here. Tells of the log.
+fn hand_over<R: Threads + Wait + Sync>(
+    rt: &R,
+    alloc: Global,
+    live: Live,
+    intake: &Intake,
+    seat: Seat,
+) -> (u64, u64)
+    requires { Feeds live intake.now seat }
+{
+    let (live, seat) = make_one(rt, alloc, live, intake, seat);
+    let ((live, seat), ()) = join(
+        rt,
+        move || -> (Live, Seat)
+            requires { IsSync R.row × Feeds live intake.now seat }
+            ensures { Feeds result.0 intake.entry.now result.1 }
+        { make_one(rt, alloc, live, intake, seat) },
+        || (),
+    );
+    let (live, _) = make_one(rt, alloc, live, intake, seat);
+    logged(live.cut_log())
+}
+
+fn handed_over<R: Threads + Wait + Sync>(rt: &R, alloc: Global) -> Told {
+    let (live, intake, seat) = open(alloc, 1, ROUNDS)?;
+    Ok(hand_over(rt, alloc, live, &intake, seat))
+}
+
+/// A scheduler goes to another thread between two rounds, and back.
+#[test]
+fn schedulers_go_to_threads(rt: HostRuntime) {
+    same(&rt, handed_over(&rt, rt.alloc()), Ok((3, 0)));
+}
