@@ -5,8 +5,7 @@ use Rattle.std.specs.List.{find}
 use Rattle.std.proofs.lemmas.Bool.{false≢true, or_cases, or_left, or_right}
 use Rattle.std.proofs.lemmas.Nat.{div-mul-add, mod-mul-add, mul-le}
 use Rattle.us_calendar.specs.Entries.{Entry, IsEntry}
-use Rattle.us_calendar.specs.Occurrences.{comes, ideal}
-use Rattle.us_calendar.specs.Runs.{window_end}
+use Rattle.us_calendar.specs.Occurrences.{comes, ideal, window_end}
 use Rattle.us_output.specs.declared.rows.EntryWord.{EntryWord}
 use Rattle.us_lawful.specs.Runs.{Run}
 use Rattle.us_lawful.specs.CalendarLines.{ChannelEntry, closes, is_named, is_word, round_quarters, speaks_in}

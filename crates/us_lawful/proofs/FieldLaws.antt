@@ -20,10 +20,10 @@ use Rattle.us_requests.specs.declared.asks.Counts.{Counts}
 use Rattle.us_holes.specs.Boards.{Assignment, Board, AllFit, assign, empty_board}
 use Rattle.us_holes.proofs.LawLemmas.{fit, fit_length}
 use Rattle.us_calendar.specs.Entries.{Entry, entries, entry_of_flow, entry_of_station, rank_of}
-use Rattle.us_calendar.specs.Occurrences.{end_of, ideal}
+use Rattle.us_calendar.specs.Occurrences.{end_of, ideal, window_end}
 use Rattle.us_calendar.specs.Calendars.{Calendar, pace_of}
 use Rattle.us_calendar.specs.Laws.{IsLawfulEntry}
-use Rattle.us_calendar.specs.Runs.{IsOccurrence, IsRight, Round, assignments_of, board_at_turn, grants, is_name, misses, window_end}
+use Rattle.us_calendar.specs.Runs.{IsOccurrence, IsRight, Round, assignments_of, board_at_turn, grants, is_name, misses}
 use Rattle.us_calendar.specs.declared.settled.Settled.{Settled}
 use Rattle.us_calendar.specs.declared.settled.Settled.TheVariants as settled
 use Rattle.us_calendar.proofs.EntryLaws.{entries_are_lawful}

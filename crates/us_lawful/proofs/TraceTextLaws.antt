@@ -15,11 +15,11 @@ use Rattle.us_requests.specs.Asks.{Request, counts_of, is_late, is_not_requestab
 use Rattle.us_requests.specs.Cuts.{asked, cut_of}
 use Rattle.us_requests.specs.Readings.{AreRequests}
 use Rattle.us_requests.specs.Texts.{requests_of}
-use Rattle.us_requests.specs.Traces.{TraceAsks, IsTraceOf, asked_before, asks_in}
+use Rattle.us_requests.specs.Traces.{TraceAsks, IsTraceOf, asked_before, asks_in, cuts_in}
 use Rattle.us_requests.proofs.SoundTextLaws.{sound_text}
 use Rattle.us_requests.proofs.TotalLemmas.{asked-of}
 use Rattle.us_round.specs.ScheduleLaws.{AreCuts}
-use Rattle.us_lawful.specs.Runs.{Run, cuts_in}
+use Rattle.us_lawful.specs.Runs.{Run}
 use Rattle.us_lawful.specs.Output.{maps_text, output_of, report_text, run_of}
 use Rattle.us_lawful.specs.Texts.{AreLawful}
 use Rattle.us_lawful.specs.Laws.{AreSmall, TextsOfTracesAreLawful}

@@ -6,13 +6,13 @@ use Rattle.us_flows.specs.Tables.{Tables, rounds_fit}
 use Rattle.us_flows.specs.Lawful.{AreTables}
 use Rattle.us_requests.specs.declared.asks.Counts.{Counts}
 use Rattle.us_requests.specs.Texts.{requests_of, trace_fault}
-use Rattle.us_requests.specs.Traces.{TraceAsks, IsTraceOf}
+use Rattle.us_requests.specs.Traces.{TraceAsks, IsTraceOf, cuts_in}
 use Rattle.us_holes.specs.Boards.{Assignment}
 use Rattle.us_holes.specs.Runs.{Run, InOrder, runs_between}
 use Rattle.us_channel.specs.Maps.{run_element}
 use Rattle.us_round.specs.ScheduleLaws.{AreCuts}
 use Rattle.us_lawful.specs.Output.{judged_of, maps_text, output_of, report_text, run_of}
-use Rattle.us_lawful.specs.Runs.{cuts_in, run_in}
+use Rattle.us_lawful.specs.Runs.{run_in}
 use Rattle.us_lawful.specs.Regions.{Region, minislot_holds}
 use Rattle.us_lawful.specs.Lawful.{IsLawful}
 use Rattle.us_lawful.specs.Texts.{AreLawful}
