@@ -31,7 +31,7 @@ use Rattle.us_calendar.proofs.IdealLemmas.{HasWindows, number-below}
 use Rattle.us_calendar.proofs.OnceLemmas.{not_yet}
 use Rattle.us_calendar.proofs.OrderLemmas.{flow_made, station_made}
 use Rattle.us_calendar.proofs.SortedLemmas.{entries_all}
-use Rattle.us_split.specs.Asking.{requested_in}
+use Rattle.us_split.specs.Requested.{requested_in}
 use Rattle.us_split.specs.Claims.{AreClaims, Claim, IsClaimOn, claims_on}
 use Rattle.us_split.specs.Plans.{Planned}
 use Rattle.us_split.proofs.ClaimLemmas.{plan_for-claims}
@@ -41,7 +41,7 @@ use Rattle.us_channel.specs.Placements.{PlacedClaim, assignments, grants_of}
 use Rattle.us_channel.proofs.BoardLaws.{grants_are_of_claims}
 use Rattle.us_channel.proofs.GrantLaws.{cost_usage}
 use Rattle.us_round.specs.Rounds.{State, opening, build_planned, builds_of, ended, fills_of, final, idle, round_plan, schedule}
-use Rattle.us_round.specs.States.{activity_of, final_rows}
+use Rattle.us_round.specs.FinalRows.{activity_of, final_rows}
 use Rattle.us_round.specs.ScheduleLaws.{AreCuts, asked_of}
 use Rattle.us_round.proofs.ByteLaws.{bytes_are_kept}
 use Rattle.us_round.proofs.CreditLaws.{claims_some}
@@ -49,7 +49,7 @@ use Rattle.us_round.proofs.ScheduleLaws.{schedule_is_of_begun_rounds, state_idle
 use Rattle.us_output.specs.declared.rows.EntryWord.{EntryWord}
 use Rattle.us_output.specs.declared.rows.Row.{Row}
 use Rattle.us_output.specs.Lines.{HasFields}
-use Rattle.us_output.specs.Outputs.{RoundOut, Scheduled, activity_rows, by_start, entry_word, final_row, grant_row, granted_rows, is_granted, missed_rows, out_of, rows_on, settled_row, start_of}
+use Rattle.us_output.specs.Outputs.{RoundOut, Scheduled, activity_rows, entry_word, final_row, grant_row, granted_rows, in_order, is_granted, missed_rows, out_of, rows_on, settled_row, start_of}
 use Rattle.us_output.proofs.OwnerLemmas.{HaveOwners, IsOwnedPart}
 use Rattle.us_output.proofs.PartLemmas.{all_append, all_both, all_filtered, all_flat, all_found, all_mapped, all_weaker}
 use Rattle.us_lawful.specs.CalendarLines.{is_named, is_word, names, round_quarters, speaks_in}
@@ -184,7 +184,7 @@ IsSmallName (settled.Missed kind id i k) = (id < 2 ^ 64) × (i < 2 ^ 64) × (k <
 -- of a channel's round, in their order
 lines_on : (round : ℕ) (b : Built) → AllByRecursion (λ s. HasFields (settled_row round b.channel s)) b.settled →
     AllByRecursion (λ g. HasFields (grant_row round b.channel g)) b.grants → AllByRecursion HasFields (rows_on round b)
-unfolding rows_on by_start
+unfolding rows_on in_order
 lines_on round b told granted =
     let line : Settled → Row = settled_row round b.channel in
     let all : List Row = granted_rows round b in
@@ -193,7 +193,7 @@ lines_on round b told granted =
     (all_mapped HasFields line (filter is_granted b.settled)
     (all_filtered (λ s. HasFields (line s)) is_granted b.settled told))
     (all_mapped HasFields (grant_row round b.channel) b.grants granted) in
-    all_append HasFields (by_start (length b.board.cells) all) (missed_rows round b)
+    all_append HasFields (in_order start_of (length b.board.cells) all) (missed_rows round b)
     (all_flat HasFields (λ start. filter (λ row. start_of row == start) all) (range_with_len 0 (length b.board.cells))
     (each all has (range_with_len 0 (length b.board.cells))))
     (all_mapped HasFields line (filter (λ s. not (is_granted s)) b.settled)

@@ -20,7 +20,7 @@ use Rattle.us_output.specs.declared.rows.Row.{Row}
 use Rattle.us_output.specs.declared.rows.Row.TheVariants as rows
 use Rattle.us_requests.specs.declared.asks.Counts.{Counts}
 use Rattle.us_round.specs.Rounds.{final, schedule}
-use Rattle.us_round.specs.States.{final_rows}
+use Rattle.us_round.specs.FinalRows.{final_rows}
 use Rattle.us_round.specs.RoundExamples.{base, base_channel, base_flow, round_steps, without_flows}
 use Rattle.us_lawful.specs.declared.place.Place.{Place}
 use Rattle.us_lawful.specs.declared.judged.RoundMap.{RoundMap}

@@ -1,13 +1,12 @@
 -- A text without a fault tells no more requests than a trace may have, each of a number of units that a request can tell.
-use Rattle.std.proofs.Common.{◌≡◌, ℕ, ◌+◌, ◌≤◌, Bool, true, false, List, [], ◌∷◌, length, map, drop, Option, Some, None, refl, inl, inr, arith}
+use Rattle.std.proofs.Common.{◌≡◌, ℕ, ◌+◌, ◌≤◌, Bool, true, false, List, [], ◌∷◌, length, map, drop, Option, Some, None, option_or, refl, inl, inr, arith}
 use Rattle.std.specs.Prelude.{not, ◌==◌, nat_le, nat_lt, ◌&&◌, ◌||◌}
 use Rattle.std.specs.List.{AllByRecursion, list_all}
 use Rattle.std.proofs.lemmas.Bool.{cases_Bool, and_parts, leb-true, ltb-false}
 use Rattle.std.proofs.lemmas.List.{length-map}
 use Rattle.us_requests.specs.declared.faults.TraceFault.{TraceFault}
 use Rattle.us_requests.specs.declared.faults.TraceFault.TheVariants as fault
-use Rattle.us_requests.specs.Records.{Record, records_of}
-use Rattle.us_requests.specs.Texts.{max_records, field_in, number_of, is_digit, is_number, is_kind, is_header, are_four_numbers, are_numbers, request_of, record_checks, first_of, or_else, fault_from, records_fault, trace_fault, requests_of}
+use Rattle.us_requests.specs.Texts.{Record, records_of, max_records, field_in, number_of, is_digit, is_number, is_kind, is_header, are_four_numbers, are_numbers, request_of, record_checks, first_of, fault_from, records_fault, trace_fault, requests_of}
 use Rattle.us_requests.specs.Readings.{AreRequests}
 
 -- no check of three finds a fault
@@ -18,7 +17,7 @@ none_finds false true c x y z none = let never : Some y ≡ None = none in absur
 none_finds false false true x y z none = let never : Some z ≡ None = none in absurd cc
 none_finds false false false x y z none = (refl, refl, refl)
 
-neither : (first later : Option TraceFault) → or_else first later ≡ None → (first ≡ None) × (later ≡ None)
+neither : (first later : Option TraceFault) → option_or first later ≡ None → (first ≡ None) × (later ≡ None)
 neither None later none = (refl, none)
 neither (Some f) later none = let never : Some f ≡ None = none in absurd cc
 

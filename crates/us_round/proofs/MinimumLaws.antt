@@ -9,7 +9,7 @@ use Rattle.us_bucket.specs.Levels.{Level, full, refilled, spent, reserve_in, Has
 use Rattle.us_bucket.specs.Allowances.{Limit, KeepsBound}
 use Rattle.us_bucket.proofs.LevelLemmas.{has_reserved}
 use Rattle.us_bucket.proofs.ReserveLaws.{IsBehind, behind-none, behind-one, keeps-one, reserve-most}
-use Rattle.us_round.specs.Rounds.{State, opening, grown_reserves, begun, builds_of, unreserved, reserved_in, round_from, round_of}
+use Rattle.us_round.specs.Rounds.{State, opening, brought, begun, builds_of, unreserved, reserved_in, round_from, round_of}
 use Rattle.us_round.specs.States.{IsState, AreSound}
 use Rattle.us_round.specs.ScheduleLaws.{begun_rounds}
 use Rattle.us_round.specs.MinimumRates.{min_limit, IsMostNext, MinimumRatesAreKept}
@@ -30,17 +30,17 @@ unreserved_at reserved from (bucket ∷ more) (suc n) l at =
     let own : from + 1 + n ≡ from + suc n = omega arith in
     unreserved_at reserved (from + 1) more n l at ∙ ap (λ k. Some (spent (reserved k) l)) own
 
-after_round : (s : State) (cut : List ℕ) (place : ℕ) (l : Level) → slice_get (grown_reserves s) place ≡ Some l →
+after_round : (s : State) (cut : List ℕ) (place : ℕ) (l : Level) → slice_get (brought s s.reserves) place ≡ Some l →
     slice_get (round_of s cut).state.reserves place ≡ Some (spent (reserved_in (begun s cut) place) l)
 unfolding round_of round_from
 after_round s cut place l at =
     let own : 0 + place ≡ place = omega arith in
-    unreserved_at (reserved_in (begun s cut)) 0 (grown_reserves s) place l at
+    unreserved_at (reserved_in (begun s cut)) 0 (brought s s.reserves) place l at
     ∙ ap (λ k. Some (spent (reserved_in (begun s cut) k) l)) own
 
 -- and before it, in all rounds but the first, the bucket grows
 grown_later : (s : State) (place : ℕ) (l : Level) → 1 ≤ s.round → slice_get s.reserves place ≡ Some l →
-    slice_get (grown_reserves s) place ≡ Some (refilled s.tables.round_ticks l)
+    slice_get (brought s s.reserves) place ≡ Some (refilled s.tables.round_ticks l)
 grown_later s place l later at =
     rw (ne_eqb s.round 0 (omega (arith, later)))
     (slice_get-map (refilled s.tables.round_ticks) s.reserves place ∙ ap (option_map (refilled s.tables.round_ticks)) at)
@@ -102,7 +102,7 @@ module _ (t : Tables) (place : ℕ) (flow : FlowTable) (some : 0 < flow.min_rate
 
   rounds_keep : (s : State) (cuts : List (List ℕ)) (before : List ℕ) (l : Level) → s.tables ≡ t →
       AllByRecursion (λ now. AreSound now (builds_of now)) (begun_rounds s cuts) →
-      slice_get (grown_reserves s) place ≡ Some l → IsBehind limit before l → KeepsBound limit before →
+      slice_get (brought s s.reserves) place ≡ Some l → IsBehind limit before l → KeepsBound limit before →
       Keeps before (begun_rounds s cuts)
   unfolding begun_rounds round_of round_from
   rounds_keep s [] before l tables sound at is all = keeps_none before all
@@ -114,7 +114,7 @@ module _ (t : Tables) (place : ℕ) (flow : FlowTable) (some : 0 < flow.min_rate
       let has : Has l share = has_reserved l share (sound.0.reserved place l at) in
       let ticks : refilled s.tables.round_ticks left ≡ refilled t.round_ticks left =
       ap (λ (u : Tables). refilled u.round_ticks left) tables in
-      let grows : slice_get (grown_reserves next) place ≡ Some (refilled t.round_ticks left) =
+      let grows : slice_get (brought next next.reserves) place ≡ Some (refilled t.round_ticks left) =
       grown_later next place left (omega arith) (after_round s cut place l at) ∙ ap Some ticks in
       keeps_more before l now (begun_rounds next cuts) is at
       (rounds_keep next cuts (before ++ share ∷ []) (refilled t.round_ticks left) tables sound.1 grows
