@@ -131,10 +131,13 @@ settles_by_cuts pace es cuts boards cut board ordered windows many = record {
     now : Round
     now = record { board = board; settled = (ran last cut board).settled }
 
+    counted : last.next_round ≡ length cuts
+    counted = omega (arith, rounds_count first cuts boards many)
+
     done_is : ran last cut board ≡ run_entries pace (length cuts) (map (heard cut) last.states) board
     done_is =
         ap (λ (p : Pace). run_entries p last.next_round (map (heard cut) last.states) board) (pace_stays first cuts boards)
-        ∙ ap (λ r. run_entries pace r (map (heard cut) last.states) board) (rounds_count first cuts boards many)
+        ∙ ap (λ r. run_entries pace r (map (heard cut) last.states) board) counted
 
     rows_same : AllByRecursion (SettlesSame pace said (length cuts) cut) last.states
     rows_same =

@@ -80,7 +80,7 @@ cost_on c planned = share_cost c (header_bytes planned.turn.cluster.flow) (share
 -- each budget falls by what the turn's share on the channel costs
 abbrev pub lowered : Planned → List Budget → List Budget
 lowered planned budgets =
-    map (λ b. record b { slots = b.slots - cost_on b.channel planned }) budgets
+    map (λ (b : Budget). record b { slots = b.slots - cost_on b.channel planned }) budgets
 
 -- and the flow's allowance by all its shares
 abbrev pub allowed_less : Planned → List (Option ℕ) → List (Option ℕ)
@@ -131,7 +131,7 @@ first_of outstanding ledger reserves turns =
 -- on each channel the turn gets back what its first share cost
 abbrev pub given_back : Planned → List Budget → List Budget
 given_back first budgets =
-    map (λ b. record b { slots = b.slots + cost_on b.channel first }) budgets
+    map (λ (b : Budget). record b { slots = b.slots + cost_on b.channel first }) budgets
 
 -- numbers added and taken off, place by place
 abbrev pub plus : List ℕ → List ℕ → List ℕ

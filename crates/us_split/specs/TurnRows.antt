@@ -60,7 +60,7 @@ pub record IsPlanning (t : Tables) (rows : List TurnRow) (channels : List Channe
 -- channels with so many idle minislots, and no claims
 abbrev pub cleared : List ChannelPlan → List ℕ → List ChannelPlan
 cleared channels idle =
-    map (λ pair. record pair.0 { slots = pair.1; claims = [] }) (zip channels idle)
+    map (λ (pair : ChannelPlan × ℕ). record pair.0 { slots = pair.1; claims = [] }) (zip channels idle)
 
 -- the most bytes that the channel at a place can carry behind a header
 abbrev pub weight_at : ℕ → List ChannelPlan → ℕ → ℕ
