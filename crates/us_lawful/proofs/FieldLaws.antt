@@ -150,8 +150,8 @@ builds_small t end s lawful is =
 -- Entries.
 
 if_weaker : (P Q : Entry → Type 0) (o : Option Entry) → ((e : Entry) → P e → Q e) → IfSome o P → IfSome o Q
-if_weaker P Q None then is = tt
-if_weaker P Q (Some e) then is = then e is
+if_weaker P Q None weaker is = tt
+if_weaker P Q (Some e) weaker is = weaker e is
 
 ids_small : (t : Tables) (c : Channel) → AreTables t → AllByRecursion (λ e. e.id ≤ max_id) (entries t c)
 ids_small t c lawful =

@@ -10,6 +10,7 @@ use Rattle.us_flows.specs.Clusters.{words_of}
 use Rattle.us_flows.specs.Lawful.{AreTables}
 use Rattle.us_bucket.specs.Levels.{Level, refilled, bytes_in, reserve_in}
 use Rattle.us_split.specs.Plans.{IsIdle}
+use Rattle.us_split.proofs.MinRateLemmas.{reserved_within}
 use Rattle.us_split.proofs.TwoPassLaws.{plan_for-lawful, reserved-within}
 use Rattle.us_round.specs.Rounds.{State, opening, brought, begun, fills_of, idle, builds_of, credited, round_from, round_of, schedule, reserved_in}
 use Rattle.us_round.specs.Cores.{Core, AreCalendars, IsFilledFor}
@@ -86,7 +87,7 @@ state_reserved s is place bucket at =
     (slice_get-map reserve_in s.reserves place ∙ ap (option_map reserve_in) at) in
     let within = reserved-within s.tables s.outstanding (map bytes_in s.buckets) (map reserve_in s.reserves) (idle (fills_of s))
     place (omega (arith, inside, many, is.flows, is.reserves)) in
-    omega (arith, within, own)
+    omega (arith, within, reserved_within s.tables.flows (map reserve_in s.reserves) place, own)
 
 -- and is sound
 pub state_sound : (s : State) → AreTables s.tables → IsState s → AreSound s (builds_of s)
