@@ -1,7 +1,8 @@
 -- Rounds with one credit each, one after another: what the bucket has behind them, and what keeps the bound in the next one.
 use Rattle.std.proofs.Common.{◌≡◌, ℕ, ◌+◌, ◌<◌, ◌≤◌, List, [], ◌∷◌, ◌++◌, append_assoc, refl, ap, ap₂, sym, subst, ◌∙◌, inl, inr, arith}
 use Rattle.us_bucket.specs.Levels.{Level, refilled, spent, reserve_in, Has}
-use Rattle.us_bucket.specs.Allowances.{Limit, credits_of, KeepsBound, IsReserve}
+use Rattle.us_bucket.specs.Allowances.{Limit, KeepsBound, IsReserve}
+use Rattle.us_bucket.specs.Spans.{credits_of}
 use Rattle.us_bucket.specs.Laws.{level_after, HasEach, first_level}
 use Rattle.us_bucket.specs.declared.events.Event.{Event}
 use Rattle.us_bucket.specs.declared.events.Event.TheVariants.{NextRound, Credit}
@@ -62,7 +63,7 @@ reserve-most limit credits l some is =
     elim reserve [
       | inl none ↦ absurd (omega (arith, none.0, some))
       | inr most ↦ (
-          subst (KeepsBound limit) (is.credit (reserve_in l)) most.1.keeps,
-          λ bytes keeps. most.1.greatest bytes (subst (KeepsBound limit) (sym (is.credit bytes)) keeps),
+        subst (KeepsBound limit) (is.credit (reserve_in l)) most.1.keeps,
+        λ bytes keeps. most.1.greatest bytes (subst (KeepsBound limit) (sym (is.credit bytes)) keeps),
       )
     ]
