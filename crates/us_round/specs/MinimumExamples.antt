@@ -4,7 +4,8 @@ use Rattle.std.proofs.Common.{arith}
 use Rattle.us_flows.specs.Tables.{FlowTable}
 use Rattle.us_flows.specs.Lawful.{AreTables}
 use Rattle.us_bucket.specs.Levels.{reserve_in}
-use Rattle.us_bucket.specs.Allowances.{KeepsBound, credited}
+use Rattle.us_bucket.specs.Allowances.{KeepsBound}
+use Rattle.us_bucket.specs.Spans.{credited}
 use Rattle.us_round.specs.Rounds.{opening}
 use Rattle.us_round.specs.ScheduleLaws.{begun_rounds, AreCuts}
 use Rattle.us_round.specs.MinimumRates.{min_limit, first_shares, IsMostNext, MinimumRatesAreKept}
