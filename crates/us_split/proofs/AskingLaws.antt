@@ -15,7 +15,7 @@ use Rattle.us_split.proofs.MinRateLemmas.{rates_agree}
 use Rattle.us_split.proofs.OnePassLaws.{budgets_stay, ledger_stays, limit-at, limits-length, nothing_returned}
 use Rattle.us_split.proofs.PartialPlanLemmas.{no_claim, none_less}
 use Rattle.us_split.proofs.PlanLawLemmas.{plan_of-turns, planned_of, shares_of-asked}
-use Rattle.us_split.proofs.SecondPassLemmas.{both-asked, plus-sum}
+use Rattle.us_split.proofs.SecondPassLemmas.{both-asked, added-sum}
 
 -- Places.
 
@@ -85,7 +85,7 @@ unfolding after_both
 ledger_stays_more outstanding ledger first none empty =
     let more : List ℕ = more_shares outstanding ledger first in
     let both : sum (with_more first more).shares ≡ 0 = no_shares_more outstanding ledger first none empty in
-    let rest : sum more ≡ 0 = omega (arith, plus-sum first.shares more, both) in
+    let rest : sum more ≡ 0 = omega (arith, added-sum first.shares more, both) in
     ap₂ (λ budgets allowances. let l : Ledger = record { budgets = budgets; allowances = allowances } in l)
     (ap (lowered (with_more first more)) (nothing_returned first ledger.budgets empty) ∙
     budgets_stay (with_more first more) ledger.budgets both)

@@ -10,7 +10,8 @@ use Rattle.us_flows.specs.Tables.{FlowTable}
 use Rattle.us_flows.specs.Clusters.{Turn, IsTurnIn, turns_of}
 use Rattle.us_flows.proofs.TurnLaws.{turns_of-turns}
 use Rattle.us_split.specs.Divisions.{divided}
-use Rattle.us_split.specs.Plans.{Budget, Ledger, Planned, at_most, weights, shares_of, cost_on, lowered, allowed_less, after_turn, after_plan, plan_of, plan_for, ledger_of, min_rate_reserves, first_limits, first_of, given_back, plus, minus, more_shares, with_more, after_both, second_of, two_passes}
+use Rattle.us_slots.specs.Numbers.{added}
+use Rattle.us_split.specs.Plans.{Budget, Ledger, Planned, at_most, weights, shares_of, cost_on, lowered, allowed_less, after_turn, after_plan, plan_of, plan_for, ledger_of, min_rate_reserves, first_limits, first_of, given_back, minus, more_shares, with_more, after_both, second_of, two_passes}
 use Rattle.us_split.specs.Laws.{OnePassDoes}
 use Rattle.us_split.proofs.DivisionLemmas.{sum-cons}
 use Rattle.us_split.proofs.MinRateLemmas.{reserved_within}
@@ -46,12 +47,12 @@ minus-none (x ∷ xs) (y ∷ ys) none =
     let first : x - y ≡ x = omega (arith, sum-cons y ys, none) in
     ap₂ (λ n ns. n ∷ ns) first (minus-none xs ys (omega (arith, sum-cons y ys, none)))
 
-plus-none : (xs ys : List ℕ) → sum xs ≡ 0 → length xs ≡ length ys → plus xs ys ≡ ys
-plus-none [] ys none same = refl
-plus-none (x ∷ xs) [] none same = absurd (omega (arith, same))
-plus-none (x ∷ xs) (y ∷ ys) none same =
+added-none : (xs ys : List ℕ) → sum xs ≡ 0 → length xs ≡ length ys → added xs ys ≡ ys
+added-none [] ys none same = refl
+added-none (x ∷ xs) [] none same = absurd (omega (arith, same))
+added-none (x ∷ xs) (y ∷ ys) none same =
     let first : x + y ≡ y = omega (arith, sum-cons x xs, none) in
-    ap₂ (λ n ns. n ∷ ns) first (plus-none xs ys (omega (arith, sum-cons x xs, none)) (omega (arith, same)))
+    ap₂ (λ n ns. n ∷ ns) first (added-none xs ys (omega (arith, sum-cons x xs, none)) (omega (arith, same)))
 
 -- First shares of no bytes.
 
@@ -76,7 +77,7 @@ with_more-none : (outstanding : List ℕ) (ledger : Ledger) (first : Planned) �
 with_more-none outstanding ledger first is =
     let more : List ℕ = more_shares outstanding ledger first in
     ap (λ shares. let p : Planned = record { turn = first.turn; shares = shares } in p)
-    (plus-none first.shares more is.bytes (is.one_each ∙ sym (more-length outstanding ledger first)) ∙
+    (added-none first.shares more is.bytes (is.one_each ∙ sym (more-length outstanding ledger first)) ∙
     more-none outstanding ledger first is.bytes)
 
 -- and so is what it leaves

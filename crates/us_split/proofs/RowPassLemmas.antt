@@ -9,7 +9,8 @@ use Rattle.std.proofs.lemmas.List.Elements.{All-from_recursion}
 use Rattle.std.proofs.lemmas.Option.{slice_get_read}
 use Rattle.us_split.specs.declared.turn_rows.Seat.{Seat}
 use Rattle.us_split.specs.Divisions.{divided}
-use Rattle.us_split.specs.Plans.{at_most, plus}
+use Rattle.us_slots.specs.Numbers.{added}
+use Rattle.us_split.specs.Plans.{at_most}
 use Rattle.us_split.specs.PartialPlans.{ChannelPlan, PartialPlan, taken}
 use Rattle.us_split.specs.TurnRows.{AreFirsts, FirstPass, FitsIf, FitsRow, TurnRow, at_seats, changed, first_in, is_reserved, more_at, more_in, partial_of, pass_of, put_from, reserve_for, returned_at, some_reserved, taken_at, weight_at, with_first_if, with_first_row, with_firsts, with_second_if, with_second_row, with_seconds}
 use Rattle.us_split.proofs.DivisionLemmas.{divided-length, sum-cons}
@@ -145,7 +146,7 @@ reserved_at rows reserves places i place bytes row all some at row_at is =
 pub second_planned : (row : TurnRow) (bytes demand total : ℕ) (first more both : List ℕ) (old given new : List ChannelPlan)
     (allowances left : List (Option ℕ)) → given ≡ returned_at row.asker.header first row.seats old →
     demand ≡ at_most (slice_index_or allowances row.asker.claimant.place None) (bytes - sum first) →
-    more ≡ more_at row demand first given → both ≡ plus first more → new ≡ put_from row.asker 0 row.seats both given →
+    more ≡ more_at row demand first given → both ≡ added first more → new ≡ put_from row.asker 0 row.seats both given →
     total ≡ sum more →
     left ≡ set allowances row.asker.claimant.place
     (option_map (λ most. most - total) (slice_index_or allowances row.asker.claimant.place None)) →
@@ -154,7 +155,7 @@ second_planned row bytes demand total first more both old given new allowances l
     let place : ℕ = row.asker.claimant.place in
     let same : more ≡ more_in row bytes first (partial_of old allowances) =
     are ∙ ap₂ (λ n cs. more_at row n first cs) asks gives in
-    ap₂ partial_of (put ∙ ap₂ (λ ss cs. put_from row.asker 0 row.seats ss cs) (sums ∙ ap (plus first) same) gives)
+    ap₂ partial_of (put ∙ ap₂ (λ ss cs. put_from row.asker 0 row.seats ss cs) (sums ∙ ap (added first) same) gives)
     (less ∙
     ap (λ n. set allowances place (option_map (λ most. most - n) (slice_index_or allowances place None)))
     (all ∙ ap sum same))

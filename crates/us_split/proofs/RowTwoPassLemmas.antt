@@ -16,7 +16,8 @@ use Rattle.us_flows.specs.Lawful.{AreApart, AreTables, IsFlow}
 use Rattle.us_flows.proofs.TurnLaws.{turns_of-turns}
 use Rattle.us_split.specs.declared.turn_rows.Seat.{Seat}
 use Rattle.us_split.specs.Divisions.{divided}
-use Rattle.us_split.specs.Plans.{IsIdle, Budget, Ledger, Planned, at_most, weights, shares_of, share_at, share_cost, cost_on, lowered, allowed_less, after_turn, after_plan, plan_of, plan_for, ledger_of, min_rate_reserves, first_limits, first_of, given_back, minus, plus, more_shares, with_more, after_both, second_of, two_passes, flow_bytes, reserved_for}
+use Rattle.us_slots.specs.Numbers.{added}
+use Rattle.us_split.specs.Plans.{IsIdle, Budget, Ledger, Planned, at_most, weights, shares_of, share_at, share_cost, cost_on, lowered, allowed_less, after_turn, after_plan, plan_of, plan_for, ledger_of, min_rate_reserves, first_limits, first_of, given_back, minus, more_shares, with_more, after_both, second_of, two_passes, flow_bytes, reserved_for}
 use Rattle.us_split.specs.Claims.{Claim, all_claims}
 use Rattle.us_split.specs.Asking.{AgreeOn, asking_in, asks, claims_at, plan_of_askers, turns_at}
 use Rattle.us_split.specs.PartialPlans.{Asker, ChannelPlan, IsPlaceOf, PartialPlan, asker_of, budget_in, idle_plan, ledger_in, most_slots, with_turn}
@@ -477,10 +478,10 @@ second_step t outstanding place first partial lawful is same can =
     ap (λ ws. divided bytes (minus ws first.shares))
     (weights_there t.channels (header_bytes f) 0 f.channels turn.cluster.sids given own lawful.channels_apart flow.channels ∙
     ap (weights f) (budgets_given first partial.channels)) in
-    ap₂ (λ ss cs. partial_of (put_from asker 0 seats (plus first.shares ss) cs)
+    ap₂ (λ ss cs. partial_of (put_from asker 0 seats (added first.shares ss) cs)
     (allowed_less (record { turn = turn; shares = ss }) partial.allowances)) gets returns ∙
     ap (λ cs. partial_of cs (allowed_less (record { turn = turn; shares = more }) partial.allowances))
-    (put_claimed t.channels asker 0 f.channels turn.cluster.sids (plus first.shares more) given own lawful.channels_apart flow.channels ∙
+    (put_claimed t.channels asker 0 f.channels turn.cluster.sids (added first.shares more) given own lawful.channels_apart flow.channels ∙
     claimed_turn place (with_more first more) given flow.apart)
 
 -- first shares of turns at places

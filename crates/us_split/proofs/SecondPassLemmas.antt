@@ -10,7 +10,8 @@ use Rattle.std.proofs.lemmas.List.Quantifiers.{position-Some}
 use Rattle.std.proofs.lemmas.List.Sums.{sum_by-cons}
 use Rattle.us_slots.specs.Times.{minislot_ticks}
 use Rattle.us_flows.specs.Tables.{FlowTable, header_bytes}
-use Rattle.us_split.specs.Plans.{Budget, Ledger, Planned, budget_of, weight, weights, at_most, share_at, share_cost, cost_on, lowered, after_turn, after_plan, flow_bytes, given_back, plus, minus, more_shares, with_more, after_both, second_of}
+use Rattle.us_slots.specs.Numbers.{added}
+use Rattle.us_split.specs.Plans.{Budget, Ledger, Planned, budget_of, weight, weights, at_most, share_at, share_cost, cost_on, lowered, after_turn, after_plan, flow_bytes, given_back, minus, more_shares, with_more, after_both, second_of}
 use Rattle.us_split.specs.PlanLaws.{AreBursts}
 use Rattle.us_split.proofs.DivisionLemmas.{divided-sum, divided-within, divided-length, sum-cons}
 use Rattle.us_split.proofs.ShareLemmas.{IsBudget, found_budget, fits_burst, fits_budget}
@@ -18,17 +19,17 @@ use Rattle.us_split.proofs.PlanLawLemmas.{at_most-le, at_most-within, same_place
 
 -- Numbers, place by place.
 
-pub plus-sum : (xs ys : List ℕ) → sum (plus xs ys) ≡ sum xs + sum ys
-plus-sum [] ys = omega arith
-plus-sum (x ∷ xs) [] = omega arith
-plus-sum (x ∷ xs) (y ∷ ys) =
-    omega (arith, sum-cons (x + y) (plus xs ys), sum-cons x xs, sum-cons y ys, plus-sum xs ys)
+pub added-sum : (xs ys : List ℕ) → sum (added xs ys) ≡ sum xs + sum ys
+added-sum [] ys = omega arith
+added-sum (x ∷ xs) [] = omega arith
+added-sum (x ∷ xs) (y ∷ ys) =
+    omega (arith, sum-cons (x + y) (added xs ys), sum-cons x xs, sum-cons y ys, added-sum xs ys)
 
-pub plus-at : (xs ys : List ℕ) (k : ℕ) → slice_index (plus xs ys) k ≡ slice_index xs k + slice_index ys k
-plus-at [] ys k = omega arith
-plus-at (x ∷ xs) [] k = omega arith
-plus-at (x ∷ xs) (y ∷ ys) zero = refl
-plus-at (x ∷ xs) (y ∷ ys) (suc k) = plus-at xs ys k
+pub added-at : (xs ys : List ℕ) (k : ℕ) → slice_index (added xs ys) k ≡ slice_index xs k + slice_index ys k
+added-at [] ys k = omega arith
+added-at (x ∷ xs) [] k = omega arith
+added-at (x ∷ xs) (y ∷ ys) zero = refl
+added-at (x ∷ xs) (y ∷ ys) (suc k) = added-at xs ys k
 
 pub minus-at : (xs ys : List ℕ) (k : ℕ) → slice_index (minus xs ys) k ≡ slice_index xs k - slice_index ys k
 minus-at [] ys k = omega arith
@@ -36,10 +37,10 @@ minus-at (x ∷ xs) [] k = omega arith
 minus-at (x ∷ xs) (y ∷ ys) zero = refl
 minus-at (x ∷ xs) (y ∷ ys) (suc k) = minus-at xs ys k
 
-pub plus-length : (xs ys : List ℕ) → length xs ≡ length ys → length (plus xs ys) ≡ length ys
-plus-length [] ys same = refl
-plus-length (x ∷ xs) [] same = same
-plus-length (x ∷ xs) (y ∷ ys) same = ap suc (plus-length xs ys (omega (arith, same)))
+pub added-length : (xs ys : List ℕ) → length xs ≡ length ys → length (added xs ys) ≡ length ys
+added-length [] ys same = refl
+added-length (x ∷ xs) [] same = same
+added-length (x ∷ xs) (y ∷ ys) same = ap suc (added-length xs ys (omega (arith, same)))
 
 pub minus-length : (xs ys : List ℕ) → length (minus xs ys) ≡ length xs
 minus-length [] ys = refl
@@ -55,13 +56,13 @@ minus-more (x ∷ xs) (y ∷ ys) zero within inside = refl
 minus-more (x ∷ xs) (y ∷ ys) (suc i) within inside =
     ap (λ ns. (x - y) ∷ ns) (minus-more xs ys i (omega (arith, within)) (omega (arith, inside)))
 
-pub plus-more : (xs ys : List ℕ) (i : ℕ) → i < length xs → i < length ys →
-    plus (take i xs) (take i ys) ++ (slice_index xs i + slice_index ys i) ∷ [] ≡ plus (take (suc i) xs) (take (suc i) ys)
-plus-more [] ys i within inside = absurd (omega (arith, within))
-plus-more (x ∷ xs) [] i within inside = absurd (omega (arith, inside))
-plus-more (x ∷ xs) (y ∷ ys) zero within inside = refl
-plus-more (x ∷ xs) (y ∷ ys) (suc i) within inside =
-    ap (λ ns. (x + y) ∷ ns) (plus-more xs ys i (omega (arith, within)) (omega (arith, inside)))
+pub added-more : (xs ys : List ℕ) (i : ℕ) → i < length xs → i < length ys →
+    added (take i xs) (take i ys) ++ (slice_index xs i + slice_index ys i) ∷ [] ≡ added (take (suc i) xs) (take (suc i) ys)
+added-more [] ys i within inside = absurd (omega (arith, within))
+added-more (x ∷ xs) [] i within inside = absurd (omega (arith, inside))
+added-more (x ∷ xs) (y ∷ ys) zero within inside = refl
+added-more (x ∷ xs) (y ∷ ys) (suc i) within inside =
+    ap (λ ns. (x + y) ∷ ns) (added-more xs ys i (omega (arith, within)) (omega (arith, inside)))
 
 -- Budgets.
 
@@ -146,7 +147,7 @@ module _ (outstanding : List ℕ) (ledger : Ledger) (first : Planned) where
       length-map flow.channels (λ id. weight (header_bytes flow) (budget_of returned id))
 
   pub both-length : length first.shares ≡ length flow.channels → length both.shares ≡ length flow.channels
-  both-length same = plus-length first.shares more (same ∙ sym more-length) ∙ more-length
+  both-length same = added-length first.shares more (same ∙ sym more-length) ∙ more-length
 
   pub more-sum : sum more ≤ asked
   unfolding more_shares
@@ -164,7 +165,7 @@ module _ (outstanding : List ℕ) (ledger : Ledger) (first : Planned) where
   pub both-asked : sum first.shares ≤ slice_index outstanding first.turn.number →
       sum both.shares ≤ slice_index outstanding first.turn.number
   both-asked within =
-      omega (arith, plus-sum first.shares more, more-sum, at_most-le (slice_index_or ledger.allowances first.turn.place None) (slice_index outstanding first.turn.number - sum first.shares), within)
+      omega (arith, added-sum first.shares more, more-sum, at_most-le (slice_index_or ledger.allowances first.turn.place None) (slice_index outstanding first.turn.number - sum first.shares), within)
 
   abbrev IsBurst : ℕ → Type 0
   IsBurst share = (share ≡ 0) ⊎ (share + header_bytes flow ≤ 98304)
@@ -179,11 +180,11 @@ module _ (outstanding : List ℕ) (ledger : Ledger) (first : Planned) where
       k < length flow.channels → IsBurst (slice_index both.shares k)
   burst_at k all bursts same within = elim (cases_lt 0 (slice_index more k)) [
     | inr none ↦
-        let whole : slice_index first.shares k ≡ slice_index both.shares k = omega (arith, plus-at first.shares more k, none) in
+        let whole : slice_index first.shares k ≡ slice_index both.shares k = omega (arith, added-at first.shares more k, none) in
         subst IsBurst whole (All-from_recursion IsBurst first.shares bursts k 0 (omega (arith, same, within)))
     | inl some ↦
         let id : ℕ = slice_index flow.channels k in
-        subst IsBurst (sym (plus-at first.shares more k))
+        subst IsBurst (sym (added-at first.shares more k))
         (burst_found (slice_index first.shares k) (slice_index more k) id (budget_of returned id) all refl some (more-within k within))
   ]
 
@@ -207,7 +208,7 @@ module _ (outstanding : List ℕ) (ledger : Ledger) (first : Planned) where
       let budget : budget_of returned (slice_index flow.channels k) ≡ Some raised = ap (budget_of returned) id ∙ at in
       let rest : slice_index more k ≤ weight (header_bytes flow) (Some raised) - slice_index first.shares k =
       rw budget at (more-within k place.0) in
-      let share = plus-at first.shares more k in
+      let share = added-at first.shares more k in
       elim (cases_lt 0 (slice_index more k)) [
         | inr none ↦
             let whole : slice_index both.shares k ≡ slice_index first.shares k = omega (arith, share, none) in
@@ -338,7 +339,7 @@ second_of-allowed outstanding ledger (first ∷ plan) place left at =
             arith,
             sum_by-cons (λ (p : Planned). sum p.shares) both (own (second_of outstanding next plan)),
             sum_by-cons (λ (p : Planned). sum p.shares) first (own plan),
-            plus-sum first.shares more,
+            added-sum first.shares more,
             second_of-allowed outstanding next plan place (left - sum more) later,
             within,
           ))

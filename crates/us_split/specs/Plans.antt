@@ -1,6 +1,7 @@
 -- The plan of a round (ours): how many bytes each turn may send on each of its flow's channels. It is made in two passes: in
 -- the first one each flow with a minimum rate gets what is reserved for it, and in the second one all turns get what is left.
 use Rattle.std.specs.Prelude.{ℕ, ◌+◌, ◌-◌, ◌≤◌, ◌≡◌, ◌==◌, nat_lt, min, if◌then◌else◌, List, [], ◌∷◌, map, zip, filter, find, position, set, length, sum, sum_by, slice_get, slice_index, slice_index_or, Option, Some, None, option_map}
+use Rattle.us_slots.specs.Numbers.{added}
 use Rattle.us_slots.specs.Bursts.{grant_cost}
 use Rattle.us_slots.specs.Capacities.{capacity_of}
 use Rattle.us_flows.specs.declared.channels.Channel.{Channel}
@@ -133,12 +134,7 @@ abbrev pub given_back : Planned → List Budget → List Budget
 given_back first budgets =
     map (λ (b : Budget). record b { slots = b.slots + cost_on b.channel first }) budgets
 
--- numbers added and taken off, place by place
-abbrev pub plus : List ℕ → List ℕ → List ℕ
-plus [] ys = ys
-plus (x ∷ xs) [] = x ∷ xs
-plus (x ∷ xs) (y ∷ ys) = (x + y) ∷ plus xs ys
-
+-- numbers taken off, place by place
 abbrev pub minus : List ℕ → List ℕ → List ℕ
 minus [] ys = []
 minus (x ∷ xs) [] = x ∷ xs
@@ -155,7 +151,7 @@ more_shares outstanding ledger first =
 
 -- both make up its shares
 abbrev pub with_more : Planned → List ℕ → Planned
-with_more first more = record first { shares = plus first.shares more }
+with_more first more = record first { shares = added first.shares more }
 
 -- each budget falls by what the whole share costs, in place of the first one; first shares are off the allowance already
 unfoldable pub after_both : Ledger → Planned → List ℕ → Ledger

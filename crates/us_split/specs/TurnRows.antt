@@ -9,7 +9,8 @@ use Rattle.us_flows.specs.Clusters.{Turn, turns_of}
 use Rattle.us_flows.specs.Lawful.{AreTables}
 use Rattle.us_split.specs.declared.turn_rows.Seat.{Seat}
 use Rattle.us_split.specs.Divisions.{divided}
-use Rattle.us_split.specs.Plans.{weight, at_most, minus, plus, max_burst_bytes}
+use Rattle.us_slots.specs.Numbers.{added}
+use Rattle.us_split.specs.Plans.{weight, at_most, minus, max_burst_bytes}
 use Rattle.us_split.specs.PartialPlans.{Asker, ChannelPlan, PartialPlan, asker_of, budget_in, returned, taken, with_share}
 
 -- what minislots carry on a channel, by their number: some are in a table
@@ -197,7 +198,7 @@ more_in row bytes first partial =
 abbrev pub with_both : TurnRow → List ℕ → List ℕ → PartialPlan → PartialPlan
 with_both row first more partial = record {
   channels =
-      put_from row.asker 0 row.seats (plus first more)
+      put_from row.asker 0 row.seats (added first more)
       (returned_at row.asker.header first row.seats partial.channels);
   allowances = set partial.allowances row.asker.claimant.place
       (option_map (λ most. most - sum more) (slice_index_or partial.allowances row.asker.claimant.place None));

@@ -3,7 +3,8 @@ ghost use Rattle.std.specs.List.{AllByRecursion};
 ghost use Rattle.us_flows.specs.Ranges.{max_channels_of_flow};
 ghost use Rattle.us_flows.specs.Tables.{segment_header_bytes};
 ghost use Rattle.us_split.specs.Divisions.{divided};
-ghost use Rattle.us_split.specs.Plans.{max_burst_bytes, minus, plus};
+ghost use Rattle.us_slots.specs.Numbers.{added};
+ghost use Rattle.us_split.specs.Plans.{max_burst_bytes, minus};
 ghost use Rattle.us_split.specs.TurnRows.{weight_at};
 
 use crate::by_places::weigh_at;
@@ -115,7 +116,7 @@ impl Shares {
     pub(crate) fn with(&self, others: &Shares) -> Shares
         requires same_length { length others.now ≡ length self.now }
         requires few { (k : ℕ) → slice_index self.now k + slice_index others.now k ≤ max_burst_bytes }
-        ensures { result ≡ plus self.now others.now }
+        ensures { result ≡ added self.now others.now }
     {
         let mut bytes = [0; MAX_CHANNELS_OF_FLOW];
         add_up(self.bytes(), others.bytes(), &mut bytes[..self.count]);
@@ -139,7 +140,7 @@ fn add_up(numbers: &[u32], others: &[u32], sums: &mut [u32])
     requires others { length others.now ≡ length numbers.now }
     requires sums { length sums.old ≡ length numbers.now }
     requires few { (k : ℕ) → slice_index numbers.now k + slice_index others.now k ≤ max_burst_bytes }
-    ensures { sums.new ≡ plus numbers.now others.now }
+    ensures { sums.new ≡ added numbers.now others.now }
 {
     for i in 0..numbers.len() {
         sums[i] = numbers[i] + others[i];

@@ -4,7 +4,7 @@ use Rattle.us_split.specs.Plans.{at_most}
 use Rattle.us_split.specs.PartialPlans.{Asker}
 use Rattle.us_split.specs.TurnRows.{put_from, returned_at}
 use Rattle.us_split.proofs.RowPassLemmas.{second_planned}
-use Rattle.us_split.proofs.SecondPassLemmas.{plus-at, plus-length}
+use Rattle.us_split.proofs.SecondPassLemmas.{added-at, added-length}
 use Rattle.us_split.proofs.row_plans.plan_second.Goals as goal
 
 abbrev header_in : Asker → ℕ
@@ -13,7 +13,7 @@ header_in asker = asker.header
 pub put_all-requires-clause-one_each : goal.put_all-requires-clause-one_each
 put_all-requires-clause-one_each c =
     ap length (c.bytes-2.ensures.value ∙ c.with-both.ensures) ∙
-    plus-length c.args.first.now c.more_of-more.result (c.requires.first.one_each ∙ sym c.more_of-more.ensures.one_each) ∙
+    added-length c.args.first.now c.more_of-more.result (c.requires.first.one_each ∙ sym c.more_of-more.ensures.one_each) ∙
     c.more_of-more.ensures.one_each ∙ sym (ap length c.seats-2.ensures.value)
 
 pub put_all-requires-clause-bursts : goal.put_all-requires-clause-bursts
@@ -21,7 +21,7 @@ put_all-requires-clause-bursts c = λ k.
     omega (
       arith,
       ap (λ xs. slice_index xs k) (c.bytes-2.ensures.value ∙ c.with-both.ensures),
-      plus-at c.args.first.now c.more_of-more.result k,
+      added-at c.args.first.now c.more_of-more.result k,
       c.more_of-more.ensures.bursts k,
       ap header_in c.asker-2.ensures,
     )

@@ -1,8 +1,8 @@
 use Rattle.std.proofs.Common.{◌≡◌, ℕ, suc, ◌∷◌, [], ◌++◌, ◌+◌, ◌<◌, length, take, ap, ◌∙◌, arith}
 use Rattle.std.specs.Prelude.{slice_index}
 use Rattle.std.proofs.lemmas.List.{take_more_set}
-use Rattle.us_split.specs.Plans.{plus}
-use Rattle.us_split.proofs.SecondPassLemmas.{plus-more}
+use Rattle.us_slots.specs.Numbers.{added}
+use Rattle.us_split.proofs.SecondPassLemmas.{added-more}
 use Rattle.us_split.proofs.shares.add_up.Goals as goal
 
 pub loop-i-preserved : goal.loop-i-preserved
@@ -14,5 +14,5 @@ loop-i-preserved c =
     let more : ℕ = slice_index c.args.numbers.now i + slice_index c.args.others.now i in
     take_more_set c.loop-i.sums i more (omega (arith, c.loop-i.auto.sums, c.requires.sums)) ∙
     ap (λ ns. ns ++ more ∷ []) c.loop-i.invariant ∙
-    plus-more c.args.numbers.now c.args.others.now i within inside ∙
-    ap (λ n. plus (take n c.args.numbers.now) (take n c.args.others.now)) next
+    added-more c.args.numbers.now c.args.others.now i within inside ∙
+    ap (λ n. added (take n c.args.numbers.now) (take n c.args.others.now)) next
