@@ -250,6 +250,14 @@ headers = true
 ",
         rounds: &[
             Round {
+                name: "a reserve without a minimum rate",
+                outstanding: &[262_140, 10_000],
+                allowances: [None, None, None],
+                reserves: [0, 1522, 0],
+                idle: &[150],
+                answer: "left [0, 1522, 0] [0, 0, 291, 4776, 150, 10]",
+            },
+            Round {
                 name: "reserves without minimum rates",
                 outstanding: &[262_140, 10_000],
                 allowances: [None, None, None],
