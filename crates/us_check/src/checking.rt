@@ -18,8 +18,8 @@ use us_requests::Trace;
 /// Judges a maps file and a report, whoever made them, against the tables of a configuration and the requests of a
 /// trace that was read with it.
 ///
-/// The report is read first (CK1). Then the rules are looked at in the order of [`Rule`]; the first that is broken is
-/// answered, with the first place at which it is. The rounds are those that the trace was read for.
+/// The report is read first (CK1). Then the rules are looked at in the order of [`Rule`], and each part by part; the first
+/// part that is broken is answered, with the first place at which it is. The rounds are those that the trace was read for.
 pub fn check(
     alloc: Global,
     config: &Config,

@@ -4,8 +4,8 @@ ghost use Rattle.us_check.specs.Laws.{LawfulTextsHold, OneAnswer};
 ghost use Rattle.us_check.specs.Named.{VerdictsNameTheFirst};
 ghost use Rattle.us_check.specs.Bursts.{LongCreditsFail, LongGrantsPassMaps};
 
-/// The rule that a verdict names fails at its place, and holds before it: each part of it at each place before, if the
-/// parts in front of that one hold everywhere. Each rule of a lower number holds.
+/// The rule that a verdict names, any but P1, fails at its place, and holds before it: each part of it at each place before,
+/// if the parts in front of that one hold everywhere. Each rule of a lower number holds.
 pub fn verdicts_name_the_first()
     ensures { VerdictsNameTheFirst }
 {}

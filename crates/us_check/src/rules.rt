@@ -13,7 +13,8 @@ pub enum Rule {
     /// P3: in each MAP reserves and grants lie inside, no minislot has two of them, and the elements are these and the
     /// gaps between them.
     Minislots,
-    /// P4: each occurrence of the calendar is granted in its window, or missed in the round in which that closes.
+    /// P4: each occurrence whose window closes in the run is granted in its window, or missed in the round in which that
+    /// closes.
     Occurrences,
     /// P5: no flow is credited more than its rate and its burst allow.
     Rates,

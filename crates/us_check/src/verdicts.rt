@@ -16,7 +16,8 @@ pub enum Verdict {
         round: u64,
         /// The id of the channel; 0 where the rule is of no channel, or of all.
         channel: u64,
-        /// The index of a record (P1, P2), a minislot (P3), or the id of a flow or of a station (P4, P5, P6).
+        /// The index of a record (P1, P2), a minislot (P3), or the id of a flow or of a station that a line or the tables
+        /// name (P4, P5, P6); 0 of a line whose round or channel the run lacks (P3), and of the U line (P6).
         place: u64,
     },
 }

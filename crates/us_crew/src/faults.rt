@@ -10,7 +10,8 @@ pub enum CrewFault<E> {
     Workers,
     /// CR2: want of memory.
     NoMemory,
-    /// CR3: the first item, in their order, for which the work answered a fault, by its number from 0, and that fault.
+    /// CR3: an item, by its number from 0, and a fault that the work may answer for it; no earlier item has one that it must
+    /// answer.
     Item(usize, E),
 }
 

@@ -1,10 +1,10 @@
-//! Laws, each as the contract of a function that does nothing.
+//! Laws, each as the contract of a function that does nothing. Schedules are those of accepted tables, of rounds that fit
+//! into a run, and of cuts with a number for each word.
 
 ghost use Rattle.us_lawful.specs.Laws.{LinesHaveFields, OrderedAssignmentsHold, ReportsReadBack, SchedulesAreLawful, TextsOfSchedulesAreLawful, TextsOfTracesAreLawful};
 ghost use Rattle.us_lawful.specs.Reports.{OneReading};
 
-/// All that a schedule gives is lawful: of all accepted tables, of rounds that fit into a run, and of cuts with a number for
-/// each word.
+/// All that a schedule gives is lawful.
 pub fn schedules_are_lawful()
     ensures { SchedulesAreLawful }
 {}

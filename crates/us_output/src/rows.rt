@@ -100,7 +100,7 @@ pub struct FinalActivity {
 }
 
 /// How many rows of the trace, requests and marks, count for nothing, as the U line tells it: numbers of 64 bits, as all of
-/// a report.
+/// a report. Each counts under the first of these that holds of it.
 #[derive(Clone, Copy, Debug, PartialEq, Eq)]
 pub struct TraceCounts {
     /// No flow has the SID on the channel.

@@ -11,6 +11,6 @@ pub struct Summary {
     pub unknown: u32,
     /// Rows of the trace that are requests of a flow that makes none, or marks of one that doesn't tell its activity.
     pub not_requestable: u32,
-    /// Rows of the trace whose round isn't below the number of rounds.
+    /// Other rows of the trace whose round isn't below the number of rounds.
     pub late: u32,
 }

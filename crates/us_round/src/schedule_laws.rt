@@ -1,4 +1,5 @@
-//! Laws of the schedule, each as the contract of a function that does nothing.
+//! Laws of the schedule, each as the contract of a function that does nothing. Rounds from the opening on are those of
+//! accepted tables, which end in time, and of cuts with a number for each word.
 
 ghost use Rattle.us_round.specs.MinimumRates.{MinimumRatesAreKept};
 ghost use Rattle.us_round.specs.ScheduleLaws.{BytesAreKept, CalendarsRun, ChannelsStay, MapsAreLawful, OnePassDoes, RoundsAreNumbered, RoundsAreSound, ScheduleIsOfBegunRounds, TablesStay};

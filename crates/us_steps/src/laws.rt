@@ -1,4 +1,5 @@
-//! Laws of the definitions of steps and plays, each as the contract of a function that does nothing.
+//! Laws of the definitions of steps and plays, each as the contract of a function that does nothing. Where they speak of
+//! words, each row is of one of the words.
 
 ghost use Rattle.us_steps.specs.Laws.{MachineMakesRounds, EachChannelIsFilled, SeatsChangeNothing, PlaysAreRounds, NothingIsLost};
 ghost use Rattle.us_steps.specs.MachinePlays.{MachineRunsAreSchedules};
@@ -26,7 +27,7 @@ pub fn plays_are_rounds()
     ensures { PlaysAreRounds }
 {}
 
-/// The cuts of a word and what is left in it are what it had at first, and all its rows.
+/// Where all plays are complete, the cuts of a word and what is left in it are what it had at first, and all its rows.
 pub fn nothing_is_lost()
     ensures { NothingIsLost }
 {}
