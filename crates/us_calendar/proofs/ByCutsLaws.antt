@@ -96,8 +96,8 @@ entries_same pace said r cut (row ∷ rows) board all =
     let first = all.0 board in
     let rest = entries_same pace said r cut rows one.board all.1 in (
       ap (λ (o : SettledEntry). map (told_as row.entry) o.settlements
-      ++ (run_entries pace r (map (heard cut) rows) o.board).settled) first
-      ∙ ap (λ more. map (told_as row.entry) one.settlements ++ more) rest.0,
+          ++ (run_entries pace r (map (heard cut) rows) o.board).settled) first
+          ∙ ap (λ more. map (told_as row.entry) one.settlements ++ more) rest.0,
       ap (λ (o : SettledEntry). (run_entries pace r (map (heard cut) rows) o.board).board) first ∙ rest.1,
     )
 

@@ -76,8 +76,7 @@ pub use entries::Entry;
 pub use kinds::Kind;
 pub use laws::{
     all_are_occurrences, entries_are_apart, entries_are_lawful, entries_have_words, first_ones,
-    grants_fit, kinds_as_heard, rows_stand_first, settled_once,
-    settles_by_cuts,
+    grants_fit, kinds_as_heard, rows_stand_first, settled_once, settles_by_cuts,
 };
 pub use listing::entries_of;
 pub use settled::Settled;
