@@ -163,7 +163,7 @@ count-filter : (f : ℕ → Bool) (q : ℕ) (qs : List ℕ) →
     count (λ r. r == q) (filter f qs) ≡ (if f q then count (λ r. r == q) qs else 0)
 count-filter f q [] = by (f q)
   where
-    by : (b : Bool) → 0 ≡ (if b then 0 else 0)
+    by : (b : Bool) → zero ≡ (if b then zero else zero)
     by true = refl
     by false = refl
 count-filter f q (x ∷ qs) = elim (cases_eq x q) [
@@ -352,24 +352,27 @@ module _ (words channels : ℕ) (rows : List Ask) (by : ℕ) (adding building : 
       (all_append IsNoAdd others building (takes-no_adds by (other_words words rows))
       (all_weaker (IsThere 0 0 channels) IsNoAdd (channel-no_add channels) building built.there)))
 
-  long : length (replicate words 0) ≡ words
+  abbrev nothing : List ℕ
+  nothing = replicate words 0
+
+  long : length nothing ≡ words
   long = length-replicate words 0
 
-  left-is : left_of (replicate words 0) rows steps ≡ replicate words 0
+  left-is : left_of nothing rows steps ≡ nothing
   unfolding left_of
   left-is =
       ap (λ n. map (left_at rows steps) (range_with_len 0 n)) long
-      ∙ sym (mapped-at (left_at rows steps) (replicate words 0) words long (λ q below. zeros words q ∙ sym (left-none q)))
+      ∙ sym (mapped-at (left_at rows steps) nothing words long (λ q below. zeros words q ∙ sym (left-none q)))
 
-  cut-is : cut_of (replicate words 0) rows steps ≡ requests.cut_of words rows
+  cut-is : cut_of nothing rows steps ≡ requests.cut_of words rows
   unfolding requests.cut_of
   cut-is =
-      mapped-at (asked rows) (cut_of (replicate words 0) rows steps) words (cut-long rows (replicate words 0) steps ∙ long)
+      mapped-at (asked rows) (cut_of nothing rows steps) words (cut-long rows nothing steps ∙ long)
       (λ q below.
-      let inside : q < length (replicate words 0) = omega (arith, below, long) in
-      let all = conserved rows (replicate words 0) channels steps q
+      let inside : q < length nothing = omega (arith, below, long) in
+      let all = conserved rows nothing channels steps q
       (subst (λ n. IsComplete (length rows) n channels steps) (sym long) whole) inside in
-      let left : slice_index (left_of (replicate words 0) rows steps) q ≡ 0 = ap (λ ws. slice_index ws q) left-is ∙ zeros words q in
+      let left : slice_index (left_of nothing rows steps) q ≡ 0 = ap (λ ws. slice_index ws q) left-is ∙ zeros words q in
       omega (arith, all, left, zeros words q))
 
 pub replays_are_complete : ReplaysAreComplete

@@ -59,12 +59,14 @@ abbrev Goes : Tables → State → ℕ → List ℕ → List Play → Option Mac
 Goes t s n words plays None = AreAllComplete n (length t.channels) plays → ⊥
 Goes t s n words plays (Some ran) = AreAllComplete n (length t.channels) plays × (ran ≡ told s words plays)
 
-goes : (t : Tables) (s : State) (n : ℕ) (words : List ℕ) (plays : List Play) → Fits t s → length words ≡ n →
-    AllByRecursion (λ (p : Play). AllByRecursion (λ ask. ask.cluster < n) p.rows) plays →
-    Goes t s n words plays (run_plays s words plays)
+-- one play, where the others go on from what it leaves
+goes-on : (t : Tables) (s : State) (n : ℕ) (words : List ℕ) (p : Play) (plays : List Play) → Fits t s → length words ≡ n →
+    AllByRecursion (λ ask. ask.cluster < n) p.rows →
+    Goes t (round_of s (cut_of words p.rows p.steps)).state n (left_of words p.rows p.steps) plays
+    (run_plays (round_of s (cut_of words p.rows p.steps)).state (left_of words p.rows p.steps) plays) →
+    Goes t s n words (p ∷ plays) (run_plays s words (p ∷ plays))
 unfolding run_plays run_of state_after cuts_of words_after
-goes t s n words [] fits long known = (tt, refl)
-goes t s n words (p ∷ plays) fits long known = by (run s p.rows (opening_machine s words (length p.rows)) p.steps) refl
+goes-on t s n words p plays fits long known rest = by (run s p.rows (opening_machine s words (length p.rows)) p.steps) refl
   where
     cut : List ℕ
     cut = cut_of words p.rows p.steps
@@ -78,10 +80,7 @@ goes t s n words (p ∷ plays) fits long known = by (run s p.rows (opening_machi
     one : GoesThrough s words p.rows p.steps (run s p.rows (opening_machine s words (length p.rows)) p.steps)
     one =
         machine_makes_rounds s words p.rows p.steps
-        (subst (λ m. AllByRecursion (λ (ask : Ask). ask.cluster < m) p.rows) (sym long) known.0)
-
-    rest : Goes t next n left plays (run_plays next left plays)
-    rest = goes t next n left plays (fits-next t s cut fits) (left-long p.rows words p.steps ∙ long) known.1
+        (subst (λ m. AllByRecursion (λ (ask : Ask). ask.cluster < m) p.rows) (sym long) known)
 
     -- complete for the machine's words and channels, and for those of the tables
     here : IsComplete (length p.rows) n (length t.channels) p.steps →
@@ -99,7 +98,7 @@ goes t s n words (p ∷ plays) fits long known = by (run s p.rows (opening_machi
     more : (end : Machine) → IsPlayed s words p.rows p.steps end → (found : Option MachineRun) →
         Goes t next n left plays found →
         Goes t s n words (p ∷ plays) (option_map (with_round s end.cut (result_of s end)) found)
-    more end is None no = λ all. no all.1
+    more end is None not = λ all. not all.1
     more end is (Some ran) goes_on = (
       (there is.complete, goes_on.0),
       ap (λ c. with_round s c (result_of s end) ran) is.cut
@@ -123,6 +122,17 @@ goes t s n words (p ∷ plays) fits long known = by (run s p.rows (opening_machi
         ∙ ap (λ ws. run_plays next ws plays) is.left in
         more end is (run_plays (result_of s end).state end.words plays)
         (subst (λ o. Goes t next n left plays o) (sym again) rest)
+
+goes : (t : Tables) (s : State) (n : ℕ) (words : List ℕ) (plays : List Play) → Fits t s → length words ≡ n →
+    AllByRecursion (λ (p : Play). AllByRecursion (λ ask. ask.cluster < n) p.rows) plays →
+    Goes t s n words plays (run_plays s words plays)
+unfolding run_plays run_of state_after cuts_of words_after
+goes t s n words [] fits long known = (tt, refl)
+goes t s n words (p ∷ plays) fits long known =
+    let cut : List ℕ = cut_of words p.rows p.steps in
+    goes-on t s n words p plays fits long known.0
+    (goes t (round_of s cut).state n (left_of words p.rows p.steps) plays (fits-next t s cut fits)
+    (left-long p.rows words p.steps ∙ long) known.1)
 
 -- Of a word that isn't there nothing is cut or left, and no row is.
 
@@ -179,7 +189,7 @@ machine_runs_are_schedules t words plays known =
     rounds = plays_are_rounds t words plays
 
     to : (found : Option MachineRun) → Goes t (opening t) (length words) words plays found → RunsThrough t words plays found
-    to None no = no
+    to None not = not
     to (Some ran) is =
         let cuts : ran.cuts ≡ cuts_of words plays = ap (λ (r : MachineRun). r.cuts) is.1 in
         let left : ran.words ≡ words_after words plays = ap (λ (r : MachineRun). r.words) is.1 in
