@@ -41,9 +41,10 @@ mod whole_run;
 /// replay (RU4, RU5, RU6).
 ///
 /// The requests of a round are added to their words by whichever workers, and then taken: one swap for each, of the word
-/// that it names, and of no other word. To take a word that holds nothing would change nothing but that it counts as
-/// taken. With a take of each word that no request names, and of each named one where it comes first, a round's steps are
-/// complete, with the same cut, and leave nothing in any word (`taking_nothing` and `replays_are_complete` of `us_steps`).
+/// that it names, and of no other word. To take a word that holds nothing and wasn't taken, where no channel is open,
+/// leaves words, cut and seats as they are, and marks the word as taken. So the steps of a round, with the first take of
+/// each word that a request names and a take of each other word, are a complete list, with the same cut and words of 0
+/// (`taking_nothing` and `replays_are_complete` of `us_steps`).
 pub fn replay<H: Threads + Wait + Sync, R: Source, W1: Sink, W2: Sink, G: Gate + Sync>(
     threads: &H,
     alloc: Global,
