@@ -73,6 +73,8 @@ pub fn replay<H: Threads + Wait + Sync, R: Source, W1: Sink, W2: Sink, G: Gate +
     ensures trace_failed { (R.failed trace.new ≡ true) ↔ (result ≡ Err (RunFault.Trace TraceFault.Read)) }
     ensures trace_taken { result ≡ Err (RunFault.Trace TraceFault.Read) →
         TookAtMost max_bytes (R.remaining trace.old) (R.remaining trace.new) }
+    ensures trace_wanting { result ≡ Err (RunFault.Trace TraceFault.NoMemory) →
+        TookAtMost max_bytes (R.remaining trace.old) (R.remaining trace.new) }
     ensures maps_failed { W1.failed maps.new ≡ blames_maps result }
     ensures report_failed { W2.failed report.new ≡ blames_report result }
     ensures flushed { OnOk result ((W1.flushed maps.new ≡ true) × (W2.flushed report.new ≡ true)) }
