@@ -1,4 +1,4 @@
-use Rattle.std.proofs.Common.{◌≡◌, ◌<◌, ◌≤◌, length, ap, ◌∙◌, sym, arith}
+use Rattle.std.proofs.Common.{◌<◌, ◌≤◌, length, ap, ◌∙◌, sym, arith}
 use Rattle.std.specs.Prelude.{sum}
 use Rattle.us_split.proofs.DivisionLemmas.{divided-all, few_weights, fewer-given}
 use Rattle.us_split.proofs.shares.Shares.divide.Goals as goal
