@@ -4,30 +4,53 @@ use super::base::{Case, DOUBLED, Told, map_case, same};
 use super::kept_base::by_kept;
 use std::alloc::Global;
 use std::sync::Wait;
-use std::sync::atomic::{AtomicU64, AtomicUsize, Ordering};
+use std::sync::atomic::{AtomicU64, Ordering};
 use std::thread::{Threads, yield_now};
 use us_crew::{Gate, Phase};
+use us_slots::NoMemory;
 
-/// A gate that holds the items of some numbers until all of them have entered, for at most so many turns, in each call
-/// anew. How many they are is a power of two.
+/// A gate that holds some items that stand side by side, for at most so many turns: each until all of them have entered as
+/// often as it has. How often one has entered is the number of the call, since a call has each item once.
 #[derive(Drop)]
 struct Meeting {
     first: usize,
-    last: usize,
     turns: u64,
-    entered: AtomicUsize,
+    calls: Vec<AtomicU64>,
     missed: AtomicU64,
 }
 
 impl Meeting {
-    fn of(first: usize, last: usize, turns: u64) -> Meeting {
-        Meeting {
-            first,
-            last,
-            turns,
-            entered: AtomicUsize::new(0),
-            missed: AtomicU64::new(0),
+    fn of(alloc: Global, held: &Held, turns: u64) -> Result<Meeting, NoMemory> {
+        let mut calls = Vec::new(alloc);
+        for _ in held.first..=held.last {
+            calls.push(AtomicU64::new(0))?;
         }
+        Ok(Meeting {
+            first: held.first,
+            turns,
+            calls,
+            missed: AtomicU64::new(0),
+        })
+    }
+
+    /// For how many calls all have entered.
+    fn all(&self) -> u64 {
+        let mut least = u64::MAX;
+        for calls in &self.calls {
+            least = least.min(calls.load(Ordering::SeqCst));
+        }
+        least
+    }
+
+    /// Whether all have entered for a call behind so many, after at most so many turns.
+    fn meets(&self, before: u64) -> bool {
+        for _ in 0..self.turns {
+            if self.all() > before {
+                return true;
+            }
+            yield_now();
+        }
+        false
     }
 
     /// How many came alone.
@@ -40,17 +63,15 @@ impl Gate for Meeting {
     ghost entered = { λ _ _ _. ⊤ };
 
     fn enter(&self, _phase: Phase, index: usize) {
-        if index < self.first || index > self.last {
+        if index < self.first {
             return;
         }
-        let met = self.entered.fetch_add(1, Ordering::SeqCst) | (self.last - self.first);
-        for _ in 0..self.turns {
-            if self.entered.load(Ordering::SeqCst) > met {
-                return;
-            }
-            yield_now();
+        let Some(calls) = self.calls.get(index - self.first) else {
+            return;
+        };
+        if !self.meets(calls.fetch_add(1, Ordering::SeqCst)) {
+            self.missed.fetch_add(1, Ordering::SeqCst);
         }
-        self.missed.fetch_add(1, Ordering::SeqCst);
     }
 }
 
@@ -84,37 +105,53 @@ const TWO: Case = Case {
     ..DOUBLED
 };
 
-static HELD: &[Held] = &[
-    Held {
-        case: ALL,
-        first: 0,
-        last: 63,
-    },
-    Held {
-        case: FOUR,
-        first: 0,
-        last: 3,
-    },
-    Held {
-        case: TWO,
-        first: 1,
-        last: 2,
-    },
-    Held {
-        case: DOUBLED,
-        first: 1,
-        last: 2,
-    },
-    Held {
-        case: DOUBLED,
-        first: 2,
-        last: 3,
-    },
+/// With each, how often they meet where there is no limit.
+static HELD: &[(Held, u32)] = &[
+    (
+        Held {
+            case: ALL,
+            first: 0,
+            last: 63,
+        },
+        20,
+    ),
+    (
+        Held {
+            case: FOUR,
+            first: 0,
+            last: 3,
+        },
+        1_000,
+    ),
+    (
+        Held {
+            case: TWO,
+            first: 1,
+            last: 2,
+        },
+        1_000,
+    ),
+    (
+        Held {
+            case: DOUBLED,
+            first: 1,
+            last: 2,
+        },
+        1_000,
+    ),
+    (
+        Held {
+            case: DOUBLED,
+            first: 2,
+            last: 3,
+        },
+        1_000,
+    ),
 ];
 
 /// How many workers of a case came alone.
 fn missed<H: Threads + Wait + Sync>(threads: &H, alloc: Global, held: &Held, turns: u64) -> Told {
-    let gate = Meeting::of(held.first, held.last, turns);
+    let gate = Meeting::of(alloc, held, turns)?;
     map_case(threads, alloc, &held.case, &gate)?;
     Ok(gate.missed())
 }
@@ -123,7 +160,7 @@ fn missed<H: Threads + Wait + Sync>(threads: &H, alloc: Global, held: &Held, tur
 /// both are.
 #[test]
 fn workers_meet(rt: HostRuntime) {
-    for held in HELD {
+    for (held, _) in HELD {
         let found = missed(&rt, rt.alloc(), held, 100_000_000);
         same(&rt, held.case.workers, found, Ok(0));
     }
@@ -143,11 +180,11 @@ fn one_worker_is_alone(rt: HostRuntime) {
     same(&rt, 1, missed(&rt, rt.alloc(), &held, 1_000), Ok(1));
 }
 
-/// Workers meet as well where the gate has no limit, a thousand times over.
+/// Workers meet as well where the gate has no limit, a thousand times over, and all that there may be some times.
 #[test]
 fn workers_meet_without_limit(rt: HostRuntime) {
-    for _ in 0..1_000 {
-        for held in &HELD[1..] {
+    for (held, times) in HELD {
+        for _ in 0..*times {
             let found = missed(&rt, rt.alloc(), held, u64::MAX);
             same(&rt, held.case.workers, found, Ok(0));
         }
@@ -205,7 +242,7 @@ fn kept_missed<H: Threads + Wait + Sync>(
     held: &Held,
     rounds: u32,
 ) -> Told {
-    let gate = Meeting::of(held.first, held.last, u64::MAX);
+    let gate = Meeting::of(alloc, held, u64::MAX)?;
     let told = by_kept(threads, alloc, &held.case, &gate, rounds);
     let is_other = u64::from(told != held.case.kept);
     Ok(gate.missed().wrapping_add(is_other))
