@@ -8,7 +8,7 @@ use Rattle.us_flows.specs.declared.channels.Channel.{Channel}
 use Rattle.us_lawful.specs.declared.place.Place.{Place}
 use Rattle.us_breaches.specs.Order.{goes_before, earlier}
 use Rattle.us_breaches.specs.Breaches.{IsFirstBreach, IsFirstFailure, At, Either, Any}
-use Rattle.us_breaches.proofs.OrderLemmas.{place-is, before-self, before-equal, before-asym, before-joins, before-trans, before-through}
+use Rattle.us_breaches.proofs.OrderLemmas.{place-is, before-self, before-asym, before-joins, before-trans, before-through}
 
 -- One part.
 
@@ -239,24 +239,3 @@ pub same_rule : (channels : List Channel) (A B : Place → Type 0) (answer : Opt
 same_rule channels A B None there back first = λ p. there p (first p)
 same_rule channels A B (Some at) there back first =
     (λ holds. first.0 (back at holds), λ p before. there p (first.1 p before))
-
--- a rule that has a breach doesn't hold everywhere
-pub never_both : (channels : List Channel) (Holds : Place → Type 0) (at : Place) →
-    IsFirstBreach channels Holds (Some at) → ((p : Place) → Holds p) → ⊥
-never_both channels Holds at first everywhere = first.0 (everywhere at)
-
--- a rule has one answer
-pub one_answer : (channels : List Channel) (Holds : Place → Type 0) (a b : Option Place) →
-    IsFirstBreach channels Holds a → IsFirstBreach channels Holds b → a ≡ b
-one_answer channels Holds None None of_a of_b = refl
-one_answer channels Holds None (Some b) of_a of_b = absurd (of_b.0 (of_a b))
-one_answer channels Holds (Some a) None of_a of_b = absurd (of_a.0 (of_b a))
-one_answer channels Holds (Some a) (Some b) of_a of_b =
-    ap (λ p. Some p) (before-equal channels a b (behind a b of_a.0 of_b.1) (behind b a of_b.0 of_a.1))
-  where
-    behind : (p q : Place) → (Holds p → ⊥) → ((r : Place) → goes_before channels r q ≡ true → Holds r) →
-        goes_before channels p q ≡ false
-    behind p q fails holds = elim (cases_Bool (goes_before channels p q)) [
-      | inl before ↦ absurd (fails (holds p before))
-      | inr not ↦ not
-    ]
