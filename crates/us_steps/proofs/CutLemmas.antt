@@ -6,9 +6,10 @@ use Rattle.std.proofs.lemmas.List.{length-set, get_or-set_same, get_or-set_other
 use Rattle.us_requests.specs.declared.asks.Ask.{Ask}
 use Rattle.us_steps.specs.declared.steps.Step.{Step}
 use Rattle.us_steps.specs.declared.steps.Step.TheVariants as step
-use Rattle.us_steps.specs.Steps.{bytes_in, added_by, total, takes, ahead, behind}
+use Rattle.us_steps.specs.Steps.{bytes_in, added_by, takes, ahead, behind}
 use Rattle.us_steps.specs.Machines.{raised, are_set}
 use Rattle.us_steps.specs.Tallies.{Tally, with_row, without_word, with_open, with_built, after, is_done, run, IsSized, unadded}
+use Rattle.us_steps.proofs.CountLemmas.{total}
 use Rattle.us_steps.proofs.TallyLemmas.{placed, neither, raised-in, raised-length, balance, balance_after, sized_after}
 use Rattle.us_steps.proofs.StepLemmas.{found-true}
 use Rattle.us_steps.proofs.FlagLemmas.{unset-full, set-none, clear-inside, set-other}

@@ -2,8 +2,9 @@
 use Rattle.std.proofs.Common.{◌≡◌, ℕ, zero, suc, ◌<◌, ◌≤◌, ◌==◌, Bool, true, false, if◌then◌else◌, List, [], ◌∷◌, length, replicate, set, get_or, slice_set, refl, ap, sym, ◌∙◌, inl, inr, arith}
 use Rattle.std.proofs.lemmas.Bool.{cases_Bool, eqb-true, eqb-false}
 use Rattle.std.proofs.lemmas.List.{get_or-set_same, get_or-set_other, get_or-replicate}
-use Rattle.us_steps.specs.Steps.{count, behind}
+use Rattle.us_steps.specs.Steps.{behind}
 use Rattle.us_steps.specs.Machines.{are_set}
+use Rattle.us_steps.proofs.CountLemmas.{count}
 
 -- how often a flag is still to be set
 abbrev pub unset : List Bool → ℕ → ℕ

@@ -1,3 +1,4 @@
+pub mod CountLemmas
 pub mod FlagLemmas
 pub mod TallyLemmas
 pub mod StepLemmas

@@ -1,12 +1,13 @@
 -- The laws of the machine and of plays.
 use Rattle.std.proofs.Common.{◌≡◌, ℕ, ◌+◌, ◌<◌, List, [], ◌∷◌, length, map, slice_index, Option, Some, None, refl, ap, sym, subst, ◌∙◌, arith}
 use Rattle.std.specs.Prelude.{option_map}
-use Rattle.std.specs.List.{AllByRecursion}
+use Rattle.std.specs.List.{AllByRecursion, sum_by}
+use Rattle.std.proofs.lemmas.List.Sums.{sum_by-cons}
 use Rattle.us_flows.specs.Tables.{Tables}
 use Rattle.us_requests.specs.Cuts as requests
 use Rattle.us_round.specs.Rounds.{State, opening, begun, fills_of, builds_of, ended, round_of, round_from, schedule, final}
 use Rattle.us_output.specs.Outputs.{out_of}
-use Rattle.us_steps.specs.Steps.{IsComplete, total, cut_of, left_of}
+use Rattle.us_steps.specs.Steps.{IsComplete, cut_of, left_of}
 use Rattle.us_steps.specs.Machines.{Stand, Machine, Done, opening_machine, run, builds_in}
 use Rattle.us_steps.specs.Tallies as tallies
 use Rattle.us_steps.specs.Tallies.{Tally, tally_of, opening_tally}
@@ -46,15 +47,21 @@ plays_are_rounds t words plays = (outs-are t (opening t) words plays refl, state
 
 lost-none : (channels n : ℕ) (words : List ℕ) (plays : List Play) (q : ℕ) → length words ≡ n →
     AllByRecursion (λ (p : Play). IsComplete (length p.rows) n channels p.steps) plays → q < n →
-    total (λ cut. slice_index cut q) (cuts_of words plays) + slice_index (words_after words plays) q
-    ≡ slice_index words q + total (λ (p : Play). requests.asked p.rows q) plays
+    sum_by (λ cut. slice_index cut q) (cuts_of words plays) + slice_index (words_after words plays) q
+    ≡ slice_index words q + sum_by (λ (p : Play). requests.asked p.rows q) plays
 unfolding cuts_of words_after
 lost-none channels n words [] q long all below = omega arith
 lost-none channels n words (p ∷ plays) q long all below =
     let left : List ℕ = left_of words p.rows p.steps in
     let first = conserved p.rows words channels p.steps q
     (subst (λ m. IsComplete (length p.rows) m channels p.steps) (sym long) all.0) (omega (arith, below, long)) in
-    omega (arith, first, lost-none channels n left plays q (left-long p.rows words p.steps ∙ long) all.1 below)
+    omega (
+      arith,
+      first,
+      lost-none channels n left plays q (left-long p.rows words p.steps ∙ long) all.1 below,
+      sum_by-cons (λ cut. slice_index cut q) (cut_of words p.rows p.steps) (cuts_of left plays),
+      sum_by-cons (λ (p : Play). requests.asked p.rows q) p plays,
+    )
 
 pub nothing_is_lost : NothingIsLost
 nothing_is_lost channels words plays q all below = lost-none channels (length words) words plays q refl all below

@@ -9,9 +9,10 @@ use Rattle.us_requests.specs.declared.asks.Ask.{Ask}
 use Rattle.us_requests.specs.Cuts as requests
 use Rattle.us_steps.specs.declared.steps.Step.{Step}
 use Rattle.us_steps.specs.declared.steps.Step.TheVariants as step
-use Rattle.us_steps.specs.Steps.{bytes_for, added_by, total, count, adds, takes, ahead, behind, IsThere, IsComplete, cut_at, left_at, cut_of, left_of}
+use Rattle.us_steps.specs.Steps.{bytes_for, added_by, adds, takes, ahead, behind, IsThere, IsComplete, cut_at, left_at, cut_of, left_of}
 use Rattle.us_steps.specs.Tallies.{Tally, opening_tally, IsReady, IsSized, unadded}
 use Rattle.std.proofs.lemmas.List.FromFn.{length-map-range_with_len, get_or-map-range_with_len}
+use Rattle.us_steps.proofs.CountLemmas.{count, total, totalled, complete-counted}
 use Rattle.us_steps.proofs.FlagLemmas.{unset, unset-fresh, set-counted, set-over, none-set}
 use Rattle.us_steps.proofs.TallyLemmas.{unadded-set}
 use Rattle.us_steps.proofs.CutLemmas.{IsEnd, cut_to, left_to, none-unadded}
@@ -108,7 +109,8 @@ unfolding cut_of
 end-cut asks words channels end steps is =
     mapped-at (cut_at words asks steps) end.cut (length words) (is.long ∙ is.same) (λ q below.
     let at : cut_to asks (opening_tally words (length asks) channels) steps q ≡ cut_at words asks steps q =
-    rw (not-taken words q below) (omega (arith, zeros (length words) q)) in
+    rw (not-taken words q below)
+    (omega (arith, zeros (length words) q, totalled (added_by asks q) (ahead (takes q) steps))) in
     is.cut q ∙ at)
 
 -- what is left in the words,
@@ -118,7 +120,7 @@ unfolding left_of
 end-words asks words channels end steps is =
     mapped-at (left_at asks steps) end.words (length words) is.same (λ q below.
     let at : left_to asks (opening_tally words (length asks) channels) steps q ≡ left_at asks steps q =
-    rw (not-taken words q below) refl in
+    rw (not-taken words q below) (sym (totalled (added_by asks q) (behind (takes q) steps))) in
     is.words q ∙ at)
 
 -- All rows of a complete list are added.
@@ -169,11 +171,13 @@ unfolding cut_of left_of
 conserved asks words channels steps q all below =
     let every : total (added_by asks q) steps ≡ unadded q asks (replicate (length asks) false) =
     all-added asks (replicate (length asks) false) steps (length words) channels q (length-replicate (length asks) false)
-    all.there (λ r below. all.added r below ∙ sym (unset-fresh (length asks) r below)) in
+    all.there (λ r below. (complete-counted all).added r below ∙ sym (unset-fresh (length asks) r below)) in
     omega (
       arith,
       every,
       parts-total asks q steps,
+      totalled (added_by asks q) (ahead (takes q) steps),
+      totalled (added_by asks q) (behind (takes q) steps),
       at-mapped (cut_at words asks steps) (length words) q below,
       at-mapped (left_at asks steps) (length words) q below,
       asked-total asks q,

@@ -9,9 +9,10 @@ use Rattle.us_requests.specs.Cuts.{asked}
 use Rattle.us_output.proofs.PartLemmas.{all_append, all_filtered, all_mapped, all_weaker}
 use Rattle.us_steps.specs.declared.steps.Step.{Step}
 use Rattle.us_steps.specs.declared.steps.Step.TheVariants as step
-use Rattle.us_steps.specs.Steps.{adds, takes, opens, builds, takes_one, opens_one, count, total, behind, added_by, IsThere, IsComplete, left_at, cut_of, left_of}
+use Rattle.us_steps.specs.Steps.{adds, takes, opens, builds, takes_one, opens_one, behind, added_by, IsThere, IsComplete, left_at, cut_of, left_of}
 use Rattle.us_steps.specs.Machines.{Seats, Machine, any_open, having_taken, after_step}
 use Rattle.us_steps.specs.Replaying.{TakingNothing, ReplaysAreComplete, firsts, is_among, other_words, replay_steps, takes_of, words_swapped}
+use Rattle.us_steps.proofs.CountLemmas.{count, total, totalled, IsCounted, complete-counted, counted-complete}
 use Rattle.us_steps.proofs.PlayLemmas.{conserved, cut-long, mapped-at, zeros}
 
 -- Taking nothing.
@@ -245,8 +246,8 @@ channel-no_add n (step.Built channel) is = tt
 -- All steps.
 
 module _ (words channels : ℕ) (rows : List Ask) (by : ℕ) (adding building : List Step)
-    (known : AllByRecursion (λ ask. ask.cluster < words) rows) (added : IsComplete (length rows) 0 0 adding)
-    (built : IsComplete 0 0 channels building) where
+    (known : AllByRecursion (λ ask. ask.cluster < words) rows) (added : IsCounted (length rows) 0 0 adding)
+    (built : IsCounted 0 0 channels building) where
   abbrev named : List Step
   named = takes_of by (firsts (words_swapped rows))
 
@@ -268,8 +269,8 @@ module _ (words channels : ℕ) (rows : List Ask) (by : ℕ) (adding building : 
       regroup (x ∷ xs) ys zs = ap (λ more. x ∷ more) (regroup xs ys zs)
 
   -- steps that are counted in one part alone
-  counted : (p : Step → Bool) → count p steps ≡ count p adding + (count p named + (count p others + count p building))
-  counted p = omega (
+  counted-in : (p : Step → Bool) → count p steps ≡ count p adding + (count p named + (count p others + count p building))
+  counted-in p = omega (
     arith,
     count-append p adding (named ++ (others ++ building)),
     count-append p named (others ++ building),
@@ -287,7 +288,7 @@ module _ (words channels : ℕ) (rows : List Ask) (by : ℕ) (adding building : 
     takes-alone p by (other_words words rows) takes_none,
   )
 
-  whole : IsComplete (length rows) words channels steps
+  whole : IsCounted (length rows) words channels steps
   whole = record {
     there = all_append (IsThere (length rows) words channels) adding (named ++ (others ++ building))
         (all_weaker (IsThere (length rows) 0 0) (IsThere (length rows) words channels) (row-there (length rows) words channels)
@@ -303,7 +304,7 @@ module _ (words channels : ℕ) (rows : List Ask) (by : ℕ) (adding building : 
         (channel-there (length rows) words channels) building built.there)));
     added = λ r below. omega (
       arith,
-      counted (adds r),
+      counted-in (adds r),
       added.added r below,
       takes-alone (adds r) by (firsts (words_swapped rows)) (λ word. refl),
       takes-alone (adds r) by (other_words words rows) (λ word. refl),
@@ -311,7 +312,7 @@ module _ (words channels : ℕ) (rows : List Ask) (by : ℕ) (adding building : 
     );
     taken = λ q below. omega (
       arith,
-      counted (takes q),
+      counted-in (takes q),
       rows-alone (length rows) (takes q) adding (λ row by. refl) added.there,
       takes-count by (firsts (words_swapped rows)) q,
       takes-count by (other_words words rows) q,
@@ -320,7 +321,7 @@ module _ (words channels : ℕ) (rows : List Ask) (by : ℕ) (adding building : 
     );
     opened = λ c below. omega (
       arith,
-      counted (opens c),
+      counted-in (opens c),
       rows-alone (length rows) (opens c) adding (λ row by. refl) added.there,
       takes-alone (opens c) by (firsts (words_swapped rows)) (λ word. refl),
       takes-alone (opens c) by (other_words words rows) (λ word. refl),
@@ -328,7 +329,7 @@ module _ (words channels : ℕ) (rows : List Ask) (by : ℕ) (adding building : 
     );
     built = λ c below. omega (
       arith,
-      counted (builds c),
+      counted-in (builds c),
       rows-alone (length rows) (builds c) adding (λ row by. refl) added.there,
       takes-alone (builds c) by (firsts (words_swapped rows)) (λ word. refl),
       takes-alone (builds c) by (other_words words rows) (λ word. refl),
@@ -345,7 +346,8 @@ module _ (words channels : ℕ) (rows : List Ask) (by : ℕ) (adding building : 
   -- all rows stand before the first take
   left-none : (q : ℕ) → left_at rows steps q ≡ 0
   left-none q =
-      ap (total (added_by rows q)) (behind-past (takes q) adding (named ++ (others ++ building))
+      totalled (added_by rows q) (behind (takes q) steps)
+      ∙ ap (total (added_by rows q)) (behind-past (takes q) adding (named ++ (others ++ building))
       (rows-alone (length rows) (takes q) adding (λ row by. refl) added.there))
       ∙ nothing-behind rows q (takes q) (named ++ (others ++ building))
       (all_append IsNoAdd named (others ++ building) (takes-no_adds by (firsts (words_swapped rows)))
@@ -371,13 +373,13 @@ module _ (words channels : ℕ) (rows : List Ask) (by : ℕ) (adding building : 
       (λ q below.
       let inside : q < length nothing = omega (arith, below, long) in
       let all = conserved rows nothing channels steps q
-      (subst (λ n. IsComplete (length rows) n channels steps) (sym long) whole) inside in
+      (subst (λ n. IsComplete (length rows) n channels steps) (sym long) (counted-complete whole)) inside in
       let left : slice_index (left_of nothing rows steps) q ≡ 0 = ap (λ ws. slice_index ws q) left-is ∙ zeros words q in
       omega (arith, all, left, zeros words q))
 
 pub replays_are_complete : ReplaysAreComplete
 replays_are_complete words channels rows by adding building known added built = (
-  whole words channels rows by adding building known added built,
-  cut-is words channels rows by adding building known added built,
-  left-is words channels rows by adding building known added built,
+  counted-complete (whole words channels rows by adding building known (complete-counted added) (complete-counted built)),
+  cut-is words channels rows by adding building known (complete-counted added) (complete-counted built),
+  left-is words channels rows by adding building known (complete-counted added) (complete-counted built),
 )

@@ -1,9 +1,10 @@
 -- The law of the machine's runs: play after play it makes the rounds of the schedule.
 use Rattle.std.proofs.Common.{◌≡◌, ℕ, ◌+◌, ◌<◌, ◌≤◌, List, [], ◌∷◌, length, map, slice_index, Option, Some, None, refl, ap, sym, subst, ◌∙◌, inl, inr, arith}
 use Rattle.std.specs.Prelude.{option_map, option_and_then}
-use Rattle.std.specs.List.{AllByRecursion}
+use Rattle.std.specs.List.{AllByRecursion, sum_by}
 use Rattle.std.proofs.lemmas.Bool.{cases_lt}
 use Rattle.std.proofs.lemmas.List.{length-map, get_or_past}
+use Rattle.std.proofs.lemmas.List.Sums.{sum_by-cons}
 use Rattle.us_flows.specs.Tables.{Tables}
 use Rattle.us_requests.specs.declared.asks.Ask.{Ask}
 use Rattle.us_requests.specs.Cuts as requests
@@ -12,7 +13,7 @@ use Rattle.us_calendar.specs.Calendars.{heard_by}
 use Rattle.us_channel.specs.Channels.{fill}
 use Rattle.us_round.specs.Rounds.{State, RoundResult, opening, begun, build_planned, round_plan, fills_of, builds_of, round_of, round_from, schedule, final}
 use Rattle.us_output.specs.Outputs.{out_of}
-use Rattle.us_steps.specs.Steps.{IsComplete, total, cut_of, left_of}
+use Rattle.us_steps.specs.Steps.{IsComplete, cut_of, left_of}
 use Rattle.us_steps.specs.Machines.{Machine, opening_machine, run}
 use Rattle.us_steps.specs.Plays.{Play, run_of, state_after, cuts_of, words_after}
 use Rattle.us_steps.specs.Laws.{GoesThrough, IsPlayed}
@@ -39,11 +40,12 @@ all-filled t s fits =
 fits-next : (t : Tables) (s : State) (cut : List ℕ) → Fits t s → Fits t (round_of s cut).state
 unfolding round_of round_from builds_of
 fits-next t s cut fits =
-    let heard : Fits t (begun s cut) = (fits.0, length-map s.calendars (heard_by cut) ∙ fits.1) in
-    (fits.0,
-    length-map (builds_of (begun s cut)) (λ b. b.calendar)
-    ∙ length-map (fills_of (begun s cut)) (build_planned (round_plan (begun s cut)))
-    ∙ all-filled t (begun s cut) heard)
+    let heard : Fits t (begun s cut) = (fits.0, length-map s.calendars (heard_by cut) ∙ fits.1) in (
+      fits.0,
+      length-map (builds_of (begun s cut)) (λ b. b.calendar)
+          ∙ length-map (fills_of (begun s cut)) (build_planned (round_plan (begun s cut)))
+          ∙ all-filled t (begun s cut) heard,
+    )
 
 -- What the machine comes to, as plays tell it.
 
@@ -102,8 +104,8 @@ goes-on t s n words p plays fits long known rest = by (run s p.rows (opening_mac
     more end is (Some ran) goes_on = (
       (there is.complete, goes_on.0),
       ap (λ c. with_round s c (result_of s end) ran) is.cut
-      ∙ ap (λ (r : RoundResult). with_round s cut r ran) is.round
-      ∙ ap (λ (others : MachineRun). with_round s cut (round_of s cut) others) goes_on.1,
+          ∙ ap (λ (r : RoundResult). with_round s cut r ran) is.round
+          ∙ ap (λ (others : MachineRun). with_round s cut (round_of s cut) others) goes_on.1,
     )
 
     by : (found : Option Machine) → run s p.rows (opening_machine s words (length p.rows)) p.steps ≡ found →
@@ -137,7 +139,7 @@ goes t s n words (p ∷ plays) fits long known =
 -- Of a word that isn't there nothing is cut or left, and no row is.
 
 cuts-past : (words : List ℕ) (plays : List Play) (q : ℕ) → length words ≤ q →
-    total (λ cut. slice_index cut q) (cuts_of words plays) ≡ 0
+    sum_by (λ cut. slice_index cut q) (cuts_of words plays) ≡ 0
 unfolding cuts_of
 cuts-past words [] q past = refl
 cuts-past words (p ∷ plays) q past =
@@ -147,6 +149,7 @@ cuts-past words (p ∷ plays) q past =
       arith,
       none,
       cuts-past (left_of words p.rows p.steps) plays q (omega (arith, past, left-long p.rows words p.steps)),
+      sum_by-cons (λ cut. slice_index cut q) (cut_of words p.rows p.steps) (cuts_of (left_of words p.rows p.steps) plays),
     )
 
 words-past : (words : List ℕ) (plays : List Play) (q : ℕ) → length words ≤ q → slice_index (words_after words plays) q ≡ 0
@@ -157,16 +160,22 @@ words-past words (p ∷ plays) q past =
 
 rows-past : (n : ℕ) (plays : List Play) (q : ℕ) → n ≤ q →
     AllByRecursion (λ (p : Play). AllByRecursion (λ ask. ask.cluster < n) p.rows) plays →
-    total (λ (p : Play). requests.asked p.rows q) plays ≡ 0
+    sum_by (λ (p : Play). requests.asked p.rows q) plays ≡ 0
 rows-past n [] q past known = refl
 rows-past n (p ∷ plays) q past known =
-    omega (arith, asked-total p.rows q, none-past q n p.rows known.0 past, rows-past n plays q past known.1)
+    omega (
+      arith,
+      asked-total p.rows q,
+      none-past q n p.rows known.0 past,
+      rows-past n plays q past known.1,
+      sum_by-cons (λ (p : Play). requests.asked p.rows q) p plays,
+    )
 
 all-kept : (t : Tables) (words : List ℕ) (plays : List Play) (q : ℕ) →
     AreAllComplete (length words) (length t.channels) plays →
     AllByRecursion (λ (p : Play). AllByRecursion (λ ask. ask.cluster < length words) p.rows) plays →
-    total (λ cut. slice_index cut q) (cuts_of words plays) + slice_index (words_after words plays) q
-    ≡ slice_index words q + total (λ (p : Play). requests.asked p.rows q) plays
+    sum_by (λ cut. slice_index cut q) (cuts_of words plays) + slice_index (words_after words plays) q
+    ≡ slice_index words q + sum_by (λ (p : Play). requests.asked p.rows q) plays
 all-kept t words plays q complete known = elim (cases_lt q (length words)) [
   | inl below ↦ nothing_is_lost (length t.channels) words plays q complete below
   | inr past ↦
@@ -203,7 +212,7 @@ machine_runs_are_schedules t words plays known =
           kept = λ q. omega (
             arith,
             all-kept t words plays q is.0 known,
-            ap (λ (cs : List (List ℕ)). total (λ cut. slice_index cut q) cs) cuts,
+            ap (λ (cs : List (List ℕ)). sum_by (λ cut. slice_index cut q) cs) cuts,
             ap (λ ws. slice_index ws q) left,
           );
         }

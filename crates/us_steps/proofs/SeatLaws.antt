@@ -1,17 +1,18 @@
 -- What seats added and took: it balances with words and cut, and changes nothing of them.
 use Rattle.std.proofs.Common.{◌≡◌, ℕ, suc, ◌+◌, ◌<◌, ◌==◌, Bool, true, false, ◌&&◌, ◌||◌, if◌then◌else◌, List, [], ◌∷◌, length, map, set, get_or, slice_index, slice_get, slice_set, Option, Some, None, refl, ap, sym, subst, ◌∙◌, inl, inr, arith}
 use Rattle.std.specs.Prelude.{option_map, option_and_then}
-use Rattle.std.specs.List.{AllByRecursion}
+use Rattle.std.specs.List.{AllByRecursion, sum_by, count_by}
 use Rattle.std.proofs.lemmas.Bool.{cases_Bool, eqb-true, eqb-false}
 use Rattle.std.proofs.lemmas.List.{get_or-set_same, get_or-set_other}
 use Rattle.us_requests.specs.declared.asks.Ask.{Ask}
 use Rattle.us_round.specs.Rounds.{State, begun, fills_of}
 use Rattle.us_steps.specs.declared.steps.Step.{Step}
 use Rattle.us_steps.specs.declared.steps.Step.TheVariants as step
-use Rattle.us_steps.specs.Steps.{bytes_for, bytes_in, count, total}
+use Rattle.us_steps.specs.Steps.{bytes_for, bytes_in}
 use Rattle.us_steps.specs.Machines.{Stand, Seats, Machine, no_seats, opening_machine, with_row, without_word, with_channel, opened, built, any_open, after_step, are_set, is_built, is_done, run}
 use Rattle.us_steps.specs.Tallies.{IsSized, unadded, tally_of, after}
 use Rattle.us_steps.specs.Laws.{IsSeated, all_added, all_took, Balances, unseated, with_seats, SeatsChangeNothing}
+use Rattle.us_steps.proofs.CountLemmas.{count, counted, total, totalled}
 use Rattle.us_steps.proofs.TallyLemmas.{placed, neither, unadded-set, sized_after}
 use Rattle.us_steps.proofs.FlagLemmas.{clear-inside}
 use Rattle.us_steps.proofs.StepLemmas.{found-true}
@@ -47,6 +48,13 @@ raised-once f g by n (seat ∷ seats) each once = elim (cases_Bool (seat == by))
       let here : g seat ≡ f seat = rw other at (each seat) in
       omega (arith, here, raised-once f g by n seats each (rw other at once))
 ]
+
+raised : (f g : ℕ → ℕ) (by n : ℕ) (seats : List ℕ) →
+    ((seat : ℕ) → g seat ≡ (if seat == by then f seat + n else f seat)) → count_by (λ seat. seat == by) seats ≡ 1 →
+    sum_by g seats ≡ sum_by f seats + n
+raised f g by n seats each once =
+    let sum = raised-once f g by n seats each (sym (counted (λ seat. seat == by) seats) ∙ once) in
+    omega (arith, sum, totalled f seats, totalled g seats)
 
 -- One step.
 
@@ -100,7 +108,7 @@ goes-after : (s : State) (asks : List Ask) (seats : List ℕ) (q : ℕ) (m next 
 unfolding after_step
 goes-after s asks seats q m next (step.Add row by) ready once to =
     let at = placed (get_or m.added row true) (with_row asks m row by) next to in
-    let sum = raised-once (λ seat. m.seats.added seat q) (λ seat. (with_row asks m row by).seats.added seat q)
+    let sum = raised (λ seat. m.seats.added seat q) (λ seat. (with_row asks m row by).seats.added seat q)
     by (bytes_in q (slice_get asks row)) seats (λ seat. refl) once in
     subst (λ n. Goes asks seats q m n) at.1 (record {
       added = omega (arith, sum, unadded-set q asks m.added row ready.added at.0);
@@ -110,7 +118,7 @@ goes-after s asks seats q m next (step.Take word by) ready once to =
     let at = placed (any_open m.channels || get_or m.taken word true) (without_word m word by) next to in
     let clear : get_or m.taken word true ≡ false = (neither (any_open m.channels) (get_or m.taken word true) at.0).1 in
     let inside : word < length m.cut = omega (arith, clear-inside m.taken word clear, ready.taken, ready.cut) in
-    let sum = raised-once (λ seat. m.seats.took seat q) (λ seat. (without_word m word by).seats.took seat q)
+    let sum = raised (λ seat. m.seats.took seat q) (λ seat. (without_word m word by).seats.took seat q)
     by (taken_here m.words word q) seats
     (λ seat. raised-both (seat == by) (q == word) (m.seats.took seat q) (slice_index m.words word)
     ∙ ap (λ n. if seat == by then m.seats.took seat q + n else m.seats.took seat q) (here-taken m.words word q)) once in
@@ -162,9 +170,9 @@ has-all s asks seats q m end (one ∷ steps) ready seated to =
 
 -- From the opening.
 
-nothing-yet : (seats : List ℕ) → total (λ seat. 0) seats ≡ 0
+nothing-yet : (seats : List ℕ) → sum_by (λ seat. 0) seats ≡ 0
 nothing-yet [] = refl
-nothing-yet (seat ∷ seats) = omega (arith, nothing-yet seats)
+nothing-yet (seat ∷ seats) = nothing-yet seats
 
 pub balances : (s : State) (words : List ℕ) (rows : List Ask) (steps : List Step) (end : Machine) (seats : List ℕ) (q : ℕ) →
     AllByRecursion (λ ask. ask.cluster < length words) rows → AllByRecursion (IsSeated seats) steps →

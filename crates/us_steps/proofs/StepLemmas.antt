@@ -7,11 +7,12 @@ use Rattle.std.proofs.lemmas.List.{length-set, get_or-replicate, length-replicat
 use Rattle.us_requests.specs.declared.asks.Ask.{Ask}
 use Rattle.us_steps.specs.declared.steps.Step.{Step}
 use Rattle.us_steps.specs.declared.steps.Step.TheVariants as step
-use Rattle.us_steps.specs.Steps.{count, behind, adds, takes, opens, builds, takes_one, opens_one, IsThere, IsComplete}
+use Rattle.us_steps.specs.Steps.{behind, adds, takes, opens, builds, takes_one, opens_one, IsThere, IsComplete}
 use Rattle.us_steps.specs.Machines.{are_set}
 use Rattle.us_steps.specs.Tallies.{Tally, opening_tally, with_row, without_word, with_open, with_built, after, is_done, run}
 use Rattle.us_round.proofs.StateLemmas.{eqb-self}
 use Rattle.us_steps.proofs.TallyLemmas.{placed, unplaced, neither, not-false}
+use Rattle.us_steps.proofs.CountLemmas.{count, IsCounted, complete-counted, counted-complete}
 use Rattle.us_steps.proofs.FlagLemmas.{unset, unset-few, unset-full, clear-inside, set-same, set-other, set-counted, counted-set, set-over, set-none, none-set, unset-fresh, behind-few}
 
 -- How many steps take a word too late, and how many tell that an opened channel is built: the ones behind its opening, all
@@ -399,7 +400,7 @@ fresh : (n i : ℕ) → i < n → get_or (replicate n false) i true ≡ false
 fresh n i below = get_or-replicate n i false true below
 
 opening-completes : (words : List ℕ) (rows channels : ℕ) (steps : List Step) →
-    IsComplete rows (length words) channels steps →
+    IsCounted rows (length words) channels steps →
     Completes rows (length words) channels (opening_tally words rows channels) steps
 opening-completes words rows channels steps all = record {
   there = all.there;
@@ -414,7 +415,7 @@ opening-completes words rows channels steps all = record {
 
 completes-opening : (words : List ℕ) (rows channels : ℕ) (steps : List Step) →
     Completes rows (length words) channels (opening_tally words rows channels) steps →
-    IsComplete rows (length words) channels steps
+    IsCounted rows (length words) channels steps
 completes-opening words rows channels steps all = record {
   there = all.there;
   added = λ r below. all.added r below ∙ unset-fresh rows r below;
@@ -431,13 +432,13 @@ pub complete : (asks : List Ask) (words : List ℕ) (channels : ℕ) (end : Tall
     run asks (opening_tally words (length asks) channels) steps ≡ Some end →
     IsComplete (length asks) (length words) channels steps
 complete asks words channels end steps to =
-    completes-opening words (length asks) channels steps
+    counted-complete (completes-opening words (length asks) channels steps
     (runs_complete asks (length asks) (length words) channels (opening_tally words (length asks) channels) end steps
-    (opening-for words (length asks) channels) to)
+    (opening-for words (length asks) channels) to))
 
 pub incomplete : (asks : List Ask) (words : List ℕ) (channels : ℕ) (steps : List Step) →
     run asks (opening_tally words (length asks) channels) steps ≡ None →
     IsComplete (length asks) (length words) channels steps → ⊥
 incomplete asks words channels steps none all =
     complete_runs asks (length asks) (length words) channels (opening_tally words (length asks) channels) steps
-    (opening-for words (length asks) channels) (opening-completes words (length asks) channels steps all) none
+    (opening-for words (length asks) channels) (opening-completes words (length asks) channels steps (complete-counted all)) none

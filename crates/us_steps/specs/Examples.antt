@@ -1,10 +1,10 @@
 -- Small lists of steps, computed by the definitions alone.
-use Rattle.std.specs.Prelude.{◌≡◌, ℕ, ◌+◌, ◌<◌, List, [], ◌∷◌, map, slice_index, false, Option, Some, None, option_map, refl}
-use Rattle.std.specs.List.{AllByRecursion}
+use Rattle.std.specs.Prelude.{◌≡◌, ℕ, zero, suc, ◌+◌, ◌<◌, List, [], ◌∷◌, map, slice_index, false, Option, Some, None, option_map, refl}
+use Rattle.std.specs.List.{AllByRecursion, sum_by, count_by}
 use Rattle.std.proofs.Common.{ap, subst, ◌∙◌, arith}
 use Rattle.us_requests.specs.declared.asks.Ask.{Ask}
 use Rattle.us_requests.specs.Cuts as requests
-use Rattle.us_steps.specs.Steps.{adds, builds, count, total, cut_of, left_of, IsComplete}
+use Rattle.us_steps.specs.Steps.{adds, opens, builds, behind, cut_of, left_of, IsComplete}
 use Rattle.us_flows.specs.declared.channels.Channel.{Channel}
 use Rattle.us_calendar.specs.Calendars.{Calendar}
 use Rattle.us_flows.specs.Tables.{Tables}
@@ -14,7 +14,7 @@ use Rattle.us_steps.specs.Machines.{Stand, Home, Done, Machine, no_seats, filled
 use Rattle.us_steps.specs.Plays.{Play, cuts_of, words_after}
 use Rattle.us_steps.specs.Laws.{IsSeated, all_added, all_took}
 use Rattle.us_steps.specs.MachinePlays.{MachineRun, run_plays, IsRun, RunsThrough, MachineRunsAreSchedules}
-use Rattle.us_steps.specs.Replaying.{ReplaysAreComplete, counted_as_taken, replay_steps}
+use Rattle.us_steps.specs.Replaying.{TakingNothing, ReplaysAreComplete, counted_as_taken, replay_steps}
 use Rattle.us_steps.specs.declared.steps.Step.{Step}
 use Rattle.us_steps.specs.declared.steps.Step.TheVariants as step
 
@@ -74,7 +74,7 @@ not_built = step.Add 1 4 ∷ step.Add 0 3 ∷ step.Take 0 3 ∷ step.Open 0 ∷ 
 
 never_built : ¬ IsComplete 2 1 1 not_built
 never_built all =
-    let none : count (builds 0) not_built ≡ 0 = refl in
+    let none : count_by (builds 0) not_built ≡ 0 = refl in
     omega (arith, none, all.built 0 (omega arith))
 
 -- nor is one in which a row is added twice
@@ -83,7 +83,7 @@ twice = step.Add 1 4 ∷ in_time
 
 added_twice : ¬ IsComplete 2 1 1 twice
 added_twice all =
-    let two : count (adds 1) twice ≡ 2 = refl in
+    let two : count_by (adds 1) twice ≡ 2 = refl in
     omega (arith, two, all.added 1 (omega arith))
 
 -- The machine.
@@ -149,7 +149,7 @@ two_plays = record { rows = rows; steps = one_late } ∷ record { rows = rows; s
 
 both_cut : MachineRunsAreSchedules → (t : Tables) (ran : MachineRun) → run_plays (opening t) (0 ∷ []) two_plays ≡ Some ran →
     (ran.outs ≡ map (out_of t) (schedule (opening t) ((700 ∷ []) ∷ (1700 ∷ []) ∷ [])))
-    × (total (λ cut. slice_index cut 0) ran.cuts + slice_index ran.words 0 ≡ 2400)
+    × (sum_by (λ cut. slice_index cut 0) ran.cuts + slice_index ran.words 0 ≡ 2400)
 unfolding cuts_of words_after cut_of left_of
 both_cut law t ran made =
     let known : AllByRecursion (λ (p : Play). AllByRecursion (λ (ask : Ask). ask.cluster < 1) p.rows) two_plays =
@@ -164,12 +164,12 @@ abbrev no_word : List Play
 no_word = record { rows = record { cluster = 1; bytes = 7 } ∷ []; steps = step.Add 0 0 ∷ step.Take 0 0 ∷ [] } ∷ []
 
 lost : (t : Tables) → option_map {U = ℕ × ℕ}
-    (λ (ran : MachineRun). (total (λ cut. slice_index cut 1) ran.cuts, slice_index ran.words 1))
+    (λ (ran : MachineRun). (sum_by (λ cut. slice_index cut 1) ran.cuts, slice_index ran.words 1))
     (run_plays (opening (record t { channels = [] })) (0 ∷ []) no_word) ≡ Some (0, 0)
 unfolding run_plays run after_step
 lost t = refl
 
-seven_asked : total (λ (p : Play). requests.asked p.rows 1) no_word ≡ 7
+seven_asked : sum_by (λ (p : Play). requests.asked p.rows 1) no_word ≡ 7
 seven_asked = refl
 
 -- A replay.
@@ -182,12 +182,15 @@ asks = record { cluster = 0; bytes = 300 } ∷ record { cluster = 2; bytes = 500
 abbrev built_once : List Step
 built_once = step.Open 0 ∷ step.Built 0 ∷ []
 
+abbrev all_three : List Step
+all_three = step.Add 2 0 ∷ step.Add 0 0 ∷ step.Add 1 0 ∷ []
+
 abbrev replayed : List Step
 replayed =
     step.Add 2 0 ∷ step.Add 0 0 ∷ step.Add 1 0 ∷
     step.Take 0 0 ∷ step.Take 2 0 ∷ step.Take 1 0 ∷ built_once
 
-as_steps : replay_steps 3 asks 0 (step.Add 2 0 ∷ step.Add 0 0 ∷ step.Add 1 0 ∷ []) built_once ≡ replayed
+as_steps : replay_steps 3 asks 0 all_three built_once ≡ replayed
 as_steps = refl
 
 -- its cut is the sum of its asks, in whatever order and by whichever seats they are added
@@ -196,6 +199,41 @@ any_order : ReplaysAreComplete → (adding : List Step) → IsComplete 3 0 0 add
 unfolding requests.cut_of
 any_order law adding added built =
     (law 3 1 asks 0 adding built_once (omega arith, (omega arith, (omega arith, tt))) added built).1
+
+-- as where each of the three is added once, and the one channel opened and later built
+three_added : IsComplete 3 0 0 all_three
+three_added = record {
+  there = (omega arith, (omega arith, (omega arith, tt)));
+  added = each;
+  taken = λ q none. omega (arith, none);
+  opened = λ c none. omega (arith, none);
+  built = λ c none. omega (arith, none);
+  settled = refl;
+  later = λ c none. omega (arith, none);
+}
+  where
+    each : (r : ℕ) → r < 3 → count_by (adds r) all_three ≡ 1
+    each zero below = refl
+    each (suc zero) below = refl
+    each (suc (suc zero)) below = refl
+    each (suc (suc (suc r))) below = omega (arith, below)
+
+one_built : IsComplete 0 0 1 built_once
+one_built = record {
+  there = (omega arith, (omega arith, tt));
+  added = λ r none. omega (arith, none);
+  taken = λ q none. omega (arith, none);
+  opened = λ c below. ap (λ n. count_by (opens n) built_once) (first c below);
+  built = λ c below. ap (λ n. count_by (builds n) built_once) (first c below);
+  settled = refl;
+  later = λ c below. ap (λ n. count_by (builds n) (behind (opens n) built_once)) (first c below);
+}
+  where
+    first : (c : ℕ) → c < 1 → c ≡ 0
+    first c below = omega (arith, below)
+
+this_order : ReplaysAreComplete → cut_of (0 ∷ 0 ∷ 0 ∷ []) asks replayed ≡ 300 ∷ 0 ∷ 1200 ∷ []
+this_order law = any_order law all_three three_added one_built
 
 -- a row of a word that isn't there is taken from none, and its steps aren't complete
 abbrev unknown : List Ask
@@ -214,7 +252,12 @@ nothing_taken : (s : State) (c : Channel) (calendar : Calendar) →
 unfolding after_step
 nothing_taken s c calendar = refl
 
--- of one that holds 7 these are
+-- the law says so of the whole machine: nothing else changes than that the word counts as taken;
+by_law : TakingNothing → (s : State) (c : Channel) (calendar : Calendar) →
+    after_take 0 s c calendar ≡ Some (counted_as_taken (start 0 c calendar) 0)
+by_law law s c calendar = law s rows (start 0 c calendar) 0 3 refl refl refl
+
+-- of one that holds 7, all 7 are
 abbrev left_in : Option Machine → ℕ
 left_in None = 0
 left_in (Some m) = slice_index m.words 0

@@ -1,6 +1,6 @@
 -- Laws of steps, of the machine, and of plays.
 use Rattle.std.specs.Prelude.{◌≡◌, ℕ, ◌+◌, ◌<◌, ◌==◌, List, length, map, slice_index, Option, Some, None, option_map, ⊤}
-use Rattle.std.specs.List.{AllByRecursion}
+use Rattle.std.specs.List.{AllByRecursion, sum_by, count_by}
 use Rattle.us_flows.specs.Tables.{Tables}
 use Rattle.us_requests.specs.declared.asks.Ask.{Ask}
 use Rattle.us_requests.specs.Cuts as requests
@@ -9,7 +9,7 @@ use Rattle.us_output.specs.Outputs.{out_of}
 use Rattle.us_round.specs.States.{IsState}
 use Rattle.us_steps.specs.declared.steps.Step.{Step}
 use Rattle.us_steps.specs.declared.steps.Step.TheVariants as step
-use Rattle.us_steps.specs.Steps.{IsComplete, count, total, cut_of, left_of}
+use Rattle.us_steps.specs.Steps.{IsComplete, cut_of, left_of}
 use Rattle.us_steps.specs.Machines.{Seats, Machine, Done, no_seats, opening_machine, run, builds_in}
 use Rattle.us_steps.specs.Plays.{Play, run_of, state_after, cuts_of, words_after}
 
@@ -17,17 +17,17 @@ use Rattle.us_steps.specs.Plays.{Play, run_of, state_after, cuts_of, words_after
 
 -- Among these seats, whoever adds or takes stands once,
 abbrev pub IsSeated : List ℕ → Step → Type 0
-IsSeated seats (step.Add row by) = count (λ seat. seat == by) seats ≡ 1
-IsSeated seats (step.Take word by) = count (λ seat. seat == by) seats ≡ 1
+IsSeated seats (step.Add row by) = count_by (λ seat. seat == by) seats ≡ 1
+IsSeated seats (step.Take word by) = count_by (λ seat. seat == by) seats ≡ 1
 IsSeated seats (step.Open channel) = ⊤
 IsSeated seats (step.Built channel) = ⊤
 
 -- and this is what all of them added to a word, and took of it.
 abbrev pub all_added : List ℕ → Machine → ℕ → ℕ
-all_added seats m q = total (λ seat. m.seats.added seat q) seats
+all_added seats m q = sum_by (λ seat. m.seats.added seat q) seats
 
 abbrev pub all_took : List ℕ → Machine → ℕ → ℕ
-all_took seats m q = total (λ seat. m.seats.took seat q) seats
+all_took seats m q = sum_by (λ seat. m.seats.took seat q) seats
 
 -- What a word had and what all seats added is what all seats took and what is left; they added all its rows, and took its
 -- cut.
@@ -93,5 +93,5 @@ PlaysAreRounds = (t : Tables) (words : List ℕ) (plays : List Play) →
 abbrev pub NothingIsLost : Type 0
 NothingIsLost = (channels : ℕ) (words : List ℕ) (plays : List Play) (q : ℕ) →
     AllByRecursion (λ (p : Play). IsComplete (length p.rows) (length words) channels p.steps) plays → q < length words →
-    total (λ cut. slice_index cut q) (cuts_of words plays) + slice_index (words_after words plays) q
-    ≡ slice_index words q + total (λ (p : Play). requests.asked p.rows q) plays
+    sum_by (λ cut. slice_index cut q) (cuts_of words plays) + slice_index (words_after words plays) q
+    ≡ slice_index words q + sum_by (λ (p : Play). requests.asked p.rows q) plays

@@ -1,12 +1,12 @@
 -- Plays by the machine: it goes through the steps of one after another, each from the words, the state and the channels that
 -- the last one left.
 use Rattle.std.specs.Prelude.{◌≡◌, ℕ, ◌+◌, ◌<◌, List, [], ◌∷◌, length, map, slice_index, Option, Some, None, option_map, option_and_then}
-use Rattle.std.specs.List.{AllByRecursion}
+use Rattle.std.specs.List.{AllByRecursion, sum_by}
 use Rattle.us_flows.specs.Tables.{Tables}
 use Rattle.us_requests.specs.Cuts as requests
 use Rattle.us_round.specs.Rounds.{State, RoundResult, opening, begun, ended, schedule, final}
 use Rattle.us_output.specs.Outputs.{RoundOut, out_of}
-use Rattle.us_steps.specs.Steps.{IsComplete, total}
+use Rattle.us_steps.specs.Steps.{IsComplete}
 use Rattle.us_steps.specs.Machines.{Machine, opening_machine, run, builds_in}
 use Rattle.us_steps.specs.Plays.{Play, cuts_of, words_after}
 
@@ -52,8 +52,8 @@ pub record IsRun (t : Tables) (words : List ℕ) (plays : List Play) (ran : Mach
   pub left : ran.words ≡ words_after words plays
   pub outs : ran.outs ≡ map (out_of t) (schedule (opening t) ran.cuts)
   pub state : ran.state ≡ final (opening t) ran.cuts
-  pub kept : (q : ℕ) → total (λ cut. slice_index cut q) ran.cuts + slice_index ran.words q
-      ≡ slice_index words q + total (λ (p : Play). requests.asked p.rows q) plays
+  pub kept : (q : ℕ) → sum_by (λ cut. slice_index cut q) ran.cuts + slice_index ran.words q
+      ≡ slice_index words q + sum_by (λ (p : Play). requests.asked p.rows q) plays
 
 -- it goes through plays whose lists are all complete, and through no others
 abbrev pub RunsThrough : Tables → List ℕ → List Play → Option MachineRun → Type 0

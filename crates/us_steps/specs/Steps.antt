@@ -1,7 +1,7 @@
 -- The steps of a round, one by one: rows of requests and marks are added to their words, each word is taken into the
 -- cut, and each channel is opened and built. A seat is who adds or takes; its number plays no part in what is answered.
-use Rattle.std.specs.Prelude.{◌≡◌, ℕ, suc, ◌+◌, ◌<◌, ◌==◌, Bool, true, false, if◌then◌else◌, List, [], ◌∷◌, length, map, slice_index, slice_get, Option, Some, None}
-use Rattle.std.specs.List.{AllByRecursion, range_with_len}
+use Rattle.std.specs.Prelude.{◌≡◌, ℕ, ◌+◌, ◌<◌, ◌==◌, Bool, true, false, if◌then◌else◌, List, [], ◌∷◌, length, map, slice_index, slice_get, Option, Some, None}
+use Rattle.std.specs.List.{AllByRecursion, range_with_len, sum_by, count_by}
 use Rattle.us_requests.specs.declared.asks.Ask.{Ask}
 use Rattle.us_steps.specs.declared.steps.Step.{Step}
 use Rattle.us_steps.specs.declared.steps.Step.TheVariants as step
@@ -49,16 +49,6 @@ opens_one (step.Take word seat) = false
 opens_one (step.Open channel) = true
 opens_one (step.Built channel) = false
 
--- how many steps pass
-abbrev pub count : {X : Type 0} → (X → Bool) → List X → ℕ
-count p [] = 0
-count p (x ∷ xs) = if p x then suc (count p xs) else count p xs
-
--- the sum of a number of each
-abbrev pub total : {X : Type 0} → (X → ℕ) → List X → ℕ
-total f [] = 0
-total f (x ∷ xs) = f x + total f xs
-
 -- what stands before the first that passes, and what stands behind it
 abbrev pub ahead : {X : Type 0} → (X → Bool) → List X → List X
 ahead p [] = []
@@ -81,12 +71,12 @@ IsThere rows words channels (step.Built channel) = channel < channels
 -- once, and later built once
 pub record IsComplete (rows words channels : ℕ) (steps : List Step) : Type 0 where
   pub there : AllByRecursion (IsThere rows words channels) steps
-  pub added : (r : ℕ) → r < rows → count (adds r) steps ≡ 1
-  pub taken : (q : ℕ) → q < words → count (takes q) steps ≡ 1
-  pub opened : (c : ℕ) → c < channels → count (opens c) steps ≡ 1
-  pub built : (c : ℕ) → c < channels → count (builds c) steps ≡ 1
-  pub settled : count takes_one (behind opens_one steps) ≡ 0
-  pub later : (c : ℕ) → c < channels → count (builds c) (behind (opens c) steps) ≡ 1
+  pub added : (r : ℕ) → r < rows → count_by (adds r) steps ≡ 1
+  pub taken : (q : ℕ) → q < words → count_by (takes q) steps ≡ 1
+  pub opened : (c : ℕ) → c < channels → count_by (opens c) steps ≡ 1
+  pub built : (c : ℕ) → c < channels → count_by (builds c) steps ≡ 1
+  pub settled : count_by takes_one (behind opens_one steps) ≡ 0
+  pub later : (c : ℕ) → c < channels → count_by (builds c) (behind (opens c) steps) ≡ 1
 
 -- Cuts.
 
@@ -107,11 +97,11 @@ added_by rows q (step.Built channel) = 0
 
 -- of a word is cut what it has, and the bytes of its rows that are added before it is taken,
 abbrev pub cut_at : List ℕ → List Ask → List Step → ℕ → ℕ
-cut_at words rows steps q = slice_index words q + total (added_by rows q) (ahead (takes q) steps)
+cut_at words rows steps q = slice_index words q + sum_by (added_by rows q) (ahead (takes q) steps)
 
 -- and its word is left those that are added after
 abbrev pub left_at : List Ask → List Step → ℕ → ℕ
-left_at rows steps q = total (added_by rows q) (behind (takes q) steps)
+left_at rows steps q = sum_by (added_by rows q) (behind (takes q) steps)
 
 -- of all words, in the order of their numbers
 unfoldable pub cut_of : List ℕ → List Ask → List Step → List ℕ
