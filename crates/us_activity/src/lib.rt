@@ -2,7 +2,7 @@
 //!
 //! ```
 //! let activities = Activities::of(alloc, &config, &trace)?;
-//! activities.is_active(silence.word, round) // whether the flow has its grants in that round, or polls
+//! activities.is_active(silence.word, round) // whether an interval that begins in that round has its grants, or a poll
 //! ```
 //!
 //! What these words mean stands in `specs/`, in the order of its `Lib.antt`.

@@ -1,16 +1,17 @@
 -- Flows that fall silent and are active again, computed by the definitions alone.
 use Rattle.std.specs.Prelude.{◌≡◌, ℕ, List, [], ◌∷◌, ◌++◌, map, Bool, true, false, Some, None, refl}
+use Rattle.std.specs.List.{AllByRecursion}
 use Rattle.us_flows.specs.declared.channels.Channel.{Channel}
 use Rattle.us_flows.specs.Tables.{Tables}
 use Rattle.us_flows.specs.Lawful.{AreTables}
 use Rattle.us_holes.specs.Boards.{Owner, Board, empty_board, assign, first_of}
-use Rattle.us_calendar.specs.Entries.{Entry}
-use Rattle.us_calendar.specs.Activity.{active_in}
-use Rattle.us_calendar.specs.Occurrences.{Pace, due, coming}
+use Rattle.us_calendar.specs.Entries.{Entry, entries}
+use Rattle.us_calendar.specs.Activity.{active_in, speaks_by}
+use Rattle.us_calendar.specs.Occurrences.{Pace, due, coming, ideal}
 use Rattle.us_calendar.specs.Settling.{opening_state, settle_each, settle_entry}
-use Rattle.us_calendar.specs.Calendars.{Calendar, run_entries, pace_of, opening, ran}
-use Rattle.us_calendar.specs.Runs.{Round, rounds_on, after_rounds}
-use Rattle.us_calendar.specs.ByCuts.{settle_by, SettlesByCuts}
+use Rattle.us_calendar.specs.Calendars.{Calendar, run_entries, pace_of, opening, ran, Ran}
+use Rattle.us_calendar.specs.Runs.{Round, rounds_on, after_rounds, board_at_turn}
+use Rattle.us_calendar.specs.ByCuts.{settle_by, SettlesByCuts, StartsLeast}
 use Rattle.us_calendar.specs.declared.settled.Settled.{Settled}
 use Rattle.us_calendar.specs.declared.settled.Settled.TheVariants as told
 use Rattle.us_calendar.specs.declared.kinds.Kind.TheVariants as kinds
@@ -168,6 +169,23 @@ goes_on = refl
 first_round : SettlesByCuts → (t : Tables) (c : Channel) (cut : List ℕ) (board : Board) → AreTables t →
     (ran (opening t c) cut board).settled ≡ (settle_by (pace_of t c) (cut ∷ []) 0 (opening t c).states board).settled
 first_round law t c cut board lawful = (law t c [] [] cut board lawful refl).settled
+
+-- and in round 1, behind whatever round 0 cut: the board that it leaves,
+abbrev second : Tables → Channel → List ℕ → List ℕ → Board → Board → Ran
+second t c first cut before board = ran (after_rounds (opening t c) (first ∷ []) (before ∷ [])) cut board
+
+second_leaves : SettlesByCuts → (t : Tables) (c : Channel) (first cut : List ℕ) (before board : Board) → AreTables t →
+    (second t c first cut before board).board
+    ≡ (settle_by (pace_of t c) (first ∷ cut ∷ []) 1 (after_rounds (opening t c) (first ∷ []) (before ∷ [])).states board).board
+second_leaves law t c first cut before board lawful = (law t c (first ∷ []) (before ∷ []) cut board lawful refl).leaves
+
+-- on which each grant has the least minislot
+second_least : SettlesByCuts → (t : Tables) (c : Channel) (first cut : List ℕ) (before board : Board) → AreTables t →
+    AllByRecursion (λ e. (n : ℕ) →
+    AllByRecursion (StartsLeast (pace_of t c) 1 e (speaks_by (pace_of t c) (first ∷ cut ∷ []) e (ideal e n)) n
+    (board_at_turn e n (record { board = board; settled = (second t c first cut before board).settled })))
+    (second t c first cut before board).settled) (entries t c)
+second_least law t c first cut before board lawful = (law t c (first ∷ []) (before ∷ []) cut board lawful refl).least
 
 -- An entry with a jitter above its interval, which no accepted tables have. Intervals 0 and 1 both wait until round 2, and what
 -- is kept is of the first alone: the second begins in a silent round, but gets its grants,

@@ -132,7 +132,7 @@ impl Calendar {
     }
 
     /// Does what [`Calendar::run`] does, and answers in a list of the caller's. Nothing stays that stood there. After want
-    /// of memory nothing is said of calendar, board and list.
+    /// of memory the calendar keeps its time and the board its length; nothing else is said of them and of the list.
     pub fn run_into(
         &mut self,
         round: u32,

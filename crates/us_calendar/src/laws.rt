@@ -1,4 +1,5 @@
-//! Laws of the definitions of the calendar, each as the contract of a function that does nothing.
+//! Laws of the definitions of the calendar, each as the contract of a function that does nothing. Channels, entries and
+//! rounds are those of accepted tables.
 
 ghost use Rattle.us_calendar.specs.ByCuts.{SettlesByCuts};
 ghost use Rattle.us_calendar.specs.Laws.{AreOccurrences, EntriesAreApart, EntriesAreLawful, EntriesHaveWords, FirstOnes, GrantsFit, KindsAsHeard, RowsStandFirst, SettledOnce};
@@ -39,7 +40,7 @@ pub fn kinds_as_heard()
 {}
 
 /// After any rounds the next one settles what all cuts so far say: each interval is of the kind that they tell at its ideal
-/// time, and each grant starts at the least minislot of its window where it fits.
+/// time, and each grant starts at the least minislot of its window in this MAP where it fits.
 pub fn settles_by_cuts()
     ensures { SettlesByCuts }
 {}

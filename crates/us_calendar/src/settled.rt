@@ -19,7 +19,7 @@ pub enum Settled {
         start: u32,
         /// How many minislots it has.
         slots: u32,
-        /// The SID, and the IUC of its kind.
+        /// The SID, and the IUC of a grant of its kind, or that of a request where it is the poll of a silent flow.
         owner: Owner,
     },
     /// It was missed: its window ended before the round did, and no minislot of it was to be had.

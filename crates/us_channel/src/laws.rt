@@ -7,12 +7,12 @@ pub fn grants_fit()
     ensures { GrantsFit }
 {}
 
-/// Grants are of claims, in their order, and no claim has two.
+/// Where each claim has a byte at least, grants are of claims, in their order, and no claim has two.
 pub fn grants_are_of_claims()
     ensures { GrantsAreOfClaims }
 {}
 
-/// A board with the reserves has these and no others, and each fitted.
+/// A board with the reserves, where both have room, has these and no others, and each fitted.
 pub fn reserves_fit()
     ensures { ReservesFit }
 {}

@@ -64,7 +64,7 @@ impl Map {
 
     /// The MAP of the parts that [`Map::new`] takes, where the caller knows that they make a lawful body, so that none of
     /// M4 to M9 stands. Nothing is judged, and want of memory is the one fault. The Null and the pendings are put behind
-    /// `elements`: where that list has room for them, no memory is taken.
+    /// `elements`.
     #[tactic(auto, using(crate::proofs::BodyLemmas::putting))]
     pub fn from_parts(
         head: Head,

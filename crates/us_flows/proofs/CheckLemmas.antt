@@ -3,7 +3,8 @@ use Rattle.std.proofs.Common.{◌≡◌, false, List, [], ◌∷◌, Option, Som
 use Rattle.std.proofs.lemmas.Bool.{cases_Bool}
 use Rattle.std.specs.Option.{option_or}
 use Rattle.us_flows.specs.declared.faults.ConfigFault.{ConfigFault}
-use Rattle.us_flows.specs.Checks.{Check, first_of}
+use Rattle.us_slots.specs.Lists.{first_of}
+use Rattle.us_flows.specs.Checks.{Check}
 
 pub or_else_none : (a b : Option ConfigFault) → option_or a b ≡ None → (a ≡ None) × (b ≡ None)
 or_else_none None b h = (refl, h)

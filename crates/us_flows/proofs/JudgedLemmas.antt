@@ -16,7 +16,8 @@ use Rattle.us_flows.specs.Tables.{FlowTable}
 use Rattle.us_flows.specs.Documents.{items_at}
 use Rattle.us_flows.specs.Shapes.{count}
 use Rattle.us_flows.specs.Reading.{flow_of, all_of}
-use Rattle.us_flows.specs.Checks.{Check, first_of, top, in_turn, flow_place, flow_shape, flow_names, flow_grants, flow_fault}
+use Rattle.us_slots.specs.Lists.{first_of}
+use Rattle.us_flows.specs.Checks.{Check, top, in_turn, flow_place, flow_shape, flow_names, flow_grants, flow_fault}
 use Rattle.us_flows.specs.Answers.{Judged}
 use Rattle.us_flows.proofs.CheckLemmas.{none_finds}
 use Rattle.us_flows.proofs.ShapeLemmas.{length-lists_of}

@@ -26,7 +26,8 @@ use Rattle.us_flows.specs.Keys.{top_keys}
 use Rattle.us_flows.specs.Lawful.{AreApart, Fits, IsSchedule, IsChannel, IsRequesting, IsPolled, IsUnsolicited, IsScheduled, IsFlow, IsStation, AreTables}
 use Rattle.us_flows.specs.Documents.{number_at, flag_at, numbers_of, lists_of, items_of, items_at, read_or}
 use Rattle.us_flows.specs.Shapes.{is_number, is_number_list, is_list, is_table, count, all_items, allows, lacks, strays}
-use Rattle.us_flows.specs.Checks.{first_of, top_checks, channel_shape, channel_rules, channel_fault, repeats, same_sid, is_taken, has_flow, flow_place, flow_shape, flow_names, grant_slots, is_too_long, flow_grants, flow_fault, station_shape, station_rules, station_fault, in_turn, channels_fault, flows_fault, stations_fault, first_fault}
+use Rattle.us_slots.specs.Lists.{first_of}
+use Rattle.us_flows.specs.Checks.{top_checks, channel_shape, channel_rules, channel_fault, repeats, same_sid, is_taken, has_flow, flow_place, flow_shape, flow_names, grant_slots, is_too_long, flow_grants, flow_fault, station_shape, station_rules, station_fault, in_turn, channels_fault, flows_fault, stations_fault, first_fault}
 use Rattle.us_flows.specs.Reading.{channel_of, kind_at, flow_of, station_of, all_of, round_ticks_of, channels_of, flows_of, stations_of, tables_of}
 use Rattle.us_flows.specs.Answers.{Judged}
 use Rattle.us_flows.proofs.DocumentLemmas.{count_view}

@@ -1,11 +1,12 @@
 -- The faults of a document, in the order in which they are looked for: the top level, each channel, each flow, each
 -- station.
-use Rattle.std.specs.Prelude.{ℕ, ◌+◌, ◌*◌, ◌/◌, ◌%◌, max, Bool, false, not, nat_eq, ◌==◌, nat_lt, nat_le, ◌&&◌, ◌||◌, if◌then◌else◌, List, [], ◌∷◌, ◌++◌, length, flat_map, codes, is_none, Option, Some, None}
+use Rattle.std.specs.Prelude.{ℕ, ◌+◌, ◌*◌, ◌/◌, ◌%◌, max, Bool, false, not, nat_eq, ◌==◌, nat_lt, nat_le, ◌&&◌, ◌||◌, List, [], ◌∷◌, ◌++◌, length, flat_map, codes, is_none, Option, Some, None}
 use Rattle.std.specs.List.{list_all, list_any}
 use Rattle.std.specs.Option.{option_or}
 use Rattle.toml.specs.Data.{Data, table, Items, no_items, item, Members, get_member}
 use Rattle.us_slots.specs.Times.{minislot_ticks}
 use Rattle.us_slots.specs.Bursts.{burst_cost}
+use Rattle.us_slots.specs.Lists.{first_of}
 use Rattle.us_flows.specs.Ranges.{max_codeword}
 use Rattle.us_flows.specs.declared.channels.Channel.{Channel}
 use Rattle.us_flows.specs.declared.stations.Station.{Station}
@@ -25,11 +26,6 @@ use Rattle.us_flows.specs.Reading.{channel_of, kind_at, flow_of, station_of, rou
 -- what is amiss, and the fault that it is
 abbrev pub Check : Type 0
 Check = Bool × ConfigFault
-
--- the first fault of a list of checks
-abbrev pub first_of : List Check → Option ConfigFault
-first_of [] = None
-first_of (check ∷ checks) = if check.0 then Some check.1 else first_of checks
 
 abbrev pub top : Place
 top = record { table = name.Top; index = 0 }

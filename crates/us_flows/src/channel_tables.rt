@@ -9,7 +9,8 @@ ghost use Rattle.us_flows.specs.Ranges.{max_codeword};
 ghost use Rattle.us_flows.specs.Keys.{keys_of};
 ghost use Rattle.us_flows.specs.Documents;
 ghost use Rattle.us_flows.specs.Checks;
-ghost use Rattle.us_flows.specs.Checks.{first_of, channel_shape, channel_rules, channel_fault, channels_fault, in_turn};
+ghost use Rattle.us_slots.specs.Lists.{first_of};
+ghost use Rattle.us_flows.specs.Checks.{channel_shape, channel_rules, channel_fault, channels_fault, in_turn};
 ghost use Rattle.us_flows.specs.Reading;
 ghost use Rattle.us_flows.specs.Answers.{Judged};
 

@@ -2,7 +2,8 @@ ghost use Rattle.std.specs.Prelude.{◌≡◌};
 ghost use Rattle.us_slots.specs.Bursts.{burst_cost};
 ghost use Rattle.us_flows.specs.Tables.{first_channel};
 ghost use Rattle.us_flows.specs.Checks;
-ghost use Rattle.us_flows.specs.Checks.{first_of, flow_grants};
+ghost use Rattle.us_slots.specs.Lists.{first_of};
+ghost use Rattle.us_flows.specs.Checks.{flow_grants};
 
 use crate::channels::Channel;
 use crate::faults::{ConfigFault, Place};

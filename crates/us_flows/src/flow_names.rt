@@ -2,7 +2,8 @@ ghost use Rattle.std.specs.Prelude.{◌≡◌, ◌==◌, ◌++◌, nat_eq, lengt
 ghost use Rattle.std.specs.List.{list_all, list_any};
 ghost use Rattle.us_flows.specs.Tables.{has_channel, sids_of};
 ghost use Rattle.us_flows.specs.Checks;
-ghost use Rattle.us_flows.specs.Checks.{first_of, flow_names};
+ghost use Rattle.us_slots.specs.Lists.{first_of};
+ghost use Rattle.us_flows.specs.Checks.{flow_names};
 
 use crate::faults::{ConfigFault, Place};
 use crate::flows::Flow;

@@ -3,7 +3,8 @@ ghost use Rattle.toml.specs.Data.{item, no_items};
 ghost use Rattle.toml.specs.View.{view, table_view, items_view};
 ghost use Rattle.us_flows.specs.Keys;
 ghost use Rattle.us_flows.specs.Shapes;
-ghost use Rattle.us_flows.specs.Checks.{first_of, has_station, station_shape, station_rules, station_fault, stations_fault, in_turn};
+ghost use Rattle.us_slots.specs.Lists.{first_of};
+ghost use Rattle.us_flows.specs.Checks.{has_station, station_shape, station_rules, station_fault, stations_fault, in_turn};
 ghost use Rattle.us_flows.specs.Reading;
 ghost use Rattle.us_flows.specs.Answers.{Judged};
 

@@ -4,7 +4,7 @@ use Rattle.std.specs.List.{range_with_len}
 use Rattle.std.proofs.lemmas.Bool.{cases_eq, cases_lt}
 use Rattle.std.proofs.lemmas.List.{get_or-set_other, append-nil, append_assoc, length-take-le, map-id}
 use Rattle.std.proofs.lemmas.List.FromFn.{map-range_with_len_more}
-use Rattle.us_slots.specs.Numbers.{added}
+use Rattle.us_slots.specs.Lists.{added}
 use Rattle.us_intake.specs.Seats.{Seat, seat_after_take, seat_after_cut, IsWhole, IsSeat}
 use Rattle.us_intake.proofs.TallyLemmas.{added-nil, raised-added, index-past, same_tally}
 

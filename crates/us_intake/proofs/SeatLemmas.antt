@@ -2,7 +2,7 @@
 use Rattle.std.proofs.Common.{◌≡◌, ℕ, ◌+◌, ◌^◌, ◌<◌, ◌||◌, Bool, true, false, List, [], length, sum, slice_index, ap, sym, subst, ◌∙◌, arith}
 use Rattle.atomic_table.specs.Seated.{TableId}
 use Rattle.atomic_table.specs.Table.{Me, State, Final, Seen}
-use Rattle.us_slots.specs.Numbers.{added}
+use Rattle.us_slots.specs.Lists.{added}
 use Rattle.us_intake.specs.Seats.{IsIntake, IsWhole}
 use Rattle.us_intake.specs.Accounts.{Terms, Part, Account, joined_part, part_after_look}
 use Rattle.us_intake.specs.Parts.{Known}

@@ -3,7 +3,7 @@ use Rattle.std.proofs.Common.{◌≡◌, ◌≢◌, ℕ, zero, suc, ◌+◌, ◌
 use Rattle.std.proofs.lemmas.Bool.{cases_eq, true≢false, false≢true}
 use Rattle.std.proofs.lemmas.List.{length-replicate, set-get_or}
 use Rattle.std.proofs.lemmas.List.Sums.{sum_by-cons, sum_by-set}
-use Rattle.us_slots.specs.Numbers.{added}
+use Rattle.us_slots.specs.Lists.{added}
 use Rattle.us_intake.specs.Tallies.{empty_tally, raised}
 
 -- what a cluster has more, where the cluster `at` has so many bytes more

@@ -1,7 +1,7 @@
 -- The account of an intake: what holds of its words and of all its seats between any two atomic steps, whatever threads
 -- do (ours). The code's table of words is of this rule, so that each step is proved to keep it.
 use Rattle.std.specs.Prelude.{◌≡◌, ℕ, ◌+◌, ◌-◌, ◌^◌, ◌<◌, ◌≤◌, ◌⊎◌, Bool, true, false, ◌||◌, List, [], ◌∷◌, ◌++◌, length, sum, sum_by, count_by, slice_index, slice_get, Some}
-use Rattle.us_slots.specs.Numbers.{added}
+use Rattle.us_slots.specs.Lists.{added}
 use Rattle.us_intake.specs.Tallies.{empty_tally, raised}
 
 -- what an intake was opened for

@@ -1,7 +1,7 @@
 -- Small inputs, computed by the definitions alone.
 use Rattle.std.specs.Prelude.{◌≡◌, ℕ, Bool, true, false, List, [], ◌∷◌, sum_by, count_by, slice_index, refl}
 use Rattle.atomic_table.specs.Seated.{TableId}
-use Rattle.us_slots.specs.Numbers.{added}
+use Rattle.us_slots.specs.Lists.{added}
 use Rattle.us_intake.specs.Tallies.{empty_tally, raised}
 use Rattle.us_intake.specs.Seats.{Intake, Seat, spent, first_seat, new_seat, seat_after_split, joined_seat, seat_after_submit, seat_after_take, seat_after_cut}
 use Rattle.us_intake.specs.Accounts.{Part, first_part, part_after_submit, part_after_swap, part_after_split, new_part, joined_part, part_after_look, spent_part}

@@ -1,6 +1,6 @@
 ghost use Rattle.std.specs.Prelude.{◌≡◌, ℕ, ◌+◌, ◌^◌, ◌<◌, ◌≤◌, ◌⊎◌, ◌↔◌, true, length, sum, slice_index, IfOk, IfErr, OnOk, OnErr, Err, vec_len};
 ghost use Rattle.us_intake.specs.Seats as spec;
-ghost use Rattle.us_slots.specs.Numbers.{added};
+ghost use Rattle.us_slots.specs.Lists.{added};
 ghost use Rattle.us_intake.specs.declared.faults.IntakeFault.TheVariants as fault;
 
 use crate::accounts::{Bytes, Kept, Part, Terms};

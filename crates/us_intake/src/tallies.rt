@@ -1,6 +1,6 @@
 ghost use Rattle.std.specs.Prelude.{◌≡◌, ◌+◌, ◌^◌, ◌<◌, ◌≤◌, true, false, sum, length, vec_len};
 ghost use Rattle.us_intake.specs.Tallies as spec;
-ghost use Rattle.us_slots.specs.Numbers.{added};
+ghost use Rattle.us_slots.specs.Lists.{added};
 
 /// Adds one tally to another that is no shorter, cluster by cluster.
 fn add_to(tally: &mut Vec<u64>, other: &Vec<u64>)

@@ -84,9 +84,10 @@ unfolding AllFit
 all_within board [] all = tt
 all_within board (a ∷ placed) all =
     let next : Board = assign board a.start a.slots a.owner in
-    let same : length next.cells ≡ length board.cells = fit_length board a.start a.slots a.owner all.0 in
-    ((fit board a.slots a.start all.0).inside,
-    subst (λ n. AllByRecursion (λ a. a.start + a.slots ≤ n) placed) same (all_within next placed all.1))
+    let same : length next.cells ≡ length board.cells = fit_length board a.start a.slots a.owner all.0 in (
+      (fit board a.slots a.start all.0).inside,
+      subst (λ n. AllByRecursion (λ a. a.start + a.slots ≤ n) placed) same (all_within next placed all.1),
+    )
 
 -- minislots, and whose they are
 record IsSmallPart (a : Assignment) : Type 0 where
@@ -109,8 +110,8 @@ grants_small bursts [] (g ∷ gs) small are = absurd are
 grants_small bursts (claim ∷ claims) [] small are = tt
 grants_small bursts (claim ∷ claims) (g ∷ gs) small are = elim are [
   | inl both ↦ (
-      (omega (arith, both.0.few, small.0.0), omega (arith, both.0.sid, small.0.1)),
-      grants_small bursts claims gs small.1 both.1,
+    (omega (arith, both.0.few, small.0.0), omega (arith, both.0.sid, small.0.1)),
+    grants_small bursts claims gs small.1 both.1,
   )
   | inr later ↦ grants_small bursts claims (g ∷ gs) small.1 later
 ]
@@ -207,7 +208,6 @@ lines_on round b told granted =
 
 module _ (t : Tables) (cuts : List (List ℕ)) (counts : Counts) (lawful : AreTables t) (long : AreCuts t cuts)
     (fitting : rounds_fit t (length cuts) ≡ true) where
-
   -- Rounds.
 
   run_small : length cuts * t.round_ticks ≤ max_run_ticks
@@ -285,8 +285,28 @@ module _ (t : Tables) (cuts : List (List ℕ)) (counts : Counts) (lawful : AreTa
   settled_fields r c (settled.Granted kind e i k start slots owner ∷ all) before id named parts =
       let round : r < 2 ^ 64 = round_small r before in
       let first = parts.0 in (
-        (round, (omega (arith, id), (named.0.0, (named.0.1, (named.0.2, (omega (arith, first.sid), (omega (arith, first.iuc),
-        (omega (arith, first.inside), (omega (arith, first.inside), (omega arith, tt)))))))))),
+        (
+          round,
+          (
+            omega (arith, id),
+            (
+              named.0.0,
+              (
+                named.0.1,
+                (
+                  named.0.2,
+                  (
+                    omega (arith, first.sid),
+                    (
+                      omega (arith, first.iuc),
+                      (omega (arith, first.inside), (omega (arith, first.inside), (omega arith, tt))),
+                    ),
+                  ),
+                ),
+              ),
+            ),
+          ),
+        ),
         settled_fields r c all before id named.1 parts.1,
       )
   settled_fields r c (settled.Missed kind e i k ∷ all) before id named parts = (
@@ -330,9 +350,28 @@ module _ (t : Tables) (cuts : List (List ℕ)) (counts : Counts) (lawful : AreTa
         | inl short ↦ omega (arith, usage, short)
         | inr long ↦ omega (arith, usage, long)
       ] in (
-        (round_small r before, (omega (arith, id), (omega (arith, flow_is, flow.id.1),
-        (omega (arith, list_is, list, flow.some_clusters.1), (omega arith, (omega (arith, small.0.1), (omega (arith, iuc),
-        (omega (arith, inside.0), (omega (arith, inside.0), (omega (arith, small.0.0), tt)))))))))),
+        (
+          round_small r before,
+          (
+            omega (arith, id),
+            (
+              omega (arith, flow_is, flow.id.1),
+              (
+                omega (arith, list_is, list, flow.some_clusters.1),
+                (
+                  omega arith,
+                  (
+                    omega (arith, small.0.1),
+                    (
+                      omega (arith, iuc),
+                      (omega (arith, inside.0), (omega (arith, inside.0), (omega (arith, small.0.0), tt))),
+                    ),
+                  ),
+                ),
+              ),
+            ),
+          ),
+        ),
         grant_fields r c gs before id of.1 small.1 inside.1,
       )
 
@@ -478,9 +517,19 @@ module _ (t : Tables) (cuts : List (List ℕ)) (counts : Counts) (lawful : AreTa
       let units : IfSome (option_and_then units_in (slice_get end.buckets turn.place)) (λ units. units < 2 ^ 64) =
       subst (λ o. IfSome (option_and_then units_in o) (λ units. units < 2 ^ 64)) (sym left)
       (units_small (level_left t.round_ticks bytes first) level.0 (omega (arith, level.1, known.burst))) in (
-        ((omega (arith, known.id.1), (omega (arith, list, known.some_clusters.1),
-        (omega (arith, bytes_are_kept t cuts turn.number lawful long, asked_few t turn.number cuts, small.asked turn.number),
-        tt))), units),
+        (
+          (
+            omega (arith, known.id.1),
+            (
+              omega (arith, list, known.some_clusters.1),
+              (
+                omega (arith, bytes_are_kept t cuts turn.number lawful long, asked_few t turn.number cuts, small.asked turn.number),
+                tt,
+              ),
+            ),
+          ),
+          units,
+        ),
         final_fields turns are.1,
       )
 

@@ -1,6 +1,6 @@
 -- The cuts and the counts of a trace are small, and so what its schedule writes is lawful.
 use Rattle.std.proofs.Common.{◌≡◌, ℕ, zero, suc, ◌+◌, ◌≤◌, ◌==◌, true, List, [], ◌∷◌, length, map, ap, subst, ◌∙◌, inl, inr, arith}
-use Rattle.std.specs.Prelude.{count_by, filter, slice_index, sum_by}
+use Rattle.std.specs.Prelude.{filter, slice_index, sum_by}
 use Rattle.std.specs.List.{range_with_len}
 use Rattle.std.proofs.lemmas.Bool.{cases_Bool, cases_lt}
 use Rattle.std.proofs.lemmas.List.{get_or_past}
@@ -52,10 +52,10 @@ asked_few : (asks : List Ask) (word : ℕ) → asked asks word ≤ sum_by (λ as
 asked_few [] word = omega arith
 asked_few (ask ∷ asks) word = elim (cases_Bool (ask.cluster == word)) [
   | inl same ↦ rw same (omega (
-      arith,
-      sum_by-cons (λ (a : Ask). a.bytes) ask (filter (λ a. a.cluster == word) asks),
-      sum_by-cons (λ (a : Ask). a.bytes) ask asks,
-      asked_few asks word,
+    arith,
+    sum_by-cons (λ (a : Ask). a.bytes) ask (filter (λ a. a.cluster == word) asks),
+    sum_by-cons (λ (a : Ask). a.bytes) ask asks,
+    asked_few asks word,
   ))
   | inr other ↦ rw other (omega (arith, sum_by-cons (λ (a : Ask). a.bytes) ask asks, asked_few asks word))
 ]

@@ -1,8 +1,8 @@
 -- The stored run, in which one modem asks for 1,000 bytes: what it is judged by, and what is judged of it. Beside it lines
 -- of rounds and channels that it lacks.
-use Rattle.std.specs.Prelude.{◌≡◌, ℕ, zero, suc, ◌^◌, ◌<◌, true, false, List, [], ◌∷◌, ◌++◌, map, slice_index, sum_by, codes, Some, None, IfSome, ⊤, refl}
+use Rattle.std.specs.Prelude.{◌≡◌, ℕ, zero, suc, ◌^◌, ◌<◌, true, false, List, [], ◌∷◌, ◌++◌, slice_index, sum_by, codes, None, ⊤, refl}
 use Rattle.std.specs.List.{AllByRecursion}
-use Rattle.std.proofs.Common.{subst, arith}
+use Rattle.std.proofs.Common.{arith}
 use Rattle.std.specs.Fmt.{digits}
 use Rattle.us_slots.specs.Bursts.{coded_length, burst_cost}
 use Rattle.us_codec.specs.Elements.{MapElement, null_at}

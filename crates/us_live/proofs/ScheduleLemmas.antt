@@ -7,7 +7,7 @@ use Rattle.std.proofs.lemmas.List.{map-append}
 use Rattle.std.proofs.lemmas.List.Sums.{sum_by-cons}
 use Rattle.us_flows.specs.Tables.{Tables, max_run_ticks, rounds_fit}
 use Rattle.us_flows.specs.Clusters.{Word, is_of_cluster, words_of}
-use Rattle.us_slots.specs.Numbers.{added}
+use Rattle.us_slots.specs.Lists.{added}
 use Rattle.us_intake.proofs.TallyLemmas.{index-added, index-empty, index_le_sum}
 use Rattle.us_split.specs.Requested.{requested_by, requested_in, with_cut}
 use Rattle.us_channel.specs.Placements.{PlacedClaim}

@@ -6,7 +6,7 @@ use Rattle.atomic_table.specs.Seated.{TableId}
 use Rattle.us_flows.specs.Tables.{Tables}
 use Rattle.us_round.specs.Rounds.{opening, round_of, schedule}
 use Rattle.us_output.specs.Outputs.{RoundOut, out_of}
-use Rattle.us_slots.specs.Numbers.{added}
+use Rattle.us_slots.specs.Lists.{added}
 use Rattle.us_intake.specs.Seats.{Intake, Seat, first_seat, seat_after_submit, seat_after_cut}
 use Rattle.us_live.specs.Lives.{Live, first_live, with_entry, failed_live, rounds_of, logged, IsCut, IsNext}
 use Rattle.us_live.specs.Laws.{CutByRounds, opened, submitted, made, LogBalances}

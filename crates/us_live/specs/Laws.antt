@@ -2,7 +2,7 @@
 use Rattle.std.specs.Prelude.{◌≡◌, ℕ, ◌+◌, false, List, slice_index}
 use Rattle.us_flows.specs.Tables.{Tables}
 use Rattle.us_output.specs.Outputs.{RoundOut}
-use Rattle.us_slots.specs.Numbers.{added}
+use Rattle.us_slots.specs.Lists.{added}
 use Rattle.us_intake.specs.Seats.{Intake, Seat, IsSeat, first_seat, seat_after_split, seat_after_submit, joined_seat}
 use Rattle.us_live.specs.Lives.{Live, first_live, logged, Feeds, IsNext}
 

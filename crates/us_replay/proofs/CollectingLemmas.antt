@@ -8,7 +8,7 @@ use Rattle.std.proofs.lemmas.List.Elements.{filter-append}
 use Rattle.std.proofs.lemmas.List.Sums.{sum_by-append, sum_by-cons}
 use Rattle.us_crew.specs.Items.{AreAccepted}
 use Rattle.us_crew.specs.Values.{values_from, values_of}
-use Rattle.us_slots.specs.Numbers.{added}
+use Rattle.us_slots.specs.Lists.{added}
 use Rattle.us_intake.specs.Tallies.{empty_tally, raised}
 use Rattle.us_intake.specs.Seats.{Intake, Seat, joined_seat, seat_after_submit, seat_after_split, spent}
 use Rattle.us_intake.proofs.TallyLemmas.{sum-added, length-added, empty-added}

@@ -1,7 +1,7 @@
 -- Between rounds: the seat is whole and took all that was submitted, so what it takes is what was asked for since.
 use Rattle.std.proofs.Common.{◌≡◌, ℕ, ◌+◌, ◌<◌, List, length, replicate, sum, ap, sym, subst, ◌∙◌, arith, Option, None, Some}
 use Rattle.std.specs.List.{AllByRecursion}
-use Rattle.us_slots.specs.Numbers.{added}
+use Rattle.us_slots.specs.Lists.{added}
 use Rattle.us_intake.specs.Seats.{Intake, Seat, spent}
 use Rattle.us_intake.proofs.TallyLemmas.{sum-added, sum-empty, length-added}
 use Rattle.us_requests.specs.declared.asks.Ask.{Ask}

@@ -4,7 +4,7 @@ use Rattle.std.specs.List.{AllByRecursion, range_with_len}
 use Rattle.std.proofs.lemmas.Bool.{cases_eq, cases_lt, ne_eqb}
 use Rattle.std.proofs.lemmas.List.{append-nil, append_assoc, drop_all, drop_more, get_or_default, get_or-set_same, get_or-set_other, length-replicate, length-set, map-append, take_all, take_more}
 use Rattle.std.proofs.lemmas.List.FromFn.{get_or-map-range_with_len, length-map-range_with_len}
-use Rattle.us_slots.specs.Numbers.{added}
+use Rattle.us_slots.specs.Lists.{added}
 use Rattle.us_intake.specs.Tallies.{raised}
 use Rattle.us_intake.specs.Seats.{Seat, IsSeat, IsWhole, seat_after_take}
 use Rattle.us_intake.proofs.TallyLemmas.{index-added, index-past, index_le_sum, length-added, same_tally}

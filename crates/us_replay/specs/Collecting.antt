@@ -1,7 +1,7 @@
 -- How the requests of a round are collected: chunks of asks, the seats that submit them, and what stands between rounds.
 use Rattle.std.specs.Prelude.{◌≡◌, ℕ, ◌+◌, ◌*◌, ◌<◌, ◌≤◌, ⊤, true, List, [], ◌∷◌, ◌++◌, length, map, replicate, slice_index, sum, Option, Some, None}
 use Rattle.std.specs.List.{AllByRecursion}
-use Rattle.us_slots.specs.Numbers.{added}
+use Rattle.us_slots.specs.Lists.{added}
 use Rattle.us_intake.specs.Seats.{Intake, Seat, IsWhole, new_seat, joined_seat, spent}
 use Rattle.us_requests.specs.declared.asks.Ask.{Ask}
 use Rattle.us_requests.specs.Cuts.{asked, cut_of}

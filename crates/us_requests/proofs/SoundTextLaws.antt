@@ -7,7 +7,8 @@ use Rattle.std.proofs.lemmas.Bool.{cases_Bool, and_parts, leb-true, ltb-false}
 use Rattle.std.proofs.lemmas.List.{length-map}
 use Rattle.us_requests.specs.declared.faults.TraceFault.{TraceFault}
 use Rattle.us_requests.specs.declared.faults.TraceFault.TheVariants as fault
-use Rattle.us_requests.specs.Texts.{Record, records_of, max_records, field_in, number_of, is_digit, is_number, is_kind, is_header, are_four_numbers, are_numbers, request_of, record_checks, first_of, fault_from, records_fault, trace_fault, requests_of}
+use Rattle.us_slots.specs.Lists.{first_of}
+use Rattle.us_requests.specs.Texts.{Record, records_of, max_records, field_in, number_of, is_digit, is_number, is_kind, is_header, are_four_numbers, are_numbers, request_of, record_checks, fault_from, records_fault, trace_fault, requests_of}
 use Rattle.us_requests.specs.Readings.{AreRequests}
 
 -- no check of three finds a fault

@@ -8,7 +8,8 @@ use Rattle.us_requests.specs.declared.faults.TraceFault.{TraceFault}
 use Rattle.us_requests.specs.declared.faults.TraceFault.TheVariants as fault
 use Rattle.us_requests.specs.Asks.{Request}
 use Rattle.us_requests.specs.Records.{TakesRecord}
-use Rattle.us_requests.specs.Texts.{max_records, are_numbers, request_of, record_checks, first_of, fault_from, Record}
+use Rattle.us_slots.specs.Lists.{first_of}
+use Rattle.us_requests.specs.Texts.{max_records, are_numbers, request_of, record_checks, fault_from, Record}
 use Rattle.us_requests.specs.Readings.{AreRequests, Tells, IsFirst}
 
 -- of these records behind a header of so many columns, such requests were read and these records are left, the first of

@@ -11,7 +11,8 @@ use Rattle.us_requests.specs.declared.requests.Kind.TheVariants as kinds
 use Rattle.us_requests.specs.declared.faults.TraceFault.TheVariants.{Header, Fields, Number, TooLarge}
 use Rattle.us_requests.specs.Asks.{Request, round_of_tick, asks_at, counts_of}
 use Rattle.us_requests.specs.Cuts.{cut, cut_at, cut_of}
-use Rattle.us_requests.specs.Texts.{is_header, number_from, are_four_numbers, record_checks, first_of, fault_from, records_fault, trace_fault, requests_of, Record}
+use Rattle.us_slots.specs.Lists.{first_of}
+use Rattle.us_requests.specs.Texts.{is_header, number_from, are_four_numbers, record_checks, fault_from, records_fault, trace_fault, requests_of, Record}
 
 -- one cluster with a unit of 4 bytes, and two of a flow of two channels with a unit of 16
 abbrev narrow : FlowTable

@@ -5,6 +5,7 @@ use Rattle.std.specs.List.{list_all}
 use Rattle.std.specs.Option.{option_or}
 use Rattle.std.specs.Str.{bytes_eq}
 use Rattle.csv.specs.Reading.{default_config, records, strip_bom}
+use Rattle.us_slots.specs.Lists.{first_of}
 use Rattle.us_requests.specs.declared.faults.TraceFault.{TraceFault}
 use Rattle.us_requests.specs.declared.faults.TraceFault.TheVariants as fault
 use Rattle.us_requests.specs.declared.requests.Kind.{Kind}
@@ -83,11 +84,6 @@ record_checks columns number fields =
     (nat_lt max_records number, fault.TooLarge)
     ∷ (not (length fields == columns), fault.Fields number)
     ∷ (not (are_numbers fields), fault.Number number) ∷ []
-
--- the fault of the first check that finds one
-abbrev pub first_of : List (Bool × TraceFault) → Option TraceFault
-first_of [] = None
-first_of (check ∷ more) = if check.0 then Some check.1 else first_of more
 
 -- the first fault of records behind such a header, the first of which has this number
 unfoldable pub fault_from : ℕ → ℕ → List Record → Option TraceFault

@@ -12,7 +12,7 @@ pub struct Ask {
 pub struct Counts {
     /// No flow has that SID on that channel.
     pub unknown: u32,
-    /// The flow is of a type that makes no requests, or the request is a mark and the flow tells no activity.
+    /// It is a request, and the flow makes none; or a mark, and the flow doesn't tell its activity.
     pub not_requestable: u32,
     /// The round of the request is behind the end of the run.
     pub late: u32,

@@ -3,7 +3,8 @@ ghost use Rattle.std.specs.List.{list_all};
 ghost use Rattle.csv.specs.Records.{fields_of};
 ghost use Rattle.us_requests.specs.declared.requests.Kind.TheVariants as kinds;
 ghost use Rattle.us_requests.specs.Texts;
-ghost use Rattle.us_requests.specs.Texts.{max_records, field_in, is_digit, number_of, is_number, is_kind, are_four_numbers, are_numbers, request_of, record_checks, first_of};
+ghost use Rattle.us_slots.specs.Lists.{first_of};
+ghost use Rattle.us_requests.specs.Texts.{max_records, field_in, is_digit, number_of, is_number, is_kind, are_four_numbers, are_numbers, request_of, record_checks};
 
 use crate::faults::TraceFault;
 use crate::requests::{Kind, Request};

@@ -15,7 +15,7 @@ pub mod Capacities
 pub mod Laws
 -- the jitter window
 pub mod Windows
--- numbers place by place
-pub mod Numbers
+-- sums and firsts of lists
+pub mod Lists
 -- when a reader or a writer counts as failed
 pub mod Devices

@@ -10,7 +10,7 @@ use Rattle.us_flows.specs.Tables.{FlowTable}
 use Rattle.us_flows.specs.Clusters.{Turn, IsTurnIn, turns_of}
 use Rattle.us_flows.proofs.TurnLaws.{turns_of-turns}
 use Rattle.us_split.specs.Divisions.{divided}
-use Rattle.us_slots.specs.Numbers.{added}
+use Rattle.us_slots.specs.Lists.{added}
 use Rattle.us_split.specs.Plans.{Budget, Ledger, Planned, at_most, weights, shares_of, cost_on, lowered, allowed_less, after_turn, after_plan, plan_of, plan_for, ledger_of, min_rate_reserves, first_limits, first_of, given_back, minus, more_shares, with_more, after_both, second_of, two_passes}
 use Rattle.us_split.specs.Laws.{OnePassDoes}
 use Rattle.us_split.proofs.DivisionLemmas.{sum-cons}

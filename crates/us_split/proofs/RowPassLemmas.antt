@@ -9,7 +9,7 @@ use Rattle.std.proofs.lemmas.List.Elements.{All-from_recursion}
 use Rattle.std.proofs.lemmas.Option.{slice_get_read}
 use Rattle.us_split.specs.declared.turn_rows.Seat.{Seat}
 use Rattle.us_split.specs.Divisions.{divided}
-use Rattle.us_slots.specs.Numbers.{added}
+use Rattle.us_slots.specs.Lists.{added}
 use Rattle.us_split.specs.Plans.{at_most}
 use Rattle.us_split.specs.PartialPlans.{ChannelPlan, PartialPlan, taken}
 use Rattle.us_split.specs.TurnRows.{AreFirsts, FirstPass, FitsIf, FitsRow, TurnRow, at_seats, changed, first_in, is_reserved, more_at, more_in, partial_of, pass_of, put_from, reserve_for, returned_at, some_reserved, taken_at, weight_at, with_first_if, with_first_row, with_firsts, with_second_if, with_second_row, with_seconds}

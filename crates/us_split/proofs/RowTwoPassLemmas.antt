@@ -16,7 +16,7 @@ use Rattle.us_flows.specs.Lawful.{AreApart, AreTables, IsFlow}
 use Rattle.us_flows.proofs.TurnLaws.{turns_of-turns}
 use Rattle.us_split.specs.declared.turn_rows.Seat.{Seat}
 use Rattle.us_split.specs.Divisions.{divided}
-use Rattle.us_slots.specs.Numbers.{added}
+use Rattle.us_slots.specs.Lists.{added}
 use Rattle.us_split.specs.Plans.{IsIdle, Budget, Ledger, Planned, at_most, weights, shares_of, share_at, share_cost, cost_on, lowered, allowed_less, after_turn, after_plan, plan_of, plan_for, ledger_of, min_rate_reserves, first_limits, first_of, given_back, minus, more_shares, with_more, after_both, second_of, two_passes, flow_bytes, reserved_for}
 use Rattle.us_split.specs.Claims.{Claim, all_claims}
 use Rattle.us_split.specs.Asking.{AgreeOn, asking_in, asks, claims_at, plan_of_askers, turns_at}

@@ -10,7 +10,7 @@ use Rattle.std.proofs.lemmas.List.Quantifiers.{position-Some}
 use Rattle.std.proofs.lemmas.List.Sums.{sum_by-cons}
 use Rattle.us_slots.specs.Times.{minislot_ticks}
 use Rattle.us_flows.specs.Tables.{FlowTable, header_bytes}
-use Rattle.us_slots.specs.Numbers.{added}
+use Rattle.us_slots.specs.Lists.{added}
 use Rattle.us_split.specs.Plans.{Budget, Ledger, Planned, budget_of, weight, weights, at_most, share_at, share_cost, cost_on, lowered, after_turn, after_plan, flow_bytes, given_back, minus, more_shares, with_more, after_both, second_of}
 use Rattle.us_split.specs.PlanLaws.{AreBursts}
 use Rattle.us_split.proofs.DivisionLemmas.{divided-sum, divided-within, divided-length, sum-cons}

@@ -1,7 +1,7 @@
 -- The plan of a round (ours): how many bytes each turn may send on each of its flow's channels. It is made in two passes: in
 -- the first one each flow with a minimum rate gets what is reserved for it, and in the second one all turns get what is left.
 use Rattle.std.specs.Prelude.{ℕ, ◌+◌, ◌-◌, ◌≤◌, ◌≡◌, ◌==◌, nat_lt, min, if◌then◌else◌, List, [], ◌∷◌, map, zip, filter, find, position, set, length, sum, sum_by, slice_get, slice_index, slice_index_or, Option, Some, None, option_map}
-use Rattle.us_slots.specs.Numbers.{added}
+use Rattle.us_slots.specs.Lists.{added}
 use Rattle.us_slots.specs.Bursts.{grant_cost}
 use Rattle.us_slots.specs.Capacities.{capacity_of}
 use Rattle.us_flows.specs.declared.channels.Channel.{Channel}

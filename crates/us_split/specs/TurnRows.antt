@@ -9,7 +9,7 @@ use Rattle.us_flows.specs.Clusters.{Turn, turns_of}
 use Rattle.us_flows.specs.Lawful.{AreTables}
 use Rattle.us_split.specs.declared.turn_rows.Seat.{Seat}
 use Rattle.us_split.specs.Divisions.{divided}
-use Rattle.us_slots.specs.Numbers.{added}
+use Rattle.us_slots.specs.Lists.{added}
 use Rattle.us_split.specs.Plans.{weight, at_most, minus, max_burst_bytes}
 use Rattle.us_split.specs.PartialPlans.{Asker, ChannelPlan, PartialPlan, asker_of, budget_in, returned, taken, with_share}
 

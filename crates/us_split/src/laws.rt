@@ -25,12 +25,13 @@ pub fn turns_pass()
     ensures { TurnsPass }
 {}
 
-/// A cut adds to what is outstanding of each cluster's word, and leaves that of words of activity as it is.
+/// A cut adds to what is outstanding of each cluster's word, and leaves that of words of activity as it is, where both lists
+/// have a number for the word.
 pub fn cuts_are_of_clusters()
     ensures { CutsAreOfClusters }
 {}
 
-/// Where nothing is reserved, a plan is made in one pass.
+/// Where all reserves that are listed are 0, a plan is made in one pass.
 pub fn one_pass_does()
     ensures { OnePassDoes }
 {}

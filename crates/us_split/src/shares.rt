@@ -3,7 +3,7 @@ ghost use Rattle.std.specs.List.{AllByRecursion};
 ghost use Rattle.us_flows.specs.Ranges.{max_channels_of_flow};
 ghost use Rattle.us_flows.specs.Tables.{segment_header_bytes};
 ghost use Rattle.us_split.specs.Divisions.{divided};
-ghost use Rattle.us_slots.specs.Numbers.{added};
+ghost use Rattle.us_slots.specs.Lists.{added};
 ghost use Rattle.us_split.specs.Plans.{max_burst_bytes, minus};
 ghost use Rattle.us_split.specs.TurnRows.{weight_at};
 

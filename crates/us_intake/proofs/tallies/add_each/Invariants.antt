@@ -1,5 +1,5 @@
 use Rattle.std.proofs.Common.{◌≡◌, take}
-use Rattle.us_slots.specs.Numbers.{added}
+use Rattle.us_slots.specs.Lists.{added}
 use Rattle.us_intake.proofs.tallies.add_each.Given as goal
 
 abbrev pub invariant-loop-at : goal.invariant-loop-at

@@ -1,5 +1,5 @@
 use Rattle.std.proofs.Common.{length, sum, ap, sym, ◌∙◌, arith}
-use Rattle.us_slots.specs.Numbers.{added}
+use Rattle.us_slots.specs.Lists.{added}
 use Rattle.us_intake.proofs.TallyLemmas.{empty-added}
 use Rattle.us_intake.proofs.tallies.add_up.Goals as goal
 

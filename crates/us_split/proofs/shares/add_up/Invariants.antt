@@ -1,5 +1,5 @@
 use Rattle.std.proofs.Common.{◌≡◌, take}
-use Rattle.us_slots.specs.Numbers.{added}
+use Rattle.us_slots.specs.Lists.{added}
 use Rattle.us_split.proofs.shares.add_up.Given as goal
 
 -- the sums so far
