@@ -1,6 +1,6 @@
 -- The stored run, in which one modem asks for 1,000 bytes: what it is judged by, and what is judged of it. Beside it lines
 -- of rounds and channels that it lacks.
-use Rattle.std.specs.Prelude.{◌≡◌, ℕ, zero, suc, ◌^◌, ◌<◌, true, false, List, [], ◌∷◌, ◌++◌, slice_index, sum_by, codes, None, ⊤, refl}
+use Rattle.std.specs.Prelude.{◌≡◌, ℕ, zero, suc, ◌^◌, ◌<◌, true, false, List, [], ◌∷◌, ◌++◌, slice_index, sum_by, codes, Some, None, Ok, ⊤, refl}
 use Rattle.std.specs.List.{AllByRecursion}
 use Rattle.std.proofs.Common.{arith}
 use Rattle.std.specs.Fmt.{digits}
@@ -8,7 +8,7 @@ use Rattle.us_slots.specs.Bursts.{coded_length, burst_cost}
 use Rattle.us_codec.specs.Elements.{MapElement, null_at}
 use Rattle.us_codec.specs.Bodies.{MapBody}
 use Rattle.us_flows.specs.declared.flows.SchedulingType.TheVariants.{ActivityDetection}
-use Rattle.us_flows.specs.Tables.{FlowTable}
+use Rattle.us_flows.specs.Tables.{Tables, FlowTable, rounds_fit}
 use Rattle.us_flows.specs.Lawful.{AreTables}
 use Rattle.us_bucket.specs.Levels.{refilled, spent, units_in}
 use Rattle.us_calendar.specs.Occurrences.{coming, due}
@@ -19,21 +19,23 @@ use Rattle.us_output.specs.declared.rows.Grant.{Grant}
 use Rattle.us_output.specs.declared.rows.Row.{Row}
 use Rattle.us_output.specs.declared.rows.Row.TheVariants as rows
 use Rattle.us_requests.specs.declared.asks.Counts.{Counts}
+use Rattle.us_requests.specs.Traces.{TraceAsks, cuts_in}
+use Rattle.us_requests.specs.Readings.{Reads}
 use Rattle.us_round.specs.Rounds.{final, schedule}
 use Rattle.us_round.specs.FinalRows.{final_rows}
 use Rattle.us_round.specs.RoundExamples.{base, base_channel, base_flow, round_steps, without_flows}
 use Rattle.us_lawful.specs.declared.place.Place.{Place}
 use Rattle.us_lawful.specs.declared.judged.RoundMap.{RoundMap}
-use Rattle.us_lawful.specs.Runs.{Run, Judged}
+use Rattle.us_lawful.specs.Runs.{Run, Judged, run_in}
 use Rattle.us_lawful.specs.Places.{places_hold}
 use Rattle.us_lawful.specs.Regions.{element_regions, regions_hold}
 use Rattle.us_lawful.specs.Credits.{credits_hold}
-use Rattle.us_lawful.specs.Finals.{level_left, finals_hold}
+use Rattle.us_lawful.specs.Finals.{level_left, counts_hold, finals_hold}
 use Rattle.us_output.specs.Files.{lines}
 use Rattle.us_output.specs.Lines.{HasFields}
 use Rattle.us_lawful.specs.Output.{judged_of, maps_text, output_of, report_text}
 use Rattle.us_lawful.specs.Texts.{AreLawful}
-use Rattle.us_lawful.specs.Laws.{AreSmall, LinesHaveFields, TextsOfSchedulesAreLawful}
+use Rattle.us_lawful.specs.Laws.{AreSmall, LinesHaveFields, TextsOfSchedulesAreLawful, TextsOfTracesAreLawful}
 
 -- The stored run.
 
@@ -181,6 +183,18 @@ stored_texts : LinesHaveFields → TextsOfSchedulesAreLawful → AreTables base 
 stored_texts fields texts lawful =
     texts base stored.cuts stored.counts lawful (refl, (refl, tt)) refl
     (fields base stored.cuts stored.counts lawful (refl, (refl, tt)) refl stored_small)
+
+-- So are those of any text of which a trace was read;
+read_texts : TextsOfTracesAreLawful → (t : Tables) (rounds : ℕ) (text : List ℕ) (trace : TraceAsks) → AreTables t →
+    rounds_fit t rounds ≡ true → Reads t rounds (Some text) (Ok trace) →
+    AreLawful (run_in t trace) (maps_text (output_of t (cuts_in t trace) trace.counts))
+    (report_text (output_of t (cuts_in t trace) trace.counts))
+read_texts law t rounds text trace lawful fits (read, told, fine, is) = law t rounds read trace lawful fits fine is
+
+-- but the lines of the stored run are wrong for a trace with a row more, which is unknown;
+other_trace : counts_hold (record stored { counts = record { unknown = 1; not_requestable = 0; late = 0 } }) told (at 2 0 0)
+    ≡ false
+other_trace = refl
 
 -- and a count of 65 bits has no line
 abbrev too_many : Counts

@@ -1,12 +1,12 @@
 -- What rounds plan first of a flow with a minimum rate, at small inputs.
-use Rattle.std.specs.Prelude.{◌≡◌, ℕ, zero, suc, ◌+◌, ◌*◌, ◌≤◌, ◌-◌, ◌<◌, List, [], ◌∷◌, length, map, refl}
+use Rattle.std.specs.Prelude.{◌≡◌, ℕ, zero, suc, ◌+◌, ◌*◌, ◌≤◌, ◌-◌, ◌<◌, List, [], ◌∷◌, ◌++◌, length, map, take, slice_get, slice_index, Some, refl}
 use Rattle.std.proofs.Common.{arith}
 use Rattle.us_flows.specs.Tables.{FlowTable}
 use Rattle.us_flows.specs.Lawful.{AreTables}
 use Rattle.us_bucket.specs.Levels.{reserve_in}
 use Rattle.us_bucket.specs.Allowances.{KeepsBound}
 use Rattle.us_bucket.specs.Spans.{credited}
-use Rattle.us_round.specs.Rounds.{opening}
+use Rattle.us_round.specs.Rounds.{State, opening}
 use Rattle.us_round.specs.ScheduleLaws.{begun_rounds, AreCuts}
 use Rattle.us_round.specs.MinimumRates.{min_limit, first_shares, IsMostNext, MinimumRatesAreKept}
 use Rattle.us_round.specs.RoundExamples.{round_steps, reserved, cuts, flow_with}
@@ -37,6 +37,14 @@ two_rounds law lawful asked long r inside =
     let bound : credited (first_shares reserved asked 1) r (r + 1) * 1280000 ≤ 1522 * 1280000 + (r + 1 - r) * (320 * 1280000) =
     (law reserved asked lawful long 1 second refl (omega arith)).keeps r (r + 1) (omega arith) inside in
     omega (arith, bound)
+
+-- and in each round no more bytes keep the bound behind the rounds before than are reserved
+reserve_is_most : MinimumRatesAreKept → AreTables reserved → (asked : List (List ℕ)) → AreCuts reserved asked →
+    (round bytes : ℕ) (s : State) → slice_get (begun_rounds (opening reserved) asked) round ≡ Some s →
+    KeepsBound (min_limit reserved second) (take round (first_shares reserved asked 1) ++ bytes ∷ []) →
+    bytes ≤ slice_index (map reserve_in s.reserves) 1
+reserve_is_most law lawful asked long round bytes s at keeps =
+    ((law reserved asked lawful long 1 second refl (omega arith)).most round s at).greatest bytes keeps
 
 -- Without a minimum rate the reserve is nothing, and not the most that a limit of 0 bit/s keeps: a burst.
 abbrev first : FlowTable
