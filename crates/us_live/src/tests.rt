@@ -4,6 +4,5 @@
 
 mod base;
 mod faults;
-mod rounds;
 mod threads;
 mod workers;

@@ -4,7 +4,7 @@ use super::base::{Case, answer_of, same};
 use super::rounds::BONDED;
 use std::alloc::{AllocError, Global};
 use std::sync::Wait;
-use std::sync::atomic::{AtomicUsize, Ordering};
+use std::sync::atomic::{AtomicU64, Ordering};
 use std::test::Fail;
 use std::thread::{Threads, yield_now};
 use us_crew::{Gate, OpenGate, Phase};
@@ -24,46 +24,42 @@ fn numbers_of_workers(rt: HostRuntime) -> Result<(), Fail> {
     Ok(())
 }
 
-/// A gate that holds each of some channels until all have entered, for at most so many turns: in each phase of each round.
+/// A gate that holds each channel, for at most so many turns, until all channels have entered in its round and phase. How
+/// often a channel has entered in a phase is its round there: of the word that counts them it has a digit of so many bits.
 #[derive(Drop)]
 struct Meeting {
-    channels: usize,
+    bits: usize,
+    /// One in each digit.
+    ones: u64,
     turns: u64,
-    fills: AtomicUsize,
-    builds: AtomicUsize,
-    missed: AtomicUsize,
+    fills: AtomicU64,
+    builds: AtomicU64,
+    alone: AtomicU64,
 }
 
 impl Meeting {
-    /// So many channels, which are a power of two.
-    fn of(channels: usize, turns: u64) -> Meeting {
+    fn of(channels: u8, turns: u64) -> Meeting {
+        let (bits, ones) = if channels == 2 {
+            (32, ONES_OF_TWO)
+        } else {
+            (4, ONES)
+        };
         Meeting {
-            channels,
+            bits,
+            ones,
             turns,
-            fills: AtomicUsize::new(0),
-            builds: AtomicUsize::new(0),
-            missed: AtomicUsize::new(0),
+            fills: AtomicU64::new(0),
+            builds: AtomicU64::new(0),
+            alone: AtomicU64::new(0),
         }
     }
 
-    /// Waits until all have entered: the number of the last of them ends in ones.
-    fn meet(&self, entered: &AtomicUsize) {
-        let last = entered.fetch_add(1, Ordering::SeqCst) | self.channels.saturating_sub(1);
-        for _ in 0..self.turns {
-            if entered.load(Ordering::SeqCst) > last {
-                return;
-            }
-            yield_now();
-        }
-        self.missed.fetch_add(1, Ordering::SeqCst);
-    }
-
-    /// How many entered in each phase, and how many came alone.
-    fn seen(&self) -> (usize, usize, usize) {
+    /// What is counted in each phase, and how often one was alone.
+    fn seen(&self) -> (u64, u64, u64) {
         (
             self.fills.load(Ordering::SeqCst),
             self.builds.load(Ordering::SeqCst),
-            self.missed.load(Ordering::SeqCst),
+            self.alone.load(Ordering::SeqCst),
         )
     }
 }
@@ -72,15 +68,32 @@ impl Gate for Meeting {
     ghost entered = { λ _ _ _. ⊤ };
 
     fn enter(&self, phase: Phase, index: usize) {
-        match phase {
-            Phase::Fill if index < self.channels => self.meet(&self.fills),
-            Phase::Build if index < self.channels => self.meet(&self.builds),
-            _ => {
-                self.missed.fetch_add(1, Ordering::SeqCst);
+        let counts = match phase {
+            Phase::Fill => &self.fills,
+            Phase::Build => &self.builds,
+            // A round collects nothing.
+            Phase::Collect => return,
+        };
+        let one = 1_u64 << (self.bits.wrapping_mul(index) % 64);
+        counts.fetch_add(one, Ordering::SeqCst);
+        for _ in 0..self.turns {
+            // Its own digit stays, so these are equal once all channels are in its round.
+            if counts.load(Ordering::SeqCst) % self.ones.max(1) == 0 {
+                return;
             }
+            yield_now();
         }
+        self.alone.fetch_add(1, Ordering::SeqCst);
     }
 }
+
+/// One in each digit of two, and of 16.
+const ONES_OF_TWO: u64 = 0x1_0000_0001;
+
+const ONES: u64 = 0x1111_1111_1111_1111;
+
+/// What is seen, and whether the answer is that of one worker.
+type Held = ((u64, u64, u64), bool);
 
 /// As many channels as there may be, in two rounds.
 pub(super) const ALL_CHANNELS: Case<'static> = Case {
@@ -106,16 +119,15 @@ const MANY_ROUNDS: Case<'static> = Case {
     ..BONDED
 };
 
-/// Makes the run of a case with so many workers, each of whom is held at its channel for at most so many turns. What is
-/// seen at the gate, and whether the answer is that of one worker.
+/// Makes the run of a case with so many workers, each of whom is held at its channel for at most so many turns.
 fn held<H: Threads + Wait + Sync>(
     threads: &H,
     alloc: Global,
     case: &Case<'_>,
     workers: usize,
     turns: u64,
-) -> Result<((usize, usize, usize), bool), AllocError> {
-    let gate = Meeting::of(usize::from(case.channels), turns);
+) -> Result<Held, AllocError> {
+    let gate = Meeting::of(case.channels, turns);
     let wanted = answer_of(threads, alloc, case, 1, &OpenGate)?;
     let answer = answer_of(threads, alloc, case, workers, &gate)?;
     Ok((gate.seen(), answer == wanted))
@@ -126,12 +138,12 @@ fn held<H: Threads + Wait + Sync>(
 fn workers_meet(rt: HostRuntime) -> Result<(), Fail> {
     let all = held(&rt, rt.alloc(), &ALL_CHANNELS, 16, 100_000_000)?;
     assert!(&rt;
-        all == ((32, 32, 0), true),
+        all == ((2 * ONES, 2 * ONES, 0), true),
         "one of 16 came alone, or not at all"
     );
     let two = held(&rt, rt.alloc(), &TWO_CHANNELS, 2, 100_000_000)?;
     assert!(&rt;
-        two == ((10, 10, 0), true),
+        two == ((5 * ONES_OF_TWO, 5 * ONES_OF_TWO, 0), true),
         "one of 2 came alone, or not at all"
     );
     Ok(())
@@ -142,16 +154,19 @@ fn workers_meet(rt: HostRuntime) -> Result<(), Fail> {
 fn workers_meet_without_limit(rt: HostRuntime) -> Result<(), Fail> {
     let two = held(&rt, rt.alloc(), &MANY_ROUNDS, 2, u64::MAX)?;
     assert!(&rt;
-        two == ((2_000, 2_000, 0), true),
+        two == ((1_000 * ONES_OF_TWO, 1_000 * ONES_OF_TWO, 0), true),
         "one of 2 came alone, or not at all"
     );
     Ok(())
 }
 
-/// One worker is held in vain at each channel.
+/// One worker is held in vain at each channel but the last.
 #[test]
 fn one_worker_is_alone(rt: HostRuntime) -> Result<(), Fail> {
     let one = held(&rt, rt.alloc(), &BONDED, 1, 10)?;
-    assert!(&rt; one == ((4, 4, 4), true), "one worker met another");
+    assert!(&rt;
+        one == ((2 * ONES_OF_TWO, 2 * ONES_OF_TWO, 4), true),
+        "one worker met another"
+    );
     Ok(())
 }
