@@ -69,10 +69,7 @@ fn verdict_on_own<H: Threads + Wait + Sync>(
         &mut maps,
         &mut report,
     )?;
-    let trace = match Trace::read(alloc, &mut FromRead::new(text), config, rounds) {
-        Ok(trace) => trace,
-        Err(fault) => return Err(RunFault::Trace(fault)),
-    };
+    let trace = Trace::read(alloc, &mut FromRead::new(text), config, rounds)?;
     let maps = maps.into_inner();
     let report = report.into_inner();
     own_texts_hold();
