@@ -10,8 +10,7 @@ pub enum CrewFault<E> {
     Workers,
     /// CR2: want of memory.
     NoMemory,
-    /// CR3: an item, by its number from 0, and a fault that the work may answer for it; no earlier item has one that it must
-    /// answer.
+    /// CR3: an item, by its number from 0, with a fault that the work may answer for it; none before it must fail.
     Item(usize, E),
 }
 
