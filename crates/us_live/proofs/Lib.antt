@@ -1,3 +1,4 @@
 pub mod ScheduleLemmas
 pub mod LogLemmas
 pub mod LiveLemmas
+pub mod SendLemmas

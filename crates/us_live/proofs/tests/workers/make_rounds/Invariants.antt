@@ -1,4 +1,4 @@
-use Rattle.std.specs.Prelude.{◌≡◌, ◌×◌, ◌≤◌}
+use Rattle.std.specs.Prelude.{◌≡◌}
 use Rattle.us_live.specs.Lives.{Feeds}
 use Rattle.us_live.proofs.tests.workers.make_rounds.Given as goal
 
