@@ -113,7 +113,7 @@ static HELD: &[(Held, u32)] = &[
             first: 0,
             last: 63,
         },
-        20,
+        5,
     ),
     (
         Held {
