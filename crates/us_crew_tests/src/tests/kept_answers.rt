@@ -1,4 +1,5 @@
-use super::base::{Case, DOUBLED, REFUSED, same};
+use super::answers::CASES;
+use super::base::same;
 use super::kept_base::by_kept;
 use us_crew::OpenGate;
 
@@ -6,11 +7,8 @@ use us_crew::OpenGate;
 /// that is refused, as where workers are started anew.
 #[test]
 fn kept_answers(rt: HostRuntime) {
-    for case in [DOUBLED, REFUSED] {
-        for workers in [1, 2, 4, 16, 64] {
-            let case = Case { workers, ..case };
-            let found = by_kept(&rt, rt.alloc(), &case, OpenGate, 3);
-            same(&rt, workers, found, case.kept);
-        }
+    for case in CASES {
+        let found = by_kept(&rt, rt.alloc(), case, OpenGate, 3);
+        same(&rt, found, case.kept);
     }
 }

@@ -1,6 +1,6 @@
 ghost use Rattle.std.specs.Prelude.{◌/◌, ⊤};
 
-use super::base::{Case, Doubling, Told, numbers_to, tell};
+use super::base::{Case, Doubling, NO_MEMORY, Told, numbers_to, tell};
 use std::alloc::Global;
 use std::sync::Wait;
 use std::thread::{Parker, Threads, yield_now};
@@ -54,18 +54,23 @@ struct Rounds<'a, G: Gate> {
 }
 
 impl<'a, G: Gate + Copy + Drop> Rounds<'a, G> {
-    /// A round, the digits of whose phases stand one behind the other. A fault of the first keeps nobody from the second.
+    /// A round: what its phases tell stands one behind the other. A fault of the first keeps nobody from the second.
     fn round<H: Wait>(&self, crew: &Crew<'_, H>) -> Told {
         for _ in 0..self.pause {
             yield_now();
         }
         let front = self.doubled(crew);
-        let back = self.halved(crew)?;
-        Ok(front?.wrapping_mul(0x10_0000).wrapping_add(back))
+        let back = self.halved(crew);
+        if front == NO_MEMORY || back == NO_MEMORY {
+            return NO_MEMORY;
+        }
+        front.wrapping_mul(0x10_0000).wrapping_add(back)
     }
 
     fn doubled<H: Wait>(&self, crew: &Crew<'_, H>) -> Told {
-        let numbers = numbers_to(self.alloc, self.case.numbers)?;
+        let Ok(numbers) = numbers_to(self.alloc, self.case.numbers) else {
+            return NO_MEMORY;
+        };
         let most = self.case.most;
         tell(map_kept(
             crew,
@@ -79,7 +84,9 @@ impl<'a, G: Gate + Copy + Drop> Rounds<'a, G> {
     }
 
     fn halved<H: Wait>(&self, crew: &Crew<'_, H>) -> Told {
-        let numbers = numbers_to(self.alloc, self.case.numbers)?;
+        let Ok(numbers) = numbers_to(self.alloc, self.case.numbers) else {
+            return NO_MEMORY;
+        };
         tell(map_kept(
             crew,
             self.mail.halves,
@@ -145,8 +152,12 @@ pub(super) fn by_plan<H: Threads + Wait + Sync, G: Gate + Copy + Sync + Send + D
     plan: Plan,
 ) -> Told {
     let others = case.workers.saturating_sub(1);
-    let doubles = Mailboxes::open(alloc, others)?;
-    let halves = Mailboxes::open(alloc, others)?;
+    let Ok(doubles) = Mailboxes::open(alloc, others) else {
+        return NO_MEMORY;
+    };
+    let Ok(halves) = Mailboxes::open(alloc, others) else {
+        return NO_MEMORY;
+    };
     let mail = BothMail {
         doubles: &doubles,
         halves: &halves,
