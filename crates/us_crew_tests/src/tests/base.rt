@@ -23,6 +23,14 @@ const NO_WORKERS: Told = u64::MAX - 1;
 /// That an item was refused: behind the one, in 16 bits each, stand its index and its number.
 const REFUSED_ITEM: Told = 0x1_0000_0000;
 
+/// That the item with this index was refused.
+fn refused(index: usize) -> Told {
+    match u16::try_from(index) {
+        Ok(index) => REFUSED_ITEM | u64::from(index) << 16,
+        Err(_) => REFUSED_ITEM,
+    }
+}
+
 /// The one assertion of these tests.
 pub(super) fn same(rt: &impl Abort, found: Told, wanted: Told) {
     assert_eq!(rt; found, wanted);
@@ -62,7 +70,7 @@ pub(super) struct Case {
     pub(super) workers: usize,
     pub(super) phase: Phase,
     pub(super) answer: Told,
-    /// The answer of a crew that halves the numbers too: those digits follow.
+    /// What both phases of a round tell, where a crew is kept.
     pub(super) kept: Told,
 }
 
@@ -72,14 +80,14 @@ pub(super) const DOUBLED: Case = Case {
     workers: 3,
     phase: Phase::Fill,
     answer: 0x2468a,
-    kept: 0x2468a_01122,
+    kept: 0x2468a_2468a,
 };
 
 /// Items 2, 3 and 4 are refused.
 pub(super) const REFUSED: Case = Case {
     most: 2,
     answer: 0x1_0002_0003,
-    kept: 0x1_0002_0003_01122,
+    kept: 0x10_0021_0032_0003,
     ..DOUBLED
 };
 
@@ -120,9 +128,7 @@ pub(super) fn tell(answer: Answered) -> Told {
         Ok(numbers) => digits(&numbers),
         Err(CrewFault::Workers) => NO_WORKERS,
         Err(CrewFault::NoMemory) => NO_MEMORY,
-        Err(CrewFault::Item(index, number)) => REFUSED_ITEM
-            .wrapping_add((index as u64).wrapping_mul(0x1_0000))
-            .wrapping_add(number),
+        Err(CrewFault::Item(index, number)) => refused(index) | number,
     }
 }
 

@@ -90,7 +90,7 @@ const ALL: Case = Case {
     workers: 64,
     phase: Phase::Collect,
     answer: 0x8acf_1357_9be0_2460,
-    kept: 0xd025_7ad0_24f0_0110,
+    kept: 0xc048_d159_e1e0_2460,
     ..DOUBLED
 };
 
@@ -98,7 +98,7 @@ const FOUR: Case = Case {
     numbers: 4,
     workers: 4,
     answer: 0x2468,
-    kept: 0x2468_00112,
+    kept: 0x2468_02468,
     ..DOUBLED
 };
 

@@ -60,14 +60,14 @@ impl Gate for LastOnes {
 const TWO: Case = Case {
     numbers: 2,
     workers: 2,
-    kept: 0x24_00001,
+    kept: 0x24_00024,
     ..DOUBLED
 };
 
 const THREE: Case = Case {
     numbers: 3,
     workers: 3,
-    kept: 0x246_00011,
+    kept: 0x246_00246,
     ..DOUBLED
 };
 
