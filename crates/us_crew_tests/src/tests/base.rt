@@ -10,30 +10,13 @@ use us_slots::NoMemory;
 /// What is answered for numbers.
 pub(super) type Answered = Result<Vec<u64>, CrewFault<u64>>;
 
-/// An answer as these tests tell it, which owns nothing: the numbers as digits to base 16, of which the last 16 are told,
-/// or the fault.
-pub(super) type Told = u64;
-
-/// That memory was wanting.
-pub(super) const NO_MEMORY: Told = u64::MAX;
-
-/// That the number of workers was refused.
-const NO_WORKERS: Told = u64::MAX - 1;
-
-/// That an item was refused: behind the one, in 16 bits each, stand its index and its number.
-const REFUSED_ITEM: Told = 0x1_0000_0000;
-
-/// That the item with this index was refused.
-fn refused(index: usize) -> Told {
-    match u16::try_from(index) {
-        Ok(index) => REFUSED_ITEM | u64::from(index) << 16,
-        Err(_) => REFUSED_ITEM,
-    }
-}
+/// An answer as these tests tell it: the numbers as digits to base 16, of which the last 16 are told, or the fault. It
+/// owns nothing.
+pub(super) type Told = Result<u64, CrewFault<u64>>;
 
 /// The one assertion of these tests.
-pub(super) fn same(rt: &impl Abort, found: Told, wanted: Told) {
-    assert_eq!(rt; found, wanted);
+pub(super) fn same(rt: &impl Abort, workers: usize, found: Told, wanted: Told) {
+    assert_eq!(rt; found, wanted, "{workers} workers");
 }
 
 /// Doubles numbers, and refuses each above `most` with that number. Its clauses don't say so, as those of a work that
@@ -70,7 +53,7 @@ pub(super) struct Case {
     pub(super) workers: usize,
     pub(super) phase: Phase,
     pub(super) answer: Told,
-    /// What both phases of a round tell, where a crew is kept.
+    /// The answer of a crew that halves the numbers too: those digits follow.
     pub(super) kept: Told,
 }
 
@@ -79,15 +62,15 @@ pub(super) const DOUBLED: Case = Case {
     most: u64::MAX,
     workers: 3,
     phase: Phase::Fill,
-    answer: 0x2468a,
-    kept: 0x2468a_2468a,
+    answer: Ok(0x2468a),
+    kept: Ok(0x2468a_01122),
 };
 
 /// Items 2, 3 and 4 are refused.
 pub(super) const REFUSED: Case = Case {
     most: 2,
-    answer: 0x1_0002_0003,
-    kept: 0x10_0021_0032_0003,
+    answer: Err(CrewFault::Item(2, 3)),
+    kept: Err(CrewFault::Item(2, 3)),
     ..DOUBLED
 };
 
@@ -107,9 +90,7 @@ pub(super) fn map_case<H: Threads + Wait + Sync, G: Gate + Sync>(
     case: &Case,
     gate: &G,
 ) -> Told {
-    let Ok(numbers) = numbers_to(alloc, case.numbers) else {
-        return NO_MEMORY;
-    };
+    let numbers = numbers_to(alloc, case.numbers)?;
     let work = Doubling { most: case.most };
     tell(map_owned(
         threads,
@@ -124,19 +105,9 @@ pub(super) fn map_case<H: Threads + Wait + Sync, G: Gate + Sync>(
 
 /// Tells of an answer.
 pub(super) fn tell(answer: Answered) -> Told {
-    match answer {
-        Ok(numbers) => digits(&numbers),
-        Err(CrewFault::Workers) => NO_WORKERS,
-        Err(CrewFault::NoMemory) => NO_MEMORY,
-        Err(CrewFault::Item(index, number)) => refused(index) | number,
-    }
-}
-
-/// Numbers as digits to base 16.
-fn digits(numbers: &[u64]) -> u64 {
     let mut told = 0_u64;
-    for number in numbers {
+    for number in &answer? {
         told = told.wrapping_mul(16).wrapping_add(*number);
     }
-    told
+    Ok(told)
 }

@@ -22,11 +22,8 @@ impl Counting {
         }
     }
 
-    /// The counts, where the answer is right, else none.
-    fn told_beside(&self, is_right: bool) -> u64 {
-        self.counts
-            .load(Ordering::SeqCst)
-            .wrapping_mul(u64::from(is_right))
+    fn told(&self) -> u64 {
+        self.counts.load(Ordering::SeqCst)
     }
 }
 
@@ -79,16 +76,20 @@ fn entered<H: Threads + Wait + Sync>(
         phase,
         ..DOUBLED
     };
-    let told = map_case(threads, alloc, &case, &gate);
-    gate.told_beside(told == case.answer)
+    map_case(threads, alloc, &case, &gate)?;
+    Ok(gate.told())
 }
 
 /// Each item is entered for once, in its phase and by its number.
 #[test]
 fn entered_once(rt: HostRuntime) {
     for (workers, phase, wanted) in ENTERED {
-        let found = entered(&rt, rt.alloc(), *workers, *phase);
-        same(&rt, found, *wanted);
+        same(
+            &rt,
+            *workers,
+            entered(&rt, rt.alloc(), *workers, *phase),
+            Ok(*wanted),
+        );
     }
 }
 
@@ -96,14 +97,14 @@ fn entered_once(rt: HostRuntime) {
 fn kept_entered<H: Threads + Wait + Sync>(threads: &H, alloc: Global, workers: usize) -> Told {
     let gate = Counting::new();
     let case = Case { workers, ..DOUBLED };
-    let told = by_kept(threads, alloc, &case, &gate, 3);
-    gate.told_beside(told == case.kept)
+    by_kept(threads, alloc, &case, &gate, 3)?;
+    Ok(gate.told())
 }
 
 #[test]
 fn kept_entered_once(rt: HostRuntime) {
     for workers in [1, 4, 64] {
         let found = kept_entered(&rt, rt.alloc(), workers);
-        same(&rt, found, 0x33333_33333_00000);
+        same(&rt, workers, found, Ok(0x33333_33333_00000));
     }
 }

@@ -1,6 +1,6 @@
 ghost use Rattle.std.specs.Prelude.{⊤};
 
-use super::base::{Case, DOUBLED, NO_MEMORY, map_case, same};
+use super::base::{Case, DOUBLED, Told, map_case, same};
 use super::kept_base::by_kept;
 use std::alloc::Global;
 use std::sync::Wait;
@@ -53,10 +53,9 @@ impl Meeting {
         false
     }
 
-    /// How many came alone, and one more where the answer isn't right.
-    fn missed_beside(&self, is_right: bool) -> u64 {
-        let wrong = u64::from(!is_right);
-        self.missed.load(Ordering::SeqCst).wrapping_add(wrong)
+    /// How many came alone.
+    fn missed(&self) -> u64 {
+        self.missed.load(Ordering::SeqCst)
     }
 }
 
@@ -89,16 +88,14 @@ const ALL: Case = Case {
     numbers: 64,
     workers: 64,
     phase: Phase::Collect,
-    answer: 0x8acf_1357_9be0_2460,
-    kept: 0xc048_d159_e1e0_2460,
+    kept: Ok(0xd025_7ad0_24f0_0110),
     ..DOUBLED
 };
 
 const FOUR: Case = Case {
     numbers: 4,
     workers: 4,
-    answer: 0x2468,
-    kept: 0x2468_02468,
+    kept: Ok(0x246800112),
     ..DOUBLED
 };
 
@@ -152,13 +149,11 @@ static HELD: &[(Held, u32)] = &[
     ),
 ];
 
-/// How many workers of a case came alone; and one more where they answer otherwise.
-fn missed<H: Threads + Wait + Sync>(threads: &H, alloc: Global, held: &Held, turns: u64) -> u64 {
-    let Ok(gate) = Meeting::of(alloc, held, turns) else {
-        return NO_MEMORY;
-    };
-    let told = map_case(threads, alloc, &held.case, &gate);
-    gate.missed_beside(told == held.case.answer)
+/// How many workers of a case came alone.
+fn missed<H: Threads + Wait + Sync>(threads: &H, alloc: Global, held: &Held, turns: u64) -> Told {
+    let gate = Meeting::of(alloc, held, turns)?;
+    map_case(threads, alloc, &held.case, &gate)?;
+    Ok(gate.missed())
 }
 
 /// Each of all workers is held before its item until all are, and the items on either side of each cut are held until
@@ -167,7 +162,7 @@ fn missed<H: Threads + Wait + Sync>(threads: &H, alloc: Global, held: &Held, tur
 fn workers_meet(rt: HostRuntime) {
     for (held, _) in HELD {
         let found = missed(&rt, rt.alloc(), held, 100_000_000);
-        same(&rt, found, 0);
+        same(&rt, held.case.workers, found, Ok(0));
     }
 }
 
@@ -182,7 +177,7 @@ fn one_worker_is_alone(rt: HostRuntime) {
         first: 0,
         last: 1,
     };
-    same(&rt, missed(&rt, rt.alloc(), &held, 1_000), 1);
+    same(&rt, 1, missed(&rt, rt.alloc(), &held, 1_000), Ok(1));
 }
 
 /// Workers meet as well where the gate has no limit, a thousand times over, and all that there may be some times.
@@ -191,7 +186,7 @@ fn workers_meet_without_limit(rt: HostRuntime) {
     for (held, times) in HELD {
         for _ in 0..*times {
             let found = missed(&rt, rt.alloc(), held, u64::MAX);
-            same(&rt, found, 0);
+            same(&rt, held.case.workers, found, Ok(0));
         }
     }
 }
@@ -246,12 +241,11 @@ fn kept_missed<H: Threads + Wait + Sync>(
     alloc: Global,
     held: &Held,
     rounds: u32,
-) -> u64 {
-    let Ok(gate) = Meeting::of(alloc, held, u64::MAX) else {
-        return NO_MEMORY;
-    };
+) -> Told {
+    let gate = Meeting::of(alloc, held, u64::MAX)?;
     let told = by_kept(threads, alloc, &held.case, &gate, rounds);
-    gate.missed_beside(told == held.case.kept)
+    let is_other = u64::from(told != held.case.kept);
+    Ok(gate.missed().wrapping_add(is_other))
 }
 
 /// Workers that are kept meet in each phase of each round, without a limit.
@@ -259,6 +253,6 @@ fn kept_missed<H: Threads + Wait + Sync>(
 fn kept_workers_meet(rt: HostRuntime) {
     for (held, rounds) in KEPT {
         let found = kept_missed(&rt, rt.alloc(), held, *rounds);
-        same(&rt, found, 0);
+        same(&rt, held.case.workers, found, Ok(0));
     }
 }

@@ -1,5 +1,4 @@
-use super::answers::CASES;
-use super::base::same;
+use super::base::{Case, DOUBLED, REFUSED, same};
 use super::kept_base::by_kept;
 use us_crew::OpenGate;
 
@@ -7,8 +6,11 @@ use us_crew::OpenGate;
 /// that is refused, as where workers are started anew.
 #[test]
 fn kept_answers(rt: HostRuntime) {
-    for case in CASES {
-        let found = by_kept(&rt, rt.alloc(), case, OpenGate, 3);
-        same(&rt, found, case.kept);
+    for case in [DOUBLED, REFUSED] {
+        for workers in [1, 2, 4, 16, 64] {
+            let case = Case { workers, ..case };
+            let found = by_kept(&rt, rt.alloc(), &case, OpenGate, 3);
+            same(&rt, workers, found, case.kept);
+        }
     }
 }

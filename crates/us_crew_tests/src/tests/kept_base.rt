@@ -1,60 +1,91 @@
-ghost use Rattle.std.specs.Prelude.{⊤};
+ghost use Rattle.std.specs.Prelude.{◌/◌, ⊤};
 
-use super::base::{Case, Doubling, NO_MEMORY, Told, numbers_to, tell};
+use super::base::{Case, Doubling, Told, numbers_to, tell};
 use std::alloc::Global;
 use std::sync::Wait;
 use std::thread::{Parker, Threads, yield_now};
-use us_crew::{Beside, Crew, Gate, Mail, Mailboxes, Phase, map_kept, with_crew};
+use us_crew::{Beside, Crew, Gate, Mail, Mailboxes, Phase, Work, map_kept, with_crew};
+
+/// Halves numbers, and refuses none.
+#[derive(Clone, Copy)]
+pub(super) struct Halving;
+
+impl Work<u64, u64, u64> for Halving {
+    ghost accepts = { λ _ _ _. ⊤ };
+
+    ghost value = { λ _ _ number. number / 2 };
+
+    ghost may_fail = { λ _ _ _ _. ⊥ };
+
+    ghost must_fail = { λ _ _ _. ⊥ };
+
+    fn run(&self, _alloc: Global, _index: usize, number: u64) -> Result<u64, u64> {
+        Ok(number / 2)
+    }
+}
 
 type Doubles<G> = Mailboxes<Doubling, G, u64, u64, u64>;
 
-/// Where helpers find the tasks of both phases.
+type Halves<G> = Mailboxes<Halving, G, u64, u64, u64>;
+
+/// Where helpers find the tasks of both.
 #[derive(Drop)]
 struct BothMail<'a, G: Gate> {
-    fronts: &'a Doubles<G>,
-    backs: &'a Doubles<G>,
+    doubles: &'a Doubles<G>,
+    halves: &'a Halves<G>,
 }
 
 impl<'a, G: Gate + Drop> Mail for BothMail<'a, G> {
     fn serve(&self, worker: usize, owner: &Parker) {
-        self.fronts.serve(worker, owner);
-        self.backs.serve(worker, owner);
+        self.doubles.serve(worker, owner);
+        self.halves.serve(worker, owner);
     }
 }
 
-/// So many rounds by a crew that is kept, of two phases.
+/// So many rounds by a crew that is kept: two phases, of different works.
 #[derive(Drop)]
 struct Rounds<'a, G: Gate> {
     alloc: Global,
     case: &'a Case,
     gate: G,
-    plan: Plan,
+    rounds: u32,
+    pause: u32,
     mail: &'a BothMail<'a, G>,
 }
 
 impl<'a, G: Gate + Copy + Drop> Rounds<'a, G> {
-    /// A round: what its phases tell stands one behind the other. A fault of the first keeps nobody from the second.
+    /// A round, the digits of whose phases stand one behind the other. A fault of the first keeps nobody from the second.
     fn round<H: Wait>(&self, crew: &Crew<'_, H>) -> Told {
-        let front = self.told(crew, self.mail.fronts, self.case.phase);
-        let back = self.told(crew, self.mail.backs, Phase::Build);
-        if front == NO_MEMORY || back == NO_MEMORY {
-            return NO_MEMORY;
+        for _ in 0..self.pause {
+            yield_now();
         }
-        front.wrapping_mul(0x10_0000).wrapping_add(back)
+        let front = self.doubled(crew);
+        let back = self.halved(crew)?;
+        Ok(front?.wrapping_mul(0x10_0000).wrapping_add(back))
     }
 
-    /// What a phase answers.
-    fn told<H: Wait>(&self, crew: &Crew<'_, H>, mailboxes: &Doubles<G>, phase: Phase) -> Told {
-        let Ok(numbers) = numbers_to(self.alloc, self.case.numbers) else {
-            return NO_MEMORY;
-        };
+    fn doubled<H: Wait>(&self, crew: &Crew<'_, H>) -> Told {
+        let numbers = numbers_to(self.alloc, self.case.numbers)?;
         let most = self.case.most;
         tell(map_kept(
             crew,
-            mailboxes,
+            self.mail.doubles,
             self.alloc,
             Doubling { most },
-            phase,
+            self.case.phase,
+            numbers,
+            self.gate,
+        ))
+    }
+
+    fn halved<H: Wait>(&self, crew: &Crew<'_, H>) -> Told {
+        let numbers = numbers_to(self.alloc, self.case.numbers)?;
+        tell(map_kept(
+            crew,
+            self.mail.halves,
+            self.alloc,
+            Halving,
+            Phase::Build,
             numbers,
             self.gate,
         ))
@@ -70,21 +101,13 @@ impl<'a, G: Gate + Copy + Drop, H: Wait> Beside<H> for Rounds<'a, G> {
     ghost gives = { λ _ _. ⊤ };
 
     fn run(self, crew: &Crew<'_, H>) -> Told {
-        let mut told = self.case.kept;
-        for _ in 0..self.plan.rounds {
-            if told == self.case.kept {
-                pause(self.plan.pause);
-                told = self.round(crew);
+        for _ in 1..self.rounds {
+            let told = self.round(crew);
+            if told != self.case.kept {
+                return told;
             }
         }
-        told
-    }
-}
-
-/// Lets so many turns pass.
-fn pause(turns: u32) {
-    for _ in 0..turns {
-        yield_now();
+        self.round(crew)
     }
 }
 
@@ -122,15 +145,11 @@ pub(super) fn by_plan<H: Threads + Wait + Sync, G: Gate + Copy + Sync + Send + D
     plan: Plan,
 ) -> Told {
     let others = case.workers.saturating_sub(1);
-    let Ok(fronts) = Mailboxes::open(alloc, others) else {
-        return NO_MEMORY;
-    };
-    let Ok(backs) = Mailboxes::open(alloc, others) else {
-        return NO_MEMORY;
-    };
+    let doubles = Mailboxes::open(alloc, others)?;
+    let halves = Mailboxes::open(alloc, others)?;
     let mail = BothMail {
-        fronts: &fronts,
-        backs: &backs,
+        doubles: &doubles,
+        halves: &halves,
     };
     with_crew(
         threads,
@@ -140,7 +159,8 @@ pub(super) fn by_plan<H: Threads + Wait + Sync, G: Gate + Copy + Sync + Send + D
             alloc,
             case,
             gate,
-            plan,
+            rounds: plan.rounds,
+            pause: plan.pause,
             mail: &mail,
         },
     )

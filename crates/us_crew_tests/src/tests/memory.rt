@@ -1,12 +1,12 @@
-use super::base::{Case, DOUBLED, NO_MEMORY, Told, map_case, same};
+use super::base::{Case, DOUBLED, Told, map_case, same};
 use super::kept_base::by_kept;
 use std::process::Abort;
-use us_crew::OpenGate;
+use us_crew::{CrewFault, OpenGate};
 
 /// The items are answered whole, or it is want of memory.
 fn is_whole(rt: &impl Abort, found: Told, wanted: Told) {
-    if found != NO_MEMORY {
-        same(rt, found, wanted);
+    if found != Err(CrewFault::NoMemory) {
+        same(rt, DOUBLED.workers, found, wanted);
     }
 }
 

@@ -1,9 +1,9 @@
-use super::base::{Doubling, NO_MEMORY, Told, numbers_to, same};
+use super::base::{Doubling, Told, numbers_to, same};
 use rayon::prelude::*;
 use std::alloc::Global;
 use std::sync::Wait;
 use std::thread::Threads;
-use us_crew::{CrewFault, OpenGate, Phase, map_owned};
+use us_crew::{OpenGate, Phase, map_owned};
 use us_slots::NoMemory;
 
 /// Twice each number, by `rayon`.
@@ -20,19 +20,15 @@ fn doubled(
 }
 
 /// 1 if `rayon` collects the same of 5,000 numbers in their order.
-fn are_the_same(
-    threads: &(impl Threads + Wait + Sync),
-    alloc: Global,
-) -> Result<Told, CrewFault<u64>> {
+fn is_the_same(threads: &(impl Threads + Wait + Sync), alloc: Global) -> Told {
     let numbers = numbers_to(alloc, 5_000)?;
     let wanted = doubled(threads, alloc, &numbers)?;
     let work = Doubling { most: u64::MAX };
     let found = map_owned(threads, alloc, &work, Phase::Build, numbers, 7, &OpenGate)?;
-    Ok(Told::from(found.as_slice() == wanted.as_slice()))
+    Ok(u64::from(found.as_slice() == wanted.as_slice()))
 }
 
 #[test]
 fn as_rayon_collects(rt: HostRuntime) {
-    let found = are_the_same(&rt, rt.alloc()).unwrap_or(NO_MEMORY);
-    same(&rt, found, 1);
+    same(&rt, 7, is_the_same(&rt, rt.alloc()), Ok(1));
 }

@@ -60,14 +60,14 @@ impl Gate for LastOnes {
 const TWO: Case = Case {
     numbers: 2,
     workers: 2,
-    kept: 0x24_00024,
+    kept: Ok(0x2400001),
     ..DOUBLED
 };
 
 const THREE: Case = Case {
     numbers: 3,
     workers: 3,
-    kept: 0x246_00246,
+    kept: Ok(0x24600011),
     ..DOUBLED
 };
 
@@ -79,8 +79,8 @@ fn woken<H: Threads + Wait + Sync>(threads: &H, alloc: Global, case: &Case) -> T
         pause: LONG,
         helpers: 1,
     };
-    let told = by_plan(threads, alloc, case, &gate, plan);
-    told.wrapping_add(gate.missed.load(Ordering::SeqCst))
+    let told = by_plan(threads, alloc, case, &gate, plan)?;
+    Ok(told.wrapping_add(gate.missed.load(Ordering::SeqCst)))
 }
 
 /// Helpers fall asleep before each round, and the owner does while the last item stays: each is woken. And one helper
@@ -89,6 +89,6 @@ fn woken<H: Threads + Wait + Sync>(threads: &H, alloc: Global, case: &Case) -> T
 fn sleepers_are_woken(rt: HostRuntime) {
     for case in [TWO, THREE] {
         let found = woken(&rt, rt.alloc(), &case);
-        same(&rt, found, case.kept);
+        same(&rt, case.workers, found, case.kept);
     }
 }
