@@ -226,16 +226,16 @@ const MEMORY: &str = "Status 5:\n  fault memory      out of memory";
 const CONFIG_FAULTS: &str = "  fault C1          not a TOML document of at most 4,194,304 bytes
   fault C2 PLACE    a key is missing in PLACE
   fault C3 PLACE    a value is out of its range, or a key is unknown, in PLACE
-  fault C4 PLACE    no channel has an id that is named in PLACE
-  fault C5 PLACE    a duplicate id in PLACE
-  fault C6 PLACE    a SID of another cluster is on the same channel in PLACE
-  fault C7 PLACE    a cluster doesn't have one SID for each channel in PLACE
-  fault C8 PLACE    the round isn't a whole number of minislots of PLACE
-  fault C9 PLACE    the reserves don't fit in the MAPs of PLACE
-  fault C10 PLACE   the jitter is not below the interval in PLACE
-  fault C11 PLACE   a grant is longer than the MAP in PLACE
-  fault C12 PLACE   segment headers are off on several channels in PLACE
-  fault C14 PLACE   the minimum rate is above the maximum rate in PLACE
+  fault C4 PLACE    an id in channels or channel that no channel has, in PLACE
+  fault C5 PLACE    a duplicate id, or a duplicate in channels, in PLACE
+  fault C6 PLACE    a SID in clusters is another cluster's on the same channel in PLACE
+  fault C7 PLACE    a list in clusters doesn't have one SID for each of channels in PLACE
+  fault C8 PLACE    round_ticks isn't a multiple of the minislot, minislot_log2, of PLACE
+  fault C9 PLACE    contention_minislots and maintenance_minislots don't fit in the MAPs of PLACE
+  fault C10 PLACE   jitter_us is not below interval_us in PLACE
+  fault C11 PLACE   grant_bytes, a poll or station_minislots is longer than the MAP in PLACE
+  fault C12 PLACE   headers is false with several channels in PLACE
+  fault C14 PLACE   min_rate is above rate in PLACE
 ";
 
 /// The faults of the numbers of a run.

@@ -1,4 +1,4 @@
-ghost use Rattle.std.specs.Prelude.{◌≡◌, ◌≤◌, ◌<◌, ◌*◌, length, map, Some, IfOk};
+ghost use Rattle.std.specs.Prelude.{◌≡◌, ◌≤◌, ◌<◌, ◌*◌, ◌+◌, length, map, Some, IfOk, true, false};
 ghost use Rattle.std.specs.List.{AllByRecursion};
 ghost use Rattle.us_slots.specs.Times.{minislot_ticks};
 ghost use Rattle.us_flows.specs.Tables;
@@ -181,6 +181,15 @@ impl Config {
         ensures lawful { AreTables self.now }
     {
         rounds >= 1 && u64::from(rounds) * u64::from(self.round_ticks) <= MAX_RUN_TICKS
+    }
+
+    /// The most rounds that fit into a run.
+    pub fn most_rounds(&self) -> u32
+        ensures fits { Tables.rounds_fit self.now result ≡ true }
+        ensures most { Tables.rounds_fit self.now (result + 1) ≡ false }
+        ensures lawful { AreTables self.now }
+    {
+        (MAX_RUN_TICKS / u64::from(self.round_ticks)) as u32
     }
 
     /// The turns of each round, in order: by priority falling, then by flow id rising, then by cluster.

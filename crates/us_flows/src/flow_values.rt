@@ -190,8 +190,8 @@ impl<'a> FlowValues<'a> {
     }
 }
 
-/// The scheduling type of a flow's table.
-fn kind_at(table: &Table) -> SchedulingType
+/// The scheduling type of a flow's table; that of best effort where the table tells none.
+pub fn kind_at(table: &Table) -> SchedulingType
     ensures { result ≡ Reading.kind_at (table_view table.now) }
 {
     match number_at(table, "type") {

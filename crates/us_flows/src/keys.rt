@@ -13,7 +13,7 @@ use crate::ranges::{
 
 /// What the value of a key must be. Of two numbers the first is the least and the second the greatest.
 #[derive(Clone, Copy)]
-pub(crate) enum Rule {
+pub enum Rule {
     /// A whole number.
     Number(u32, u32),
     /// A whole number whose key may be left out.
@@ -35,11 +35,11 @@ pub(crate) enum Rule {
 }
 
 /// A key of a table, and the rule of its value.
-pub(crate) type Key = (&'static str, Rule);
+pub type Key = (&'static str, Rule);
 
 /// The scheduling types whose flows have a key.
 #[derive(Clone, Copy)]
-pub(crate) enum Types {
+pub enum Types {
     /// All.
     All,
     /// Those that make requests: 2, 3 and 4.
@@ -52,7 +52,7 @@ pub(crate) enum Types {
 
 impl Types {
     /// Whether a flow of this type has the key.
-    pub(crate) fn have(self, kind: SchedulingType) -> bool
+    pub fn have(self, kind: SchedulingType) -> bool
         ensures { result ≡ has_key self kind }
     {
         match self {
@@ -65,7 +65,7 @@ impl Types {
 }
 
 /// A key of flows, the scheduling types that have it, and the rule of its value.
-pub(crate) type FlowKey = (&'static str, Types, Rule);
+pub type FlowKey = (&'static str, Types, Rule);
 
 static TOP_KEYS: [Key; 5] = [
     ("round_ticks", Rule::Number(1, MAX_ROUND_TICKS)),
@@ -176,7 +176,7 @@ static STATION_KEYS: [Key; 6] = [
 
 /// The keys of the top level.
 #[tactic(auto, unfolding(crate::specs::Keys::top_keys))]
-pub(crate) fn top_keys() -> &'static [Key]
+pub fn top_keys() -> &'static [Key]
     ensures { keys_of result.now ≡ top_keys }
 {
     TOP_KEYS.as_slice()
@@ -184,7 +184,7 @@ pub(crate) fn top_keys() -> &'static [Key]
 
 /// The keys of a channel.
 #[tactic(auto, unfolding(crate::specs::Keys::channel_keys))]
-pub(crate) fn channel_keys() -> &'static [Key]
+pub fn channel_keys() -> &'static [Key]
     ensures { keys_of result.now ≡ channel_keys }
 {
     CHANNEL_KEYS.as_slice()
@@ -192,7 +192,7 @@ pub(crate) fn channel_keys() -> &'static [Key]
 
 /// The keys of a profile.
 #[tactic(auto, unfolding(crate::specs::Keys::profile_keys))]
-pub(crate) fn profile_keys() -> &'static [Key]
+pub fn profile_keys() -> &'static [Key]
     ensures { keys_of result.now ≡ profile_keys }
 {
     &PROFILE_KEYS[..PROFILE_KEYS.len() - 1]
@@ -200,7 +200,7 @@ pub(crate) fn profile_keys() -> &'static [Key]
 
 /// The keys of the profile of short data grants.
 #[tactic(auto, unfolding(crate::specs::Keys::profile_keys, crate::specs::Keys::short_keys))]
-pub(crate) fn short_keys() -> &'static [Key]
+pub fn short_keys() -> &'static [Key]
     ensures { keys_of result.now ≡ short_keys }
 {
     PROFILE_KEYS.as_slice()
@@ -208,7 +208,7 @@ pub(crate) fn short_keys() -> &'static [Key]
 
 /// The keys of all flows.
 #[tactic(auto, unfolding(crate::specs::Keys::all_flow_keys))]
-pub(crate) fn all_flow_keys() -> &'static [FlowKey]
+pub fn all_flow_keys() -> &'static [FlowKey]
     ensures keys { typed_keys_of result.now ≡ all_flow_keys }
     ensures count { length result.now ≡ 17 }
 {
@@ -217,7 +217,7 @@ pub(crate) fn all_flow_keys() -> &'static [FlowKey]
 
 /// The keys of a station.
 #[tactic(auto, unfolding(crate::specs::Keys::station_keys))]
-pub(crate) fn station_keys() -> &'static [Key]
+pub fn station_keys() -> &'static [Key]
     ensures { keys_of result.now ≡ station_keys }
 {
     STATION_KEYS.as_slice()

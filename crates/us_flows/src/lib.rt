@@ -81,9 +81,16 @@ mod laws;
 pub use channels::Channel;
 pub use config::Config;
 pub use faults::{ConfigFault, Place, TableName};
+pub use flow_values::kind_at;
 pub use flows::{Flow, SchedulingType};
 pub use found::Found;
+pub use keys::{
+    FlowKey, Key, Rule, Types, all_flow_keys, channel_keys, profile_keys, short_keys, station_keys,
+    top_keys,
+};
 pub use laws::{activity_has_words, found_has_words, one_turn, turns_are_of_clusters};
+pub use ranges::MAX_CODEWORD;
 pub use reading::MAX_CONFIG_BYTES;
+pub use shapes::{is_optional, keeps};
 pub use stations::Station;
 pub use turns::Turn;

@@ -65,7 +65,7 @@ pub(crate) const MIN_FEC_K: u32 = 16;
 pub(crate) const MAX_FEC_K: u32 = 253;
 
 /// The most bytes of a codeword with its parity.
-pub(crate) const MAX_CODEWORD: u64 = 255;
+pub const MAX_CODEWORD: u64 = 255;
 
 /// The most minislots of a short data grant.
 pub(crate) const MAX_SHORT_MINISLOTS: u32 = 255;

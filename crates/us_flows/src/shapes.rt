@@ -58,7 +58,7 @@ pub(crate) fn flow_allows(kind: SchedulingType, name: &str, value: &Value) -> bo
 }
 
 /// Whether a key of this rule may be left out.
-pub(crate) fn is_optional(rule: Rule) -> bool
+pub fn is_optional(rule: Rule) -> bool
     ensures { result ≡ Shapes.is_optional rule }
 {
     match rule {
@@ -69,7 +69,7 @@ pub(crate) fn is_optional(rule: Rule) -> bool
 }
 
 /// Whether a value keeps a rule.
-pub(crate) fn keeps(rule: Rule, value: &Value) -> bool
+pub fn keeps(rule: Rule, value: &Value) -> bool
     ensures { result ≡ Shapes.keeps rule (view value.now) }
 {
     match rule {

@@ -10,8 +10,23 @@ use crate::faults::TraceFault;
 use crate::requests::{Kind, Request};
 use csv::ByteRecord;
 
+/// The greatest tick of a row.
+pub const MAX_TICK: u32 = u32::MAX;
+
+/// The greatest channel id.
+pub const MAX_CHANNEL: u32 = 255;
+
+/// The greatest SID.
+pub const MAX_SID: u32 = 16_383;
+
+/// The most units that a row asks for.
+pub const MAX_UNITS: u32 = 65_535;
+
+/// The greatest kind.
+pub const MAX_KIND: u32 = 2;
+
 /// The most digits of a field.
-const MAX_DIGITS: usize = 10;
+pub const MAX_DIGITS: usize = 10;
 
 /// The columns of a trace in its first version.
 const COLUMNS: usize = 4;
@@ -21,7 +36,7 @@ const COLUMNS_WITH_KIND: usize = 5;
 
 /// Whether a record is the header, of either version.
 #[tactic(auto, unfolding(crate::specs::Texts::is_header))]
-pub(crate) fn is_header(fields: &ByteRecord) -> bool
+pub fn is_header(fields: &ByteRecord) -> bool
     ensures { result ≡ Texts.is_header (fields_of fields.now) }
 {
     (fields.len() == COLUMNS
@@ -33,7 +48,7 @@ pub(crate) fn is_header(fields: &ByteRecord) -> bool
 }
 
 /// The request that the record of this number tells, behind a header of so many columns.
-pub(crate) fn request_in(
+pub fn request_in(
     fields: &ByteRecord,
     columns: usize,
     number: u32,
@@ -77,10 +92,10 @@ fn four_numbers(fields: &ByteRecord) -> Option<Request>
         then Some (record (request_of (fields_of fields.now)) { kind = kinds.Request }) else None }
     ensures small { IfSome result (λ request. request.units ≤ 65535) }
 {
-    let tick = number_in(field(fields, 0), u32::MAX)?;
-    let channel = number_in(field(fields, 1), 255)?;
-    let sid = number_in(field(fields, 2), 16_383)?;
-    let units = number_in(field(fields, 3), 65_535)?;
+    let tick = number_in(field(fields, 0), MAX_TICK)?;
+    let channel = number_in(field(fields, 1), MAX_CHANNEL)?;
+    let sid = number_in(field(fields, 2), MAX_SID)?;
+    let units = number_in(field(fields, 3), MAX_UNITS)?;
     Some(Request {
         tick,
         channel: channel as u8,
@@ -94,7 +109,7 @@ fn four_numbers(fields: &ByteRecord) -> Option<Request>
 fn kind_in(field: &[u8], units: u16) -> Option<Kind>
     ensures { result ≡ if is_kind units field.now then Some (Texts.kind_of (number_of field.now)) else None }
 {
-    match number_in(field, 2)? {
+    match number_in(field, MAX_KIND)? {
         0 => Some(Kind::Request),
         _ if units > 0 => None,
         1 => Some(Kind::Silent),
@@ -114,7 +129,7 @@ fn field(fields: &ByteRecord, place: usize) -> &[u8]
 }
 
 /// The number that a field of 1 to 10 digits tells, if it is at most `greatest`.
-fn number_in(field: &[u8], greatest: u32) -> Option<u32>
+pub fn number_in(field: &[u8], greatest: u32) -> Option<u32>
     ensures value { result ≡ if is_number greatest field.now then Some (number_of field.now) else None }
     ensures small { IfSome result (λ number. number ≤ greatest) }
 {

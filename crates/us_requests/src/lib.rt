@@ -61,4 +61,10 @@ pub mod laws;
 pub use asks::{Ask, Counts};
 pub use cluster_states::ClusterState;
 pub use faults::TraceFault;
-pub use traces::Trace;
+pub use fields::{
+    MAX_CHANNEL, MAX_DIGITS, MAX_KIND, MAX_SID, MAX_TICK, MAX_UNITS, is_header, number_in,
+    request_in,
+};
+pub use requests::{Kind, Request};
+pub use texts::MAX_RECORDS;
+pub use traces::{MAX_TRACE_BYTES, Trace};

@@ -4,7 +4,7 @@ use std::marker::Model;
 
 /// What a request of a trace tells.
 #[derive(Clone, Copy, Debug, PartialEq, Eq)]
-pub(crate) enum Kind {
+pub enum Kind {
     /// That a cluster asks for some units.
     Request,
     /// That a flow falls silent.
@@ -15,17 +15,17 @@ pub(crate) enum Kind {
 
 /// A request of a trace, or a mark of a flow's activity.
 #[derive(Clone, Copy, Debug, PartialEq, Eq)]
-pub(crate) struct Request {
+pub struct Request {
     /// When it arrives.
-    pub(crate) tick: u32,
+    pub tick: u32,
     /// The id of the channel on which it arrives.
-    pub(crate) channel: u8,
+    pub channel: u8,
     /// The SID that asks.
-    pub(crate) sid: u16,
+    pub sid: u16,
     /// The units that it asks for, none by a mark.
-    pub(crate) units: u16,
+    pub units: u16,
     /// What it tells.
-    pub(crate) kind: Kind,
+    pub kind: Kind,
 }
 
 impl Model for Request {

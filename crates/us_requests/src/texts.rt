@@ -10,7 +10,7 @@ use csv::ByteRecord;
 use std::alloc::Global;
 
 /// The most records of a trace, with the header.
-const MAX_RECORDS: u32 = 1_000_001;
+pub const MAX_RECORDS: u32 = 1_000_001;
 
 /// The requests that the text of a trace tells, or its first fault.
 #[tactic(auto, unfolding(crate::specs::Texts::trace_fault, crate::specs::Texts::requests_of))]

@@ -21,7 +21,7 @@ use us_flows::Config;
 use us_slots::{Source, read_all};
 
 /// The most bytes of a trace.
-const MAX_BYTES: usize = 33_554_432;
+pub const MAX_TRACE_BYTES: usize = 33_554_432;
 
 /// The requests of a trace as what they ask for, by round, and how many of its requests are no asks.
 #[derive(Debug, Drop)]
@@ -58,7 +58,7 @@ impl Trace {
             TookAtMost max_bytes (R.remaining source.old) (R.remaining source.new) }
         ensures failed { (R.failed source.new ≡ true) ↔ (result ≡ Err fault.Read) }
     {
-        let text = read_all(alloc, source, MAX_BYTES)?;
+        let text = read_all(alloc, source, MAX_TRACE_BYTES)?;
         Trace::of_text(alloc, text, config, rounds)
     }
 

@@ -77,16 +77,16 @@ fn faults_are_one_line(rt: HostRuntime) -> Result<(), Fail> {
 C1: not a TOML document of at most 4,194,304 bytes
 C2: a key is missing in top 0
 C3: a value is out of its range, or a key is unknown, in channel 0
-C4: no channel has an id that is named in flow 0
-C5: a duplicate id in station 255
-C6: a SID of another cluster is on the same channel in flow 0
-C7: a cluster doesn't have one SID for each channel in flow 0
-C8: the round isn't a whole number of minislots of channel 0
-C9: the reserves don't fit in the MAPs of channel 0
-C10: the jitter is not below the interval in station 255
-C11: a grant is longer than the MAP in station 255
-C12: segment headers are off on several channels in flow 0
-C14: the minimum rate is above the maximum rate in flow 0
+C4: an id in channels or channel that no channel has, in flow 0
+C5: a duplicate id, or a duplicate in channels, in station 255
+C6: a SID in clusters is another cluster's on the same channel in flow 0
+C7: a list in clusters doesn't have one SID for each of channels in flow 0
+C8: round_ticks isn't a multiple of the minislot, minislot_log2, of channel 0
+C9: contention_minislots and maintenance_minislots don't fit in the MAPs of channel 0
+C10: jitter_us is not below interval_us in station 255
+C11: grant_bytes, a poll or station_minislots is longer than the MAP in station 255
+C12: headers is false with several channels in flow 0
+C14: min_rate is above rate in flow 0
 C13: out of memory
 ",
     )

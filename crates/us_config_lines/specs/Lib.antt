@@ -1,0 +1,2 @@
+-- lines and columns of a text
+pub mod Lines

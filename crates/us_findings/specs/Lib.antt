@@ -1,0 +1,2 @@
+-- what the errors of a configuration are told against
+pub mod Errors

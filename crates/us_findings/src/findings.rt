@@ -1,0 +1,76 @@
+use std::fmt;
+use us_flows::ConfigFault;
+use us_requests::TraceFault;
+
+/// A file in which something is found.
+#[derive(Clone, Copy, Debug, PartialEq, Eq)]
+pub enum Source {
+    /// The configuration.
+    Config,
+    /// The trace.
+    Trace,
+}
+
+/// What is found.
+#[derive(Clone, Copy, Debug, PartialEq, Eq)]
+pub enum What {
+    /// The configuration has this fault.
+    Config(ConfigFault),
+    /// The trace has this fault.
+    Trace(TraceFault),
+    /// It is accepted, and looks wrong.
+    Warning,
+}
+
+/// Something that is wrong, or looks wrong, in a file.
+#[derive(Drop)]
+pub struct Finding {
+    /// The file.
+    pub source: Source,
+    /// What it is.
+    pub what: What,
+    /// Its line, from 1.
+    pub line: usize,
+    /// Its column, from 1; 1 where only the line is known.
+    pub column: usize,
+    /// What is wanted, and what is there.
+    pub text: String,
+}
+
+/// The errors of a file. The first one is the fault that the program answers.
+#[derive(Drop)]
+pub struct Findings {
+    /// That of the fault that the program answers.
+    pub first: Finding,
+    /// The others that are told, by where they stand.
+    pub others: Vec<Finding>,
+    /// How many more there are.
+    pub more: usize,
+}
+
+/// Writes a finding as `12:1: error C3: ` or `12:1: warning: ` and its text.
+impl fmt::Display for Finding {
+    fn fmt<W: fmt::Write>(&self, f: &mut fmt::Formatter<W>) -> fmt::Result {
+        let (line, column, text) = (self.line, self.column, self.text.as_str());
+        match self.what {
+            What::Config(fault) => write!(f, "{line}:{column}: error {}: {text}", fault.code()),
+            What::Trace(fault) => write!(f, "{line}:{column}: error {}: {text}", fault.code()),
+            What::Warning => write!(f, "{line}:{column}: warning: {text}"),
+        }
+    }
+}
+
+impl Finding {
+    ghost use Rattle.std.specs.Prelude.{◌≡◌};
+    ghost use Rattle.us_findings.specs.declared.findings.What.TheVariants.{Config};
+
+    /// The same, as this fault of the configuration.
+    pub(crate) fn of_config(self, fault: ConfigFault) -> Finding
+        ensures { result.what ≡ Config fault }
+    {
+        Finding {
+            what: What::Config(fault),
+            ..self
+        }
+    }
+}
