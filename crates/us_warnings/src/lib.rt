@@ -1,0 +1,2 @@
+//! What looks wrong in an accepted configuration or trace.
+#![tactic(auto)]
