@@ -73,7 +73,10 @@ fn take_first(
     findings: &mut Vec<Finding>,
     fault: ConfigFault,
 ) -> Result<Finding, AllocError> {
-    match findings.iter().position(|finding| finding.what == What::Config(fault)) {
+    match findings
+        .iter()
+        .position(|finding| finding.what == What::Config(fault))
+    {
         Some(place) => Ok(findings.remove(place)),
         // Nobody comes here: each fault of a document has a finding.
         None => Ok(Finding {

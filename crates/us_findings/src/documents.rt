@@ -9,11 +9,7 @@ pub(crate) const TOP: Place = Place {
 };
 
 /// The kinds of tables that stand in lists.
-pub(crate) const LISTS: [TableName; 3] = [
-    TableName::Channel,
-    TableName::Flow,
-    TableName::Station,
-];
+pub(crate) const LISTS: [TableName; 3] = [TableName::Channel, TableName::Flow, TableName::Station];
 
 /// The key of the top level that has the tables of a kind.
 pub(crate) fn key_of(list: TableName) -> &'static str {

@@ -77,7 +77,10 @@ fn are_near(one: &[u8], other: &[u8]) -> bool {
     let one = one.get(start..).unwrap_or(&[]);
     let other = other.get(start..).unwrap_or(&[]);
     let end = same_end(one, other);
-    match (one.len().saturating_sub(end), other.len().saturating_sub(end)) {
+    match (
+        one.len().saturating_sub(end),
+        other.len().saturating_sub(end),
+    ) {
         (0, 1) | (1, 0) | (1, 1) => true,
         (2, 2) => are_swapped(one, other),
         _ => false,

@@ -59,11 +59,14 @@ pub(crate) fn long_grant<'d>(case: &Case<'d>) -> Result<Why<'d>, AllocError> {
         first_channel(case.table)
     };
     match channel_with(case.document, id) {
-        Some((place, table)) => long_on(case, Host {
-            title: title_of(table, place),
-            table,
-            len: map_len(case.document, table),
-        }),
+        Some((place, table)) => long_on(
+            case,
+            Host {
+                title: title_of(table, place),
+                table,
+                len: map_len(case.document, table),
+            },
+        ),
         None => Ok(Why {
             key: "id",
             text: format!(in case.alloc; "a grant or a poll is longer than a MAP")?,
@@ -159,5 +162,7 @@ fn minislot_ticks(channel: &Table) -> u64 {
 
 /// The minislots of a channel's MAPs.
 fn map_len(document: &Table, channel: &Table) -> u64 {
-    round_ticks(document).checked_div(minislot_ticks(channel)).unwrap_or(0)
+    round_ticks(document)
+        .checked_div(minislot_ticks(channel))
+        .unwrap_or(0)
 }

@@ -100,6 +100,7 @@ fn value_at(text: &[u8], spot: Spot) -> Option<&[u8]> {
 }
 
 /// A place in a text, which only goes on, so that the lines of many places are found in one walk.
+#[derive(Drop)]
 struct Cursor<'a> {
     at: usize,
     rest: &'a [u8],

@@ -35,12 +35,7 @@ pub(crate) fn channel_with(document: &Table, id: u64) -> Option<(Place, &Table)>
 }
 
 /// The first table of a list, before an index, that has this id.
-fn table_with(
-    document: &Table,
-    list: TableName,
-    before: u32,
-    id: u64,
-) -> Option<(Place, &Table)> {
+fn table_with(document: &Table, list: TableName, before: u32, id: u64) -> Option<(Place, &Table)> {
     for (index, item) in (0..before).zip(items_of(document, list)) {
         if let Some(table) = item.as_table() {
             if number_at(table, "id") == id {
@@ -128,7 +123,10 @@ pub(crate) fn duplicate_sid<'d>(case: &Case<'d>) -> Result<Why<'d>, AllocError> 
         if let Some(table) = item.as_table() {
             let theirs = sids_of(case.alloc, table)?;
             if let Some(shared) = shared(&own, &theirs) {
-                let place = Place { table: TableName::Flow, index };
+                let place = Place {
+                    table: TableName::Flow,
+                    index,
+                };
                 return taken_by(case, shared, place, table);
             }
         }

@@ -113,7 +113,9 @@ impl<'d> Case<'d> {
         let channels = values_at(self.table, "channels").len();
         Ok(Why {
             key: "headers",
-            text: format!(in self.alloc; "false is there, a flow with {channels} channels wants true")?,
+            text: format!(in self.alloc;
+                "false is there, a flow with {channels} channels wants true"
+            )?,
             other: None,
         })
     }

@@ -55,7 +55,9 @@ impl<'d> Shape<'d> {
         drafts.add(Draft {
             fault,
             path: title.path(),
-            text: format!(in drafts.alloc; "{title}: the key {key} is missing, {wanted} is wanted")?,
+            text: format!(in drafts.alloc;
+                "{title}: the key {key} is missing, {wanted} is wanted"
+            )?,
             behind: Behind::Nothing,
         })
     }

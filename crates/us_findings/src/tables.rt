@@ -25,11 +25,7 @@ pub(crate) fn add_shapes<'d>(
 }
 
 /// Those of an item of a list of tables. One that is no table is told of with its list.
-fn add_item<'d>(
-    drafts: &mut Drafts<'d>,
-    place: Place,
-    item: &'d Value,
-) -> Result<(), AllocError> {
+fn add_item<'d>(drafts: &mut Drafts<'d>, place: Place, item: &'d Value) -> Result<(), AllocError> {
     let Some(table) = item.as_table() else {
         return Ok(());
     };
@@ -54,11 +50,7 @@ fn listed<'d>(table: &'d Table, place: Place, keys: &'static [Key]) -> Shape<'d>
 }
 
 /// Those of a flow. Where its type is wrong or missing, that is all: the type says which keys it may have.
-fn add_flow<'d>(
-    drafts: &mut Drafts<'d>,
-    table: &'d Table,
-    place: Place,
-) -> Result<(), AllocError> {
+fn add_flow<'d>(drafts: &mut Drafts<'d>, table: &'d Table, place: Place) -> Result<(), AllocError> {
     let shape = Shape {
         keys: Keys::OfFlows(kind_at(table)),
         table,

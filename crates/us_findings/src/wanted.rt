@@ -16,11 +16,17 @@ impl fmt::Display for Wanted<'_> {
             Rule::Flag => f.write_str("true or false"),
             Rule::Numbers(fewest, many, least, most) => {
                 let count = Count(fewest, many);
-                write!(f, "a list of {count} whole numbers, each from {least} to {most},")
+                write!(
+                    f,
+                    "a list of {count} whole numbers, each from {least} to {most},"
+                )
             }
             Rule::Lists(fewest, many, least, most) => {
                 let count = Count(fewest, many);
-                write!(f, "a list of {count} lists of whole numbers, each from {least} to {most},")
+                write!(
+                    f,
+                    "a list of {count} lists of whole numbers, each from {least} to {most},"
+                )
             }
             Rule::Table => f.write_str("a table"),
             Rule::Tables(fewest, many) => {
