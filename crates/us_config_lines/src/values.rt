@@ -12,6 +12,18 @@ pub(crate) fn key_and_value(alloc: Global, text: &str) -> Result<(Key, &str), St
     Ok((key, skip_ws(behind(b'=', rest)?)))
 }
 
+/// The key of a header in brackets, and what stands behind.
+pub(crate) fn key_in_brackets(alloc: Global, text: &str) -> Result<(Key, &str), Stop> {
+    let (key, rest) = dotted_key(alloc, skip_ws(behind(b'[', text)?))?;
+    Ok((key, behind(b']', rest)?))
+}
+
+/// The key of a header in double brackets, and what stands behind.
+pub(crate) fn key_in_double_brackets(alloc: Global, text: &str) -> Result<(Key, &str), Stop> {
+    let (key, rest) = key_in_brackets(alloc, behind(b'[', text)?)?;
+    Ok((key, behind(b']', rest)?))
+}
+
 /// What stands behind this ASCII character.
 pub(crate) fn behind(wanted: u8, text: &str) -> Result<&str, Stop>
     requires some { 0 < wanted }
@@ -86,7 +98,7 @@ fn behind_word(text: &str) -> Result<&str, Stop> {
 }
 
 /// Whether a byte opens a list or a table in braces.
-fn opens(byte: u8) -> bool
+pub(crate) fn opens(byte: u8) -> bool
     ensures { result ≡ (byte == 91 || byte == 123) }
 {
     byte == b'[' || byte == b'{'
