@@ -3,25 +3,16 @@ ghost use Rattle.std.specs.Prelude.{◌≡◌, ◌<◌, ◌==◌, ◌||◌};
 use crate::stops::Stop;
 use std::alloc::Global;
 use toml_parser::bytes::is_word;
-use toml_parser::text::{first, skip, skip_blank, skip_ws};
+use toml_parser::text::{first, skip, skip_blank};
 use toml_parser::{Key, dotted_key, quoted, starts_string, unquoted};
 
-/// A key at the front of a text, and what stands behind its `=`.
-pub(crate) fn key_and_value(alloc: Global, text: &str) -> Result<(Key, &str), Stop> {
+/// A key at the front of a text, and what stands behind the ASCII character that follows it.
+pub(crate) fn key_before(alloc: Global, text: &str, follows: u8) -> Result<(Key, &str), Stop>
+    requires some { 0 < follows }
+    requires ascii { follows < 128 }
+{
     let (key, rest) = dotted_key(alloc, text)?;
-    Ok((key, skip_ws(behind(b'=', rest)?)))
-}
-
-/// The key of a header in brackets, and what stands behind.
-pub(crate) fn key_in_brackets(alloc: Global, text: &str) -> Result<(Key, &str), Stop> {
-    let (key, rest) = dotted_key(alloc, skip_ws(behind(b'[', text)?))?;
-    Ok((key, behind(b']', rest)?))
-}
-
-/// The key of a header in double brackets, and what stands behind.
-pub(crate) fn key_in_double_brackets(alloc: Global, text: &str) -> Result<(Key, &str), Stop> {
-    let (key, rest) = key_in_brackets(alloc, behind(b'[', text)?)?;
-    Ok((key, behind(b']', rest)?))
+    Ok((key, behind(follows, rest)?))
 }
 
 /// What stands behind this ASCII character.

@@ -5,13 +5,10 @@ ghost use Rattle.us_config_lines.specs.Places.{IsWithin};
 use crate::scopes::{Counts, Scope, list_of};
 use crate::spots::{Found, KeyPath, Spot};
 use crate::stops::Stop;
-use crate::values::{
-    behind, behind_comma, behind_value, key_and_value, key_in_brackets, key_in_double_brackets,
-    opens,
-};
+use crate::values::{behind, behind_comma, behind_value, key_before, opens};
 use std::alloc::Global;
 use toml_parser::Key;
-use toml_parser::text::{byte_at, first, skip, skip_blank};
+use toml_parser::text::{byte_at, first, skip, skip_blank, skip_ws};
 use us_flows::{Place, TableName};
 use us_slots::NoMemory;
 
@@ -105,17 +102,25 @@ impl Walk<'_> {
     }
 
     /// A header: the table that it opens, where something is looked for there, and what stands behind.
-    fn header<'t>(&mut self, start: &'t str) -> Result<(Option<Scope>, &'t str), Stop> {
-        let at = self.offset(start);
-        let spot = Spot { at, value: None };
-        if byte_at(start, 1) == b'[' {
-            let (key, rest) = key_in_double_brackets(self.alloc, start)?;
-            self.next_item(&key, spot);
-            Ok((self.meet_key(Scope::TOP, &key, spot), rest))
+    fn header<'t>(&mut self, start: &'t str) -> Result<(Option<Scope>, &'t str), Stop>
+        requires { slice_index start.now 0 ≡ 91 }
+    {
+        let is_item = byte_at(start, 1) == b'[';
+        let inside = if is_item {
+            skip(start, 2)
         } else {
-            let (key, rest) = key_in_brackets(self.alloc, start)?;
-            Ok((self.meet_key(Scope::TOP, &key, spot), rest))
+            skip(start, 1)
+        };
+        let (key, rest) = key_before(self.alloc, skip_ws(inside), b']')?;
+        let rest = if is_item { behind(b']', rest)? } else { rest };
+        let spot = Spot {
+            at: self.offset(start),
+            value: None,
+        };
+        if is_item {
+            self.next_item(&key, spot);
         }
+        Ok((self.meet_key(Scope::TOP, &key, spot), rest))
     }
 
     /// The next table of the list with this key.
@@ -131,7 +136,8 @@ impl Walk<'_> {
 
     /// A key with its value, in a table where something is looked for or not: what stands behind.
     fn pair<'t>(&mut self, scope: Option<Scope>, start: &'t str) -> Result<&'t str, Stop> {
-        let (key, value) = key_and_value(self.alloc, start)?;
+        let (key, value) = key_before(self.alloc, start, b'=')?;
+        let value = skip_ws(value);
         let rest = behind_value(self.alloc, value)?;
         if let Some(scope) = scope {
             let at = self.offset(value);

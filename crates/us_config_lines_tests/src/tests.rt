@@ -29,16 +29,52 @@ const FLOW: Place = Place {
 
 /// What is looked for in each document: `round_ticks` and `flow` of the top level; channel 0, its `id`, its profile `long`
 /// and the `bits` of that; channel 1's `id`; flow 1 and its `rate`.
-const WANTED: [(Place, Option<&str>, Option<&str>); 9] = [
-    (TOP, None, Some("round_ticks")),
-    (TOP, None, Some("flow")),
-    (CHANNEL, None, None),
-    (CHANNEL, None, Some("id")),
-    (CHANNEL, None, Some("long")),
-    (CHANNEL, Some("long"), Some("bits")),
-    (OTHER_CHANNEL, None, Some("id")),
-    (FLOW, None, None),
-    (FLOW, None, Some("rate")),
+const WANTED: [KeyPath<'static>; 9] = [
+    KeyPath {
+        place: TOP,
+        profile: None,
+        key: Some("round_ticks"),
+    },
+    KeyPath {
+        place: TOP,
+        profile: None,
+        key: Some("flow"),
+    },
+    KeyPath {
+        place: CHANNEL,
+        profile: None,
+        key: None,
+    },
+    KeyPath {
+        place: CHANNEL,
+        profile: None,
+        key: Some("id"),
+    },
+    KeyPath {
+        place: CHANNEL,
+        profile: None,
+        key: Some("long"),
+    },
+    KeyPath {
+        place: CHANNEL,
+        profile: Some("long"),
+        key: Some("bits"),
+    },
+    KeyPath {
+        place: OTHER_CHANNEL,
+        profile: None,
+        key: Some("id"),
+    },
+    KeyPath {
+        place: FLOW,
+        profile: None,
+        key: None,
+    },
+    KeyPath {
+        place: FLOW,
+        profile: None,
+        key: Some("rate"),
+    },
 ];
 
 /// Documents, and the lines at which these stand there.
@@ -113,13 +149,8 @@ const TEXTS: [(&str, [usize; 9]); 14] = [
 
 /// The lines of a document at which all that is looked for stands.
 fn lines_of(alloc: Global, text: &str) -> Result<Vec<usize>, NoMemory> {
-    let wanted = WANTED.map(|(place, profile, key)| KeyPath {
-        place,
-        profile,
-        key,
-    });
     let mut lines = Vec::new(alloc);
-    for spot in &spots_of(alloc, text, &wanted)? {
+    for spot in &spots_of(alloc, text, &WANTED)? {
         lines.push(line_and_column(text.as_bytes(), spot.at.min(text.len())).0)?;
     }
     Ok(lines)
