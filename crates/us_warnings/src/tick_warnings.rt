@@ -48,7 +48,8 @@ pub(crate) fn push_microseconds(
         return Ok(());
     }
     let text = format!(in alloc;
-        "tick: ticks look like microseconds, since no row would be late with 4/25 of its tick; a tick is 6.25 microseconds: {late}"
+        "tick: ticks look like microseconds, since no row would be late with 4/25 of its tick; \
+        a tick is 6.25 microseconds: {late}"
     )?;
     drafts.push(Draft {
         subject: Subject::Row(late.line),

@@ -17,7 +17,8 @@ pub(crate) struct UnknownSid {
     pub(crate) rows: Alike,
 }
 
-/// The SIDs that rows name and no flow has. Those that aren't told one by one are counted, since a trace may have a million.
+/// The SIDs that rows name and no flow has. Those that aren't told one by one are counted, since a trace may have a
+/// million.
 #[derive(Drop)]
 pub(crate) struct UnknownSids {
     /// Which of all SIDs of all channels rows name; empty before the first.
