@@ -7,7 +7,7 @@ use crate::listings::Listing;
 use crate::printing::print;
 use crate::statuses::Status;
 use crate::trace_linting::{AcceptedTrace, lint_trace_file};
-use crate::verdict_linting::add_verdict;
+use crate::verdict_linting::lint_output;
 use std::alloc::Global;
 use std::rt::Files;
 use us_command_line::FileLint;
@@ -47,7 +47,7 @@ fn listing_of<R: Files>(rt: &R, alloc: Global, order: &FileLint<'_>) -> Result<L
 /// The errors in the file at a path, and nothing else.
 fn refused(alloc: Global, path: &str, findings: &Findings) -> Result<Listing, Fault> {
     let mut listing = Listing::new(alloc);
-    listing.add_error(path, &findings.first)?;
+    listing.add_first(path, findings)?;
     listing.add_others(path, findings)?;
     Ok(listing)
 }
@@ -68,7 +68,7 @@ fn lint_run<R: Files>(
         return Ok(listing);
     };
     match lint_trace_file(rt, alloc, path, config, rounds)? {
-        Ok(trace) => lint_output(rt, alloc, order, path, config, &warnings, &trace),
+        Ok(trace) => accepted(rt, alloc, order, path, config, &warnings, &trace),
         Err(findings) => refused_trace(alloc, order.config, &warnings, path, &findings),
     }
 }
@@ -93,14 +93,14 @@ fn refused_trace(
     findings: &Findings,
 ) -> Result<Listing, Fault> {
     let mut listing = Listing::new(alloc);
-    listing.add_error(path, &findings.first)?;
+    listing.add_first(path, findings)?;
     listing.add_warnings(config, warnings)?;
     listing.add_others(path, findings)?;
     Ok(listing)
 }
 
 /// What is found where the trace is accepted too: the verdict on what a run wrote, then all warnings.
-fn lint_output<R: Files>(
+fn accepted<R: Files>(
     rt: &R,
     alloc: Global,
     order: &FileLint<'_>,
@@ -112,7 +112,11 @@ fn lint_output<R: Files>(
     requires { rounds_fit config.now trace.now.trace.rounds ≡ true }
 {
     let mut listing = Listing::new(alloc);
-    add_verdict(rt, alloc, order, config, &trace.trace, &mut listing)?;
+    if let (Some(maps), Some(report)) = (order.maps, order.report) {
+        if let Some(finding) = lint_output(rt, alloc, config, &trace.trace, maps, report)? {
+            listing.add_broken(maps, report, &finding)?;
+        }
+    }
     listing.add_warnings(order.config, warnings)?;
     listing.add_warnings(path, &trace.warnings)?;
     if order.rounds.is_none() {

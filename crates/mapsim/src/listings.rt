@@ -4,8 +4,8 @@ ghost use Rattle.mapsim.specs.declared.statuses.Status.TheVariants as status;
 
 use crate::statuses::Status;
 use std::alloc::{AllocError, Global};
-use std::fmt::Display;
 use us_findings::{Finding, Findings};
+use us_verdict_words::{VerdictFile, VerdictFinding};
 
 /// The lines that a lint prints, and how the program ends that prints them.
 #[derive(Drop)]
@@ -37,16 +37,16 @@ impl Listing {
         self.status
     }
 
-    /// An error in the file at a path: what stands behind the path.
-    pub fn add_error<D: Display>(&mut self, path: &str, error: &D) -> Result<(), AllocError>
+    /// The error in the file at a path that the program answers.
+    pub fn add_first(&mut self, path: &str, findings: &Findings) -> Result<(), AllocError>
         ensures { OnOk result (self.new.status ≡ status.Refused) }
     {
-        writeln!(self.text, "{path}:{error}")?;
         self.status = Status::Refused;
-        Ok(())
+        let first = &findings.first;
+        writeln!(self.text, "{path}:{first}")
     }
 
-    /// The errors behind the first one, in the file at a path.
+    /// The errors behind that one, in the file at a path.
     pub fn add_others(&mut self, path: &str, findings: &Findings) -> Result<(), AllocError>
         ensures { OnOk result (self.new.status ≡ status.Refused) }
     {
@@ -56,6 +56,23 @@ impl Listing {
             0 => Ok(()),
             1 => writeln!(self.text, "{path}: 1 more error"),
             more => writeln!(self.text, "{path}: {more} more errors"),
+        }
+    }
+
+    /// What is wrong in a maps file and a report at these paths.
+    pub fn add_broken(
+        &mut self,
+        maps: &str,
+        report: &str,
+        finding: &VerdictFinding,
+    ) -> Result<(), AllocError>
+        ensures { OnOk result (self.new.status ≡ status.Refused) }
+    {
+        self.status = Status::Refused;
+        match finding.file {
+            VerdictFile::Maps => writeln!(self.text, "{maps}: error {finding}"),
+            VerdictFile::Report => writeln!(self.text, "{report}: error {finding}"),
+            VerdictFile::Line(line) => writeln!(self.text, "{report}:{line}:1: error {finding}"),
         }
     }
 
