@@ -53,12 +53,12 @@ fn given_order<'a>(alloc: Global, given: &ArgMatches<'a>) -> Result<Order<'a>, W
 }
 
 /// The same order, if its options go together.
-fn together<'a>(alloc: Global, order: Order<'a>) -> Result<Order<'a>, WordsFault>
-    ensures asked { IfOk result (λ o. (o ≡ order) × OptionsGoTogether o) }
-    ensures refused { IfErr result (λ _. ¬ (OptionsGoTogether order)) }
+fn together<'a>(alloc: Global, asked: Order<'a>) -> Result<Order<'a>, WordsFault>
+    ensures asked { IfOk result (λ o. (o ≡ asked.entry) × OptionsGoTogether o) }
+    ensures refused { IfErr result (λ _. ¬ (OptionsGoTogether asked.entry)) }
 {
-    match lacking(&order) {
-        None => Ok(order),
+    match lacking(&asked) {
+        None => Ok(asked),
         Some((given, wanted)) => Err(WordsFault::Usage(format!(in alloc;
             "error: the argument '--{given}' needs the argument '--{wanted}'\n\n\
              For more information, try '--help'.\n"
@@ -67,11 +67,11 @@ fn together<'a>(alloc: Global, order: Order<'a>) -> Result<Order<'a>, WordsFault
 }
 
 /// An option that an order was given, and one that has to stand beside it and doesn't.
-fn lacking(order: &Order<'_>) -> Option<(&'static str, &'static str)>
-    ensures none { IfNone result (OptionsGoTogether order.now) }
-    ensures some { IfSome result (λ _. ¬ (OptionsGoTogether order.now)) }
+fn lacking(asked: &Order<'_>) -> Option<(&'static str, &'static str)>
+    ensures none { IfNone result (OptionsGoTogether asked.now) }
+    ensures some { IfSome result (λ _. ¬ (OptionsGoTogether asked.now)) }
 {
-    let Order::Lint(files) = order else {
+    let Order::Lint(files) = asked else {
         return None;
     };
     match (files.maps.is_some(), files.report.is_some()) {
