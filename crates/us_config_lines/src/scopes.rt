@@ -4,7 +4,7 @@ use us_flows::{Place, TableName};
 #[derive(Clone, Copy)]
 pub(crate) struct Scope {
     pub(crate) place: Place,
-    pub(crate) profile: Option<&'static str>,
+    pub(crate) profile: Option<Profile>,
 }
 
 impl Scope {
@@ -24,6 +24,16 @@ impl Scope {
             profile: None,
         }
     }
+
+    /// The name of the profile that it is.
+    pub(crate) fn profile_name(self) -> Option<&'static str> {
+        match self.profile {
+            Some(Profile::Long) => Some("long"),
+            Some(Profile::Short) => Some("short"),
+            Some(Profile::Unsolicited) => Some("unsolicited"),
+            None => None,
+        }
+    }
 }
 
 /// The list of tables with this name.
@@ -36,13 +46,23 @@ pub(crate) fn list_of(name: &str) -> Option<TableName> {
     }
 }
 
-/// The profile with this name.
-pub(crate) fn profile_of(name: &str) -> Option<&'static str> {
-    match name {
-        "long" => Some("long"),
-        "short" => Some("short"),
-        "unsolicited" => Some("unsolicited"),
-        _ => None,
+/// A profile of a channel.
+#[derive(Clone, Copy)]
+pub(crate) enum Profile {
+    Long,
+    Short,
+    Unsolicited,
+}
+
+impl Profile {
+    /// The profile with this name.
+    fn named(name: &str) -> Option<Profile> {
+        match name {
+            "long" => Some(Profile::Long),
+            "short" => Some(Profile::Short),
+            "unsolicited" => Some(Profile::Unsolicited),
+            _ => None,
+        }
     }
 }
 
@@ -96,7 +116,7 @@ impl Counts {
         } else if profile.is_none() {
             Some(Scope {
                 place,
-                profile: Some(profile_of(name)?),
+                profile: Some(Profile::named(name)?),
             })
         } else {
             None

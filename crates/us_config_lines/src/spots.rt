@@ -45,9 +45,12 @@ impl Found {
         if self.is_own || wanted.place != scope.place {
             return;
         }
-        if wanted.profile == scope.profile && wanted.key == Some(name) {
-            *self = Found { spot, is_own: true };
-        } else if scope.profile.is_none() && wanted.profile == Some(name) {
+        let profile = scope.profile_name();
+        if wanted.profile == profile {
+            if wanted.key == Some(name) {
+                *self = Found { spot, is_own: true };
+            }
+        } else if profile.is_none() && wanted.profile == Some(name) {
             self.spot.at = spot.at;
         }
     }
