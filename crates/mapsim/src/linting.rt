@@ -8,14 +8,14 @@ use crate::printing::print;
 use crate::statuses::Status;
 use crate::trace_linting::{AcceptedTrace, lint_trace_file};
 use crate::verdict_linting::lint_output;
-use std::alloc::Global;
+use std::alloc::{AllocError, Global};
 use std::rt::Files;
 use us_command_line::FileLint;
-use us_findings::{Finding, Findings, lint_config, too_long_config};
+use us_findings::{Finding, Findings, Source, lint_config, too_long_config};
 use us_flows::{Config, MAX_CONFIG_BYTES};
 use us_replay::RunFault;
 use us_slots::Sink;
-use us_warnings::config_warnings;
+use us_warnings::{TraceWarnings, config_warnings};
 
 /// Prints what is wrong, or looks wrong, in files. The status is that of what was found.
 pub fn lint_files<R: Files, O: Sink>(
@@ -33,43 +33,54 @@ pub fn lint_files<R: Files, O: Sink>(
 }
 
 /// What is found in files. Where the configuration has an error, no other file is read.
-fn listing_of<R: Files>(rt: &R, alloc: Global, order: &FileLint<'_>) -> Result<Listing, Fault> {
-    let path = order.config;
-    let Some(text) = read_at_most(rt, alloc, path, Stream::Config, MAX_CONFIG_BYTES)? else {
-        return refused(alloc, path, &too_long_config(alloc)?);
+fn listing_of<'a, R: Files>(
+    rt: &R,
+    alloc: Global,
+    order: &FileLint<'a>,
+) -> Result<Listing<'a>, Fault> {
+    let read = read_at_most(rt, alloc, order.config, Stream::Config, MAX_CONFIG_BYTES)?;
+    let Some(text) = read else {
+        return refused(alloc, order, &[], &too_long_config(alloc)?);
     };
     match lint_config(alloc, &text)? {
         Ok(config) => lint_run(rt, alloc, order, &text, &config),
-        Err(findings) => refused(alloc, path, &findings),
+        Err(findings) => refused(alloc, order, &[], &findings),
     }
 }
 
-/// The errors in the file at a path, and nothing else.
-fn refused(alloc: Global, path: &str, findings: &Findings) -> Result<Listing, Fault> {
-    let mut listing = Listing::new(alloc);
-    listing.add_first(path, findings)?;
-    listing.add_others(path, findings)?;
+/// What is found where a file has errors: the one that the program answers, then what looks wrong in the files before it,
+/// then its other errors.
+fn refused<'a>(
+    alloc: Global,
+    order: &FileLint<'a>,
+    warnings: &[Finding],
+    findings: &Findings,
+) -> Result<Listing<'a>, Fault> {
+    let mut listing = Listing::new(alloc, order);
+    listing.add_first(findings)?;
+    listing.add_warnings(warnings)?;
+    listing.add_others(findings)?;
     Ok(listing)
 }
 
 /// What is found beside a configuration that is accepted, whose text this is.
-fn lint_run<R: Files>(
+fn lint_run<'a, R: Files>(
     rt: &R,
     alloc: Global,
-    order: &FileLint<'_>,
+    order: &FileLint<'a>,
     text: &[u8],
     config: &Config,
-) -> Result<Listing, Fault> {
+) -> Result<Listing<'a>, Fault> {
     let rounds = rounds_of(config, order.rounds)?;
     let warnings = config_warnings(alloc, text, config, rounds)?;
     let Some(path) = order.trace else {
-        let mut listing = Listing::new(alloc);
-        listing.add_warnings(order.config, &warnings)?;
+        let mut listing = Listing::new(alloc, order);
+        listing.add_warnings(&warnings)?;
         return Ok(listing);
     };
-    match lint_trace_file(rt, alloc, path, config, rounds)? {
-        Ok(trace) => accepted(rt, alloc, order, path, config, &warnings, &trace),
-        Err(findings) => refused_trace(alloc, order.config, &warnings, path, &findings),
+    match lint_trace_file(rt, alloc, path, text, config, rounds)? {
+        Ok(trace) => accepted(rt, alloc, order, config, warnings, trace),
+        Err(findings) => refused(alloc, order, &warnings, &findings),
     }
 }
 
@@ -84,43 +95,45 @@ fn rounds_of(config: &Config, given: Option<u32>) -> Result<u32, Fault>
     }
 }
 
-/// What is found where the trace has errors: its first, then the warnings of the configuration, then all others.
-fn refused_trace(
-    alloc: Global,
-    config: &str,
-    warnings: &[Finding],
-    path: &str,
-    findings: &Findings,
-) -> Result<Listing, Fault> {
-    let mut listing = Listing::new(alloc);
-    listing.add_first(path, findings)?;
-    listing.add_warnings(config, warnings)?;
-    listing.add_others(path, findings)?;
-    Ok(listing)
-}
-
-/// What is found where the trace is accepted too: the verdict on what a run wrote, then all warnings.
-fn accepted<R: Files>(
+/// What is found where the trace is accepted too: what is wrong in what a run wrote, then what looks wrong.
+fn accepted<'a, R: Files>(
     rt: &R,
     alloc: Global,
-    order: &FileLint<'_>,
-    path: &str,
+    order: &FileLint<'a>,
     config: &Config,
-    warnings: &[Finding],
-    trace: &AcceptedTrace,
-) -> Result<Listing, Fault>
-    requires { rounds_fit config.now trace.now.trace.rounds ≡ true }
+    warnings: Vec<Finding>,
+    accepted: AcceptedTrace,
+) -> Result<Listing<'a>, Fault>
+    requires { rounds_fit config.now accepted.trace.rounds ≡ true }
 {
-    let mut listing = Listing::new(alloc);
+    let mut listing = Listing::new(alloc, order);
     if let (Some(maps), Some(report)) = (order.maps, order.report) {
-        if let Some(finding) = lint_output(rt, alloc, config, &trace.trace, maps, report)? {
+        if let Some(finding) = lint_output(rt, alloc, config, &accepted.trace, maps, report)? {
             listing.add_broken(maps, report, &finding)?;
         }
     }
-    listing.add_warnings(order.config, warnings)?;
-    listing.add_warnings(path, &trace.warnings)?;
-    if order.rounds.is_none() {
-        listing.add_note(path, trace.rounds_for_all)?;
+    let TraceWarnings {
+        findings,
+        rounds_for_all,
+    } = accepted.warnings;
+    listing.add_warnings(&by_place(warnings, findings)?)?;
+    if let (None, Some(rounds)) = (order.rounds, rounds_for_all) {
+        listing.add_note(rounds)?;
     }
     Ok(listing)
+}
+
+/// Findings together, by file and line.
+fn by_place(mut findings: Vec<Finding>, others: Vec<Finding>) -> Result<Vec<Finding>, AllocError> {
+    for finding in others {
+        findings.push(finding)?;
+    }
+    findings.sort_unstable_by_key(|finding| {
+        (
+            finding.source == Source::Trace,
+            finding.line,
+            finding.column,
+        )
+    });
+    Ok(findings)
 }

@@ -5,11 +5,11 @@ use crate::faults::{Fault, Stream};
 use crate::files::read_at_most;
 use std::alloc::Global;
 use std::rt::Files;
-use us_findings::{Finding, Findings};
+use us_findings::Findings;
 use us_flows::Config;
 use us_requests::{MAX_TRACE_BYTES, Trace};
 use us_trace_findings::{lint_trace, too_long_trace};
-use us_warnings::{rounds_for_all, trace_warnings};
+use us_warnings::{TraceWarnings, trace_warnings};
 
 /// A trace without an error.
 #[derive(Drop)]
@@ -17,16 +17,16 @@ pub struct AcceptedTrace {
     /// Its requests.
     pub trace: Trace,
     /// What looks wrong in it.
-    pub warnings: Vec<Finding>,
-    /// How many rounds take in all its rows.
-    pub rounds_for_all: u64,
+    pub warnings: TraceWarnings,
 }
 
-/// The trace in the file at a path, for a run of so many rounds, or its errors.
+/// The trace in the file at a path, for a run of so many rounds, or its errors. `config_text` is the text of the
+/// configuration.
 pub fn lint_trace_file<R: Files>(
     rt: &R,
     alloc: Global,
     path: &str,
+    config_text: &[u8],
     config: &Config,
     rounds: u32,
 ) -> Result<Result<AcceptedTrace, Findings>, Fault>
@@ -39,8 +39,7 @@ pub fn lint_trace_file<R: Files>(
     match lint_trace(alloc, &text, config, rounds)? {
         Ok(trace) => Ok(Ok(AcceptedTrace {
             trace,
-            warnings: trace_warnings(alloc, &text, config, rounds)?,
-            rounds_for_all: rounds_for_all(alloc, &text, config)?,
+            warnings: trace_warnings(alloc, config_text, &text, config, rounds)?,
         })),
         Err(findings) => Ok(Err(findings)),
     }
