@@ -20,7 +20,8 @@ impl fmt::Display for Amiss {
         match *self {
             Amiss::Whole => Ok(()),
             Amiss::Item(number, count) => write!(f, ": item {number} of {count} is wrong"),
-            Amiss::Count(count) => write!(f, ": it has {count}"),
+            Amiss::Count(1) => f.write_str(": it has 1 item"),
+            Amiss::Count(count) => write!(f, ": it has {count} items"),
         }
     }
 }

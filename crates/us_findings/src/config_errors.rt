@@ -20,8 +20,10 @@ pub fn lint_config(alloc: Global, text: &[u8]) -> Result<Result<Config, Findings
 {
     match Config::read(alloc, text) {
         Ok(config) => Ok(Ok(config)),
-        Err(ConfigFault::NoMemory) => Err(NoMemory),
-        Err(fault) => Ok(Err(errors_of(alloc, text, fault)?)),
+        Err(fault) => match fault {
+            ConfigFault::NoMemory => Err(NoMemory),
+            _ => Ok(Err(errors_of(alloc, text, fault)?)),
+        },
     }
 }
 

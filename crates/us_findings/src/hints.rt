@@ -1,5 +1,6 @@
 use crate::keys::Keys;
 use std::fmt;
+use toml::Table;
 use us_flows::{
     Key, Types, all_flow_keys, channel_keys, profile_keys, short_keys, station_keys, top_keys,
 };
@@ -9,7 +10,7 @@ use us_flows::{
 pub(crate) enum Hint {
     /// Nothing is known.
     Nothing,
-    /// A key of the table is spelled alike.
+    /// A key that the table lacks is spelled alike.
     Near(&'static str),
     /// Flows of these types have it.
     OfTypes(Types),
@@ -33,14 +34,14 @@ impl fmt::Display for Hint {
     }
 }
 
-/// What helps with a key that isn't one of these.
-pub(crate) fn hint_of(keys: Keys, key: &str) -> Hint {
+/// What helps with a key of a table that isn't one of these.
+pub(crate) fn hint_of(keys: Keys, table: &Table, key: &str) -> Hint {
     if let Keys::OfFlows(_) = keys {
         if let Some(types) = types_of(key) {
             return Hint::OfTypes(types);
         }
     }
-    if let Some(near) = near_key(keys, key) {
+    if let Some(near) = near_key(keys, table, key) {
         return Hint::Near(near);
     }
     match tables_with(key) {
@@ -59,11 +60,11 @@ fn types_of(key: &str) -> Option<Types> {
     None
 }
 
-/// The first of these keys that is spelled like another.
-fn near_key(keys: Keys, key: &str) -> Option<&'static str> {
+/// The first of these keys that the table lacks and that is spelled like another.
+fn near_key(keys: Keys, table: &Table, key: &str) -> Option<&'static str> {
     for place in 0..keys.places() {
         if let Some((name, _)) = keys.at(place) {
-            if are_near(name.as_bytes(), key.as_bytes()) {
+            if table.get(name).is_none() && are_near(name.as_bytes(), key.as_bytes()) {
                 return Some(name);
             }
         }
@@ -74,8 +75,7 @@ fn near_key(keys: Keys, key: &str) -> Option<&'static str> {
 /// Whether one letter is another one, is missing or is too many, or two that stand side by side are swapped.
 fn are_near(one: &[u8], other: &[u8]) -> bool {
     let start = same_start(one, other);
-    let one = one.get(start..).unwrap_or(&[]);
-    let other = other.get(start..).unwrap_or(&[]);
+    let (one, other) = (behind(one, start), behind(other, start));
     let end = same_end(one, other);
     match (
         one.len().saturating_sub(end),
@@ -84,6 +84,14 @@ fn are_near(one: &[u8], other: &[u8]) -> bool {
         (0, 1) | (1, 0) | (1, 1) => true,
         (2, 2) => are_swapped(one, other),
         _ => false,
+    }
+}
+
+/// What stands behind so many letters.
+fn behind(text: &[u8], count: usize) -> &[u8] {
+    match text.get(count..) {
+        Some(rest) => rest,
+        None => &[],
     }
 }
 

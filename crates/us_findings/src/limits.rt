@@ -13,7 +13,7 @@ pub(crate) fn round_not_multiple<'d>(case: &Case<'d>) -> Result<Why<'d>, AllocEr
     Ok(Why {
         key: "minislot_log2",
         text: format!(in case.alloc;
-            "a minislot has {minislot} ticks, and round_ticks, {round}, is no multiple of that"
+            "a minislot has {minislot} ticks, which is no divisor of round_ticks, {round}"
         )?,
         other: Some(key_of_top("round_ticks")),
     })

@@ -19,7 +19,7 @@ pub(crate) fn located(
     for (draft, spot) in drafts.iter().zip(spots.iter()) {
         placed.push((*spot, draft))?;
     }
-    placed.sort_unstable_by_key(|(spot, _)| spot.at);
+    placed.sort_by_key(|(spot, _)| spot.at)?;
     let other_line = match spots.get(drafts.len()) {
         Some(other) => line_of(text, *other),
         None => 1,

@@ -180,7 +180,9 @@ fn twice<'d>(case: &Case<'d>, own: &[Sid]) -> Result<Why<'d>, AllocError> {
     let Sid { channel, sid } = repeated(own).unwrap_or(Sid { channel: 0, sid: 0 });
     Ok(Why {
         key: "clusters",
-        text: format!(in case.alloc; "SID {sid} is there twice on channel {channel}")?,
+        text: format!(in case.alloc;
+            "SID {sid} is there twice on channel {channel}, in two lists"
+        )?,
         other: None,
     })
 }

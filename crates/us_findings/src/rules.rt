@@ -114,7 +114,7 @@ impl<'d> Case<'d> {
         Ok(Why {
             key: "headers",
             text: format!(in self.alloc;
-                "false is there, a flow with {channels} channels wants true"
+                "false is there, and a flow with {channels} channels wants true"
             )?,
             other: None,
         })

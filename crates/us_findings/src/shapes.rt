@@ -3,7 +3,7 @@ use crate::documents::number_of;
 use crate::drafts::{Behind, Draft, Drafts};
 use crate::hints::hint_of;
 use crate::keys::Keys;
-use crate::shown::Shown;
+use crate::shown::ShownKey;
 use crate::titles::{Title, table_path};
 use crate::wanted::Wanted;
 use std::alloc::AllocError;
@@ -112,8 +112,8 @@ impl<'d> Shape<'d> {
         if !drafts.wants(fault) {
             return Ok(());
         }
-        let (title, shown) = (self.title, Shown(key.as_bytes()));
-        let (keys, hint) = (self.keys, hint_of(self.keys, key));
+        let (title, shown) = (self.title, ShownKey(key));
+        let (keys, hint) = (self.keys, hint_of(self.keys, self.table, key));
         drafts.add(Draft {
             fault,
             path: title.path_of(key),

@@ -25,6 +25,27 @@ impl fmt::Display for Shown<'_> {
     }
 }
 
+/// A key of the input as a finding shows it: in quotes, where it has others than letters, digits, `_` and `-`, or none.
+#[derive(Clone, Copy)]
+pub(crate) struct ShownKey<'a>(pub(crate) &'a str);
+
+impl fmt::Display for ShownKey<'_> {
+    fn fmt<W: fmt::Write>(&self, f: &mut fmt::Formatter<W>) -> fmt::Result {
+        let key = self.0.as_bytes();
+        let shown = Shown(key);
+        if !key.is_empty() && key.iter().all(is_bare) {
+            write!(f, "{shown}")
+        } else {
+            write!(f, "\"{shown}\"")
+        }
+    }
+}
+
+/// Whether a key with this byte may stand without quotes.
+fn is_bare(byte: &u8) -> bool {
+    byte.is_ascii_alphanumeric() || *byte == b'_' || *byte == b'-'
+}
+
 /// Writes the first character of a text, or its first byte where no character begins. What is left is answered.
 fn write_first<'a, W: fmt::Write>(
     f: &mut fmt::Formatter<W>,

@@ -3,6 +3,7 @@ ghost use Rattle.us_flows.specs.declared.faults.ConfigFault.TheVariants.{Text};
 ghost use Rattle.us_findings.specs.declared.findings.What.TheVariants as found;
 
 use crate::findings::{Finding, Findings, Source, What};
+use crate::shown::Shown;
 use std::alloc::{AllocError, Global};
 use toml::de::Error;
 use us_config_lines::line_and_column;
@@ -45,20 +46,21 @@ pub(crate) fn no_document(
         None => 0,
     };
     let (line, column) = line_and_column(text, at);
-    let (kind, message) = (kind_of(text), error.message());
     Ok(Finding {
         source: Source::Config,
         what: What::Config(ConfigFault::Text),
         line,
         column,
-        text: format!(in alloc; "not {kind}: {message}")?,
+        text: why_none(alloc, text, at, error)?,
     })
 }
 
-/// What a text isn't that is no document.
-fn kind_of(text: &[u8]) -> &'static str {
-    match str::from_utf8(text) {
-        Ok(_) => "TOML",
-        Err(_) => "UTF-8",
+/// Why it is none: for a byte that is no UTF-8, or as the reader says it.
+fn why_none(alloc: Global, text: &[u8], at: usize, error: &Error) -> Result<String, AllocError> {
+    if str::from_utf8(text).is_ok() {
+        let message = error.message();
+        return format!(in alloc; "not TOML: {message}");
     }
+    let byte = Shown(text.get(at..at.saturating_add(1)).unwrap_or(&[]));
+    format!(in alloc; "not UTF-8: {byte} is there")
 }
