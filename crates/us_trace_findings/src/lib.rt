@@ -8,7 +8,6 @@
 //! ```
 //!
 //! What these words mean stands in `specs/`, in the order of its `Lib.antt`.
-// An attribute of a function's own says what its proof needs beside: `using` names lemmas.
 #![tactic(auto)]
 
 // The records of a text, with their lines.
@@ -18,8 +17,6 @@ mod rows;
 mod row_errors;
 
 // The errors of a trace.
-#[cfg(test)]
-mod tests;
 mod trace_errors;
 
 pub use rows::Rows;

@@ -1,8 +1,12 @@
+use crate::rows::Rows;
 use csv::ByteRecord;
 use std::alloc::{AllocError, Global};
 use std::fmt;
 use us_findings::Shown;
-use us_requests::{MAX_CHANNEL, MAX_DIGITS, MAX_KIND, MAX_SID, MAX_TICK, MAX_UNITS, number_in};
+use us_requests::{
+    MAX_CHANNEL, MAX_DIGITS, MAX_KIND, MAX_RECORDS, MAX_SID, MAX_TICK, MAX_UNITS, TraceFault,
+    number_in,
+};
 
 /// A column of a trace, and the greatest number of its fields.
 #[derive(Clone, Copy)]
@@ -34,28 +38,49 @@ static COLUMNS: [Column; 5] = [
     },
 ];
 
-/// What is wrong with a record that is refused, behind a header of so many columns.
+/// What is wrong with the record that was read last, which has this fault, behind a header of so many columns.
 pub(crate) fn row_error(
     alloc: Global,
-    fields: &ByteRecord,
+    rows: &Rows<'_>,
     columns: usize,
+    fault: TraceFault,
 ) -> Result<String, AllocError> {
-    let count = fields.len();
-    if count != columns {
-        return format!(in alloc;
-            "{columns} fields are wanted, as in the header, {count} are there"
-        );
+    match fault {
+        TraceFault::Header => header_error(alloc, rows.first_line()),
+        TraceFault::Fields(_) => fields_error(alloc, rows, columns),
+        TraceFault::Number(_) => number_error(alloc, rows.fields()),
+        TraceFault::TooLarge | TraceFault::Read | TraceFault::NoMemory => format!(in alloc;
+            "at most {MAX_RECORDS} rows are wanted, the header among them, this is one more"
+        ),
     }
+}
+
+/// The first record is no header, or there is none.
+fn header_error(alloc: Global, line: &[u8]) -> Result<String, AllocError> {
+    let found = Found(line);
+    format!(in alloc;
+        "tick,channel,sid,units or tick,channel,sid,units,kind is wanted as the first row, {found} is there"
+    )
+}
+
+/// A record has too few fields, or too many.
+fn fields_error(alloc: Global, rows: &Rows<'_>, columns: usize) -> Result<String, AllocError> {
+    let (count, line) = (rows.fields().len(), Found(rows.first_line()));
+    format!(in alloc; "{columns} fields are wanted, as in the header, {count} are there: {line}")
+}
+
+/// A field is no number in its range; or all are, and the record is a mark and has units.
+fn number_error(alloc: Global, fields: &ByteRecord) -> Result<String, AllocError> {
     for (column, field) in COLUMNS.iter().zip(fields.iter()) {
         if number_in(field, column.greatest).is_none() {
-            return number_error(alloc, column, field);
+            return column_error(alloc, column, field);
         }
     }
     mark_error(alloc, fields)
 }
 
-/// What is wrong with a field that is no number of its column.
-fn number_error(alloc: Global, column: &Column, field: &[u8]) -> Result<String, AllocError> {
+/// A field is no number of its column.
+fn column_error(alloc: Global, column: &Column, field: &[u8]) -> Result<String, AllocError> {
     let Column { name, greatest } = *column;
     let (form, found) = (Form::broken_by(field), Found(field));
     format!(in alloc;
@@ -63,7 +88,7 @@ fn number_error(alloc: Global, column: &Column, field: &[u8]) -> Result<String, 
     )
 }
 
-/// A record of numbers is refused where it is a mark and has units.
+/// A mark has units.
 fn mark_error(alloc: Global, fields: &ByteRecord) -> Result<String, AllocError> {
     let units = Found(fields.get(3).unwrap_or(&[]));
     let kind = Shown(fields.get(4).unwrap_or(&[]));
@@ -108,7 +133,7 @@ impl fmt::Display for Form {
 
 /// What stands in the input, in quotes.
 #[derive(Clone, Copy)]
-pub(crate) struct Found<'a>(pub(crate) &'a [u8]);
+struct Found<'a>(&'a [u8]);
 
 impl fmt::Display for Found<'_> {
     fn fmt<W: fmt::Write>(&self, f: &mut fmt::Formatter<W>) -> fmt::Result {

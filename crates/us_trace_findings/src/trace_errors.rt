@@ -1,11 +1,15 @@
 ghost use Rattle.std.specs.Prelude.{◌≡◌, true, IfOk};
+ghost use Rattle.csv.specs.Records.{fields_of};
+ghost use Rattle.us_slots.specs.Lists.{first_of};
 ghost use Rattle.us_flows.specs.Tables.{rounds_fit};
+ghost use Rattle.us_requests.specs.Texts.{record_checks};
 ghost use Rattle.us_requests.specs.declared.faults.TraceFault.TheVariants as fault;
 ghost use Rattle.us_findings.specs.declared.findings.What.TheVariants as what;
 ghost use Rattle.us_trace_findings.specs.Errors.{IsTraceLint, IsOfText};
 
-use crate::row_errors::{Found, row_error};
+use crate::row_errors::row_error;
 use crate::rows::Rows;
+use csv::ByteRecord;
 use std::alloc::{AllocError, Global};
 use us_findings::{Finding, Findings, Source, What};
 use us_flows::Config;
@@ -47,12 +51,12 @@ pub fn too_long_trace(alloc: Global) -> Result<Findings, NoMemory>
 fn too_long(alloc: Global) -> Result<Finding, AllocError>
     ensures { IfOk result (λ finding. finding.what ≡ what.Trace fault.TooLarge) }
 {
-    let text = format!(in alloc; "at most {MAX_TRACE_BYTES} bytes are wanted, there are more")?;
+    let text = format!(in alloc; "at most {MAX_TRACE_BYTES} bytes are wanted, more are there")?;
     Ok(finding(TraceFault::TooLarge, 1, text))
 }
 
 /// The errors of a text that was refused for this fault. A slice gives every read, so a read that fails is want of memory.
-pub(crate) fn errors_of(alloc: Global, text: &[u8], fault: TraceFault) -> Result<Findings, NoMemory>
+fn errors_of(alloc: Global, text: &[u8], fault: TraceFault) -> Result<Findings, NoMemory>
     ensures first { IfOk result (λ findings. findings.first.what ≡ what.Trace fault) }
     ensures told { IfOk result (λ _. IsOfText fault) }
 {
@@ -61,7 +65,7 @@ pub(crate) fn errors_of(alloc: Global, text: &[u8], fault: TraceFault) -> Result
     }
     let mut told = Told::new(alloc);
     if text.len() <= MAX_TRACE_BYTES {
-        told.add_all(text)?;
+        told.add_all(&mut Rows::new(alloc, text))?;
     }
     told.with_first(fault)
 }
@@ -97,76 +101,38 @@ impl Told {
         }
     }
 
-    /// Those of a text.
-    fn add_all(&mut self, text: &[u8]) -> Result<(), NoMemory> {
-        let mut rows = Rows::new(self.alloc, text);
-        if !rows.read()? || !is_header(rows.fields()) {
-            return self.add_header(&rows);
+    /// Those of all records of a text. Where it has no header, that alone.
+    fn add_all(&mut self, rows: &mut Rows<'_>) -> Result<(), NoMemory> {
+        // Where there is no record, no fields are read.
+        let _found = rows.read()?;
+        if !is_header(rows.fields()) {
+            return self.add(rows, 0, TraceFault::Header);
         }
-        self.add_rows(&mut rows)
+        self.add_requests(rows, rows.fields().len())
     }
 
-    /// That the first record is no header, or that there is none.
-    fn add_header(&mut self, rows: &Rows<'_>) -> Result<(), NoMemory> {
-        let found = Found(rows.first_line());
-        let text = format!(in self.alloc;
-            "tick,channel,sid,units or tick,channel,sid,units,kind is wanted as the first row, {found} is there"
-        )?;
-        self.findings
-            .push(finding(TraceFault::Header, rows.line(), text))?;
-        Ok(())
-    }
-
-    /// Those of the records behind the header, which was read last.
-    fn add_rows(&mut self, rows: &mut Rows<'_>) -> Result<(), NoMemory> {
-        let columns = rows.fields().len();
-        for number in 2..MAX_RECORDS + 1 {
+    /// Those of the records behind a header of so many columns.
+    fn add_requests(&mut self, rows: &mut Rows<'_>, columns: usize) -> Result<(), NoMemory> {
+        for number in 2..MAX_RECORDS + 2 {
             if !rows.read()? {
                 return Ok(());
             }
-            if let Err(fault) = request_in(rows.fields(), columns, number) {
-                self.add_row(rows, columns, fault)?;
+            if let Some(fault) = fault_of(rows.fields(), columns, number) {
+                self.add(rows, columns, fault)?;
             }
-        }
-        if rows.read()? {
-            self.add_row_too_many(rows)?;
         }
         Ok(())
     }
 
     /// That of the record that was read last.
-    fn add_row(
-        &mut self,
-        rows: &Rows<'_>,
-        columns: usize,
-        fault: TraceFault,
-    ) -> Result<(), NoMemory> {
-        if self.is_full() {
+    fn add(&mut self, rows: &Rows<'_>, columns: usize, fault: TraceFault) -> Result<(), NoMemory> {
+        if self.findings.len() >= MAX_TOLD {
             self.more = self.more.saturating_add(1);
             return Ok(());
         }
-        let text = row_error(self.alloc, rows.fields(), columns)?;
+        let text = row_error(self.alloc, rows, columns, fault)?;
         self.findings.push(finding(fault, rows.line(), text))?;
         Ok(())
-    }
-
-    /// That the record that was read last is one more than a trace may have.
-    fn add_row_too_many(&mut self, rows: &Rows<'_>) -> Result<(), NoMemory> {
-        if self.is_full() {
-            self.more = self.more.saturating_add(1);
-            return Ok(());
-        }
-        let text = format!(in self.alloc;
-            "at most {MAX_RECORDS} rows, with the header, are wanted, this is one more"
-        )?;
-        self.findings
-            .push(finding(TraceFault::TooLarge, rows.line(), text))?;
-        Ok(())
-    }
-
-    /// Whether no more are told.
-    fn is_full(&self) -> bool {
-        self.findings.len() >= MAX_TOLD
     }
 
     /// All of a text with this fault, which is the first one that was found. Where none was, the text is too long.
@@ -192,4 +158,14 @@ impl Told {
             more,
         })
     }
+}
+
+/// The fault of the record of this number, behind a header of so many columns.
+fn fault_of(fields: &ByteRecord, columns: usize, number: u32) -> Option<TraceFault>
+    ensures { result ≡ first_of (record_checks columns number (fields_of fields.now)) }
+{
+    if number > MAX_RECORDS {
+        return Some(TraceFault::TooLarge);
+    }
+    request_in(fields, columns, number).err()
 }
