@@ -254,6 +254,10 @@ def input_of(number, kind=None):
 # What lint says
 
 
+def lines_of(output):
+    return output.decode().removesuffix("\n").split("\n") if output else []
+
+
 def wrong_form(output):
     """The first line of an output that has no form of lint's, or None."""
     try:
@@ -262,7 +266,7 @@ def wrong_form(output):
         return "no UTF-8"
     if CONTROL.search(text) or (text and not text.endswith("\n")):
         return repr(text)
-    return next((line for line in text.splitlines() if not FINDING.fullmatch(line) and not MORE.fullmatch(line)), None)
+    return next((line for line in lines_of(output) if not FINDING.fullmatch(line) and not MORE.fullmatch(line)), None)
 
 
 def judge(one, found):
@@ -279,7 +283,7 @@ def judge(one, found):
     form = wrong_form(output)
     if form is not None:
         return f"form: {form}", ""
-    lines = [FINDING.fullmatch(line) for line in output.decode().splitlines()]
+    lines = [FINDING.fullmatch(line) for line in lines_of(output)]
     findings = [line for line in lines if line and line.group(4) != "note"]
     wanted = 3 if any(line.group(5) for line in findings) else 1 if findings else 0
     if status != wanted:
