@@ -1,9 +1,10 @@
+use crate::amiss::Amiss;
 use std::alloc::{AllocError, Global};
 use us_config_lines::KeyPath;
-use us_flows::{ConfigFault, Place};
+use us_flows::ConfigFault;
 
-/// The most findings of a configuration, or of a trace, that are told one by one.
-pub(crate) const MAX_TOLD: usize = 50;
+/// The most findings of a configuration that are told, and not counted alone.
+const MAX_TOLD: usize = 50;
 
 /// A finding of a configuration whose line isn't known yet.
 #[derive(Drop)]
@@ -14,91 +15,64 @@ pub(crate) struct Draft<'a> {
     pub(crate) path: KeyPath<'a>,
     /// What is wrong.
     pub(crate) text: String,
-    /// Another table or key that it has to do with.
-    pub(crate) other: Option<KeyPath<'a>>,
-    /// Whether the value that stands there is shown behind the text.
-    pub(crate) shows_value: bool,
+    /// What is known only with the text of the configuration.
+    pub(crate) behind: Behind<'a>,
+}
+
+/// What stands behind the text of a finding, once its place is known.
+#[derive(Clone, Copy)]
+pub(crate) enum Behind<'a> {
+    /// Nothing.
+    Nothing,
+    /// The value of the key, or its kind where the value has no place of its own; and what of it is wrong.
+    Value(&'static str, Amiss),
+    /// The line of another key.
+    Line(KeyPath<'a>),
 }
 
 /// Findings, of which the first ones are kept and the others counted.
 #[derive(Drop)]
 pub(crate) struct Drafts<'a> {
     pub(crate) alloc: Global,
+    /// The fault that the program answers. A place is kept for the first finding of it.
+    fault: ConfigFault,
+    has_first: bool,
     pub(crate) kept: Vec<Draft<'a>>,
+    /// How many there are beside those that are kept.
     pub(crate) more: usize,
 }
 
 impl<'a> Drafts<'a> {
-    pub(crate) fn new(alloc: Global) -> Drafts<'a> {
+    /// None yet, of a configuration with this fault.
+    pub(crate) fn new(alloc: Global, fault: ConfigFault) -> Drafts<'a> {
         Drafts {
             alloc,
+            fault,
+            has_first: false,
             kept: Vec::new(alloc),
             more: 0,
         }
     }
 
-    /// How many there are, those that are counted alone among them.
-    pub(crate) fn count(&self) -> usize {
-        self.kept.len().saturating_add(self.more)
-    }
-
-    /// One more, of a table or a key alone.
-    pub(crate) fn add(
-        &mut self,
-        fault: ConfigFault,
-        path: KeyPath<'a>,
-        text: String,
-    ) -> Result<(), AllocError> {
-        self.push(Draft {
-            fault,
-            path,
-            text,
-            other: None,
-            shows_value: false,
-        })
-    }
-
-    /// One more, behind whose text stands the value of its key.
-    pub(crate) fn add_with_value(
-        &mut self,
-        fault: ConfigFault,
-        path: KeyPath<'a>,
-        text: String,
-    ) -> Result<(), AllocError> {
-        self.push(Draft {
-            fault,
-            path,
-            text,
-            other: None,
-            shows_value: true,
-        })
-    }
-
-    /// One more.
-    pub(crate) fn push(&mut self, draft: Draft<'a>) -> Result<(), AllocError> {
-        if self.kept.len() < MAX_TOLD {
-            self.kept.push(draft)?;
+    /// Whether one more finding, of this fault, is to be added. Where it isn't, it is counted.
+    pub(crate) fn wants(&mut self, fault: ConfigFault) -> bool {
+        let is_first = !self.has_first && fault == self.fault;
+        let free = if self.has_first {
+            MAX_TOLD
         } else {
-            self.more = self.more.saturating_add(1);
+            MAX_TOLD - 1
+        };
+        if is_first || self.kept.len() < free {
+            return true;
         }
+        self.more = self.more.saturating_add(1);
+        false
+    }
+
+    /// Adds one that is wanted.
+    pub(crate) fn add(&mut self, draft: Draft<'a>) -> Result<(), AllocError> {
+        self.has_first = self.has_first || draft.fault == self.fault;
+        self.kept.push(draft)?;
         Ok(())
-    }
-}
-
-/// A table of a configuration.
-pub(crate) fn table_path<'a>(place: Place) -> KeyPath<'a> {
-    KeyPath {
-        place,
-        profile: None,
-        key: None,
-    }
-}
-
-/// A key of a table.
-pub(crate) fn key_path<'a>(place: Place, key: &'a str) -> KeyPath<'a> {
-    KeyPath {
-        place,
-        profile: None,
-        key: Some(key),
     }
 }

@@ -1,154 +1,125 @@
-use crate::documents::{items_of, key_of, name_of, number_at};
-use crate::drafts::{Draft, Drafts, key_path, table_path};
+use crate::documents::{LISTS, TOP, items_of, title_of};
+use crate::drafts::{Behind, Draft, Drafts};
+use crate::keys::Keys;
 use crate::shapes::Shape;
-use crate::wanted::Wanted;
+use crate::titles::Title;
 use std::alloc::AllocError;
 use toml::{Table, Value};
 use us_flows::{
-    ConfigFault, Key, MAX_CODEWORD, Place, Rule, TableName, all_flow_keys, channel_keys, keeps,
-    profile_keys, short_keys, station_keys, top_keys, type_of,
+    ConfigFault, Key, MAX_CODEWORD, Place, Rule, TableName, channel_keys, keeps, kind_at,
+    profile_keys, short_keys, station_keys, top_keys,
 };
-use us_config_lines::KeyPath;
-
-/// The top level.
-const TOP: Place = Place {
-    table: TableName::Top,
-    index: 0,
-};
-
-/// The profiles of a channel.
-const PROFILES: [&str; 3] = ["long", "short", "unsolicited"];
 
 /// Adds what is wrong with the shapes of all tables of a document.
-pub(crate) fn add_shapes<'d>(drafts: &mut Drafts<'d>, document: &'d Table) -> Result<(), AllocError> {
-    add_table(drafts, document, document, TOP, top_keys())?;
-    for list in [TableName::Channel, TableName::Flow, TableName::Station] {
-        for (index, item) in items_of(document, list).iter().enumerate() {
-            let place = Place {
-                table: list,
-                index: index as u32,
-            };
-            if let Value::Table(table) = item {
-                add_item(drafts, document, table, place)?;
-            }
+pub(crate) fn add_shapes<'d>(
+    drafts: &mut Drafts<'d>,
+    document: &'d Table,
+) -> Result<(), AllocError> {
+    listed(document, TOP, top_keys()).add_to(drafts)?;
+    for list in LISTS {
+        for (index, item) in (0..u32::MAX).zip(items_of(document, list)) {
+            add_item(drafts, Place { table: list, index }, item)?;
         }
     }
     Ok(())
 }
 
-/// Those of one channel, flow or station.
-fn add_item<'d>(
-    drafts: &mut Drafts<'d>,
-    document: &'d Table,
-    table: &'d Table,
-    place: Place,
-) -> Result<(), AllocError> {
+/// Those of an item of a list of tables. One that is no table is told of with its list.
+fn add_item<'d>(drafts: &mut Drafts<'d>, place: Place, item: &'d Value) -> Result<(), AllocError> {
+    let Some(table) = item.as_table() else {
+        return Ok(());
+    };
     match place.table {
         TableName::Top => Ok(()),
         TableName::Channel => {
-            add_table(drafts, document, table, place, channel_keys())?;
-            add_profiles(drafts, document, table, place)
+            listed(table, place, channel_keys()).add_to(drafts)?;
+            add_profiles(drafts, table, place)
         }
-        TableName::Flow => add_flow(drafts, document, table, place),
-        TableName::Station => add_table(drafts, document, table, place, station_keys()),
+        TableName::Flow => add_flow(drafts, table, place),
+        TableName::Station => listed(table, place, station_keys()).add_to(drafts),
     }
 }
 
-/// Those of a table with these keys.
-fn add_table<'d>(
-    drafts: &mut Drafts<'d>,
-    document: &'d Table,
-    table: &'d Table,
-    place: Place,
-    keys: &[Key],
-) -> Result<(), AllocError> {
-    let name = name_of(drafts.alloc, document, place)?;
-    let shape = Shape {
-        keys,
+/// A table with these keys.
+fn listed<'d>(table: &'d Table, place: Place, keys: &'static [Key]) -> Shape<'d> {
+    Shape {
+        keys: Keys::Listed(keys),
         table,
-        place,
-        profile: None,
-        name: name.as_str(),
-    };
-    shape.add_to(drafts)
+        title: title_of(table, place),
+    }
 }
 
 /// Those of a flow. Where its type is wrong or missing, that is all: the type says which keys it may have.
-fn add_flow<'d>(
-    drafts: &mut Drafts<'d>,
-    document: &'d Table,
-    table: &'d Table,
-    place: Place,
-) -> Result<(), AllocError> {
-    let mut keys: Vec<Key> = Vec::new(drafts.alloc);
-    match type_of(table) {
+fn add_flow<'d>(drafts: &mut Drafts<'d>, table: &'d Table, place: Place) -> Result<(), AllocError> {
+    let shape = Shape {
+        keys: Keys::OfFlows(kind_at(table)),
+        table,
+        title: title_of(table, place),
+    };
+    match table.get("type") {
         Some(kind) => {
-            for (key, types, rule) in all_flow_keys() {
-                if types.have(kind) {
-                    keys.push((*key, *rule))?;
-                }
+            if keeps(Rule::Type, kind) {
+                shape.add_to(drafts)
+            } else {
+                shape.add_value(drafts, "type", Rule::Type, kind)
             }
-            add_table(drafts, document, table, place, &keys)
         }
-        None => add_type(drafts, document, table, place),
+        None => shape.add_missing(drafts, "type", Rule::Type),
     }
 }
 
-/// The type of a flow is wrong or missing.
-fn add_type<'d>(
-    drafts: &mut Drafts<'d>,
-    document: &'d Table,
-    table: &'d Table,
-    place: Place,
-) -> Result<(), AllocError> {
-    let name = name_of(drafts.alloc, document, place)?;
-    if table.get("type").is_none() {
-        let text = format!(in drafts.alloc; "{name}: the key type is missing")?;
-        return drafts.add(ConfigFault::Missing(place), table_path(place), text);
-    }
-    let wanted = Wanted(Rule::Type);
-    let text = format!(in drafts.alloc; "{name}, type: {wanted} is wanted")?;
-    drafts.add_with_value(ConfigFault::Range(place), key_path(place, "type"), text)
-}
-
-/// Those of a channel's profiles. One that is no table breaks the rule of its key, and has none of its own.
+/// Those of a channel's profiles. One that is no table breaks the rule of its key, and that is all.
 fn add_profiles<'d>(
     drafts: &mut Drafts<'d>,
-    document: &'d Table,
     channel: &'d Table,
     place: Place,
 ) -> Result<(), AllocError> {
-    for key in PROFILES {
-        if let Some(Value::Table(profile)) = channel.get(key) {
-            let channel_name = name_of(drafts.alloc, document, place)?;
-            let name = format!(in drafts.alloc; "{channel_name}, {key}")?;
-            let shape = Shape {
-                keys: if key == "short" { short_keys() } else { profile_keys() },
-                table: profile,
-                place,
-                profile: Some(key),
-                name: name.as_str(),
-            };
-            let before = drafts.count();
-            shape.add_to(drafts)?;
-            if drafts.count() == before {
-                add_codeword(drafts, shape)?;
-            }
-        }
-    }
-    Ok(())
+    add_profile(drafts, channel, place, "long", profile_keys())?;
+    add_profile(drafts, channel, place, "short", short_keys())?;
+    add_profile(drafts, channel, place, "unsolicited", profile_keys())
 }
 
-/// The FEC codewords of a profile are too long, where each of its values keeps its rule.
-fn add_codeword<'d>(drafts: &mut Drafts<'d>, shape: Shape<'d, '_>) -> Result<(), AllocError> {
-    let fec_k = number_at(shape.table, "fec_k");
-    let bytes = number_at(shape.table, "fec_t").saturating_mul(2).saturating_add(fec_k);
-    if bytes <= MAX_CODEWORD {
+/// Those of one profile.
+fn add_profile<'d>(
+    drafts: &mut Drafts<'d>,
+    channel: &'d Table,
+    place: Place,
+    key: &'static str,
+    keys: &'static [Key],
+) -> Result<(), AllocError> {
+    let Some(Value::Table(table)) = channel.get(key) else {
+        return Ok(());
+    };
+    let title = Title {
+        profile: Some(key),
+        ..title_of(channel, place)
+    };
+    let shape = Shape {
+        keys: Keys::Listed(keys),
+        table,
+        title,
+    };
+    shape.add_to(drafts)?;
+    add_codeword(drafts, shape)
+}
+
+/// That the codewords of a profile are too long, though both numbers keep their rules.
+fn add_codeword<'d>(drafts: &mut Drafts<'d>, profile: Shape<'d>) -> Result<(), AllocError> {
+    let (Some(data), Some(most)) = (profile.number("fec_k"), profile.number("fec_t")) else {
+        return Ok(());
+    };
+    let bytes = data.saturating_add(most.saturating_mul(2));
+    let fault = ConfigFault::Range(profile.title.place);
+    if bytes <= MAX_CODEWORD || !drafts.wants(fault) {
         return Ok(());
     }
-    let name = shape.name;
-    let text = format!(in drafts.alloc;
-        "{name}, fec_k: fec_k and twice fec_t are {bytes} together, and at most {MAX_CODEWORD} is wanted"
-    )?;
-    drafts.add(ConfigFault::Range(shape.place), shape.key_path("fec_k"), text)
+    let title = profile.title;
+    drafts.add(Draft {
+        fault,
+        path: title.path_of("fec_k"),
+        text: format!(in drafts.alloc;
+            "{title}, fec_k: {data} and twice fec_t, {most}, are {bytes}, at most {MAX_CODEWORD} is wanted"
+        )?,
+        behind: Behind::Nothing,
+    })
 }
