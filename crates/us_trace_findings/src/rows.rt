@@ -2,22 +2,26 @@ use csv::{ByteRecord, Reader, ReaderBuilder};
 use std::alloc::Global;
 use us_slots::NoMemory;
 
-/// The records of a text, each with the line on which it begins.
+/// What may stand before the first record, and is none of it.
+const BYTE_ORDER_MARK: &[u8] = b"\xef\xbb\xbf";
+
+/// The records of a text as `Trace::read` has them, one at a time, each with its line.
+///
+/// Lines count from 1, and a line feed ends one. A record begins behind blank lines, and may go over several lines.
 #[derive(Drop)]
-pub(crate) struct Rows<'a> {
+pub struct Rows<'a> {
     text: &'a [u8],
     reader: Reader<&'a [u8]>,
     fields: ByteRecord,
-    /// Where the reader stands, and on which line.
-    at: usize,
-    next_line: usize,
-    /// The line on which the record begins that was read last.
+    /// Where the record begins that was read last.
+    start: usize,
+    /// Its line.
     line: usize,
 }
 
 impl<'a> Rows<'a> {
-    /// Those of a text, in the order in which they stand there.
-    pub(crate) fn new(alloc: Global, text: &'a [u8]) -> Rows<'a> {
+    /// Those of a text, of which none was read.
+    pub fn new(alloc: Global, text: &'a [u8]) -> Rows<'a> {
         let reader = ReaderBuilder::new()
             .has_headers(false)
             .flexible(true)
@@ -26,48 +30,61 @@ impl<'a> Rows<'a> {
             text,
             reader,
             fields: ByteRecord::new(alloc),
-            at: 0,
-            next_line: 1,
-            line: 0,
+            start: 0,
+            line: 1,
         }
     }
 
-    /// Reads the next record, and answers whether there was one. Blank lines are passed over.
-    pub(crate) fn read(&mut self) -> Result<bool, NoMemory> {
-        self.pass(self.at.saturating_add(blank_bytes(self.text, self.at)));
-        self.line = self.next_line;
-        // A slice gives every read, so the one error is want of memory.
-        let Ok(found) = self.reader.read_byte_record(&mut self.fields) else {
-            return Err(NoMemory);
-        };
-        self.pass(self.reader.position().byte() as usize);
-        Ok(found)
+    /// Reads the next record, and answers whether there was one.
+    pub fn read(&mut self) -> Result<bool, NoMemory> {
+        self.find_start();
+        // A slice gives every read, and records may differ in their count of fields, so the one error is want of memory.
+        match self.reader.read_byte_record(&mut self.fields) {
+            Ok(found) => Ok(found),
+            Err(_) => Err(NoMemory),
+        }
     }
 
-    /// The fields of the record that was read last.
-    pub(crate) fn fields(&self) -> &ByteRecord {
+    /// The fields of the record that was read last; none where there was no more.
+    pub fn fields(&self) -> &ByteRecord {
         &self.fields
     }
 
-    /// Its line, from 1.
-    pub(crate) fn line(&self) -> usize {
+    /// The line on which that record begins; where there was no more, the line on which the text ends.
+    pub fn line(&self) -> usize {
         self.line
     }
 
-    /// Goes on to a place of the text, and counts its lines.
-    fn pass(&mut self, to: usize) {
-        if let Some(passed) = self.text.get(self.at..to) {
-            let feeds = passed.iter().filter(|byte| **byte == b'\n').count();
-            self.next_line = self.next_line.saturating_add(feeds);
-            self.at = to;
+    /// Its first line, as it stands in the text.
+    pub(crate) fn first_line(&self) -> &'a [u8] {
+        let rest = self.text.get(self.start..).unwrap_or(&[]);
+        match rest.iter().position(|byte| matches!(*byte, b'\n' | b'\r')) {
+            Some(end) => &rest[..end],
+            None => rest,
         }
     }
-}
 
-/// How many bytes of blank lines stand at a place.
-fn blank_bytes(text: &[u8], at: usize) -> usize {
-    match text.get(at..) {
-        Some(rest) => rest.iter().take_while(|byte| matches!(**byte, b'\n' | b'\r')).count(),
-        None => 0,
+    /// Finds where the next record begins. The reader stands before blank lines, and at first before a byte-order mark.
+    fn find_start(&mut self) {
+        let position = self.reader.position();
+        self.start = position.byte() as usize;
+        self.line = position.line() as usize;
+        if self.start == 0 && self.text.starts_with(BYTE_ORDER_MARK) {
+            self.start = BYTE_ORDER_MARK.len();
+        }
+        self.pass_blank_lines();
+    }
+
+    /// Passes over the line ends at `start`.
+    fn pass_blank_lines(&mut self) {
+        let rest = self.text.get(self.start..).unwrap_or(&[]);
+        for byte in rest {
+            match *byte {
+                b'\n' => self.line = self.line.saturating_add(1),
+                b'\r' => {}
+                _ => return,
+            }
+            self.start = self.start.saturating_add(1);
+        }
     }
 }

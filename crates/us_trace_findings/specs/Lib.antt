@@ -1,0 +1,2 @@
+-- what a lint of a trace answers, by what reading it answers
+pub mod Errors
