@@ -1,0 +1,3 @@
+//! What no clause says: the texts, of one change of the stored run for each rule.
+
+mod words;
