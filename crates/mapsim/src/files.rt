@@ -32,9 +32,24 @@ pub fn read_bytes<R: Files>(
     path: &str,
     stream: Stream,
 ) -> Result<Vec<u8>, Fault> {
-    match read_all(alloc, &mut open(rt, path, stream)?, usize::MAX) {
-        Ok(bytes) => Ok(bytes),
+    match read_at_most(rt, alloc, path, stream, usize::MAX)? {
+        Some(bytes) => Ok(bytes),
+        None => Err(Fault::NoMemory),
+    }
+}
+
+/// The same of a file that has at most so many bytes; none of one that has more.
+pub fn read_at_most<R: Files>(
+    rt: &R,
+    alloc: Global,
+    path: &str,
+    stream: Stream,
+    most: usize,
+) -> Result<Option<Vec<u8>>, Fault> {
+    match read_all(alloc, &mut open(rt, path, stream)?, most) {
+        Ok(bytes) => Ok(Some(bytes)),
+        Err(ReadFault::TooLarge) => Ok(None),
         Err(ReadFault::Failed) => Err(Fault::Device(stream)),
-        Err(ReadFault::TooLarge | ReadFault::NoMemory) => Err(Fault::NoMemory),
+        Err(ReadFault::NoMemory) => Err(Fault::NoMemory),
     }
 }
