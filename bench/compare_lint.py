@@ -24,7 +24,8 @@ lint's forms. Status 0 is nothing found, 1 warnings alone, 3 an error. Of one da
                record of the fault begins, where LF ends a line
 
 Of `looks` the warnings are compared with bench/plain_warnings.py: SIDs that no flow has, and those of calls, late rows,
-flows that no row names, and windows that no schedule could grant, with numbers and lines.
+flows that no row names, and windows that no schedule could grant, with numbers and lines; and how many rounds take in
+all rows.
 
 Of C2 and C3 the header of the table counts as `header` where another line is the right one. Where these are more than
 one in twenty of all with a known line, they are wrong. Each input that is wrong has a line, and what was run is left in
@@ -72,6 +73,7 @@ SILENT = re.compile(r"flow (\d+) \(id \d+\): no row of the trace .*")
 WINDOWS = re.compile(r"(flow|station) \d+ \(id (\d+)\), \w+: (\d+) of (?:the first )?(\d+) windows .* interval (\d+), "
                      r".* round (\d+)")
 OTHERS = re.compile(r"(\d+) more (.*), the first here")
+NOTE = re.compile(r"(\d+) rounds? takes? in all rows")
 MOST_WARNINGS = 10
 CONTROL = re.compile(r"[\0-\x09\x0b-\x1f\x7f-\x9f]")
 CHUNK = 100
@@ -230,7 +232,8 @@ def of_check(chance, one):
 
 def of_looks(chance, one):
     """A configuration and a trace without a fault."""
-    config, rounds = one.config.encode(), chance.choice([1, 2, one.rounds, chance.randint(1, 200)])
+    config = one.config.encode()
+    rounds = chance.choice([1, 2, one.rounds, chance.randint(1, 200)]) if chance.random() < 0.9 else None
     made = of_texts(config, one.trace, rounds)
     tables = plain_reader.tables_of(config)
     return made if made.fault else made._replace(looks=(tables, one.trace, rounds))
@@ -335,7 +338,12 @@ def wrong_looks(lines, tables, trace, rounds):
     """What is wrong with the warnings of an input without a fault, or None."""
     findings = [line for line in lines if line and line.group(4) == "warning"]
     texts = [finding.group(6) for finding in findings]
-    rows = plain_warnings.Rows(tables, trace, rounds)
+    most = plain_program.MOST_RUN_TICKS // tables["round_ticks"]
+    notes = [int(found.group(1)) for line in lines if line and (found := NOTE.match(line.group(6)))]
+    rows, is_noted = plain_warnings.Rows(tables, trace, rounds or most), rounds is None
+    if notes != [rows.rounds] * (is_noted and rows.rounds <= most):
+        return f"note: {notes} in place of {rows.rounds}"
+    rounds = rounds or most
     late = [[int(found["rows"]), int(finding.group(2))] for finding in findings
             if (found := LATE.fullmatch(finding.group(6)))]
     silent = {int(found.group(1)) for found in map(SILENT.fullmatch, texts) if found}
