@@ -6,7 +6,7 @@ use clap::{Arg, ArgAction, Command, value_parser};
 use std::alloc::{AllocError, Global};
 
 /// The version of the program, defined only here.
-const VERSION: &str = "1.0.0";
+const VERSION: &str = "1.1.0";
 
 /// The rounds of `pipe` where none are given.
 pub const DEFAULT_ROUNDS: u32 = 2;
