@@ -2,8 +2,8 @@ ghost use Rattle.std.specs.Prelude.{◌≡◌, IfOk};
 ghost use Rattle.us_findings.specs.Errors.{IsConfigLint};
 ghost use Rattle.us_findings.specs.declared.findings.What.TheVariants as found;
 
-use crate::drafts::Drafts;
 use crate::findings::{Finding, Findings, Source, What};
+use crate::lists::Drafts;
 use crate::located::located;
 use crate::rules::explained;
 use crate::tables::add_shapes;
@@ -56,8 +56,8 @@ fn errors_in(
     ensures { IfOk result (λ findings. findings.first.what ≡ found.Config fault) }
 {
     let mut drafts = Drafts::new(alloc, fault);
-    if let Some(draft) = explained(alloc, document, fault)? {
-        drafts.add(draft)?;
+    if let Some(draft) = explained(document, fault) {
+        drafts.push(draft)?;
     }
     add_shapes(&mut drafts, document)?;
     let mut findings = located(alloc, text, &drafts.kept)?;
@@ -75,10 +75,7 @@ fn take_first(
     findings: &mut Vec<Finding>,
     fault: ConfigFault,
 ) -> Result<Finding, AllocError> {
-    match findings
-        .iter()
-        .position(|finding| finding.what == What::Config(fault))
-    {
+    match findings.iter().position(|finding| finding.is_of(fault)) {
         Some(place) => Ok(findings.remove(place)),
         // Nobody comes here: each fault of a document has a finding.
         None => Ok(Finding {
