@@ -1,4 +1,5 @@
-ghost use Rattle.std.specs.Prelude.{◌≡◌, ◌≤◌, length, take};
+ghost use Rattle.std.specs.Prelude.{◌≡◌, ◌≤◌, length, take, not};
+ghost use Rattle.std.specs.List.{suffix_len};
 ghost use Rattle.us_config_lines.specs.Lines as spec;
 
 /// The line and the column of a place in a text, both from 1. A line ends with a line feed, and a column is a character.
@@ -22,8 +23,24 @@ fn line_behind(before: &[u8]) -> usize
 fn column_behind(before: &[u8]) -> usize
     ensures { result ≡ spec.column_behind before.now }
 {
-    let own_line = before.iter().rev().take_while(|byte| !ends_line(**byte));
-    own_line.filter(|byte| begins_character(**byte)).count() + 1
+    let own_line = &before[before.len() - last_line_len(before)..];
+    own_line
+        .iter()
+        .filter(|byte| begins_character(**byte))
+        .count()
+        + 1
+}
+
+/// How many bytes stand behind the last line feed.
+fn last_line_len(bytes: &[u8]) -> usize
+    ensures len { result ≡ suffix_len (λ byte. not (spec.ends_line byte)) bytes.now }
+    ensures within { result ≤ length bytes.now }
+{
+    bytes
+        .iter()
+        .rev()
+        .take_while(|byte| !ends_line(**byte))
+        .count()
 }
 
 /// Whether a byte is a line feed.

@@ -1,10 +1,11 @@
+use crate::spots::KeyPath;
 use us_flows::{Place, TableName};
 
 /// A table in which something is looked for: the top level, an item of a list, or a profile of one.
 #[derive(Clone, Copy)]
 pub(crate) struct Scope {
     pub(crate) place: Place,
-    pub(crate) profile: Option<&'static str>,
+    pub(crate) profile: Option<Profile>,
 }
 
 impl Scope {
@@ -24,6 +25,29 @@ impl Scope {
             profile: None,
         }
     }
+
+    /// The table itself, which is no profile.
+    pub(crate) fn itself(self) -> KeyPath<'static> {
+        KeyPath {
+            place: self.place,
+            profile: None,
+            key: None,
+        }
+    }
+
+    /// A key of it.
+    pub(crate) fn path(self, key: &str) -> KeyPath<'_> {
+        KeyPath {
+            place: self.place,
+            profile: match self.profile {
+                Some(Profile::Long) => Some("long"),
+                Some(Profile::Short) => Some("short"),
+                Some(Profile::Unsolicited) => Some("unsolicited"),
+                None => None,
+            },
+            key: Some(key),
+        }
+    }
 }
 
 /// The list of tables with this name.
@@ -36,13 +60,23 @@ pub(crate) fn list_of(name: &str) -> Option<TableName> {
     }
 }
 
-/// The profile with this name.
-pub(crate) fn profile_of(name: &str) -> Option<&'static str> {
-    match name {
-        "long" => Some("long"),
-        "short" => Some("short"),
-        "unsolicited" => Some("unsolicited"),
-        _ => None,
+/// A profile of a channel.
+#[derive(Clone, Copy)]
+pub(crate) enum Profile {
+    Long,
+    Short,
+    Unsolicited,
+}
+
+impl Profile {
+    /// The profile with this name.
+    fn named(name: &str) -> Option<Profile> {
+        match name {
+            "long" => Some(Profile::Long),
+            "short" => Some(Profile::Short),
+            "unsolicited" => Some(Profile::Unsolicited),
+            _ => None,
+        }
     }
 }
 
@@ -75,28 +109,28 @@ impl Counts {
         Some(index)
     }
 
-    /// The index of the last table of a list.
-    pub(crate) fn last(&self, list: TableName) -> Option<u32> {
+    /// The index of the last table of a list, 0 where there is none.
+    fn last(&self, list: TableName) -> u32 {
         let count = match list {
             TableName::Channel => self.channels,
             TableName::Flow => self.flows,
             TableName::Station => self.stations,
             TableName::Top => 0,
         };
-        count.checked_sub(1)
+        count.saturating_sub(1)
     }
 
-    /// The table that a key of another one names.
+    /// The table that a key of another one names, or the first table of the list.
     pub(crate) fn inside(&self, scope: Scope, name: &str) -> Option<Scope> {
         let Scope { place, profile } = scope;
         if place.table == TableName::Top {
             let table = list_of(name)?;
-            let index = self.last(table)?;
+            let index = self.last(table);
             Some(Scope::of(Place { table, index }))
         } else if profile.is_none() {
             Some(Scope {
                 place,
-                profile: Some(profile_of(name)?),
+                profile: Some(Profile::named(name)?),
             })
         } else {
             None
