@@ -168,7 +168,8 @@ fn activity_words(
     }
     let activities = Activities::of(alloc, run.config, run.trace)?;
     let end = u128::from(run.rounds()).saturating_sub(1);
-    let is_active = activities.is_active(first_word(run, id) as u16, end);
+    let word = u16::try_from(first_word(run, id)).unwrap_or(u16::MAX);
+    let is_active = activities.is_active(word, end);
     let wrong = match lines.first() {
         Some(Row::Activity(told)) => {
             first_wrong(&[Field::exact("active", u64::from(is_active), told.active)]).map(

@@ -227,7 +227,8 @@ fn minislot_of(
 /// The reserve that has the minislot. Others bound the gap.
 fn reserve_at(run: &Run<'_>, found: &mut MinislotLines, placed: &PlacedChannel) -> Option<Span> {
     let channel = placed.channel;
-    let first = if found.round % u64::from(channel.maintenance_every) == 0 {
+    let every = u64::from(channel.maintenance_every);
+    let first = if found.round.is_multiple_of(every) {
         u64::from(channel.maintenance_minislots)
     } else {
         0

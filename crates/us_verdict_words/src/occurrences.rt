@@ -183,7 +183,7 @@ fn unsettled_of(
 /// The first interval whose window closes in this round or later.
 fn first_interval(calendar: &Calendar<'_>, of: &ChannelEntry, round: u64) -> u64 {
     let entry = of.entry;
-    let from = u128::from(round) * calendar.round_quarters();
+    let from = u128::from(round).saturating_mul(calendar.round_quarters());
     let late = u128::from(entry.start) + u128::from(entry.jitter);
     saturated(
         from.saturating_sub(late)
@@ -198,9 +198,10 @@ fn first_of(
     broken: BrokenRule,
     counted: &Counted,
 ) -> Option<MissedOccurrence> {
+    let grants = counted.grants.max(1);
     for (place, count) in counted.counts.iter().enumerate() {
-        let i = counted.first.saturating_add(place as u64 / counted.grants);
-        let k = place as u64 % counted.grants;
+        let i = counted.first.saturating_add(place as u64 / grants);
+        let k = place as u64 % grants;
         if *count != 1 && k <= last_place(calendar, of, i) {
             return Some(MissedOccurrence {
                 round: broken.round,
