@@ -82,11 +82,11 @@ fn grant_fields(calendar: &Calendar<'_>, of: &ChannelEntry, grant: &Grant) -> [F
         .saturating_mul(of.len)
         .saturating_add(grant.start);
     [
-        Field::range("start, in minislots of the run", first, last, at),
+        Field::range("start, in minislots from round 0", first, last, at),
         Field::exact("SID", u64::from(owner.sid()), grant.sid),
         Field::exact("IUC", u64::from(owner.iuc().number()), grant.iuc),
         Field::exact(
-            "minislots",
+            "slots",
             u64::from(of.entry.slots_of(active)),
             grant.slots,
         ),

@@ -75,10 +75,9 @@ fn told(
     lines: Lines,
     wrong: Option<Wrong>,
 ) -> Result<Option<Words>, AllocError> {
-    let count = lines.count();
     let text = match wrong {
-        _ if count != wanted => {
-            format!(in alloc; "{last}: {wanted} wanted, {count} there{lines}")?
+        _ if lines.count() != wanted => {
+            format!(in alloc; "{last}: {wanted} is wanted, there is {lines}")?
         }
         Some(wrong) => format!(in alloc; "{last}: {wrong}")?,
         None => return Ok(None),

@@ -182,10 +182,10 @@ fn lacked(
     let lines = found.lines;
     let text = if has_channel {
         format!(in alloc;
-            "this line{lines}: round {round} is none of the run, --rounds says {rounds}"
+            "{lines}: round {round} is none of the run, --rounds says {rounds}"
         )?
     } else {
-        format!(in alloc; "this line{lines}: no channel has the id {channel}")?
+        format!(in alloc; "{lines}: no channel has the id {channel}")?
     };
     Ok(Words {
         file: lines.file(),
@@ -298,7 +298,7 @@ fn granted(
     );
     let (reserve, there) = (Also(reserve), Also(there.map(|there| there.1)));
     let text = format!(in alloc;
-        "round {round}, channel {channel}, minislot {at} of {len}: granted by this line{lines}; this one has {slots} minislots from {start} on for SID {sid}, IUC {iuc}{reserve}{there}"
+        "round {round}, channel {channel}, minislot {at} of {len}: granted by {lines}; here start {start}, slots {slots}, SID {sid}, IUC {iuc}{reserve}{there}"
     )?;
     Ok(Words {
         file: lines.file(),

@@ -94,14 +94,13 @@ fn count_words(
         Some(of) => window(&of, i),
         None => (0, 0),
     };
-    let count = lines.count();
     let what = if named.entry == EntryWord::Station {
         "station"
     } else {
         "flow"
     };
     let text = format!(in alloc;
-        "round {round}, channel {channel}, {what} {id}: interval {i}, k {k}, with minislots {first} to {last} of the run to start at: 1 line is wanted, {count} are there{lines}"
+        "round {round}, channel {channel}, {what} {id}: interval {i}, k {k}, which starts at minislots {first} to {last} from round 0: 1 line is wanted, there is {lines}"
     )?;
     Ok(Words {
         file: lines.file(),
