@@ -1,0 +1,105 @@
+use us_flows::{Place, TableName};
+
+/// A table in which something is looked for: the top level, an item of a list, or a profile of one.
+#[derive(Clone, Copy)]
+pub(crate) struct Scope {
+    pub(crate) place: Place,
+    pub(crate) profile: Option<&'static str>,
+}
+
+impl Scope {
+    /// The top level.
+    pub(crate) const TOP: Scope = Scope {
+        place: Place {
+            table: TableName::Top,
+            index: 0,
+        },
+        profile: None,
+    };
+
+    /// The table at a place.
+    pub(crate) fn of(place: Place) -> Scope {
+        Scope {
+            place,
+            profile: None,
+        }
+    }
+}
+
+/// The list of tables with this name.
+pub(crate) fn list_of(name: &str) -> Option<TableName> {
+    match name {
+        "channel" => Some(TableName::Channel),
+        "flow" => Some(TableName::Flow),
+        "station" => Some(TableName::Station),
+        _ => None,
+    }
+}
+
+/// The profile with this name.
+pub(crate) fn profile_of(name: &str) -> Option<&'static str> {
+    match name {
+        "long" => Some("long"),
+        "short" => Some("short"),
+        "unsolicited" => Some("unsolicited"),
+        _ => None,
+    }
+}
+
+/// How many tables of each list were met.
+#[derive(Clone, Copy)]
+pub(crate) struct Counts {
+    channels: u32,
+    flows: u32,
+    stations: u32,
+}
+
+impl Counts {
+    /// None yet.
+    pub(crate) const NONE: Counts = Counts {
+        channels: 0,
+        flows: 0,
+        stations: 0,
+    };
+
+    /// Counts one more table of a list: its index.
+    pub(crate) fn next(&mut self, list: TableName) -> Option<u32> {
+        let count = match list {
+            TableName::Channel => &mut self.channels,
+            TableName::Flow => &mut self.flows,
+            TableName::Station => &mut self.stations,
+            TableName::Top => return None,
+        };
+        let index = *count;
+        *count = index.checked_add(1)?;
+        Some(index)
+    }
+
+    /// The index of the last table of a list.
+    pub(crate) fn last(&self, list: TableName) -> Option<u32> {
+        let count = match list {
+            TableName::Channel => self.channels,
+            TableName::Flow => self.flows,
+            TableName::Station => self.stations,
+            TableName::Top => 0,
+        };
+        count.checked_sub(1)
+    }
+
+    /// The table that a key of another one names.
+    pub(crate) fn inside(&self, scope: Scope, name: &str) -> Option<Scope> {
+        let Scope { place, profile } = scope;
+        if place.table == TableName::Top {
+            let table = list_of(name)?;
+            let index = self.last(table)?;
+            Some(Scope::of(Place { table, index }))
+        } else if profile.is_none() {
+            Some(Scope {
+                place,
+                profile: Some(profile_of(name)?),
+            })
+        } else {
+            None
+        }
+    }
+}
