@@ -85,11 +85,7 @@ fn grant_fields(calendar: &Calendar<'_>, of: &ChannelEntry, grant: &Grant) -> [F
         Field::range("start, in minislots from round 0", first, last, at),
         Field::exact("SID", u64::from(owner.sid()), grant.sid),
         Field::exact("IUC", u64::from(owner.iuc().number()), grant.iuc),
-        Field::exact(
-            "slots",
-            u64::from(of.entry.slots_of(active)),
-            grant.slots,
-        ),
+        Field::exact("slots", u64::from(of.entry.slots_of(active)), grant.slots),
         Field::exact("credit", 0, grant.credit),
     ]
 }

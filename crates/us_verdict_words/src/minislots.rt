@@ -181,9 +181,7 @@ fn lacked(
     gather(alloc, run.report, &mut found)?;
     let lines = found.lines;
     let text = if has_channel {
-        format!(in alloc;
-            "{lines}: round {round} is none of the run, --rounds says {rounds}"
-        )?
+        format!(in alloc; "{lines}: round {round} is none of the run, --rounds says {rounds}")?
     } else {
         format!(in alloc; "{lines}: no channel has the id {channel}")?
     };

@@ -65,7 +65,10 @@ pub fn report_finding(alloc: Global, report: &[u8], line: u64) -> Result<Verdict
     let wanted = form_of(bytes);
     let text = match bytes.strip_suffix(b"\n") {
         Some(text) => format!(in alloc; "{wanted} is wanted, \"{}\" is there", Shown(text))?,
-        None => format!(in alloc; "{wanted} is wanted, \"{}\" is there, without a line feed", Shown(bytes))?,
+        None => format!(in alloc;
+            "{wanted} is wanted, \"{}\" is there, without a line feed",
+            Shown(bytes)
+        )?,
     };
     Ok(VerdictFinding {
         file: VerdictFile::Line(line),
