@@ -82,14 +82,10 @@ fn grant_fields(calendar: &Calendar<'_>, of: &ChannelEntry, grant: &Grant) -> [F
         .saturating_mul(of.len)
         .saturating_add(grant.start);
     [
-        Field::range("start, in minislots of the run", first, last, at),
+        Field::range("start, in minislots from round 0", first, last, at),
         Field::exact("SID", u64::from(owner.sid()), grant.sid),
         Field::exact("IUC", u64::from(owner.iuc().number()), grant.iuc),
-        Field::exact(
-            "minislots",
-            u64::from(of.entry.slots_of(active)),
-            grant.slots,
-        ),
+        Field::exact("slots", u64::from(of.entry.slots_of(active)), grant.slots),
         Field::exact("credit", 0, grant.credit),
     ]
 }
@@ -99,7 +95,7 @@ pub(crate) fn window(of: &ChannelEntry, interval: u64) -> (u64, u64) {
     let ticks = of.channel.bursts.time().minislot_ticks();
     let minislot = u128::from(QUARTERS_PER_TICK) * u128::from(ticks);
     let first = ideal(&of.entry, interval);
-    let last = first + u128::from(of.entry.jitter);
+    let last = first.saturating_add(u128::from(of.entry.jitter));
     (
         saturated(first.div_ceil(minislot)),
         saturated(last / minislot),
@@ -108,7 +104,7 @@ pub(crate) fn window(of: &ChannelEntry, interval: u64) -> (u64, u64) {
 
 /// The round of a missed occurrence: that in which its window closes.
 fn closing_field(calendar: &Calendar<'_>, of: &ChannelEntry, line: &MissedOccurrence) -> Field {
-    let end = ideal(&of.entry, line.i) + u128::from(of.entry.jitter);
+    let end = ideal(&of.entry, line.i).saturating_add(u128::from(of.entry.jitter));
     Field::exact(
         "round in which the window closes",
         saturated(end / calendar.round_quarters()),

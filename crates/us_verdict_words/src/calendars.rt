@@ -1,3 +1,5 @@
+ghost use Rattle.std.specs.Prelude.{◌≤◌};
+
 use crate::runs::Run;
 use std::alloc::Global;
 use us_activity::Activities;
@@ -41,7 +43,9 @@ impl<'a> Calendar<'a> {
     }
 
     /// The quarter microseconds of a round.
-    pub(crate) fn round_quarters(&self) -> u128 {
+    pub(crate) fn round_quarters(&self) -> u128
+        ensures { 1 ≤ result }
+    {
         u128::from(QUARTERS_PER_TICK) * u128::from(self.run.config.round_ticks())
     }
 

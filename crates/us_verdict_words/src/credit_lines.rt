@@ -90,7 +90,7 @@ fn wrong_cost(flow: &Flow, channel: &Channel, grant: &Grant) -> Option<Field> {
     }
     let (slots, iuc) = grant_cost(&channel.bursts, (grant.credit + header) as u32);
     first_wrong(&[
-        Field::exact("minislots of the credit", u64::from(slots), grant.slots),
+        Field::exact("slots of the credit", u64::from(slots), grant.slots),
         Field::exact("IUC", u64::from(iuc.number()), grant.iuc),
     ])
 }
@@ -141,7 +141,7 @@ fn double_words(alloc: Global, broken: BrokenRule, lines: Lines) -> Result<Words
     Ok(Words {
         file: lines.file(),
         text: format!(in alloc;
-            "round {round}, channel {channel}, flow {id}: this line{lines} are of one cluster, which has at most one grant in a round on a channel"
+            "round {round}, channel {channel}, flow {id}: 1 line of a cluster is wanted, there is {lines}"
         )?,
     })
 }

@@ -144,12 +144,12 @@ fn over_rate(
         Some(units) => {
             let most = units / u64::from(UNITS_PER_BYTE);
             format!(in alloc;
-                "round {round}, flow {id}: {bytes} bytes are credited by this line{lines}, at most {most} are left in the bucket (rate {rate} bit/s, burst {burst} bytes)"
+                "round {round}, flow {id}: {bytes} bytes are credited by {lines}, at most {most} are left in the bucket (rate {rate} bit/s, burst {burst} bytes)"
             )?
         }
         None => {
             format!(in alloc;
-                "round {round}, flow {id}: {bytes} bytes are credited by this line{lines}, more than rate ({rate} bit/s) and burst ({burst} bytes) allow"
+                "round {round}, flow {id}: {bytes} bytes are credited by {lines}, more than rate ({rate} bit/s) and burst ({burst} bytes) allow"
             )?
         }
     };
@@ -196,7 +196,7 @@ fn over_outstanding(
     Ok(Words {
         file: lines.file(),
         text: format!(in alloc;
-            "round {round}, flow {id}, cluster {cluster}: {bytes} bytes are credited by this line{lines}, at most {most} are outstanding"
+            "round {round}, flow {id}, cluster {cluster}: {bytes} bytes are credited by {lines}, at most {most} are outstanding"
         )?,
     })
 }

@@ -75,10 +75,9 @@ fn told(
     lines: Lines,
     wrong: Option<Wrong>,
 ) -> Result<Option<Words>, AllocError> {
-    let count = lines.count();
     let text = match wrong {
-        _ if count != wanted => {
-            format!(in alloc; "{last}: {wanted} wanted, {count} there{lines}")?
+        _ if lines.count() != wanted => {
+            format!(in alloc; "{last}: {wanted} is wanted, there is {lines}")?
         }
         Some(wrong) => format!(in alloc; "{last}: {wrong}")?,
         None => return Ok(None),
@@ -168,7 +167,8 @@ fn activity_words(
     }
     let activities = Activities::of(alloc, run.config, run.trace)?;
     let end = u128::from(run.rounds()).saturating_sub(1);
-    let is_active = activities.is_active(first_word(run, id) as u16, end);
+    let word = u16::try_from(first_word(run, id)).unwrap_or(u16::MAX);
+    let is_active = activities.is_active(word, end);
     let wrong = match lines.first() {
         Some(Row::Activity(told)) => {
             first_wrong(&[Field::exact("active", u64::from(is_active), told.active)]).map(

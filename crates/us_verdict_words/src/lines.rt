@@ -57,9 +57,13 @@ impl Lines {
     }
 }
 
-/// Writes those behind the first one, as ` and line 12 and line 15`.
+/// Writes them as `this line and line 12`, as a finding at the first one names them.
 impl fmt::Display for Lines {
     fn fmt<W: fmt::Write>(&self, f: &mut fmt::Formatter<W>) -> fmt::Result {
+        if self.count == 0 {
+            return f.write_str("no line");
+        }
+        f.write_str("this line")?;
         for number in self.numbers.iter().take(self.count).skip(1) {
             write!(f, " and line {number}")?;
         }
@@ -101,13 +105,13 @@ fn row_of(alloc: Global, line: &[u8]) -> Result<Option<Row>, NoMemory> {
     }
 }
 
-/// The bytes of the line of this number, from 1, without its line feed.
+/// The bytes of the line of this number, from 1, with its line feed.
 pub(crate) fn line_at(report: &[u8], number: u64) -> &[u8] {
     let mut at = 0_u64;
     for line in report.split_inclusive(|byte| *byte == b'\n') {
         at = at.saturating_add(1);
         if at == number {
-            return line.strip_suffix(b"\n").unwrap_or(line);
+            return line;
         }
     }
     &[]

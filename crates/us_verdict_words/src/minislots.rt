@@ -14,19 +14,40 @@ use us_slots::{Iuc, NoMemory};
 /// The SID that addresses all modems (the standard's).
 const BROADCAST: u64 = 0x3fff;
 
+/// What minislots of a MAP are.
+#[derive(Clone, Copy)]
+enum What {
+    Gap,
+    Maintenance,
+    Contention,
+    Element,
+}
+
 /// Minislots of a MAP that belong together, from the first one to the one behind the last one, and for whom they are.
 #[derive(Clone, Copy)]
 struct Span {
-    what: &'static str,
+    what: What,
     from: u64,
     to: u64,
     sid: u64,
     iuc: Iuc,
 }
 
+impl What {
+    /// What goes before the minislots.
+    fn text(self) -> &'static str {
+        match self {
+            What::Gap => "a gap is wanted,",
+            What::Maintenance => "the maintenance reserve has",
+            What::Contention => "the contention reserve has",
+            What::Element => "the MAP has",
+        }
+    }
+}
+
 impl Span {
     /// Minislots for all modems.
-    fn for_all(what: &'static str, from: u64, to: u64, iuc: Iuc) -> Span {
+    fn for_all(what: What, from: u64, to: u64, iuc: Iuc) -> Span {
         Span {
             what,
             from,
@@ -40,7 +61,7 @@ impl Span {
 /// Writes `the MAP has minislots 6 to 67 for SID 301, IUC 10`.
 impl fmt::Display for Span {
     fn fmt<W: fmt::Write>(&self, f: &mut fmt::Formatter<W>) -> fmt::Result {
-        let (what, from, last) = (self.what, self.from, self.to.saturating_sub(1));
+        let (what, from, last) = (self.what.text(), self.from, self.to.saturating_sub(1));
         let (sid, iuc) = (self.sid, self.iuc.number());
         write!(
             f,
@@ -134,11 +155,13 @@ pub(crate) fn minislot_words(
     run: &Run<'_>,
     broken: BrokenRule,
 ) -> Result<Words, NoMemory> {
-    match run.channel(broken.channel) {
-        Some(channel) if broken.round < run.rounds() => {
-            minislot_of(alloc, run, broken, &channel)
-        }
-        channel => lacked(alloc, run, broken, channel.is_some()),
+    let Some(placed) = run.channel(broken.channel) else {
+        return lacked(alloc, run, broken, false);
+    };
+    if broken.round < run.rounds() {
+        minislot_of(alloc, run, broken, &placed)
+    } else {
+        lacked(alloc, run, broken, true)
     }
 }
 
@@ -158,11 +181,9 @@ fn lacked(
     gather(alloc, run.report, &mut found)?;
     let lines = found.lines;
     let text = if has_channel {
-        format!(in alloc;
-            "this line{lines}: round {round} is none of the run, --rounds says {rounds}"
-        )?
+        format!(in alloc; "{lines}: round {round} is none of the run, --rounds says {rounds}")?
     } else {
-        format!(in alloc; "this line{lines}: no channel has the id {channel}")?
+        format!(in alloc; "{lines}: no channel has the id {channel}")?
     };
     Ok(Words {
         file: lines.file(),
@@ -183,7 +204,7 @@ fn minislot_of(
         at: broken.place,
         len: placed.len,
         lines: Lines::none(),
-        gap: Span::for_all("a gap is wanted,", 0, placed.len, Iuc::request()),
+        gap: Span::for_all(What::Gap, 0, placed.len, Iuc::request()),
     };
     gather(alloc, run.report, &mut found)?;
     let reserve = reserve_at(run, &mut found, placed);
@@ -204,7 +225,8 @@ fn minislot_of(
 /// The reserve that has the minislot. Others bound the gap.
 fn reserve_at(run: &Run<'_>, found: &mut MinislotLines, placed: &PlacedChannel) -> Option<Span> {
     let channel = placed.channel;
-    let first = if found.round % u64::from(channel.maintenance_every) == 0 {
+    let every = u64::from(channel.maintenance_every);
+    let first = if found.round.is_multiple_of(every) {
         u64::from(channel.maintenance_minislots)
     } else {
         0
@@ -215,10 +237,10 @@ fn reserve_at(run: &Run<'_>, found: &mut MinislotLines, placed: &PlacedChannel) 
     found.pass(last, contention);
     if found.at < first {
         let iuc = Iuc::initial_maintenance();
-        return Some(Span::for_all("the maintenance reserve has", 0, first, iuc));
+        return Some(Span::for_all(What::Maintenance, 0, first, iuc));
     }
     if last <= found.at && found.at < len {
-        return Some(Span::for_all("the contention reserve has", last, len, Iuc::request()));
+        return Some(Span::for_all(What::Contention, last, len, Iuc::request()));
     }
     None
 }
@@ -248,7 +270,7 @@ fn piece_of(elements: &[Element], at: u64) -> Option<Span> {
     let behind = elements.get(next)?;
     let element = elements.get(next.checked_sub(1)?)?;
     Some(Span {
-        what: "the MAP has",
+        what: What::Element,
         from: u64::from(element.offset()),
         to: u64::from(behind.offset()),
         sid: u64::from(element.sid()),
@@ -274,7 +296,7 @@ fn granted(
     );
     let (reserve, there) = (Also(reserve), Also(there.map(|there| there.1)));
     let text = format!(in alloc;
-        "round {round}, channel {channel}, minislot {at} of {len}: granted by this line{lines}; this one has {slots} minislots from {start} on for SID {sid}, IUC {iuc}{reserve}{there}"
+        "round {round}, channel {channel}, minislot {at} of {len}: granted by {lines}; here start {start}, slots {slots}, SID {sid}, IUC {iuc}{reserve}{there}"
     )?;
     Ok(Words {
         file: lines.file(),

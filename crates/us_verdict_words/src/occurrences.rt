@@ -94,14 +94,13 @@ fn count_words(
         Some(of) => window(&of, i),
         None => (0, 0),
     };
-    let count = lines.count();
     let what = if named.entry == EntryWord::Station {
         "station"
     } else {
         "flow"
     };
     let text = format!(in alloc;
-        "round {round}, channel {channel}, {what} {id}: interval {i}, k {k}, with minislots {first} to {last} of the run to start at: 1 line is wanted, {count} are there{lines}"
+        "round {round}, channel {channel}, {what} {id}: interval {i}, k {k}, which starts at minislots {first} to {last} from round 0: 1 line is wanted, there is {lines}"
     )?;
     Ok(Words {
         file: lines.file(),
@@ -183,7 +182,7 @@ fn unsettled_of(
 /// The first interval whose window closes in this round or later.
 fn first_interval(calendar: &Calendar<'_>, of: &ChannelEntry, round: u64) -> u64 {
     let entry = of.entry;
-    let from = u128::from(round) * calendar.round_quarters();
+    let from = u128::from(round).saturating_mul(calendar.round_quarters());
     let late = u128::from(entry.start) + u128::from(entry.jitter);
     saturated(
         from.saturating_sub(late)
@@ -198,9 +197,10 @@ fn first_of(
     broken: BrokenRule,
     counted: &Counted,
 ) -> Option<MissedOccurrence> {
+    let grants = counted.grants.max(1);
     for (place, count) in counted.counts.iter().enumerate() {
-        let i = counted.first.saturating_add(place as u64 / counted.grants);
-        let k = place as u64 % counted.grants;
+        let i = counted.first.saturating_add(place as u64 / grants);
+        let k = place as u64 % grants;
         if *count != 1 && k <= last_place(calendar, of, i) {
             return Some(MissedOccurrence {
                 round: broken.round,

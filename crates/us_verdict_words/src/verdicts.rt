@@ -13,6 +13,7 @@ use crate::occurrences::occurrence_words;
 use crate::records::record_words;
 use crate::runs::Run;
 use std::alloc::Global;
+use us_findings::Shown;
 use us_flows::Config;
 use us_requests::Trace;
 use us_slots::NoMemory;
@@ -60,11 +61,30 @@ fn words_of(alloc: Global, run: &Run<'_>, broken: BrokenRule) -> Result<Words, N
 pub fn report_finding(alloc: Global, report: &[u8], line: u64) -> Result<VerdictFinding, NoMemory>
     ensures { IfOk result (λ finding. finding.code.now ≡ codes "CK1") }
 {
-    let text = line_at(report, line);
-    let _ = text;
+    let bytes = line_at(report, line);
+    let wanted = form_of(bytes);
+    let text = match bytes.strip_suffix(b"\n") {
+        Some(text) => format!(in alloc; "{wanted} is wanted, \"{}\" is there", Shown(text))?,
+        None => format!(in alloc;
+            "{wanted} is wanted, \"{}\" is there, without a line feed",
+            Shown(bytes)
+        )?,
+    };
     Ok(VerdictFinding {
         file: VerdictFile::Line(line),
         code: "CK1",
-        text: format!(in alloc; "line {line} is none of a report")?,
+        text,
     })
+}
+
+/// The form of a line that begins like these bytes.
+fn form_of(bytes: &[u8]) -> &'static str {
+    match bytes.first() {
+        Some(b'G') => "G,round,channel,entry,id,i,k,sid,iuc,start,slots,credit",
+        Some(b'M') => "M,round,channel,entry,id,i,k",
+        Some(b'F') => "F,flow,cluster,outstanding,units",
+        Some(b'A') => "A,flow,active",
+        Some(b'U') => "U,unknown,not_requestable,late",
+        _ => "a line of G, M, F, A or U",
+    }
 }
