@@ -23,7 +23,8 @@ lint's forms. Status 0 is nothing found, 1 warnings alone, 3 an error. Of one da
   TR2, TR3     the damaged row's; where the header was damaged, any row's. And of all damaged traces that on which the
                record of the fault begins, where LF ends a line
 
-Of `looks` the warnings are compared with bench/plain_warnings.py: SIDs that no flow has, and those of calls, late rows,
+Of a verdict the line of the report, or the record and the byte of the maps file, has to be one that the rule and the
+place of the checker are about. Of `looks` the warnings are compared with bench/plain_warnings.py: SIDs that no flow has, and those of calls, late rows,
 flows that no row names, and windows that no schedule could grant, with numbers and lines; and how many rounds take in
 all rows.
 
@@ -74,6 +75,7 @@ WINDOWS = re.compile(r"(flow|station) \d+ \(id (\d+)\), \w+: (\d+) of (?:the fir
                      r".* round (\d+)")
 OTHERS = re.compile(r"(\d+) more (.*), the first here")
 NOTE = re.compile(r"(\d+) rounds? takes? in all rows")
+RECORD = re.compile(r"record (\d+), at byte (\d+)")
 MOST_WARNINGS = 10
 CONTROL = re.compile(r"[\0-\x09\x0b-\x1f\x7f-\x9f]")
 CHUNK = 100
@@ -299,6 +301,46 @@ def judge(one, found):
     return judged_first(one, findings[0])
 
 
+def fits_verdict(report, line, rule, round, channel, place):
+    """Whether a verdict may be about a line of the report."""
+    fields = report.split(b"\n")[line - 1].decode(errors="replace").split(",")
+    if fields[0] in "FA":
+        return rule == "P6" and int(fields[1]) == place
+    if fields[0] == "U":
+        return rule == "P6" and place == 0
+    here, id = (int(fields[1]), int(fields[2])), int(fields[4])
+    if rule == "P3":
+        return here == (round, channel)
+    # an occurrence may be told of in any round, and on any channel
+    return id == place and (rule == "P4" or here[0] == round and channel in (0, here[1]))
+
+
+def start_of_record(maps, number):
+    """Where a record of a maps file begins."""
+    at = 0
+    for _ in range(number):
+        at += 6 + int.from_bytes(maps[at + 4 : at + 6], "big")
+    return at
+
+
+def wrong_verdict(one, first):
+    """What is wrong with where a verdict is told of, or None."""
+    rule, *numbers = one.fault.split(" ")
+    round, channel, place = map(int, numbers)
+    if first.group(1) == "report":
+        line = int(first.group(2) or 0)
+        if line and not fits_verdict(one.files["report"], line, rule, round, channel, place):
+            return f"line {line} of the report for {one.fault}"
+        return None if rule in ("P3", "P4", "P5", "P6") else f"the report for {one.fault}"
+    record = RECORD.match(first.group(6))
+    if first.group(1) != "maps" or not record:
+        return None if rule == "P6" else f"no place for {one.fault}"
+    number, at = map(int, record.groups())
+    if at != start_of_record(one.files["maps"], number) or rule in ("P1", "P2") and number != place:
+        return f"record {number} at {at} for {one.fault}"
+    return None
+
+
 def judged_first(one, first):
     """The same of the first finding beside the fault of an input."""
     code, _, place = one.fault.partition(" ")
@@ -312,7 +354,11 @@ def judged_first(one, first):
         named = table.group().replace("the top level", "top 0") if table else None
         if named != place:
             return f"table {named} in place of {place}", ""
+    if code[0] == "P":
+        return wrong_verdict(one, first), ""
     line, column = int(first.group(2) or 1), int(first.group(3) or 1)
+    if code == "CK1" and line != int(place):
+        return f"line {line} in place of {place}", ""
     lines = one.files.get(first.group(1), b"").decode(errors="replace").split("\n")
     if line > len(lines) or column > len(lines[line - 1]) + 1:
         return f"no place {line}:{column}", ""
