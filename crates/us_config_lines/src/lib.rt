@@ -28,8 +28,6 @@ mod walks;
 
 // Lines and columns.
 mod lines;
-#[cfg(test)]
-mod tests;
 
 pub use lines::line_and_column;
 pub use spots::{KeyPath, Spot};

@@ -1,3 +1,4 @@
+use crate::spots::KeyPath;
 use us_flows::{Place, TableName};
 
 /// A table in which something is looked for: the top level, an item of a list, or a profile of one.
@@ -25,13 +26,26 @@ impl Scope {
         }
     }
 
-    /// The name of the profile that it is.
-    pub(crate) fn profile_name(self) -> Option<&'static str> {
-        match self.profile {
-            Some(Profile::Long) => Some("long"),
-            Some(Profile::Short) => Some("short"),
-            Some(Profile::Unsolicited) => Some("unsolicited"),
-            None => None,
+    /// The table itself, which is no profile.
+    pub(crate) fn itself(self) -> KeyPath<'static> {
+        KeyPath {
+            place: self.place,
+            profile: None,
+            key: None,
+        }
+    }
+
+    /// A key of it.
+    pub(crate) fn path(self, key: &str) -> KeyPath<'_> {
+        KeyPath {
+            place: self.place,
+            profile: match self.profile {
+                Some(Profile::Long) => Some("long"),
+                Some(Profile::Short) => Some("short"),
+                Some(Profile::Unsolicited) => Some("unsolicited"),
+                None => None,
+            },
+            key: Some(key),
         }
     }
 }
@@ -95,23 +109,23 @@ impl Counts {
         Some(index)
     }
 
-    /// The index of the last table of a list.
-    pub(crate) fn last(&self, list: TableName) -> Option<u32> {
+    /// The index of the last table of a list, 0 where there is none.
+    fn last(&self, list: TableName) -> u32 {
         let count = match list {
             TableName::Channel => self.channels,
             TableName::Flow => self.flows,
             TableName::Station => self.stations,
             TableName::Top => 0,
         };
-        count.checked_sub(1)
+        count.saturating_sub(1)
     }
 
-    /// The table that a key of another one names.
+    /// The table that a key of another one names, or the first table of the list.
     pub(crate) fn inside(&self, scope: Scope, name: &str) -> Option<Scope> {
         let Scope { place, profile } = scope;
         if place.table == TableName::Top {
             let table = list_of(name)?;
-            let index = self.last(table)?;
+            let index = self.last(table);
             Some(Scope::of(Place { table, index }))
         } else if profile.is_none() {
             Some(Scope {

@@ -1,7 +1,6 @@
 ghost use Rattle.std.specs.Prelude.{◌≤◌};
 ghost use Rattle.us_config_lines.specs.Places.{IsWithin};
 
-use crate::scopes::Scope;
 use us_flows::Place;
 
 /// A table of a configuration, or a key in it.
@@ -40,25 +39,16 @@ impl Found {
         is_own: false,
     };
 
-    /// Takes the spot of a key of a table. The first one stays.
-    pub(crate) fn meet(&mut self, wanted: &KeyPath<'_>, scope: Scope, name: &str, spot: Spot) {
-        if self.is_own || wanted.place != scope.place {
+    /// Takes the spot of a table or a key that is met, where it has to do with what is wanted. A thing's own first one
+    /// stays.
+    pub(crate) fn meet(&mut self, wanted: &KeyPath<'_>, met: KeyPath<'_>, spot: Spot) {
+        if self.is_own || wanted.place != met.place {
             return;
         }
-        let profile = scope.profile_name();
-        if wanted.profile == profile {
-            if wanted.key == Some(name) {
-                *self = Found { spot, is_own: true };
-            }
-        } else if profile.is_none() && wanted.profile == Some(name) {
+        if wanted.profile == met.profile && wanted.key == met.key {
+            *self = Found { spot, is_own: true };
+        } else if met.key.is_none() || (met.profile.is_none() && wanted.profile == met.key) {
             self.spot.at = spot.at;
-        }
-    }
-
-    /// Takes the place of a table.
-    pub(crate) fn meet_table(&mut self, wanted: &KeyPath<'_>, place: Place, at: usize) {
-        if wanted.place == place {
-            self.spot.at = at;
         }
     }
 

@@ -3,13 +3,16 @@ ghost use Rattle.std.specs.Prelude.{◌≡◌, ◌<◌, ◌==◌, ◌||◌};
 use crate::stops::Stop;
 use std::alloc::Global;
 use toml_parser::bytes::is_word;
-use toml_parser::text::{first, skip, skip_blank, skip_ws};
+use toml_parser::text::{first, skip, skip_blank};
 use toml_parser::{Key, dotted_key, quoted, starts_string, unquoted};
 
-/// A key at the front of a text, and what stands behind its `=`.
-pub(crate) fn key_and_value(alloc: Global, text: &str) -> Result<(Key, &str), Stop> {
+/// A key at the front of a text, and what stands behind the ASCII character that follows it.
+pub(crate) fn key_before(alloc: Global, text: &str, follows: u8) -> Result<(Key, &str), Stop>
+    requires some { 0 < follows }
+    requires ascii { follows < 128 }
+{
     let (key, rest) = dotted_key(alloc, text)?;
-    Ok((key, skip_ws(behind(b'=', rest)?)))
+    Ok((key, behind(follows, rest)?))
 }
 
 /// What stands behind this ASCII character.
@@ -86,7 +89,7 @@ fn behind_word(text: &str) -> Result<&str, Stop> {
 }
 
 /// Whether a byte opens a list or a table in braces.
-fn opens(byte: u8) -> bool
+pub(crate) fn opens(byte: u8) -> bool
     ensures { result ≡ (byte == 91 || byte == 123) }
 {
     byte == b'[' || byte == b'{'

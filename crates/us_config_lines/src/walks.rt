@@ -5,10 +5,10 @@ ghost use Rattle.us_config_lines.specs.Places.{IsWithin};
 use crate::scopes::{Counts, Scope, list_of};
 use crate::spots::{Found, KeyPath, Spot};
 use crate::stops::Stop;
-use crate::values::{behind, behind_comma, behind_value, key_and_value};
+use crate::values::{behind, behind_comma, behind_value, key_before, opens};
 use std::alloc::Global;
+use toml_parser::Key;
 use toml_parser::text::{byte_at, first, skip, skip_blank, skip_ws};
-use toml_parser::{Key, dotted_key};
 use us_flows::{Place, TableName};
 use us_slots::NoMemory;
 
@@ -19,10 +19,18 @@ pub fn spots_of(alloc: Global, text: &str, wanted: &[KeyPath<'_>]) -> Result<Vec
     ensures within { IfOk result (λ spots. All (IsWithin (length text.now)) spots.items) }
 {
     let found = found_in(alloc, text, wanted)?;
+    spots_in(alloc, &found, wanted.len(), text.len())
+}
+
+/// So many spots in a text of so many bytes.
+fn spots_in(alloc: Global, found: &[Found], count: usize, len: usize) -> Result<Vec<Spot>, NoMemory>
+    ensures count { IfOk result (λ spots. length spots.items ≡ count) }
+    ensures within { IfOk result (λ spots. All (IsWithin len) spots.items) }
+{
     let mut spots = Vec::new(alloc);
-    for place in 0..wanted.len() {
+    for place in 0..count {
         let found = found.get(place).copied().unwrap_or(Found::NOTHING);
-        spots.push(found.spot_in(text.len()))?;
+        spots.push(found.spot_in(len))?;
     }
     Ok(spots)
 }
@@ -52,74 +60,84 @@ struct Walk<'a> {
     /// Where each of these stands, as far as it was met.
     found: Vec<Found>,
     counts: Counts,
-    /// What is still to be looked into, of the values that were met.
+    /// What is still to be looked into.
     groups: Vec<Group>,
 }
 
-/// A value in which something is looked for, at a place of the text.
+/// A table in braces, or a list of tables, that stands at a place of the text.
 #[derive(Clone, Copy)]
-enum Group {
-    /// A table in braces.
-    Table(Scope, usize),
-    /// A list of tables.
-    List(TableName, usize),
+struct Group {
+    /// The table, or one of the list.
+    scope: Scope,
+    at: usize,
 }
 
-impl<'a> Walk<'a> {
+impl Walk<'_> {
     /// From the start of the text to its end.
     fn document(&mut self) -> Result<(), Stop> {
-        let text = self.text;
-        let mut rest = text.strip_prefix('\u{feff}').unwrap_or(text);
+        let mut rest = without_mark(self.text);
         let mut section = Some(Scope::TOP);
-        for _ in 0..text.len() {
+        for _ in 0..self.text.len() {
             let start = skip_blank(rest, true);
             if start.is_empty() {
                 break;
             }
-            if first(start) == b'[' {
-                (section, rest) = self.header(start)?;
-            } else {
-                rest = self.pair(section, start)?;
-                self.groups()?;
-            }
+            (section, rest) = self.line(section, start)?;
         }
         Ok(())
     }
 
-    /// A header: the table that it opens, where something is looked for there, and what stands behind.
-    fn header<'t>(&mut self, start: &'t str) -> Result<(Option<Scope>, &'t str), Stop> {
-        let is_item = byte_at(start, 1) == b'[';
-        let inside = behind(b'[', start)?;
-        let inside = if is_item {
-            behind(b'[', inside)?
-        } else {
-            inside
-        };
-        let (key, rest) = dotted_key(self.alloc, skip_ws(inside))?;
-        let rest = behind(b']', rest)?;
-        let rest = if is_item { behind(b']', rest)? } else { rest };
-        let at = self.offset(start);
-        if is_item && key.path.is_empty() {
-            self.next_item(key.last.as_str(), at);
+    /// A header or a key below the last header: the table in which the next key stands, and what stands behind.
+    fn line<'t>(
+        &mut self,
+        section: Option<Scope>,
+        start: &'t str,
+    ) -> Result<(Option<Scope>, &'t str), Stop> {
+        if first(start) == b'[' {
+            return self.header(start);
         }
-        Ok((
-            self.meet_key(Scope::TOP, &key, Spot { at, value: None }),
-            rest,
-        ))
+        let rest = self.pair(section, start)?;
+        self.groups()?;
+        Ok((section, rest))
     }
 
-    /// The next table of a list with a name.
-    fn next_item(&mut self, name: &str, at: usize) {
-        if let Some(table) = list_of(name) {
-            if let Some(index) = self.counts.next(table) {
-                self.meet_table(Place { table, index }, at);
+    /// A header: the table that it opens, where something is looked for there, and what stands behind.
+    fn header<'t>(&mut self, start: &'t str) -> Result<(Option<Scope>, &'t str), Stop>
+        requires { slice_index start.now 0 ≡ 91 }
+    {
+        let is_item = byte_at(start, 1) == b'[';
+        let inside = if is_item {
+            skip(start, 2)
+        } else {
+            skip(start, 1)
+        };
+        let (key, rest) = key_before(self.alloc, skip_ws(inside), b']')?;
+        let rest = if is_item { behind(b']', rest)? } else { rest };
+        let spot = Spot {
+            at: self.offset(start),
+            value: None,
+        };
+        if is_item {
+            self.next_item(&key, spot);
+        }
+        Ok((self.meet_key(Scope::TOP, &key, spot), rest))
+    }
+
+    /// The next table of the list with this key.
+    fn next_item(&mut self, key: &Key, spot: Spot) {
+        if key.path.is_empty() {
+            if let Some(table) = list_of(key.last.as_str()) {
+                if let Some(index) = self.counts.next(table) {
+                    self.meet(Scope::of(Place { table, index }).itself(), spot);
+                }
             }
         }
     }
 
     /// A key with its value, in a table where something is looked for or not: what stands behind.
     fn pair<'t>(&mut self, scope: Option<Scope>, start: &'t str) -> Result<&'t str, Stop> {
-        let (key, value) = key_and_value(self.alloc, start)?;
+        let (key, value) = key_before(self.alloc, start, b'=')?;
+        let value = skip_ws(value);
         let rest = behind_value(self.alloc, value)?;
         if let Some(scope) = scope {
             let at = self.offset(value);
@@ -128,7 +146,9 @@ impl<'a> Walk<'a> {
                 value: Some((at, self.offset(rest))),
             };
             let inside = self.meet_key(scope, &key, spot);
-            self.meet_group(scope, &key, inside, first(value), at)?;
+            if opens(first(value)) {
+                self.note(inside, at)?;
+            }
         }
         Ok(rest)
     }
@@ -138,44 +158,42 @@ impl<'a> Walk<'a> {
         let mut scope = scope;
         for part in &key.path {
             let Spot { at, .. } = spot;
-            self.meet(scope, part.as_str(), Spot { at, value: None });
+            self.meet(scope.path(part.as_str()), Spot { at, value: None });
             scope = self.counts.inside(scope, part.as_str())?;
         }
-        self.meet(scope, key.last.as_str(), spot);
+        self.meet(scope.path(key.last.as_str()), spot);
         self.counts.inside(scope, key.last.as_str())
     }
 
-    /// A key's value that begins with this byte: a table in braces or a list in which something is looked for.
-    fn meet_group(
-        &mut self,
-        scope: Scope,
-        key: &Key,
-        inside: Option<Scope>,
-        byte: u8,
-        at: usize,
-    ) -> Result<(), Stop> {
-        if byte == b'{' {
-            if let Some(inside) = inside {
-                self.groups.push(Group::Table(inside, at))?;
-            }
-        } else if byte == b'[' && key.path.is_empty() && scope.place.table == TableName::Top {
-            if let Some(list) = list_of(key.last.as_str()) {
-                self.groups.push(Group::List(list, at))?;
+    /// A table in braces or a list, which is looked into later on.
+    fn note(&mut self, scope: Option<Scope>, at: usize) -> Result<(), Stop> {
+        if let Some(scope) = scope {
+            self.groups.push(Group { scope, at })?;
+        }
+        Ok(())
+    }
+
+    /// Into all groups that are noted, also those that are met there.
+    fn groups(&mut self) -> Result<(), Stop> {
+        for _ in 0..self.text.len() {
+            match self.groups.pop() {
+                Some(group) => self.group(group)?,
+                None => break,
             }
         }
         Ok(())
     }
 
-    /// Into all values that are still to be looked into, also those that are met there.
-    fn groups(&mut self) -> Result<(), Stop> {
-        for _ in 0..self.text.len() {
-            match self.groups.pop() {
-                Some(Group::Table(scope, at)) => {
-                    self.members(scope, self.text_at(at)?)?;
-                }
-                Some(Group::List(list, at)) => self.items(list, self.text_at(at)?)?,
-                None => break,
-            }
+    /// Into a group.
+    fn group(&mut self, group: Group) -> Result<(), Stop> {
+        let Group { scope, at } = group;
+        let Some((_, start)) = self.text.split_at_checked(at) else {
+            return Err(Stop::Lost);
+        };
+        if first(start) == b'{' {
+            self.members(scope, start)?;
+        } else if scope.profile.is_none() {
+            self.items(scope.place.table, start)?;
         }
         Ok(())
     }
@@ -195,7 +213,8 @@ impl<'a> Walk<'a> {
 
     /// An item of a list, which may be a table: what stands behind.
     fn item<'t>(&mut self, place: Place, start: &'t str) -> Result<&'t str, Stop> {
-        self.meet_table(place, self.offset(start));
+        let at = self.offset(start);
+        self.meet(Scope::of(place).itself(), Spot { at, value: None });
         if first(start) == b'{' {
             self.members(Scope::of(place), start)
         } else {
@@ -216,25 +235,10 @@ impl<'a> Walk<'a> {
         Err(Stop::Lost)
     }
 
-    /// Notes where a key of a table stands.
-    fn meet(&mut self, scope: Scope, name: &str, spot: Spot) {
+    /// Notes where a table or a key stands.
+    fn meet(&mut self, met: KeyPath<'_>, spot: Spot) {
         for (wanted, found) in self.wanted.iter().zip(self.found.iter_mut()) {
-            found.meet(wanted, scope, name, spot);
-        }
-    }
-
-    /// Notes where a table begins.
-    fn meet_table(&mut self, place: Place, at: usize) {
-        for (wanted, found) in self.wanted.iter().zip(self.found.iter_mut()) {
-            found.meet_table(wanted, place, at);
-        }
-    }
-
-    /// The text from a place on.
-    fn text_at(&self, at: usize) -> Result<&'a str, Stop> {
-        match self.text.split_at_checked(at) {
-            Some((_, rest)) => Ok(rest),
-            None => Err(Stop::Lost),
+            found.meet(wanted, met, spot);
         }
     }
 
@@ -242,4 +246,9 @@ impl<'a> Walk<'a> {
     fn offset(&self, rest: &str) -> usize {
         self.text.len().saturating_sub(rest.len())
     }
+}
+
+/// A text without the mark of the order of bytes at its start.
+fn without_mark(text: &str) -> &str {
+    text.strip_prefix('\u{feff}').unwrap_or(text)
 }
