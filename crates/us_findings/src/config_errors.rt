@@ -2,8 +2,8 @@ ghost use Rattle.std.specs.Prelude.{◌≡◌, IfOk};
 ghost use Rattle.us_findings.specs.Errors.{IsConfigLint};
 ghost use Rattle.us_findings.specs.declared.findings.What.TheVariants as found;
 
-use crate::drafts::Drafts;
 use crate::findings::{Finding, Findings, Source, What};
+use crate::lists::Drafts;
 use crate::located::located;
 use crate::rules::explained;
 use crate::tables::add_shapes;
@@ -55,11 +55,7 @@ fn errors_in(
 ) -> Result<Findings, NoMemory>
     ensures { IfOk result (λ findings. findings.first.what ≡ found.Config fault) }
 {
-    let mut drafts = Drafts::new(alloc, fault);
-    if let Some(draft) = explained(alloc, document, fault)? {
-        drafts.add(draft)?;
-    }
-    add_shapes(&mut drafts, document)?;
+    let drafts = drafts_of(alloc, document, fault)?;
     let mut findings = located(alloc, text, &drafts.kept)?;
     let first = take_first(alloc, &mut findings, fault)?;
     Ok(Findings {
@@ -69,16 +65,27 @@ fn errors_in(
     })
 }
 
+/// What is wrong with a document: why it has this fault, and the shapes of all tables.
+fn drafts_of<'d>(
+    alloc: Global,
+    document: &'d Table,
+    fault: ConfigFault,
+) -> Result<Drafts<'d>, AllocError> {
+    let mut drafts = Drafts::new(alloc, fault);
+    if let Some(draft) = explained(document, fault) {
+        drafts.push(draft)?;
+    }
+    add_shapes(&mut drafts, document)?;
+    Ok(drafts)
+}
+
 /// Takes the first of these findings that is of this fault.
 fn take_first(
     alloc: Global,
     findings: &mut Vec<Finding>,
     fault: ConfigFault,
 ) -> Result<Finding, AllocError> {
-    match findings
-        .iter()
-        .position(|finding| finding.what == What::Config(fault))
-    {
+    match findings.iter().position(|finding| finding.is_of(fault)) {
         Some(place) => Ok(findings.remove(place)),
         // Nobody comes here: each fault of a document has a finding.
         None => Ok(Finding {

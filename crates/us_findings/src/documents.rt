@@ -50,8 +50,8 @@ pub(crate) fn table_at(document: &Table, place: Place) -> Option<&Table> {
 /// What a finding calls a table that stands at a place.
 pub(crate) fn title_of(table: &Table, place: Place) -> Title {
     let id = match table.get("id") {
-        Some(value) => value.as_integer(),
-        None => None,
+        Some(Value::Integer(id)) => u64::try_from(*id).ok(),
+        _ => None,
     };
     Title {
         place,

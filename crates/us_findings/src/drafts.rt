@@ -1,78 +1,116 @@
-use crate::amiss::Amiss;
-use std::alloc::{AllocError, Global};
+use crate::documents::list_of;
+use crate::hints::{Hint, hint_of};
+use crate::keys::Keys;
+use crate::sentences::Sentence;
+use crate::shown::ShownKey;
+use crate::titles::{Title, path_in};
+use crate::values::wanted;
+use std::fmt;
+use toml::{Table, Value};
 use us_config_lines::KeyPath;
-use us_flows::ConfigFault;
+use us_flows::{ConfigFault, Place, Rule};
 
-/// The most findings of a configuration that are told, and not counted alone.
-const MAX_TOLD: usize = 50;
-
-/// A finding of a configuration whose line isn't known yet.
-#[derive(Drop)]
-pub(crate) struct Draft<'a> {
-    /// The fault.
-    pub(crate) fault: ConfigFault,
-    /// The table or key that it is about.
-    pub(crate) path: KeyPath<'a>,
-    /// What is wrong.
-    pub(crate) text: String,
-    /// What is known only with the text of the configuration.
-    pub(crate) behind: Behind<'a>,
-}
-
-/// What stands behind the text of a finding, once its place is known.
+/// A finding of a configuration whose line isn't known yet, and which isn't written yet.
 #[derive(Clone, Copy)]
-pub(crate) enum Behind<'a> {
-    /// Nothing.
-    Nothing,
-    /// The value of the key, or its kind where the value has no place of its own; and what of it is wrong.
-    Value(&'static str, Amiss),
-    /// The line of another key.
-    Line(KeyPath<'a>),
+pub(crate) struct Draft<'a> {
+    pub(crate) fault: ConfigFault,
+    /// The table that it is about.
+    pub(crate) title: Title,
+    pub(crate) problem: Problem<'a>,
 }
 
-/// Findings, of which the first ones are kept and the others counted.
-#[derive(Drop)]
-pub(crate) struct Drafts<'a> {
-    pub(crate) alloc: Global,
-    /// The fault that the program answers. A place is kept for the first finding of it.
-    fault: ConfigFault,
-    has_first: bool,
-    pub(crate) kept: Vec<Draft<'a>>,
-    /// How many there are beside those that are kept.
-    pub(crate) more: usize,
+/// What is wrong with a table.
+#[derive(Clone, Copy)]
+pub(crate) enum Problem<'a> {
+    /// It lacks a key of this rule.
+    Missing(&'static str, Rule),
+    /// The value of a key breaks its rule.
+    Value(&'a str, Rule, &'a Value),
+    /// It is this table, which can have these keys alone, and has another.
+    Unknown(&'a str, Keys, &'a Table),
+    /// It breaks a rule of several keys, or of several tables.
+    Several(Why<'a>),
 }
 
-impl<'a> Drafts<'a> {
-    /// None yet, of a configuration with this fault.
-    pub(crate) fn new(alloc: Global, fault: ConfigFault) -> Drafts<'a> {
-        Drafts {
-            alloc,
-            fault,
-            has_first: false,
-            kept: Vec::new(alloc),
-            more: 0,
+/// Why a table breaks a rule of several keys or tables.
+#[derive(Clone, Copy)]
+pub(crate) struct Why<'a> {
+    /// The key that is to be changed.
+    pub(crate) key: &'static str,
+    /// What is wrong with it.
+    pub(crate) sentence: Sentence,
+    /// A key of another table that has to do with it.
+    pub(crate) other: Option<KeyPath<'a>>,
+}
+
+impl<'a> Draft<'a> {
+    /// Where it stands. Of too many tables it is the first that is too many.
+    pub(crate) fn path(&self) -> KeyPath<'a> {
+        match self.problem {
+            Problem::Missing(..) => self.title.path(),
+            Problem::Value(key, rule, value) => match too_many(key, rule, value) {
+                Some(first) => path_in(first, None),
+                None => self.title.path_of(key),
+            },
+            Problem::Unknown(key, ..) => self.title.path_of(key),
+            Problem::Several(why) => self.title.path_of(why.key),
         }
     }
 
-    /// Whether one more finding, of this fault, is to be added. Where it isn't, it is counted.
-    pub(crate) fn wants(&mut self, fault: ConfigFault) -> bool {
-        let is_first = !self.has_first && fault == self.fault;
-        let free = if self.has_first {
-            MAX_TOLD
-        } else {
-            MAX_TOLD - 1
+    /// The key of another table that it names.
+    pub(crate) fn other(&self) -> Option<KeyPath<'a>> {
+        match self.problem {
+            Problem::Several(why) => why.other,
+            _ => None,
+        }
+    }
+}
+
+/// The first table of a list that is too many, where there are too many.
+fn too_many(key: &str, rule: Rule, value: &Value) -> Option<Place> {
+    let Rule::Tables(_, many) = rule else {
+        return None;
+    };
+    if value.as_array()?.len() <= many as usize {
+        return None;
+    }
+    Some(Place {
+        table: list_of(key)?,
+        index: many,
+    })
+}
+
+/// Writes what is wrong, behind the title of the table.
+impl fmt::Display for Problem<'_> {
+    fn fmt<W: fmt::Write>(&self, f: &mut fmt::Formatter<W>) -> fmt::Result {
+        let (before, key, between) = match *self {
+            Problem::Missing(key, _) => (": the key ", key, " is missing, "),
+            Problem::Value(key, ..) | Problem::Unknown(key, ..) => (", ", key, ": "),
+            Problem::Several(why) => (", ", why.key, ": "),
         };
-        if is_first || self.kept.len() < free {
-            return true;
+        let (key, sentence, hint) = (ShownKey(key), self.sentence(), self.hint());
+        let (words, meant) = (hint.words, hint.key);
+        write!(f, "{before}{key}{between}{sentence}{words}{meant}")
+    }
+}
+
+impl Problem<'_> {
+    /// What is wanted of the key, or wrong with it.
+    fn sentence(&self) -> Sentence {
+        match *self {
+            Problem::Missing(_, rule) | Problem::Value(_, rule, _) => wanted(rule),
+            Problem::Unknown(_, keys, _) => keys.none_of(),
+            Problem::Several(why) => why.sentence,
         }
-        self.more = self.more.saturating_add(1);
-        false
     }
 
-    /// Adds one that is wanted.
-    pub(crate) fn add(&mut self, draft: Draft<'a>) -> Result<(), AllocError> {
-        self.has_first = self.has_first || draft.fault == self.fault;
-        self.kept.push(draft)?;
-        Ok(())
+    /// What stands behind that.
+    fn hint(&self) -> Hint {
+        let words = match *self {
+            Problem::Missing(..) | Problem::Value(..) => " is wanted",
+            Problem::Unknown(key, keys, table) => return hint_of(keys, table, key),
+            Problem::Several(_) => "",
+        };
+        Hint { words, key: "" }
     }
 }

@@ -1,5 +1,4 @@
 use crate::keys::Keys;
-use std::fmt;
 use toml::Table;
 use us_flows::{
     Key, Types, all_flow_keys, channel_keys, profile_keys, short_keys, station_keys, top_keys,
@@ -7,46 +6,32 @@ use us_flows::{
 
 /// What helps with a key that a table can't have.
 #[derive(Clone, Copy)]
-pub(crate) enum Hint {
-    /// Nothing is known.
-    Nothing,
-    /// A key that the table lacks is spelled alike.
-    Near(&'static str),
-    /// Flows of these types have it.
-    OfTypes(Types),
-    /// Other tables have it.
-    Elsewhere(&'static str),
-}
-
-impl fmt::Display for Hint {
-    fn fmt<W: fmt::Write>(&self, f: &mut fmt::Formatter<W>) -> fmt::Result {
-        match self {
-            Hint::Nothing => Ok(()),
-            Hint::Near(key) => write!(f, ", perhaps {key} is meant"),
-            Hint::OfTypes(Types::All) => f.write_str(", flows have it"),
-            Hint::OfTypes(Types::Requesting) => f.write_str(", flows of types 2, 3 and 4 have it"),
-            Hint::OfTypes(Types::AtIntervals) => {
-                f.write_str(", flows of types 3, 4, 5 and 6 have it")
-            }
-            Hint::OfTypes(Types::Unsolicited) => f.write_str(", flows of types 5 and 6 have it"),
-            Hint::Elsewhere(tables) => write!(f, ", {tables}"),
-        }
-    }
+pub(crate) struct Hint {
+    /// Which tables have it, or words before the key that is meant.
+    pub(crate) words: &'static str,
+    /// The key that is meant, where one is known.
+    pub(crate) key: &'static str,
 }
 
 /// What helps with a key of a table that isn't one of these.
 pub(crate) fn hint_of(keys: Keys, table: &Table, key: &str) -> Hint {
     if let Keys::OfFlows(_) = keys {
         if let Some(types) = types_of(key) {
-            return Hint::OfTypes(types);
+            return Hint {
+                words: flows_of(types),
+                key: "",
+            };
         }
     }
-    if let Some(near) = near_key(keys, table, key) {
-        return Hint::Near(near);
-    }
-    match tables_with(key) {
-        Some(tables) => Hint::Elsewhere(tables),
-        None => Hint::Nothing,
+    match near_key(keys, table, key) {
+        Some(key) => Hint {
+            words: ", perhaps for ",
+            key,
+        },
+        None => Hint {
+            words: tables_with(key),
+            key: "",
+        },
     }
 }
 
@@ -60,11 +45,21 @@ fn types_of(key: &str) -> Option<Types> {
     None
 }
 
+/// That flows of these types have a key.
+fn flows_of(types: Types) -> &'static str {
+    match types {
+        Types::All => ", flows have it",
+        Types::Requesting => ", flows of types 2, 3 and 4 have it",
+        Types::AtIntervals => ", flows of types 3, 4, 5 and 6 have it",
+        Types::Unsolicited => ", flows of types 5 and 6 have it",
+    }
+}
+
 /// The first of these keys that the table lacks and that is spelled like another.
 fn near_key(keys: Keys, table: &Table, key: &str) -> Option<&'static str> {
     for place in 0..keys.places() {
         if let Some((name, _)) = keys.at(place) {
-            if table.get(name).is_none() && are_near(name.as_bytes(), key.as_bytes()) {
+            if are_near(name.as_bytes(), key.as_bytes()) && table.get(name).is_none() {
                 return Some(name);
             }
         }
@@ -74,17 +69,10 @@ fn near_key(keys: Keys, table: &Table, key: &str) -> Option<&'static str> {
 
 /// Whether one letter is another one, is missing or is too many, or two that stand side by side are swapped.
 fn are_near(one: &[u8], other: &[u8]) -> bool {
-    let start = same_start(one, other);
-    let (one, other) = (behind(one, start), behind(other, start));
-    let end = same_end(one, other);
-    match (
-        one.len().saturating_sub(end),
-        other.len().saturating_sub(end),
-    ) {
-        (0, 1) | (1, 0) | (1, 1) => true,
-        (2, 2) => are_swapped(one, other),
-        _ => false,
-    }
+    let same = same_start(one, other);
+    let (one, other) = (behind(one, same), behind(other, same));
+    let (one_rest, other_rest) = (behind(one, 1), behind(other, 1));
+    one_rest == other_rest || one_rest == other || one == other_rest || are_swapped(one, other)
 }
 
 /// What stands behind so many letters.
@@ -105,45 +93,35 @@ fn same_start(one: &[u8], other: &[u8]) -> usize {
     one.len().min(other.len())
 }
 
-/// How many letters both have at their end.
-fn same_end(one: &[u8], other: &[u8]) -> usize {
-    for (place, (a, b)) in one.iter().rev().zip(other.iter().rev()).enumerate() {
-        if *a != *b {
-            return place;
-        }
-    }
-    one.len().min(other.len())
-}
-
-/// Whether the first two letters of one are those of the other, swapped.
+/// Whether the first two letters are swapped, and all others the same.
 fn are_swapped(one: &[u8], other: &[u8]) -> bool {
     match (one, other) {
-        ([a, b, ..], [c, d, ..]) => *a == *d && *b == *c,
+        ([a, b, one @ ..], [c, d, other @ ..]) => *a == *d && *b == *c && one == other,
         _ => false,
     }
 }
 
 /// Which tables have a key.
-fn tables_with(key: &str) -> Option<&'static str> {
+fn tables_with(key: &str) -> &'static str {
     if has(top_keys(), key) {
-        return Some("the top level has it, above the first header");
+        return ", the top level has it, above the first header";
     }
     if has(channel_keys(), key) {
-        return Some("channels have it");
+        return ", channels have it";
     }
     if has(profile_keys(), key) {
-        return Some("profiles have it");
+        return ", profiles have it";
     }
     if has(short_keys(), key) {
-        return Some("the profile short has it");
+        return ", the profile short has it";
     }
     if types_of(key).is_some() {
-        return Some("flows have it");
+        return ", flows have it";
     }
     if has(station_keys(), key) {
-        return Some("stations have it");
+        return ", stations have it";
     }
-    None
+    ""
 }
 
 /// Whether a key is one of these.

@@ -1,4 +1,4 @@
-use std::fmt;
+use crate::sentences::Sentence;
 use us_flows::{Key, Rule, SchedulingType, all_flow_keys};
 
 /// The keys that a table may have.
@@ -10,21 +10,19 @@ pub(crate) enum Keys {
     OfFlows(SchedulingType),
 }
 
-/// Writes whose keys they are.
-impl fmt::Display for Keys {
-    fn fmt<W: fmt::Write>(&self, f: &mut fmt::Formatter<W>) -> fmt::Result {
-        f.write_str(match self {
-            Keys::Listed(_) => "this table",
-            Keys::OfFlows(SchedulingType::BestEffort) => "a flow of type 2",
-            Keys::OfFlows(SchedulingType::NonRealTimePolling) => "a flow of type 3",
-            Keys::OfFlows(SchedulingType::RealTimePolling) => "a flow of type 4",
-            Keys::OfFlows(SchedulingType::ActivityDetection) => "a flow of type 5",
-            Keys::OfFlows(SchedulingType::UnsolicitedGrant) => "a flow of type 6",
+impl Keys {
+    /// That a key isn't one of these.
+    pub(crate) fn none_of(self) -> Sentence {
+        Sentence::plain(match self {
+            Keys::Listed(_) => "no key of this table",
+            Keys::OfFlows(SchedulingType::BestEffort) => "no key of a flow of type 2",
+            Keys::OfFlows(SchedulingType::NonRealTimePolling) => "no key of a flow of type 3",
+            Keys::OfFlows(SchedulingType::RealTimePolling) => "no key of a flow of type 4",
+            Keys::OfFlows(SchedulingType::ActivityDetection) => "no key of a flow of type 5",
+            Keys::OfFlows(SchedulingType::UnsolicitedGrant) => "no key of a flow of type 6",
         })
     }
-}
 
-impl Keys {
     /// How many places there are for them.
     pub(crate) fn places(self) -> usize {
         match self {
@@ -37,16 +35,14 @@ impl Keys {
     pub(crate) fn at(self, place: usize) -> Option<Key> {
         match self {
             Keys::Listed(keys) => keys.get(place).copied(),
-            Keys::OfFlows(kind) => match all_flow_keys().get(place) {
-                Some((name, types, rule)) => {
-                    if types.have(kind) {
-                        Some((*name, *rule))
-                    } else {
-                        None
-                    }
+            Keys::OfFlows(kind) => {
+                let (name, types, rule) = all_flow_keys().get(place).copied()?;
+                if types.have(kind) {
+                    Some((name, rule))
+                } else {
+                    None
                 }
-                None => None,
-            },
+            }
         }
     }
 

@@ -16,20 +16,17 @@ mod findings;
 // Texts of the input, cut and escaped.
 mod shown;
 
+// Words with numbers among them.
+mod sentences;
+
 // What a finding calls a table.
 mod titles;
 
 // Tables of a document, and their values.
 mod documents;
 
-// What a rule wants, in words.
-mod wanted;
-
-// What of a value is wrong.
-mod amiss;
-
-// A finding whose line isn't known yet.
-mod drafts;
+// What is wanted of a value, and what of it is wrong.
+mod values;
 
 // The keys that a table may have.
 mod keys;
@@ -37,19 +34,25 @@ mod keys;
 // What helps with a key that a table can't have.
 mod hints;
 
+// A finding whose line isn't known yet.
+mod drafts;
+
+// Such findings, of which the first ones are kept.
+mod lists;
+
 // Keys and values of one table.
 mod shapes;
 
 // The shapes of all tables.
 mod tables;
 
-// Why a table has a fault beside others: its names,
+// Why a table breaks a rule of several keys or tables: its names,
 mod names;
 
-// what passes the length of a MAP,
-mod limits;
+// its grants,
+mod grants;
 
-// and all such faults.
+// and all such rules.
 mod rules;
 
 // Lines of findings.

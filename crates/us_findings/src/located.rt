@@ -1,95 +1,114 @@
-use crate::drafts::{Behind, Draft};
+use crate::drafts::{Draft, Problem};
 use crate::findings::{Finding, Source, What};
+use crate::sentences::Sentence;
 use crate::shown::Shown;
+use crate::values::{amiss, kind_of};
 use std::alloc::{AllocError, Global};
 use us_config_lines::{KeyPath, Spot, line_and_column, spots_of};
 use us_slots::NoMemory;
 
-/// Findings of a configuration with their lines, in the order of these. All are looked for in one walk over the text.
-/// Behind one of them at most stands the line of another key.
+/// Findings of a configuration, by their lines. All are looked for in one walk over the text. One of them at most names a
+/// key of another table.
 pub(crate) fn located(
     alloc: Global,
     text: &[u8],
     drafts: &[Draft<'_>],
 ) -> Result<Vec<Finding>, NoMemory> {
-    let document = str::from_utf8(text).unwrap_or("");
-    let paths = paths_of(alloc, drafts)?;
-    let spots = spots_of(alloc, document, &paths)?;
-    let mut placed = Vec::new(alloc);
-    for (draft, spot) in drafts.iter().zip(spots.iter()) {
-        placed.push((*spot, draft))?;
-    }
-    placed.sort_by_key(|(spot, _)| spot.at)?;
-    let other_line = match spots.get(drafts.len()) {
-        Some(other) => line_of(text, *other),
-        None => 1,
-    };
-    Ok(findings_at(alloc, text, &placed, other_line)?)
+    let spots = spots_in(alloc, text, drafts)?;
+    let placed = placed_at(alloc, drafts, &spots)?;
+    let other = spots.get(drafts.len()).copied();
+    Ok(findings_at(alloc, text, &placed, other)?)
 }
 
-/// Where to look: at each of these, and then at the key whose line stands behind one of them.
+/// Where these stand, and then the key of another table that one of them names.
+fn spots_in(alloc: Global, text: &[u8], drafts: &[Draft<'_>]) -> Result<Vec<Spot>, NoMemory> {
+    let document = str::from_utf8(text).unwrap_or("");
+    let paths = paths_of(alloc, drafts)?;
+    spots_of(alloc, document, &paths)
+}
+
+/// Where to look for these, and for the key of another table.
 fn paths_of<'a>(alloc: Global, drafts: &[Draft<'a>]) -> Result<Vec<KeyPath<'a>>, AllocError> {
     let mut paths = Vec::new(alloc);
+    let mut other = None;
     for draft in drafts {
-        paths.push(draft.path)?;
+        paths.push(draft.path())?;
+        other = draft.other().or(other);
     }
-    for draft in drafts {
-        if let Behind::Line(path) = draft.behind {
-            paths.push(path)?;
-        }
+    if let Some(path) = other {
+        paths.push(path)?;
     }
     Ok(paths)
 }
 
-/// The line of a place.
-fn line_of(text: &[u8], spot: Spot) -> usize {
-    let (line, _) = line_and_column(text, spot.at.min(text.len()));
-    line
+/// These in the order of their places. Those at one place stay in their order.
+fn placed_at<'a>(
+    alloc: Global,
+    drafts: &[Draft<'a>],
+    spots: &[Spot],
+) -> Result<Vec<(Spot, Draft<'a>)>, AllocError> {
+    let mut placed = Vec::new(alloc);
+    for (draft, spot) in drafts.iter().zip(spots) {
+        placed.push((*spot, *draft))?;
+    }
+    placed.sort_by_key(|(spot, _)| spot.at)?;
+    Ok(placed)
 }
 
-/// Findings at these places, which come in their order.
+/// Findings at these places, in their order.
 fn findings_at(
     alloc: Global,
     text: &[u8],
-    placed: &[(Spot, &Draft<'_>)],
-    other_line: usize,
+    placed: &[(Spot, Draft<'_>)],
+    other: Option<Spot>,
 ) -> Result<Vec<Finding>, AllocError> {
     let mut findings = Vec::new(alloc);
-    let mut cursor = Cursor {
-        at: 0,
-        rest: text,
-        line: 1,
-        column: 1,
-    };
     for (spot, draft) in placed {
-        cursor.move_to(spot.at);
-        findings.push(Finding {
-            source: Source::Config,
-            what: What::Config(draft.fault),
-            line: cursor.line,
-            column: cursor.column,
-            text: told(alloc, draft, value_at(text, *spot), other_line)?,
-        })?;
+        findings.push(finding_at(alloc, text, *spot, draft, other)?)?;
     }
     Ok(findings)
 }
 
-/// What a finding says, with the value that stands there and the line of the other key.
-fn told(
+/// A finding at a place.
+fn finding_at(
     alloc: Global,
+    text: &[u8],
+    spot: Spot,
     draft: &Draft<'_>,
-    value: Option<&[u8]>,
-    other_line: usize,
-) -> Result<String, AllocError> {
-    let text = draft.text.as_str();
-    match (draft.behind, value) {
-        (Behind::Nothing, _) => String::from_str(alloc, text),
-        (Behind::Value(_, amiss), Some(value)) => {
-            let value = Shown(value);
-            format!(in alloc; "{text}, {value} is there{amiss}")
+    other: Option<Spot>,
+) -> Result<Finding, AllocError> {
+    let (line, column) = line_and_column(text, spot.at.min(text.len()));
+    let (title, problem) = (draft.title, draft.problem);
+    let (comma, value, words) = behind(text, spot, draft, other);
+    Ok(Finding {
+        source: Source::Config,
+        what: What::Config(draft.fault),
+        line,
+        column,
+        text: format!(in alloc; "{title}{problem}{comma}{value}{words}")?,
+    })
+}
+
+/// What stands behind the problem: the value with what is wrong with it, or the line of the other key.
+fn behind<'a>(
+    text: &'a [u8],
+    spot: Spot,
+    draft: &Draft<'_>,
+    other: Option<Spot>,
+) -> (&'static str, Shown<'a>, Sentence) {
+    match (draft.problem, draft.other(), other) {
+        (Problem::Value(_, rule, value), _, _) => {
+            let shown = match value_at(text, spot) {
+                Some(written) => Shown(written),
+                None => Shown(kind_of(value).as_bytes()),
+            };
+            (", ", shown, amiss(rule, value))
         }
-        (Behind::Value(kind, amiss), None) => format!(in alloc; "{text}, {kind} is there{amiss}"),
-        (Behind::Line(_), _) => format!(in alloc; "{text}, in line {other_line}"),
+        (_, Some(_), Some(other)) => {
+            let (line, _) = line_and_column(text, other.at.min(text.len()));
+            ("", Shown(b""), Sentence::of(", in line #", line as u64))
+        }
+        _ => ("", Shown(b""), Sentence::plain("")),
     }
 }
 
@@ -97,29 +116,4 @@ fn told(
 fn value_at(text: &[u8], spot: Spot) -> Option<&[u8]> {
     let (from, to) = spot.value?;
     text.get(from..to)
-}
-
-/// A place in a text, which only goes on, so that the lines of many places are found in one walk.
-#[derive(Drop)]
-struct Cursor<'a> {
-    at: usize,
-    rest: &'a [u8],
-    line: usize,
-    column: usize,
-}
-
-impl Cursor<'_> {
-    /// On to a place, where that is behind this one.
-    fn move_to(&mut self, at: usize) {
-        let step = at.saturating_sub(self.at).min(self.rest.len());
-        let (line, column) = line_and_column(self.rest, step);
-        self.column = if line == 1 {
-            self.column.saturating_add(column).saturating_sub(1)
-        } else {
-            column
-        };
-        self.line = self.line.saturating_add(line).saturating_sub(1);
-        self.rest = self.rest.get(step..).unwrap_or(&[]);
-        self.at = self.at.saturating_add(step);
-    }
 }

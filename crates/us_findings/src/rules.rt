@@ -1,96 +1,55 @@
-use crate::documents::{number_at, table_at, title_of, values_at};
-use crate::drafts::{Behind, Draft};
-use crate::limits::{long_grant, reserves_too_long, round_not_multiple};
+use crate::documents::{TOP, number_at, table_at, title_of, values_at};
+use crate::drafts::{Draft, Problem, Why};
+use crate::grants::long_grant;
 use crate::names::{cluster_length, duplicate_id, duplicate_sid, unknown_channel};
-use std::alloc::{AllocError, Global};
+use crate::sentences::Sentence;
+use crate::titles::path_in;
 use toml::Table;
-use us_config_lines::KeyPath;
-use us_flows::{ConfigFault, Place, TableName};
+use us_flows::{ConfigFault, Place};
 
-/// A table of a document that breaks a rule beside others, or a rule of several of its keys.
+/// A table of a document that breaks a rule of several keys, or of several tables.
 #[derive(Clone, Copy)]
 pub(crate) struct Case<'d> {
-    pub(crate) alloc: Global,
     pub(crate) document: &'d Table,
     pub(crate) table: &'d Table,
     pub(crate) place: Place,
 }
 
-/// Why it breaks the rule.
-#[derive(Drop)]
-pub(crate) struct Why<'d> {
-    /// The key that is to be changed.
-    pub(crate) key: &'static str,
-    /// What is wrong with it.
-    pub(crate) text: String,
-    /// Another key, of another table, that has to do with it.
-    pub(crate) other: Option<KeyPath<'d>>,
-}
-
 /// Why a table of a document has this fault; none where that is one of its shape.
-pub(crate) fn explained<'d>(
-    alloc: Global,
-    document: &'d Table,
-    fault: ConfigFault,
-) -> Result<Option<Draft<'d>>, AllocError> {
-    let Some(place) = fault.place() else {
-        return Ok(None);
-    };
-    let Some(table) = table_at(document, place) else {
-        return Ok(None);
-    };
+pub(crate) fn explained<'d>(document: &'d Table, fault: ConfigFault) -> Option<Draft<'d>> {
+    let place = fault.place()?;
+    let table = table_at(document, place)?;
     let case = Case {
-        alloc,
         document,
         table,
         place,
     };
-    match case.why(fault)? {
-        Some(why) => Ok(Some(case.draft(fault, why)?)),
-        None => Ok(None),
-    }
+    Some(Draft {
+        fault,
+        title: title_of(table, place),
+        problem: Problem::Several(case.why(fault)?),
+    })
 }
 
 impl<'d> Case<'d> {
     /// Why the table has this fault.
-    fn why(&self, fault: ConfigFault) -> Result<Option<Why<'d>>, AllocError> {
-        let why = match fault {
-            ConfigFault::UnknownChannel(_) => unknown_channel(self)?,
-            ConfigFault::DuplicateId(_) => duplicate_id(self)?,
-            ConfigFault::DuplicateSid(_) => duplicate_sid(self)?,
-            ConfigFault::ClusterLength(_) => cluster_length(self)?,
-            ConfigFault::RoundNotMultiple(_) => round_not_multiple(self)?,
-            ConfigFault::ReservesTooLong(_) => reserves_too_long(self)?,
-            ConfigFault::Jitter(_) => self.jitter()?,
-            ConfigFault::GrantLongerThanMap(_) => long_grant(self)?,
-            ConfigFault::Headers(_) => self.headers()?,
-            ConfigFault::MinRate(_) => self.min_rate()?,
+    fn why(&self, fault: ConfigFault) -> Option<Why<'d>> {
+        match fault {
+            ConfigFault::UnknownChannel(_) => Some(unknown_channel(self)),
+            ConfigFault::DuplicateId(_) => Some(duplicate_id(self)),
+            ConfigFault::DuplicateSid(_) => Some(duplicate_sid(self)),
+            ConfigFault::ClusterLength(_) => Some(cluster_length(self)),
+            ConfigFault::RoundNotMultiple(_) => Some(self.round_not_multiple()),
+            ConfigFault::ReservesTooLong(_) => Some(self.reserves_too_long()),
+            ConfigFault::Jitter(_) => Some(self.jitter()),
+            ConfigFault::GrantLongerThanMap(_) => Some(long_grant(self)),
+            ConfigFault::Headers(_) => Some(self.headers()),
+            ConfigFault::MinRate(_) => Some(self.min_rate()),
             ConfigFault::Text
             | ConfigFault::Missing(_)
             | ConfigFault::Range(_)
-            | ConfigFault::NoMemory => return Ok(None),
-        };
-        Ok(Some(why))
-    }
-
-    /// The finding of it.
-    fn draft(&self, fault: ConfigFault, why: Why<'d>) -> Result<Draft<'d>, AllocError> {
-        let title = title_of(self.table, self.place);
-        let (key, text) = (why.key, why.text.as_str());
-        Ok(Draft {
-            fault,
-            path: title.path_of(key),
-            text: format!(in self.alloc; "{title}, {key}: {text}")?,
-            behind: match why.other {
-                Some(other) => Behind::Line(other),
-                None => Behind::Nothing,
-            },
-        })
-    }
-
-    /// Whether it is a station.
-    pub(crate) fn is_station(&self) -> bool {
-        self.place.table == TableName::Station
+            | ConfigFault::NoMemory => None,
+        }
     }
 
     /// The number of a key of the table.
@@ -98,35 +57,83 @@ impl<'d> Case<'d> {
         number_at(self.table, key)
     }
 
-    /// The jitter isn't below the interval.
-    fn jitter(&self) -> Result<Why<'d>, AllocError> {
-        let (jitter, interval) = (self.number("jitter_us"), self.number("interval_us"));
-        Ok(Why {
-            key: "jitter_us",
-            text: format!(in self.alloc; "{jitter} is not below interval_us, {interval}")?,
+    /// The round is no whole number of minislots.
+    fn round_not_multiple(&self) -> Why<'d> {
+        let (minislot, round) = (minislot_ticks(self.table), round_ticks(self.document));
+        Why {
+            key: "minislot_log2",
+            sentence: Sentence(
+                "a minislot has # ticks, which is no divisor of round_ticks, #",
+                [minislot, round, 0, 0],
+            ),
+            other: Some(path_in(TOP, Some("round_ticks"))),
+        }
+    }
+
+    /// Both reserves together are longer than a MAP.
+    fn reserves_too_long(&self) -> Why<'d> {
+        let contention = self.number("contention_minislots");
+        let maintenance = self.number("maintenance_minislots");
+        let len = map_len(self.document, self.table);
+        Why {
+            key: "contention_minislots",
+            sentence: Sentence(
+                "# and maintenance_minislots, #, together pass the # minislots of a MAP",
+                [contention, maintenance, len, 0],
+            ),
             other: None,
-        })
+        }
+    }
+
+    /// The jitter isn't below the interval.
+    fn jitter(&self) -> Why<'d> {
+        let (jitter, interval) = (self.number("jitter_us"), self.number("interval_us"));
+        Why {
+            key: "jitter_us",
+            sentence: Sentence("# is not below interval_us, #", [jitter, interval, 0, 0]),
+            other: None,
+        }
     }
 
     /// Segment headers are off, on several channels.
-    fn headers(&self) -> Result<Why<'d>, AllocError> {
+    fn headers(&self) -> Why<'d> {
         let channels = values_at(self.table, "channels").len();
-        Ok(Why {
+        Why {
             key: "headers",
-            text: format!(in self.alloc;
-                "false is there, and a flow with {channels} channels wants true"
-            )?,
+            sentence: Sentence::of(
+                "false is there, and a flow with # channels wants true",
+                channels as u64,
+            ),
             other: None,
-        })
+        }
     }
 
     /// The minimum rate is above the maximum rate.
-    fn min_rate(&self) -> Result<Why<'d>, AllocError> {
+    fn min_rate(&self) -> Why<'d> {
         let (least, most) = (self.number("min_rate"), self.number("rate"));
-        Ok(Why {
+        Why {
             key: "min_rate",
-            text: format!(in self.alloc; "{least} is above rate, {most}")?,
+            sentence: Sentence("# is above rate, #", [least, most, 0, 0]),
             other: None,
-        })
+        }
     }
+}
+
+/// The ticks of a round.
+fn round_ticks(document: &Table) -> u64 {
+    number_at(document, "round_ticks")
+}
+
+/// The ticks of a channel's minislot.
+fn minislot_ticks(channel: &Table) -> u64 {
+    match u32::try_from(number_at(channel, "minislot_log2")) {
+        Ok(log2) => 1u64.checked_shl(log2).unwrap_or(0),
+        Err(_) => 0,
+    }
+}
+
+/// The minislots of a channel's MAPs.
+pub(crate) fn map_len(document: &Table, channel: &Table) -> u64 {
+    let len = round_ticks(document).checked_div(minislot_ticks(channel));
+    len.unwrap_or(0)
 }

@@ -21,7 +21,7 @@ static CASES: [(&str, &str, &str); 12] = [
         "rate = 0",
         "rats = 0\ngrant_bytes = 7\nlead_ticks = 7",
         "20:1: error C2: flow 0 (id 1): the key rate is missing, a whole number from 0 to 1000000000 is wanted\n\
-         26:1: error C3: flow 0 (id 1), rats: no key of a flow of type 2, perhaps rate is meant\n\
+         26:1: error C3: flow 0 (id 1), rats: no key of a flow of type 2, perhaps for rate\n\
          27:1: error C3: flow 0 (id 1), grant_bytes: no key of a flow of type 2, flows of types 5 and 6 have it\n\
          28:1: error C3: flow 0 (id 1), lead_ticks: no key of a flow of type 2, the top level has it, above the first header\n",
     ),
@@ -34,18 +34,18 @@ static CASES: [(&str, &str, &str); 12] = [
     (
         "[[291]]",
         "[\n[291], [16000]]",
-        "24:1: error C3: flow 0 (id 1), clusters: a list of 1 to 2 lists of whole numbers, each from 1 to 15871, \
-         is wanted, [\\n[291], [16000]] is there: item 2 of 2 is wrong\n",
+        "24:1: error C3: flow 0 (id 1), clusters: a list of lists of whole numbers from 1 to 15871, of length 1 to 2, \
+         is wanted, [\\n[291], [16000]] is there: item 2 is wrong\n",
     ),
     (
         "fec_t = 0, fec_k = 200",
         "fec_t = 16, fec_k = 250",
-        "16:58: error C3: channel 0 (id 1), long, fec_k: 250 and twice fec_t, 16, are 282, at most 255 is wanted\n",
+        "16:58: error C3: channel 0 (id 1), long, fec_k: 250 and twice fec_t, 16, are 282 bytes together, at most 255 are wanted\n",
     ),
     (
         "[[flow]]",
         "[flow]",
-        "20:1: error C3: the top level, flow: a list of 0 to 1024 tables, each with a header [[flow]], is wanted, \
+        "20:1: error C3: the top level, flow: a list of 0 to 1024 tables, each behind its header in double brackets, is wanted, \
          a table is there\n",
     ),
     // Faults beside others, the first of which is told alone.
@@ -58,7 +58,7 @@ static CASES: [(&str, &str, &str); 12] = [
         "[[flow]]",
         "[[flow]]\nid = 1\ntype = 6\nchannels = [1]\nclusters = [[290]]\nstart_us = 0\ninterval_us = 100\n\
          jitter_us = 0\ngrant_bytes = 1\ngrants_per_interval = 1\n[[flow]]",
-        "31:1: error C5: flow 1 (id 1), id: flow 0 (id 1) has the id 1 too, in line 21\n",
+        "31:1: error C5: flow 1 (id 1), id: flow 0 has the id 1 too, in line 21\n",
     ),
     (
         "[[291]]",

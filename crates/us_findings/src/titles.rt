@@ -1,3 +1,4 @@
+use crate::sentences::Sentence;
 use std::fmt;
 use us_config_lines::KeyPath;
 use us_flows::{Place, TableName};
@@ -8,7 +9,7 @@ pub(crate) struct Title {
     /// The channel, the flow or the station that it is, or that it is a profile of.
     pub(crate) place: Place,
     /// The id that stands there.
-    pub(crate) id: Option<i64>,
+    pub(crate) id: Option<u64>,
     /// The key of the profile that it is.
     pub(crate) profile: Option<&'static str>,
 }
@@ -18,8 +19,16 @@ impl fmt::Display for Title {
         if self.place.table == TableName::Top {
             return f.write_str("the top level");
         }
-        let (place, id, profile) = (self.place, OfId(self.id), OfProfile(self.profile));
-        write!(f, "{place}{id}{profile}")
+        let place = self.place;
+        let id = match self.id {
+            Some(id) => Sentence::of(" (id #)", id),
+            None => Sentence::plain(""),
+        };
+        let (comma, profile) = match self.profile {
+            Some(key) => (", ", key),
+            None => ("", ""),
+        };
+        write!(f, "{place}{id}{comma}{profile}")
     }
 }
 
@@ -43,37 +52,11 @@ impl Title {
     }
 }
 
-/// Where a table stands.
-pub(crate) fn table_path<'a>(place: Place) -> KeyPath<'a> {
+/// Where a key stands of a table that is no profile.
+pub(crate) fn path_in<'a>(place: Place, key: Option<&'a str>) -> KeyPath<'a> {
     KeyPath {
         place,
         profile: None,
-        key: None,
-    }
-}
-
-/// The id of a table, in brackets.
-#[derive(Clone, Copy)]
-struct OfId(Option<i64>);
-
-impl fmt::Display for OfId {
-    fn fmt<W: fmt::Write>(&self, f: &mut fmt::Formatter<W>) -> fmt::Result {
-        match self.0 {
-            Some(id) => write!(f, " (id {id})"),
-            None => Ok(()),
-        }
-    }
-}
-
-/// The profile of a channel, behind it.
-#[derive(Clone, Copy)]
-struct OfProfile(Option<&'static str>);
-
-impl fmt::Display for OfProfile {
-    fn fmt<W: fmt::Write>(&self, f: &mut fmt::Formatter<W>) -> fmt::Result {
-        match self.0 {
-            Some(key) => write!(f, ", {key}"),
-            None => Ok(()),
-        }
+        key,
     }
 }
