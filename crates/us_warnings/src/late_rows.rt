@@ -5,6 +5,7 @@ use us_flows::Config;
 
 /// Ticks of 6.25 microseconds, and how many microseconds they last.
 const TICKS: u64 = 4;
+
 const MICROSECONDS: u64 = 25;
 
 /// The rows of a trace that ask for something, and those of them that are late in a run of so many rounds.

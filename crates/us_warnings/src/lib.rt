@@ -29,8 +29,8 @@ mod hopeless_windows;
 // What a calendar asks for.
 mod loads;
 
-// Warnings of a configuration.
-mod config_warnings;
+// What looks wrong in the tables.
+mod tables;
 
 // Rows that are alike.
 mod alike;
@@ -53,11 +53,11 @@ mod backward_rows;
 // Warnings of ticks.
 mod tick_warnings;
 
-// Warnings of a trace.
-mod trace_warnings;
+// What looks wrong in a trace.
+mod traces;
 
-pub use config_warnings::config_warnings;
-pub use trace_warnings::{TraceWarnings, trace_warnings};
+pub use tables::config_warnings;
+pub use traces::{TraceWarnings, trace_warnings};
 
 #[cfg(test)]
 mod tests;

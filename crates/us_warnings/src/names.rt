@@ -35,7 +35,10 @@ impl TableId {
 
     /// The station with this id.
     pub(crate) fn of_station(config: &Config, id: u16) -> TableId {
-        let index = config.stations().iter().position(|station| station.id == id);
+        let index = config
+            .stations()
+            .iter()
+            .position(|station| station.id == id);
         TableId::new(TableName::Station, index.unwrap_or(0), id)
     }
 

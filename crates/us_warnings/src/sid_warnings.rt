@@ -39,12 +39,16 @@ fn unknown_text(
     rows: Alike,
 ) -> Result<String, AllocError> {
     if config.channels().iter().all(|known| known.id != channel) {
-        return format!(in alloc; "channel: no channel has id {channel}, which stands with SID {sid}: {rows}");
+        return format!(in alloc;
+            "channel: no channel has id {channel}, which stands with SID {sid}: {rows}"
+        );
     }
     match owner_of(config, sid, None) {
         Some(owner) => {
             let (flow, its_channel) = (owner.flow, owner.channel);
-            format!(in alloc; "sid: no flow has SID {sid} on channel {channel}, {flow} has it on channel {its_channel}: {rows}")
+            format!(in alloc;
+                "sid: no flow has SID {sid} on channel {channel}, {flow} has it on channel {its_channel}: {rows}"
+            )
         }
         None => format!(in alloc; "sid: no flow has SID {sid} on channel {channel}: {rows}"),
     }
@@ -62,7 +66,9 @@ fn unused_text(
         return unknown_text(alloc, config, channel, sid, rows);
     };
     let (flow, kind, takes) = (owner.flow, type_of(owner.kind), taken_by(owner.kind));
-    format!(in alloc; "sid: SID {sid} on channel {channel} is of {flow}, which is of type {kind} and takes {takes}: {rows}")
+    format!(in alloc;
+        "sid: SID {sid} on channel {channel} is of {flow}, which is of type {kind} and takes {takes}: {rows}"
+    )
 }
 
 /// Which rows a flow of a scheduling type takes.
@@ -88,7 +94,9 @@ pub(crate) fn push_silent_flows(
         let table = TableId::new(TableName::Flow, index, flow.id());
         let subject = Subject::Key(table.path(Some("id")));
         if flow.kind().makes_requests() && !named.have(flow) && silent.add(subject) {
-            let text = format!(in alloc; "{table}: no row of the trace names one of its SIDs, so it asks for nothing")?;
+            let text = format!(in alloc;
+                "{table}: no row of the trace names one of its SIDs, so it asks for nothing"
+            )?;
             drafts.push(Draft { subject, text })?;
         }
     }

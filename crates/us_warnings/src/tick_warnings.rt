@@ -18,11 +18,15 @@ pub(crate) fn push_late(
     }
     let text = match late_rows.rounds_that_fit(config) {
         Some(wanted) => {
-            format!(in alloc; "tick: too late for the {rounds} rounds of the run, --rounds {wanted} takes all rows in: {late}")?
+            format!(in alloc;
+                "tick: too late for the {rounds} rounds of the run, --rounds {wanted} takes all rows in: {late}"
+            )?
         }
         None => {
             let most = config.most_rounds();
-            format!(in alloc; "tick: too late for the {rounds} rounds of the run, and no run has more than {most}: {late}")?
+            format!(in alloc;
+                "tick: too late for the {rounds} rounds of the run, and no run has more than {most}: {late}"
+            )?
         }
     };
     drafts.push(Draft {

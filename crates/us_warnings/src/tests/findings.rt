@@ -31,7 +31,12 @@ static CASES: [Case; 3] = [
         tables: "",
         trace: "tick,channel,sid,units,kind\n5000,1,291,1,0\n100,1,291,1,0\n101,1,291,0,1\n",
         rounds: 4,
-        found: "",
+        found: "2:1: warning: tick: too late for the 4 rounds of the run, --rounds 18 takes all rows in: 1 row\n\
+            2:1: warning: tick: ticks look like microseconds, since no row would be late with 4/25 of its tick; a tick is \
+            6.25 microseconds: 1 row\n\
+            3:1: warning: tick: 100 goes back by more than 4 leads from 5000 in line 2: 2 rows, the first here\n\
+            4:1: warning: sid: SID 291 on channel 1 is of flow 0 (id 1), which is of type 2 and takes requests alone, which \
+            are rows of kind 0: 1 row\n18\n",
     },
     Case {
         tables: "",
@@ -52,8 +57,16 @@ fn found_in(alloc: Global, case: &Case) -> Result<String, NoMemory> {
         let line = format!(in alloc; "{finding}\n")?;
         lines.push_str(line.as_str())?;
     }
-    let TraceWarnings { findings, rounds_for_all } =
-        trace_warnings(alloc, text.as_bytes(), case.trace.as_bytes(), &config, case.rounds)?;
+    let TraceWarnings {
+        findings,
+        rounds_for_all,
+    } = trace_warnings(
+        alloc,
+        text.as_bytes(),
+        case.trace.as_bytes(),
+        &config,
+        case.rounds,
+    )?;
     for finding in &findings {
         let line = format!(in alloc; "{finding}\n")?;
         lines.push_str(line.as_str())?;

@@ -31,7 +31,11 @@ fn has_room(maps: &EmptyMaps, slots: u32, first: u32, last: u32) -> bool {
     (first..=last).any(|minislot| {
         let offset = minislot % maps.len;
         let starts_with_reserve = (minislot / maps.len).is_multiple_of(maps.maintenance_every);
-        let behind = if starts_with_reserve { maps.maintenance } else { 0 };
+        let behind = if starts_with_reserve {
+            maps.maintenance
+        } else {
+            0
+        };
         offset >= behind && offset.saturating_add(slots).saturating_add(maps.contention) <= maps.len
     })
 }

@@ -97,11 +97,22 @@ fn push_calendars(
     let mut windows = Tally::new();
     for (index, channel) in config.channels().iter().enumerate() {
         let entries = entries_of(alloc, config, channel)?;
-        push_load(alloc, drafts, &mut loads, TableId::new(TableName::Channel, index, u16::from(channel.id)), &Load::of(&entries, run), run)?;
+        push_load(
+            alloc,
+            drafts,
+            &mut loads,
+            TableId::new(TableName::Channel, index, u16::from(channel.id)),
+            &Load::of(&entries, run),
+            run,
+        )?;
         push_windows(alloc, drafts, &mut windows, config, channel, &entries, run)?;
     }
     loads.push_others(alloc, drafts, "channels whose calendars ask for too much")?;
-    windows.push_others(alloc, drafts, "entries with windows that no schedule could grant")?;
+    windows.push_others(
+        alloc,
+        drafts,
+        "entries with windows that no schedule could grant",
+    )?;
     Ok(())
 }
 
@@ -172,7 +183,11 @@ fn windows_text(
 ) -> Result<String, AllocError> {
     let (count, hopeless, interval) = (windows.count, windows.hopeless, windows.first_interval);
     let (slots, rounds) = (shortest(entry), run.rounds);
-    let first = if count == MAX_WINDOWS { "the first " } else { "" };
+    let first = if count == MAX_WINDOWS {
+        "the first "
+    } else {
+        ""
+    };
     let round = windows.first_end / run.round_quarters();
     format!(in alloc;
         "{table}, jitter_us: {hopeless} of {first}{count} windows that close in {rounds} rounds have no room for {slots} minislots beside the reserves, whatever the schedule; the first of them is that of interval {interval}, which closes in round {round}"
