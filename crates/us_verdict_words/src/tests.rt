@@ -1,3 +1,3 @@
-//! What no clause says: the texts, of one change of the stored run for each rule.
+//! What no clause says: the texts. Those of broken rules are stored cases of the program.
 
-mod words;
+mod lines;
