@@ -1,6 +1,6 @@
 #!/usr/bin/env python3
 """Compares `mapsim lint` with the plain readers of bench/ on damaged configurations, traces and schedules: the error
-that it tells first, its line, its status, and the form of all that it prints.
+that it tells first, its line, its status, and the form of all that it prints; and on lawful ones what it warns of.
 
   bench/compare_lint.py FIRST LAST   the inputs from number FIRST to below LAST
 
@@ -9,10 +9,11 @@ that it tells first, its line, its status, and the form of all that it prints.
   --kind KIND          inputs of this kind alone, in place of a mixture: KINDS
 
 An input is made of its number alone, whatever else is asked for but a kind. Of the kinds `table` and `row` it has one
-damage whose line is known, of the others any: as bench/damaged_inputs.py makes them.
+damage whose line is known, of `looks` none, and of the others any: as bench/damaged_inputs.py makes them.
 
 The first error has to have the code of the plain readers and the checker, and of a configuration the table; where they
-find nothing, there may be none. Status 0 is nothing found, 1 warnings alone, 3 an error. Of one damage the line is
+find nothing, there may be none. Its line and column have to be some of the file's, and each line of the output one of
+lint's forms. Status 0 is nothing found, 1 warnings alone, 3 an error. Of one damage the line is
 
   C2           the table's header, or line 1 of the top level; of a key of a profile the profile's key, or its header
   C3           the damaged key's, or, where two values were swapped, that of the key that is in the table of the fault.
@@ -21,6 +22,11 @@ find nothing, there may be none. Status 0 is nothing found, 1 warnings alone, 3 
   C4 to C14    one of the table that the fault names
   TR2, TR3     the damaged row's; where the header was damaged, any row's. And of all damaged traces that on which the
                record of the fault begins, where LF ends a line
+
+Of a verdict the line of the report, or the record and the byte of the maps file, has to be one that the rule and the
+place of the checker are about. Of `looks` the warnings are compared with bench/plain_warnings.py: SIDs that no flow has, and those of calls, late rows,
+flows that no row names, and windows that no schedule could grant, with numbers and lines; and how many rounds take in
+all rows.
 
 Of C2 and C3 the header of the table counts as `header` where another line is the right one. Where these are more than
 one in twenty of all with a known line, they are wrong. Each input that is wrong has a line, and what was run is left in
@@ -48,6 +54,7 @@ import lay_out_configs
 import plain_program
 import plain_reader
 import plain_trace
+import plain_warnings
 from plain_reader import Fault
 
 # where a base has a configuration of the plain form, one key on each line
@@ -58,6 +65,18 @@ SOURCES = {"C": "config", "T": "trace", "P": "maps", "M": "maps"}
 FINDING = re.compile(r"(config|trace|maps|report)(?::(\d+):(\d+))?: (error (\w+)|warning|note): (.+)")
 MORE = re.compile(r"(config|trace|maps|report): .*\b\d+ more\b.*")
 TABLE = re.compile(r"(the top level|(?:channel|flow|station) \d+)")
+# what a warning says, by its kind: the channel, SID and rows, the flow or station and its windows
+UNKNOWN = [re.compile(r"sid: no flow has SID (?P<sid>\d+) on channel (?P<channel>\d+)\b.*: (?P<rows>\d+) rows?\b.*"),
+           re.compile(r"channel: no channel has id (?P<channel>\d+), .* SID (?P<sid>\d+): (?P<rows>\d+) rows?\b.*")]
+UNUSED = [re.compile(r"sid: SID (?P<sid>\d+) on channel (?P<channel>\d+) is of .*: (?P<rows>\d+) rows?\b.*")]
+LATE = re.compile(r"tick: too late for .*: (?P<rows>\d+) rows?\b.*")
+SILENT = re.compile(r"flow (\d+) \(id \d+\): no row of the trace .*")
+WINDOWS = re.compile(r"(flow|station) \d+ \(id (\d+)\), \w+: (\d+) of (?:the first )?(\d+) windows .* interval (\d+), "
+                     r".* round (\d+)")
+OTHERS = re.compile(r"(\d+) more (.*), the first here")
+NOTE = re.compile(r"(\d+) rounds? takes? in all rows")
+RECORD = re.compile(r"record (\d+), at byte (\d+)")
+MOST_WARNINGS = 10
 CONTROL = re.compile(r"[\0-\x09\x0b-\x1f\x7f-\x9f]")
 CHUNK = 100
 HEADERS_SHARE = 20
@@ -66,13 +85,15 @@ WITH_PLACE = {"C2", "C3", "TR2", "TR3"}
 
 class Input(NamedTuple):
     """The words and files of a run, the fault that is found first, such as `C3 flow 2` or `P2 1 0 3`, or none, and the
-    lines that its finding may have, if they are known, with that of the table's header."""
+    lines that its finding may have, if they are known, with that of the table's header. Of one that is compared by its
+    warnings also the tables, the trace and the rounds."""
 
     words: list
     files: dict
     fault: str | None
     lines: set | None = None
     header: int | None = None
+    looks: tuple | None = None
 
 
 # What is found first
@@ -147,7 +168,7 @@ def keys_at_fault(sections, place, places, code):
     if name == "flow" and any(key == "type" for _line, key in found) and type in "23456":
         known = plain_reader.flow_keys(int(type)) | plain_reader.optional_keys(int(type))
         found |= {(entry.line, entry.key) for entry in entries if entry.key not in known}
-    return found & here | {pair for pair in found if pair[1] in ("fec_k", "fec_t")}
+    return found
 
 
 def lines_of_fault(chance, plain, places):
@@ -183,12 +204,12 @@ def of_table(chance, one):
 
 
 def of_row(chance, one):
-    """A trace with one damage."""
+    """A trace with one damage. The line of its first fault is one of the damage."""
     config, rounds = one.config.encode(), chance.choice([None, one.rounds])
     _name, trace, lines = damage_traces.damaged_once(chance, one.trace)
     found = of_texts(config, trace, rounds)
-    if found.fault and found.fault[:3] in WITH_PLACE:
-        assert found.lines <= lines, (found, lines)
+    if found.lines and found.fault != "TR1":
+        return found._replace(lines=found.lines & lines)
     return found
 
 
@@ -211,10 +232,19 @@ def of_check(chance, one):
     return Input(["lint", *made.words[1:]], made.files, fault_of_check(made.answer))
 
 
+def of_looks(chance, one):
+    """A configuration and a trace without a fault."""
+    config = one.config.encode()
+    rounds = chance.choice([1, 2, one.rounds, chance.randint(1, 200)]) if chance.random() < 0.9 else None
+    made = of_texts(config, one.trace, rounds)
+    tables = plain_reader.tables_of(config)
+    return made if made.fault else made._replace(looks=(tables, one.trace, rounds))
+
+
 # of so many inputs, how many are of a kind
 KINDS = {
     "table": (of_table, 8_000), "row": (of_row, 2_500), "configuration": (of_configuration, 12_000),
-    "trace": (of_trace, 8_000), "schedule": (of_schedule, 2_000), "check": (of_check, 1_000),
+    "trace": (of_trace, 8_000), "schedule": (of_schedule, 2_000), "check": (of_check, 1_000), "looks": (of_looks, 3_000),
 }
 
 
@@ -229,6 +259,10 @@ def input_of(number, kind=None):
 # What lint says
 
 
+def lines_of(output):
+    return output.decode().removesuffix("\n").split("\n") if output else []
+
+
 def wrong_form(output):
     """The first line of an output that has no form of lint's, or None."""
     try:
@@ -237,7 +271,7 @@ def wrong_form(output):
         return "no UTF-8"
     if CONTROL.search(text) or (text and not text.endswith("\n")):
         return repr(text)
-    return next((line for line in text.splitlines() if not FINDING.fullmatch(line) and not MORE.fullmatch(line)), None)
+    return next((line for line in lines_of(output) if not FINDING.fullmatch(line) and not MORE.fullmatch(line)), None)
 
 
 def judge(one, found):
@@ -254,16 +288,57 @@ def judge(one, found):
     form = wrong_form(output)
     if form is not None:
         return f"form: {form}", ""
-    lines = [FINDING.fullmatch(line) for line in output.decode().splitlines()]
+    lines = [FINDING.fullmatch(line) for line in lines_of(output)]
     findings = [line for line in lines if line and line.group(4) != "note"]
     wanted = 3 if any(line.group(5) for line in findings) else 1 if findings else 0
     if status != wanted:
         return f"status {status}, and {wanted} goes with what is printed", ""
     if one.fault is None:
-        return ("an error, and there is none" if status == 3 else None), ""
+        wrong = "an error, and there is none" if status == 3 else None
+        return wrong or one.looks and wrong_looks(lines, *one.looks), ""
     if status != 3 or not findings[0].group(5):
         return f"no error first, and there is {one.fault}", ""
     return judged_first(one, findings[0])
+
+
+def fits_verdict(report, line, rule, round, channel, place):
+    """Whether a verdict may be about a line of the report."""
+    fields = report.split(b"\n")[line - 1].decode(errors="replace").split(",")
+    if fields[0] in "FA":
+        return rule == "P6" and int(fields[1]) == place
+    if fields[0] == "U":
+        return rule == "P6" and place == 0
+    here, id = (int(fields[1]), int(fields[2])), int(fields[4])
+    if rule == "P3":
+        return here == (round, channel)
+    # an occurrence may be told of in any round, and on any channel
+    return id == place and (rule == "P4" or here[0] == round and channel in (0, here[1]))
+
+
+def start_of_record(maps, number):
+    """Where a record of a maps file begins."""
+    at = 0
+    for _ in range(number):
+        at += 6 + int.from_bytes(maps[at + 4 : at + 6], "big")
+    return at
+
+
+def wrong_verdict(one, first):
+    """What is wrong with where a verdict is told of, or None."""
+    rule, *numbers = one.fault.split(" ")
+    round, channel, place = map(int, numbers)
+    if first.group(1) == "report":
+        line = int(first.group(2) or 0)
+        if line and not fits_verdict(one.files["report"], line, rule, round, channel, place):
+            return f"line {line} of the report for {one.fault}"
+        return None if rule in ("P3", "P4", "P5", "P6") else f"the report for {one.fault}"
+    record = RECORD.match(first.group(6))
+    if first.group(1) != "maps" or not record:
+        return None if rule == "P6" else f"no place for {one.fault}"
+    number, at = map(int, record.groups())
+    if at != start_of_record(one.files["maps"], number) or rule in ("P1", "P2") and number != place:
+        return f"record {number} at {at} for {one.fault}"
+    return None
 
 
 def judged_first(one, first):
@@ -279,14 +354,60 @@ def judged_first(one, first):
         named = table.group().replace("the top level", "top 0") if table else None
         if named != place:
             return f"table {named} in place of {place}", ""
+    if code[0] == "P":
+        return wrong_verdict(one, first), ""
+    line, column = int(first.group(2) or 1), int(first.group(3) or 1)
+    if code == "CK1" and line != int(place):
+        return f"line {line} in place of {place}", ""
+    lines = one.files.get(first.group(1), b"").decode(errors="replace").split("\n")
+    if line > len(lines) or column > len(lines[line - 1]) + 1:
+        return f"no place {line}:{column}", ""
     if one.lines is None:
         return None, ""
-    line = int(first.group(2))
     if line in one.lines:
         return None, "exact"
     if line == one.header:
         return None, "header"
     return f"line {line} in place of {sorted(one.lines)[:9]}", ""
+
+
+def rows_told(findings, patterns):
+    """What is told of rows by channel and SID: how many there are, and the line of the first."""
+    told = {}
+    for finding in findings:
+        for found in filter(None, (pattern.fullmatch(finding.group(6)) for pattern in patterns)):
+            told[int(found["channel"]), int(found["sid"])] = [int(found["rows"]), int(finding.group(2))]
+    return told
+
+
+def wrong_looks(lines, tables, trace, rounds):
+    """What is wrong with the warnings of an input without a fault, or None."""
+    findings = [line for line in lines if line and line.group(4) == "warning"]
+    texts = [finding.group(6) for finding in findings]
+    most = plain_program.MOST_RUN_TICKS // tables["round_ticks"]
+    notes = [int(found.group(1)) for line in lines if line and (found := NOTE.match(line.group(6)))]
+    rows, is_noted = plain_warnings.Rows(tables, trace, rounds or most), rounds is None
+    if notes != [rows.rounds] * (is_noted and rows.rounds <= most):
+        return f"note: {notes} in place of {rows.rounds}"
+    rounds = rounds or most
+    late = [[int(found["rows"]), int(finding.group(2))] for finding in findings
+            if (found := LATE.fullmatch(finding.group(6)))]
+    silent = {int(found.group(1)) for found in map(SILENT.fullmatch, texts) if found}
+    windows = {(found.group(1), int(found.group(2))): tuple(map(int, found.groups()[2:]))
+               for found in map(WINDOWS.fullmatch, texts) if found}
+    compared = [
+        ("unknown", rows_told(findings, UNKNOWN), rows.unknown), ("unused", rows_told(findings, UNUSED), rows.unused),
+        ("silent", dict.fromkeys(silent), dict.fromkeys(rows.silent)),
+        ("windows", windows, plain_warnings.windows_of(tables, rounds)),
+    ]
+    others = sum(int(found.group(1)) for found in map(OTHERS.fullmatch, texts) if found)
+    for name, told, wanted in compared:
+        if len(told) != min(len(wanted), MOST_WARNINGS) or not told.items() <= wanted.items():
+            return f"{name}: {told} in place of {wanted}"
+        others -= len(wanted) - len(told)
+    if others != 0:
+        return f"{others} more than there are"
+    return None if late == [rows.late] * (rows.late[0] > 0) else f"late: {late} in place of {rows.late}"
 
 
 def keep(number, one, found):

@@ -19,7 +19,7 @@ class Rows:
     def __init__(self, text):
         self.records = [line.split(b",") for line in text.splitlines()]
         self.ends = [b"\n"] * len(self.records)
-        # which of these lists of fields were damaged, or stand in a trace whose header was
+        # which of these lists of fields were damaged
         self.damaged = []
 
     def text(self):
@@ -37,11 +37,12 @@ class Rows:
         self.damaged.append(fields)
 
     def lines(self):
-        """The lines on which what was damaged begins, with those that its end adds."""
+        """The lines on which what was damaged begins, with those that its end adds: all, where the header was."""
         lines, line = set(), 1
+        is_header = any(self.records[0] is damaged for damaged in self.damaged)
         for fields, end in zip(self.records, self.ends):
             feeds = (b",".join(fields) + end).count(b"\n")
-            if any(fields is damaged for damaged in self.damaged):
+            if is_header or any(fields is damaged for damaged in self.damaged):
                 lines.update(range(line, line + max(feeds, 1)))
             line += feeds
         return lines
@@ -116,8 +117,8 @@ def row_doubled(chance, rows):
 
 
 def header_changed(chance, rows):
-    rows.damaged += rows.records
     rows.records[0] = chance.choice([*HEADERS, *HEADERS, *BAD_HEADERS]).split(b",")
+    rows.damaged.append(rows.records[0])
 
 
 def version_changed(_chance, rows):
@@ -129,7 +130,7 @@ def version_changed(_chance, rows):
         else:
             fields.append(b"0")
     rows.records[0] = HEADERS[0 if kinds else 1].split(b",")
-    rows.damaged += rows.records
+    rows.damaged.append(rows.records[0])
 
 
 def kind_changed(chance, rows):

@@ -1,9 +1,9 @@
 """Writes a configuration in other forms of TOML 1.1, and tells on which lines its tables and keys stand then.
 
 The text has to have the form of those in crates/mapsim/cases/configs: a header in double brackets or a key on each
-line, profiles in braces. Forms are comments and blank lines, also with what looks like
-headers and keys; other spelling of headers and keys; lists and profiles over several lines; profiles as dotted keys or
-behind headers of their own; flows and stations as lists of tables in braces; CR LF.
+line, profiles in braces. Forms are comments and blank lines, also with what looks like headers and keys; other
+spelling of headers and keys; lists and profiles over several lines; profiles as dotted keys or behind headers of their
+own, also behind all other tables; tables of each kind as one list of tables in braces; CR LF.
 """
 import re
 from typing import NamedTuple
@@ -83,6 +83,8 @@ class Writer:
         self.chance, self.lines = chance, [""]
         self.headers, self.keys, self.tables = {}, {}, {}
         self.counts = dict.fromkeys(LISTS, 0)
+        # profiles of the last channel that are put behind all tables
+        self.last = []
 
     def line(self):
         return len(self.lines)
@@ -175,7 +177,7 @@ class Writer:
             self.pair(entry.line, self.spelled(key), value, key)
             self.end()
 
-    def entries(self, section):
+    def entries(self, section, is_last):
         """The keys of a table, each on a line."""
         later = []
         for entry in section.entries:
@@ -187,7 +189,13 @@ class Writer:
             else:
                 self.entry(entry)
                 self.end()
-        for entry in later:
+        if is_last and self.often(0.5):
+            self.last = later
+        else:
+            self.behind_headers(later)
+
+    def behind_headers(self, entries):
+        for entry in entries:
             self.behind_header(entry)
 
     def table(self, section, body):
@@ -200,12 +208,12 @@ class Writer:
             self.counts[section.list] += 1
             self.tables[name] = range(first, self.line() + 1)
 
-    def with_header(self, section):
+    def with_header(self, section, is_last):
         def body():
             spelled = self.spelled(section.list)
             self.write(self.chance.choice([f"[[{spelled}]]"] * 3 + [f"[[ {spelled} ]]", f"[[\t{spelled}]]"]))
             self.end()
-            self.entries(section)
+            self.entries(section, is_last)
 
         self.table(section, body)
 
@@ -257,14 +265,16 @@ def laid_out(chance, text):
     while writer.often(0.2):
         writer.write(chance.choice(DECOYS) + "\n")
     top, tables = sections[0], sections[1:]
+    channels = [section for section in tables if section.list == "channel"]
     # a list in braces stands before all headers, whose keys would else be its table's
     braced = [name for name in LISTS if writer.often(0.15) and any(section.list == name for section in tables)]
-    writer.table(top, lambda: writer.entries(top))
+    writer.table(top, lambda: writer.entries(top, False))
     for name in braced:
         writer.in_braces([section for section in tables if section.list == name])
     for section in tables:
         if section.list not in braced:
-            writer.with_header(section)
+            writer.with_header(section, section.list == "channel" and section is channels[-1])
+    writer.behind_headers(writer.last)
     lines = writer.lines
     text = ("\r\n" if writer.often(0.2) else "\n").join(lines)
     return Layout(text, writer.headers, writer.keys, writer.tables)
