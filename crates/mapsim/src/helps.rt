@@ -111,37 +111,37 @@ Example, from the top of the repository:
 
 It prints one line for each finding, and exits with 0 if there is none, with 1 if all are warnings,
 and with 3 if one is an error.
-  PLANT
+  examples/plant.csv:6:1: warning: sid: SID 295 on channel 1 is of flow 3 (id 4), which is ..
 
-The lines; FILE is the path as it was given, and COLUMN is 1 where only the line is known:
+The lines. FILE is the path as it was given, and COLUMN is 1 if only the line is known:
   FILE:LINE:COLUMN: error CODE: TEXT
-                    what is wrong, and what is wanted. CODE is that of the fault which other
+                    what is wrong, and what is wanted. CODE is that of the fault which the other
                     subcommands answer, as C3 of `fault C3 flow 2`
   FILE:LINE:COLUMN: warning: TEXT
-                    what is accepted, and looks wrong. Of one kind at most ten are told
+                    what is accepted, but looks wrong; of one kind at most ten
   FILE: error CODE: TEXT
-                    what is wrong in a maps file, which has no lines: the rule that `check` finds
-                    broken, or why a body is no MAP
+                    a rule of `check` that is broken where there is no line to name
   FILE: N more errors
                     behind the first 50
   FILE: note: N rounds take in all rows
-                    of a trace without --rounds, which is judged with as many rounds as fit. It is
+                    of a trace without --rounds, which is judged for as many rounds as fit. It is
                     no finding
 
-The files are read in the order --config, --trace, --maps, --report. Where one has an error, those
-behind it aren't looked at. The error that other subcommands answer comes first, and then all others
-by file and line.
+First comes the error that the other subcommands answer, and then all others by file and line.
+--config is looked at first, then --trace, then --maps and --report by the rules of `check`. Where
+one of them has an error, those behind it aren't read.
 
-In a configuration it warns of
-  WARNINGS
-and in a trace of
-  WARNINGS
+It warns of
+  the configuration: a lead as long as the run; windows in which the grant has no room beside the
+  reserves; calendars that ask for over 100 assignments in a MAP
+  the trace: SIDs that no flow has on that channel, or whose flow takes no such rows; late rows;
+  ticks that go far back or look like microseconds; flows that no row names
 ",
     TRACE,
     REPORT,
     UNITS,
     "
-A fault is one line on standard error, and no finding is printed then.
+A fault is one line on standard error, and then no finding is printed.
 Status 3:
 ",
     ROUNDS,

@@ -106,7 +106,7 @@ const CHECK: Subcommand = Subcommand {
 
 const LINT: Subcommand = Subcommand {
     name: "lint",
-    about: "Tells what is or looks wrong in files, by line, and what is wanted",
+    about: "Finds what is wrong in configuration, trace and report, by line",
     usage: Some(
         "mapsim lint --config <F> [--trace <F>] [--rounds <N>]\n                   \
          [--maps <F> --report <F>]",
