@@ -215,7 +215,8 @@ def of_row(chance, one):
 
 
 def of_configuration(chance, one):
-    return of_texts(damaged_inputs.damaged_config(chance, one.config), None, chance.choice([None, None, one.rounds, 0]))
+    config = damaged_inputs.damaged_config(chance, one.config)
+    return of_texts(config, None, chance.choice([None, None, one.rounds, 0]))
 
 
 def of_trace(chance, one):
@@ -245,7 +246,8 @@ def of_looks(chance, one):
 # of so many inputs, how many are of a kind
 KINDS = {
     "table": (of_table, 8_000), "row": (of_row, 2_500), "configuration": (of_configuration, 12_000),
-    "trace": (of_trace, 8_000), "schedule": (of_schedule, 2_000), "check": (of_check, 1_000), "looks": (of_looks, 3_000),
+    "trace": (of_trace, 8_000), "schedule": (of_schedule, 2_000), "check": (of_check, 1_000),
+    "looks": (of_looks, 3_000),
 }
 
 
