@@ -55,7 +55,7 @@ def has_room(channel, slots, start, end):
 
 
 def windows_of(tables, rounds):
-    """Of each entry of a calendar with windows that close in the run and have no room: the kind and id of its table, how
+    """Of each entry of a calendar with windows that close in the run and have no room: its table, how
     many of how many, the interval of the first and the round in which it closes."""
     found = {}
     quarters = tables["round_ticks"] * plain_scheduler.TICK
