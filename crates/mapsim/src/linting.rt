@@ -14,6 +14,7 @@ use us_command_line::FileLint;
 use us_findings::{Finding, Findings, Source, lint_config, too_long_config};
 use us_flows::{Config, MAX_CONFIG_BYTES};
 use us_replay::RunFault;
+use us_requests::Trace;
 use us_slots::Sink;
 use us_warnings::{TraceWarnings, config_warnings};
 
@@ -95,7 +96,7 @@ fn rounds_of(config: &Config, given: Option<u32>) -> Result<u32, Fault>
     }
 }
 
-/// What is found where the trace is accepted too: what is wrong in what a run wrote, then what looks wrong.
+/// What is found where the trace is accepted too.
 fn accepted<'a, R: Files>(
     rt: &R,
     alloc: Global,
@@ -106,21 +107,57 @@ fn accepted<'a, R: Files>(
 ) -> Result<Listing<'a>, Fault>
     requires { rounds_fit config.now accepted.trace.rounds ≡ true }
 {
-    let mut listing = Listing::new(alloc, order);
-    if let (Some(maps), Some(report)) = (order.maps, order.report) {
-        if let Some(finding) = lint_output(rt, alloc, config, &accepted.trace, maps, report)? {
-            listing.add_broken(maps, report, &finding)?;
-        }
-    }
     let TraceWarnings {
         findings,
         rounds_for_all,
     } = accepted.warnings;
-    listing.add_warnings(&by_place(warnings, findings)?)?;
-    if let (None, Some(rounds)) = (order.rounds, rounds_for_all) {
+    let warnings = by_place(warnings, findings)?;
+    let note = match order.rounds {
+        Some(_) => None,
+        None => rounds_for_all,
+    };
+    listing_beside(rt, alloc, order, config, &accepted.trace, &warnings, note)
+}
+
+/// The same, with these warnings and this note: first what is wrong in what a run wrote.
+fn listing_beside<'a, R: Files>(
+    rt: &R,
+    alloc: Global,
+    order: &FileLint<'a>,
+    config: &Config,
+    trace: &Trace,
+    warnings: &[Finding],
+    note: Option<u32>,
+) -> Result<Listing<'a>, Fault>
+    requires { rounds_fit config.now trace.now.rounds ≡ true }
+{
+    let mut listing = Listing::new(alloc, order);
+    add_verdict(rt, alloc, order, config, trace, &mut listing)?;
+    listing.add_warnings(warnings)?;
+    if let Some(rounds) = note {
         listing.add_note(rounds)?;
     }
     Ok(listing)
+}
+
+/// Adds what is wrong in the maps file and the report of an order, if it has them.
+fn add_verdict<R: Files>(
+    rt: &R,
+    alloc: Global,
+    order: &FileLint<'_>,
+    config: &Config,
+    trace: &Trace,
+    listing: &mut Listing<'_>,
+) -> Result<(), Fault>
+    requires { rounds_fit config.now trace.now.rounds ≡ true }
+{
+    let (Some(maps), Some(report)) = (order.maps, order.report) else {
+        return Ok(());
+    };
+    match lint_output(rt, alloc, config, trace, maps, report)? {
+        Some(finding) => Ok(listing.add_broken(maps, report, &finding)?),
+        None => Ok(()),
+    }
 }
 
 /// Findings together, by file and line.
