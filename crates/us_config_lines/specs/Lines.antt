@@ -1,6 +1,6 @@
 -- Lines and columns of a text, as an editor counts them.
-use Rattle.std.specs.Prelude.{ℕ, ◌+◌, ◌/◌, ◌==◌, not, List, length, filter, count_by}
-use Rattle.std.specs.List.{take_while, reverse}
+use Rattle.std.specs.Prelude.{ℕ, ◌+◌, ◌-◌, ◌/◌, ◌==◌, Bool, not, List, length, drop, count_by}
+use Rattle.std.specs.List.{suffix_len}
 
 -- a line feed
 abbrev pub ends_line : ℕ → Bool
@@ -14,6 +14,10 @@ begins_character byte = not (byte / 64 == 2)
 abbrev pub line_behind : List ℕ → ℕ
 line_behind bytes = count_by ends_line bytes + 1
 
--- and its column: the characters behind the last line feed
+-- the bytes behind the last line feed, all where there is none
+abbrev pub last_line : List ℕ → List ℕ
+last_line bytes = drop (length bytes - suffix_len (λ byte. not (ends_line byte)) bytes) bytes
+
+-- the column of the byte behind these: one more than the characters before it on its line
 abbrev pub column_behind : List ℕ → ℕ
 column_behind bytes = count_by begins_character (last_line bytes) + 1

@@ -5,7 +5,7 @@
 //!
 //! ```
 //! let spots = spots_of(alloc, text, &wanted)?; // where each of these keys stands, in bytes
-//! line_and_column(text, spots[0].at) // (12, 1)
+//! line_and_column(text.as_bytes(), spots[0].at) // (12, 1)
 //! ```
 //!
 //! What these words mean stands in `specs/`, in the order of its `Lib.antt`.
@@ -17,11 +17,11 @@ mod spots;
 // Why a walk ends early.
 mod stops;
 
-// Values, which are passed over.
+// Keys and values, read from the front of a text.
 mod values;
 
-// The names of keys from the top level on.
-mod names;
+// Tables in which something is looked for.
+mod scopes;
 
 // The walk over headers and keys.
 mod walks;

@@ -2,11 +2,11 @@ use std::alloc::{AllocError, AllocFailed};
 use toml_parser::ParseError;
 
 /// Why a walk over a text ends before its end.
-#[derive(Clone, Copy)]
+#[derive(Clone, Copy, Drop)]
 pub(crate) enum Stop {
     /// Memory is wanting.
     NoMemory,
-    /// The text goes on with something else than was looked for: it is no document, or one that this walk can't follow.
+    /// Something else comes than was looked for: the text is no document, or one that this walk can't follow.
     Lost,
 }
 

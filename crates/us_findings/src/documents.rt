@@ -1,16 +1,17 @@
-use std::alloc::{AllocError, Global};
+use crate::titles::Title;
 use toml::{Table, Value};
 use us_flows::{Place, TableName};
 
-/// The tables of a list of a document, in its order: those of its items that are none are left out.
-pub(crate) fn items_of<'a>(document: &'a Table, list: TableName) -> &'a [Value] {
-    match document.get(key_of(list)) {
-        Some(Value::Array(items)) => items,
-        _ => &[],
-    }
-}
+/// The top level.
+pub(crate) const TOP: Place = Place {
+    table: TableName::Top,
+    index: 0,
+};
 
-/// The key of the top level that has the tables of this kind.
+/// The kinds of tables that stand in lists.
+pub(crate) const LISTS: [TableName; 3] = [TableName::Channel, TableName::Flow, TableName::Station];
+
+/// The key of the top level that has the tables of a kind.
 pub(crate) fn key_of(list: TableName) -> &'static str {
     match list {
         TableName::Top => "",
@@ -20,37 +21,73 @@ pub(crate) fn key_of(list: TableName) -> &'static str {
     }
 }
 
+/// The kind of tables that a key of the top level has.
+pub(crate) fn list_of(key: &str) -> Option<TableName> {
+    for list in LISTS {
+        if key_of(list) == key {
+            return Some(list);
+        }
+    }
+    None
+}
+
+/// The tables of a document of one kind, and what else stands in their list.
+pub(crate) fn items_of(document: &Table, list: TableName) -> &[Value] {
+    values_at(document, key_of(list))
+}
+
 /// The table at a place.
-pub(crate) fn table_at<'a>(document: &'a Table, place: Place) -> Option<&'a Table> {
+pub(crate) fn table_at(document: &Table, place: Place) -> Option<&Table> {
     match place.table {
         TableName::Top => Some(document),
-        list => items_of(document, list).get(place.index as usize)?.as_table(),
+        list => match items_of(document, list).get(place.index as usize) {
+            Some(item) => item.as_table(),
+            None => None,
+        },
     }
 }
 
-/// The whole number of a key, 0 where there is none.
-pub(crate) fn number_at(table: &Table, key: &str) -> i64 {
+/// What a finding calls a table that stands at a place.
+pub(crate) fn title_of(table: &Table, place: Place) -> Title {
+    let id = match table.get("id") {
+        Some(Value::Integer(id)) => u64::try_from(*id).ok(),
+        _ => None,
+    };
+    Title {
+        place,
+        id,
+        profile: None,
+    }
+}
+
+/// A whole number from 0 on; 0 for all other values.
+pub(crate) fn number_of(value: &Value) -> u64 {
+    match value.as_integer() {
+        Some(number) => u64::try_from(number).unwrap_or(0),
+        None => 0,
+    }
+}
+
+/// The number of a key.
+pub(crate) fn number_at(table: &Table, key: &str) -> u64 {
     match table.get(key) {
-        Some(Value::Integer(number)) => *number,
-        _ => 0,
+        Some(value) => number_of(value),
+        None => 0,
+    }
+}
+
+/// The values of a list; none for all other values.
+pub(crate) fn values_of(value: &Value) -> &[Value] {
+    match value.as_array() {
+        Some(values) => values,
+        None => &[],
     }
 }
 
 /// The values of the list of a key.
 pub(crate) fn values_at<'a>(table: &'a Table, key: &str) -> &'a [Value] {
     match table.get(key) {
-        Some(Value::Array(values)) => values,
-        _ => &[],
-    }
-}
-
-/// What a finding calls a table: `flow 2 (id 3)`, counted from 0 as in fault lines.
-pub(crate) fn name_of(alloc: Global, document: &Table, place: Place) -> Result<String, AllocError> {
-    if place.table == TableName::Top {
-        return String::from_str(alloc, "the top level");
-    }
-    match table_at(document, place).and_then(|table| table.get("id")) {
-        Some(Value::Integer(id)) => Ok(format!(in alloc; "{place} (id {id})")?),
-        _ => Ok(format!(in alloc; "{place}")?),
+        Some(value) => values_of(value),
+        None => &[],
     }
 }

@@ -1,104 +1,116 @@
-use std::alloc::{AllocError, Global};
+use crate::documents::list_of;
+use crate::hints::{Hint, hint_of};
+use crate::keys::Keys;
+use crate::sentences::Sentence;
+use crate::shown::ShownKey;
+use crate::titles::{Title, path_in};
+use crate::values::wanted;
+use std::fmt;
+use toml::{Table, Value};
 use us_config_lines::KeyPath;
-use us_flows::{ConfigFault, Place};
+use us_flows::{ConfigFault, Place, Rule};
 
-/// The most findings of a configuration, or of a trace, that are told one by one.
-pub(crate) const MAX_TOLD: usize = 50;
-
-/// A finding of a configuration whose line isn't known yet.
-#[derive(Drop)]
+/// A finding of a configuration whose line isn't known yet, and which isn't written yet.
+#[derive(Clone, Copy)]
 pub(crate) struct Draft<'a> {
-    /// The fault.
     pub(crate) fault: ConfigFault,
-    /// The table or key that it is about.
-    pub(crate) path: KeyPath<'a>,
-    /// What is wrong.
-    pub(crate) text: String,
-    /// Another table or key that it has to do with.
+    /// The table that it is about.
+    pub(crate) title: Title,
+    pub(crate) problem: Problem<'a>,
+}
+
+/// What is wrong with a table.
+#[derive(Clone, Copy)]
+pub(crate) enum Problem<'a> {
+    /// It lacks a key of this rule.
+    Missing(&'static str, Rule),
+    /// The value of a key breaks its rule.
+    Value(&'a str, Rule, &'a Value),
+    /// It is this table, which can have these keys alone, and has another.
+    Unknown(&'a str, Keys, &'a Table),
+    /// It breaks a rule of several keys, or of several tables.
+    Several(Why<'a>),
+}
+
+/// Why a table breaks a rule of several keys or tables.
+#[derive(Clone, Copy)]
+pub(crate) struct Why<'a> {
+    /// The key that is to be changed.
+    pub(crate) key: &'static str,
+    /// What is wrong with it.
+    pub(crate) sentence: Sentence,
+    /// A key of another table that has to do with it.
     pub(crate) other: Option<KeyPath<'a>>,
-    /// Whether the value that stands there is shown behind the text.
-    pub(crate) shows_value: bool,
 }
 
-/// Findings, of which the first ones are kept and the others counted.
-#[derive(Drop)]
-pub(crate) struct Drafts<'a> {
-    pub(crate) alloc: Global,
-    pub(crate) kept: Vec<Draft<'a>>,
-    pub(crate) more: usize,
-}
-
-impl<'a> Drafts<'a> {
-    pub(crate) fn new(alloc: Global) -> Drafts<'a> {
-        Drafts {
-            alloc,
-            kept: Vec::new(alloc),
-            more: 0,
+impl<'a> Draft<'a> {
+    /// Where it stands. Of too many tables it is the first that is too many.
+    pub(crate) fn path(&self) -> KeyPath<'a> {
+        match self.problem {
+            Problem::Missing(..) => self.title.path(),
+            Problem::Value(key, rule, value) => match too_many(key, rule, value) {
+                Some(first) => path_in(first, None),
+                None => self.title.path_of(key),
+            },
+            Problem::Unknown(key, ..) => self.title.path_of(key),
+            Problem::Several(why) => self.title.path_of(why.key),
         }
     }
 
-    /// How many there are, those that are counted alone among them.
-    pub(crate) fn count(&self) -> usize {
-        self.kept.len().saturating_add(self.more)
-    }
-
-    /// One more, of a table or a key alone.
-    pub(crate) fn add(
-        &mut self,
-        fault: ConfigFault,
-        path: KeyPath<'a>,
-        text: String,
-    ) -> Result<(), AllocError> {
-        self.push(Draft {
-            fault,
-            path,
-            text,
-            other: None,
-            shows_value: false,
-        })
-    }
-
-    /// One more, behind whose text stands the value of its key.
-    pub(crate) fn add_with_value(
-        &mut self,
-        fault: ConfigFault,
-        path: KeyPath<'a>,
-        text: String,
-    ) -> Result<(), AllocError> {
-        self.push(Draft {
-            fault,
-            path,
-            text,
-            other: None,
-            shows_value: true,
-        })
-    }
-
-    /// One more.
-    pub(crate) fn push(&mut self, draft: Draft<'a>) -> Result<(), AllocError> {
-        if self.kept.len() < MAX_TOLD {
-            self.kept.push(draft)?;
-        } else {
-            self.more = self.more.saturating_add(1);
+    /// The key of another table that it names.
+    pub(crate) fn other(&self) -> Option<KeyPath<'a>> {
+        match self.problem {
+            Problem::Several(why) => why.other,
+            _ => None,
         }
-        Ok(())
     }
 }
 
-/// A table of a configuration.
-pub(crate) fn table_path<'a>(place: Place) -> KeyPath<'a> {
-    KeyPath {
-        place,
-        profile: None,
-        key: None,
+/// The first table of a list that is too many, where there are too many.
+fn too_many(key: &str, rule: Rule, value: &Value) -> Option<Place> {
+    let Rule::Tables(_, many) = rule else {
+        return None;
+    };
+    if value.as_array()?.len() <= many as usize {
+        return None;
+    }
+    Some(Place {
+        table: list_of(key)?,
+        index: many,
+    })
+}
+
+/// Writes what is wrong, behind the title of the table.
+impl fmt::Display for Problem<'_> {
+    fn fmt<W: fmt::Write>(&self, f: &mut fmt::Formatter<W>) -> fmt::Result {
+        let (before, key, between) = match *self {
+            Problem::Missing(key, _) => (": the key ", key, " is missing, "),
+            Problem::Value(key, ..) | Problem::Unknown(key, ..) => (", ", key, ": "),
+            Problem::Several(why) => (", ", why.key, ": "),
+        };
+        let (key, sentence, hint) = (ShownKey(key), self.sentence(), self.hint());
+        let (words, meant) = (hint.words, hint.key);
+        write!(f, "{before}{key}{between}{sentence}{words}{meant}")
     }
 }
 
-/// A key of a table.
-pub(crate) fn key_path<'a>(place: Place, key: &'a str) -> KeyPath<'a> {
-    KeyPath {
-        place,
-        profile: None,
-        key: Some(key),
+impl Problem<'_> {
+    /// What is wanted of the key, or wrong with it.
+    fn sentence(&self) -> Sentence {
+        match *self {
+            Problem::Missing(_, rule) | Problem::Value(_, rule, _) => wanted(rule),
+            Problem::Unknown(_, keys, _) => keys.none_of(),
+            Problem::Several(why) => why.sentence,
+        }
+    }
+
+    /// What stands behind that.
+    fn hint(&self) -> Hint {
+        let words = match *self {
+            Problem::Missing(..) | Problem::Value(..) => " is wanted",
+            Problem::Unknown(key, keys, table) => return hint_of(keys, table, key),
+            Problem::Several(_) => "",
+        };
+        Hint { words, key: "" }
     }
 }

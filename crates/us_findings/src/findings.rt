@@ -3,7 +3,7 @@ use us_flows::ConfigFault;
 use us_requests::TraceFault;
 
 /// A file in which something is found.
-#[derive(Clone, Copy, Debug, PartialEq, Eq)]
+#[derive(Clone, Copy, PartialEq, Eq)]
 pub enum Source {
     /// The configuration.
     Config,
@@ -12,7 +12,7 @@ pub enum Source {
 }
 
 /// What is found.
-#[derive(Clone, Copy, Debug, PartialEq, Eq)]
+#[derive(Clone, Copy)]
 pub enum What {
     /// The configuration has this fault.
     Config(ConfigFault),
@@ -37,7 +37,7 @@ pub struct Finding {
     pub text: String,
 }
 
-/// The errors of a file. The first one is the fault that the program answers.
+/// The errors of a file.
 #[derive(Drop)]
 pub struct Findings {
     /// That of the fault that the program answers.
@@ -52,17 +52,26 @@ pub struct Findings {
 impl fmt::Display for Finding {
     fn fmt<W: fmt::Write>(&self, f: &mut fmt::Formatter<W>) -> fmt::Result {
         let (line, column, text) = (self.line, self.column, self.text.as_str());
-        match self.what {
-            What::Config(fault) => write!(f, "{line}:{column}: error {}: {text}", fault.code()),
-            What::Trace(fault) => write!(f, "{line}:{column}: error {}: {text}", fault.code()),
-            What::Warning => write!(f, "{line}:{column}: warning: {text}"),
-        }
+        let (kind, code) = match self.what {
+            What::Config(fault) => ("error ", fault.code()),
+            What::Trace(fault) => ("error ", fault.code()),
+            What::Warning => ("warning", ""),
+        };
+        write!(f, "{line}:{column}: {kind}{code}: {text}")
     }
 }
 
 impl Finding {
     ghost use Rattle.std.specs.Prelude.{◌≡◌};
     ghost use Rattle.us_findings.specs.declared.findings.What.TheVariants.{Config};
+
+    /// Whether it is this fault of the configuration.
+    pub(crate) fn is_of(&self, fault: ConfigFault) -> bool {
+        match self.what {
+            What::Config(own) => own == fault,
+            What::Trace(_) | What::Warning => false,
+        }
+    }
 
     /// The same, as this fault of the configuration.
     pub(crate) fn of_config(self, fault: ConfigFault) -> Finding

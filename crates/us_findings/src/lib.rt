@@ -1,9 +1,9 @@
-//! What is wrong, or looks wrong, in a configuration and a trace: each finding with its line, and what is wanted there.
+//! What is wrong, or looks wrong, in a configuration or a trace: findings with their lines, and the errors of a configuration.
 //!
 //! ```
 //! match lint_config(alloc, text)? {
-//!     Ok(config) => {}                                // no error
-//!     Err(findings) => {}                             // the fault that `Config::read` answers, then all others
+//!     Ok(config) => {}    // no error
+//!     Err(findings) => {} // the fault that `Config::read` answers, and all others of the shapes of tables
 //! }
 //! ```
 //!
@@ -16,14 +16,29 @@ mod findings;
 // Texts of the input, cut and escaped.
 mod shown;
 
+// Words with numbers among them.
+mod sentences;
+
+// What a finding calls a table.
+mod titles;
+
+// Tables of a document, and their values.
+mod documents;
+
+// What is wanted of a value, and what of it is wrong.
+mod values;
+
+// The keys that a table may have.
+mod keys;
+
+// What helps with a key that a table can't have.
+mod hints;
+
 // A finding whose line isn't known yet.
 mod drafts;
 
-// Tables of a document, by their places.
-mod documents;
-
-// What a rule wants, in words.
-mod wanted;
+// Such findings, of which the first ones are kept.
+mod lists;
 
 // Keys and values of one table.
 mod shapes;
@@ -31,17 +46,28 @@ mod shapes;
 // The shapes of all tables.
 mod tables;
 
-// What tables have to do with one another.
-mod rules;
+// Why a table breaks a rule of several keys or tables: its names,
+mod names;
 
-// Why a text is no document.
-mod texts;
+// its grants,
+mod grants;
+
+// and all such rules.
+mod rules;
 
 // Lines of findings.
 mod located;
 
+// Why a text is no document.
+mod texts;
+
 // The errors of a configuration.
 mod config_errors;
 
-pub use config_errors::{ConfigErrors, lint_config};
-pub use findings::{Finding, Source, What};
+pub use config_errors::lint_config;
+pub use findings::{Finding, Findings, Source, What};
+pub use shown::Shown;
+pub use texts::too_long_config;
+
+#[cfg(test)]
+mod tests;

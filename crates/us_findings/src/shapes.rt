@@ -1,88 +1,56 @@
-use crate::drafts::Drafts;
-use crate::shown::Shown;
-use crate::wanted::Wanted;
+use crate::documents::number_of;
+use crate::drafts::Problem;
+use crate::keys::Keys;
+use crate::lists::Drafts;
+use crate::titles::Title;
 use std::alloc::AllocError;
 use toml::Table;
-use us_config_lines::KeyPath;
-use us_flows::{ConfigFault, Key, Place, Rule, is_optional, keeps};
+use us_flows::{is_optional, keeps};
 
 /// A table of a document, beside the keys that it may have.
 #[derive(Clone, Copy)]
-pub(crate) struct Shape<'d, 'n> {
-    pub(crate) keys: &'n [Key],
+pub(crate) struct Shape<'d> {
+    pub(crate) keys: Keys,
     pub(crate) table: &'d Table,
-    /// The channel, the flow or the station that it is, or that it is a profile of.
-    pub(crate) place: Place,
-    /// The key of the profile that it is.
-    pub(crate) profile: Option<&'static str>,
-    /// What a finding calls it.
-    pub(crate) name: &'n str,
+    pub(crate) title: Title,
 }
 
-impl<'d> Shape<'d, '_> {
+impl<'d> Shape<'d> {
     /// Adds what is wrong with the keys and the values of this table.
     pub(crate) fn add_to(&self, drafts: &mut Drafts<'d>) -> Result<(), AllocError> {
-        for (key, rule) in self.keys {
-            if !is_optional(*rule) && self.table.get(*key).is_none() {
-                self.add_missing(drafts, key)?;
-            }
-        }
+        self.add_missing(drafts)?;
         for (key, value) in self.table {
-            match self.rule_of(key) {
-                Some(rule) if keeps(rule, value) => {}
-                Some(rule) => self.add_value(drafts, key, rule)?,
-                None => self.add_unknown(drafts, key)?,
+            match self.keys.rule_of(key) {
+                Some(rule) => {
+                    if !keeps(rule, value) {
+                        drafts.add(self.title, Problem::Value(key, rule, value))?;
+                    }
+                }
+                None => drafts.add(self.title, Problem::Unknown(key, self.keys, self.table))?,
             }
         }
         Ok(())
     }
 
-    /// The rule of a key, none where there is no such key.
-    fn rule_of(&self, key: &str) -> Option<Rule> {
-        for (listed, rule) in self.keys {
-            if *listed == key {
-                return Some(*rule);
+    /// Adds the keys that the table has to have, and lacks.
+    fn add_missing(&self, drafts: &mut Drafts<'d>) -> Result<(), AllocError> {
+        for place in 0..self.keys.places() {
+            if let Some((key, rule)) = self.keys.at(place) {
+                if !is_optional(rule) && self.table.get(key).is_none() {
+                    drafts.add(self.title, Problem::Missing(key, rule))?;
+                }
             }
         }
-        None
+        Ok(())
     }
 
-    /// A key that the table has to have is missing.
-    fn add_missing(&self, drafts: &mut Drafts<'d>, key: &str) -> Result<(), AllocError> {
-        let name = self.name;
-        let text = format!(in drafts.alloc; "{name}: the key {key} is missing")?;
-        drafts.add(ConfigFault::Missing(self.place), self.own_path(), text)
-    }
-
-    /// The value of a key breaks its rule.
-    fn add_value(&self, drafts: &mut Drafts<'d>, key: &'d str, rule: Rule) -> Result<(), AllocError> {
-        let (name, wanted) = (self.name, Wanted(rule));
-        let text = format!(in drafts.alloc; "{name}, {key}: {wanted} is wanted")?;
-        drafts.add_with_value(ConfigFault::Range(self.place), self.key_path(key), text)
-    }
-
-    /// The table has a key that it can't have.
-    fn add_unknown(&self, drafts: &mut Drafts<'d>, key: &'d str) -> Result<(), AllocError> {
-        let (name, shown) = (self.name, Shown(key));
-        let text = format!(in drafts.alloc; "{name}, {shown}: no key of this table")?;
-        drafts.add(ConfigFault::Range(self.place), self.key_path(key), text)
-    }
-
-    /// Where the table itself stands: a profile by its key.
-    fn own_path(&self) -> KeyPath<'d> {
-        KeyPath {
-            place: self.place,
-            profile: None,
-            key: self.profile,
-        }
-    }
-
-    /// Where a key of it stands.
-    pub(crate) fn key_path(&self, key: &'d str) -> KeyPath<'d> {
-        KeyPath {
-            place: self.place,
-            profile: self.profile,
-            key: Some(key),
+    /// The number of a key that keeps its rule; none where it doesn't, or is missing.
+    pub(crate) fn number(&self, key: &str) -> Option<u64> {
+        let (rule, value) = (self.keys.rule_of(key)?, self.table.get(key)?);
+        if keeps(rule, value) {
+            Some(number_of(value))
+        } else {
+            None
         }
     }
 }

@@ -3,29 +3,93 @@ use std::fmt;
 /// The most characters of the input that a finding shows.
 const MAX_SHOWN: usize = 40;
 
-/// A text of the input as a finding shows it: its first 40 characters, without control characters.
+/// The most bytes of a character.
+const MAX_CHARACTER: usize = 4;
+
+/// A text of the input as a finding shows it: its first 40 characters, with two dots where there are more. Control
+/// characters are escaped, as are bytes that are no UTF-8.
 #[derive(Clone, Copy)]
-pub(crate) struct Shown<'a>(pub(crate) &'a str);
+pub struct Shown<'a>(pub &'a [u8]);
 
 impl fmt::Display for Shown<'_> {
     fn fmt<W: fmt::Write>(&self, f: &mut fmt::Formatter<W>) -> fmt::Result {
-        for (count, character) in self.0.chars().enumerate() {
-            if count == MAX_SHOWN {
-                return f.write_str("..");
-            }
-            write_char(f, character)?;
+        let mut rest = self.0;
+        for _ in 0..MAX_SHOWN {
+            rest = write_first(f, rest)?;
         }
-        Ok(())
+        if rest.is_empty() {
+            Ok(())
+        } else {
+            f.write_str("..")
+        }
     }
 }
 
+/// A key of the input as a finding shows it: in quotes, where it has others than letters, digits, `_` and `-`, or none.
+#[derive(Clone, Copy)]
+pub(crate) struct ShownKey<'a>(pub(crate) &'a str);
+
+impl fmt::Display for ShownKey<'_> {
+    fn fmt<W: fmt::Write>(&self, f: &mut fmt::Formatter<W>) -> fmt::Result {
+        let key = self.0.as_bytes();
+        let (shown, quote) = (Shown(key), if is_bare(key) { "" } else { "\"" });
+        write!(f, "{quote}{shown}{quote}")
+    }
+}
+
+/// Whether a key may stand without quotes.
+fn is_bare(key: &[u8]) -> bool {
+    for byte in key {
+        if !byte.is_ascii_alphanumeric() && *byte != b'_' && *byte != b'-' {
+            return false;
+        }
+    }
+    !key.is_empty()
+}
+
+/// Writes the first character of a text, or its first byte where no character begins. What is left is answered.
+fn write_first<'a, W: fmt::Write>(
+    f: &mut fmt::Formatter<W>,
+    text: &'a [u8],
+) -> Result<&'a [u8], fmt::Error> {
+    if let Some(character) = first_character(text) {
+        write_character(f, character)?;
+        return Ok(text.get(character.len_utf8()..).unwrap_or(&[]));
+    }
+    match text.split_first() {
+        Some((byte, rest)) => {
+            write!(f, "\\x{byte:02x}")?;
+            Ok(rest)
+        }
+        None => Ok(text),
+    }
+}
+
+/// The character with which a text begins.
+fn first_character(text: &[u8]) -> Option<char> {
+    for length in 1..=MAX_CHARACTER {
+        if let Some(start) = text.get(..length) {
+            if let Ok(character) = str::from_utf8(start) {
+                return character.chars().next();
+            }
+        }
+    }
+    None
+}
+
 /// Writes a character, one of control as its number.
-fn write_char<W: fmt::Write>(f: &mut fmt::Formatter<W>, character: char) -> fmt::Result {
+fn write_character<W: fmt::Write>(f: &mut fmt::Formatter<W>, character: char) -> fmt::Result {
     match character {
         '\n' => f.write_str("\\n"),
         '\r' => f.write_str("\\r"),
         '\t' => f.write_str("\\t"),
-        _ if character.is_control() => write!(f, "\\u{{{:x}}}", u32::from(character)),
-        _ => write!(f, "{character}"),
+        _ => {
+            if character.is_control() {
+                let number = u32::from(character);
+                write!(f, "\\u{{{number:x}}}")
+            } else {
+                write!(f, "{character}")
+            }
+        }
     }
 }

@@ -1,154 +1,129 @@
-use crate::documents::{items_of, key_of, name_of, number_at};
-use crate::drafts::{Draft, Drafts, key_path, table_path};
+use crate::documents::{LISTS, TOP, items_of, title_of};
+use crate::drafts::{Problem, Why};
+use crate::keys::Keys;
+use crate::lists::Drafts;
+use crate::sentences::Sentence;
 use crate::shapes::Shape;
-use crate::wanted::Wanted;
+use crate::titles::Title;
 use std::alloc::AllocError;
 use toml::{Table, Value};
 use us_flows::{
-    ConfigFault, Key, MAX_CODEWORD, Place, Rule, TableName, all_flow_keys, channel_keys, keeps,
-    profile_keys, short_keys, station_keys, top_keys, type_of,
-};
-use us_config_lines::KeyPath;
-
-/// The top level.
-const TOP: Place = Place {
-    table: TableName::Top,
-    index: 0,
+    Key, MAX_CODEWORD, Place, Rule, TableName, channel_keys, keeps, kind_at, profile_keys,
+    short_keys, station_keys, top_keys,
 };
 
-/// The profiles of a channel.
-const PROFILES: [&str; 3] = ["long", "short", "unsolicited"];
+/// Adds what is wrong with the shapes of all tables of a document. An item that is no table is told of with its list.
+pub(crate) fn add_shapes<'d>(
+    drafts: &mut Drafts<'d>,
+    document: &'d Table,
+) -> Result<(), AllocError> {
+    listed(document, TOP, top_keys()).add_to(drafts)?;
+    for list in LISTS {
+        add_list(drafts, list, items_of(document, list))?;
+    }
+    Ok(())
+}
 
-/// Adds what is wrong with the shapes of all tables of a document.
-pub(crate) fn add_shapes<'d>(drafts: &mut Drafts<'d>, document: &'d Table) -> Result<(), AllocError> {
-    add_table(drafts, document, document, TOP, top_keys())?;
-    for list in [TableName::Channel, TableName::Flow, TableName::Station] {
-        for (index, item) in items_of(document, list).iter().enumerate() {
-            let place = Place {
-                table: list,
-                index: index as u32,
-            };
-            if let Value::Table(table) = item {
-                add_item(drafts, document, table, place)?;
-            }
+/// Those of the tables of a list.
+fn add_list<'d>(
+    drafts: &mut Drafts<'d>,
+    list: TableName,
+    items: &'d [Value],
+) -> Result<(), AllocError> {
+    for (index, item) in (0..u32::MAX).zip(items) {
+        if let Some(table) = item.as_table() {
+            add_table(drafts, Place { table: list, index }, table)?;
         }
     }
     Ok(())
 }
 
-/// Those of one channel, flow or station.
-fn add_item<'d>(
+/// Those of a channel, a flow or a station.
+fn add_table<'d>(
     drafts: &mut Drafts<'d>,
-    document: &'d Table,
-    table: &'d Table,
     place: Place,
+    table: &'d Table,
 ) -> Result<(), AllocError> {
     match place.table {
         TableName::Top => Ok(()),
-        TableName::Channel => {
-            add_table(drafts, document, table, place, channel_keys())?;
-            add_profiles(drafts, document, table, place)
-        }
-        TableName::Flow => add_flow(drafts, document, table, place),
-        TableName::Station => add_table(drafts, document, table, place, station_keys()),
+        TableName::Channel => add_channel(drafts, place, table),
+        TableName::Flow => add_flow(drafts, place, table),
+        TableName::Station => listed(table, place, station_keys()).add_to(drafts),
     }
 }
 
-/// Those of a table with these keys.
-fn add_table<'d>(
-    drafts: &mut Drafts<'d>,
-    document: &'d Table,
-    table: &'d Table,
-    place: Place,
-    keys: &[Key],
-) -> Result<(), AllocError> {
-    let name = name_of(drafts.alloc, document, place)?;
-    let shape = Shape {
-        keys,
+/// A table with these keys.
+fn listed<'d>(table: &'d Table, place: Place, keys: &'static [Key]) -> Shape<'d> {
+    Shape {
+        keys: Keys::Listed(keys),
         table,
-        place,
-        profile: None,
-        name: name.as_str(),
-    };
-    shape.add_to(drafts)
+        title: title_of(table, place),
+    }
 }
 
 /// Those of a flow. Where its type is wrong or missing, that is all: the type says which keys it may have.
-fn add_flow<'d>(
-    drafts: &mut Drafts<'d>,
-    document: &'d Table,
-    table: &'d Table,
-    place: Place,
-) -> Result<(), AllocError> {
-    let mut keys: Vec<Key> = Vec::new(drafts.alloc);
-    match type_of(table) {
-        Some(kind) => {
-            for (key, types, rule) in all_flow_keys() {
-                if types.have(kind) {
-                    keys.push((*key, *rule))?;
-                }
-            }
-            add_table(drafts, document, table, place, &keys)
-        }
-        None => add_type(drafts, document, table, place),
+fn add_flow<'d>(drafts: &mut Drafts<'d>, place: Place, table: &'d Table) -> Result<(), AllocError> {
+    let title = title_of(table, place);
+    let Some(kind) = table.get("type") else {
+        return drafts.add(title, Problem::Missing("type", Rule::Type));
+    };
+    if !keeps(Rule::Type, kind) {
+        return drafts.add(title, Problem::Value("type", Rule::Type, kind));
     }
+    let keys = Keys::OfFlows(kind_at(table));
+    let shape = Shape { keys, table, title };
+    shape.add_to(drafts)
 }
 
-/// The type of a flow is wrong or missing.
-fn add_type<'d>(
+/// Those of a channel and of its profiles. A profile that is no table breaks the rule of its key, and that is all.
+fn add_channel<'d>(
     drafts: &mut Drafts<'d>,
-    document: &'d Table,
-    table: &'d Table,
     place: Place,
-) -> Result<(), AllocError> {
-    let name = name_of(drafts.alloc, document, place)?;
-    if table.get("type").is_none() {
-        let text = format!(in drafts.alloc; "{name}: the key type is missing")?;
-        return drafts.add(ConfigFault::Missing(place), table_path(place), text);
-    }
-    let wanted = Wanted(Rule::Type);
-    let text = format!(in drafts.alloc; "{name}, type: {wanted} is wanted")?;
-    drafts.add_with_value(ConfigFault::Range(place), key_path(place, "type"), text)
-}
-
-/// Those of a channel's profiles. One that is no table breaks the rule of its key, and has none of its own.
-fn add_profiles<'d>(
-    drafts: &mut Drafts<'d>,
-    document: &'d Table,
     channel: &'d Table,
-    place: Place,
 ) -> Result<(), AllocError> {
-    for key in PROFILES {
-        if let Some(Value::Table(profile)) = channel.get(key) {
-            let channel_name = name_of(drafts.alloc, document, place)?;
-            let name = format!(in drafts.alloc; "{channel_name}, {key}")?;
-            let shape = Shape {
-                keys: if key == "short" { short_keys() } else { profile_keys() },
-                table: profile,
-                place,
-                profile: Some(key),
-                name: name.as_str(),
-            };
-            let before = drafts.count();
-            shape.add_to(drafts)?;
-            if drafts.count() == before {
-                add_codeword(drafts, shape)?;
-            }
-        }
-    }
-    Ok(())
+    listed(channel, place, channel_keys()).add_to(drafts)?;
+    add_profile(drafts, place, channel, "long", profile_keys())?;
+    add_profile(drafts, place, channel, "short", short_keys())?;
+    add_profile(drafts, place, channel, "unsolicited", profile_keys())
 }
 
-/// The FEC codewords of a profile are too long, where each of its values keeps its rule.
-fn add_codeword<'d>(drafts: &mut Drafts<'d>, shape: Shape<'d, '_>) -> Result<(), AllocError> {
-    let fec_k = number_at(shape.table, "fec_k");
-    let bytes = number_at(shape.table, "fec_t").saturating_mul(2).saturating_add(fec_k);
-    if bytes <= MAX_CODEWORD {
+/// Those of one profile.
+fn add_profile<'d>(
+    drafts: &mut Drafts<'d>,
+    place: Place,
+    channel: &'d Table,
+    key: &'static str,
+    keys: &'static [Key],
+) -> Result<(), AllocError> {
+    let Some(Value::Table(table)) = channel.get(key) else {
         return Ok(());
+    };
+    let title = Title {
+        profile: Some(key),
+        ..title_of(channel, place)
+    };
+    let keys = Keys::Listed(keys);
+    let shape = Shape { keys, table, title };
+    shape.add_to(drafts)?;
+    match long_codeword(&shape) {
+        Some(why) => drafts.add(title, Problem::Several(why)),
+        None => Ok(()),
     }
-    let name = shape.name;
-    let text = format!(in drafts.alloc;
-        "{name}, fec_k: fec_k and twice fec_t are {bytes} together, and at most {MAX_CODEWORD} is wanted"
-    )?;
-    drafts.add(ConfigFault::Range(shape.place), shape.key_path("fec_k"), text)
+}
+
+/// That the codewords of a profile are too long, though both numbers keep their rules.
+fn long_codeword<'a>(profile: &Shape<'_>) -> Option<Why<'a>> {
+    let (data, most) = (profile.number("fec_k")?, profile.number("fec_t")?);
+    let bytes = data.saturating_add(most.saturating_mul(2));
+    if bytes <= MAX_CODEWORD {
+        return None;
+    }
+    Some(Why {
+        key: "fec_k",
+        sentence: Sentence(
+            "# and twice fec_t, #, are # bytes together, at most # are wanted",
+            [data, most, bytes, MAX_CODEWORD],
+        ),
+        other: None,
+    })
 }

@@ -1,34 +1,66 @@
-use crate::findings::{Finding, Source, What};
+ghost use Rattle.std.specs.Prelude.{◌≡◌, IfOk};
+ghost use Rattle.us_flows.specs.declared.faults.ConfigFault.TheVariants.{Text};
+ghost use Rattle.us_findings.specs.declared.findings.What.TheVariants as found;
+
+use crate::findings::{Finding, Findings, Source, What};
+use crate::shown::Shown;
 use std::alloc::{AllocError, Global};
 use toml::de::Error;
 use us_config_lines::line_and_column;
 use us_flows::{ConfigFault, MAX_CONFIG_BYTES};
+use us_slots::NoMemory;
 
-/// That a text is too long for a configuration.
-pub(crate) fn too_long(alloc: Global, text: &[u8]) -> Result<Finding, AllocError> {
-    let bytes = text.len();
-    Ok(Finding {
+/// The error of a configuration that has more bytes than are read.
+pub fn too_long_config(alloc: Global) -> Result<Findings, NoMemory>
+    ensures { IfOk result (λ findings. findings.first.what ≡ found.Config Text) }
+{
+    let finding = Finding {
         source: Source::Config,
         what: What::Config(ConfigFault::Text),
         line: 1,
         column: 1,
-        text: format!(in alloc; "{bytes} bytes, and at most {MAX_CONFIG_BYTES} are read")?,
-    })
+        text: format!(in alloc; "at most {MAX_CONFIG_BYTES} bytes are wanted, more are there")?,
+    };
+    Ok(alone(alloc, finding, ConfigFault::Text))
+}
+
+/// One error alone.
+pub(crate) fn alone(alloc: Global, finding: Finding, fault: ConfigFault) -> Findings
+    ensures { result.first.what ≡ found.Config fault }
+{
+    Findings {
+        first: finding.of_config(fault),
+        others: Vec::new(alloc),
+        more: 0,
+    }
 }
 
 /// That a text is no document of TOML, as its reader says it.
-pub(crate) fn no_document(alloc: Global, text: &[u8], error: &Error) -> Result<Finding, AllocError> {
+pub(crate) fn no_document(
+    alloc: Global,
+    text: &[u8],
+    error: &Error,
+) -> Result<Finding, AllocError> {
     let at = match error.span() {
         Some(span) => span.start.min(text.len()),
         None => 0,
     };
     let (line, column) = line_and_column(text, at);
-    let message = error.message();
     Ok(Finding {
         source: Source::Config,
         what: What::Config(ConfigFault::Text),
         line,
         column,
-        text: format!(in alloc; "no TOML: {message}")?,
+        text: why_none(alloc, text, at, error)?,
     })
+}
+
+/// Why it is none: for a byte that is no UTF-8, or as the reader says it.
+fn why_none(alloc: Global, text: &[u8], at: usize, error: &Error) -> Result<String, AllocError> {
+    if str::from_utf8(text).is_ok() {
+        let message = error.message();
+        return format!(in alloc; "not TOML: {message}");
+    }
+    let byte = Shown(text.get(at..at.saturating_add(1)).unwrap_or(&[]));
+    format!(in alloc; "not UTF-8: {byte} is there")
 }

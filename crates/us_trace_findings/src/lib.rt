@@ -1,36 +1,24 @@
-//! What is wrong in a trace, and what looks wrong in it or in tables that are accepted: each finding with its line.
+//! The errors of a trace: each with its line in the file, and what is wanted there.
 //!
 //! ```
 //! match lint_trace(alloc, text, &config, rounds)? {
 //!     Ok(trace) => {}                                 // no error
-//!     Err(errors) => {}                               // the fault that `Trace::read` answers, then all others
+//!     Err(findings) => {}                             // the fault that `Trace::read` answers, then those of other rows
 //! }
 //! ```
 //!
 //! What these words mean stands in `specs/`, in the order of its `Lib.antt`.
+// An attribute of a function's own says what its proof needs beside: `using` names lemmas.
 #![tactic(auto)]
 
 // The records of a text, with their lines.
 mod rows;
 
-// What is wrong with one record.
+// What is wrong with one record, in words.
 mod row_errors;
 
 // The errors of a trace.
 mod trace_errors;
 
-// What looks wrong in the rows of a trace.
-mod row_warnings;
-
-// Rows of one SID on one channel.
-mod sids;
-
-// Occurrences that no schedule could grant.
-mod windows;
-
-// What looks wrong in the tables.
-mod table_warnings;
-
-pub use row_warnings::trace_warnings;
-pub use table_warnings::table_warnings;
-pub use trace_errors::{TraceErrors, lint_trace};
+pub use rows::Rows;
+pub use trace_errors::{lint_trace, too_long_trace};

@@ -1,64 +1,146 @@
+use crate::rows::Rows;
 use csv::ByteRecord;
 use std::alloc::{AllocError, Global};
+use std::fmt;
 use us_findings::Shown;
 use us_requests::{
-    MAX_CHANNEL, MAX_KIND, MAX_SID, MAX_TICK, MAX_UNITS, TraceFault, number_in,
+    MAX_CHANNEL, MAX_DIGITS, MAX_KIND, MAX_RECORDS, MAX_SID, MAX_TICK, MAX_UNITS, TraceFault,
+    number_in,
 };
 
-/// The columns of a trace, and the greatest number of each.
-const COLUMNS: [(&str, u32); 5] = [
-    ("tick", MAX_TICK),
-    ("channel", MAX_CHANNEL),
-    ("sid", MAX_SID),
-    ("units", MAX_UNITS),
-    ("kind", MAX_KIND),
+/// A column of a trace, and the greatest number of its fields.
+#[derive(Clone, Copy)]
+struct Column {
+    name: &'static str,
+    greatest: u32,
+}
+
+static COLUMNS: [Column; 5] = [
+    Column {
+        name: "tick",
+        greatest: MAX_TICK,
+    },
+    Column {
+        name: "channel",
+        greatest: MAX_CHANNEL,
+    },
+    Column {
+        name: "sid",
+        greatest: MAX_SID,
+    },
+    Column {
+        name: "units",
+        greatest: MAX_UNITS,
+    },
+    Column {
+        name: "kind",
+        greatest: MAX_KIND,
+    },
 ];
 
-/// Why the record of this number is refused behind a header of so many columns, and what is wanted; none where it isn't.
+/// What is wrong with the record that was read last, which has this fault, behind a header of so many columns.
 pub(crate) fn row_error(
     alloc: Global,
-    fields: &ByteRecord,
+    rows: &Rows<'_>,
     columns: usize,
-    number: u32,
-) -> Result<Option<(TraceFault, String)>, AllocError> {
-    let count = fields.len();
-    if count != columns {
-        let text = format!(in alloc;
-            "{columns} fields are wanted, as the header has, {count} are there"
-        )?;
-        return Ok(Some((TraceFault::Fields(number), text)));
+    fault: TraceFault,
+) -> Result<String, AllocError> {
+    match fault {
+        TraceFault::Header => header_error(alloc, rows.first_line()),
+        TraceFault::Fields(_) => fields_error(alloc, rows, columns),
+        TraceFault::Number(_) => number_error(alloc, rows.fields()),
+        TraceFault::TooLarge | TraceFault::Read | TraceFault::NoMemory => format!(in alloc;
+            "at most {MAX_RECORDS} rows are wanted, the header among them, this is one more"
+        ),
     }
-    for (field, (column, greatest)) in fields.iter().zip(COLUMNS) {
-        if number_in(field, greatest).is_none() {
-            let shown = Shown(field);
-            let text = format!(in alloc;
-                "{column}: a whole number from 0 to {greatest}, of at most 10 digits, is wanted, \"{shown}\" is there"
-            )?;
-            return Ok(Some((TraceFault::Number(number), text)));
+}
+
+/// The first record is no header, or there is none.
+fn header_error(alloc: Global, line: &[u8]) -> Result<String, AllocError> {
+    let found = Found(line);
+    format!(in alloc;
+        "tick,channel,sid,units or tick,channel,sid,units,kind is wanted as the first row, {found} is there"
+    )
+}
+
+/// A record has too few fields, or too many.
+fn fields_error(alloc: Global, rows: &Rows<'_>, columns: usize) -> Result<String, AllocError> {
+    let (count, line) = (rows.fields().len(), Found(rows.first_line()));
+    format!(in alloc; "{columns} fields are wanted, as in the header, {count} are there: {line}")
+}
+
+/// A field is no number in its range; or all are, and the record is a mark and has units.
+fn number_error(alloc: Global, fields: &ByteRecord) -> Result<String, AllocError> {
+    for (column, field) in COLUMNS.iter().zip(fields.iter()) {
+        if number_in(field, column.greatest).is_none() {
+            return column_error(alloc, column, field);
         }
     }
-    mark_error(alloc, fields, number)
+    mark_error(alloc, fields)
 }
 
-/// A mark with units is refused.
-fn mark_error(
-    alloc: Global,
-    fields: &ByteRecord,
-    number: u32,
-) -> Result<Option<(TraceFault, String)>, AllocError> {
-    let kind = number_at(fields, 4);
-    let units = number_at(fields, 3);
-    if kind == 0 || units == 0 {
-        return Ok(None);
+/// A field is no number of its column.
+fn column_error(alloc: Global, column: &Column, field: &[u8]) -> Result<String, AllocError> {
+    let Column { name, greatest } = *column;
+    let (form, found) = (Form::broken_by(field), Found(field));
+    format!(in alloc;
+        "{name}: a whole number from 0 to {greatest}{form} is wanted, {found} is there"
+    )
+}
+
+/// A mark has units.
+fn mark_error(alloc: Global, fields: &ByteRecord) -> Result<String, AllocError> {
+    let units = Found(fields.get(3).unwrap_or(&[]));
+    let kind = Shown(fields.get(4).unwrap_or(&[]));
+    format!(in alloc;
+        "units: 0 is wanted of a mark, which is a row of kind {kind}, {units} is there"
+    )
+}
+
+/// What is wanted of a number's digits, where its field lacks it.
+#[derive(Clone, Copy)]
+enum Form {
+    /// No more than a number that is small enough.
+    Any,
+    /// Digits alone.
+    Digits,
+    /// Few enough of them.
+    FewDigits,
+}
+
+impl Form {
+    /// What a field lacks that is no number in its range.
+    fn broken_by(field: &[u8]) -> Form {
+        if field.iter().any(|byte| !byte.is_ascii_digit()) {
+            Form::Digits
+        } else if field.len() > MAX_DIGITS {
+            Form::FewDigits
+        } else {
+            Form::Any
+        }
     }
-    let text = format!(in alloc; "units: a mark, of kind {kind}, has 0 units, {units} are there")?;
-    Ok(Some((TraceFault::Number(number), text)))
 }
 
-/// The number of a field, 0 where there is none.
-fn number_at(fields: &ByteRecord, place: usize) -> u32 {
-    match fields.get(place) {
-        Some(field) => number_in(field, u32::MAX).unwrap_or(0),
-        None => 0,
+impl fmt::Display for Form {
+    fn fmt<W: fmt::Write>(&self, f: &mut fmt::Formatter<W>) -> fmt::Result {
+        match *self {
+            Form::Any => Ok(()),
+            Form::Digits => f.write_str(", of digits alone,"),
+            Form::FewDigits => write!(f, ", of at most {MAX_DIGITS} digits,"),
+        }
+    }
+}
+
+/// What stands in the input, in quotes.
+#[derive(Clone, Copy)]
+struct Found<'a>(&'a [u8]);
+
+impl fmt::Display for Found<'_> {
+    fn fmt<W: fmt::Write>(&self, f: &mut fmt::Formatter<W>) -> fmt::Result {
+        if self.0.is_empty() {
+            return f.write_str("nothing");
+        }
+        let shown = Shown(self.0);
+        write!(f, "\"{shown}\"")
     }
 }

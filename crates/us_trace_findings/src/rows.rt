@@ -1,23 +1,50 @@
-use csv::{ByteRecord, Reader, ReaderBuilder};
+ghost use Rattle.std.specs.Prelude.{◌≡◌, [], IfOk};
+ghost use Rattle.csv.specs.Records.{fields_of};
+ghost use Rattle.us_requests.specs.Records.{records_left, IsRecordReader, TakesRecord};
+ghost use Rattle.us_requests.specs.Texts.{records_of};
+ghost use Rattle.us_trace_findings.specs.Rows.{Reading};
+
+use csv::{ByteRecord, Position, Reader, ReaderBuilder};
 use std::alloc::Global;
+use std::marker::Model;
 use us_slots::NoMemory;
 
-/// The records of a text, each with the line on which it begins.
+/// What may stand before the first record, and is none of it.
+const BYTE_ORDER_MARK: &[u8] = b"\xef\xbb\xbf";
+
+/// The records of a text as `Trace::read` has them, one at a time, each with its line.
+///
+/// Lines count from 1, and a line feed ends one. A record begins behind blank lines, and may go over several lines.
 #[derive(Drop)]
-pub(crate) struct Rows<'a> {
+pub struct Rows<'a> {
     text: &'a [u8],
     reader: Reader<&'a [u8]>,
     fields: ByteRecord,
-    /// Where the reader stands, and on which line.
+    start: Start,
+}
+
+/// Where a record begins.
+#[derive(Clone, Copy)]
+struct Start {
+    /// How many bytes come before it.
     at: usize,
-    next_line: usize,
-    /// The line on which the record begins that was read last.
     line: usize,
 }
 
+impl<'a> Model for Rows<'a> {
+    ghost Value = { Reading };
+
+    ghost view = { λ rows. record { fields = fields_of rows.fields; left = records_left rows.reader } };
+
+    ghost invariant = { λ rows. IsRecordReader rows.reader };
+}
+
 impl<'a> Rows<'a> {
-    /// Those of a text, in the order in which they stand there.
-    pub(crate) fn new(alloc: Global, text: &'a [u8]) -> Rows<'a> {
+    /// Those of a text, of which none was read.
+    #[tactic(auto, using(us_requests::proofs::RecordLemmas::reading))]
+    pub fn new(alloc: Global, text: &'a [u8]) -> Rows<'a>
+        ensures { result ≡ record { fields = []; left = records_of text.entry.now } }
+    {
         let reader = ReaderBuilder::new()
             .has_headers(false)
             .flexible(true)
@@ -26,48 +53,61 @@ impl<'a> Rows<'a> {
             text,
             reader,
             fields: ByteRecord::new(alloc),
-            at: 0,
-            next_line: 1,
-            line: 0,
+            start: Start { at: 0, line: 1 },
         }
     }
 
-    /// Reads the next record, and answers whether there was one. Blank lines are passed over.
-    pub(crate) fn read(&mut self) -> Result<bool, NoMemory> {
-        self.pass(self.at.saturating_add(blank_bytes(self.text, self.at)));
-        self.line = self.next_line;
-        // A slice gives every read, so the one error is want of memory.
-        let Ok(found) = self.reader.read_byte_record(&mut self.fields) else {
-            return Err(NoMemory);
-        };
-        self.pass(self.reader.position().byte() as usize);
-        Ok(found)
+    /// Reads the next record, and answers whether there was one.
+    #[tactic(auto, using(us_requests::proofs::RecordLemmas::reading))]
+    pub fn read(&mut self) -> Result<bool, NoMemory>
+        ensures { IfOk result (λ found. TakesRecord self.old.left self.new.left self.new.fields found) }
+    {
+        self.start = next_start(self.text, self.reader.position());
+        // A slice gives every read, and records may differ in their count of fields, so the one error is want of memory.
+        match self.reader.read_byte_record(&mut self.fields) {
+            Ok(found) => Ok(found),
+            Err(_) => Err(NoMemory),
+        }
     }
 
     /// The fields of the record that was read last.
-    pub(crate) fn fields(&self) -> &ByteRecord {
+    pub fn fields(&self) -> &ByteRecord
+        ensures { fields_of result.now ≡ self.now.fields }
+    {
         &self.fields
     }
 
-    /// Its line, from 1.
-    pub(crate) fn line(&self) -> usize {
-        self.line
+    /// The line on which that record begins; where there was no more, the line on which the text ends.
+    pub fn line(&self) -> usize {
+        self.start.line
     }
 
-    /// Goes on to a place of the text, and counts its lines.
-    fn pass(&mut self, to: usize) {
-        if let Some(passed) = self.text.get(self.at..to) {
-            let feeds = passed.iter().filter(|byte| **byte == b'\n').count();
-            self.next_line = self.next_line.saturating_add(feeds);
-            self.at = to;
+    /// Its first line, as it stands in the text.
+    pub(crate) fn first_line(&self) -> &'a [u8] {
+        let rest = self.text.get(self.start.at..).unwrap_or(&[]);
+        match rest.iter().position(|byte| matches!(*byte, b'\n' | b'\r')) {
+            Some(end) => &rest[..end],
+            None => rest,
         }
     }
 }
 
-/// How many bytes of blank lines stand at a place.
-fn blank_bytes(text: &[u8], at: usize) -> usize {
-    match text.get(at..) {
-        Some(rest) => rest.iter().take_while(|byte| matches!(**byte, b'\n' | b'\r')).count(),
-        None => 0,
+/// Where the next record of a text begins, for a reader that stands before blank lines, or before a byte-order mark.
+fn next_start(text: &[u8], position: Position) -> Start {
+    let mut start = Start {
+        at: position.byte() as usize,
+        line: position.line() as usize,
+    };
+    if start.at == 0 && text.starts_with(BYTE_ORDER_MARK) {
+        start.at = BYTE_ORDER_MARK.len();
     }
+    for byte in text.get(start.at..).unwrap_or(&[]) {
+        match *byte {
+            b'\n' => start.line = start.line.saturating_add(1),
+            b'\r' => {}
+            _ => return start,
+        }
+        start.at = start.at.saturating_add(1);
+    }
+    start
 }

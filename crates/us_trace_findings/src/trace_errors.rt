@@ -1,128 +1,174 @@
-ghost use Rattle.std.specs.Prelude.{◌≡◌, true, IfOk};
+ghost use Rattle.std.specs.Prelude.{◌≡◌, ◌<◌, ◌⊎◌, [], IfOk, IsSome, OnOk, Some, length, true};
+ghost use Rattle.csv.specs.Records.{fields_of};
 ghost use Rattle.us_flows.specs.Tables.{rounds_fit};
-ghost use Rattle.us_findings.specs.declared.findings.What.TheVariants as found;
-ghost use Rattle.us_trace_findings.specs.Errors.{IsTraceLint};
+ghost use Rattle.us_requests.specs.Readings.{max_bytes};
+ghost use Rattle.us_requests.specs.Texts.{fault_from, record_checks, records_fault, trace_fault};
+ghost use Rattle.us_requests.specs.declared.faults.TraceFault.TheVariants as fault;
+ghost use Rattle.us_slots.specs.Lists.{first_of};
+ghost use Rattle.us_findings.specs.declared.findings.What.TheVariants as what;
+ghost use Rattle.us_trace_findings.specs.Errors.{AreErrorsOf, IsTraceLint};
+ghost use Rattle.us_trace_findings.specs.Found.{behind, first_what};
 
 use crate::row_errors::row_error;
 use crate::rows::Rows;
+use csv::ByteRecord;
 use std::alloc::Global;
-use us_findings::{Finding, Shown, Source, What};
+use us_findings::{Finding, Findings, Source, What};
 use us_flows::Config;
-use us_requests::{MAX_RECORDS, Trace, TraceFault, is_header};
-use us_slots::NoMemory;
+use us_requests::{MAX_RECORDS, MAX_TRACE_BYTES, Trace, TraceFault, is_header, request_in};
+use us_slots::{FromRead, NoMemory};
 
-/// The most records of a trace whose errors are told one by one.
+/// The most records whose errors are told one by one.
 const MAX_TOLD: usize = 50;
 
-/// The errors of a trace.
-#[derive(Drop)]
-pub struct TraceErrors {
-    /// The one that the program answers.
-    pub first: Finding,
-    /// Those of other records, in their order: at most 49.
-    pub others: Vec<Finding>,
-    /// How many more records have one.
-    pub more: usize,
-}
-
-/// The trace that a text tells for a run of so many rounds, or its errors. The first one is the fault that [`Trace::read`]
-/// answers.
+/// The trace that a text tells for a run of so many rounds, or its errors: the fault that [`Trace::read`] answers, then
+/// those of other records in their order, 50 at most with the first, and how many more there are.
+#[tactic(auto, using(crate::proofs::LintLemmas::linting))]
 pub fn lint_trace(
     alloc: Global,
     text: &[u8],
     config: &Config,
     rounds: u32,
-) -> Result<Result<Trace, TraceErrors>, NoMemory>
+) -> Result<Result<Trace, Findings>, NoMemory>
     requires fits { rounds_fit config.now rounds ≡ true }
     ensures { IfOk result (IsTraceLint config.now rounds text.now) }
 {
-    match Trace::of_bytes(alloc, text, config, rounds) {
+    match Trace::read(alloc, &mut FromRead::new(text), config, rounds) {
         Ok(trace) => Ok(Ok(trace)),
-        Err(TraceFault::NoMemory) => Err(NoMemory),
-        Err(fault) => Ok(Err(errors_of(alloc, text, fault)?)),
+        // A slice gives every read.
+        Err(TraceFault::NoMemory | TraceFault::Read) => Err(NoMemory),
+        Err(_) => Ok(Err(errors_of(alloc, text)?)),
     }
 }
 
-/// The errors of a text with this fault.
-fn errors_of(alloc: Global, text: &[u8], fault: TraceFault) -> Result<TraceErrors, NoMemory>
-    ensures { IfOk result (λ errors. errors.first.what ≡ found.Trace fault) }
+/// The error of a file that has more bytes than a trace may have.
+pub fn too_long_trace(alloc: Global) -> Result<Findings, NoMemory>
+    ensures { IfOk result (λ findings. findings.first.what ≡ what.Trace fault.TooLarge) }
 {
-    let mut told = Told {
-        findings: Vec::new(alloc),
+    let text = format!(in alloc; "at most {MAX_TRACE_BYTES} bytes are wanted, more are there")?;
+    Ok(Findings {
+        first: finding(TraceFault::TooLarge, 1, text),
+        others: Vec::new(alloc),
         more: 0,
-    };
-    told.add_all(alloc, text)?;
-    let first = match told.findings.is_empty() {
-        true => Finding::new(Source::Trace, 1, String::from_str(alloc, "the trace is too large")?),
-        false => told.findings.remove(0),
-    };
-    Ok(TraceErrors {
-        first: first.as_trace_fault(fault),
-        others: told.findings,
-        more: told.more,
     })
 }
 
-/// The errors that were found: the first ones are kept, the others counted.
+/// The errors of a text that has one.
+#[tactic(auto, using(crate::proofs::LintLemmas::linting))]
+fn errors_of(alloc: Global, text: &[u8]) -> Result<Findings, NoMemory>
+    requires { (max_bytes < length text.now) ⊎ IsSome (trace_fault text.now) }
+    ensures { IfOk result (AreErrorsOf text.now) }
+{
+    if text.len() > MAX_TRACE_BYTES {
+        return too_long_trace(alloc);
+    }
+    let mut told = Told::new(alloc);
+    told.add_all(&mut Rows::new(alloc, text))?;
+    Ok(told.into_findings())
+}
+
+/// A finding of a trace.
+fn finding(fault: TraceFault, line: usize, text: String) -> Finding
+    ensures { result.what ≡ what.Trace fault }
+{
+    Finding {
+        source: Source::Trace,
+        what: What::Trace(fault),
+        line,
+        column: 1,
+        text,
+    }
+}
+
+/// The errors of records: the first ones are told, the others counted.
+#[derive(Drop)]
 struct Told {
+    alloc: Global,
     findings: Vec<Finding>,
     more: usize,
 }
 
 impl Told {
-    /// Those of all records of a text.
-    fn add_all(&mut self, alloc: Global, text: &[u8]) -> Result<(), NoMemory> {
-        let mut rows = Rows::new(alloc, text);
-        let has_header = rows.read()?;
-        if !has_header || !is_header(rows.fields()) {
-            return self.add_header(alloc, &rows, has_header);
+    /// None yet.
+    fn new(alloc: Global) -> Told
+        ensures { result.findings.items ≡ [] }
+    {
+        Told {
+            alloc,
+            findings: Vec::new(alloc),
+            more: 0,
         }
-        let columns = rows.fields().len();
-        for number in 2..MAX_RECORDS + 1 {
+    }
+
+    /// Those of all records of a text. Where it has no header, that alone.
+    fn add_all(&mut self, rows: &mut Rows<'_>) -> Result<(), NoMemory>
+        ensures { OnOk result (first_what self.new.findings.items ≡
+            behind (first_what self.old.findings.items) (records_fault rows.old.left)) }
+    {
+        if !rows.read()? || !is_header(rows.fields()) {
+            return self.add(rows, 0, TraceFault::Header);
+        }
+        self.add_requests(rows, rows.fields().len())
+    }
+
+    /// Those of the records behind a header of so many columns.
+    #[tactic(auto, using(crate::proofs::FoundLemmas::finding))]
+    fn add_requests(&mut self, rows: &mut Rows<'_>, columns: usize) -> Result<(), NoMemory>
+        ensures { OnOk result (first_what self.new.findings.items ≡
+            behind (first_what self.old.findings.items) (fault_from columns 2 rows.old.left)) }
+    {
+        for number in 2..MAX_RECORDS + 2 {
             if !rows.read()? {
                 return Ok(());
             }
-            if let Some((fault, what)) = row_error(alloc, rows.fields(), columns, number)? {
-                self.add(What::Trace(fault), rows.line(), what)?;
+            match fault_of(rows.fields(), columns, number) {
+                Some(fault) => self.add(rows, columns, fault)?,
+                None => {}
             }
         }
-        self.add_last(alloc, &mut rows)
+        Ok(())
     }
 
-    /// The first record is no header.
-    fn add_header(&mut self, alloc: Global, rows: &Rows<'_>, is_there: bool) -> Result<(), NoMemory> {
-        let wanted = "tick,channel,sid,units or tick,channel,sid,units,kind is wanted as the first row";
-        let what = if is_there {
-            let shown = Shown(rows.fields().as_slice());
-            format!(in alloc; "{wanted}, \"{shown}\" is there")?
-        } else {
-            format!(in alloc; "{wanted}, and there is none")?
-        };
-        self.add(What::Trace(TraceFault::Header), rows.line(), what)
-    }
-
-    /// A record behind the last one that a trace may have.
-    fn add_last(&mut self, alloc: Global, rows: &mut Rows<'_>) -> Result<(), NoMemory> {
-        if !rows.read()? {
-            return Ok(());
-        }
-        let what = format!(in alloc; "row {MAX_RECORDS} is the last that a trace may have")?;
-        self.add(What::Trace(TraceFault::TooLarge), rows.line(), what)
-    }
-
-    /// One more.
-    fn add(&mut self, what: What, line: usize, text: String) -> Result<(), NoMemory> {
+    /// That of the record that was read last.
+    #[tactic(auto, using(crate::proofs::FoundLemmas::adding))]
+    fn add(&mut self, rows: &Rows<'_>, columns: usize, fault: TraceFault) -> Result<(), NoMemory>
+        ensures { OnOk result (first_what self.new.findings.items ≡
+            behind (first_what self.old.findings.items) (Some fault)) }
+    {
         if self.findings.len() >= MAX_TOLD {
             self.more = self.more.saturating_add(1);
             return Ok(());
         }
-        self.findings.push(Finding {
-            source: Source::Trace,
-            what,
-            line,
-            column: 1,
-            text,
-        })?;
+        let text = row_error(self.alloc, rows, columns, fault)?;
+        self.findings.push(finding(fault, rows.line(), text))?;
         Ok(())
     }
+
+    /// All that were found, of which there is one at least.
+    #[tactic(auto, using(crate::proofs::FoundLemmas::taking))]
+    fn into_findings(self) -> Findings
+        requires { IsSome (first_what self.findings.items) }
+        ensures { Some result.first.what ≡ first_what self.findings.items }
+    {
+        let Told {
+            alloc: _,
+            mut findings,
+            more,
+        } = self;
+        Findings {
+            first: findings.remove(0),
+            others: findings,
+            more,
+        }
+    }
+}
+
+/// The fault of the record of this number, behind a header of so many columns.
+fn fault_of(fields: &ByteRecord, columns: usize, number: u32) -> Option<TraceFault>
+    ensures { result ≡ first_of (record_checks columns number (fields_of fields.now)) }
+{
+    if number > MAX_RECORDS {
+        return Some(TraceFault::TooLarge);
+    }
+    request_in(fields, columns, number).err()
 }

@@ -1,2 +1,66 @@
-//! What looks wrong in an accepted configuration or trace.
+//! What looks wrong in a configuration and a trace that are accepted: each finding with its line.
+//!
+//! ```
+//! let findings = config_warnings(alloc, config_text, &config, rounds)?;
+//! let TraceWarnings { findings, rounds_for_all } = trace_warnings(alloc, config_text, text, &config, rounds)?;
+//! ```
+//!
+//! What these words mean stands in `specs/`, in the order of its `Lib.antt`.
 #![tactic(auto)]
+
+// Warnings whose lines aren't looked up yet.
+mod drafts;
+
+// Lines of warnings.
+mod located;
+
+// What warnings call flows, stations and channels.
+mod names;
+
+// How long a run is.
+mod runs;
+
+// MAPs that have their reserves alone.
+mod empty_maps;
+
+// The windows of an entry that no schedule could grant.
+mod hopeless_windows;
+
+// What a calendar asks for.
+mod loads;
+
+// What looks wrong in the tables.
+mod tables;
+
+// Rows that are alike.
+mod alike;
+
+// The SIDs that rows name and no flow has,
+mod unknown_sids;
+
+// and all that rows name.
+mod named_sids;
+
+// Whose a SID is.
+mod sid_owners;
+
+// Warnings of SIDs.
+mod sid_warnings;
+
+// Rows that are late.
+mod late_rows;
+
+// Rows that go back far.
+mod backward_rows;
+
+// Warnings of ticks.
+mod tick_warnings;
+
+// What looks wrong in a trace.
+mod traces;
+
+pub use tables::config_warnings;
+pub use traces::{TraceWarnings, trace_warnings};
+
+#[cfg(test)]
+mod tests;

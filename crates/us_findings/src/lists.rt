@@ -1,0 +1,60 @@
+use crate::drafts::{Draft, Problem};
+use crate::titles::Title;
+use std::alloc::{AllocError, Global};
+use us_flows::ConfigFault;
+
+/// The most findings of a configuration that are told, and not counted alone.
+const MAX_TOLD: usize = 50;
+
+/// Findings, of which the first ones are kept and the others counted.
+#[derive(Drop)]
+pub(crate) struct Drafts<'a> {
+    /// The fault that the program answers. A place is kept for the first finding of it.
+    fault: ConfigFault,
+    has_first: bool,
+    pub(crate) kept: Vec<Draft<'a>>,
+    /// How many there are beside those that are kept.
+    pub(crate) more: usize,
+}
+
+impl<'a> Drafts<'a> {
+    /// None yet, of a configuration with this fault.
+    pub(crate) fn new(alloc: Global, fault: ConfigFault) -> Drafts<'a> {
+        Drafts {
+            fault,
+            has_first: false,
+            kept: Vec::new(alloc),
+            more: 0,
+        }
+    }
+
+    /// Adds what is wrong with a table. The fault is C2 of a missing key, and else C3.
+    pub(crate) fn add(&mut self, title: Title, problem: Problem<'a>) -> Result<(), AllocError> {
+        let fault = match problem {
+            Problem::Missing(..) => ConfigFault::Missing(title.place),
+            _ => ConfigFault::Range(title.place),
+        };
+        self.push(Draft {
+            fault,
+            title,
+            problem,
+        })
+    }
+
+    /// Adds a finding.
+    pub(crate) fn push(&mut self, draft: Draft<'a>) -> Result<(), AllocError> {
+        let is_first = !self.has_first && draft.fault == self.fault;
+        let free = if self.has_first {
+            MAX_TOLD
+        } else {
+            MAX_TOLD - 1
+        };
+        if is_first || self.kept.len() < free {
+            self.has_first = self.has_first || is_first;
+            self.kept.push(draft)?;
+        } else {
+            self.more = self.more.saturating_add(1);
+        }
+        Ok(())
+    }
+}

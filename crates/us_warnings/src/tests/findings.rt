@@ -1,0 +1,91 @@
+use crate::{TraceWarnings, config_warnings, trace_warnings};
+use std::alloc::Global;
+use std::fmt::Debug;
+use us_flows::{Config, ConfigFault};
+use us_samples::base;
+use us_slots::NoMemory;
+
+/// Tables behind the base configuration, a trace, a number of rounds, and what looks wrong.
+struct Case {
+    tables: &'static str,
+    trace: &'static str,
+    rounds: u32,
+    found: &'static str,
+}
+
+/// SIDs that are wrong, ticks that are, a call whose windows lie in contention, and a run that ends before the lead.
+static CASES: [Case; 3] = [
+    Case {
+        tables: "[[flow]]\nid = 4\ntype = 6\nchannels = [1]\nclusters = [[295]]\nstart_us = 1900\ninterval_us = 2000\n\
+            jitter_us = 80\ngrant_bytes = 214\ngrants_per_interval = 1\n",
+        trace: "tick,channel,sid,units\n0,1,291,1\n0,1,295,1\n0,2,291,1\n0,1,9,1\n0,1,9,1\n",
+        rounds: 3,
+        found: "37:1: warning: flow 1 (id 4), jitter_us: 3 of 3 windows that close by round 2 have no room for 8 minislots \
+            beside the reserves, whatever the schedule; the first of them is that of interval 0, which closes in round 0\n\
+            3:1: warning: sid: SID 295 on channel 1 is of flow 1 (id 4), which is of type 6 and takes no rows, since its \
+            grants come unasked: 1 row\n\
+            4:1: warning: channel: no channel has id 2, which stands with SID 291: 1 row\n\
+            5:1: warning: sid: no flow has SID 9 on channel 1: 2 rows, the first here\n2\n",
+    },
+    Case {
+        tables: "",
+        trace: "tick,channel,sid,units,kind\n5000,1,291,1,0\n100,1,291,1,0\n101,1,291,0,1\n",
+        rounds: 4,
+        found: "2:1: warning: tick: too late for a run that ends with round 3, --rounds 18 takes all rows in: 1 row\n\
+            2:1: warning: tick: ticks look like microseconds, since no row would be late with 4/25 of its tick; a tick is \
+            6.25 microseconds: 1 row\n\
+            3:1: warning: tick: 100 goes back by more than 4 leads from 5000 in line 2: 2 rows, the first here\n\
+            4:1: warning: sid: SID 291 on channel 1 is of flow 0 (id 1), which is of type 2 and takes requests alone, which \
+            are rows of kind 0: 1 row\n18\n",
+    },
+    Case {
+        tables: "",
+        trace: "tick,channel,sid,units\n0,1,291,1\n",
+        rounds: 1,
+        found: "2:1: warning: lead_ticks: a row at tick 0 belongs to round 1, and the run ends with round 0, so all rows are \
+            late; a smaller lead or --rounds 2 is wanted\n\
+            2:1: warning: tick: too late for a run that ends with round 0, --rounds 2 takes all rows in: 1 row\n2\n",
+    },
+];
+
+/// All that looks wrong in a case, a line each.
+fn found_in(alloc: Global, case: &Case) -> Result<String, NoMemory> {
+    let text = format!(in alloc; "{}{}", base(), case.tables)?;
+    let Ok(config) = Config::read(alloc, text.as_bytes()) else {
+        return Ok(String::from_str(alloc, "a fault")?);
+    };
+    let mut lines = String::new(alloc);
+    for finding in &config_warnings(alloc, text.as_bytes(), &config, case.rounds)? {
+        let line = format!(in alloc; "{finding}\n")?;
+        lines.push_str(line.as_str())?;
+    }
+    let TraceWarnings {
+        findings,
+        rounds_for_all,
+    } = trace_warnings(
+        alloc,
+        text.as_bytes(),
+        case.trace.as_bytes(),
+        &config,
+        case.rounds,
+    )?;
+    for finding in &findings {
+        let line = format!(in alloc; "{finding}\n")?;
+        lines.push_str(line.as_str())?;
+    }
+    let rounds = rounds_for_all.unwrap_or(0);
+    let line = format!(in alloc; "{rounds}\n")?;
+    lines.push_str(line.as_str())?;
+    Ok(lines)
+}
+
+#[test]
+fn findings(rt: HostRuntime) {
+    for case in &CASES {
+        let found = found_in(rt.alloc(), case);
+        match found {
+            Ok(text) => assert_eq!(rt; text.as_str(), case.found),
+            Err(refused) => assert_eq!(rt; refused, NoMemory, "memory"),
+        }
+    }
+}

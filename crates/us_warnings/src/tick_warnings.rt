@@ -1,0 +1,79 @@
+use crate::backward_rows::{BackwardRows, FAR_LEADS};
+use crate::drafts::{Draft, Subject};
+use crate::late_rows::LateRows;
+use std::alloc::{AllocError, Global};
+use us_flows::Config;
+
+/// Rows that are late in a run of so many rounds.
+pub(crate) fn push_late(
+    alloc: Global,
+    drafts: &mut Vec<Draft>,
+    config: &Config,
+    rounds: u32,
+    late_rows: &LateRows,
+) -> Result<(), AllocError> {
+    let late = late_rows.late;
+    if late.rows == 0 {
+        return Ok(());
+    }
+    let last = rounds.saturating_sub(1);
+    let text = match late_rows.rounds_that_fit(config) {
+        Some(wanted) => {
+            format!(in alloc;
+                "tick: too late for a run that ends with round {last}, --rounds {wanted} takes all rows in: {late}"
+            )?
+        }
+        None => {
+            let most = config.most_rounds();
+            format!(in alloc;
+                "tick: too late for a run that ends with round {last}, and no run has more than {most} rounds: {late}"
+            )?
+        }
+    };
+    drafts.push(Draft {
+        subject: Subject::Row(late.line),
+        text,
+    })?;
+    Ok(())
+}
+
+/// Ticks that look like microseconds.
+pub(crate) fn push_microseconds(
+    alloc: Global,
+    drafts: &mut Vec<Draft>,
+    late_rows: &LateRows,
+) -> Result<(), AllocError> {
+    let late = late_rows.late;
+    if !late_rows.look_like_microseconds() {
+        return Ok(());
+    }
+    let text = format!(in alloc;
+        "tick: ticks look like microseconds, since no row would be late with 4/25 of its tick; a tick is 6.25 microseconds: {late}"
+    )?;
+    drafts.push(Draft {
+        subject: Subject::Row(late.line),
+        text,
+    })?;
+    Ok(())
+}
+
+/// Rows that go back far behind a row before them.
+pub(crate) fn push_backward(
+    alloc: Global,
+    drafts: &mut Vec<Draft>,
+    backward: &BackwardRows,
+) -> Result<(), AllocError> {
+    let Some((row, before)) = backward.first else {
+        return Ok(());
+    };
+    let (tick, back) = (row.tick, backward.back);
+    let (greater, line) = (before.tick, before.line);
+    let text = format!(in alloc;
+        "tick: {tick} goes back by more than {FAR_LEADS} leads from {greater} in line {line}: {back}"
+    )?;
+    drafts.push(Draft {
+        subject: Subject::Row(row.line),
+        text,
+    })?;
+    Ok(())
+}
