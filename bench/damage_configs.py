@@ -14,7 +14,9 @@ import random
 import re
 import sys
 from collections import Counter
+from os.path import commonprefix
 from pathlib import Path
+from typing import NamedTuple
 
 from plain_reader import answer
 
@@ -141,23 +143,63 @@ def copied(chance, text):
     return [change(text, start, start + len(header), f"{header}\n{table}\n{header}")]
 
 
-def aimed(chance, text):
-    """A text with a key at a value at which some rule holds last, or first fails. That may be another of its table."""
+def at_limit(chance, text):
+    """A key, and a value for it at which some rule holds last, or first fails. That may be another of its table."""
     pairs = [pair for pair in PAIR.finditer(text) if pair.group(1) in AIMS]
     if not pairs:
-        return text
+        return None
     key = chance.choice(sorted({pair.group(1) for pair in pairs}))
     pair = chance.choice([pair for pair in pairs if pair.group(1) == key])
     value = chance.choice(AIMS[key])
     if pair.group(2).isdigit() and chance.random() < 0.3:
         table = text[text.rfind("[[", 0, pair.start()) + 1 :].split("[[", 1)[0]
         value = int(chance.choice(re.findall(r"\b\d+\b", table))) + chance.choice([-1, 0, 0, 1])
-    return text[: pair.start(2)] + str(value) + text[pair.end(2) :]
+    return pair, str(value)
+
+
+def aimed(chance, text):
+    """A text with a key at such a value."""
+    found = at_limit(chance, text)
+    if found is None:
+        return text
+    pair, value = found
+    return text[: pair.start(2)] + value + text[pair.end(2) :]
+
+
+def put_at_limit(chance, text):
+    return [with_value(text, *at_limit(chance, text))]
+
+
+def misspelled(chance, text):
+    """A key with a letter more, less or otherwise, or as the key of something else."""
+    pair = any_pair(chance, text)
+    key, at = pair.group(1), chance.randrange(len(pair.group(1)))
+    other = chance.choice([key[:at] + key[at + 1 :] or "x", f"{key}s", key.replace("_", ""), key.upper(),
+                           key[:at] + "x" + key[at + 1 :], chance.choice(KEYS)])
+    return [change(text, *pair.span(), f"{other} = {pair.group(2)}")]
+
+
+def strayed(chance, text):
+    """A key and its value also behind some other key."""
+    pair, other = any_pair(chance, text), any_pair(chance, text)
+    between = ", " if "{" in text[text.rfind("\n", 0, other.start()) : other.start()] else "\n"
+    return [change(text, *other.span(), f"{other.group()}{between}{pair.group()}")]
+
+
+def as_text(chance, text):
+    """A value as a text, also one over several lines with what looks like a table in it."""
+    pair = any_pair(chance, text)
+    value = pair.group(2)
+    texts = [f'"{value}"', f"'{value}'", '"fast"', '"a # b"', '"[[flow]]"', f'"""\n[[flow]]\nid = {value}\n"""',
+             "'''\nid = 1\n'''", '"\\u0041\\t\\""']
+    return [with_value(text, pair, chance.choice(texts))]
 
 
 # numbers are damaged as often as all else
 DAMAGES = [flipped, dropped, dropped, added, other_kind, other_count, other_count, swapped, copied]
 DAMAGES += len(DAMAGES) * [other_number]
+# of one damage alone, each as often, and those that stored cases don't have
+ONE_BY_ONE = [*dict.fromkeys(DAMAGES), put_at_limit, put_at_limit, misspelled, strayed, as_text]
 
 
 def damaged(chance, text):
@@ -169,6 +211,45 @@ def damaged(chance, text):
                 text = text.replace(old, new, 1)
                 changes.append((old, new))
     return text, changes
+
+
+class Place(NamedTuple):
+    """A changed key: its line in the text that the change makes, its name there, and the line of its table's header,
+    which is 1 of the top level. Of a table that was copied, it is the header of the copy."""
+
+    line: int
+    key: str
+    header: int
+
+
+def line_of(text, at):
+    return 1 + text.count("\n", 0, at)
+
+
+def place_of(text, old, new):
+    """Where a change stands in the text that it makes."""
+    same = commonprefix([old, new])
+    at = text.index(old) + len(same)
+    made = text.replace(old, new, 1)
+    # what stands behind a key that stays is an added one
+    if new[len(same) :].startswith((", ", "\n")):
+        at += 1 if new[len(same)] == "\n" else 2
+    line = made.rfind("\n", 0, at) + 1
+    keys = [found for found in re.finditer(r"(\w+) = ", made[line : made.find("\n", at)]) if found.start() <= at - line]
+    header = max(made.rfind("\n[[", 0, at + 1) + 1, 0)
+    is_inside = made.startswith("[[", header)
+    return Place(line_of(made, at), keys[-1].group(1) if keys else "", line_of(made, header) if is_inside else 1)
+
+
+def damaged_once(chance, text):
+    """A text with one damage: what it is called, the text, and its places."""
+    damage = chance.choice(ONE_BY_ONE)
+    places = []
+    for old, new in damage(chance, text):
+        if old != new:
+            places.append(place_of(text, old, new))
+            text = text.replace(old, new, 1)
+    return damage.__name__, text, places
 
 
 def unique(text, old, new):

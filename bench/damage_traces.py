@@ -19,17 +19,33 @@ class Rows:
     def __init__(self, text):
         self.records = [line.split(b",") for line in text.splitlines()]
         self.ends = [b"\n"] * len(self.records)
+        # which of these lists of fields were damaged
+        self.damaged = []
 
     def text(self):
         return b"".join(b",".join(fields) + end for fields, end in zip(self.records, self.ends))
 
     def place(self, chance):
         """The place of a row; of the header where there are no others, and now and then."""
-        return 0 if len(self.records) == 1 or chance.random() < 0.05 else chance.randrange(1, len(self.records))
+        at = 0 if len(self.records) == 1 or chance.random() < 0.05 else chance.randrange(1, len(self.records))
+        self.damaged.append(self.records[at])
+        return at
 
     def add(self, at, fields):
         self.records.insert(at, fields)
         self.ends.insert(at, b"\n")
+        self.damaged.append(fields)
+
+    def lines(self):
+        """The lines on which what was damaged begins, with those that its end adds: all, where the header was."""
+        lines, line = set(), 1
+        is_header = any(self.records[0] is damaged for damaged in self.damaged)
+        for fields, end in zip(self.records, self.ends):
+            feeds = (b",".join(fields) + end).count(b"\n")
+            if is_header or any(fields is damaged for damaged in self.damaged):
+                lines.update(range(line, line + max(feeds, 1)))
+            line += feeds
+        return lines
 
 
 def field_of(chance, rows):
@@ -102,6 +118,7 @@ def row_doubled(chance, rows):
 
 def header_changed(chance, rows):
     rows.records[0] = chance.choice([*HEADERS, *HEADERS, *BAD_HEADERS]).split(b",")
+    rows.damaged.append(rows.records[0])
 
 
 def version_changed(_chance, rows):
@@ -113,6 +130,7 @@ def version_changed(_chance, rows):
         else:
             fields.append(b"0")
     rows.records[0] = HEADERS[0 if kinds else 1].split(b",")
+    rows.damaged.append(rows.records[0])
 
 
 def kind_changed(chance, rows):
@@ -126,6 +144,21 @@ def kind_changed(chance, rows):
 DAMAGES = 2 * [number_changed, number_changed, digits_changed, field_spoiled, field_quoted, field_quoted, end_changed,
                row_doubled, kind_changed]
 DAMAGES += [row_of_limits, field_added, field_dropped, all_ends_changed, header_changed, version_changed]
+
+
+def spread(chance, rows):
+    """Other ends of lines and blank lines here and there, which are no damage."""
+    for at, end in enumerate(rows.ends):
+        if end == b"\n" and chance.random() < 0.1:
+            rows.ends[at] = chance.choice([b"\r\n", b"\n\n", b"\r\n\r\n", b"\n\r\n\n"])
+
+
+def damaged_once(chance, text):
+    """A trace with one damage: what it is called, the trace, and the lines that it is on."""
+    rows, damage = Rows(text), chance.choice(DAMAGES)
+    damage(chance, rows)
+    spread(chance, rows)
+    return damage.__name__, rows.text(), rows.lines()
 
 
 def damaged(chance, text):

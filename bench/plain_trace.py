@@ -23,6 +23,23 @@ def records_of(text):
     return (record for record in csv.reader(lines) if record)
 
 
+def lines_of_records(text):
+    """The line on which each record begins, counted from 1. A line ends with LF."""
+    feeds = 0
+
+    def counted(lines):
+        nonlocal feeds
+        for line in lines:
+            feeds += line.count("\n")
+            yield line
+
+    begins = 1
+    for record in csv.reader(counted(io.StringIO(text.decode("latin-1"), newline=""))):
+        if record:
+            yield begins
+        begins = 1 + feeds
+
+
 def row_of(record):
     """Tick, channel, SID, units and kind of a record, or None where a field isn't in its range."""
     if not all(map(NUMBER.fullmatch, record)):

@@ -77,6 +77,7 @@ pub asked_kept : (o : Order) (told before between after : Option (List ℕ)) →
     Keeps between after → PrintsAsAsked o told before after
 asked_kept (order.Replay files) told before between after printed kept = tt
 asked_kept (order.Check files) told before between after printed kept = tt
+asked_kept (order.Lint files) told before between after printed kept = tt
 asked_kept (order.Dump path) told before between after printed kept = tt
 asked_kept (order.Pipe rounds workers) told before between after printed kept =
     prints_kept rounds told before between after printed kept

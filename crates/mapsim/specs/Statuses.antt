@@ -1,6 +1,6 @@
--- Exit statuses (ours): 0 done, 1 a rule is broken, 2 usage, 3 what was read is refused, 4 a file or stream failed, 5 want
--- of memory.
-use Rattle.std.specs.Prelude.{ℕ}
+-- Exit statuses (ours): 0 done, 1 a rule is broken or something looks wrong, 2 usage, 3 what was read is refused or has an
+-- error, 4 a file or stream failed, 5 want of memory.
+use Rattle.std.specs.Prelude.{ℕ, zero, suc}
 use Rattle.us_codec.specs.declared.faults.MapFault.{MapFault}
 use Rattle.us_codec.specs.declared.faults.MapFault.TheVariants as map
 use Rattle.us_flows.specs.declared.faults.ConfigFault.{ConfigFault}
@@ -21,6 +21,7 @@ use Rattle.mapsim.specs.declared.faults.Fault.TheVariants as fault
 abbrev pub code_of : Status → ℕ
 code_of status.Done = 0
 code_of status.Broken = 1
+code_of status.Warned = 1
 code_of status.Usage = 2
 code_of status.Refused = 3
 code_of status.DeviceFailed = 4
@@ -66,3 +67,8 @@ status_of fault.NoMemory = status.NoMemory
 abbrev pub verdict_status : Verdict → Status
 verdict_status verdict.Holds = status.Done
 verdict_status (verdict.Broken rule round channel place) = status.Broken
+
+-- and so many warnings beside what was found before, which outweighs them if it is an error
+abbrev pub with_warnings : Status → ℕ → Status
+with_warnings status.Done (suc warnings) = status.Warned
+with_warnings found warnings = found

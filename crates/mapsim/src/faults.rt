@@ -10,6 +10,7 @@ use us_command_line::WordsFault;
 use us_flows::ConfigFault;
 use us_replay::RunFault;
 use us_requests::TraceFault;
+use us_slots::NoMemory;
 
 /// A file or stream of the program.
 #[derive(Clone, Copy)]
@@ -121,6 +122,16 @@ impl From<AllocError> for Fault {
     ghost from_gives = { λ _ fault. fault ≡ NoMemory };
 
     fn from(_refused: AllocError) -> Fault {
+        Fault::NoMemory
+    }
+}
+
+impl From<NoMemory> for Fault {
+    ghost use Rattle.mapsim.specs.declared.faults.Fault.TheVariants as fault;
+
+    ghost from_gives = { λ _ given. given ≡ fault.NoMemory };
+
+    fn from(_refused: NoMemory) -> Fault {
         Fault::NoMemory
     }
 }

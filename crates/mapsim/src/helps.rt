@@ -8,6 +8,7 @@ pub const HELP_TEXTS: HelpTexts = HelpTexts {
     program: PROGRAM,
     replay: REPLAY,
     check: CHECK,
+    lint: LINT,
     dump: DUMP,
     pipe: PIPE,
 };
@@ -22,8 +23,11 @@ Example, from the top of the repository:
   mapsim check --config examples/plant.toml --trace examples/plant.csv --rounds 4 \\
       --maps /tmp/maps --report /tmp/report
 
-Exit status: 0 success, 1 `check` found a broken rule, 2 usage error, 3 faulty input, 4 file or
-stream error, 5 out of memory.";
+Where input is refused, `mapsim lint` finds all its errors by line, and says what is wanted there:
+  mapsim lint --config examples/plant.toml --trace examples/plant.csv --rounds 4
+
+Exit status: 0 success, 1 `check` found a broken rule or `lint` warnings alone, 2 usage error,
+3 faulty input, 4 file or stream error, 5 out of memory.";
 
 const REPLAY: &[&str] = &[
     "\
@@ -95,6 +99,52 @@ Indices, minislots and rounds are counted from 0.
     ROUNDS,
     TRACE_FAULTS,
     "  fault CK1 N       line N of the report, counted from 1, has none of the forms above\n",
+    FAILED,
+    FILES,
+    MEMORY,
+];
+
+const LINT: &[&str] = &[
+    "\
+Example, from the top of the repository:
+  mapsim lint --config examples/plant.toml --trace examples/plant.csv --rounds 4
+
+It prints one line for each finding, and exits with 0 if there is none, with 1 if all are warnings,
+and with 3 if one is an error.
+  examples/plant.csv:6:1: warning: sid: SID 295 on channel 1 is of flow 3 (id 4), which is ..
+
+The lines. FILE is the path as it was given, and COLUMN is 1 if only the line is known:
+  FILE:LINE:COLUMN: error CODE: TEXT
+                    what is wrong, and what is wanted. CODE is that of the fault which the other
+                    subcommands answer, as C3 of `fault C3 flow 2`
+  FILE:LINE:COLUMN: warning: TEXT
+                    what is accepted, but looks wrong; of one kind at most ten
+  FILE: error CODE: TEXT
+                    a rule of `check` that is broken where there is no line to name
+  FILE: N more errors
+                    behind the first 50
+  FILE: note: N rounds take in all rows
+                    of a trace without --rounds, which is judged for as many rounds as fit. It is
+                    no finding
+
+First comes the error that the other subcommands answer, and then all others by file and line.
+--config is looked at first, then --trace, then --maps and --report by the rules of `check`. Where
+one of them has an error, those behind it aren't read.
+
+It warns of
+  the configuration: a lead as long as the run; windows in which the grant has no room beside the
+  reserves; calendars that ask for over 100 assignments in a MAP
+  the trace: SIDs that no flow has on that channel, or whose flow takes no such rows; late rows;
+  ticks that go far back or look like microseconds; flows that no row names
+",
+    TRACE,
+    REPORT,
+    UNITS,
+    "
+A fault is one line on standard error, and then no finding is printed.
+Status 3:
+",
+    ROUNDS,
     FAILED,
     FILES,
     MEMORY,
@@ -208,6 +258,7 @@ Units; docs/FORMATS.md has each key and field:
 const FAULTS: &str = "
 A fault is one line on standard error. PLACE is a table and its index in the file, counted from 0:
 `flow 2` is the third [[flow]], whatever its id. N counts records from 1, with the header.
+`mapsim lint --config F` names the line and the key of such a fault, and with --trace F its row.
 Status 3, the input has a fault:
 ";
 

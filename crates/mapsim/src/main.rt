@@ -1,5 +1,6 @@
 //! `mapsim`: replays the requests of a trace with a configuration, from files into files or from standard input; checks a
-//! maps file and a report that any scheduler made; and prints the MAPs of a maps file.
+//! maps file and a report that any scheduler made; tells what is wrong in such files, by line; and prints the MAPs of a maps
+//! file.
 //!
 //! `docs/FORMATS.md` has the words, the order, the fault lines and the statuses.
 #![tactic(auto)]
@@ -45,6 +46,18 @@ mod replaying;
 
 // From files to a verdict.
 mod checking;
+
+// What a lint prints.
+mod listings;
+
+// From files to what is wrong in them: the configuration,
+mod linting;
+
+// the trace,
+mod trace_linting;
+
+// and what a run wrote.
+mod verdict_linting;
 
 // From a maps file to standard output.
 mod dumping;

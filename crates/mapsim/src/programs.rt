@@ -7,6 +7,7 @@ use crate::checking::check_files;
 use crate::dumping::dump_file;
 use crate::faults::{Fault, Stream};
 use crate::helps::HELP_TEXTS;
+use crate::linting::lint_files;
 use crate::piping::pipe;
 use crate::printing::print;
 use crate::replaying::replay_files;
@@ -33,8 +34,9 @@ where
     // Without words it prints what the input gives in two rounds.
     ensures printed { result ≡ Status.Done → length words.now < 2 →
         Prints 2 (I.remaining input.old) (O.contents output.old) (O.contents output.new) }
-    // Where it ends as done or as broken, standard output was flushed.
-    ensures flushed { (result ≡ Status.Done) ⊎ (result ≡ Status.Broken) → O.flushed output.new ≡ true }
+    // Where it ends as done, broken or warned, standard output was flushed.
+    ensures flushed { (result ≡ Status.Done) ⊎ (result ≡ Status.Broken) ⊎ (result ≡ Status.Warned) →
+        O.flushed output.new ≡ true }
 {
     match obey(rt, words, input, output) {
         Ok(status) => status,
@@ -118,6 +120,7 @@ where
     match order {
         Order::Replay(files) => replay_files(rt, alloc, files, output)?,
         Order::Check(files) => return check_files(rt, alloc, files, output),
+        Order::Lint(files) => return lint_files(rt, alloc, files, output),
         Order::Dump(path) => dump_file(rt, alloc, path, output)?,
         Order::Pipe { rounds, workers } => pipe(rt, alloc, *rounds, *workers, input, output)?,
         Order::Help(text) => print(output, text.as_str().as_bytes())?,

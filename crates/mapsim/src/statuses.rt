@@ -3,13 +3,15 @@ ghost use Rattle.std.specs.Prelude.{◌≡◌};
 /// How the program ends.
 #[derive(Clone, Copy)]
 pub enum Status {
-    /// It did what it was asked, and of a check the verdict is that both files are lawful.
+    /// It did what it was asked. Of a check the verdict is that both files are lawful, and a lint found nothing.
     Done,
     /// The verdict of a check is that a rule is broken.
     Broken,
+    /// What a lint read looks wrong, and has no error.
+    Warned,
     /// Its words are refused.
     Usage,
-    /// What it read is refused.
+    /// What it read is refused, or has an error that a lint found.
     Refused,
     /// A file or stream failed.
     DeviceFailed,
@@ -18,7 +20,7 @@ pub enum Status {
 }
 
 impl Status {
-    ghost use Rattle.mapsim.specs.Statuses.{code_of};
+    ghost use Rattle.mapsim.specs.Statuses.{code_of, with_warnings};
 
     /// The exit status.
     pub fn code(self) -> u8
@@ -26,11 +28,21 @@ impl Status {
     {
         match self {
             Status::Done => 0,
-            Status::Broken => 1,
+            Status::Broken | Status::Warned => 1,
             Status::Usage => 2,
             Status::Refused => 3,
             Status::DeviceFailed => 4,
             Status::NoMemory => 5,
+        }
+    }
+
+    /// That of a lint with so many more warnings: an error outweighs them.
+    pub fn warned(self, warnings: usize) -> Status
+        ensures { result ≡ with_warnings self warnings }
+    {
+        match self {
+            Status::Done if warnings > 0 => Status::Warned,
+            _ => self,
         }
     }
 }

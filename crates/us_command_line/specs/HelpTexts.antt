@@ -13,5 +13,6 @@ pub record AreJoined (texts : HelpTexts) (helps : Helps) : Type 0 where
   pub program : helps.program.now ≡ texts.program.now
   pub replay : string_bytes helps.replay ≡ joined texts.replay.now
   pub check : string_bytes helps.check ≡ joined texts.check.now
+  pub lint : string_bytes helps.lint ≡ joined texts.lint.now
   pub dump : string_bytes helps.dump ≡ joined texts.dump.now
   pub pipe : string_bytes helps.pipe ≡ joined texts.pipe.now

@@ -6,7 +6,7 @@ use clap::{Arg, ArgAction, Command, value_parser};
 use std::alloc::{AllocError, Global};
 
 /// The version of the program, defined only here.
-const VERSION: &str = "1.0.0";
+const VERSION: &str = "1.1.0";
 
 /// The rounds of `pipe` where none are given.
 pub const DEFAULT_ROUNDS: u32 = 2;
@@ -29,8 +29,7 @@ struct Subcommand {
 struct CommandOption {
     name: &'static str,
     value: Value,
-    /// Its value where it isn't given. It is required where there is none.
-    default: Option<Fallback>,
+    absence: Absence,
     help: &'static str,
 }
 
@@ -41,11 +40,17 @@ enum Value {
     Number,
 }
 
-/// The value of an option that isn't given.
+/// What it means that an option isn't given.
 #[derive(Clone, Copy)]
-enum Fallback {
-    Rounds,
-    Workers,
+enum Absence {
+    /// The words are refused.
+    Refused,
+    /// It has the rounds that there are where none are given,
+    DefaultRounds,
+    /// or the workers.
+    DefaultWorkers,
+    /// Nothing is asked for that needs it.
+    Allowed,
 }
 
 const REPLAY: Subcommand = Subcommand {
@@ -62,13 +67,13 @@ const REPLAY: Subcommand = Subcommand {
         CommandOption {
             name: "maps",
             value: Value::Path,
-            default: None,
+            absence: Absence::Refused,
             help: "Maps file to write: the MAPs of every round",
         },
         CommandOption {
             name: "report",
             value: Value::Path,
-            default: None,
+            absence: Absence::Refused,
             help: "Report to write: grants, misses, final flow states",
         },
         WORKERS,
@@ -93,8 +98,40 @@ const CHECK: Subcommand = Subcommand {
         CommandOption {
             name: "report",
             value: Value::Path,
-            default: None,
+            absence: Absence::Refused,
             help: "Report to check",
+        },
+    ],
+};
+
+const LINT: Subcommand = Subcommand {
+    name: "lint",
+    about: "Finds what is wrong in configuration, trace and report, by line",
+    usage: Some(
+        "mapsim lint --config <F> [--trace <F>] [--rounds <N>]\n                   \
+         [--maps <F> --report <F>]",
+    ),
+    options: &[
+        CONFIG,
+        CommandOption {
+            absence: Absence::Allowed,
+            ..TRACE
+        },
+        CommandOption {
+            absence: Absence::Allowed,
+            help: "Number of rounds of the run",
+            ..ROUNDS
+        },
+        CommandOption {
+            absence: Absence::Allowed,
+            help: "Maps file to check, with --report, --trace and --rounds",
+            ..MAPS
+        },
+        CommandOption {
+            name: "report",
+            value: Value::Path,
+            absence: Absence::Allowed,
+            help: "Report to check, with --maps, --trace and --rounds",
         },
     ],
 };
@@ -112,7 +149,7 @@ const PIPE: Subcommand = Subcommand {
     usage: None,
     options: &[
         CommandOption {
-            default: Some(Fallback::Rounds),
+            absence: Absence::DefaultRounds,
             ..ROUNDS
         },
         WORKERS,
@@ -122,21 +159,21 @@ const PIPE: Subcommand = Subcommand {
 const CONFIG: CommandOption = CommandOption {
     name: "config",
     value: Value::Path,
-    default: None,
+    absence: Absence::Refused,
     help: "Configuration (TOML): channels, service flows, stations",
 };
 
 const TRACE: CommandOption = CommandOption {
     name: "trace",
     value: Value::Path,
-    default: None,
+    absence: Absence::Refused,
     help: "Trace (CSV): requests, and marks of UGS-AD activity",
 };
 
 const ROUNDS: CommandOption = CommandOption {
     name: "rounds",
     value: Value::Number,
-    default: None,
+    absence: Absence::Refused,
     help: "Number of rounds to replay",
 };
 
@@ -144,14 +181,14 @@ const ROUNDS: CommandOption = CommandOption {
 const MAPS: CommandOption = CommandOption {
     name: "maps",
     value: Value::Path,
-    default: None,
+    absence: Absence::Refused,
     help: "Maps file to read: the MAPs of every round",
 };
 
 const WORKERS: CommandOption = CommandOption {
     name: "workers",
     value: Value::Number,
-    default: Some(Fallback::Workers),
+    absence: Absence::DefaultWorkers,
     help: "Number of worker threads, 1 to 64",
 };
 
@@ -165,6 +202,7 @@ pub fn command<'a>(alloc: Global, helps: &'a Helps) -> Result<Command<'a>, Alloc
         .subcommand_required(true)
         .subcommand(subcommand_of(alloc, &REPLAY, helps.replay.as_str())?)?
         .subcommand(subcommand_of(alloc, &CHECK, helps.check.as_str())?)?
+        .subcommand(subcommand_of(alloc, &LINT, helps.lint.as_str())?)?
         .subcommand(subcommand_of(alloc, &DUMP, helps.dump.as_str())?)?
         .subcommand(subcommand_of(alloc, &PIPE, helps.pipe.as_str())?)
 }
@@ -198,10 +236,11 @@ fn arg_of<'a>(alloc: Global, option: &CommandOption) -> Arg<'a> {
         .value_parser(parser)
         .help(option.help)
         .action(ArgAction::Set);
-    match option.default {
-        Some(Fallback::Rounds) => arg.default_value(rounds_word()),
-        Some(Fallback::Workers) => arg.default_value(workers_word()),
-        None => arg.required(true),
+    match option.absence {
+        Absence::Refused => arg.required(true),
+        Absence::DefaultRounds => arg.default_value(rounds_word()),
+        Absence::DefaultWorkers => arg.default_value(workers_word()),
+        Absence::Allowed => arg,
     }
 }
 

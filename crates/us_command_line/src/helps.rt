@@ -12,6 +12,8 @@ pub struct HelpTexts {
     pub replay: &'static [&'static str],
     /// Of `check`.
     pub check: &'static [&'static str],
+    /// Of `lint`.
+    pub lint: &'static [&'static str],
     /// Of `dump`.
     pub dump: &'static [&'static str],
     /// Of `pipe`.
@@ -27,6 +29,8 @@ pub struct Helps {
     pub replay: String,
     /// Of `check`.
     pub check: String,
+    /// Of `lint`.
+    pub lint: String,
     /// Of `dump`.
     pub dump: String,
     /// Of `pipe`.
@@ -42,6 +46,7 @@ impl Helps {
             program: texts.program,
             replay: joined(alloc, texts.replay)?,
             check: joined(alloc, texts.check)?,
+            lint: joined(alloc, texts.lint)?,
             dump: joined(alloc, texts.dump)?,
             pipe: joined(alloc, texts.pipe)?,
         })

@@ -25,5 +25,5 @@ mod words;
 
 pub use faults::WordsFault;
 pub use helps::{HelpTexts, Helps};
-pub use orders::{FileCheck, FileReplay, Order};
+pub use orders::{FileCheck, FileLint, FileReplay, Order};
 pub use words::order_of;

@@ -5,6 +5,8 @@ pub enum Order<'a> {
     Replay(FileReplay<'a>),
     /// A verdict on files.
     Check(FileCheck<'a>),
+    /// What is wrong, or looks wrong, in files.
+    Lint(FileLint<'a>),
     /// The MAPs of a maps file as lines: its path.
     Dump(&'a str),
     /// A replay of standard input, for so many rounds, by so many workers.
@@ -43,4 +45,19 @@ pub struct FileCheck<'a> {
     pub maps: &'a str,
     /// Path of the report.
     pub report: &'a str,
+}
+
+/// What is wrong, or looks wrong, in files. A maps file comes with a report, and both come with a trace and rounds.
+#[derive(Clone, Copy)]
+pub struct FileLint<'a> {
+    /// Path of the configuration.
+    pub config: &'a str,
+    /// Path of the trace.
+    pub trace: Option<&'a str>,
+    /// How many rounds the run has.
+    pub rounds: Option<u32>,
+    /// Path of the maps file.
+    pub maps: Option<&'a str>,
+    /// Path of the report.
+    pub report: Option<&'a str>,
 }

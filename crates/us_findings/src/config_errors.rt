@@ -55,11 +55,7 @@ fn errors_in(
 ) -> Result<Findings, NoMemory>
     ensures { IfOk result (λ findings. findings.first.what ≡ found.Config fault) }
 {
-    let mut drafts = Drafts::new(alloc, fault);
-    if let Some(draft) = explained(document, fault) {
-        drafts.push(draft)?;
-    }
-    add_shapes(&mut drafts, document)?;
+    let drafts = drafts_of(alloc, document, fault)?;
     let mut findings = located(alloc, text, &drafts.kept)?;
     let first = take_first(alloc, &mut findings, fault)?;
     Ok(Findings {
@@ -67,6 +63,20 @@ fn errors_in(
         others: findings,
         more: drafts.more,
     })
+}
+
+/// What is wrong with a document: why it has this fault, and the shapes of all tables.
+fn drafts_of<'d>(
+    alloc: Global,
+    document: &'d Table,
+    fault: ConfigFault,
+) -> Result<Drafts<'d>, AllocError> {
+    let mut drafts = Drafts::new(alloc, fault);
+    if let Some(draft) = explained(document, fault) {
+        drafts.push(draft)?;
+    }
+    add_shapes(&mut drafts, document)?;
+    Ok(drafts)
 }
 
 /// Takes the first of these findings that is of this fault.

@@ -49,13 +49,13 @@ pub(crate) fn table_at(document: &Table, place: Place) -> Option<&Table> {
 
 /// What a finding calls a table that stands at a place.
 pub(crate) fn title_of(table: &Table, place: Place) -> Title {
-    let number = match table.get("id") {
-        Some(value) => value.as_integer(),
-        None => None,
+    let id = match table.get("id") {
+        Some(Value::Integer(id)) => u64::try_from(*id).ok(),
+        _ => None,
     };
     Title {
         place,
-        id: number.and_then(|id| u64::try_from(id).ok()),
+        id,
         profile: None,
     }
 }

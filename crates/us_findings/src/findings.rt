@@ -52,11 +52,12 @@ pub struct Findings {
 impl fmt::Display for Finding {
     fn fmt<W: fmt::Write>(&self, f: &mut fmt::Formatter<W>) -> fmt::Result {
         let (line, column, text) = (self.line, self.column, self.text.as_str());
-        match self.what {
-            What::Config(fault) => write!(f, "{line}:{column}: error {}: {text}", fault.code()),
-            What::Trace(fault) => write!(f, "{line}:{column}: error {}: {text}", fault.code()),
-            What::Warning => write!(f, "{line}:{column}: warning: {text}"),
-        }
+        let (kind, code) = match self.what {
+            What::Config(fault) => ("error ", fault.code()),
+            What::Trace(fault) => ("error ", fault.code()),
+            What::Warning => ("warning", ""),
+        };
+        write!(f, "{line}:{column}: {kind}{code}: {text}")
     }
 }
 

@@ -14,19 +14,20 @@ pub(crate) fn located(
     text: &[u8],
     drafts: &[Draft<'_>],
 ) -> Result<Vec<Finding>, NoMemory> {
-    let document = str::from_utf8(text).unwrap_or("");
-    let paths = paths_of(alloc, drafts)?;
-    let spots = spots_of(alloc, document, &paths)?;
-    let mut placed = Vec::new(alloc);
-    for (draft, spot) in drafts.iter().zip(spots.iter()) {
-        placed.push((*spot, *draft))?;
-    }
-    placed.sort_by_key(|(spot, _)| spot.at)?;
+    let spots = spots_in(alloc, text, drafts)?;
+    let placed = placed_at(alloc, drafts, &spots)?;
     let other = spots.get(drafts.len()).copied();
     Ok(findings_at(alloc, text, &placed, other)?)
 }
 
-/// Where to look: at each of these, and then at the key of another table that one of them names.
+/// Where these stand, and then the key of another table that one of them names.
+fn spots_in(alloc: Global, text: &[u8], drafts: &[Draft<'_>]) -> Result<Vec<Spot>, NoMemory> {
+    let document = str::from_utf8(text).unwrap_or("");
+    let paths = paths_of(alloc, drafts)?;
+    spots_of(alloc, document, &paths)
+}
+
+/// Where to look for these, and for the key of another table.
 fn paths_of<'a>(alloc: Global, drafts: &[Draft<'a>]) -> Result<Vec<KeyPath<'a>>, AllocError> {
     let mut paths = Vec::new(alloc);
     let mut other = None;
@@ -38,6 +39,20 @@ fn paths_of<'a>(alloc: Global, drafts: &[Draft<'a>]) -> Result<Vec<KeyPath<'a>>,
         paths.push(path)?;
     }
     Ok(paths)
+}
+
+/// These in the order of their places. Those at one place stay in their order.
+fn placed_at<'a>(
+    alloc: Global,
+    drafts: &[Draft<'a>],
+    spots: &[Spot],
+) -> Result<Vec<(Spot, Draft<'a>)>, AllocError> {
+    let mut placed = Vec::new(alloc);
+    for (draft, spot) in drafts.iter().zip(spots) {
+        placed.push((*spot, *draft))?;
+    }
+    placed.sort_by_key(|(spot, _)| spot.at)?;
+    Ok(placed)
 }
 
 /// Findings at these places, in their order.

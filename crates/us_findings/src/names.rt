@@ -79,17 +79,24 @@ fn has_id(list: TableName) -> &'static str {
 
 /// The first number of a list that stands there again; 0 where none does.
 fn repeated(values: &[Value]) -> u64 {
-    for (place, value) in values.iter().enumerate() {
+    for value in values {
         let number = number_of(value);
-        if values
-            .iter()
-            .take(place)
-            .any(|other| number_of(other) == number)
-        {
+        if count_of(values, number) > 1 {
             return number;
         }
     }
     0
+}
+
+/// How often a number stands in a list.
+fn count_of(values: &[Value], number: u64) -> usize {
+    let mut count = 0usize;
+    for value in values {
+        if number_of(value) == number {
+            count = count.saturating_add(1);
+        }
+    }
+    count
 }
 
 /// A cluster hasn't a SID for each channel.
@@ -154,30 +161,47 @@ fn twice<'d>(case: &Case<'d>) -> Why<'d> {
     }
 }
 
-/// The first SID of a flow that another has so often on the same channel, behind that channel's id.
-fn shared_sid(flow: &Table, other: &Table, often: usize) -> Option<(u64, u64)> {
+/// The first SID of a flow that another has in so many clusters on the same channel, behind that channel's id.
+fn shared_sid(flow: &Table, other: &Table, many: usize) -> Option<(u64, u64)> {
     let channels = values_at(flow, "channels");
     for cluster in values_at(flow, "clusters") {
-        for (channel, sid) in channels.iter().zip(values_of(cluster)) {
-            let (channel, sid) = (number_of(channel), number_of(sid));
-            if times(other, channel, sid) >= often {
-                return Some((channel, sid));
-            }
+        let shared = shared_in(channels, values_of(cluster), other, many);
+        if shared.is_some() {
+            return shared;
         }
     }
     None
 }
 
-/// How often a flow has a SID on a channel.
+/// The same of one cluster.
+fn shared_in(channels: &[Value], sids: &[Value], other: &Table, many: usize) -> Option<(u64, u64)> {
+    for (channel, sid) in channels.iter().zip(sids) {
+        let (channel, sid) = (number_of(channel), number_of(sid));
+        if times(other, channel, sid) >= many {
+            return Some((channel, sid));
+        }
+    }
+    None
+}
+
+/// In how many of its clusters a flow has a SID on a channel.
 fn times(flow: &Table, channel: u64, sid: u64) -> usize {
     let channels = values_at(flow, "channels");
     let mut times = 0usize;
     for cluster in values_at(flow, "clusters") {
-        for (other, own) in channels.iter().zip(values_of(cluster)) {
-            if number_of(other) == channel && number_of(own) == sid {
-                times = times.saturating_add(1);
-            }
+        if has_sid(channels, values_of(cluster), channel, sid) {
+            times = times.saturating_add(1);
         }
     }
     times
+}
+
+/// Whether a cluster on these channels has a SID on one of them.
+fn has_sid(channels: &[Value], sids: &[Value], channel: u64, sid: u64) -> bool {
+    for (other, own) in channels.iter().zip(sids) {
+        if number_of(other) == channel && number_of(own) == sid {
+            return true;
+        }
+    }
+    false
 }

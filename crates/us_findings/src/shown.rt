@@ -32,18 +32,19 @@ pub(crate) struct ShownKey<'a>(pub(crate) &'a str);
 impl fmt::Display for ShownKey<'_> {
     fn fmt<W: fmt::Write>(&self, f: &mut fmt::Formatter<W>) -> fmt::Result {
         let key = self.0.as_bytes();
-        let shown = Shown(key);
-        if !key.is_empty() && key.iter().all(is_bare) {
-            write!(f, "{shown}")
-        } else {
-            write!(f, "\"{shown}\"")
-        }
+        let (shown, quote) = (Shown(key), if is_bare(key) { "" } else { "\"" });
+        write!(f, "{quote}{shown}{quote}")
     }
 }
 
-/// Whether a key with this byte may stand without quotes.
-fn is_bare(byte: &u8) -> bool {
-    byte.is_ascii_alphanumeric() || *byte == b'_' || *byte == b'-'
+/// Whether a key may stand without quotes.
+fn is_bare(key: &[u8]) -> bool {
+    for byte in key {
+        if !byte.is_ascii_alphanumeric() && *byte != b'_' && *byte != b'-' {
+            return false;
+        }
+    }
+    !key.is_empty()
 }
 
 /// Writes the first character of a text, or its first byte where no character begins. What is left is answered.

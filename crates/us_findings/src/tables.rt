@@ -19,10 +19,20 @@ pub(crate) fn add_shapes<'d>(
 ) -> Result<(), AllocError> {
     listed(document, TOP, top_keys()).add_to(drafts)?;
     for list in LISTS {
-        for (index, item) in (0..u32::MAX).zip(items_of(document, list)) {
-            if let Some(table) = item.as_table() {
-                add_table(drafts, Place { table: list, index }, table)?;
-            }
+        add_list(drafts, list, items_of(document, list))?;
+    }
+    Ok(())
+}
+
+/// Those of the tables of a list.
+fn add_list<'d>(
+    drafts: &mut Drafts<'d>,
+    list: TableName,
+    items: &'d [Value],
+) -> Result<(), AllocError> {
+    for (index, item) in (0..u32::MAX).zip(items) {
+        if let Some(table) = item.as_table() {
+            add_table(drafts, Place { table: list, index }, table)?;
         }
     }
     Ok(())

@@ -34,7 +34,7 @@ static CASES: [(&str, &str, &str); 12] = [
     (
         "[[291]]",
         "[\n[291], [16000]]",
-        "24:1: error C3: flow 0 (id 1), clusters: a list of 1 to 2 lists of whole numbers, each from 1 to 15871, \
+        "24:1: error C3: flow 0 (id 1), clusters: a list of lists of whole numbers from 1 to 15871, of length 1 to 2, \
          is wanted, [\\n[291], [16000]] is there: item 2 is wrong\n",
     ),
     (

@@ -11,23 +11,21 @@ pub(crate) fn wanted(rule: Rule) -> Sentence {
         Rule::Type => Sentence::plain("2, 3, 4, 5 or 6"),
         Rule::Unit => Sentence::plain("1, 2, 4, 8 or 16"),
         Rule::Flag => Sentence::plain("true or false"),
-        Rule::Numbers(1, 1, least, most) => {
-            numbers(
-                "a list of one whole number from # to #,",
-                [least, most, 0, 0],
-            )
-        }
         Rule::Numbers(fewest, many, least, most) => numbers(
-            "a list of # to # whole numbers, each from # to #,",
-            [fewest, many, least, most],
-        ),
-        Rule::Lists(1, 1, least, most) => numbers(
-            "a list of one list of whole numbers, each from # to #,",
-            [least, most, 0, 0],
+            of_length(
+                fewest == many,
+                "a list of whole numbers from # to #, of length #,",
+                "a list of whole numbers from # to #, of length # to #,",
+            ),
+            [least, most, fewest, many],
         ),
         Rule::Lists(fewest, many, least, most) => numbers(
-            "a list of # to # lists of whole numbers, each from # to #,",
-            [fewest, many, least, most],
+            of_length(
+                fewest == many,
+                "a list of lists of whole numbers from # to #, of length #,",
+                "a list of lists of whole numbers from # to #, of length # to #,",
+            ),
+            [least, most, fewest, many],
         ),
         Rule::Table => Sentence::plain("a table"),
         Rule::Tables(fewest, many) => numbers(
@@ -35,6 +33,11 @@ pub(crate) fn wanted(rule: Rule) -> Sentence {
             [fewest, many, 0, 0],
         ),
     }
+}
+
+/// The first words of a list that can have one length alone, else the others.
+fn of_length(is_one: bool, one: &'static str, others: &'static str) -> &'static str {
+    if is_one { one } else { others }
 }
 
 /// Words with these numbers.
@@ -59,7 +62,7 @@ pub(crate) fn amiss(rule: Rule, value: &Value) -> Sentence {
         return Sentence::plain(" is there");
     };
     if items.len() < fewest as usize || (many as usize) < items.len() {
-        return Sentence::of(" is there: items in it: #", items.len() as u64);
+        return Sentence::of(" is there: its length is #", items.len() as u64);
     }
     match wrong_item(each, items) {
         Some(place) => Sentence::of(" is there: item # is wrong", place as u64),

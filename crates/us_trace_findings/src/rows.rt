@@ -1,5 +1,12 @@
-use csv::{ByteRecord, Reader, ReaderBuilder};
+ghost use Rattle.std.specs.Prelude.{◌≡◌, [], IfOk};
+ghost use Rattle.csv.specs.Records.{fields_of};
+ghost use Rattle.us_requests.specs.Records.{records_left, IsRecordReader, TakesRecord};
+ghost use Rattle.us_requests.specs.Texts.{records_of};
+ghost use Rattle.us_trace_findings.specs.Rows.{Reading};
+
+use csv::{ByteRecord, Position, Reader, ReaderBuilder};
 use std::alloc::Global;
+use std::marker::Model;
 use us_slots::NoMemory;
 
 /// What may stand before the first record, and is none of it.
@@ -13,15 +20,31 @@ pub struct Rows<'a> {
     text: &'a [u8],
     reader: Reader<&'a [u8]>,
     fields: ByteRecord,
-    /// Where the record begins that was read last.
-    start: usize,
-    /// Its line.
+    start: Start,
+}
+
+/// Where a record begins.
+#[derive(Clone, Copy)]
+struct Start {
+    /// How many bytes come before it.
+    at: usize,
     line: usize,
+}
+
+impl<'a> Model for Rows<'a> {
+    ghost Value = { Reading };
+
+    ghost view = { λ rows. record { fields = fields_of rows.fields; left = records_left rows.reader } };
+
+    ghost invariant = { λ rows. IsRecordReader rows.reader };
 }
 
 impl<'a> Rows<'a> {
     /// Those of a text, of which none was read.
-    pub fn new(alloc: Global, text: &'a [u8]) -> Rows<'a> {
+    #[tactic(auto, using(us_requests::proofs::RecordLemmas::reading))]
+    pub fn new(alloc: Global, text: &'a [u8]) -> Rows<'a>
+        ensures { result ≡ record { fields = []; left = records_of text.entry.now } }
+    {
         let reader = ReaderBuilder::new()
             .has_headers(false)
             .flexible(true)
@@ -30,14 +53,16 @@ impl<'a> Rows<'a> {
             text,
             reader,
             fields: ByteRecord::new(alloc),
-            start: 0,
-            line: 1,
+            start: Start { at: 0, line: 1 },
         }
     }
 
     /// Reads the next record, and answers whether there was one.
-    pub fn read(&mut self) -> Result<bool, NoMemory> {
-        self.find_start();
+    #[tactic(auto, using(us_requests::proofs::RecordLemmas::reading))]
+    pub fn read(&mut self) -> Result<bool, NoMemory>
+        ensures { IfOk result (λ found. TakesRecord self.old.left self.new.left self.new.fields found) }
+    {
+        self.start = next_start(self.text, self.reader.position());
         // A slice gives every read, and records may differ in their count of fields, so the one error is want of memory.
         match self.reader.read_byte_record(&mut self.fields) {
             Ok(found) => Ok(found),
@@ -45,46 +70,44 @@ impl<'a> Rows<'a> {
         }
     }
 
-    /// The fields of the record that was read last; none where there was no more.
-    pub fn fields(&self) -> &ByteRecord {
+    /// The fields of the record that was read last.
+    pub fn fields(&self) -> &ByteRecord
+        ensures { fields_of result.now ≡ self.now.fields }
+    {
         &self.fields
     }
 
     /// The line on which that record begins; where there was no more, the line on which the text ends.
     pub fn line(&self) -> usize {
-        self.line
+        self.start.line
     }
 
     /// Its first line, as it stands in the text.
     pub(crate) fn first_line(&self) -> &'a [u8] {
-        let rest = self.text.get(self.start..).unwrap_or(&[]);
+        let rest = self.text.get(self.start.at..).unwrap_or(&[]);
         match rest.iter().position(|byte| matches!(*byte, b'\n' | b'\r')) {
             Some(end) => &rest[..end],
             None => rest,
         }
     }
+}
 
-    /// Finds where the next record begins. The reader stands before blank lines, and at first before a byte-order mark.
-    fn find_start(&mut self) {
-        let position = self.reader.position();
-        self.start = position.byte() as usize;
-        self.line = position.line() as usize;
-        if self.start == 0 && self.text.starts_with(BYTE_ORDER_MARK) {
-            self.start = BYTE_ORDER_MARK.len();
-        }
-        self.pass_blank_lines();
+/// Where the next record of a text begins, for a reader that stands before blank lines, or before a byte-order mark.
+fn next_start(text: &[u8], position: Position) -> Start {
+    let mut start = Start {
+        at: position.byte() as usize,
+        line: position.line() as usize,
+    };
+    if start.at == 0 && text.starts_with(BYTE_ORDER_MARK) {
+        start.at = BYTE_ORDER_MARK.len();
     }
-
-    /// Passes over the line ends at `start`.
-    fn pass_blank_lines(&mut self) {
-        let rest = self.text.get(self.start..).unwrap_or(&[]);
-        for byte in rest {
-            match *byte {
-                b'\n' => self.line = self.line.saturating_add(1),
-                b'\r' => {}
-                _ => return,
-            }
-            self.start = self.start.saturating_add(1);
+    for byte in text.get(start.at..).unwrap_or(&[]) {
+        match *byte {
+            b'\n' => start.line = start.line.saturating_add(1),
+            b'\r' => {}
+            _ => return start,
         }
+        start.at = start.at.saturating_add(1);
     }
+    start
 }

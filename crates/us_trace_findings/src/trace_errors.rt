@@ -1,16 +1,18 @@
-ghost use Rattle.std.specs.Prelude.{◌≡◌, true, IfOk};
+ghost use Rattle.std.specs.Prelude.{◌≡◌, ◌<◌, ◌⊎◌, [], IfOk, IsSome, OnOk, Some, length, true};
 ghost use Rattle.csv.specs.Records.{fields_of};
-ghost use Rattle.us_slots.specs.Lists.{first_of};
 ghost use Rattle.us_flows.specs.Tables.{rounds_fit};
-ghost use Rattle.us_requests.specs.Texts.{record_checks};
+ghost use Rattle.us_requests.specs.Readings.{max_bytes};
+ghost use Rattle.us_requests.specs.Texts.{fault_from, record_checks, records_fault, trace_fault};
 ghost use Rattle.us_requests.specs.declared.faults.TraceFault.TheVariants as fault;
+ghost use Rattle.us_slots.specs.Lists.{first_of};
 ghost use Rattle.us_findings.specs.declared.findings.What.TheVariants as what;
-ghost use Rattle.us_trace_findings.specs.Errors.{IsTraceLint, IsOfText};
+ghost use Rattle.us_trace_findings.specs.Errors.{AreErrorsOf, IsTraceLint};
+ghost use Rattle.us_trace_findings.specs.Found.{behind, first_what};
 
 use crate::row_errors::row_error;
 use crate::rows::Rows;
 use csv::ByteRecord;
-use std::alloc::{AllocError, Global};
+use std::alloc::Global;
 use us_findings::{Finding, Findings, Source, What};
 use us_flows::Config;
 use us_requests::{MAX_RECORDS, MAX_TRACE_BYTES, Trace, TraceFault, is_header, request_in};
@@ -21,6 +23,7 @@ const MAX_TOLD: usize = 50;
 
 /// The trace that a text tells for a run of so many rounds, or its errors: the fault that [`Trace::read`] answers, then
 /// those of other records in their order, 50 at most with the first, and how many more there are.
+#[tactic(auto, using(crate::proofs::LintLemmas::linting))]
 pub fn lint_trace(
     alloc: Global,
     text: &[u8],
@@ -32,7 +35,9 @@ pub fn lint_trace(
 {
     match Trace::read(alloc, &mut FromRead::new(text), config, rounds) {
         Ok(trace) => Ok(Ok(trace)),
-        Err(fault) => Ok(Err(errors_of(alloc, text, fault)?)),
+        // A slice gives every read.
+        Err(TraceFault::NoMemory | TraceFault::Read) => Err(NoMemory),
+        Err(_) => Ok(Err(errors_of(alloc, text)?)),
     }
 }
 
@@ -40,34 +45,26 @@ pub fn lint_trace(
 pub fn too_long_trace(alloc: Global) -> Result<Findings, NoMemory>
     ensures { IfOk result (λ findings. findings.first.what ≡ what.Trace fault.TooLarge) }
 {
+    let text = format!(in alloc; "at most {MAX_TRACE_BYTES} bytes are wanted, more are there")?;
     Ok(Findings {
-        first: too_long(alloc)?,
+        first: finding(TraceFault::TooLarge, 1, text),
         others: Vec::new(alloc),
         more: 0,
     })
 }
 
-/// That a text has too many bytes.
-fn too_long(alloc: Global) -> Result<Finding, AllocError>
-    ensures { IfOk result (λ finding. finding.what ≡ what.Trace fault.TooLarge) }
+/// The errors of a text that has one.
+#[tactic(auto, using(crate::proofs::LintLemmas::linting))]
+fn errors_of(alloc: Global, text: &[u8]) -> Result<Findings, NoMemory>
+    requires { (max_bytes < length text.now) ⊎ IsSome (trace_fault text.now) }
+    ensures { IfOk result (AreErrorsOf text.now) }
 {
-    let text = format!(in alloc; "at most {MAX_TRACE_BYTES} bytes are wanted, more are there")?;
-    Ok(finding(TraceFault::TooLarge, 1, text))
-}
-
-/// The errors of a text that was refused for this fault. A slice gives every read, so a read that fails is want of memory.
-fn errors_of(alloc: Global, text: &[u8], fault: TraceFault) -> Result<Findings, NoMemory>
-    ensures first { IfOk result (λ findings. findings.first.what ≡ what.Trace fault) }
-    ensures told { IfOk result (λ _. IsOfText fault) }
-{
-    if matches!(fault, TraceFault::NoMemory | TraceFault::Read) {
-        return Err(NoMemory);
+    if text.len() > MAX_TRACE_BYTES {
+        return too_long_trace(alloc);
     }
     let mut told = Told::new(alloc);
-    if text.len() <= MAX_TRACE_BYTES {
-        told.add_all(&mut Rows::new(alloc, text))?;
-    }
-    told.with_first(fault)
+    told.add_all(&mut Rows::new(alloc, text))?;
+    Ok(told.into_findings())
 }
 
 /// A finding of a trace.
@@ -93,7 +90,9 @@ struct Told {
 
 impl Told {
     /// None yet.
-    fn new(alloc: Global) -> Told {
+    fn new(alloc: Global) -> Told
+        ensures { result.findings.items ≡ [] }
+    {
         Told {
             alloc,
             findings: Vec::new(alloc),
@@ -102,30 +101,40 @@ impl Told {
     }
 
     /// Those of all records of a text. Where it has no header, that alone.
-    fn add_all(&mut self, rows: &mut Rows<'_>) -> Result<(), NoMemory> {
-        // Where there is no record, no fields are read.
-        let _found = rows.read()?;
-        if !is_header(rows.fields()) {
+    fn add_all(&mut self, rows: &mut Rows<'_>) -> Result<(), NoMemory>
+        ensures { OnOk result (first_what self.new.findings.items ≡
+            behind (first_what self.old.findings.items) (records_fault rows.old.left)) }
+    {
+        if !rows.read()? || !is_header(rows.fields()) {
             return self.add(rows, 0, TraceFault::Header);
         }
         self.add_requests(rows, rows.fields().len())
     }
 
     /// Those of the records behind a header of so many columns.
-    fn add_requests(&mut self, rows: &mut Rows<'_>, columns: usize) -> Result<(), NoMemory> {
+    #[tactic(auto, using(crate::proofs::FoundLemmas::finding))]
+    fn add_requests(&mut self, rows: &mut Rows<'_>, columns: usize) -> Result<(), NoMemory>
+        ensures { OnOk result (first_what self.new.findings.items ≡
+            behind (first_what self.old.findings.items) (fault_from columns 2 rows.old.left)) }
+    {
         for number in 2..MAX_RECORDS + 2 {
             if !rows.read()? {
                 return Ok(());
             }
-            if let Some(fault) = fault_of(rows.fields(), columns, number) {
-                self.add(rows, columns, fault)?;
+            match fault_of(rows.fields(), columns, number) {
+                Some(fault) => self.add(rows, columns, fault)?,
+                None => {}
             }
         }
         Ok(())
     }
 
     /// That of the record that was read last.
-    fn add(&mut self, rows: &Rows<'_>, columns: usize, fault: TraceFault) -> Result<(), NoMemory> {
+    #[tactic(auto, using(crate::proofs::FoundLemmas::adding))]
+    fn add(&mut self, rows: &Rows<'_>, columns: usize, fault: TraceFault) -> Result<(), NoMemory>
+        ensures { OnOk result (first_what self.new.findings.items ≡
+            behind (first_what self.old.findings.items) (Some fault)) }
+    {
         if self.findings.len() >= MAX_TOLD {
             self.more = self.more.saturating_add(1);
             return Ok(());
@@ -135,28 +144,22 @@ impl Told {
         Ok(())
     }
 
-    /// All of a text with this fault, which is the first one that was found. Where none was, the text is too long.
-    fn with_first(self, fault: TraceFault) -> Result<Findings, NoMemory>
-        ensures { IfOk result (λ findings. findings.first.what ≡ what.Trace fault) }
+    /// All that were found, of which there is one at least.
+    #[tactic(auto, using(crate::proofs::FoundLemmas::taking))]
+    fn into_findings(self) -> Findings
+        requires { IsSome (first_what self.findings.items) }
+        ensures { Some result.first.what ≡ first_what self.findings.items }
     {
         let Told {
-            alloc,
+            alloc: _,
             mut findings,
             more,
         } = self;
-        let first = if findings.is_empty() {
-            too_long(alloc)?
-        } else {
-            findings.remove(0)
-        };
-        Ok(Findings {
-            first: Finding {
-                what: What::Trace(fault),
-                ..first
-            },
+        Findings {
+            first: findings.remove(0),
             others: findings,
             more,
-        })
+        }
     }
 }
 

@@ -1,0 +1,127 @@
+ghost use Rattle.std.specs.Prelude.{◌≡◌, length, OnOk};
+ghost use Rattle.mapsim.specs.Statuses as statuses;
+ghost use Rattle.mapsim.specs.declared.statuses.Status.TheVariants as status;
+
+use crate::statuses::Status;
+use std::alloc::{AllocError, Global};
+use us_command_line::FileLint;
+use us_findings::{Finding, Findings, Source};
+use us_verdict_words::{VerdictFile, VerdictFinding};
+
+/// The lines that a lint prints, and how the program ends that prints them.
+#[derive(Drop)]
+pub struct Listing<'a> {
+    order: FileLint<'a>,
+    text: String,
+    status: Status,
+}
+
+impl<'a> Listing<'a> {
+    /// One without lines, of the files of an order.
+    pub fn new(alloc: Global, order: &FileLint<'a>) -> Listing<'a>
+        ensures { result.status ≡ status.Done }
+    {
+        Listing {
+            order: *order,
+            text: String::new(alloc),
+            status: Status::Done,
+        }
+    }
+
+    /// The lines.
+    pub fn text(&self) -> &[u8] {
+        self.text.as_str().as_bytes()
+    }
+
+    /// How the program ends: refused with an error, warned with warnings alone, else done.
+    pub fn status(&self) -> Status
+        ensures { result ≡ self.now.status }
+    {
+        self.status
+    }
+
+    /// Of the errors in a file the one that the program answers.
+    pub fn add_first(&mut self, findings: &Findings) -> Result<(), AllocError>
+        ensures { OnOk result (self.new.status ≡ status.Refused) }
+    {
+        self.status = Status::Refused;
+        write_finding(&mut self.text, &self.order, &findings.first)
+    }
+
+    /// The others, and how many more there are.
+    pub fn add_others(&mut self, findings: &Findings) -> Result<(), AllocError>
+        ensures { OnOk result (self.new.status ≡ status.Refused) }
+    {
+        self.status = Status::Refused;
+        write_all(&mut self.text, &self.order, &findings.others)?;
+        let path = path_of(&self.order, findings.first.source);
+        match findings.more {
+            0 => Ok(()),
+            1 => writeln!(self.text, "{path}: 1 more error"),
+            more => writeln!(self.text, "{path}: {more} more errors"),
+        }
+    }
+
+    /// What is wrong in a maps file and a report at these paths.
+    pub fn add_broken(
+        &mut self,
+        maps: &str,
+        report: &str,
+        finding: &VerdictFinding,
+    ) -> Result<(), AllocError>
+        ensures { OnOk result (self.new.status ≡ status.Refused) }
+    {
+        self.status = Status::Refused;
+        match finding.file {
+            VerdictFile::Maps => writeln!(self.text, "{maps}: error {finding}"),
+            VerdictFile::Report => writeln!(self.text, "{report}: error {finding}"),
+            VerdictFile::Line(line) => writeln!(self.text, "{report}:{line}:1: error {finding}"),
+        }
+    }
+
+    /// What looks wrong.
+    pub fn add_warnings(&mut self, warnings: &[Finding]) -> Result<(), AllocError>
+        ensures { OnOk result (self.new.status ≡ statuses.with_warnings self.old.status (length warnings.now)) }
+    {
+        self.status = self.status.warned(warnings.len());
+        write_all(&mut self.text, &self.order, warnings)
+    }
+
+    /// How many rounds take in all rows of a trace.
+    pub fn add_note(&mut self, rounds: u32) -> Result<(), AllocError>
+        ensures { OnOk result (self.new.status ≡ self.old.status) }
+    {
+        let path = path_of(&self.order, Source::Trace);
+        writeln!(self.text, "{path}: note: {rounds} rounds take in all rows")
+    }
+}
+
+/// Writes findings, one a line.
+fn write_all(
+    text: &mut String,
+    order: &FileLint<'_>,
+    findings: &[Finding],
+) -> Result<(), AllocError> {
+    for finding in findings {
+        write_finding(text, order, finding)?;
+    }
+    Ok(())
+}
+
+/// Writes a finding behind the path of its file.
+fn write_finding(
+    text: &mut String,
+    order: &FileLint<'_>,
+    finding: &Finding,
+) -> Result<(), AllocError> {
+    let path = path_of(order, finding.source);
+    writeln!(text, "{path}:{finding}")
+}
+
+/// The path of a file of an order. Of a trace something is found only where there is one.
+fn path_of<'a>(order: &FileLint<'a>, source: Source) -> &'a str {
+    match source {
+        Source::Config => order.config,
+        Source::Trace => order.trace.unwrap_or(order.config),
+    }
+}

@@ -1,0 +1,47 @@
+use std::fmt;
+
+/// The file that a finding is in.
+#[derive(Clone, Copy, Debug, PartialEq, Eq)]
+pub enum VerdictFile {
+    /// The maps file. The text says where.
+    Maps,
+    /// The report, in which a line is wanted that isn't there.
+    Report,
+    /// The report, at this line, from 1.
+    Line(u64),
+}
+
+/// A broken rule, or a line that is none of a report, in words.
+#[derive(Debug, Drop)]
+pub struct VerdictFinding {
+    /// Where it is.
+    pub file: VerdictFile,
+    /// The code: P1 to P6, or CK1.
+    pub code: &'static str,
+    /// What is wanted, and what is there.
+    pub text: String,
+}
+
+/// Writes a finding as its code and its text.
+impl fmt::Display for VerdictFinding {
+    fn fmt<W: fmt::Write>(&self, f: &mut fmt::Formatter<W>) -> fmt::Result {
+        write!(f, "{}: {}", self.code, self.text)
+    }
+}
+
+/// What is found, and in which file.
+#[derive(Drop)]
+pub(crate) struct Words {
+    pub(crate) file: VerdictFile,
+    pub(crate) text: String,
+}
+
+impl Words {
+    /// What is found in the maps file.
+    pub(crate) fn of_maps(text: String) -> Words {
+        Words {
+            file: VerdictFile::Maps,
+            text,
+        }
+    }
+}

@@ -1,0 +1,55 @@
+//! A broken rule of the checker in words: where in the maps file or in the report, and what is wanted there.
+//!
+//! ```
+//! let finding = verdict_finding(alloc, &config, &trace, maps, report, broken)?;
+//! println!(rt; "{finding}"); // P6: round 1, channel 1, flow 1: minislots: 32 is wanted, 31 is there
+//! ```
+//!
+//! It is told which rule is broken and where, by the numbers of a verdict. It looks again at that place alone, and names
+//! what it finds there. What these words mean stands in `specs/`, in the order of its `Lib.antt`.
+#![tactic(auto)]
+
+// Rules, and where one is broken.
+mod broken;
+
+// What is answered.
+mod findings;
+
+// A number that isn't what it must be.
+mod fields;
+
+// Lines of a report.
+mod lines;
+
+// What is judged, and by what.
+mod runs;
+
+// Records of a maps file, and what each says of itself.
+mod headings;
+mod records;
+
+// Minislots of a MAP.
+mod minislots;
+
+// Entries of calendars, their lines, and their occurrences.
+mod calendar_lines;
+mod calendars;
+mod occurrences;
+
+// What is credited,
+mod credit_lines;
+mod credits;
+mod levels;
+
+// and what the last lines tell.
+mod last_lines;
+
+// All of it.
+mod verdicts;
+
+pub use broken::{BrokenRule, Rule};
+pub use findings::{VerdictFile, VerdictFinding};
+pub use verdicts::{report_finding, verdict_finding};
+
+#[cfg(test)]
+mod tests;

@@ -1,0 +1,53 @@
+use us_flows::{Channel, Config, Flow};
+use us_requests::Trace;
+
+/// What is judged, and by what.
+#[derive(Clone, Copy)]
+pub(crate) struct Run<'a> {
+    pub(crate) config: &'a Config,
+    pub(crate) trace: &'a Trace,
+    pub(crate) maps: &'a [u8],
+    pub(crate) report: &'a [u8],
+}
+
+/// A channel, its place in the table, and the minislots of its MAPs.
+#[derive(Clone, Copy)]
+pub(crate) struct PlacedChannel {
+    pub(crate) channel: Channel,
+    pub(crate) place: u64,
+    pub(crate) len: u64,
+}
+
+impl<'a> Run<'a> {
+    /// The number of rounds.
+    pub(crate) fn rounds(&self) -> u64 {
+        u64::from(self.trace.rounds())
+    }
+
+    /// The number of channels.
+    pub(crate) fn width(&self) -> u64 {
+        self.config.channels().len() as u64
+    }
+
+    /// The channel with this id.
+    pub(crate) fn channel(&self, id: u64) -> Option<PlacedChannel> {
+        for (place, channel) in self.config.channels().iter().enumerate() {
+            if u64::from(channel.id) == id {
+                return Some(PlacedChannel {
+                    channel: *channel,
+                    place: place as u64,
+                    len: u64::from(self.config.map_len(channel)),
+                });
+            }
+        }
+        None
+    }
+
+    /// The flow with this id.
+    pub(crate) fn flow(&self, id: u64) -> Option<&'a Flow> {
+        self.config
+            .flows()
+            .iter()
+            .find(|flow| u64::from(flow.id()) == id)
+    }
+}

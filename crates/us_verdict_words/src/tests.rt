@@ -1,0 +1,3 @@
+//! What no clause says: the texts. Those of broken rules are stored cases of the program.
+
+mod lines;

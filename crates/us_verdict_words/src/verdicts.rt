@@ -1,0 +1,90 @@
+ghost use Rattle.std.specs.Prelude.{◌≡◌, codes, IfOk};
+ghost use Rattle.us_verdict_words.specs.Codes.{code_of};
+
+use crate::broken::{BrokenRule, Rule};
+use crate::credit_lines::credit_line_words;
+use crate::credits::{outstanding_words, rate_words};
+use crate::findings::{VerdictFile, VerdictFinding, Words};
+use crate::headings::heading_words;
+use crate::last_lines::last_words;
+use crate::lines::line_at;
+use crate::minislots::minislot_words;
+use crate::occurrences::occurrence_words;
+use crate::records::record_words;
+use crate::runs::Run;
+use std::alloc::Global;
+use us_findings::Shown;
+use us_flows::Config;
+use us_requests::Trace;
+use us_slots::NoMemory;
+
+/// What a broken rule says, in words. The numbers are those of the verdict on these files.
+pub fn verdict_finding(
+    alloc: Global,
+    config: &Config,
+    trace: &Trace,
+    maps: &[u8],
+    report: &[u8],
+    broken: BrokenRule,
+) -> Result<VerdictFinding, NoMemory>
+    ensures { IfOk result (λ finding. finding.code.now ≡ code_of broken.rule) }
+{
+    let run = Run {
+        config,
+        trace,
+        maps,
+        report,
+    };
+    let words = words_of(alloc, &run, broken)?;
+    Ok(VerdictFinding {
+        file: words.file,
+        code: broken.rule.code(),
+        text: words.text,
+    })
+}
+
+/// What is said of a rule.
+fn words_of(alloc: Global, run: &Run<'_>, broken: BrokenRule) -> Result<Words, NoMemory> {
+    match broken.rule {
+        Rule::Records => record_words(alloc, run.maps, broken.place),
+        Rule::Headings => heading_words(alloc, run, broken.place),
+        Rule::Minislots => minislot_words(alloc, run, broken),
+        Rule::Occurrences => occurrence_words(alloc, run, broken),
+        Rule::Rates => rate_words(alloc, run, broken),
+        Rule::Credits if broken.channel != 0 => credit_line_words(alloc, run, broken),
+        Rule::Credits if broken.round < run.rounds() => outstanding_words(alloc, run, broken),
+        Rule::Credits => last_words(alloc, run, broken.place),
+    }
+}
+
+/// What a line of a report says that is none, in words: that of this number, from 1.
+pub fn report_finding(alloc: Global, report: &[u8], line: u64) -> Result<VerdictFinding, NoMemory>
+    ensures { IfOk result (λ finding. finding.code.now ≡ codes "CK1") }
+{
+    let bytes = line_at(report, line);
+    let wanted = form_of(bytes);
+    let text = match bytes.strip_suffix(b"\n") {
+        Some(text) => format!(in alloc; "{wanted} is wanted, \"{}\" is there", Shown(text))?,
+        None => format!(in alloc;
+            "{wanted} is wanted, \"{}\" is there, without a line feed",
+            Shown(bytes)
+        )?,
+    };
+    Ok(VerdictFinding {
+        file: VerdictFile::Line(line),
+        code: "CK1",
+        text,
+    })
+}
+
+/// The form of a line that begins like these bytes.
+fn form_of(bytes: &[u8]) -> &'static str {
+    match bytes.first() {
+        Some(b'G') => "G,round,channel,entry,id,i,k,sid,iuc,start,slots,credit",
+        Some(b'M') => "M,round,channel,entry,id,i,k",
+        Some(b'F') => "F,flow,cluster,outstanding,units",
+        Some(b'A') => "A,flow,active",
+        Some(b'U') => "U,unknown,not_requestable,late",
+        _ => "a line of G, M, F, A or U",
+    }
+}
