@@ -8,6 +8,7 @@
 //! ```
 //!
 //! What these words mean stands in `specs/`, in the order of its `Lib.antt`.
+// An attribute of a function's own says what its proof needs beside: `using` names lemmas.
 #![tactic(auto)]
 
 // The records of a text, with their lines.

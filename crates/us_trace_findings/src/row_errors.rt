@@ -57,7 +57,7 @@ pub(crate) fn row_error(
 
 /// The first record is no header, or there is none.
 fn header_error(alloc: Global, line: &[u8]) -> Result<String, AllocError> {
-    let found = Found(line);
+    let found = Quoted(line);
     format!(in alloc;
         "tick,channel,sid,units or tick,channel,sid,units,kind is wanted as the first row, {found} is there"
     )
@@ -65,7 +65,7 @@ fn header_error(alloc: Global, line: &[u8]) -> Result<String, AllocError> {
 
 /// A record has too few fields, or too many.
 fn fields_error(alloc: Global, rows: &Rows<'_>, columns: usize) -> Result<String, AllocError> {
-    let (count, line) = (rows.fields().len(), Found(rows.first_line()));
+    let (count, line) = (rows.fields().len(), Quoted(rows.first_line()));
     format!(in alloc; "{columns} fields are wanted, as in the header, {count} are there: {line}")
 }
 
@@ -82,7 +82,7 @@ fn number_error(alloc: Global, fields: &ByteRecord) -> Result<String, AllocError
 /// A field is no number of its column.
 fn column_error(alloc: Global, column: &Column, field: &[u8]) -> Result<String, AllocError> {
     let Column { name, greatest } = *column;
-    let (form, found) = (Form::broken_by(field), Found(field));
+    let (form, found) = (Form::broken_by(field), Quoted(field));
     format!(in alloc;
         "{name}: a whole number from 0 to {greatest}{form} is wanted, {found} is there"
     )
@@ -90,7 +90,7 @@ fn column_error(alloc: Global, column: &Column, field: &[u8]) -> Result<String, 
 
 /// A mark has units.
 fn mark_error(alloc: Global, fields: &ByteRecord) -> Result<String, AllocError> {
-    let units = Found(fields.get(3).unwrap_or(&[]));
+    let units = Quoted(fields.get(3).unwrap_or(&[]));
     let kind = Shown(fields.get(4).unwrap_or(&[]));
     format!(in alloc;
         "units: 0 is wanted of a mark, which is a row of kind {kind}, {units} is there"
@@ -131,11 +131,11 @@ impl fmt::Display for Form {
     }
 }
 
-/// What stands in the input, in quotes.
+/// What stands in the input, in quotes; or that nothing does.
 #[derive(Clone, Copy)]
-struct Found<'a>(&'a [u8]);
+struct Quoted<'a>(&'a [u8]);
 
-impl fmt::Display for Found<'_> {
+impl fmt::Display for Quoted<'_> {
     fn fmt<W: fmt::Write>(&self, f: &mut fmt::Formatter<W>) -> fmt::Result {
         if self.0.is_empty() {
             return f.write_str("nothing");
