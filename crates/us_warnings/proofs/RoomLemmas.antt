@@ -4,7 +4,7 @@ use Rattle.std.specs.Prelude.{if◌then◌else◌}
 use Rattle.std.proofs.lemmas.Bool.{cases_Bool, cases_lt, cases_eq, eqb-true, eqb-false, eq-eqb}
 use Rattle.std.proofs.lemmas.Nat.{mul-le, mod_below, div-add-mod'}
 use Rattle.std.proofs.Math.Nat.{add-mul-mod_self_left, div-add-mod, mod-eq_of_lt, mod-one}
-use Rattle.us_warnings.specs.Windows.{EmptyMaps, AreMaps, reserve_of, Fits, HasRoom}
+use Rattle.us_warnings.specs.Windows.{EmptyMaps, AreMaps, reserve_of, HasRoom}
 
 -- MAPs follow one another
 later : (a b len : ℕ) → a < b → a * len + len ≤ b * len

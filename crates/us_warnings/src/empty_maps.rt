@@ -56,9 +56,9 @@ impl EmptyMaps {
         }
     }
 
-    /// Whether a grant of so many minislots, at least one, has room in a MAP where it starts in one of these, counted from
-    /// the start of the run. Of the MAPs that lie whole between the first and the last it is enough to look at two: one of
-    /// them has no maintenance, or each has.
+    /// Whether a grant of so many minislots, at least one, has room in a MAP if it starts in one of these, which are
+    /// counted from the start of the run. Of the MAPs that lie whole between the first and the last, two tell of all: one
+    /// of these has no maintenance, or each MAP has.
     pub(crate) fn have_room(&self, slots: u32, first: u32, last: u32) -> bool
         requires { 1 ≤ slots }
         ensures { IsTrue result ↔ ((map : ℕ) × spec.HasRoom self.now map slots first last) }

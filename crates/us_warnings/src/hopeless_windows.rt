@@ -64,8 +64,8 @@ fn can_be_granted(entry: &Entry, time: &ChannelTime, maps: &EmptyMaps, start: u3
     }
 }
 
-/// The minislots of a grant of an entry, or of a poll where that is shorter: a flow that is silent has one in place of its
-/// grants.
+/// The minislots of a grant of an entry, or of a poll where that is shorter. A flow that is silent has one in place of
+/// its grants.
 pub(crate) fn shortest(entry: &Entry) -> u32
     ensures { 1 ≤ result }
 {

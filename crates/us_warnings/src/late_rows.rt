@@ -59,8 +59,8 @@ impl LateRows {
         self.round_of(u64::from(self.latest)).saturating_add(1)
     }
 
-    /// Whether their ticks look like microseconds: at least half of them are late, and none would be if each tick were turned
-    /// from microseconds into ticks.
+    /// Whether their ticks look like microseconds: at least half of them are late, and none would be if each tick were
+    /// turned from microseconds into ticks.
     pub(crate) fn look_like_microseconds(&self) -> bool {
         let ticks = u64::from(self.latest) * TICKS / MICROSECONDS;
         self.late.rows > 0

@@ -35,7 +35,10 @@ mod tables;
 // Rows that are alike.
 mod alike;
 
-// The SIDs that rows name.
+// The SIDs that rows name and no flow has,
+mod unknown_sids;
+
+// and all that rows name.
 mod named_sids;
 
 // Whose a SID is.

@@ -9,8 +9,9 @@ pub(crate) const MAX_ASSIGNMENTS: u64 = 100;
 /// Thousandths of an assignment.
 const PER_ASSIGNMENT: u64 = 1_000;
 
-/// The most bytes of a calendar's line in the report, with its end: `G,67108863,255,station,65535,4194303,126,16383,11,4095,4096,0`.
-const MAX_LINE_BYTES: u64 = 64;
+/// The most bytes of a line of the report that is a calendar's, with its line feed, such as
+/// `G,67108863,255,station,65535,4194303,126,16383,11,4095,4096,0`.
+const MAX_LINE_BYTES: u64 = 62;
 
 /// What the calendar of a channel asks for in a run.
 #[derive(Clone, Copy, Debug, PartialEq, Eq)]

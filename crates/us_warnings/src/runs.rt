@@ -25,6 +25,11 @@ impl Run {
         }
     }
 
+    /// The number of the last round.
+    pub(crate) fn last_round(&self) -> u32 {
+        self.rounds.saturating_sub(1)
+    }
+
     /// The length of a round in quarter microseconds.
     pub(crate) fn round_quarters(&self) -> u32
         ensures { result ≡ 25 * self.now.round_ticks }

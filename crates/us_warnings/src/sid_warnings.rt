@@ -1,43 +1,37 @@
 use crate::alike::Alike;
 use crate::drafts::{Draft, Subject, Tally};
-use crate::named_sids::{NamedSid, NamedSids};
+use crate::named_sids::NamedSids;
 use crate::names::{TableId, type_of};
-use crate::sid_owners::owner_of;
+use crate::sid_owners::{SidOwner, owner_of};
+use crate::unknown_sids::{UnknownSid, UnknownSids};
 use std::alloc::{AllocError, Global};
 use us_flows::{Config, SchedulingType, TableName};
 
-/// SIDs that no flow has, and those by which rows of some kind ask for nothing.
-pub(crate) fn push_sids(
+/// SIDs that no flow has.
+pub(crate) fn push_unknown(
     alloc: Global,
     drafts: &mut Vec<Draft>,
     config: &Config,
-    named: &NamedSids,
+    unknown: &UnknownSids,
 ) -> Result<(), AllocError> {
-    let mut unknown = Tally::new();
-    let mut unused = Tally::new();
-    for ((channel, sid), named) in named.all.iter() {
-        let rows = named.unused;
-        let subject = Subject::Row(rows.line);
-        if named.is_unknown() && unknown.add(subject) {
-            let text = unknown_text(alloc, config, *channel, *sid, rows)?;
-            drafts.push(Draft { subject, text })?;
-        } else if named.is_unused() && unused.add(subject) {
-            let text = unused_text(alloc, config, *channel, *sid, rows)?;
-            drafts.push(Draft { subject, text })?;
-        }
+    for told in &unknown.told {
+        drafts.push(Draft {
+            subject: Subject::Row(told.rows.line),
+            text: unknown_text(alloc, config, told)?,
+        })?;
     }
-    unknown.push_others(alloc, drafts, "SIDs that no flow has")?;
-    unused.push_others(alloc, drafts, "SIDs by which rows ask for nothing")
+    unknown
+        .tally
+        .push_others(alloc, drafts, "SIDs that no flow has")
 }
 
 /// That no flow has a SID on a channel.
 fn unknown_text(
     alloc: Global,
     config: &Config,
-    channel: u8,
-    sid: u16,
-    rows: Alike,
+    unknown: &UnknownSid,
 ) -> Result<String, AllocError> {
+    let (channel, sid, rows) = (unknown.channel, unknown.sid, unknown.rows);
     if config.channels().iter().all(|known| known.id != channel) {
         return format!(in alloc;
             "channel: no channel has id {channel}, which stands with SID {sid}: {rows}"
@@ -54,20 +48,42 @@ fn unknown_text(
     }
 }
 
+/// SIDs of flows that don't take rows of some kind.
+pub(crate) fn push_unused(
+    alloc: Global,
+    drafts: &mut Vec<Draft>,
+    config: &Config,
+    named: &NamedSids,
+) -> Result<(), AllocError> {
+    let mut unused = Tally::new();
+    for ((channel, sid), named) in named.known.iter() {
+        let rows = named.unused;
+        let subject = Subject::Row(rows.line);
+        if rows.rows > 0 && unused.add(subject) {
+            if let Some(owner) = owner_of(config, *sid, Some(*channel)) {
+                let text = unused_text(alloc, *sid, owner, rows)?;
+                drafts.push(Draft { subject, text })?;
+            }
+        }
+    }
+    unused.push_others(
+        alloc,
+        drafts,
+        "SIDs with rows of kinds that their flows don't take",
+    )
+}
+
 /// That the flow with a SID on a channel doesn't take rows of this kind.
 fn unused_text(
     alloc: Global,
-    config: &Config,
-    channel: u8,
     sid: u16,
+    owner: SidOwner,
     rows: Alike,
 ) -> Result<String, AllocError> {
-    let Some(owner) = owner_of(config, sid, Some(channel)) else {
-        return unknown_text(alloc, config, channel, sid, rows);
-    };
-    let (flow, kind, takes) = (owner.flow, type_of(owner.kind), taken_by(owner.kind));
+    let (flow, channel) = (owner.flow, owner.channel);
+    let (kind, taken) = (type_of(owner.kind), taken_by(owner.kind));
     format!(in alloc;
-        "sid: SID {sid} on channel {channel} is of {flow}, which is of type {kind} and takes {takes}: {rows}"
+        "sid: SID {sid} on channel {channel} is of {flow}, which is of type {kind} and takes {taken}: {rows}"
     )
 }
 

@@ -14,8 +14,8 @@ use us_findings::Finding;
 use us_flows::{Channel, Config, Place, TableName};
 use us_slots::NoMemory;
 
-/// What looks wrong in the tables of a configuration, by line, for a run of so many rounds: where no such run can be, for
-/// the longest that can. `text` is what the configuration was read from. The error is want of memory.
+/// What looks wrong in the tables of a configuration, by line, for a run of so many rounds; for the longest run where
+/// none has so many. `text` is what the configuration was read from. The error is want of memory.
 pub fn config_warnings(
     alloc: Global,
     text: &[u8],
@@ -63,9 +63,10 @@ fn push_lead(
     if first < rounds || config.clusters() == 0 {
         return Ok(());
     }
-    let wanted = first.saturating_add(1);
+    let (last, wanted) = (run.last_round(), first.saturating_add(1));
     let text = format!(in alloc;
-        "lead_ticks: a row at tick 0 belongs to round {first}, behind the {rounds} rounds of the run, so all rows are late; a smaller lead or --rounds {wanted} is wanted"
+        "lead_ticks: a row at tick 0 belongs to round {first}, and the run ends with round {last}, so all rows are \
+        late; a smaller lead or --rounds {wanted} is wanted"
     )?;
     drafts.push(Draft {
         subject: top_key("lead_ticks"),
@@ -129,9 +130,11 @@ fn push_load(
     if !load.is_too_much() || !tally.add(subject) {
         return Ok(());
     }
-    let (asked, lines, bytes, rounds) = (load.assignments(), load.lines, load.bytes(), run.rounds);
+    let (asked, lines, bytes) = (load.assignments(), load.lines, load.bytes());
+    let last = run.last_round();
     let text = format!(in alloc;
-        "{channel}: its calendar asks for {asked} assignments in a MAP on average, of which {MAX_ASSIGNMENTS} have room; {rounds} rounds have at most {lines} lines of it in the report, {bytes} bytes"
+        "{channel}: its calendar asks for {asked} assignments in a MAP on average, of which {MAX_ASSIGNMENTS} have \
+        room; rounds 0 to {last} have at most {lines} lines of it in the report, {bytes} bytes"
     )?;
     drafts.push(Draft { subject, text })?;
     Ok(())
@@ -182,14 +185,17 @@ fn windows_text(
     run: &Run,
 ) -> Result<String, AllocError> {
     let (count, hopeless, interval) = (windows.count, windows.hopeless, windows.first_interval);
-    let (slots, rounds) = (shortest(entry), run.rounds);
+    let (slots, last) = (shortest(entry), run.last_round());
     let first = if count == MAX_WINDOWS {
         "the first "
     } else {
         ""
     };
+    let minislots = if slots == 1 { "minislot" } else { "minislots" };
     let round = windows.first_end / run.round_quarters();
     format!(in alloc;
-        "{table}, jitter_us: {hopeless} of {first}{count} windows that close in {rounds} rounds have no room for {slots} minislots beside the reserves, whatever the schedule; the first of them is that of interval {interval}, which closes in round {round}"
+        "{table}, jitter_us: {hopeless} of {first}{count} windows that close by round {last} have no room for \
+        {slots} {minislots} beside the reserves, whatever the schedule; the first of them is that of interval \
+        {interval}, which closes in round {round}"
     )
 }

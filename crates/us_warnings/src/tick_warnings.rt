@@ -16,16 +16,17 @@ pub(crate) fn push_late(
     if late.rows == 0 {
         return Ok(());
     }
+    let last = rounds.saturating_sub(1);
     let text = match late_rows.rounds_that_fit(config) {
         Some(wanted) => {
             format!(in alloc;
-                "tick: too late for the {rounds} rounds of the run, --rounds {wanted} takes all rows in: {late}"
+                "tick: too late for a run that ends with round {last}, --rounds {wanted} takes all rows in: {late}"
             )?
         }
         None => {
             let most = config.most_rounds();
             format!(in alloc;
-                "tick: too late for the {rounds} rounds of the run, and no run has more than {most}: {late}"
+                "tick: too late for a run that ends with round {last}, and no run has more than {most} rounds: {late}"
             )?
         }
     };
@@ -47,7 +48,8 @@ pub(crate) fn push_microseconds(
         return Ok(());
     }
     let text = format!(in alloc;
-        "tick: ticks look like microseconds, since no row would be late with 4/25 of its tick; a tick is 6.25 microseconds: {late}"
+        "tick: ticks look like microseconds, since no row would be late with 4/25 of its tick; \
+        a tick is 6.25 microseconds: {late}"
     )?;
     drafts.push(Draft {
         subject: Subject::Row(late.line),

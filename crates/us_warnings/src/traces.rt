@@ -2,7 +2,7 @@ use crate::backward_rows::BackwardRows;
 use crate::late_rows::LateRows;
 use crate::located::located;
 use crate::named_sids::NamedSids;
-use crate::sid_warnings::{push_sids, push_silent_flows};
+use crate::sid_warnings::{push_silent_flows, push_unknown, push_unused};
 use crate::tick_warnings::{push_backward, push_late, push_microseconds};
 use std::alloc::Global;
 use us_findings::Finding;
@@ -83,7 +83,8 @@ impl Seen {
         rounds: u32,
     ) -> Result<TraceWarnings, NoMemory> {
         let mut drafts = Vec::new(alloc);
-        push_sids(alloc, &mut drafts, config, &self.named)?;
+        push_unknown(alloc, &mut drafts, config, &self.named.unknown)?;
+        push_unused(alloc, &mut drafts, config, &self.named)?;
         push_silent_flows(alloc, &mut drafts, config, &self.named)?;
         push_late(alloc, &mut drafts, config, rounds, &self.late)?;
         push_microseconds(alloc, &mut drafts, &self.late)?;

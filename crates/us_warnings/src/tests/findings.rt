@@ -20,7 +20,7 @@ static CASES: [Case; 3] = [
             jitter_us = 80\ngrant_bytes = 214\ngrants_per_interval = 1\n",
         trace: "tick,channel,sid,units\n0,1,291,1\n0,1,295,1\n0,2,291,1\n0,1,9,1\n0,1,9,1\n",
         rounds: 3,
-        found: "37:1: warning: flow 1 (id 4), jitter_us: 3 of 3 windows that close in 3 rounds have no room for 8 minislots \
+        found: "37:1: warning: flow 1 (id 4), jitter_us: 3 of 3 windows that close by round 2 have no room for 8 minislots \
             beside the reserves, whatever the schedule; the first of them is that of interval 0, which closes in round 0\n\
             3:1: warning: sid: SID 295 on channel 1 is of flow 1 (id 4), which is of type 6 and takes no rows, since its \
             grants come unasked: 1 row\n\
@@ -31,7 +31,7 @@ static CASES: [Case; 3] = [
         tables: "",
         trace: "tick,channel,sid,units,kind\n5000,1,291,1,0\n100,1,291,1,0\n101,1,291,0,1\n",
         rounds: 4,
-        found: "2:1: warning: tick: too late for the 4 rounds of the run, --rounds 18 takes all rows in: 1 row\n\
+        found: "2:1: warning: tick: too late for a run that ends with round 3, --rounds 18 takes all rows in: 1 row\n\
             2:1: warning: tick: ticks look like microseconds, since no row would be late with 4/25 of its tick; a tick is \
             6.25 microseconds: 1 row\n\
             3:1: warning: tick: 100 goes back by more than 4 leads from 5000 in line 2: 2 rows, the first here\n\
@@ -40,9 +40,11 @@ static CASES: [Case; 3] = [
     },
     Case {
         tables: "",
-        trace: "tick,channel,sid,units\n4294967295,1,7,1\n",
+        trace: "tick,channel,sid,units\n0,1,291,1\n",
         rounds: 1,
-        found: "",
+        found: "2:1: warning: lead_ticks: a row at tick 0 belongs to round 1, and the run ends with round 0, so all rows are \
+            late; a smaller lead or --rounds 2 is wanted\n\
+            2:1: warning: tick: too late for a run that ends with round 0, --rounds 2 takes all rows in: 1 row\n2\n",
     },
 ];
 

@@ -40,5 +40,5 @@ returns-else-has_room-3 c =
     ] in (
       λ t. (from + 2, c.has_room-else-has_room-3.ensures.0 t),
       λ found. c.has_room-else-has_room-3.ensures.1 (room_in_last m are c.args.slots c.args.first c.args.last
-      c.requires from to from_is to_is no_first no_last no_second found.0 found.1),
+          c.requires from to from_is to_is no_first no_last no_second found.0 found.1),
     )
