@@ -24,9 +24,9 @@ lint's forms. Status 0 is nothing found, 1 warnings alone, 3 an error. Of one da
                record of the fault begins, where LF ends a line
 
 Of a verdict the line of the report, or the record and the byte of the maps file, has to be one that the rule and the
-place of the checker are about. Of `looks` the warnings are compared with bench/plain_warnings.py: SIDs that no flow has, and those of calls, late rows,
-flows that no row names, and windows that no schedule could grant, with numbers and lines; and how many rounds take in
-all rows.
+place of the checker are about. Of `looks` the warnings are compared with bench/plain_warnings.py: SIDs that no flow
+has, and those of calls, late rows, flows that no row names, and windows that no schedule could grant, with numbers and
+lines; and how many rounds take in all rows.
 
 Of C2 and C3 the header of the table counts as `header` where another line is the right one. Where these are more than
 one in twenty of all with a known line, they are wrong. Each input that is wrong has a line, and what was run is left in
@@ -61,7 +61,6 @@ from plain_reader import Fault
 PLAIN = [number for number in range(damaged_inputs.BASES)
          if number >= damaged_inputs.BASES // 2 or damaged_inputs.STORED[number % len(damaged_inputs.STORED)]
          not in ("other_form", "no_flows")]
-SOURCES = {"C": "config", "T": "trace", "P": "maps", "M": "maps"}
 FINDING = re.compile(r"(config|trace|maps|report)(?::(\d+):(\d+))?: (error (\w+)|warning|note): (.+)")
 MORE = re.compile(r"(config|trace|maps|report): .*\b\d+ more\b.*")
 TABLE = re.compile(r"(the top level|(?:channel|flow|station) \d+)")
@@ -78,7 +77,9 @@ NOTE = re.compile(r"(\d+) rounds? takes? in all rows")
 RECORD = re.compile(r"record (\d+), at byte (\d+)")
 MOST_WARNINGS = 10
 CONTROL = re.compile(r"[\0-\x09\x0b-\x1f\x7f-\x9f]")
+# inputs that a process compares before it tells of them
 CHUNK = 100
+# of so many with a known line one may have the header's
 HEADERS_SHARE = 20
 WITH_PLACE = {"C2", "C3", "TR2", "TR3"}
 
@@ -165,7 +166,7 @@ def keys_at_fault(sections, place, places, code):
         found |= {(entry.line, key) for entry in profiles for key in ("fec_k", "fec_t")
                   if any(line == entry.line for line, _key in found)}
     type = next((entry.value for entry in entries if entry.key == "type"), "")
-    if name == "flow" and any(key == "type" for _line, key in found) and type in "23456":
+    if name == "flow" and any(key == "type" for _line, key in found) and type in list("23456"):
         known = plain_reader.flow_keys(int(type)) | plain_reader.optional_keys(int(type))
         found |= {(entry.line, entry.key) for entry in entries if entry.key not in known}
     return found
@@ -214,7 +215,8 @@ def of_row(chance, one):
 
 
 def of_configuration(chance, one):
-    return of_texts(damaged_inputs.damaged_config(chance, one.config), None, chance.choice([None, None, one.rounds, 0]))
+    config = damaged_inputs.damaged_config(chance, one.config)
+    return of_texts(config, None, chance.choice([None, None, one.rounds, 0]))
 
 
 def of_trace(chance, one):
@@ -244,7 +246,8 @@ def of_looks(chance, one):
 # of so many inputs, how many are of a kind
 KINDS = {
     "table": (of_table, 8_000), "row": (of_row, 2_500), "configuration": (of_configuration, 12_000),
-    "trace": (of_trace, 8_000), "schedule": (of_schedule, 2_000), "check": (of_check, 1_000), "looks": (of_looks, 3_000),
+    "trace": (of_trace, 8_000), "schedule": (of_schedule, 2_000), "check": (of_check, 1_000),
+    "looks": (of_looks, 3_000),
 }
 
 
@@ -271,14 +274,14 @@ def wrong_form(output):
         return "no UTF-8"
     if CONTROL.search(text) or (text and not text.endswith("\n")):
         return repr(text)
-    return next((line for line in lines_of(output) if not FINDING.fullmatch(line) and not MORE.fullmatch(line)), None)
+    return next((line for line in lines_of(output) if not (FINDING.fullmatch(line) or MORE.fullmatch(line))), None)
 
 
 def judge(one, found):
     """What is wrong with what lint does with an input, or how well its first error has its line: `exact`, `header`, or
     nothing where no line is known."""
     status, output, error, files = found
-    if files != {name: text for name, text in one.files.items()}:
+    if files != one.files:
         return "files are changed", ""
     if one.fault == "RU1":
         is_told = error == b"fault RU1\n" and status == 3
@@ -344,24 +347,28 @@ def wrong_verdict(one, first):
 def judged_first(one, first):
     """The same of the first finding beside the fault of an input."""
     code, _, place = one.fault.partition(" ")
-    source = "report" if code == "CK1" else SOURCES[code[0]]
     if first.group(5) != code:
         return f"{first.group(5)} in place of {one.fault}", ""
-    if source != first.group(1) and code[0] != "P":
-        return f"{first.group(1)} in place of {source}", ""
-    if code[0] == "C" and code not in ("C1", "CK1"):
-        table = TABLE.match(first.group(6))
-        named = table.group().replace("the top level", "top 0") if table else None
-        if named != place:
-            return f"table {named} in place of {place}", ""
     if code[0] == "P":
         return wrong_verdict(one, first), ""
-    line, column = int(first.group(2) or 1), int(first.group(3) or 1)
-    if code == "CK1" and line != int(place):
-        return f"line {line} in place of {place}", ""
-    lines = one.files.get(first.group(1), b"").decode(errors="replace").split("\n")
-    if line > len(lines) or column > len(lines[line - 1]) + 1:
+    source = "report" if code == "CK1" else "trace" if code[0] == "T" else "config"
+    if first.group(1) != source:
+        return f"{first.group(1)} in place of {source}", ""
+    table = TABLE.match(first.group(6))
+    named = table.group().replace("the top level", "top 0") if table else ""
+    if code[0] == "C" and code != "CK1" and named != place:
+        return f"table {named} in place of {place}", ""
+    line, column = int(first.group(2) or 0), int(first.group(3) or 0)
+    lines = one.files[source].decode(errors="replace").split("\n")
+    if not 1 <= line <= len(lines) or not 1 <= column <= len(lines[line - 1]) + 1:
         return f"no place {line}:{column}", ""
+    return judged_line(one, code, place, line)
+
+
+def judged_line(one, code, place, line):
+    """The same of its line."""
+    if code == "CK1":
+        return None if line == int(place) else f"line {line} in place of {place}", ""
     if one.lines is None:
         return None, ""
     if line in one.lines:
@@ -386,8 +393,8 @@ def wrong_looks(lines, tables, trace, rounds):
     texts = [finding.group(6) for finding in findings]
     most = plain_program.MOST_RUN_TICKS // tables["round_ticks"]
     notes = [int(found.group(1)) for line in lines if line and (found := NOTE.match(line.group(6)))]
-    rows, is_noted = plain_warnings.Rows(tables, trace, rounds or most), rounds is None
-    if notes != [rows.rounds] * (is_noted and rows.rounds <= most):
+    rows = plain_warnings.Rows(tables, trace, rounds or most)
+    if notes != [rows.rounds] * (rounds is None and rows.rounds <= most):
         return f"note: {notes} in place of {rows.rounds}"
     rounds = rounds or most
     late = [[int(found["rows"]), int(finding.group(2))] for finding in findings

@@ -214,8 +214,8 @@ def damaged(chance, text):
 
 
 class Place(NamedTuple):
-    """A changed key: its line in the text that the change makes, its name there, and the line of its table's header, 1 of
-    the top level. Of a table that was copied, it is the header of the copy."""
+    """A changed key: its line in the text that the change makes, its name there, and the line of its table's header,
+    which is 1 of the top level. Of a table that was copied, it is the header of the copy."""
 
     line: int
     key: str

@@ -55,8 +55,8 @@ def has_room(channel, slots, start, end):
 
 
 def windows_of(tables, rounds):
-    """Of each entry of a calendar with windows that close in the run, and that none can be granted in: the kind of its
-    table and its id, how many of how many of the first, the interval of the first of these and the round it closes in."""
+    """Of each entry of a calendar with windows that close in the run and have no room: its table, how
+    many of how many, the interval of the first and the round in which it closes."""
     found = {}
     quarters = tables["round_ticks"] * plain_scheduler.TICK
     for table in tables["channel"]:

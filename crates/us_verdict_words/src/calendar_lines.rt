@@ -2,6 +2,7 @@ use crate::broken::BrokenRule;
 use crate::calendars::{Calendar, ChannelEntry, ideal};
 use crate::fields::{Field, Wrong, first_wrong};
 use crate::lines::{LineTaker, Lines};
+use std::fmt;
 use us_output::{EntryWord, Grant, MissedOccurrence, Row};
 use us_slots::QUARTERS_PER_TICK;
 
@@ -76,13 +77,18 @@ pub(crate) fn last_place(calendar: &Calendar<'_>, of: &ChannelEntry, interval: u
 fn grant_fields(calendar: &Calendar<'_>, of: &ChannelEntry, grant: &Grant) -> [Field; 5] {
     let active = calendar.is_active(&of.entry, grant.i);
     let owner = of.entry.owner_of(active);
-    let (first, last) = window(of, grant.i);
+    let window = window(of, grant.i);
     let at = grant
         .round
         .saturating_mul(of.len)
         .saturating_add(grant.start);
     [
-        Field::range("start, in minislots from round 0", first, last, at),
+        Field::range(
+            "start, in minislots from round 0",
+            window.first,
+            window.last,
+            at,
+        ),
         Field::exact("SID", u64::from(owner.sid()), grant.sid),
         Field::exact("IUC", u64::from(owner.iuc().number()), grant.iuc),
         Field::exact("slots", u64::from(of.entry.slots_of(active)), grant.slots),
@@ -90,16 +96,38 @@ fn grant_fields(calendar: &Calendar<'_>, of: &ChannelEntry, grant: &Grant) -> [F
     ]
 }
 
-/// The first and the last minislot of the run at which a grant of an interval may start.
-pub(crate) fn window(of: &ChannelEntry, interval: u64) -> (u64, u64) {
+/// The first and the last minislot at which a grant may start, counted from round 0.
+#[derive(Clone, Copy)]
+pub(crate) struct Window {
+    first: u64,
+    last: u64,
+}
+
+/// Writes `it may start at minislots 336 to 376 from round 0`.
+impl fmt::Display for Window {
+    fn fmt<W: fmt::Write>(&self, f: &mut fmt::Formatter<W>) -> fmt::Result {
+        let (first, last) = (self.first, self.last);
+        if first <= last {
+            write!(
+                f,
+                "it may start at minislots {first} to {last} from round 0"
+            )
+        } else {
+            f.write_str("it can start at no minislot")
+        }
+    }
+}
+
+/// Where a grant of an interval may start.
+pub(crate) fn window(of: &ChannelEntry, interval: u64) -> Window {
     let ticks = of.channel.bursts.time().minislot_ticks();
     let minislot = u128::from(QUARTERS_PER_TICK) * u128::from(ticks);
     let first = ideal(&of.entry, interval);
     let last = first.saturating_add(u128::from(of.entry.jitter));
-    (
-        saturated(first.div_ceil(minislot)),
-        saturated(last / minislot),
-    )
+    Window {
+        first: saturated(first.div_ceil(minislot)),
+        last: saturated(last / minislot),
+    }
 }
 
 /// The round of a missed occurrence: that in which its window closes.

@@ -75,9 +75,10 @@ fn told(
     lines: Lines,
     wrong: Option<Wrong>,
 ) -> Result<Option<Words>, AllocError> {
+    let number = if wanted == 0 { "no line" } else { "1 line" };
     let text = match wrong {
         _ if lines.count() != wanted => {
-            format!(in alloc; "{last}: {wanted} is wanted, there is {lines}")?
+            format!(in alloc; "{last}: {number} is wanted, there is {lines}")?
         }
         Some(wrong) => format!(in alloc; "{last}: {wrong}")?,
         None => return Ok(None),
@@ -217,7 +218,7 @@ impl fmt::Display for Last {
     fn fmt<W: fmt::Write>(&self, f: &mut fmt::Formatter<W>) -> fmt::Result {
         match self {
             Last::Cluster(id, list) => write!(f, "F line of flow {id}, cluster {list}"),
-            Last::Behind(id, lists) => write!(f, "F line of flow {id}, which has {lists} clusters"),
+            Last::Behind(id, lists) => write!(f, "F line of flow {id}, cluster {lists} or higher"),
             Last::Activity(id) => write!(f, "A line of flow {id}"),
             Last::Counts => f.write_str("U line"),
         }

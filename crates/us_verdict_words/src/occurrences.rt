@@ -1,7 +1,7 @@
 use crate::broken::BrokenRule;
 use crate::calendar_lines::{CalendarLines, last_place, occurrence_of, saturated, window};
 use crate::calendars::{Calendar, ChannelEntry, word_of};
-use crate::fields::Wrong;
+use crate::fields::{Also, Wrong};
 use crate::findings::{VerdictFile, Words};
 use crate::lines::{LineTaker, Lines, gather};
 use crate::runs::Run;
@@ -90,17 +90,14 @@ fn count_words(
     };
     gather(alloc, calendar.run.report, &mut found)?;
     let (lines, i, k) = (found.lines, named.i, named.k);
-    let (first, last) = match calendar.named(named.entry) {
-        Some(of) => window(&of, i),
-        None => (0, 0),
-    };
+    let window = Also(calendar.named(named.entry).map(|of| window(&of, i)));
     let what = if named.entry == EntryWord::Station {
         "station"
     } else {
         "flow"
     };
     let text = format!(in alloc;
-        "round {round}, channel {channel}, {what} {id}: interval {i}, k {k}, which starts at minislots {first} to {last} from round 0: 1 line is wanted, there is {lines}"
+        "round {round}, channel {channel}, {what} {id}: interval {i}, k {k}: 1 line is wanted, there is {lines}{window}"
     )?;
     Ok(Words {
         file: lines.file(),
