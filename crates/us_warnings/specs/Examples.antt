@@ -1,6 +1,6 @@
 -- Small inputs, computed by the definitions alone.
 use Rattle.std.specs.Prelude.{◌≡◌, refl}
-use Rattle.us_warnings.specs.Windows.{EmptyMaps, reserve_of, Fits}
+use Rattle.us_warnings.specs.Windows.{EmptyMaps, reserve_of}
 
 -- MAPs of 10 minislots, of which each second begins with 4 of maintenance and each ends with 2 of contention
 abbrev pub maps : EmptyMaps
