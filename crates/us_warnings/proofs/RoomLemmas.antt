@@ -1,7 +1,7 @@
 -- Of all MAPs in which a grant could start, it is enough to look at the first, the last, and two behind the first.
 use Rattle.std.proofs.Common.{◌≡◌, ℕ, ◌+◌, ◌*◌, ◌/◌, ◌%◌, ◌<◌, ◌≤◌, ◌==◌, true, false, refl, ap, subst, sym, ◌∙◌, inl, inr, arith}
 use Rattle.std.specs.Prelude.{if◌then◌else◌}
-use Rattle.std.proofs.lemmas.Bool.{cases_Bool, cases_lt, cases_eq, eqb-true, eqb-false, eq-eqb}
+use Rattle.std.proofs.lemmas.Bool.{cases_Bool, cases_lt, cases_eq, eqb-true, eq-eqb}
 use Rattle.std.proofs.lemmas.Nat.{mul-le, mod_below, div-add-mod'}
 use Rattle.std.proofs.Math.Nat.{add-mul-mod_self_left, div-add-mod, mod-eq_of_lt, mod-one}
 use Rattle.us_warnings.specs.Windows.{EmptyMaps, AreMaps, reserve_of, HasRoom}
