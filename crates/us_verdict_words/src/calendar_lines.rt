@@ -23,7 +23,7 @@ pub(crate) fn occurrence_of(row: &Row) -> Option<MissedOccurrence> {
 /// The first line of a calendar of a round, a channel and an id, and the first one that is wrong by itself, with what is.
 #[derive(Clone, Copy)]
 pub(crate) struct CalendarLines<'a> {
-    pub(crate) calendar: Calendar<'a>,
+    pub(crate) calendar: &'a Calendar<'a>,
     pub(crate) broken: BrokenRule,
     pub(crate) first: Option<MissedOccurrence>,
     pub(crate) lines: Lines,
@@ -41,7 +41,7 @@ impl<'a> LineTaker for CalendarLines<'a> {
             return;
         }
         self.first = self.first.or(Some(line));
-        self.wrong = wrong_with(&self.calendar, &line, row);
+        self.wrong = wrong_with(self.calendar, &line, row);
         if self.wrong.is_some() {
             self.lines.add(number, row);
         }

@@ -25,9 +25,13 @@ pub(crate) fn occurrence_said(
 }
 
 /// The same, of a calendar.
-fn said_of(alloc: Global, calendar: &Calendar<'_>, broken: BrokenRule) -> Result<Said, NoMemory> {
+fn said_of<'a>(
+    alloc: Global,
+    calendar: &'a Calendar<'a>,
+    broken: BrokenRule,
+) -> Result<Said, NoMemory> {
     let mut found = CalendarLines {
-        calendar: *calendar,
+        calendar,
         broken,
         first: None,
         lines: Lines::none(),

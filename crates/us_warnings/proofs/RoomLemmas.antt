@@ -1,10 +1,12 @@
 -- Of all MAPs in which a grant could start, it is enough to look at the first, the last, and two behind the first.
 use Rattle.std.proofs.Common.{◌≡◌, ℕ, ◌+◌, ◌*◌, ◌/◌, ◌%◌, ◌<◌, ◌≤◌, ◌==◌, true, false, refl, ap, subst, sym, ◌∙◌, inl, inr, arith}
 use Rattle.std.specs.Prelude.{if◌then◌else◌}
-use Rattle.std.proofs.lemmas.Bool.{cases_Bool, cases_lt, cases_eq, eqb-true, eqb-false, eq-eqb}
+use Rattle.std.proofs.lemmas.Bool.{cases_Bool, cases_lt, cases_eq, eqb-true, eq-eqb}
 use Rattle.std.proofs.lemmas.Nat.{mul-le, mod_below, div-add-mod'}
 use Rattle.std.proofs.Math.Nat.{add-mul-mod_self_left, div-add-mod, mod-eq_of_lt, mod-one}
-use Rattle.us_warnings.specs.Windows.{EmptyMaps, AreMaps, reserve_of, HasRoom}
+use Rattle.us_slots.specs.Times.{Timing}
+use Rattle.us_slots.specs.Windows.{StartsWithin, AreEnds}
+use Rattle.us_warnings.specs.Windows.{EmptyMaps, AreMaps, reserve_of, HasRoom, CanBeGranted}
 
 -- MAPs follow one another
 later : (a b len : ℕ) → a < b → a * len + len ≤ b * len
@@ -112,3 +114,22 @@ module _ (m : EmptyMaps) (are : AreMaps m) (slots first last : ℕ) (some : 1 �
           ]
         ]
       ]
+
+-- a window from whose minislots on no MAP has room is never granted
+pub never_granted : (m : EmptyMaps) (time : Timing) (slots ideal jitter : ℕ) (ends : ℕ × ℕ) →
+    AreEnds (StartsWithin time ideal jitter) ends → (((map : ℕ) × HasRoom m map slots ends.0 ends.1) → ⊥) →
+    CanBeGranted m time slots ideal jitter → ⊥
+never_granted m time slots ideal jitter ends are none granted = none (
+  granted.0,
+  record {
+    minislot = granted.1;
+    from = are.least granted.1 granted.2;
+    to = are.greatest granted.1 granted.2;
+    fits = granted.3;
+  },
+)
+
+-- and neither is one in which no minislot begins
+pub never_begun : (m : EmptyMaps) (time : Timing) (slots ideal jitter : ℕ) →
+    ((minislot : ℕ) → StartsWithin time ideal jitter minislot → ⊥) → CanBeGranted m time slots ideal jitter → ⊥
+never_begun m time slots ideal jitter none granted = none granted.1 granted.2

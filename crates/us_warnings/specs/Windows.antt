@@ -4,6 +4,8 @@ use Rattle.std.specs.Prelude.{ℕ, ◌+◌, ◌*◌, ◌%◌, ◌≤◌, ◌==�
 use Rattle.us_flows.specs.declared.channels.Channel.{Channel}
 use Rattle.us_flows.specs.Tables.{Tables, map_len}
 use Rattle.us_flows.specs.Ranges.{max_round_ticks}
+use Rattle.us_slots.specs.Times.{Timing}
+use Rattle.us_slots.specs.Windows.{StartsWithin}
 
 -- the minislots of each MAP, of the reserve at the start of each MAP in so many, and of the one at the end of each
 pub record EmptyMaps : Type 0 where
@@ -43,3 +45,8 @@ pub record HasRoom (m : EmptyMaps) (map slots first last : ℕ) : Type 0 where
   pub from : first ≤ minislot
   pub to : minislot ≤ last
   pub fits : Fits m map slots minislot
+
+-- and so it does in some MAP from a minislot on that begins in a window, whose ideal time and jitter are these
+abbrev pub CanBeGranted : EmptyMaps → Timing → ℕ → ℕ → ℕ → Type 0
+CanBeGranted m time slots ideal jitter =
+    (map : ℕ) × (minislot : ℕ) × StartsWithin time ideal jitter minislot × Fits m map slots minislot

@@ -7,6 +7,14 @@ pub(crate) struct Alike {
     pub(crate) line: usize,
 }
 
+/// Rows that are alike and name one SID on a channel.
+#[derive(Clone, Copy)]
+pub(crate) struct SidRows {
+    pub(crate) channel: u8,
+    pub(crate) sid: u16,
+    pub(crate) rows: Alike,
+}
+
 impl Alike {
     pub(crate) fn new() -> Alike {
         Alike { rows: 0, line: 0 }

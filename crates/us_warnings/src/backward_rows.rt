@@ -15,7 +15,7 @@ pub(crate) struct RowAt {
 #[derive(Clone, Copy)]
 pub(crate) struct BackwardRows {
     far_ticks: u64,
-    /// The last of the rows so far that have the greatest tick.
+    /// The first of the rows so far that have the greatest tick.
     greatest: RowAt,
     pub(crate) back: Alike,
     /// The first of them, and the row behind which it goes back.

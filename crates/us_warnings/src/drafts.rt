@@ -1,3 +1,4 @@
+use crate::counted::Counted;
 use std::alloc::{AllocError, Global};
 use us_config_lines::KeyPath;
 
@@ -22,7 +23,8 @@ pub(crate) struct Draft {
     pub(crate) text: String,
 }
 
-/// How many warnings of one kind there are. The first ones are told one by one, and the others are counted.
+/// How many warnings of one kind there are, which come in the order of their lines. The first ones are told one by one,
+/// and the others are counted.
 #[derive(Clone, Copy)]
 pub(crate) struct Tally {
     count: usize,
@@ -50,16 +52,18 @@ impl Tally {
         false
     }
 
-    /// Tells how many there are that weren't told by themselves, and what they are.
+    /// Tells how many there are that weren't told by themselves, and what one of them is called, and several.
     pub(crate) fn push_others(
         &self,
         alloc: Global,
         drafts: &mut Vec<Draft>,
-        what: &str,
+        one: &'static str,
+        many: &'static str,
     ) -> Result<(), AllocError> {
         if let Some(subject) = self.first_other {
-            let others = self.count.saturating_sub(MAX_TOLD);
-            let text = format!(in alloc; "{others} more {what}, the first here")?;
+            let count = self.count.saturating_sub(MAX_TOLD) as u64;
+            let others = Counted::new(count, one, many);
+            let text = format!(in alloc; "{others}")?;
             drafts.push(Draft { subject, text })?;
         }
         Ok(())

@@ -1,4 +1,5 @@
-ghost use Rattle.std.specs.Prelude.{◌+◌, ◌≤◌, ◌<◌, IfSome};
+ghost use Rattle.std.specs.Prelude.{◌≡◌, ◌+◌, ◌*◌, ◌<◌, IfSome};
+ghost use Rattle.us_warnings.specs.Windows.{CanBeGranted};
 
 use crate::empty_maps::EmptyMaps;
 use us_calendar::Entry;
@@ -7,16 +8,32 @@ use us_slots::{ChannelTime, window};
 /// The most windows of an entry that are looked at.
 pub(crate) const MAX_WINDOWS: u32 = 10_000;
 
-/// The windows of an entry that close in a run, the first 10,000 at most.
-#[derive(Clone, Copy, Debug, PartialEq, Eq)]
-pub(crate) struct ClosedWindows {
+/// Why no schedule could grant a window.
+#[derive(Clone, Copy)]
+pub(crate) enum Lack {
+    /// No minislot begins in it.
+    Minislot,
+    /// From none of its minislots on a grant has room beside the reserves.
+    Room,
+}
+
+/// Windows that no schedule could grant, all for one reason.
+#[derive(Clone, Copy)]
+pub(crate) struct HopelessWindows {
     /// How many there are.
     pub(crate) count: u32,
-    /// How many of them no schedule could grant.
-    pub(crate) hopeless: u32,
     /// Of the first of these the interval, and when it closes, in quarter microseconds.
     pub(crate) first_interval: u32,
     pub(crate) first_end: u32,
+}
+
+/// The windows of an entry that close in a run, the first 10,000 at most.
+#[derive(Clone, Copy)]
+pub(crate) struct ClosedWindows {
+    /// How many there are.
+    pub(crate) count: u32,
+    without_minislot: HopelessWindows,
+    without_room: HopelessWindows,
 }
 
 /// Those of an entry, in a run that ends after so many quarter microseconds.
@@ -28,17 +45,16 @@ pub(crate) fn closed_windows(
 ) -> ClosedWindows {
     let mut windows = ClosedWindows {
         count: 0,
-        hopeless: 0,
-        first_interval: 0,
-        first_end: 0,
+        without_minislot: HopelessWindows::new(),
+        without_room: HopelessWindows::new(),
     };
     for interval in 0..MAX_WINDOWS {
         let Some(start) = start_before(entry, interval, run_quarters) else {
             break;
         };
         windows.count = interval + 1;
-        if !can_be_granted(entry, time, maps, start) {
-            windows.add_hopeless(interval, start + entry.jitter);
+        if let Some(lack) = lack_of(entry, time, maps, start) {
+            windows.add(lack, interval, start + entry.jitter);
         }
     }
     windows
@@ -46,9 +62,10 @@ pub(crate) fn closed_windows(
 
 /// When an interval begins, if its window closes before this time.
 fn start_before(entry: &Entry, interval: u32, end: u32) -> Option<u32>
-    ensures { IfSome result (λ start. start + entry.now.jitter < end) }
+    ensures value { IfSome result (λ start. start ≡ entry.now.start + interval * entry.now.interval) }
+    ensures closes { IfSome result (λ start. start + entry.now.jitter < end) }
 {
-    let behind = entry.interval.checked_mul(interval)?;
+    let behind = interval.checked_mul(entry.interval)?;
     let start = entry.start.checked_add(behind)?;
     match start.checked_add(entry.jitter) {
         Some(closes) if closes < end => Some(start),
@@ -56,29 +73,60 @@ fn start_before(entry: &Entry, interval: u32, end: u32) -> Option<u32>
     }
 }
 
-/// Whether some schedule could grant the window of an interval that begins then.
-fn can_be_granted(entry: &Entry, time: &ChannelTime, maps: &EmptyMaps, start: u32) -> bool {
-    match window(time, u64::from(start), u64::from(entry.jitter)) {
-        Some((first, last)) => maps.have_room(shortest(entry), first, last),
-        None => false,
+/// Why no schedule could give a grant to the window of an interval that begins then, if none could. A poll of a flow that
+/// is silent isn't looked at.
+#[tactic(auto, using(crate::proofs::RoomLemmas::never_granted, crate::proofs::RoomLemmas::never_begun))]
+fn lack_of(entry: &Entry, time: &ChannelTime, maps: &EmptyMaps, start: u32) -> Option<Lack>
+    ensures { IfSome result (λ lack. ¬ CanBeGranted maps.now time.now entry.now.slots start entry.now.jitter) }
+{
+    let Some((first, last)) = window(time, u64::from(start), u64::from(entry.jitter)) else {
+        return Some(Lack::Minislot);
+    };
+    if maps.have_room(entry.slots_of(true), first, last) {
+        return None;
     }
+    Some(Lack::Room)
 }
 
-/// The minislots of a grant of an entry, or of a poll where that is shorter. A flow that is silent has one in place of
-/// its grants.
-pub(crate) fn shortest(entry: &Entry) -> u32
-    ensures { 1 ≤ result }
-{
-    entry.slots_of(true).min(entry.slots_of(false))
+impl HopelessWindows {
+    /// None yet.
+    fn new() -> HopelessWindows {
+        HopelessWindows {
+            count: 0,
+            first_interval: 0,
+            first_end: 0,
+        }
+    }
+
+    /// One more.
+    fn add(&mut self, interval: u32, end: u32) {
+        if self.count == 0 {
+            self.first_interval = interval;
+            self.first_end = end;
+        }
+        self.count = self.count.saturating_add(1);
+    }
 }
 
 impl ClosedWindows {
     /// One more that no schedule could grant.
-    fn add_hopeless(&mut self, interval: u32, end: u32) {
-        if self.hopeless == 0 {
-            self.first_interval = interval;
-            self.first_end = end;
+    fn add(&mut self, lack: Lack, interval: u32, end: u32) {
+        match lack {
+            Lack::Minislot => self.without_minislot.add(interval, end),
+            Lack::Room => self.without_room.add(interval, end),
         }
-        self.hopeless = self.hopeless.saturating_add(1);
+    }
+
+    /// Those that no schedule could grant, for this reason.
+    pub(crate) fn hopeless(&self, lack: Lack) -> HopelessWindows {
+        match lack {
+            Lack::Minislot => self.without_minislot,
+            Lack::Room => self.without_room,
+        }
+    }
+
+    /// Whether there are none of these.
+    pub(crate) fn all_have_hope(&self) -> bool {
+        self.without_minislot.count == 0 && self.without_room.count == 0
     }
 }

@@ -8,6 +8,9 @@
 //! What these words mean stands in `specs/`, in the order of its `Lib.antt`.
 #![tactic(auto)]
 
+// So many of something.
+mod counted;
+
 // Warnings whose lines aren't looked up yet.
 mod drafts;
 
@@ -23,8 +26,11 @@ mod runs;
 // MAPs that have their reserves alone.
 mod empty_maps;
 
-// The windows of an entry that no schedule could grant.
+// The windows of an entry that no schedule could grant,
 mod hopeless_windows;
+
+// and warnings of them.
+mod window_warnings;
 
 // What a calendar asks for.
 mod loads;

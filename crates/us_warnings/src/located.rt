@@ -17,7 +17,7 @@ pub(crate) fn located(
         spots_of(alloc, str::from_utf8(config_text).unwrap_or(""), &paths)?
     };
     let mut findings = findings_of(alloc, config_text, drafts, &spots)?;
-    findings.sort_unstable_by_key(|finding| order_of(finding));
+    findings.sort_by_key(|finding| order_of(finding))?;
     Ok(findings)
 }
 

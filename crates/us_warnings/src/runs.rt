@@ -1,5 +1,5 @@
-ghost use Rattle.std.specs.Prelude.{◌≡◌, ◌*◌, ◌≤◌};
-ghost use Rattle.us_flows.specs.Tables.{max_run_ticks};
+ghost use Rattle.std.specs.Prelude.{◌≡◌, ◌*◌, ◌≤◌, true};
+ghost use Rattle.us_flows.specs.Tables.{max_run_ticks, rounds_fit};
 ghost use Rattle.us_flows.specs.Lawful.{AreTables};
 ghost use Rattle.us_flows.specs.Ranges.{max_round_ticks};
 
@@ -18,7 +18,10 @@ pub(crate) struct Run {
 
 impl Run {
     /// So many rounds of a configuration, or the most that fit into a run.
-    pub(crate) fn new(config: &Config, rounds: u32) -> Run {
+    pub(crate) fn new(config: &Config, rounds: u32) -> Run
+        ensures all { rounds_fit config.now rounds ≡ true → result.rounds ≡ rounds }
+        ensures most { result.rounds ≤ rounds }
+    {
         Run {
             rounds: rounds.min(config.most_rounds()),
             round_ticks: config.round_ticks(),

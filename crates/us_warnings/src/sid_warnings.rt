@@ -1,9 +1,9 @@
-use crate::alike::Alike;
+use crate::alike::SidRows;
 use crate::drafts::{Draft, Subject, Tally};
 use crate::named_sids::NamedSids;
 use crate::names::{TableId, type_of};
 use crate::sid_owners::{SidOwner, owner_of};
-use crate::unknown_sids::{UnknownSid, UnknownSids};
+use crate::unknown_sids::UnknownSids;
 use std::alloc::{AllocError, Global};
 use us_flows::{Config, SchedulingType, TableName};
 
@@ -20,17 +20,16 @@ pub(crate) fn push_unknown(
             text: unknown_text(alloc, config, told)?,
         })?;
     }
-    unknown
-        .tally
-        .push_others(alloc, drafts, "SIDs that no flow has")
+    unknown.tally.push_others(
+        alloc,
+        drafts,
+        "more SID that no flow has",
+        "more SIDs that no flow has, the first here",
+    )
 }
 
 /// That no flow has a SID on a channel.
-fn unknown_text(
-    alloc: Global,
-    config: &Config,
-    unknown: &UnknownSid,
-) -> Result<String, AllocError> {
+fn unknown_text(alloc: Global, config: &Config, unknown: &SidRows) -> Result<String, AllocError> {
     let (channel, sid, rows) = (unknown.channel, unknown.sid, unknown.rows);
     if config.channels().iter().all(|known| known.id != channel) {
         return format!(in alloc;
@@ -56,30 +55,43 @@ pub(crate) fn push_unused(
     named: &NamedSids,
 ) -> Result<(), AllocError> {
     let mut unused = Tally::new();
-    for ((channel, sid), named) in named.known.iter() {
-        let rows = named.unused;
-        let subject = Subject::Row(rows.line);
-        if rows.rows > 0 && unused.add(subject) {
-            if let Some(owner) = owner_of(config, *sid, Some(*channel)) {
-                let text = unused_text(alloc, *sid, owner, rows)?;
-                drafts.push(Draft { subject, text })?;
-            }
+    for sid_rows in &unused_rows(alloc, named)? {
+        let subject = Subject::Row(sid_rows.rows.line);
+        if !unused.add(subject) {
+            continue;
+        }
+        if let Some(owner) = owner_of(config, sid_rows.sid, Some(sid_rows.channel)) {
+            let text = unused_text(alloc, sid_rows, owner)?;
+            drafts.push(Draft { subject, text })?;
         }
     }
     unused.push_others(
         alloc,
         drafts,
-        "SIDs with rows of kinds that their flows don't take",
+        "more SID with rows of a kind that its flow doesn't take",
+        "more SIDs with rows of kinds that their flows don't take, the first here",
     )
 }
 
+/// The rows of each SID that its flow doesn't take, by line.
+fn unused_rows(alloc: Global, named: &NamedSids) -> Result<Vec<SidRows>, AllocError> {
+    let mut unused = Vec::new(alloc);
+    for ((channel, sid), named) in named.known.iter() {
+        if named.unused.rows > 0 {
+            unused.push(SidRows {
+                channel: *channel,
+                sid: *sid,
+                rows: named.unused,
+            })?;
+        }
+    }
+    unused.sort_by_key(|sid_rows| sid_rows.rows.line)?;
+    Ok(unused)
+}
+
 /// That the flow with a SID on a channel doesn't take rows of this kind.
-fn unused_text(
-    alloc: Global,
-    sid: u16,
-    owner: SidOwner,
-    rows: Alike,
-) -> Result<String, AllocError> {
+fn unused_text(alloc: Global, sid_rows: &SidRows, owner: SidOwner) -> Result<String, AllocError> {
+    let (sid, rows) = (sid_rows.sid, sid_rows.rows);
     let (flow, channel) = (owner.flow, owner.channel);
     let (kind, taken) = (type_of(owner.kind), taken_by(owner.kind));
     format!(in alloc;
@@ -116,5 +128,10 @@ pub(crate) fn push_silent_flows(
             drafts.push(Draft { subject, text })?;
         }
     }
-    silent.push_others(alloc, drafts, "flows that no row of the trace names")
+    silent.push_others(
+        alloc,
+        drafts,
+        "more flow that no row of the trace names",
+        "more flows that no row of the trace names, the first here",
+    )
 }

@@ -1,17 +1,15 @@
-ghost use Rattle.us_flows.specs.Lawful.{IsChannel};
-
+use crate::counted::Counted;
 use crate::drafts::{Draft, Subject, Tally};
-use crate::empty_maps::EmptyMaps;
-use crate::hopeless_windows::{ClosedWindows, MAX_WINDOWS, closed_windows, shortest};
 use crate::loads::{Load, MAX_ASSIGNMENTS};
 use crate::located::located;
 use crate::names::TableId;
 use crate::runs::Run;
+use crate::window_warnings::{add_hopeless, push_windows};
 use std::alloc::{AllocError, Global};
-use us_calendar::{Entry, Kind, entries_of};
+use us_calendar::entries_of;
 use us_config_lines::KeyPath;
 use us_findings::Finding;
-use us_flows::{Channel, Config, Place, TableName};
+use us_flows::{Config, Place, TableName};
 use us_slots::NoMemory;
 
 /// What looks wrong in the tables of a configuration, by line, for a run of so many rounds; for the longest run where
@@ -24,31 +22,9 @@ pub fn config_warnings(
 ) -> Result<Vec<Finding>, NoMemory> {
     let run = Run::new(config, rounds);
     let mut drafts = Vec::new(alloc);
-    push_rounds(alloc, &mut drafts, &run, rounds)?;
     push_lead(alloc, &mut drafts, config, &run)?;
-    push_calendars(alloc, &mut drafts, config, &run)?;
+    push_calendars(alloc, text, &mut drafts, config, &run)?;
     located(alloc, text, drafts)
-}
-
-/// That so many rounds don't fit into a run.
-fn push_rounds(
-    alloc: Global,
-    drafts: &mut Vec<Draft>,
-    run: &Run,
-    rounds: u32,
-) -> Result<(), AllocError> {
-    if run.rounds >= rounds {
-        return Ok(());
-    }
-    let (ticks, most) = (run.round_ticks, run.rounds);
-    let text = format!(in alloc;
-        "round_ticks: no run has {rounds} rounds of {ticks} ticks, {most} is the most that --rounds can say"
-    )?;
-    drafts.push(Draft {
-        subject: top_key("round_ticks"),
-        text,
-    })?;
-    Ok(())
 }
 
 /// That no row of a trace is in time, since the run ends before the lead does.
@@ -90,12 +66,13 @@ fn top_key(key: &'static str) -> Subject {
 /// What looks wrong in the calendars of all channels.
 fn push_calendars(
     alloc: Global,
+    text: &[u8],
     drafts: &mut Vec<Draft>,
     config: &Config,
     run: &Run,
 ) -> Result<(), NoMemory> {
     let mut loads = Tally::new();
-    let mut windows = Tally::new();
+    let mut hopeless = Vec::new(alloc);
     for (index, channel) in config.channels().iter().enumerate() {
         let entries = entries_of(alloc, config, channel)?;
         push_load(
@@ -106,15 +83,15 @@ fn push_calendars(
             &Load::of(&entries, run),
             run,
         )?;
-        push_windows(alloc, drafts, &mut windows, config, channel, &entries, run)?;
+        add_hopeless(&mut hopeless, config, channel, &entries, run)?;
     }
-    loads.push_others(alloc, drafts, "channels whose calendars ask for too much")?;
-    windows.push_others(
+    loads.push_others(
         alloc,
         drafts,
-        "entries with windows that no schedule could grant",
+        "more channel whose calendar asks for too much",
+        "more channels whose calendars ask for too much, the first here",
     )?;
-    Ok(())
+    push_windows(alloc, text, drafts, &hopeless, run)
 }
 
 /// That a calendar asks for more assignments than MAPs have.
@@ -130,72 +107,12 @@ fn push_load(
     if !load.is_too_much() || !tally.add(subject) {
         return Ok(());
     }
-    let (asked, lines, bytes) = (load.assignments(), load.lines, load.bytes());
-    let last = run.last_round();
+    let (asked, bytes, last) = (load.assignments(), load.bytes(), run.last_round());
+    let lines = Counted::new(load.lines, "line", "lines");
     let text = format!(in alloc;
-        "{channel}: its calendar asks for {asked} assignments in a MAP on average, of which {MAX_ASSIGNMENTS} have \
-        room; rounds 0 to {last} have at most {lines} lines of it in the report, {bytes} bytes"
+        "{channel}: its calendar asks for up to {asked} assignments in a MAP on average, once all have begun and none is \
+        silent; {MAX_ASSIGNMENTS} have room; the report of rounds up to {last} has at most {lines} of it, {bytes} bytes"
     )?;
     drafts.push(Draft { subject, text })?;
     Ok(())
-}
-
-/// Entries of a channel that have windows which no schedule could grant.
-fn push_windows(
-    alloc: Global,
-    drafts: &mut Vec<Draft>,
-    tally: &mut Tally,
-    config: &Config,
-    channel: &Channel,
-    entries: &[Entry],
-    run: &Run,
-) -> Result<(), AllocError>
-    requires { IsChannel config.now channel.now }
-{
-    let maps = EmptyMaps::of(config, channel);
-    for entry in entries {
-        let windows = closed_windows(entry, channel.bursts.time(), &maps, run.quarters());
-        if windows.hopeless == 0 {
-            continue;
-        }
-        let table = table_of(config, entry);
-        let subject = Subject::Key(table.path(Some("jitter_us")));
-        if tally.add(subject) {
-            let text = windows_text(alloc, table, entry, &windows, run)?;
-            drafts.push(Draft { subject, text })?;
-        }
-    }
-    Ok(())
-}
-
-/// The flow or the station of an entry.
-fn table_of(config: &Config, entry: &Entry) -> TableId {
-    match entry.kind {
-        Kind::Station => TableId::of_station(config, entry.id),
-        _ => TableId::of_flow(config, entry.id),
-    }
-}
-
-/// That no schedule could grant some windows of an entry.
-fn windows_text(
-    alloc: Global,
-    table: TableId,
-    entry: &Entry,
-    windows: &ClosedWindows,
-    run: &Run,
-) -> Result<String, AllocError> {
-    let (count, hopeless, interval) = (windows.count, windows.hopeless, windows.first_interval);
-    let (slots, last) = (shortest(entry), run.last_round());
-    let first = if count == MAX_WINDOWS {
-        "the first "
-    } else {
-        ""
-    };
-    let minislots = if slots == 1 { "minislot" } else { "minislots" };
-    let round = windows.first_end / run.round_quarters();
-    format!(in alloc;
-        "{table}, jitter_us: {hopeless} of {first}{count} windows that close by round {last} have no room for \
-        {slots} {minislots} beside the reserves, whatever the schedule; the first of them is that of interval \
-        {interval}, which closes in round {round}"
-    )
 }

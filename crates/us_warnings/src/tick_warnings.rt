@@ -41,15 +41,16 @@ pub(crate) fn push_late(
 pub(crate) fn push_microseconds(
     alloc: Global,
     drafts: &mut Vec<Draft>,
+    config: &Config,
     late_rows: &LateRows,
 ) -> Result<(), AllocError> {
     let late = late_rows.late;
-    if !late_rows.look_like_microseconds() {
+    if !late_rows.look_like_microseconds(config) {
         return Ok(());
     }
     let text = format!(in alloc;
-        "tick: ticks look like microseconds, since no row would be late with 4/25 of its tick; \
-        a tick is 6.25 microseconds: {late}"
+        "tick: if these ticks are microseconds, 4/25 of each is wanted, since a tick is 6.25 microseconds; \
+        no row would be late then: {late}"
     )?;
     drafts.push(Draft {
         subject: Subject::Row(late.line),
@@ -70,7 +71,8 @@ pub(crate) fn push_backward(
     let (tick, back) = (row.tick, backward.back);
     let (greater, line) = (before.tick, before.line);
     let text = format!(in alloc;
-        "tick: {tick} goes back by more than {FAR_LEADS} leads from {greater} in line {line}: {back}"
+        "tick: {tick} goes back by more than {FAR_LEADS} leads from {greater} in line {line}; rows may stand in any \
+        order, but is this another trace put behind the first? {back}"
     )?;
     drafts.push(Draft {
         subject: Subject::Row(row.line),

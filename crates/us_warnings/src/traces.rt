@@ -16,7 +16,7 @@ use us_trace_findings::Rows;
 pub struct TraceWarnings {
     /// What looks wrong: first in the configuration, then in the trace, each by line.
     pub findings: Vec<Finding>,
-    /// How many rounds take in all rows that ask for something. None where no run has so many.
+    /// How many rounds take in all rows that ask for something. None where no row does, or no run has so many.
     pub rounds_for_all: Option<u32>,
 }
 
@@ -31,7 +31,7 @@ pub fn trace_warnings(
 ) -> Result<TraceWarnings, NoMemory> {
     let mut seen = Seen {
         named: NamedSids::new(alloc),
-        late: LateRows::new(config, rounds),
+        late: LateRows::new(rounds),
         backward: BackwardRows::new(config),
     };
     seen.add_all(alloc, text, config)?;
@@ -68,7 +68,7 @@ impl Seen {
     /// One more row, on this line.
     fn add(&mut self, config: &Config, request: &Request, line: usize) -> Result<(), NoMemory> {
         if self.named.add(config, request, line)? {
-            self.late.add(request.tick, line);
+            self.late.add(config, request.tick, line);
         }
         self.backward.add(request.tick, line);
         Ok(())
@@ -87,7 +87,7 @@ impl Seen {
         push_unused(alloc, &mut drafts, config, &self.named)?;
         push_silent_flows(alloc, &mut drafts, config, &self.named)?;
         push_late(alloc, &mut drafts, config, rounds, &self.late)?;
-        push_microseconds(alloc, &mut drafts, &self.late)?;
+        push_microseconds(alloc, &mut drafts, config, &self.late)?;
         push_backward(alloc, &mut drafts, &self.backward)?;
         Ok(TraceWarnings {
             findings: located(alloc, config_text, drafts)?,

@@ -1,4 +1,4 @@
-use crate::alike::Alike;
+use crate::alike::{Alike, SidRows};
 use crate::drafts::{Subject, Tally};
 use std::alloc::Global;
 use std::mem;
@@ -9,14 +9,6 @@ const CHANNELS: usize = 256;
 
 const SIDS: usize = 16_384;
 
-/// A SID on a channel that rows name and no flow has.
-#[derive(Clone, Copy)]
-pub(crate) struct UnknownSid {
-    pub(crate) channel: u8,
-    pub(crate) sid: u16,
-    pub(crate) rows: Alike,
-}
-
 /// The SIDs that rows name and no flow has. Those that aren't told one by one are counted, since a trace may have a
 /// million.
 #[derive(Drop)]
@@ -25,7 +17,7 @@ pub(crate) struct UnknownSids {
     named: Vec<bool>,
     pub(crate) tally: Tally,
     /// Those that are told one by one, in the order of their first rows.
-    pub(crate) told: Vec<UnknownSid>,
+    pub(crate) told: Vec<SidRows>,
 }
 
 impl UnknownSids {
@@ -41,7 +33,7 @@ impl UnknownSids {
     pub(crate) fn add(&mut self, channel: u8, sid: u16, line: usize) -> Result<(), NoMemory> {
         if self.is_new(channel, sid)? && self.tally.add(Subject::Row(line)) {
             let rows = Alike::new();
-            self.told.push(UnknownSid { channel, sid, rows })?;
+            self.told.push(SidRows { channel, sid, rows })?;
         }
         for told in self.told.iter_mut() {
             if told.channel == channel && told.sid == sid {

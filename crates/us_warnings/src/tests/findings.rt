@@ -20,8 +20,9 @@ static CASES: [Case; 3] = [
             jitter_us = 80\ngrant_bytes = 214\ngrants_per_interval = 1\n",
         trace: "tick,channel,sid,units\n0,1,291,1\n0,1,295,1\n0,2,291,1\n0,1,9,1\n0,1,9,1\n",
         rounds: 3,
-        found: "37:1: warning: flow 1 (id 4), jitter_us: 3 of 3 windows that close by round 2 have no room for 8 minislots \
-            beside the reserves, whatever the schedule; the first of them is that of interval 0, which closes in round 0\n\
+        found: "37:1: warning: flow 1 (id 4), jitter_us: whatever the schedule, there is no room for its grants of 8 minislots \
+            beside the reserves in 3 of 3 windows closed by round 2; the first of them, of interval 0, counted from 0, closes \
+            in round 0; another start_us, a greater jitter_us or smaller reserves are wanted\n\
             3:1: warning: sid: SID 295 on channel 1 is of flow 1 (id 4), which is of type 6 and takes no rows, since its \
             grants come unasked: 1 row\n\
             4:1: warning: channel: no channel has id 2, which stands with SID 291: 1 row\n\
@@ -32,9 +33,10 @@ static CASES: [Case; 3] = [
         trace: "tick,channel,sid,units,kind\n5000,1,291,1,0\n100,1,291,1,0\n101,1,291,0,1\n",
         rounds: 4,
         found: "2:1: warning: tick: too late for a run that ends with round 3, --rounds 18 takes all rows in: 1 row\n\
-            2:1: warning: tick: ticks look like microseconds, since no row would be late with 4/25 of its tick; a tick is \
-            6.25 microseconds: 1 row\n\
-            3:1: warning: tick: 100 goes back by more than 4 leads from 5000 in line 2: 2 rows, the first here\n\
+            2:1: warning: tick: if these ticks are microseconds, 4/25 of each is wanted, since a tick is 6.25 \
+            microseconds; no row would be late then: 1 row\n\
+            3:1: warning: tick: 100 goes back by more than 4 leads from 5000 in line 2; rows may stand in any order, but is \
+            this another trace put behind the first? 2 rows, the first here\n\
             4:1: warning: sid: SID 291 on channel 1 is of flow 0 (id 1), which is of type 2 and takes requests alone, which \
             are rows of kind 0: 1 row\n18\n",
     },
