@@ -122,7 +122,7 @@ The lines. FILE is the path as it was given, and COLUMN is 1 if only the line is
   FILE: error CODE: TEXT
                     a rule of `check` that is broken where there is no line to name
   FILE: N more errors
-                    behind the first 50
+                    where there are more than 50
   FILE: note: N rounds take in all rows
                     of a trace without --rounds, which is judged for as many rounds as fit. It is
                     no finding

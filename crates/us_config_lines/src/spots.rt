@@ -1,4 +1,3 @@
-ghost use Rattle.std.specs.Prelude.{◌≤◌};
 ghost use Rattle.us_config_lines.specs.Places.{IsWithin};
 
 use us_flows::Place;

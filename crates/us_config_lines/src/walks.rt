@@ -22,7 +22,7 @@ pub fn spots_of(alloc: Global, text: &str, wanted: &[KeyPath<'_>]) -> Result<Vec
     spots_in(alloc, &found, wanted.len(), text.len())
 }
 
-/// So many spots in a text of so many bytes.
+/// So many spots of what was found in a text of so many bytes.
 fn spots_in(alloc: Global, found: &[Found], count: usize, len: usize) -> Result<Vec<Spot>, NoMemory>
     ensures count { IfOk result (λ spots. length spots.items ≡ count) }
     ensures within { IfOk result (λ spots. All (IsWithin len) spots.items) }
@@ -35,7 +35,7 @@ fn spots_in(alloc: Global, found: &[Found], count: usize, len: usize) -> Result<
     Ok(spots)
 }
 
-/// The same, found by a walk.
+/// What a walk over the text finds of these.
 fn found_in(alloc: Global, text: &str, wanted: &[KeyPath<'_>]) -> Result<Vec<Found>, NoMemory> {
     let mut walk = Walk {
         alloc,

@@ -5,7 +5,7 @@ use crate::rules::{Case, map_len};
 use crate::sentences::Sentence;
 use crate::titles::path_in;
 use toml::Table;
-use us_flows::{Place, TableName};
+use us_flows::{Place, SchedulingType, TableName, kind_at};
 
 /// The channel of a flow's grants and polls, or of a station.
 #[derive(Clone, Copy)]
@@ -27,8 +27,8 @@ pub(crate) fn long_grant<'d>(case: &Case<'d>) -> Why<'d> {
             "channel # has # minislots in a MAP, and its station_minislots is #",
         );
     }
-    // The flows of one type have polls and grants.
-    if host.len < number_at(host.table, "request_minislots") && case.number("type") != 6 {
+    let has_polls = kind_at(case.table) != SchedulingType::UnsolicitedGrant;
+    if has_polls && host.len < number_at(host.table, "request_minislots") {
         return long_key(
             host,
             "channels",

@@ -55,11 +55,12 @@ fn flows_of(types: Types) -> &'static str {
     }
 }
 
-/// The first of these keys that the table lacks and that is spelled like another.
+/// The first of these keys that is spelled like another: but for capital letters, or nearly, where the table lacks it.
 fn near_key(keys: Keys, table: &Table, key: &str) -> Option<&'static str> {
     for place in 0..keys.places() {
         if let Some((name, _)) = keys.at(place) {
-            if are_near(name.as_bytes(), key.as_bytes()) && table.get(name).is_none() {
+            let is_near = are_near(name.as_bytes(), key.as_bytes()) && table.get(name).is_none();
+            if is_near || name.eq_ignore_ascii_case(key) {
                 return Some(name);
             }
         }

@@ -7,7 +7,7 @@ const MAX_SHOWN: usize = 40;
 const MAX_CHARACTER: usize = 4;
 
 /// A text of the input as a finding shows it: its first 40 characters, with two dots where there are more. Control
-/// characters are escaped, as are bytes that are no UTF-8.
+/// characters and others that aren't seen are escaped, as are bytes that are no UTF-8.
 #[derive(Clone, Copy)]
 pub struct Shown<'a>(pub &'a [u8]);
 
@@ -77,14 +77,23 @@ fn first_character(text: &[u8]) -> Option<char> {
     None
 }
 
-/// Writes a character, one of control as its number.
+/// Whether a character isn't seen, or changes how others are seen: of control, of no width, or of the direction of a line.
+fn is_hidden(character: char) -> bool {
+    character.is_control()
+        || matches!(
+            character,
+            '\u{200b}'..='\u{200f}' | '\u{2028}'..='\u{202e}' | '\u{2060}'..='\u{206f}' | '\u{feff}'
+        )
+}
+
+/// Writes a character, one that is hidden as its number.
 fn write_character<W: fmt::Write>(f: &mut fmt::Formatter<W>, character: char) -> fmt::Result {
     match character {
         '\n' => f.write_str("\\n"),
         '\r' => f.write_str("\\r"),
         '\t' => f.write_str("\\t"),
         _ => {
-            if character.is_control() {
+            if is_hidden(character) {
                 let number = u32::from(character);
                 write!(f, "\\u{{{number:x}}}")
             } else {

@@ -2,7 +2,7 @@ ghost use Rattle.std.specs.Prelude.{◌≡◌};
 ghost use Rattle.us_verdict_words.specs.Codes.{code_of};
 
 /// A rule of the checker.
-#[derive(Clone, Copy, Debug, PartialEq, Eq)]
+#[derive(Clone, Copy)]
 pub enum Rule {
     /// P1: the maps file is made of records, and each body is in the grammar.
     Records,
@@ -35,7 +35,7 @@ impl Rule {
 }
 
 /// A rule that is broken, and where: the numbers of a verdict.
-#[derive(Clone, Copy, Debug, PartialEq, Eq)]
+#[derive(Clone, Copy)]
 pub struct BrokenRule {
     /// The rule.
     pub rule: Rule,

@@ -4,7 +4,7 @@ use crate::runs::Run;
 use std::alloc::Global;
 use us_activity::Activities;
 use us_calendar::{Entry, Kind, entries_of};
-use us_flows::{Channel, Config};
+use us_flows::Channel;
 use us_output::EntryWord;
 use us_slots::{NoMemory, QUARTERS_PER_TICK};
 
@@ -16,32 +16,70 @@ pub(crate) struct ChannelEntry {
     pub(crate) entry: Entry,
 }
 
-/// The entries of one id on all channels: of a flow, and of a station.
-#[derive(Drop)]
-pub(crate) struct Calendar<'a> {
-    pub(crate) run: Run<'a>,
-    activities: Activities,
-    pub(crate) entries: Vec<ChannelEntry>,
+/// The entries of one id: of a flow, and of a station.
+#[derive(Clone, Copy)]
+pub(crate) struct Entries {
+    pub(crate) flow: Option<ChannelEntry>,
+    pub(crate) station: Option<ChannelEntry>,
 }
 
-impl<'a> Calendar<'a> {
-    /// Those of this id.
-    pub(crate) fn of_id(alloc: Global, run: &Run<'a>, id: u64) -> Result<Calendar<'a>, NoMemory> {
-        Ok(Calendar {
-            run: *run,
-            activities: Activities::of(alloc, run.config, run.trace)?,
-            entries: entries_with(alloc, run.config, id)?,
-        })
+impl Entries {
+    /// Takes the entries of a channel that have this id.
+    fn take(&mut self, channel: &Channel, len: u64, entries: &[Entry], id: u64) {
+        for entry in entries {
+            if u64::from(entry.id) == id {
+                let found = Some(ChannelEntry {
+                    channel: *channel,
+                    len,
+                    entry: *entry,
+                });
+                match entry.kind {
+                    Kind::Station => self.station = found,
+                    _ => self.flow = found,
+                }
+            }
+        }
     }
 
     /// The entry that a line of this id names by its word.
     pub(crate) fn named(&self, word: EntryWord) -> Option<ChannelEntry> {
-        self.entries
-            .iter()
-            .find(|of| word_of(of.entry.kind) == word)
-            .copied()
+        if word == EntryWord::Station {
+            return self.station;
+        }
+        match self.flow {
+            Some(of) if word_of(of.entry.kind) == word => self.flow,
+            _ => None,
+        }
     }
+}
 
+/// The entries with this id, of all channels.
+pub(crate) fn entries_with(alloc: Global, run: &Run<'_>, id: u64) -> Result<Entries, NoMemory> {
+    let mut found = Entries {
+        flow: None,
+        station: None,
+    };
+    for channel in run.config.channels() {
+        let entries = entries_of(alloc, run.config, channel)?;
+        found.take(
+            channel,
+            u64::from(run.config.map_len(channel)),
+            &entries,
+            id,
+        );
+    }
+    Ok(found)
+}
+
+/// What tells which occurrences there are.
+#[derive(Clone, Copy)]
+pub(crate) struct Calendar<'a> {
+    pub(crate) run: Run<'a>,
+    pub(crate) activities: &'a Activities,
+    pub(crate) entries: Entries,
+}
+
+impl<'a> Calendar<'a> {
     /// The quarter microseconds of a round.
     pub(crate) fn round_quarters(&self) -> u128
         ensures { 1 ≤ result }
@@ -59,11 +97,37 @@ impl<'a> Calendar<'a> {
             }
         }
     }
+
+    /// The last place of an interval: a silent flow has one poll.
+    pub(crate) fn last_place(&self, entry: &Entry, interval: u64) -> u64 {
+        if self.is_active(entry, interval) {
+            u64::from(entry.grants).saturating_sub(1)
+        } else {
+            0
+        }
+    }
 }
 
 /// When an interval begins, in quarter microseconds.
 pub(crate) fn ideal(entry: &Entry, interval: u64) -> u128 {
     u128::from(entry.start) + u128::from(interval) * u128::from(entry.interval)
+}
+
+/// The first and the last minislot from round 0 on at which a grant of an interval may start.
+pub(crate) fn window(of: &ChannelEntry, interval: u64) -> (u64, u64) {
+    let ticks = of.channel.bursts.time().minislot_ticks();
+    let minislot = u128::from(QUARTERS_PER_TICK) * u128::from(ticks);
+    let first = ideal(&of.entry, interval);
+    let last = first.saturating_add(u128::from(of.entry.jitter));
+    (
+        saturated(first.div_ceil(minislot)),
+        saturated(last / minislot),
+    )
+}
+
+/// The number, or the greatest one that there is.
+pub(crate) fn saturated(number: u128) -> u64 {
+    u64::try_from(number).unwrap_or(u64::MAX)
 }
 
 /// The word of entries of a kind.
@@ -75,22 +139,4 @@ pub(crate) fn word_of(kind: Kind) -> EntryWord {
         Kind::NonRealTimePoll => EntryWord::NonRealTimePoll,
         Kind::Station => EntryWord::Station,
     }
-}
-
-/// The entries with this id.
-fn entries_with(alloc: Global, config: &Config, id: u64) -> Result<Vec<ChannelEntry>, NoMemory> {
-    let mut found = Vec::new(alloc);
-    for channel in config.channels() {
-        let len = u64::from(config.map_len(channel));
-        for entry in entries_of(alloc, config, channel)?.iter() {
-            if u64::from(entry.id) == id {
-                found.push(ChannelEntry {
-                    channel: *channel,
-                    len,
-                    entry: *entry,
-                })?;
-            }
-        }
-    }
-    Ok(found)
 }

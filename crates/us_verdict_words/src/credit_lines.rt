@@ -1,10 +1,10 @@
 use crate::broken::BrokenRule;
 use crate::credits::requested;
-use crate::fields::{Field, Wrong, first_wrong};
-use crate::findings::{VerdictFile, Words};
+use crate::fields::{Field, first_wrong};
 use crate::lines::{LineTaker, Lines, gather};
 use crate::runs::Run;
-use std::alloc::{AllocError, Global};
+use crate::said::{Place, Said, Wrong};
+use std::alloc::Global;
 use us_flows::{Channel, Flow};
 use us_output::{Grant, Row};
 use us_slots::{MAX_BURST_BYTES, NoMemory, grant_cost};
@@ -12,15 +12,15 @@ use us_slots::{MAX_BURST_BYTES, NoMemory, grant_cost};
 /// The bytes of a segment header (the standard's).
 const HEADER_BYTES: u64 = 8;
 
-/// The lines of requests of a round, a channel and a flow, by cluster, and what is wrong with the first one that is wrong.
+/// The lines of requests of a round, a channel and a flow: the first one that is wrong by itself, with what is, and those of
+/// its two clusters.
 #[derive(Clone, Copy)]
 struct CreditLines<'a> {
     broken: BrokenRule,
     flow: Option<&'a Flow>,
     channel: Option<Channel>,
-    wrong: Option<(u64, Wrong)>,
-    of_first: Lines,
-    of_second: Lines,
+    wrong: Option<Field>,
+    lines: [Lines; 3],
 }
 
 impl<'a> LineTaker for CreditLines<'a> {
@@ -29,46 +29,45 @@ impl<'a> LineTaker for CreditLines<'a> {
             return;
         };
         let broken = self.broken;
-        if grant.round != broken.round
-            || grant.channel != broken.channel
-            || grant.id != broken.place
-        {
+        let is_there = grant.round == broken.round && grant.channel == broken.channel;
+        if !is_there || grant.id != broken.place || self.wrong.is_some() {
             return;
         }
-        if self.wrong.is_none() {
-            self.wrong = wrong_with(self.flow, self.channel, &grant).map(|wrong| (number, wrong));
-        }
-        if grant.i == 0 {
-            self.of_first.add(number, row);
+        self.wrong = wrong_with(self.flow, self.channel, &grant);
+        let place = if self.wrong.is_some() {
+            0
+        } else if grant.i == 0 {
+            1
         } else {
-            self.of_second.add(number, row);
-        }
+            2
+        };
+        self.lines[place].add(number, row);
     }
 }
 
 /// What is wrong with a grant of a request, by itself.
-fn wrong_with(flow: Option<&Flow>, channel: Option<Channel>, grant: &Grant) -> Option<Wrong> {
+fn wrong_with(flow: Option<&Flow>, channel: Option<Channel>, grant: &Grant) -> Option<Field> {
     let (Some(flow), Some(channel)) = (flow, channel) else {
-        return Some(Wrong::Name("no flow has this id"));
+        return Some(Field::exact("flows with this id", 1, 0));
     };
     if !flow.kind().makes_requests() {
-        return Some(Wrong::Name("its type makes no requests"));
+        return Some(Field::exact("flows of types 2, 3 and 4 with this id", 1, 0));
     }
     let last = (flow.clusters().len() as u64).saturating_sub(1);
-    let named = [
+    let named = first_wrong(&[
         Field::range("i", 0, last, grant.i),
         Field::exact("k", 0, grant.k),
-    ];
-    if let Some(field) = first_wrong(&named) {
-        return Some(Wrong::Number(field));
+    ]);
+    if named.is_some() {
+        return named;
     }
-    let Some(sid) = sid_on(flow, grant.channel, grant.i) else {
-        return Some(Wrong::Name("it isn't on this channel"));
-    };
-    if grant.sid != u64::from(sid) {
-        return Some(Wrong::Number(Field::exact("SID", u64::from(sid), grant.sid)));
+    match sid_on(flow, grant.channel, grant.i) {
+        None => Some(Field::exact("flows on this channel with this id", 1, 0)),
+        Some(sid) if grant.sid != u64::from(sid) => {
+            Some(Field::exact("SID", u64::from(sid), grant.sid))
+        }
+        Some(_) => wrong_cost(flow, &channel, grant),
     }
-    wrong_cost(flow, &channel, grant).map(Wrong::Number)
 }
 
 /// The SID of a flow's cluster on a channel.
@@ -96,52 +95,23 @@ fn wrong_cost(flow: &Flow, channel: &Channel, grant: &Grant) -> Option<Field> {
 }
 
 /// That a line of a request is wrong, or isn't the only one of its cluster.
-pub(crate) fn credit_line_words(
+pub(crate) fn credit_line_said(
     alloc: Global,
     run: &Run<'_>,
     broken: BrokenRule,
-) -> Result<Words, NoMemory> {
+) -> Result<Said, NoMemory> {
     let mut found = CreditLines {
         broken,
         flow: run.flow(broken.place),
         channel: run.channel(broken.channel).map(|placed| placed.channel),
         wrong: None,
-        of_first: Lines::none(),
-        of_second: Lines::none(),
+        lines: [Lines::none(); 3],
     };
     gather(alloc, run.report, &mut found)?;
-    let lines = if found.of_first.count() < 2 {
-        found.of_second
-    } else {
-        found.of_first
-    };
-    match found.wrong {
-        Some((number, wrong)) => Ok(wrong_words(alloc, broken, number, wrong)?),
-        None => Ok(double_words(alloc, broken, lines)?),
+    let [wrong, first, second] = found.lines;
+    if let Some(field) = found.wrong {
+        return Ok(Said::of_lines(&wrong, Place::of(broken), Wrong::Number(field)));
     }
-}
-
-/// That a line is wrong.
-fn wrong_words(
-    alloc: Global,
-    broken: BrokenRule,
-    number: u64,
-    wrong: Wrong,
-) -> Result<Words, AllocError> {
-    let (round, channel, id) = (broken.round, broken.channel, broken.place);
-    Ok(Words {
-        file: VerdictFile::Line(number),
-        text: format!(in alloc; "round {round}, channel {channel}, flow {id}: {wrong}")?,
-    })
-}
-
-/// That a cluster has several lines.
-fn double_words(alloc: Global, broken: BrokenRule, lines: Lines) -> Result<Words, AllocError> {
-    let (round, channel, id) = (broken.round, broken.channel, broken.place);
-    Ok(Words {
-        file: lines.file(),
-        text: format!(in alloc;
-            "round {round}, channel {channel}, flow {id}: 1 line of a cluster is wanted, there is {lines}"
-        )?,
-    })
+    let double = if first.count() < 2 { second } else { first };
+    Ok(Said::of_lines(&double, Place::of(broken), Wrong::Count(1, double)))
 }

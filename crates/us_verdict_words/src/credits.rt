@@ -1,9 +1,12 @@
 use crate::broken::BrokenRule;
-use crate::findings::{VerdictFile, Words};
+use crate::calendars::saturated;
+use crate::fields::Field;
+use crate::findings::VerdictFile;
 use crate::levels::Level;
 use crate::lines::{LineTaker, Lines, gather};
 use crate::runs::Run;
-use std::alloc::{AllocError, Global};
+use crate::said::{Place, Said, Wrong};
+use std::alloc::Global;
 use us_bucket::UNITS_PER_BYTE;
 use us_flows::Flow;
 use us_output::{EntryWord, Grant, Row};
@@ -73,19 +76,19 @@ pub(crate) fn credits_of(
 }
 
 /// The number of a flow's first word.
-pub(crate) fn first_word(run: &Run<'_>, id: u64) -> usize {
-    let mut word = 0_usize;
+pub(crate) fn first_word(run: &Run<'_>, id: u64) -> u64 {
+    let mut word = 0_u64;
     for flow in run.config.flows() {
         if u64::from(flow.id()) == id {
             return word;
         }
-        word = word.saturating_add(flow.words());
+        word = word.saturating_add(flow.words() as u64);
     }
     word
 }
 
 /// The bytes that are asked for by a word in the first so many rounds.
-pub(crate) fn asked_within(trace: &Trace, word: usize, rounds: u64) -> u64 {
+pub(crate) fn asked_within(trace: &Trace, word: u64, rounds: u64) -> u64 {
     let mut bytes = 0;
     for round in 0..trace.rounds() {
         if rounds <= u64::from(round) {
@@ -97,106 +100,61 @@ pub(crate) fn asked_within(trace: &Trace, word: usize, rounds: u64) -> u64 {
 }
 
 /// These bytes, and those that are asked for by a word in a round.
-fn add_asked(trace: &Trace, word: usize, round: u32, bytes: u64) -> u64 {
+fn add_asked(trace: &Trace, word: u64, round: u32, bytes: u64) -> u64 {
     let mut sum = bytes;
     for ask in trace.asks(round) {
-        if usize::from(ask.cluster) == word {
+        if u64::from(ask.cluster) == word {
             sum = sum.saturating_add(u64::from(ask.bytes));
         }
     }
     sum
 }
 
-/// What a round and a flow have, where the verdict names no such flow. Nobody comes here.
-fn no_flow(alloc: Global, broken: BrokenRule) -> Result<Words, NoMemory> {
-    let (round, id) = (broken.round, broken.place);
-    Ok(Words {
-        file: VerdictFile::Report,
-        text: format!(in alloc; "round {round}: no flow has the id {id}")?,
-    })
-}
-
 /// That a flow is credited more than its rate and its burst allow.
-pub(crate) fn rate_words(
+pub(crate) fn rate_said(
     alloc: Global,
     run: &Run<'_>,
     broken: BrokenRule,
-) -> Result<Words, NoMemory> {
+) -> Result<Said, NoMemory> {
+    let place = Place::Flow(broken.round, broken.place);
     let Some(flow) = run.flow(broken.place) else {
-        return no_flow(alloc, broken);
+        return Ok(no_flow(place));
     };
     let credits = credits_of(alloc, run, flow, None, broken.round)?;
-    Ok(over_rate(alloc, broken, flow, &credits)?)
-}
-
-/// The same of what was credited.
-fn over_rate(
-    alloc: Global,
-    broken: BrokenRule,
-    flow: &Flow,
-    credits: &Credits,
-) -> Result<Words, AllocError> {
-    let (round, id, rate, burst) = (broken.round, broken.place, flow.rate(), flow.burst());
-    let (lines, bytes) = (credits.lines, credits.inside);
-    let mut level = credits.level;
-    level.refill_to(round);
-    let text = match level.units() {
-        Some(units) => {
-            let most = units / u64::from(UNITS_PER_BYTE);
-            format!(in alloc;
-                "round {round}, flow {id}: {bytes} bytes are credited by {lines}, at most {most} are left in the bucket (rate {rate} bit/s, burst {burst} bytes)"
-            )?
-        }
-        None => {
-            format!(in alloc;
-                "round {round}, flow {id}: {bytes} bytes are credited by {lines}, more than rate ({rate} bit/s) and burst ({burst} bytes) allow"
-            )?
-        }
-    };
-    Ok(Words {
-        file: lines.file(),
-        text,
-    })
+    let most = credits.level.units_in(broken.round) / u128::from(UNITS_PER_BYTE);
+    let wrong = Wrong::OverBucket(credits.inside, credits.lines, saturated(most));
+    Ok(Said::of_lines(&credits.lines, place, wrong))
 }
 
 /// That a cluster is credited more in a round than is outstanding.
-pub(crate) fn outstanding_words(
+pub(crate) fn outstanding_said(
     alloc: Global,
     run: &Run<'_>,
     broken: BrokenRule,
-) -> Result<Words, NoMemory> {
+) -> Result<Said, NoMemory> {
     let Some(flow) = run.flow(broken.place) else {
-        return no_flow(alloc, broken);
+        return Ok(no_flow(Place::of(broken)));
     };
+    let rounds = broken.round.saturating_add(1);
     let word = first_word(run, broken.place);
-    for cluster in 0..flow.clusters().len() {
-        let credits = credits_of(alloc, run, flow, Some(cluster as u64), broken.round)?;
-        let asked = asked_within(
-            run.trace,
-            word.saturating_add(cluster),
-            broken.round.saturating_add(1),
-        );
+    for cluster in 0..flow.clusters().len() as u64 {
+        let credits = credits_of(alloc, run, flow, Some(cluster), broken.round)?;
+        let asked = asked_within(run.trace, word.saturating_add(cluster), rounds);
         let most = asked.saturating_sub(credits.before);
         if most < credits.inside {
-            return Ok(over_outstanding(alloc, broken, cluster, &credits, most)?);
+            let place = Place::Cluster(broken.round, broken.place, cluster);
+            let wrong = Wrong::OverAsked(credits.inside, credits.lines, most);
+            return Ok(Said::of_lines(&credits.lines, place, wrong));
         }
     }
-    no_flow(alloc, broken)
+    Ok(no_flow(Place::of(broken)))
 }
 
-/// The same of one cluster.
-fn over_outstanding(
-    alloc: Global,
-    broken: BrokenRule,
-    cluster: usize,
-    credits: &Credits,
-    most: u64,
-) -> Result<Words, AllocError> {
-    let (round, id, lines, bytes) = (broken.round, broken.place, credits.lines, credits.inside);
-    Ok(Words {
-        file: lines.file(),
-        text: format!(in alloc;
-            "round {round}, flow {id}, cluster {cluster}: {bytes} bytes are credited by {lines}, at most {most} are outstanding"
-        )?,
-    })
+/// What is said where no flow has the id of a verdict. Nobody comes here.
+fn no_flow(place: Place) -> Said {
+    Said {
+        file: VerdictFile::Report,
+        place,
+        wrong: Wrong::Number(Field::exact("flows with this id", 1, 0)),
+    }
 }

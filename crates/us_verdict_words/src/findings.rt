@@ -1,7 +1,7 @@
 use std::fmt;
 
 /// The file that a finding is in.
-#[derive(Clone, Copy, Debug, PartialEq, Eq)]
+#[derive(Clone, Copy)]
 pub enum VerdictFile {
     /// The maps file. The text says where.
     Maps,
@@ -12,7 +12,7 @@ pub enum VerdictFile {
 }
 
 /// A broken rule, or a line that is none of a report, in words.
-#[derive(Debug, Drop)]
+#[derive(Drop)]
 pub struct VerdictFinding {
     /// Where it is.
     pub file: VerdictFile,
@@ -26,22 +26,5 @@ pub struct VerdictFinding {
 impl fmt::Display for VerdictFinding {
     fn fmt<W: fmt::Write>(&self, f: &mut fmt::Formatter<W>) -> fmt::Result {
         write!(f, "{}: {}", self.code, self.text)
-    }
-}
-
-/// What is found, and in which file.
-#[derive(Drop)]
-pub(crate) struct Words {
-    pub(crate) file: VerdictFile,
-    pub(crate) text: String,
-}
-
-impl Words {
-    /// What is found in the maps file.
-    pub(crate) fn of_maps(text: String) -> Words {
-        Words {
-            file: VerdictFile::Maps,
-            text,
-        }
     }
 }

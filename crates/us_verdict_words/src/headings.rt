@@ -1,69 +1,63 @@
 use crate::fields::{Field, first_wrong};
-use crate::findings::Words;
-use crate::records::{FileRecord, behind_records, record_at};
+use crate::findings::VerdictFile;
+use crate::records::{FileRecord, behind_records, byte_of, record_at};
 use crate::runs::{PlacedChannel, Run};
-use std::alloc::{AllocError, Global};
+use crate::said::{Said, Wrong};
+use std::alloc::Global;
 use us_codec::{Element, Map, MapFault, decode};
 use us_slots::{Iuc, NoMemory};
 
 /// That a record doesn't say of itself what it must, is missing, or is one too many.
-pub(crate) fn heading_words(alloc: Global, run: &Run<'_>, number: u64) -> Result<Words, NoMemory> {
+pub(crate) fn heading_said(alloc: Global, run: &Run<'_>, number: u64) -> Result<Said, NoMemory> {
     let width = run.width().max(1);
     let round = number / width;
-    let channel = channel_at(run, number % width);
-    let text = match (record_at(run.maps, number), channel) {
-        (Some(record), Some(channel)) if round < run.rounds() => {
-            head_text(alloc, run, &record, round, &channel)?
+    if let (Some(record), Some(channel)) = (
+        record_at(run.maps, number),
+        run.channel_at(number % width),
+    ) {
+        if round < run.rounds() {
+            return Ok(Said {
+                file: VerdictFile::Maps,
+                place: record.place,
+                wrong: Wrong::Number(wrong_field(alloc, run, &record, round, &channel)?),
+            });
         }
-        _ => count_text(alloc, run, number)?,
-    };
-    Ok(Words::of_maps(text))
-}
-
-/// The channel at this place of the table.
-fn channel_at(run: &Run<'_>, place: u64) -> Option<PlacedChannel> {
-    let channel = run.config.channels().get(usize::try_from(place).ok()?)?;
-    run.channel(u64::from(channel.id))
+    }
+    Ok(Said {
+        file: VerdictFile::Maps,
+        place: byte_of(run.maps, number),
+        wrong: count_wrong(run, width),
+    })
 }
 
 /// How many records there are, and how many there must be.
-fn count_text(alloc: Global, run: &Run<'_>, number: u64) -> Result<String, AllocError> {
+fn count_wrong(run: &Run<'_>, width: u64) -> Wrong {
     let (count, _) = behind_records(run.maps, u64::MAX);
-    let (_, rest) = behind_records(run.maps, number);
-    let at = run.maps.len().saturating_sub(rest.len());
-    let (width, rounds) = (run.width().max(1), run.rounds());
-    let there = count / width;
-    if count % width == 0 {
-        return format!(in alloc;
-            "record {number}, at byte {at}: the file has {there} rounds, --rounds says {rounds}"
-        );
+    let rounds = run.rounds();
+    if count.is_multiple_of(width) {
+        Wrong::Rounds(count / width.max(1), rounds)
+    } else {
+        Wrong::Number(Field::exact("records", rounds.saturating_mul(width), count))
     }
-    format!(in alloc;
-        "record {number}, at byte {at}: the file has {count} records, which are no whole rounds of {width} channels; --rounds says {rounds}"
-    )
 }
 
 /// What of a record isn't what it must be.
-fn head_text(
+fn wrong_field(
     alloc: Global,
     run: &Run<'_>,
     record: &FileRecord<'_>,
     round: u64,
     channel: &PlacedChannel,
-) -> Result<String, NoMemory> {
-    let place = record.place;
-    let map = match decode(alloc, record.body) {
-        Ok(map) => map,
+) -> Result<Field, NoMemory> {
+    let told = match decode(alloc, record.body) {
+        Ok(map) => told_by(u64::from(record.round), &map),
         Err(MapFault::NoMemory) => return Err(NoMemory),
-        Err(fault) => return Ok(format!(in alloc; "{place}: {fault}")?),
+        // Nobody comes here: each body was read for the verdict.
+        Err(_) => wanted_of(run, round, channel),
     };
-    let told = told_by(u64::from(place.round), &map);
-    match first_wrong(&fields_of(told, wanted_of(run, round, channel))) {
-        Some(field) => Ok(format!(in alloc; "{place}: {field}")?),
-        None => Ok(format!(in alloc; "{place}")?),
-    }
+    let fields = fields_of(told, wanted_of(run, round, channel));
+    Ok(first_wrong(&fields).unwrap_or(fields[0]))
 }
-
 /// What a MAP says of itself.
 #[derive(Clone, Copy)]
 struct Heading {

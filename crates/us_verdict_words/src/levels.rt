@@ -1,7 +1,7 @@
 use us_bucket::UNITS_PER_BYTE;
 use us_flows::{Config, Flow};
 
-/// What the bucket of a flow holds, by lines in the order of rounds.
+/// What the bucket of a flow holds, by lines that stand in the order of rounds. Where they don't, it is taken for full.
 #[derive(Clone, Copy)]
 pub(crate) struct Level {
     /// By how much it grows from round to round, in units.
@@ -10,7 +10,6 @@ pub(crate) struct Level {
     full: u128,
     units: u128,
     round: u64,
-    in_order: bool,
 }
 
 impl Level {
@@ -22,35 +21,23 @@ impl Level {
             full,
             units: full,
             round: 0,
-            in_order: true,
         }
     }
 
-    /// Brings it up to a round. Where that is an earlier one, it can't be told any more.
-    pub(crate) fn refill_to(&mut self, round: u64) {
-        match round.checked_sub(self.round) {
-            Some(rounds) => {
-                let grown = u128::from(rounds).saturating_mul(self.growth);
-                self.units = self.units.saturating_add(grown).min(self.full);
-                self.round = round;
-            }
-            None => self.in_order = false,
+    /// The units in it in a round, or in the last one in which something was credited.
+    pub(crate) fn units_in(&self, round: u64) -> u128 {
+        if round < self.round {
+            return self.full;
         }
+        let rounds = u128::from(round.saturating_sub(self.round));
+        let grown = rounds.saturating_mul(self.growth);
+        self.units.saturating_add(grown).min(self.full)
     }
 
     /// So many bytes are credited in a round.
     pub(crate) fn spend(&mut self, round: u64, bytes: u64) {
-        self.refill_to(round);
         let spent = u128::from(bytes).saturating_mul(u128::from(UNITS_PER_BYTE));
-        self.units = self.units.saturating_sub(spent);
-    }
-
-    /// The units in it; `None` where lines weren't in order.
-    pub(crate) fn units(&self) -> Option<u64> {
-        if self.in_order {
-            u64::try_from(self.units).ok()
-        } else {
-            None
-        }
+        self.units = self.units_in(round).saturating_sub(spent);
+        self.round = round;
     }
 }

@@ -2,7 +2,7 @@
 //!
 //! ```
 //! let finding = verdict_finding(alloc, &config, &trace, maps, report, broken)?;
-//! println!(rt; "{finding}"); // P6: round 1, channel 1, flow 1: minislots: 32 is wanted, 31 is there
+//! println!(rt; "{finding}"); // P6: round 1, channel 1, id 1: slots of the credit: 29 is wanted, 32 is there
 //! ```
 //!
 //! It is told which rule is broken and where, by the numbers of a verdict. It looks again at that place alone, and names
@@ -15,11 +15,13 @@ mod broken;
 // What is answered.
 mod findings;
 
-// A number that isn't what it must be.
-mod fields;
-
 // Lines of a report.
 mod lines;
+
+// What is found: the place, and what is wanted there.
+mod fields;
+mod said;
+mod spans;
 
 // What is judged, and by what.
 mod runs;
@@ -50,6 +52,3 @@ mod verdicts;
 pub use broken::{BrokenRule, Rule};
 pub use findings::{VerdictFile, VerdictFinding};
 pub use verdicts::{report_finding, verdict_finding};
-
-#[cfg(test)]
-mod tests;

@@ -1,74 +1,21 @@
 use crate::broken::BrokenRule;
-use crate::fields::Also;
-use crate::findings::Words;
+use crate::fields::Field;
+use crate::findings::VerdictFile;
 use crate::lines::{LineTaker, Lines, gather};
-use crate::records::{RecordPlace, record_at};
+use crate::records::record_at;
 use crate::runs::{PlacedChannel, Run};
-use std::alloc::{AllocError, Global};
-use std::fmt;
+use crate::said::{Place, Said, Wrong};
+use crate::spans::{Span, What};
+use std::alloc::Global;
 use us_codec::{Element, MapFault, decode};
-use us_flows::Channel;
 use us_output::{Grant, Row};
-use us_slots::{Iuc, NoMemory};
+use us_slots::NoMemory;
 
-/// The SID that addresses all modems (the standard's).
-const BROADCAST: u64 = 0x3fff;
+/// The IUC of minislots for requests (the standard's).
+const REQUEST: u64 = 1;
 
-/// What minislots of a MAP are.
-#[derive(Clone, Copy)]
-enum What {
-    Gap,
-    Maintenance,
-    Contention,
-    Element,
-}
-
-/// Minislots of a MAP that belong together, from the first one to the one behind the last one, and for whom they are.
-#[derive(Clone, Copy)]
-struct Span {
-    what: What,
-    from: u64,
-    to: u64,
-    sid: u64,
-    iuc: Iuc,
-}
-
-impl What {
-    /// What goes before the minislots.
-    fn text(self) -> &'static str {
-        match self {
-            What::Gap => "a gap is wanted,",
-            What::Maintenance => "the maintenance reserve has",
-            What::Contention => "the contention reserve has",
-            What::Element => "the MAP has",
-        }
-    }
-}
-
-impl Span {
-    /// Minislots for all modems.
-    fn for_all(what: What, from: u64, to: u64, iuc: Iuc) -> Span {
-        Span {
-            what,
-            from,
-            to,
-            sid: BROADCAST,
-            iuc,
-        }
-    }
-}
-
-/// Writes `the MAP has minislots 6 to 67 for SID 301, IUC 10`.
-impl fmt::Display for Span {
-    fn fmt<W: fmt::Write>(&self, f: &mut fmt::Formatter<W>) -> fmt::Result {
-        let (what, from, last) = (self.what.text(), self.from, self.to.saturating_sub(1));
-        let (sid, iuc) = (self.sid, self.iuc.number());
-        write!(
-            f,
-            "{what} minislots {from} to {last} for SID {sid}, IUC {iuc}"
-        )
-    }
-}
+/// The IUC of Initial Maintenance (the standard's).
+const INITIAL_MAINTENANCE: u64 = 3;
 
 /// The lines of a round and a channel that grant a minislot, and between which others it lies.
 #[derive(Clone, Copy)]
@@ -78,7 +25,9 @@ struct MinislotLines {
     at: u64,
     len: u64,
     lines: Lines,
-    gap: Span,
+    granted: Span,
+    from: u64,
+    to: u64,
 }
 
 impl MinislotLines {
@@ -90,41 +39,53 @@ impl MinislotLines {
         if self.at == self.len {
             return self.len <= grant.start;
         }
-        grant.start <= self.at && self.at < grant.start.saturating_add(grant.slots)
-    }
-
-    /// The gap of a channel: for all modems, or for nobody where it is too short for a request.
-    fn gap_for(&self, channel: &Channel) -> Span {
-        let is_long = u64::from(channel.request_minislots)
-            <= self.gap.to.saturating_sub(self.gap.from);
-        Span {
-            sid: if is_long { BROADCAST } else { 0 },
-            ..self.gap
-        }
+        grant.start <= self.at && self.at - grant.start < grant.slots
     }
 
     /// The gap isn't where these minislots are.
-    fn pass(&mut self, from: u64, slots: u64) {
-        let to = from.saturating_add(slots);
-        if slots == 0 {} else if to <= self.at {
-            self.gap.from = self.gap.from.max(to);
-        } else if self.at < from {
-            self.gap.to = self.gap.to.min(from);
+    fn pass(&mut self, start: u64, slots: u64) {
+        let end = start.saturating_add(slots);
+        if slots > 0 && end <= self.at {
+            self.from = self.from.max(end);
+        } else if slots > 0 && self.at < start {
+            self.to = self.to.min(start);
+        }
+    }
+
+    /// The gap of a channel: for all modems, or for nobody where it is too short for a request.
+    fn gap(&self, request_minislots: u8) -> Span {
+        let slots = self.to.saturating_sub(self.from);
+        let gap = Span::for_all(What::Gap, self.from, slots, REQUEST);
+        if u64::from(request_minislots) <= slots {
+            gap
+        } else {
+            Span { sid: 0, ..gap }
         }
     }
 }
 
 impl LineTaker for MinislotLines {
     fn take(&mut self, number: u64, row: &Row) {
-        if let Row::Granted(grant) = row {
-            if grant.round != self.round || grant.channel != self.channel {} else if self.is_about(
-                grant,
-            ) {
-                self.lines.add(number, row);
-            } else {
-                self.pass(grant.start, grant.slots);
-            }
+        let Row::Granted(grant) = row else {
+            return;
+        };
+        if grant.round != self.round || grant.channel != self.channel {
+            return;
         }
+        if !self.is_about(grant) {
+            self.pass(grant.start, grant.slots);
+            return;
+        }
+        if self.lines.count() == 0 {
+            self.granted = Span {
+                what: What::Line,
+                start: grant.start,
+                slots: grant.slots,
+                sid: grant.sid,
+                iuc: grant.iuc,
+            };
+        }
+        self.lines.add(number, row);
     }
 }
 
@@ -150,19 +111,21 @@ impl LineTaker for PlaceLines {
 }
 
 /// That a minislot isn't what it must be, or that the run lacks the round or channel of a line.
-pub(crate) fn minislot_words(
+pub(crate) fn minislot_said(
     alloc: Global,
     run: &Run<'_>,
     broken: BrokenRule,
-) -> Result<Words, NoMemory> {
+) -> Result<Said, NoMemory> {
     let Some(placed) = run.channel(broken.channel) else {
-        return lacked(alloc, run, broken, false);
+        let field = Field::exact("channels with this id", 1, 0);
+        return lacked(alloc, run, broken, field);
     };
     if broken.round < run.rounds() {
-        minislot_of(alloc, run, broken, &placed)
-    } else {
-        lacked(alloc, run, broken, true)
+        return minislot_of(alloc, run, broken, &placed);
     }
+    let last = run.rounds().saturating_sub(1);
+    let field = Field::range("round, below --rounds", 0, last, broken.round);
+    lacked(alloc, run, broken, field)
 }
 
 /// That the run lacks a round, or a channel.
@@ -170,25 +133,16 @@ fn lacked(
     alloc: Global,
     run: &Run<'_>,
     broken: BrokenRule,
-    has_channel: bool,
-) -> Result<Words, NoMemory> {
-    let (round, channel, rounds) = (broken.round, broken.channel, run.rounds());
+    field: Field,
+) -> Result<Said, NoMemory> {
     let mut found = PlaceLines {
-        round,
-        channel,
+        round: broken.round,
+        channel: broken.channel,
         lines: Lines::none(),
     };
     gather(alloc, run.report, &mut found)?;
-    let lines = found.lines;
-    let text = if has_channel {
-        format!(in alloc; "{lines}: round {round} is none of the run, --rounds says {rounds}")?
-    } else {
-        format!(in alloc; "{lines}: no channel has the id {channel}")?
-    };
-    Ok(Words {
-        file: lines.file(),
-        text,
-    })
+    let place = Place::Map(broken.round, broken.channel);
+    Ok(Said::of_lines(&found.lines, place, Wrong::Number(field)))
 }
 
 /// That a minislot of a MAP isn't what it must be.
@@ -197,33 +151,40 @@ fn minislot_of(
     run: &Run<'_>,
     broken: BrokenRule,
     placed: &PlacedChannel,
-) -> Result<Words, NoMemory> {
+) -> Result<Said, NoMemory> {
+    let (at, len) = (broken.place, placed.len);
     let mut found = MinislotLines {
         round: broken.round,
         channel: broken.channel,
-        at: broken.place,
-        len: placed.len,
+        at,
+        len,
         lines: Lines::none(),
-        gap: Span::for_all(What::Gap, 0, placed.len, Iuc::request()),
+        granted: Span::none(),
+        from: 0,
+        to: len,
     };
     gather(alloc, run.report, &mut found)?;
-    let reserve = reserve_at(run, &mut found, placed);
-    let number = broken
-        .round
-        .saturating_mul(run.width())
-        .saturating_add(placed.place);
-    let there = piece_at(alloc, run.maps, number, broken.place)?;
-    match found.lines.first() {
-        Some(Row::Granted(grant)) => Ok(granted(alloc, &found, &grant, reserve, there)?),
-        _ => {
-            let wanted = reserve.unwrap_or(found.gap_for(&placed.channel));
-            Ok(Words::of_maps(no_grant_text(alloc, &found, wanted, there)?))
-        }
+    let reserve = reserve_at(&mut found, placed);
+    let number = broken.round.saturating_mul(run.width());
+    let (place, element) = element_at(alloc, run.maps, number.saturating_add(placed.place), at)?;
+    if found.lines.count() > 0 {
+        let wrong = Wrong::Minislot(at, len, found.lines, [found.granted, reserve, element]);
+        let place = Place::Map(broken.round, broken.channel);
+        return Ok(Said::of_lines(&found.lines, place, wrong));
     }
+    let wanted = match reserve.what {
+        What::Nothing => found.gap(placed.channel.request_minislots),
+        _ => reserve,
+    };
+    Ok(Said {
+        file: VerdictFile::Maps,
+        place,
+        wrong: Wrong::Minislot(at, len, found.lines, [wanted, element, Span::none()]),
+    })
 }
 
 /// The reserve that has the minislot. Others bound the gap.
-fn reserve_at(run: &Run<'_>, found: &mut MinislotLines, placed: &PlacedChannel) -> Option<Span> {
+fn reserve_at(found: &mut MinislotLines, placed: &PlacedChannel) -> Span {
     let channel = placed.channel;
     let every = u64::from(channel.maintenance_every);
     let first = if found.round.is_multiple_of(every) {
@@ -231,97 +192,48 @@ fn reserve_at(run: &Run<'_>, found: &mut MinislotLines, placed: &PlacedChannel) 
     } else {
         0
     };
-    let (len, contention) = (placed.len, u64::from(channel.contention_minislots));
-    let last = len.saturating_sub(contention);
+    let contention = u64::from(channel.contention_minislots);
+    let last = placed.len.saturating_sub(contention);
     found.pass(0, first);
     found.pass(last, contention);
     if found.at < first {
-        let iuc = Iuc::initial_maintenance();
-        return Some(Span::for_all(What::Maintenance, 0, first, iuc));
+        return Span::for_all(What::Maintenance, 0, first, INITIAL_MAINTENANCE);
     }
-    if last <= found.at && found.at < len {
-        return Some(Span::for_all(What::Contention, last, len, Iuc::request()));
+    if last <= found.at && found.at < placed.len {
+        return Span::for_all(What::Contention, last, contention, REQUEST);
     }
-    None
+    Span::none()
 }
 
-/// The element of the MAP of this number that has a minislot, behind its record.
-fn piece_at(
-    alloc: Global,
-    maps: &[u8],
-    number: u64,
-    at: u64,
-) -> Result<Option<(RecordPlace, Span)>, NoMemory> {
+/// Where the record of this number stands, and the element of its MAP that has a minislot.
+fn element_at(alloc: Global, maps: &[u8], number: u64, at: u64) -> Result<(Place, Span), NoMemory> {
     let Some(record) = record_at(maps, number) else {
-        return Ok(None);
+        // Nobody comes here: there are all records, or an earlier rule is broken.
+        return Ok((Place::Byte(number, maps.len()), Span::none()));
     };
     match decode(alloc, record.body) {
-        Ok(map) => Ok(piece_of(map.elements(), at).map(|piece| (record.place, piece))),
+        Ok(map) => Ok((record.place, span_of(map.elements(), at))),
         Err(MapFault::NoMemory) => Err(NoMemory),
-        Err(_) => Ok(None),
+        Err(_) => Ok((record.place, Span::none())),
     }
 }
 
 /// The element that has a minislot. It reaches to the first one that begins behind that.
-fn piece_of(elements: &[Element], at: u64) -> Option<Span> {
-    let next = elements
-        .iter()
-        .position(|element| at < u64::from(element.offset()))?;
-    let behind = elements.get(next)?;
-    let element = elements.get(next.checked_sub(1)?)?;
-    Some(Span {
-        what: What::Element,
-        from: u64::from(element.offset()),
-        to: u64::from(behind.offset()),
-        sid: u64::from(element.sid()),
-        iuc: element.iuc(),
-    })
-}
-
-/// That lines grant the minislot.
-fn granted(
-    alloc: Global,
-    found: &MinislotLines,
-    grant: &Grant,
-    reserve: Option<Span>,
-    there: Option<(RecordPlace, Span)>,
-) -> Result<Words, AllocError> {
-    let (round, channel, at, len) = (found.round, found.channel, found.at, found.len);
-    let (lines, slots, start, sid, iuc) = (
-        found.lines,
-        grant.slots,
-        grant.start,
-        grant.sid,
-        grant.iuc,
-    );
-    let (reserve, there) = (Also(reserve), Also(there.map(|there| there.1)));
-    let text = format!(in alloc;
-        "round {round}, channel {channel}, minislot {at} of {len}: granted by {lines}; here start {start}, slots {slots}, SID {sid}, IUC {iuc}{reserve}{there}"
-    )?;
-    Ok(Words {
-        file: lines.file(),
-        text,
-    })
-}
-
-/// That no line grants the minislot.
-fn no_grant_text(
-    alloc: Global,
-    found: &MinislotLines,
-    wanted: Span,
-    there: Option<(RecordPlace, Span)>,
-) -> Result<String, AllocError> {
-    let (round, channel, at, len) = (found.round, found.channel, found.at, found.len);
-    match there {
-        Some((record, there)) => {
-            format!(in alloc;
-                "{record}: minislot {at} of {len}: {there}; no line grants it; {wanted}"
-            )
+fn span_of(elements: &[Element], at: u64) -> Span {
+    let mut span = Span::none();
+    for element in elements {
+        let start = u64::from(element.offset());
+        if at < start {
+            let slots = start.saturating_sub(span.start);
+            return Span { slots, ..span };
         }
-        None => {
-            format!(in alloc;
-                "round {round}, channel {channel}: minislot {at} of {len}: no line grants it; {wanted}"
-            )
-        }
+        span = Span {
+            what: What::Element,
+            start,
+            slots: 0,
+            sid: u64::from(element.sid()),
+            iuc: u64::from(element.iuc().number()),
+        };
     }
+    Span::none()
 }

@@ -1,66 +1,62 @@
 use crate::broken::BrokenRule;
-use crate::calendar_lines::{CalendarLines, last_place, occurrence_of, saturated, window};
-use crate::calendars::{Calendar, ChannelEntry, word_of};
-use crate::fields::{Also, Wrong};
-use crate::findings::{VerdictFile, Words};
+use crate::calendar_lines::{CalendarLines, occurrence_of};
+use crate::calendars::{Calendar, ChannelEntry, entries_with, saturated, window, word_of};
 use crate::lines::{LineTaker, Lines, gather};
 use crate::runs::Run;
-use std::alloc::{AllocError, Global};
+use crate::said::{Place, Said, Wrong};
+use std::alloc::Global;
+use us_activity::Activities;
 use us_output::{EntryWord, MissedOccurrence, Row};
 use us_slots::NoMemory;
 
 /// That a line of a calendar is wrong, or that an occurrence hasn't just one line.
-pub(crate) fn occurrence_words(
+pub(crate) fn occurrence_said(
     alloc: Global,
     run: &Run<'_>,
     broken: BrokenRule,
-) -> Result<Words, NoMemory> {
-    let calendar = Calendar::of_id(alloc, run, broken.place)?;
+) -> Result<Said, NoMemory> {
+    let activities = Activities::of(alloc, run.config, run.trace)?;
+    let calendar = Calendar {
+        run: *run,
+        activities: &activities,
+        entries: entries_with(alloc, run, broken.place)?,
+    };
+    said_of(alloc, &calendar, broken)
+}
+
+/// The same, of a calendar.
+fn said_of<'a>(
+    alloc: Global,
+    calendar: &'a Calendar<'a>,
+    broken: BrokenRule,
+) -> Result<Said, NoMemory> {
     let mut found = CalendarLines {
-        calendar: &calendar,
+        calendar,
         broken,
+        first: None,
         lines: Lines::none(),
         wrong: None,
     };
-    gather(alloc, run.report, &mut found)?;
-    let (lines, wrong) = (found.lines, found.wrong);
-    if let Some((number, wrong)) = wrong {
-        return Ok(wrong_words(alloc, broken, number, wrong)?);
+    gather(alloc, calendar.run.report, &mut found)?;
+    if let Some(field) = found.wrong {
+        return Ok(Said::of_lines(&found.lines, Place::of(broken), Wrong::Number(field)));
     }
-    let named = match unsettled(alloc, &calendar, broken)? {
-        Some(occurrence) => Some(occurrence),
-        None => lines.first().and_then(|row| occurrence_of(&row)),
-    };
-    count_words(alloc, &calendar, broken, named)
+    let unsettled = unsettled(alloc, calendar, broken)?;
+    count_said(alloc, calendar, broken, unsettled.or(found.first))
 }
 
-/// That a line is wrong by itself.
-fn wrong_words(
-    alloc: Global,
-    broken: BrokenRule,
-    number: u64,
-    wrong: Wrong,
-) -> Result<Words, AllocError> {
-    let (round, channel, id) = (broken.round, broken.channel, broken.place);
-    Ok(Words {
-        file: VerdictFile::Line(number),
-        text: format!(in alloc; "round {round}, channel {channel}, id {id}: {wrong}")?,
-    })
-}
-
-/// The lines that name an occurrence.
+/// The lines that name an occurrence; none, where there is none.
 #[derive(Clone, Copy)]
 struct NamingLines {
-    named: MissedOccurrence,
+    named: Option<MissedOccurrence>,
     lines: Lines,
 }
 
 impl LineTaker for NamingLines {
     fn take(&mut self, number: u64, row: &Row) {
-        let Some(line) = occurrence_of(row) else {
+        let (Some(line), Some(named)) = (occurrence_of(row), self.named) else {
             return;
         };
-        let named = self.named;
         let is_same = line.entry == named.entry && line.id == named.id;
         if is_same && line.i == named.i && line.k == named.k {
             self.lines.add(number, row);
@@ -69,40 +65,37 @@ impl LineTaker for NamingLines {
 }
 
 /// That an occurrence hasn't just one line.
-fn count_words(
+fn count_said(
     alloc: Global,
     calendar: &Calendar<'_>,
     broken: BrokenRule,
     named: Option<MissedOccurrence>,
-) -> Result<Words, NoMemory> {
-    let (round, channel, id) = (broken.round, broken.channel, broken.place);
-    let Some(named) = named else {
-        // Nobody comes here: each place of a verdict has a line or an occurrence.
-        let text = format!(in alloc; "round {round}, channel {channel}, id {id}")?;
-        return Ok(Words {
-            file: VerdictFile::Report,
-            text,
-        });
-    };
+) -> Result<Said, NoMemory> {
     let mut found = NamingLines {
         named,
         lines: Lines::none(),
     };
     gather(alloc, calendar.run.report, &mut found)?;
-    let (lines, i, k) = (found.lines, named.i, named.k);
-    let window = Also(calendar.named(named.entry).map(|of| window(&of, i)));
-    let what = if named.entry == EntryWord::Station {
-        "station"
-    } else {
-        "flow"
+    let wrong = match named {
+        Some(named) => {
+            let (first, behind) = starts_of(calendar, &named);
+            Wrong::Occurrence(named.i, named.k, found.lines, first, behind)
+        }
+        // Nobody comes here: each place of a verdict has a line or an occurrence.
+        None => Wrong::Count(1, found.lines),
     };
-    let text = format!(in alloc;
-        "round {round}, channel {channel}, {what} {id}: interval {i}, k {k}: 1 line is wanted, there is {lines}{window}"
-    )?;
-    Ok(Words {
-        file: lines.file(),
-        text,
-    })
+    Ok(Said::of_lines(&found.lines, Place::of(broken), wrong))
+}
+
+/// The first minislot at which an occurrence may start, and the one behind the last.
+fn starts_of(calendar: &Calendar<'_>, named: &MissedOccurrence) -> (u64, u64) {
+    match calendar.entries.named(named.entry) {
+        Some(of) => {
+            let (first, last) = window(&of, named.i);
+            (first, last.saturating_add(1))
+        }
+        None => (0, 0),
+    }
 }
 
 /// How many lines name each occurrence of some intervals of an entry.
@@ -120,47 +113,48 @@ impl LineTaker for Counted {
         let Some(line) = occurrence_of(row) else {
             return;
         };
-        if line.entry != self.word || line.id != self.id || line.k >= self.grants {
+        let is_of = line.entry == self.word && line.id == self.id;
+        if !is_of || line.k >= self.grants || line.i < self.first {
             return;
         }
-        let Some(interval) = line.i.checked_sub(self.first) else {
-            return;
-        };
-        let place = interval.saturating_mul(self.grants).saturating_add(line.k);
-        if let Some(count) = usize::try_from(place)
-            .ok()
-            .and_then(|place| self.counts.get_mut(place))
-        {
+        let before = line
+            .i
+            .saturating_sub(self.first)
+            .saturating_mul(self.grants);
+        if let Some(count) = self.counts.get_mut(before.saturating_add(line.k) as usize) {
             *count = count.saturating_add(1);
         }
     }
 }
 
-/// The first occurrence whose window closes in the round, and that hasn't just one line.
+/// The first occurrence on the channel whose window closes in the round, and that hasn't just one line.
 fn unsettled(
     alloc: Global,
     calendar: &Calendar<'_>,
     broken: BrokenRule,
 ) -> Result<Option<MissedOccurrence>, NoMemory> {
-    for of in calendar.entries.iter() {
-        if u64::from(of.channel.id) == broken.channel {
-            if let Some(found) = unsettled_of(alloc, calendar, of, broken)? {
-                return Ok(Some(found));
-            }
-        }
+    let of_flow = unsettled_of(alloc, calendar, calendar.entries.flow, broken)?;
+    if of_flow.is_some() {
+        return Ok(of_flow);
     }
-    Ok(None)
+    unsettled_of(alloc, calendar, calendar.entries.station, broken)
 }
 
 /// The same of one entry.
 fn unsettled_of(
     alloc: Global,
     calendar: &Calendar<'_>,
-    of: &ChannelEntry,
+    of: Option<ChannelEntry>,
     broken: BrokenRule,
 ) -> Result<Option<MissedOccurrence>, NoMemory> {
-    let first = first_interval(calendar, of, broken.round);
-    let behind = first_interval(calendar, of, broken.round.saturating_add(1));
+    let Some(of) = of else {
+        return Ok(None);
+    };
+    if u64::from(of.channel.id) != broken.channel {
+        return Ok(None);
+    }
+    let first = first_interval(calendar, &of, broken.round);
+    let behind = first_interval(calendar, &of, broken.round.saturating_add(1));
     let grants = u64::from(of.entry.grants);
     let mut counted = Counted {
         word: word_of(of.entry.kind),
@@ -173,7 +167,7 @@ fn unsettled_of(
         counted.counts.push(0)?;
     }
     gather(alloc, calendar.run.report, &mut counted)?;
-    Ok(first_of(calendar, of, broken, &counted))
+    Ok(first_of(calendar, &of, broken, &counted))
 }
 
 /// The first interval whose window closes in this round or later.
@@ -198,7 +192,7 @@ fn first_of(
     for (place, count) in counted.counts.iter().enumerate() {
         let i = counted.first.saturating_add(place as u64 / grants);
         let k = place as u64 % grants;
-        if *count != 1 && k <= last_place(calendar, of, i) {
+        if *count != 1 && k <= calendar.last_place(&of.entry, i) {
             return Some(MissedOccurrence {
                 round: broken.round,
                 channel: broken.channel,

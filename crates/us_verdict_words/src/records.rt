@@ -1,36 +1,14 @@
-use crate::findings::Words;
+use crate::findings::VerdictFile;
+use crate::said::{Place, Said, Wrong};
 use std::alloc::Global;
-use std::fmt;
 use us_codec::{MapFault, decode};
 use us_slots::NoMemory;
 
-/// Where a record of a maps file stands, and what it is for.
-#[derive(Clone, Copy)]
-pub(crate) struct RecordPlace {
-    pub(crate) number: u64,
-    pub(crate) at: usize,
-    pub(crate) round: u32,
-    pub(crate) channel: Option<u8>,
-}
-
-/// Writes `record 3, at byte 120 (round 1, channel 2)`.
-impl fmt::Display for RecordPlace {
-    fn fmt<W: fmt::Write>(&self, f: &mut fmt::Formatter<W>) -> fmt::Result {
-        let (number, at, round) = (self.number, self.at, self.round);
-        match self.channel {
-            Some(channel) => write!(
-                f,
-                "record {number}, at byte {at} (round {round}, channel {channel})"
-            ),
-            None => write!(f, "record {number}, at byte {at} (round {round})"),
-        }
-    }
-}
-
-/// A record of a maps file.
+/// A record of a maps file: where it begins, and what it has.
 #[derive(Clone, Copy)]
 pub(crate) struct FileRecord<'a> {
-    pub(crate) place: RecordPlace,
+    pub(crate) place: Place,
+    pub(crate) round: u32,
     pub(crate) body: &'a [u8],
 }
 
@@ -63,40 +41,40 @@ pub(crate) fn record_at(file: &[u8], number: u64) -> Option<FileRecord<'_>> {
         return None;
     }
     let (round, body, _) = first_piece(rest)?;
+    let at = file.len().saturating_sub(rest.len());
+    let channel = body.first().copied().unwrap_or(0);
     Some(FileRecord {
-        place: RecordPlace {
-            number,
-            at: file.len().saturating_sub(rest.len()),
-            round,
-            channel: body.first().copied(),
-        },
+        place: Place::Record(number, at, round, channel),
+        round,
         body,
     })
 }
 
-/// That a record is none: the file ends inside it, or its body isn't in the grammar.
-pub(crate) fn record_words(alloc: Global, file: &[u8], number: u64) -> Result<Words, NoMemory> {
-    let text = match record_at(file, number) {
-        Some(record) => body_text(alloc, &record)?,
-        None => cut_text(alloc, file, number)?,
-    };
-    Ok(Words::of_maps(text))
-}
-
-/// What is wrong with a body.
-fn body_text(alloc: Global, record: &FileRecord<'_>) -> Result<String, NoMemory> {
-    let place = record.place;
-    match decode(alloc, record.body) {
-        Err(MapFault::NoMemory) => Err(NoMemory),
-        Err(fault) => Ok(format!(in alloc; "{place}: {fault}")?),
-        Ok(_) => Ok(format!(in alloc; "{place}")?),
-    }
-}
-
-/// Where the file ends.
-fn cut_text(alloc: Global, file: &[u8], number: u64) -> Result<String, NoMemory> {
+/// Where a record begins that isn't whole.
+pub(crate) fn byte_of(file: &[u8], number: u64) -> Place {
     let (_, rest) = behind_records(file, number);
-    let at = file.len().saturating_sub(rest.len());
-    let (fault, end) = (MapFault::RecordCut, file.len());
-    Ok(format!(in alloc; "record {number}, at byte {at}: {fault}, at byte {end}")?)
+    Place::Byte(number, file.len().saturating_sub(rest.len()))
+}
+
+/// That a record is none: the file ends inside it, or its body isn't in the grammar.
+pub(crate) fn record_said(alloc: Global, file: &[u8], number: u64) -> Result<Said, NoMemory> {
+    let (place, wrong) = match record_at(file, number) {
+        Some(record) => (record.place, Wrong::Body(fault_of(alloc, record.body)?)),
+        None => (byte_of(file, number), Wrong::End(file.len())),
+    };
+    Ok(Said {
+        file: VerdictFile::Maps,
+        place,
+        wrong,
+    })
+}
+
+/// The fault of a body that has one.
+fn fault_of(alloc: Global, body: &[u8]) -> Result<MapFault, NoMemory> {
+    match decode(alloc, body) {
+        Err(MapFault::NoMemory) => Err(NoMemory),
+        Err(fault) => Ok(fault),
+        // Nobody comes here: the record of a verdict has a fault.
+        Ok(_) => Ok(MapFault::RecordCut),
+    }
 }

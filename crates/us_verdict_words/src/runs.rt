@@ -43,6 +43,12 @@ impl<'a> Run<'a> {
         None
     }
 
+    /// The channel at this place of the table.
+    pub(crate) fn channel_at(&self, place: u64) -> Option<PlacedChannel> {
+        let channel = self.config.channels().get(usize::try_from(place).ok()?)?;
+        self.channel(u64::from(channel.id))
+    }
+
     /// The flow with this id.
     pub(crate) fn flow(&self, id: u64) -> Option<&'a Flow> {
         self.config

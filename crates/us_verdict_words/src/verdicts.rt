@@ -2,16 +2,17 @@ ghost use Rattle.std.specs.Prelude.{◌≡◌, codes, IfOk};
 ghost use Rattle.us_verdict_words.specs.Codes.{code_of};
 
 use crate::broken::{BrokenRule, Rule};
-use crate::credit_lines::credit_line_words;
-use crate::credits::{outstanding_words, rate_words};
-use crate::findings::{VerdictFile, VerdictFinding, Words};
-use crate::headings::heading_words;
-use crate::last_lines::last_words;
+use crate::credit_lines::credit_line_said;
+use crate::credits::{outstanding_said, rate_said};
+use crate::findings::{VerdictFile, VerdictFinding};
+use crate::headings::heading_said;
+use crate::last_lines::last_said;
 use crate::lines::line_at;
-use crate::minislots::minislot_words;
-use crate::occurrences::occurrence_words;
-use crate::records::record_words;
+use crate::minislots::minislot_said;
+use crate::occurrences::occurrence_said;
+use crate::records::record_said;
 use crate::runs::Run;
+use crate::said::Said;
 use std::alloc::Global;
 use us_findings::Shown;
 use us_flows::Config;
@@ -35,25 +36,25 @@ pub fn verdict_finding(
         maps,
         report,
     };
-    let words = words_of(alloc, &run, broken)?;
+    let said = said_of(alloc, &run, broken)?;
     Ok(VerdictFinding {
-        file: words.file,
+        file: said.file,
         code: broken.rule.code(),
-        text: words.text,
+        text: format!(in alloc; "{}: {}", said.place, said.wrong)?,
     })
 }
 
 /// What is said of a rule.
-fn words_of(alloc: Global, run: &Run<'_>, broken: BrokenRule) -> Result<Words, NoMemory> {
+fn said_of(alloc: Global, run: &Run<'_>, broken: BrokenRule) -> Result<Said, NoMemory> {
     match broken.rule {
-        Rule::Records => record_words(alloc, run.maps, broken.place),
-        Rule::Headings => heading_words(alloc, run, broken.place),
-        Rule::Minislots => minislot_words(alloc, run, broken),
-        Rule::Occurrences => occurrence_words(alloc, run, broken),
-        Rule::Rates => rate_words(alloc, run, broken),
-        Rule::Credits if broken.channel != 0 => credit_line_words(alloc, run, broken),
-        Rule::Credits if broken.round < run.rounds() => outstanding_words(alloc, run, broken),
-        Rule::Credits => last_words(alloc, run, broken.place),
+        Rule::Records => record_said(alloc, run.maps, broken.place),
+        Rule::Headings => heading_said(alloc, run, broken.place),
+        Rule::Minislots => minislot_said(alloc, run, broken),
+        Rule::Occurrences => occurrence_said(alloc, run, broken),
+        Rule::Rates => rate_said(alloc, run, broken),
+        Rule::Credits if broken.channel != 0 => credit_line_said(alloc, run, broken),
+        Rule::Credits if broken.round < run.rounds() => outstanding_said(alloc, run, broken),
+        Rule::Credits => last_said(alloc, run, broken.place),
     }
 }
 
@@ -63,17 +64,13 @@ pub fn report_finding(alloc: Global, report: &[u8], line: u64) -> Result<Verdict
 {
     let bytes = line_at(report, line);
     let wanted = form_of(bytes);
-    let text = match bytes.strip_suffix(b"\n") {
-        Some(text) => format!(in alloc; "{wanted} is wanted, \"{}\" is there", Shown(text))?,
-        None => format!(in alloc;
-            "{wanted} is wanted, \"{}\" is there, without a line feed",
-            Shown(bytes)
-        )?,
-    };
     Ok(VerdictFinding {
         file: VerdictFile::Line(line),
         code: "CK1",
-        text,
+        text: format!(in alloc;
+            "{wanted} and a line feed is wanted, \"{}\" is there",
+            Shown(bytes)
+        )?,
     })
 }
 

@@ -1,3 +1,0 @@
-//! What no clause says: the texts. Those of broken rules are stored cases of the program.
-
-mod lines;
