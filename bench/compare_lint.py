@@ -70,9 +70,9 @@ UNKNOWN = [re.compile(r"sid: no flow has SID (?P<sid>\d+) on channel (?P<channel
 UNUSED = [re.compile(r"sid: SID (?P<sid>\d+) on channel (?P<channel>\d+) is of .*: (?P<rows>\d+) rows?\b.*")]
 LATE = re.compile(r"tick: too late for .*: (?P<rows>\d+) rows?\b.*")
 SILENT = re.compile(r"flow (\d+) \(id \d+\): no row of the trace .*")
-WINDOWS = re.compile(r"(flow|station) \d+ \(id (\d+)\), \w+: (\d+) of (?:the first )?(\d+) windows .* interval (\d+), "
-                     r".* round (\d+)")
-OTHERS = re.compile(r"(\d+) more (.*), the first here")
+WINDOWS = re.compile(r"(flow|station) \d+ \(id (\d+)\), \w+: (?:(no minislot begins)|.*) in (\d+) of (?:the first )?"
+                     r"(\d+) windows? .* interval (\d+), .* closes in round (\d+);.*")
+OTHERS = re.compile(r"(\d+) more (?!channel).*")
 NOTE = re.compile(r"(\d+) rounds? takes? in all rows")
 RECORD = re.compile(r"record (\d+), at byte (\d+)")
 MOST_WARNINGS = 10
@@ -394,19 +394,22 @@ def wrong_looks(lines, tables, trace, rounds):
     most = plain_program.MOST_RUN_TICKS // tables["round_ticks"]
     notes = [int(found.group(1)) for line in lines if line and (found := NOTE.match(line.group(6)))]
     rows = plain_warnings.Rows(tables, trace, rounds or most)
-    if notes != [rows.rounds] * (rounds is None and rows.rounds <= most):
+    if notes != [rows.rounds] * (rounds is None and rows.rounds is not None and rows.rounds <= most):
         return f"note: {notes} in place of {rows.rounds}"
     rounds = rounds or most
     late = [[int(found["rows"]), int(finding.group(2))] for finding in findings
             if (found := LATE.fullmatch(finding.group(6)))]
     silent = {int(found.group(1)) for found in map(SILENT.fullmatch, texts) if found}
-    windows = {(found.group(1), int(found.group(2))): tuple(map(int, found.groups()[2:]))
+    windows = {(found.group(1), int(found.group(2)), found.group(3) is not None): tuple(map(int, found.groups()[3:]))
                for found in map(WINDOWS.fullmatch, texts) if found}
+    lost = plain_warnings.windows_of(tables, rounds)
     compared = [
         ("unknown", rows_told(findings, UNKNOWN), rows.unknown), ("unused", rows_told(findings, UNUSED), rows.unused),
         ("silent", dict.fromkeys(silent), dict.fromkeys(rows.silent)),
-        ("windows", windows, plain_warnings.windows_of(tables, rounds)),
     ]
+    for is_empty in False, True:
+        told, wanted = ({key: value for key, value in of.items() if key[2] == is_empty} for of in (windows, lost))
+        compared.append(("windows", told, wanted))
     others = sum(int(found.group(1)) for found in map(OTHERS.fullmatch, texts) if found)
     for name, told, wanted in compared:
         if len(told) != min(len(wanted), MOST_WARNINGS) or not told.items() <= wanted.items():

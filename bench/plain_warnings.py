@@ -20,11 +20,11 @@ def takes(flow, kind):
 
 class Rows:
     """What is in the rows of a trace: of each SID that no flow has, and of each that has rows that do nothing, how many
-    rows, and the line of the first; the same of late rows; the rounds that take in all that do something; and the
-    indices of the flows that make requests, and that no row names."""
+    rows, and the line of the first; the same of late rows; the rounds that take in all that do something, if any does;
+    and the indices of the flows that make requests, and that no row names."""
 
     def __init__(self, tables, trace, rounds):
-        self.unknown, self.unused, self.late, self.rounds = {}, {}, [0, 0], 1
+        self.unknown, self.unused, self.late, self.rounds = {}, {}, [0, 0], None
         flows, owners, named = tables.get("flow", []), owners_of(tables), set()
         lines = list(plain_trace.lines_of_records(trace))[1:]
         for line, (tick, channel, sid, _units, kind) in zip(lines, plain_trace.rows_of(trace)):
@@ -35,7 +35,7 @@ class Rows:
                 rows[0] += 1
                 continue
             round = plain_scheduler.ceil_div(tick + tables["lead_ticks"], tables["round_ticks"])
-            self.rounds = max(self.rounds, round + 1)
+            self.rounds = max(self.rounds or 1, round + 1)
             if round >= rounds:
                 self.late = [self.late[0] + 1, self.late[1] or line]
         self.silent = [index for index, flow in enumerate(flows)
@@ -55,19 +55,22 @@ def has_room(channel, slots, start, end):
 
 
 def windows_of(tables, rounds):
-    """Of each entry of a calendar with windows that close in the run and have no room: its table, how
-    many of how many, the interval of the first and the round in which it closes."""
+    """Of each entry of a calendar with windows that close in the run and that no schedule can grant: the list of its
+    table, its id, and whether no minislot begins in them, or none of these has room for a grant. Behind it how many
+    they are of how many, the interval of the first and the round in which it closes."""
     found = {}
     quarters = tables["round_ticks"] * plain_scheduler.TICK
     for table in tables["channel"]:
         channel = plain_scheduler.Channel(table, tables["round_ticks"])
+        minislot = channel.ticks * plain_scheduler.TICK
         for entry in plain_scheduler.calendar_of(channel, tables.get("flow", []), tables.get("station", [])):
-            slots = min(entry.n, entry.poll or entry.n)
+            kind = "station" if entry.word == "station" else "flow"
             starts = range(entry.start, rounds * quarters - entry.jitter, entry.interval)[:MOST_WINDOWS]
-            lost = [place for place, start in enumerate(starts)
-                    if not has_room(channel, slots, start, start + entry.jitter)]
-            if lost:
-                kind = "station" if entry.word == "station" else "flow"
-                closes = (starts[lost[0]] + entry.jitter) // quarters
-                found[kind, entry.id] = len(lost), len(starts), lost[0], closes
+            for place, start in enumerate(starts):
+                end = start + entry.jitter
+                if has_room(channel, entry.n, start, end):
+                    continue
+                is_empty = plain_scheduler.ceil_div(start, minislot) > end // minislot
+                count, *first = found.get((kind, entry.id, is_empty), (0, len(starts), place, end // quarters))
+                found[kind, entry.id, is_empty] = count + 1, *first
     return found
