@@ -50,10 +50,20 @@ impl Seen {
     /// All rows of a text behind its header.
     fn add_all(&mut self, alloc: Global, text: &[u8], config: &Config) -> Result<(), NoMemory> {
         let mut rows = Rows::new(alloc, text);
-        if !rows.read()? {
-            return Ok(());
+        if rows.read()? {
+            let columns = rows.fields().len();
+            self.add_rows(config, &mut rows, columns)?;
         }
-        let columns = rows.fields().len();
+        Ok(())
+    }
+
+    /// All rows that are still to be read, behind a header of so many columns.
+    fn add_rows(
+        &mut self,
+        config: &Config,
+        rows: &mut Rows<'_>,
+        columns: usize,
+    ) -> Result<(), NoMemory> {
         for number in 2..MAX_RECORDS + 1 {
             if !rows.read()? {
                 return Ok(());

@@ -1,7 +1,7 @@
-use crate::{TraceWarnings, config_warnings, trace_warnings};
+use crate::{config_warnings, trace_warnings};
 use std::alloc::Global;
-use std::fmt::Debug;
-use us_flows::{Config, ConfigFault};
+use us_findings::Finding;
+use us_flows::Config;
 use us_samples::base;
 use us_slots::NoMemory;
 
@@ -50,35 +50,42 @@ static CASES: [Case; 3] = [
     },
 ];
 
-/// All that looks wrong in a case, a line each.
+/// All that looks wrong in a case, a line each, and how many rounds take all rows in.
 fn found_in(alloc: Global, case: &Case) -> Result<String, NoMemory> {
-    let text = format!(in alloc; "{}{}", base(), case.tables)?;
-    let Ok(config) = Config::read(alloc, text.as_bytes()) else {
-        return Ok(String::from_str(alloc, "a fault")?);
-    };
+    let tables = case.tables;
+    let base = base();
+    let text = format!(in alloc; "{base}{tables}")?;
+    match Config::read(alloc, text.as_bytes()) {
+        Ok(config) => found_beside(alloc, text.as_bytes(), case, &config),
+        Err(_) => Ok(String::from_str(alloc, "a fault")?),
+    }
+}
+
+/// The same beside a configuration, which was read from a text.
+fn found_beside(
+    alloc: Global,
+    text: &[u8],
+    case: &Case,
+    config: &Config,
+) -> Result<String, NoMemory> {
+    let of_tables = config_warnings(alloc, text, config, case.rounds)?;
+    let of_rows = trace_warnings(alloc, text, case.trace.as_bytes(), config, case.rounds)?;
     let mut lines = String::new(alloc);
-    for finding in &config_warnings(alloc, text.as_bytes(), &config, case.rounds)? {
-        let line = format!(in alloc; "{finding}\n")?;
-        lines.push_str(line.as_str())?;
-    }
-    let TraceWarnings {
-        findings,
-        rounds_for_all,
-    } = trace_warnings(
-        alloc,
-        text.as_bytes(),
-        case.trace.as_bytes(),
-        &config,
-        case.rounds,
-    )?;
-    for finding in &findings {
-        let line = format!(in alloc; "{finding}\n")?;
-        lines.push_str(line.as_str())?;
-    }
-    let rounds = rounds_for_all.unwrap_or(0);
-    let line = format!(in alloc; "{rounds}\n")?;
-    lines.push_str(line.as_str())?;
+    push_lines(alloc, &mut lines, &of_tables)?;
+    push_lines(alloc, &mut lines, &of_rows.findings)?;
+    let rounds = of_rows.rounds_for_all.unwrap_or(0);
+    let last = format!(in alloc; "{rounds}\n")?;
+    lines.push_str(last.as_str())?;
     Ok(lines)
+}
+
+/// Puts a line for each finding behind a text.
+fn push_lines(alloc: Global, lines: &mut String, findings: &[Finding]) -> Result<(), NoMemory> {
+    for finding in findings {
+        let line = format!(in alloc; "{finding}\n")?;
+        lines.push_str(line.as_str())?;
+    }
+    Ok(())
 }
 
 #[test]
