@@ -144,14 +144,20 @@ impl ConfigFault {
             ConfigFault::Text => "not a TOML document of at most 4,194,304 bytes",
             ConfigFault::Missing(_) => "a key is missing in ",
             ConfigFault::Range(_) => "a value is out of its range, or a key is unknown, in ",
-            ConfigFault::UnknownChannel(_) => "an id in channels or channel that no channel has, in ",
+            ConfigFault::UnknownChannel(_) =>
+                "an id in channels or channel that no channel has, in ",
             ConfigFault::DuplicateId(_) => "a duplicate id, or a duplicate in channels, in ",
-            ConfigFault::DuplicateSid(_) => "a SID in clusters is another cluster's on the same channel in ",
-            ConfigFault::ClusterLength(_) => "a list in clusters doesn't have one SID for each of channels in ",
-            ConfigFault::RoundNotMultiple(_) => "round_ticks isn't a multiple of the minislot, minislot_log2, of ",
-            ConfigFault::ReservesTooLong(_) => "contention_minislots and maintenance_minislots don't fit in the MAPs of ",
+            ConfigFault::DuplicateSid(_) =>
+                "a SID in clusters is another cluster's on the same channel in ",
+            ConfigFault::ClusterLength(_) =>
+                "a list in clusters doesn't have one SID for each of channels in ",
+            ConfigFault::RoundNotMultiple(_) =>
+                "round_ticks isn't a multiple of the minislot, minislot_log2, of ",
+            ConfigFault::ReservesTooLong(_) =>
+                "contention_minislots and maintenance_minislots don't fit in the MAPs of ",
             ConfigFault::Jitter(_) => "jitter_us is not below interval_us in ",
-            ConfigFault::GrantLongerThanMap(_) => "grant_bytes, a poll or station_minislots is longer than the MAP in ",
+            ConfigFault::GrantLongerThanMap(_) =>
+                "grant_bytes, a poll or station_minislots is longer than the MAP in ",
             ConfigFault::Headers(_) => "headers is false with several channels in ",
             ConfigFault::MinRate(_) => "min_rate is above rate in ",
             ConfigFault::NoMemory => "out of memory",

@@ -48,11 +48,7 @@ pub fn is_header(fields: &ByteRecord) -> bool
 }
 
 /// The request that the record of this number tells, behind a header of so many columns.
-pub fn request_in(
-    fields: &ByteRecord,
-    columns: usize,
-    number: u32,
-) -> Result<Request, TraceFault>
+pub fn request_in(fields: &ByteRecord, columns: usize, number: u32) -> Result<Request, TraceFault>
     requires { number ≤ max_records }
     ensures fault { IfErr result (λ fault. first_of (record_checks columns number (fields_of fields.now)) ≡ Some fault) }
     ensures none { IfOk result (λ _. first_of (record_checks columns number (fields_of fields.now)) ≡ None) }
