@@ -6,7 +6,7 @@ use crate::files::read_at_most;
 use crate::listings::Listing;
 use crate::printing::print;
 use crate::statuses::Status;
-use crate::trace_linting::{AcceptedTrace, lint_trace_file};
+use crate::trace_linting::{AcceptedTrace, TraceText, lint_trace_file};
 use crate::verdict_linting::lint_output;
 use std::alloc::{AllocError, Global};
 use std::rt::Files;
@@ -14,7 +14,6 @@ use us_command_line::FileLint;
 use us_findings::{Finding, Findings, Source, lint_config, too_long_config};
 use us_flows::{Config, MAX_CONFIG_BYTES};
 use us_replay::RunFault;
-use us_requests::Trace;
 use us_slots::Sink;
 use us_warnings::{TraceWarnings, config_warnings};
 
@@ -105,7 +104,7 @@ fn accepted<'a, R: Files>(
     warnings: Vec<Finding>,
     accepted: AcceptedTrace,
 ) -> Result<Listing<'a>, Fault>
-    requires { rounds_fit config.now accepted.trace.rounds ≡ true }
+    requires { rounds_fit config.now accepted.text.rounds ≡ true }
 {
     let TraceWarnings {
         findings,
@@ -116,7 +115,7 @@ fn accepted<'a, R: Files>(
         Some(_) => None,
         None => rounds_for_all,
     };
-    listing_beside(rt, alloc, order, config, &accepted.trace, &warnings, note)
+    listing_beside(rt, alloc, order, config, &accepted.text, &warnings, note)
 }
 
 /// The same, with these warnings and this note: first what is wrong in what a run wrote.
@@ -125,7 +124,7 @@ fn listing_beside<'a, R: Files>(
     alloc: Global,
     order: &FileLint<'a>,
     config: &Config,
-    trace: &Trace,
+    trace: &TraceText,
     warnings: &[Finding],
     note: Option<u32>,
 ) -> Result<Listing<'a>, Fault>
@@ -146,7 +145,7 @@ fn add_verdict<R: Files>(
     alloc: Global,
     order: &FileLint<'_>,
     config: &Config,
-    trace: &Trace,
+    trace: &TraceText,
     listing: &mut Listing<'_>,
 ) -> Result<(), Fault>
     requires { rounds_fit config.now trace.now.rounds ≡ true }
@@ -154,7 +153,8 @@ fn add_verdict<R: Files>(
     let (Some(maps), Some(report)) = (order.maps, order.report) else {
         return Ok(());
     };
-    match lint_output(rt, alloc, config, trace, maps, report)? {
+    let trace = trace.trace(alloc, config)?;
+    match lint_output(rt, alloc, config, &trace, maps, report)? {
         Some(finding) => Ok(listing.add_broken(maps, report, &finding)?),
         None => Ok(()),
     }
@@ -165,12 +165,12 @@ fn by_place(mut findings: Vec<Finding>, others: Vec<Finding>) -> Result<Vec<Find
     for finding in others {
         findings.push(finding)?;
     }
-    findings.sort_unstable_by_key(|finding| {
+    findings.sort_by_key(|finding| {
         (
             finding.source == Source::Trace,
             finding.line,
             finding.column,
         )
-    });
+    })?;
     Ok(findings)
 }

@@ -1,11 +1,9 @@
 -- What a lint of a trace answers, by what reading it answers.
-use Rattle.std.specs.Prelude.{◌≡◌, ℕ, ◌<◌, ◌≤◌, ◌⊎◌, List, length, Some, Result, Ok, Err}
-use Rattle.us_flows.specs.Tables.{Tables}
+use Rattle.std.specs.Prelude.{◌≡◌, ℕ, ◌<◌, ◌≤◌, ◌⊎◌, List, length, Option, Some, None}
 use Rattle.us_requests.specs.declared.faults.TraceFault.{TraceFault}
 use Rattle.us_requests.specs.declared.faults.TraceFault.TheVariants as fault
-use Rattle.us_requests.specs.Readings.{Answers, max_bytes}
+use Rattle.us_requests.specs.Readings.{max_bytes}
 use Rattle.us_requests.specs.Texts.{trace_fault}
-use Rattle.us_requests.specs.Traces.{TraceAsks}
 use Rattle.us_findings.specs.declared.findings.Findings.{Findings}
 use Rattle.us_findings.specs.declared.findings.What.TheVariants as what
 
@@ -20,7 +18,7 @@ abbrev pub AreErrorsOf : List ℕ → Findings → Type 0
 AreErrorsOf text findings =
     (answered : TraceFault) × (findings.first.what ≡ what.Trace answered) × IsAnswered text answered
 
--- without an error it is the trace that the text tells, for so many rounds
-abbrev pub IsTraceLint : Tables → ℕ → List ℕ → Result TraceAsks Findings → Type 0
-IsTraceLint t rounds text (Ok trace) = (length text ≤ max_bytes) × Answers t rounds text (Ok trace)
-IsTraceLint t rounds text (Err findings) = AreErrorsOf text findings
+-- there are none exactly where reading the text answers no fault
+abbrev pub IsTraceLint : List ℕ → Option Findings → Type 0
+IsTraceLint text None = (length text ≤ max_bytes) × (trace_fault text ≡ None)
+IsTraceLint text (Some findings) = AreErrorsOf text findings

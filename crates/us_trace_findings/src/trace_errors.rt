@@ -1,44 +1,40 @@
-ghost use Rattle.std.specs.Prelude.{◌≡◌, ◌<◌, ◌⊎◌, [], IfOk, IsSome, OnOk, Some, length, true};
+ghost use Rattle.std.specs.Prelude.{◌≡◌, [], IfErr, IfOk, None, OnOk, Some, option_map};
 ghost use Rattle.csv.specs.Records.{fields_of};
-ghost use Rattle.us_flows.specs.Tables.{rounds_fit};
-ghost use Rattle.us_requests.specs.Readings.{max_bytes};
-ghost use Rattle.us_requests.specs.Texts.{fault_from, record_checks, records_fault, trace_fault};
+ghost use Rattle.us_requests.specs.Texts.{fault_from, record_checks, records_fault};
 ghost use Rattle.us_requests.specs.declared.faults.TraceFault.TheVariants as fault;
 ghost use Rattle.us_slots.specs.Lists.{first_of};
 ghost use Rattle.us_findings.specs.declared.findings.What.TheVariants as what;
-ghost use Rattle.us_trace_findings.specs.Errors.{AreErrorsOf, IsTraceLint};
+ghost use Rattle.us_trace_findings.specs.Errors.{IsTraceLint};
 ghost use Rattle.us_trace_findings.specs.Found.{behind, first_what};
 
 use crate::row_errors::row_error;
 use crate::rows::Rows;
+use crate::seeing::SeesRequests;
 use csv::ByteRecord;
 use std::alloc::Global;
 use us_findings::{Finding, Findings, Source, What};
-use us_flows::Config;
-use us_requests::{MAX_RECORDS, MAX_TRACE_BYTES, Trace, TraceFault, is_header, request_in};
-use us_slots::{FromRead, NoMemory};
+use us_requests::{MAX_RECORDS, MAX_TRACE_BYTES, Request, TraceFault, is_header, request_in};
+use us_slots::NoMemory;
 
 /// The most records whose errors are told one by one.
 const MAX_TOLD: usize = 50;
 
-/// The trace that a text tells for a run of so many rounds, or its errors: the fault that [`Trace::read`] answers, then
-/// those of other records in their order, 50 at most with the first, and how many more there are.
+/// The errors of the text of a trace, if it has one: the fault that `Trace::read` answers, then those of other records in
+/// their order, 50 at most with the first, and how many more there are. `seer` is shown the requests of all other records.
 #[tactic(auto, using(crate::proofs::LintLemmas::linting))]
-pub fn lint_trace(
+pub fn lint_trace<S: SeesRequests>(
     alloc: Global,
     text: &[u8],
-    config: &Config,
-    rounds: u32,
-) -> Result<Result<Trace, Findings>, NoMemory>
-    requires fits { rounds_fit config.now rounds ≡ true }
-    ensures { IfOk result (IsTraceLint config.now rounds text.now) }
+    seer: &mut S,
+) -> Result<Option<Findings>, NoMemory>
+    ensures { IfOk result (IsTraceLint text.now) }
 {
-    match Trace::read(alloc, &mut FromRead::new(text), config, rounds) {
-        Ok(trace) => Ok(Ok(trace)),
-        // A slice gives every read.
-        Err(TraceFault::NoMemory | TraceFault::Read) => Err(NoMemory),
-        Err(_) => Ok(Err(errors_of(alloc, text)?)),
+    if text.len() > MAX_TRACE_BYTES {
+        return Ok(Some(too_long_trace(alloc)?));
     }
+    let mut told = Told::new(alloc);
+    told.add_all(&mut Rows::new(alloc, text), seer)?;
+    Ok(told.into_findings())
 }
 
 /// The error of a file that has more bytes than a trace may have.
@@ -51,20 +47,6 @@ pub fn too_long_trace(alloc: Global) -> Result<Findings, NoMemory>
         others: Vec::new(alloc),
         more: 0,
     })
-}
-
-/// The errors of a text that has one.
-#[tactic(auto, using(crate::proofs::LintLemmas::linting))]
-fn errors_of(alloc: Global, text: &[u8]) -> Result<Findings, NoMemory>
-    requires { (max_bytes < length text.now) ⊎ IsSome (trace_fault text.now) }
-    ensures { IfOk result (AreErrorsOf text.now) }
-{
-    if text.len() > MAX_TRACE_BYTES {
-        return too_long_trace(alloc);
-    }
-    let mut told = Told::new(alloc);
-    told.add_all(&mut Rows::new(alloc, text))?;
-    Ok(told.into_findings())
 }
 
 /// A finding of a trace.
@@ -101,19 +83,28 @@ impl Told {
     }
 
     /// Those of all records of a text. Where it has no header, that alone.
-    fn add_all(&mut self, rows: &mut Rows<'_>) -> Result<(), NoMemory>
+    fn add_all<S: SeesRequests>(
+        &mut self,
+        rows: &mut Rows<'_>,
+        seer: &mut S,
+    ) -> Result<(), NoMemory>
         ensures { OnOk result (first_what self.new.findings.items ≡
             behind (first_what self.old.findings.items) (records_fault rows.old.left)) }
     {
         if !rows.read()? || !is_header(rows.fields()) {
             return self.add(rows, 0, TraceFault::Header);
         }
-        self.add_requests(rows, rows.fields().len())
+        self.add_requests(rows, rows.fields().len(), seer)
     }
 
     /// Those of the records behind a header of so many columns.
     #[tactic(auto, using(crate::proofs::FoundLemmas::finding))]
-    fn add_requests(&mut self, rows: &mut Rows<'_>, columns: usize) -> Result<(), NoMemory>
+    fn add_requests<S: SeesRequests>(
+        &mut self,
+        rows: &mut Rows<'_>,
+        columns: usize,
+        seer: &mut S,
+    ) -> Result<(), NoMemory>
         ensures { OnOk result (first_what self.new.findings.items ≡
             behind (first_what self.old.findings.items) (fault_from columns 2 rows.old.left)) }
     {
@@ -121,9 +112,9 @@ impl Told {
             if !rows.read()? {
                 return Ok(());
             }
-            match fault_of(rows.fields(), columns, number) {
-                Some(fault) => self.add(rows, columns, fault)?,
-                None => {}
+            match request_of(rows.fields(), columns, number) {
+                Ok(request) => seer.see(&request, rows.line())?,
+                Err(fault) => self.add(rows, columns, fault)?,
             }
         }
         Ok(())
@@ -144,31 +135,34 @@ impl Told {
         Ok(())
     }
 
-    /// All that were found, of which there is one at least.
+    /// All that were found, if there is one.
     #[tactic(auto, using(crate::proofs::FoundLemmas::taking))]
-    fn into_findings(self) -> Findings
-        requires { IsSome (first_what self.findings.items) }
-        ensures { Some result.first.what ≡ first_what self.findings.items }
+    fn into_findings(self) -> Option<Findings>
+        ensures { option_map (λ findings. findings.first.what) result ≡ first_what self.findings.items }
     {
         let Told {
             alloc: _,
             mut findings,
             more,
         } = self;
-        Findings {
+        if findings.is_empty() {
+            return None;
+        }
+        Some(Findings {
             first: findings.remove(0),
             others: findings,
             more,
-        }
+        })
     }
 }
 
-/// The fault of the record of this number, behind a header of so many columns.
-fn fault_of(fields: &ByteRecord, columns: usize, number: u32) -> Option<TraceFault>
-    ensures { result ≡ first_of (record_checks columns number (fields_of fields.now)) }
+/// The request that the record of this number tells, behind a header of so many columns, or its fault.
+fn request_of(fields: &ByteRecord, columns: usize, number: u32) -> Result<Request, TraceFault>
+    ensures fault { IfErr result (λ fault. first_of (record_checks columns number (fields_of fields.now)) ≡ Some fault) }
+    ensures none { IfOk result (λ _. first_of (record_checks columns number (fields_of fields.now)) ≡ None) }
 {
     if number > MAX_RECORDS {
-        return Some(TraceFault::TooLarge);
+        return Err(TraceFault::TooLarge);
     }
-    request_in(fields, columns, number).err()
+    request_in(fields, columns, number)
 }

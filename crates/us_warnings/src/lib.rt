@@ -2,7 +2,8 @@
 //!
 //! ```
 //! let findings = config_warnings(alloc, config_text, &config, rounds)?;
-//! let TraceWarnings { findings, rounds_for_all } = trace_warnings(alloc, config_text, text, &config, rounds)?;
+//! let mut seen = SeenRows::new(alloc, &config, rounds); // `lint_trace` shows it the requests of a trace
+//! let TraceWarnings { findings, rounds_for_all } = seen.warnings(alloc, config_text)?;
 //! ```
 //!
 //! What these words mean stands in `specs/`, in the order of its `Lib.antt`.
@@ -66,7 +67,7 @@ mod tick_warnings;
 mod traces;
 
 pub use tables::config_warnings;
-pub use traces::{TraceWarnings, trace_warnings};
+pub use traces::{SeenRows, TraceWarnings};
 
 #[cfg(test)]
 mod tests;

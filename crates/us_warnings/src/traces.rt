@@ -7,9 +7,9 @@ use crate::tick_warnings::{push_backward, push_late, push_microseconds};
 use std::alloc::Global;
 use us_findings::Finding;
 use us_flows::Config;
-use us_requests::{MAX_RECORDS, Request, request_in};
+use us_requests::Request;
 use us_slots::NoMemory;
-use us_trace_findings::Rows;
+use us_trace_findings::SeesRequests;
 
 /// What looks wrong in a trace and beside it in its configuration.
 #[derive(Drop)]
@@ -20,88 +20,52 @@ pub struct TraceWarnings {
     pub rounds_for_all: Option<u32>,
 }
 
-/// What looks wrong in the rows of a trace that is accepted, for a run of so many rounds. `config_text` is what the
-/// configuration was read from, since it is there that a flow stands which no row names. The error is want of memory.
-pub fn trace_warnings(
-    alloc: Global,
-    config_text: &[u8],
-    text: &[u8],
-    config: &Config,
-    rounds: u32,
-) -> Result<TraceWarnings, NoMemory> {
-    let mut seen = Seen {
-        named: NamedSids::new(alloc),
-        late: LateRows::new(rounds),
-        backward: BackwardRows::new(config),
-    };
-    seen.add_all(alloc, text, config)?;
-    seen.warnings(alloc, config_text, config, rounds)
-}
-
-/// What was seen in the rows of a trace.
+/// What was seen in the rows of a trace, beside its configuration and for a run of so many rounds.
 #[derive(Drop)]
-struct Seen {
+pub struct SeenRows<'a> {
+    config: &'a Config,
+    rounds: u32,
     named: NamedSids,
     late: LateRows,
     backward: BackwardRows,
 }
 
-impl Seen {
-    /// All rows of a text behind its header.
-    fn add_all(&mut self, alloc: Global, text: &[u8], config: &Config) -> Result<(), NoMemory> {
-        let mut rows = Rows::new(alloc, text);
-        if rows.read()? {
-            let columns = rows.fields().len();
-            self.add_rows(config, &mut rows, columns)?;
+impl<'a> SeenRows<'a> {
+    /// No row yet.
+    pub fn new(alloc: Global, config: &'a Config, rounds: u32) -> SeenRows<'a> {
+        SeenRows {
+            config,
+            rounds,
+            named: NamedSids::new(alloc),
+            late: LateRows::new(rounds),
+            backward: BackwardRows::new(config),
         }
-        Ok(())
     }
 
-    /// All rows that are still to be read, behind a header of so many columns.
-    fn add_rows(
-        &mut self,
-        config: &Config,
-        rows: &mut Rows<'_>,
-        columns: usize,
-    ) -> Result<(), NoMemory> {
-        for number in 2..MAX_RECORDS + 1 {
-            if !rows.read()? {
-                return Ok(());
-            }
-            if let Ok(request) = request_in(rows.fields(), columns, number) {
-                self.add(config, &request, rows.line())?;
-            }
-        }
-        Ok(())
-    }
-
-    /// One more row, on this line.
-    fn add(&mut self, config: &Config, request: &Request, line: usize) -> Result<(), NoMemory> {
-        if self.named.add(config, request, line)? {
-            self.late.add(config, request.tick, line);
-        }
-        self.backward.add(request.tick, line);
-        Ok(())
-    }
-
-    /// What looks wrong in them.
-    fn warnings(
-        &self,
-        alloc: Global,
-        config_text: &[u8],
-        config: &Config,
-        rounds: u32,
-    ) -> Result<TraceWarnings, NoMemory> {
+    /// What looks wrong in them. `config_text` is what the configuration was read from, since it is there that a flow stands
+    /// which no row names. The error is want of memory.
+    pub fn warnings(&self, alloc: Global, config_text: &[u8]) -> Result<TraceWarnings, NoMemory> {
+        let config = self.config;
         let mut drafts = Vec::new(alloc);
         push_unknown(alloc, &mut drafts, config, &self.named.unknown)?;
         push_unused(alloc, &mut drafts, config, &self.named)?;
         push_silent_flows(alloc, &mut drafts, config, &self.named)?;
-        push_late(alloc, &mut drafts, config, rounds, &self.late)?;
+        push_late(alloc, &mut drafts, config, self.rounds, &self.late)?;
         push_microseconds(alloc, &mut drafts, config, &self.late)?;
         push_backward(alloc, &mut drafts, &self.backward)?;
         Ok(TraceWarnings {
             findings: located(alloc, config_text, drafts)?,
             rounds_for_all: self.late.rounds_that_fit(config),
         })
+    }
+}
+
+impl SeesRequests for SeenRows<'_> {
+    fn see(&mut self, request: &Request, line: usize) -> Result<(), NoMemory> {
+        if self.named.add(self.config, request, line)? {
+            self.late.add(self.config, request.tick, line);
+        }
+        self.backward.add(request.tick, line);
+        Ok(())
     }
 }

@@ -1,9 +1,10 @@
-use crate::{config_warnings, trace_warnings};
+use crate::{SeenRows, config_warnings};
 use std::alloc::Global;
 use us_findings::Finding;
 use us_flows::Config;
 use us_samples::base;
 use us_slots::NoMemory;
+use us_trace_findings::lint_trace;
 
 /// Tables behind the base configuration, a trace, a number of rounds, and what looks wrong.
 struct Case {
@@ -69,7 +70,9 @@ fn found_beside(
     config: &Config,
 ) -> Result<String, NoMemory> {
     let of_tables = config_warnings(alloc, text, config, case.rounds)?;
-    let of_rows = trace_warnings(alloc, text, case.trace.as_bytes(), config, case.rounds)?;
+    let mut seen = SeenRows::new(alloc, config, case.rounds);
+    let _ = lint_trace(alloc, case.trace.as_bytes(), &mut seen)?;
+    let of_rows = seen.warnings(alloc, text)?;
     let mut lines = String::new(alloc);
     push_lines(alloc, &mut lines, &of_tables)?;
     push_lines(alloc, &mut lines, &of_rows.findings)?;
