@@ -1,5 +1,6 @@
 ghost use Rattle.std.specs.Prelude.{◌≡◌, false, true, IfOk, OnOk};
 ghost use Rattle.us_flows.specs.Tables.{rounds_fit};
+ghost use Rattle.mapsim.specs.declared.statuses.Status.TheVariants as status;
 
 use crate::faults::{Fault, Stream};
 use crate::files::read_at_most;
@@ -55,7 +56,9 @@ fn refused<'a>(
     order: &FileLint<'a>,
     warnings: &[Finding],
     findings: &Findings,
-) -> Result<Listing<'a>, Fault> {
+) -> Result<Listing<'a>, Fault>
+    ensures { IfOk result (λ listing. listing.status ≡ status.Refused) }
+{
     let mut listing = Listing::new(alloc, order);
     listing.add_first(findings)?;
     listing.add_warnings(warnings)?;

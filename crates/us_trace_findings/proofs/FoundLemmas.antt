@@ -26,12 +26,6 @@ first-kept (g ∷ rest) fault some = refl
 
 pub ruleset adding = (first-added, first-kept)
 
-pub some-first : (findings : List Finding) → IsSome (first_what findings) → 0 < length findings
-some-first [] some = absurd cc
-some-first (g ∷ rest) some = omega arith
-
-pub ruleset taking = (some-first)
-
 -- of these records behind a header of so many columns, the first errors were found, and these records are left, the first of
 -- which has this number
 pub record IsPartFound (all : List Record) (columns number : ℕ) (before now : Option What) (left : List Record) : Type 0 where

@@ -136,7 +136,6 @@ impl Told {
     }
 
     /// All that were found, if there is one.
-    #[tactic(auto, using(crate::proofs::FoundLemmas::taking))]
     fn into_findings(self) -> Option<Findings>
         ensures { option_map (λ findings. findings.first.what) result ≡ first_what self.findings.items }
     {
