@@ -68,6 +68,3 @@ pub use config_errors::lint_config;
 pub use findings::{Finding, Findings, Source, What};
 pub use shown::Shown;
 pub use texts::too_long_config;
-
-#[cfg(test)]
-mod tests;

@@ -7,14 +7,14 @@ use us_flows::{Channel, Config};
 
 /// The MAPs of a channel, with their reserves and nothing else.
 #[derive(Clone, Copy)]
-pub(crate) struct EmptyMaps {
+pub struct EmptyMaps {
     /// The minislots of each.
-    pub(crate) len: u32,
+    pub len: u32,
     /// Those of the reserve at the start of each MAP in so many.
-    pub(crate) maintenance: u32,
-    pub(crate) maintenance_every: u32,
+    pub maintenance: u32,
+    pub maintenance_every: u32,
     /// Those of the reserve at the end of each MAP.
-    pub(crate) contention: u32,
+    pub contention: u32,
 }
 
 impl Model for EmptyMaps {
@@ -44,7 +44,7 @@ impl Model for EmptyMaps {
 
 impl EmptyMaps {
     /// Those of a channel of the table.
-    pub(crate) fn of(config: &Config, channel: &Channel) -> EmptyMaps
+    pub fn of(config: &Config, channel: &Channel) -> EmptyMaps
         requires { IsChannel config.now channel.now }
         ensures { result ≡ spec.maps_of config.now channel.now }
     {
@@ -59,7 +59,7 @@ impl EmptyMaps {
     /// Whether a grant of so many minislots, at least one, has room in a MAP if it starts in one of these, which are
     /// counted from the start of the run. Of the MAPs that lie whole between the first and the last, two tell of all: one
     /// of these has no maintenance, or each MAP has.
-    pub(crate) fn have_room(&self, slots: u32, first: u32, last: u32) -> bool
+    pub fn have_room(&self, slots: u32, first: u32, last: u32) -> bool
         requires { 1 ≤ slots }
         ensures { IsTrue result ↔ ((map : ℕ) × spec.HasRoom self.now map slots first last) }
     {

@@ -66,8 +66,6 @@ mod tick_warnings;
 // What looks wrong in a trace.
 mod traces;
 
+pub use empty_maps::EmptyMaps;
 pub use tables::config_warnings;
 pub use traces::{SeenRows, TraceWarnings};
-
-#[cfg(test)]
-mod tests;

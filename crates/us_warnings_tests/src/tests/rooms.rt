@@ -1,4 +1,4 @@
-use crate::empty_maps::EmptyMaps;
+use us_warnings::EmptyMaps;
 
 /// Numbers that look drawn, one after another.
 #[derive(Drop)]

@@ -1,10 +1,10 @@
-use crate::{SeenRows, config_warnings};
 use std::alloc::Global;
 use us_findings::Finding;
 use us_flows::Config;
 use us_samples::base;
 use us_slots::NoMemory;
 use us_trace_findings::lint_trace;
+use us_warnings::{SeenRows, config_warnings};
 
 /// Tables behind the base configuration, a trace, a number of rounds, and what looks wrong.
 struct Case {

@@ -1,9 +1,9 @@
 //! Findings of changed configurations, in words. More stand in the stored cases of the program.
 
-use crate::{Findings, Shown, lint_config};
 use std::alloc::{AllocError, Global};
 use std::process::Abort;
 use std::test::Fail;
+use us_findings::{Findings, Shown, lint_config};
 use us_samples::base;
 use us_slots::NoMemory;
 

@@ -2,4 +2,3 @@
 
 mod findings;
 mod rooms;
-mod tallies;
