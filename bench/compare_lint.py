@@ -35,12 +35,10 @@ readers answer. Status 0: nothing was wrong; 1: something was.
 """
 import argparse
 import collections
-import multiprocessing
 import os
 import pathlib
 import random
 import re
-import signal
 import sys
 import tempfile
 import time
@@ -451,27 +449,6 @@ def compare_chunk(job):
     return compare(first, last, given, pathlib.Path.cwd())
 
 
-def counted(jobs, processes):
-    """Compares the inputs of all jobs, or as many as come before it is stopped by hand, and prints what is wrong."""
-    counts, folders = collections.Counter(), multiprocessing.Queue()
-    memory = compare_programs.MEMORY
-    with tempfile.TemporaryDirectory(prefix="lint-", dir=memory if memory.is_dir() else None) as folder:
-        for number in range(processes):
-            (pathlib.Path(folder) / str(number)).mkdir()
-            folders.put(f"{folder}/{number}")
-        with multiprocessing.Pool(processes, compare_programs.start, [folders]) as pool:
-            stops = []
-            signal.signal(signal.SIGINT, lambda *_: stops.append(True))
-            for found, lines in pool.imap_unordered(compare_chunk, jobs):
-                counts += found
-                for line in lines:
-                    print(line, flush=True)
-                if stops:
-                    print("stopped", flush=True)
-                    break
-    return counts
-
-
 def told(counts):
     """The table of the counts."""
     yield f"{'kind':14}{'answer':8}{'inputs':>8}{'exact':>8}{'header':>8}{'wrong':>8}"
@@ -501,7 +478,7 @@ def main():
     given.program = given.program.resolve(strict=True)
     began = time.monotonic()
     jobs = [(first, min(first + CHUNK, given.last), given) for first in range(given.first, given.last, CHUNK)]
-    counts = counted(jobs, given.processes)
+    counts = compare_programs.counted(jobs, given.processes, compare_chunk)
     known, headers = share(counts)
     wrong = sum(count for key, count in counts.items() if key[2] == "wrong")
     print(*told(counts), f"of one damage, answered C2, C3, TR2 or TR3: {known}, with the header's line {headers}",

@@ -112,17 +112,18 @@ def start(folders):
     os.chdir(folders.get())
 
 
-def counted(jobs, processes):
-    """Compares the inputs of all jobs, or as many as come before it is stopped by hand, and prints what differs."""
+def counted(jobs, processes, compare):
+    """Compares the inputs of all jobs by a function, or as many as come before it is stopped by hand, and prints what
+    differs."""
     counts, folders = collections.Counter(), multiprocessing.Queue()
-    with tempfile.TemporaryDirectory(prefix="programs-", dir=MEMORY if MEMORY.is_dir() else None) as folder:
+    with tempfile.TemporaryDirectory(prefix="compare-", dir=MEMORY if MEMORY.is_dir() else None) as folder:
         for number in range(processes):
             (pathlib.Path(folder) / str(number)).mkdir()
             folders.put(f"{folder}/{number}")
         with multiprocessing.Pool(processes, start, [folders]) as pool:
             stops = []
             signal.signal(signal.SIGINT, lambda *_: stops.append(True))
-            for found, lines in pool.imap_unordered(compare_chunk, jobs):
+            for found, lines in pool.imap_unordered(compare, jobs):
                 counts += found
                 for line in lines:
                     print(line, flush=True)
@@ -155,7 +156,7 @@ def main():
     given.program = given.program.resolve(strict=True)
     began = time.monotonic()
     jobs = [(first, min(first + CHUNK, given.last), given) for first in range(given.first, given.last, CHUNK)]
-    counts = counted(jobs, given.processes)
+    counts = counted(jobs, given.processes, compare_chunk)
     print(*told(counts), f"seconds {time.monotonic() - began:.0f}", sep="\n")
     return 1 if counts[DIFFER] else 0
 
