@@ -6,7 +6,6 @@ mod answers;
 mod base;
 mod counting;
 mod gates;
-mod kept_answers;
 mod kept_base;
 mod memory;
 mod plain;

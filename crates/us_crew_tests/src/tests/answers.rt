@@ -1,32 +1,22 @@
 use super::base::{Case, DOUBLED, REFUSED, map_case, same};
+use super::kept_base::by_kept;
 use std::alloc::Global;
 use us_crew::{CrewFault, OpenGate};
 
-static CASES: &[Case] = &[
-    DOUBLED,
-    Case {
-        workers: 1,
-        ..REFUSED
-    },
-    Case {
-        workers: 2,
-        ..REFUSED
-    },
-    Case {
-        workers: 4,
-        ..REFUSED
-    },
-    Case {
-        workers: 16,
-        ..REFUSED
-    },
-];
-
+/// Workers that are started anew and workers that are kept answer as one thread does, those over three rounds of two phases.
+/// A fault is that of the first item that is refused.
 #[test]
 fn answers_and_faults(rt: HostRuntime) {
-    for case in CASES {
-        let found = map_case(&rt, rt.alloc(), case, &OpenGate);
-        same(&rt, case.workers, found, case.answer);
+    for case in [DOUBLED, REFUSED] {
+        for workers in [1, 2, 3, 4, 16, 64] {
+            let case = Case { workers, ..case };
+            same(
+                &rt,
+                map_case(&rt, rt.alloc(), &case, &OpenGate),
+                case.answer,
+            );
+            same(&rt, by_kept(&rt, rt.alloc(), &case, OpenGate, 3), case.kept);
+        }
     }
 }
 
@@ -48,5 +38,5 @@ fn written(alloc: Global) -> u64 {
 
 #[test]
 fn texts_of_faults(rt: HostRuntime) {
-    same(&rt, 0, Ok(written(rt.alloc())), Ok(3));
+    same(&rt, Ok(written(rt.alloc())), Ok(3));
 }

@@ -15,8 +15,8 @@ pub(super) type Answered = Result<Vec<u64>, CrewFault<u64>>;
 pub(super) type Told = Result<u64, CrewFault<u64>>;
 
 /// The one assertion of these tests.
-pub(super) fn same(rt: &impl Abort, workers: usize, found: Told, wanted: Told) {
-    assert_eq!(rt; found, wanted, "{workers} workers");
+pub(super) fn same(rt: &impl Abort, found: Told, wanted: Told) {
+    assert_eq!(rt; found, wanted);
 }
 
 /// Doubles numbers, and refuses each above `most` with that number. Its clauses don't say so, as those of a work that

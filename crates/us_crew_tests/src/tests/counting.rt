@@ -84,12 +84,8 @@ fn entered<H: Threads + Wait + Sync>(
 #[test]
 fn entered_once(rt: HostRuntime) {
     for (workers, phase, wanted) in ENTERED {
-        same(
-            &rt,
-            *workers,
-            entered(&rt, rt.alloc(), *workers, *phase),
-            Ok(*wanted),
-        );
+        let found = entered(&rt, rt.alloc(), *workers, *phase);
+        same(&rt, found, Ok(*wanted));
     }
 }
 
@@ -105,6 +101,6 @@ fn kept_entered<H: Threads + Wait + Sync>(threads: &H, alloc: Global, workers: u
 fn kept_entered_once(rt: HostRuntime) {
     for workers in [1, 4, 64] {
         let found = kept_entered(&rt, rt.alloc(), workers);
-        same(&rt, workers, found, Ok(0x33333_33333_00000));
+        same(&rt, found, Ok(0x33333_33333_00000));
     }
 }

@@ -162,7 +162,7 @@ fn missed<H: Threads + Wait + Sync>(threads: &H, alloc: Global, held: &Held, tur
 fn workers_meet(rt: HostRuntime) {
     for (held, _) in HELD {
         let found = missed(&rt, rt.alloc(), held, 100_000_000);
-        same(&rt, held.case.workers, found, Ok(0));
+        same(&rt, found, Ok(0));
     }
 }
 
@@ -177,7 +177,7 @@ fn one_worker_is_alone(rt: HostRuntime) {
         first: 0,
         last: 1,
     };
-    same(&rt, 1, missed(&rt, rt.alloc(), &held, 1_000), Ok(1));
+    same(&rt, missed(&rt, rt.alloc(), &held, 1_000), Ok(1));
 }
 
 /// Workers meet as well where the gate has no limit, a thousand times over, and all that there may be some times.
@@ -186,7 +186,7 @@ fn workers_meet_without_limit(rt: HostRuntime) {
     for (held, times) in HELD {
         for _ in 0..*times {
             let found = missed(&rt, rt.alloc(), held, u64::MAX);
-            same(&rt, held.case.workers, found, Ok(0));
+            same(&rt, found, Ok(0));
         }
     }
 }
@@ -253,6 +253,6 @@ fn kept_missed<H: Threads + Wait + Sync>(
 fn kept_workers_meet(rt: HostRuntime) {
     for (held, rounds) in KEPT {
         let found = kept_missed(&rt, rt.alloc(), held, *rounds);
-        same(&rt, held.case.workers, found, Ok(0));
+        same(&rt, found, Ok(0));
     }
 }

@@ -24,15 +24,13 @@ impl Work<u64, u64, u64> for Halving {
     }
 }
 
-type Doubles<G> = Mailboxes<Doubling, G, u64, u64, u64>;
-
-type Halves<G> = Mailboxes<Halving, G, u64, u64, u64>;
+type Tasks<W, G> = Mailboxes<W, G, u64, u64, u64>;
 
 /// Where helpers find the tasks of both.
 #[derive(Drop)]
 struct BothMail<'a, G: Gate> {
-    doubles: &'a Doubles<G>,
-    halves: &'a Halves<G>,
+    doubles: &'a Tasks<Doubling, G>,
+    halves: &'a Tasks<Halving, G>,
 }
 
 impl<'a, G: Gate + Drop> Mail for BothMail<'a, G> {
@@ -48,17 +46,21 @@ struct Rounds<'a, G: Gate> {
     alloc: Global,
     case: &'a Case,
     gate: G,
-    rounds: u32,
-    pause: u32,
+    plan: Plan,
     mail: &'a BothMail<'a, G>,
+}
+
+/// Takes so many turns in which nothing is called.
+fn pause(turns: u32) {
+    for _ in 0..turns {
+        yield_now();
+    }
 }
 
 impl<'a, G: Gate + Copy + Drop> Rounds<'a, G> {
     /// A round, the digits of whose phases stand one behind the other. A fault of the first keeps nobody from the second.
     fn round<H: Wait>(&self, crew: &Crew<'_, H>) -> Told {
-        for _ in 0..self.pause {
-            yield_now();
-        }
+        pause(self.plan.pause);
         let front = self.doubled(crew);
         let back = self.halved(crew)?;
         Ok(front?.wrapping_mul(0x10_0000).wrapping_add(back))
@@ -101,13 +103,14 @@ impl<'a, G: Gate + Copy + Drop, H: Wait> Beside<H> for Rounds<'a, G> {
     ghost gives = { λ _ _. ⊤ };
 
     fn run(self, crew: &Crew<'_, H>) -> Told {
-        for _ in 1..self.rounds {
-            let told = self.round(crew);
+        let mut told = self.case.kept;
+        for _ in 0..self.plan.rounds {
+            told = self.round(crew);
             if told != self.case.kept {
-                return told;
+                break;
             }
         }
-        self.round(crew)
+        told
     }
 }
 
@@ -159,8 +162,7 @@ pub(super) fn by_plan<H: Threads + Wait + Sync, G: Gate + Copy + Sync + Send + D
             alloc,
             case,
             gate,
-            rounds: plan.rounds,
-            pause: plan.pause,
+            plan,
             mail: &mail,
         },
     )

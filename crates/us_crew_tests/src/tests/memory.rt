@@ -3,10 +3,21 @@ use super::kept_base::by_kept;
 use std::process::Abort;
 use us_crew::{CrewFault, OpenGate};
 
+static CASES: &[Case] = &[
+    Case {
+        workers: 2,
+        ..DOUBLED
+    },
+    Case {
+        workers: 16,
+        ..DOUBLED
+    },
+];
+
 /// The items are answered whole, or it is want of memory.
 fn is_whole(rt: &impl Abort, found: Told, wanted: Told) {
     if found != Err(CrewFault::NoMemory) {
-        same(rt, DOUBLED.workers, found, wanted);
+        same(rt, found, wanted);
     }
 }
 
@@ -14,18 +25,16 @@ fn is_whole(rt: &impl Abort, found: Told, wanted: Told) {
 
 #[test]
 fn refused_memory(rt: HostRuntime) {
-    for workers in [2, 16] {
-        let case = Case { workers, ..DOUBLED };
-        let found = map_case(&rt, rt.alloc(), &case, &OpenGate);
-        is_whole(&rt, found, DOUBLED.answer);
+    for case in CASES {
+        let found = map_case(&rt, rt.alloc(), case, &OpenGate);
+        is_whole(&rt, found, case.answer);
     }
 }
 
 #[test]
 fn refused_memory_kept(rt: HostRuntime) {
-    for workers in [2, 16] {
-        let case = Case { workers, ..DOUBLED };
-        let found = by_kept(&rt, rt.alloc(), &case, OpenGate, 2);
-        is_whole(&rt, found, DOUBLED.kept);
+    for case in CASES {
+        let found = by_kept(&rt, rt.alloc(), case, OpenGate, 2);
+        is_whole(&rt, found, case.kept);
     }
 }

@@ -6,29 +6,38 @@ use std::thread::Threads;
 use us_crew::{OpenGate, Phase, map_owned};
 use us_slots::NoMemory;
 
+/// How many numbers are doubled, from 1 up.
+const COUNT: u64 = 5_000;
+
+/// Tells of numbers in their order, as digits to base 1,000,003.
+fn told(numbers: &[u64]) -> u64 {
+    let mut told = 0_u64;
+    for number in numbers {
+        told = told.wrapping_mul(1_000_003).wrapping_add(*number);
+    }
+    told
+}
+
 /// Twice each number, by `rayon`.
-fn doubled(
-    threads: &(impl Threads + Wait + Sync),
-    alloc: Global,
-    numbers: &[u64],
-) -> Result<Vec<u64>, NoMemory> {
-    let doubled = numbers
+fn by_rayon(threads: &(impl Threads + Wait + Sync), alloc: Global) -> Result<u64, NoMemory> {
+    let numbers = numbers_to(alloc, COUNT)?;
+    let doubled: Vec<u64> = numbers
         .par_iter()
         .map(|number: &u64| number.wrapping_mul(2))
         .collect(threads, alloc)?;
-    Ok(doubled)
+    Ok(told(&doubled))
 }
 
-/// 1 if `rayon` collects the same of 5,000 numbers in their order.
-fn is_the_same(threads: &(impl Threads + Wait + Sync), alloc: Global) -> Told {
-    let numbers = numbers_to(alloc, 5_000)?;
-    let wanted = doubled(threads, alloc, &numbers)?;
+/// The same by workers.
+fn by_workers(threads: &(impl Threads + Wait + Sync), alloc: Global) -> Told {
+    let numbers = numbers_to(alloc, COUNT)?;
     let work = Doubling { most: u64::MAX };
-    let found = map_owned(threads, alloc, &work, Phase::Build, numbers, 7, &OpenGate)?;
-    Ok(u64::from(found.as_slice() == wanted.as_slice()))
+    let doubled = map_owned(threads, alloc, &work, Phase::Build, numbers, 7, &OpenGate)?;
+    Ok(told(&doubled))
 }
 
 #[test]
 fn as_rayon_collects(rt: HostRuntime) {
-    same(&rt, 7, is_the_same(&rt, rt.alloc()), Ok(1));
+    same(&rt, by_workers(&rt, rt.alloc()), Ok(0x219e815283883de8));
+    assert_eq!(rt; by_rayon(&rt, rt.alloc()), Ok(0x219e815283883de8));
 }
