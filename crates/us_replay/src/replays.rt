@@ -19,7 +19,7 @@ use sending::{flush, send};
 use std::alloc::Global;
 use std::sync::Wait;
 use std::thread::Threads;
-use us_crew::{Gate, MAX_WORKERS, Mailboxes, with_crew};
+use us_crew::{Gate, MAX_WORKERS, Mailboxes, OpenGate, with_crew};
 use us_flows::Config;
 use us_intake::{Intake, Seat};
 use us_requests::{Ask, Trace, TraceFault};
@@ -89,6 +89,48 @@ pub fn replay<H: Threads + Wait + Sync, R: Source, W1: Sink, W2: Sink, G: Gate +
     run(threads, alloc, config, &trace, workers, gate, maps, report)
 }
 
+/// Replays a trace as [`replay`] does by one worker, which is the calling thread: it starts no thread, waits for nobody and
+/// enters no gate, so it is there where threads aren't. RU2 never comes.
+pub fn replay_alone<R: Source, W1: Sink, W2: Sink>(
+    alloc: Global,
+    config: &Config,
+    trace: &mut R,
+    rounds: u32,
+    maps: &mut W1,
+    report: &mut W2,
+) -> Result<Summary, RunFault>
+    requires trace_ready { R.failed trace.old ≡ false }
+    requires maps_ready { W1.failed maps.old ≡ false }
+    requires report_ready { W2.failed report.old ≡ false }
+    ensures replayed { let to_maps : Growth = record { before = W1.contents maps.old; after = W1.contents maps.new } in
+        let to_report : Growth = record { before = W2.contents report.old; after = W2.contents report.new } in
+        Replayed config.now rounds (R.remaining trace.old) to_maps to_report result }
+    ensures lawful { let to_maps : Growth = record { before = W1.contents maps.old; after = W1.contents maps.new } in
+        let to_report : Growth = record { before = W2.contents report.old; after = W2.contents report.new } in
+        OnOk result (WroteLawful config.now rounds (R.remaining trace.old) to_maps to_report) }
+    ensures rounds { (result ≡ Err RunFault.Rounds) ↔ (Tables.rounds_fit config.now rounds ≡ false) }
+    ensures workers { ¬ (result ≡ Err RunFault.Workers) }
+    ensures nothing_read { result ≡ Err RunFault.Rounds → trace.new ≡ trace.old }
+    ensures nothing_written { comes_before result ≡ true → (maps.new ≡ maps.old) × (report.new ≡ report.old) }
+    ensures trace_failed { (R.failed trace.new ≡ true) ↔ (result ≡ Err (RunFault.Trace TraceFault.Read)) }
+    ensures trace_taken { result ≡ Err (RunFault.Trace TraceFault.Read) →
+        TookAtMost max_bytes (R.remaining trace.old) (R.remaining trace.new) }
+    ensures trace_wanting { result ≡ Err (RunFault.Trace TraceFault.NoMemory) →
+        TookAtMost max_bytes (R.remaining trace.old) (R.remaining trace.new) }
+    ensures maps_failed { W1.failed maps.new ≡ blames_maps result }
+    ensures report_failed { W2.failed report.new ≡ blames_report result }
+    ensures flushed { OnOk result ((W1.flushed maps.new ≡ true) × (W2.flushed report.new ≡ true)) }
+    ensures maps_unflushed { W1.failed maps.new ≡ true → W1.flushed maps.new ≡ false }
+    ensures report_unflushed { W2.failed report.new ≡ true → W2.flushed report.new ≡ false }
+    ensures maps_flushed { W1.flushed maps.old ≡ false → blames_report result ≡ false →
+        W1.flushed maps.new ≡ is_ok result }
+    ensures report_flushed { W2.flushed report.old ≡ false → W2.flushed report.new ≡ is_ok result }
+{
+    check_run(config, rounds, 1)?;
+    let read = Trace::read(alloc, trace, config, rounds)?;
+    run_alone(alloc, config, &read, &OpenGate, maps, report)
+}
+
 /// Looks at the numbers of a replay: RU1 where the rounds don't fit, and else RU2 where the workers are 0 or over 64.
 /// `replay` does it first; a caller that opens files for it does it before them.
 pub fn check_run(config: &Config, rounds: u32, workers: usize) -> Result<(), RunFault>
@@ -107,7 +149,7 @@ pub fn check_run(config: &Config, rounds: u32, workers: usize) -> Result<(), Run
     Ok(())
 }
 
-/// Replays a trace that was read: opens the intake where its requests are collected, which has to outlive the workers.
+/// Replays a trace that was read, by the calling thread where there is no work for a second worker.
 fn run<H: Threads + Wait + Sync, W1: Sink, W2: Sink, G: Gate + Sync>(
     threads: &H,
     alloc: Global,
@@ -119,7 +161,31 @@ fn run<H: Threads + Wait + Sync, W1: Sink, W2: Sink, G: Gate + Sync>(
     report: &mut W2,
 ) -> Result<Summary, RunFault>
     requires trace { IsTraceFor config.now trace.now }
-    requires workers { 1 ≤ workers }
+    requires maps_ready { W1.failed maps.old ≡ false }
+    requires report_ready { W2.failed report.old ≡ false }
+    ensures ends { EndsAs config.now trace.now (grown (W1.contents maps.old) (W1.contents maps.new))
+        (grown (W2.contents report.old) (W2.contents report.new)) result }
+    ensures lawful { OnOk result (IsLawfulOutput config.now trace.now) }
+    ensures left { AreLeft result (W1.failed maps.new) (W1.flushed maps.old) (W1.flushed maps.new)
+        (W2.failed report.new) (W2.flushed report.old) (W2.flushed report.new) }
+{
+    let workers = workers_for(config, trace, workers);
+    if workers < 2 {
+        return run_alone(alloc, config, trace, gate, maps, report);
+    }
+    run_shared(threads, alloc, config, trace, workers, gate, maps, report)
+}
+
+/// Replays a trace by the calling thread: opens the intake where its requests are collected.
+fn run_alone<W1: Sink, W2: Sink, G: Gate>(
+    alloc: Global,
+    config: &Config,
+    trace: &Trace,
+    gate: &G,
+    maps: &mut W1,
+    report: &mut W2,
+) -> Result<Summary, RunFault>
+    requires trace { IsTraceFor config.now trace.now }
     requires maps_ready { W1.failed maps.old ≡ false }
     requires report_ready { W2.failed report.old ≡ false }
     ensures ends { EndsAs config.now trace.now (grown (W1.contents maps.old) (W1.contents maps.new))
@@ -132,13 +198,75 @@ fn run<H: Threads + Wait + Sync, W1: Sink, W2: Sink, G: Gate + Sync>(
         return Err(RunFault::NoMemory(0));
     };
     let intake = intake.as_ref();
-    run_with(
+    run_alone_with(alloc, config, trace, intake, seat, gate, maps, report)
+}
+
+/// Replays a trace by the calling thread, with an intake that was opened for it, and its seat.
+fn run_alone_with<'a, W1: Sink, W2: Sink, G: Gate>(
+    alloc: Global,
+    config: &'a Config,
+    trace: &'a Trace,
+    intake: Option<&'a Intake>,
+    seat: Option<Seat>,
+    gate: &'a G,
+    maps: &mut W1,
+    report: &mut W2,
+) -> Result<Summary, RunFault>
+    requires trace { IsTraceFor config.now trace.now }
+    requires open { AreOpen (length (words_of config.now)) (option_map (λ i. i.now) intake) seat }
+    requires maps_ready { W1.failed maps.old ≡ false }
+    requires report_ready { W2.failed report.old ≡ false }
+    ensures ends { EndsAs config.now trace.now (grown (W1.contents maps.old) (W1.contents maps.new))
+        (grown (W2.contents report.old) (W2.contents report.new)) result }
+    ensures left { AreLeft result (W1.failed maps.new) (W1.flushed maps.old) (W1.flushed maps.new)
+        (W2.failed report.new) (W2.flushed report.old) (W2.flushed report.new) }
+{
+    let Ok(mut progress) = Progress::opening(alloc, config.clusters(), intake, seat) else {
+        return Err(RunFault::NoMemory(0));
+    };
+    let mut doers = Alone { gate };
+    run_by(
+        alloc,
+        config,
+        trace,
+        &mut progress,
+        &mut doers,
+        maps,
+        report,
+    )
+}
+
+/// Replays a trace by several workers: opens the intake where its requests are collected, which has to outlive them.
+fn run_shared<H: Threads + Wait + Sync, W1: Sink, W2: Sink, G: Gate + Sync>(
+    threads: &H,
+    alloc: Global,
+    config: &Config,
+    trace: &Trace,
+    workers: usize,
+    gate: &G,
+    maps: &mut W1,
+    report: &mut W2,
+) -> Result<Summary, RunFault>
+    requires trace { IsTraceFor config.now trace.now }
+    requires maps_ready { W1.failed maps.old ≡ false }
+    requires report_ready { W2.failed report.old ≡ false }
+    ensures ends { EndsAs config.now trace.now (grown (W1.contents maps.old) (W1.contents maps.new))
+        (grown (W2.contents report.old) (W2.contents report.new)) result }
+    ensures lawful { OnOk result (IsLawfulOutput config.now trace.now) }
+    ensures left { AreLeft result (W1.failed maps.new) (W1.flushed maps.old) (W1.flushed maps.new)
+        (W2.failed report.new) (W2.flushed report.old) (W2.flushed report.new) }
+{
+    let Ok((intake, seat)) = open_intake(alloc, config.clusters()) else {
+        return Err(RunFault::NoMemory(0));
+    };
+    let intake = intake.as_ref();
+    run_shared_with(
         threads, alloc, config, trace, intake, seat, workers, gate, maps, report,
     )
 }
 
-/// Replays a trace with an intake that was opened for it, and its seat.
-fn run_with<'a, H: Threads + Wait + Sync, W1: Sink, W2: Sink, G: Gate + Sync>(
+/// Replays a trace by several workers, with an intake that was opened for it, and its seat.
+fn run_shared_with<'a, H: Threads + Wait + Sync, W1: Sink, W2: Sink, G: Gate + Sync>(
     threads: &H,
     alloc: Global,
     config: &'a Config,
@@ -151,7 +279,6 @@ fn run_with<'a, H: Threads + Wait + Sync, W1: Sink, W2: Sink, G: Gate + Sync>(
     report: &mut W2,
 ) -> Result<Summary, RunFault>
     requires trace { IsTraceFor config.now trace.now }
-    requires workers { 1 ≤ workers }
     requires open { AreOpen (length (words_of config.now)) (option_map (λ i. i.now) intake) seat }
     requires maps_ready { W1.failed maps.old ≡ false }
     requires report_ready { W2.failed report.old ≡ false }
@@ -160,22 +287,9 @@ fn run_with<'a, H: Threads + Wait + Sync, W1: Sink, W2: Sink, G: Gate + Sync>(
     ensures left { AreLeft result (W1.failed maps.new) (W1.flushed maps.old) (W1.flushed maps.new)
         (W2.failed report.new) (W2.flushed report.old) (W2.flushed report.new) }
 {
-    let Ok(mut progress) = Progress::opening(alloc, config.clusters(), intake, seat) else {
+    let Ok(progress) = Progress::opening(alloc, config.clusters(), intake, seat) else {
         return Err(RunFault::NoMemory(0));
     };
-    let workers = workers_for(config, trace, workers);
-    if workers < 2 {
-        let mut doers = Alone { gate };
-        return run_by(
-            alloc,
-            config,
-            trace,
-            &mut progress,
-            &mut doers,
-            maps,
-            report,
-        );
-    }
     run_kept(
         threads, alloc, config, trace, workers, gate, progress, maps, report,
     )

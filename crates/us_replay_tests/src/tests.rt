@@ -1,6 +1,7 @@
 //! What no clause says: replays over devices of every kind, to the byte, workers that are at work at the same time, and
 //! the texts of faults.
 
+mod alone;
 mod base;
 mod devices;
 mod entries;

@@ -8,9 +8,9 @@ use std::sync::Wait;
 use std::thread::Threads;
 use us_crew::OpenGate;
 use us_flows::ConfigFault;
-use us_replay::RunFault;
+use us_replay::{RunFault, replay_alone};
 use us_requests::{Trace, TraceFault};
-use us_slots::FromRead;
+use us_slots::{FromRead, FromWrite};
 
 /// What the bonded run comes to where it ends with this fault, and its trace was called so often at its end: records and
 /// lines of the rounds that are done, and no flush. None: this is no want of memory.
@@ -107,5 +107,18 @@ fn trace_of_a_replay(rt: HostRuntime) {
         );
         let of_trace = matches!(found.0, Err(RunFault::Trace(_)));
         same(&rt, &of_trace, &false, "a replay");
+    }
+}
+
+/// Fails where want of memory is told of the trace by a replay on the calling thread alone.
+#[test]
+fn trace_of_a_replay_alone(rt: HostRuntime) {
+    if let Ok(config) = bonded(rt.alloc()) {
+        let mut trace = FromRead::new(reader(BONDED_TRACE, false));
+        let mut maps = FromWrite::new(writer(BONDED_MAPS, 100));
+        let mut report = FromWrite::new(writer(BONDED_REPORT, 100));
+        let found = replay_alone(rt.alloc(), &config, &mut trace, 2, &mut maps, &mut report);
+        let of_trace = matches!(found, Err(RunFault::Trace(_)));
+        same(&rt, &of_trace, &false, "a replay alone");
     }
 }

@@ -11,7 +11,7 @@ use us_requests::TraceFault;
 use us_slots::{FromRead, FromWrite, Sink, Source};
 
 /// What the stored run did.
-const STORED: Summary = Summary {
+pub(super) const STORED: Summary = Summary {
     rounds: 2,
     granted: 1,
     missed: 0,
@@ -28,7 +28,7 @@ pub(super) type Deeds = (bool, usize, bool, usize, usize);
 /// writers did.
 pub(super) type Outcome = (Result<Summary, RunFault>, (bool, usize), Deeds, Deeds);
 
-fn deeds(writer: FromWrite<FakeWriter>) -> Deeds {
+pub(super) fn deeds(writer: FromWrite<FakeWriter>) -> Deeds {
     let failed = writer.has_failed();
     let inner = writer.into_inner();
     (

@@ -1,6 +1,6 @@
 use Rattle.us_replay.proofs.LoopLemmas.{ends-at-once}
 use Rattle.us_replay.proofs.LawfulLemmas.{lawful-output}
-use Rattle.us_replay.proofs.replays.run.Goals as goal
+use Rattle.us_replay.proofs.replays.run_alone.Goals as goal
 
 pub returns-in_default-clause-ends : goal.returns-in_default-clause-ends
 returns-in_default-clause-ends g c =
@@ -9,5 +9,5 @@ returns-in_default-clause-ends g c =
 
 pub returns-clause-lawful : goal.returns-clause-lawful
 returns-clause-lawful g c =
-    lawful-output c.args.config.now c.args.trace.now c.run_with.result c.clusters.ensures.lawful c.requires.trace.fits
-    c.run_with.ensures.ends.fields
+    lawful-output c.args.config.now c.args.trace.now c.run_alone_with.result c.clusters.ensures.lawful c.requires.trace.fits
+    c.run_alone_with.ensures.ends.fields

@@ -1,5 +1,5 @@
 use Rattle.us_replay.proofs.LoopLemmas.{ends-at-once}
-use Rattle.us_replay.proofs.replays.run_with.Goals as goal
+use Rattle.us_replay.proofs.replays.run_alone_with.Goals as goal
 
 pub returns-in_default-clause-ends : goal.returns-in_default-clause-ends
 returns-in_default-clause-ends g c =

@@ -1,0 +1,13 @@
+use Rattle.us_replay.proofs.LoopLemmas.{ends-at-once}
+use Rattle.us_replay.proofs.LawfulLemmas.{lawful-output}
+use Rattle.us_replay.proofs.replays.run_shared.Goals as goal
+
+pub returns-in_default-clause-ends : goal.returns-in_default-clause-ends
+returns-in_default-clause-ends g c =
+    ends-at-once c.args.config.now c.args.trace.now (g.W1.Sink.contents c.args.maps.now) (g.W2.Sink.contents c.args.report.now)
+    c.clusters.ensures.lawful
+
+pub returns-clause-lawful : goal.returns-clause-lawful
+returns-clause-lawful g c =
+    lawful-output c.args.config.now c.args.trace.now c.run_shared_with.result c.clusters.ensures.lawful c.requires.trace.fits
+    c.run_shared_with.ensures.ends.fields
