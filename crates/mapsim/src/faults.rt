@@ -1,12 +1,13 @@
 ghost use Rattle.std.specs.Prelude.{◌≡◌};
 
-use crate::fault_lines::{check_line, config_line, io_line, map_line, run_line};
+use crate::fault_lines::{check_line, map_line, stream_line};
 use crate::statuses::Status;
 use std::alloc::AllocError;
 use std::fmt;
 use us_check::CheckFault;
 use us_codec::MapFault;
 use us_command_line::WordsFault;
+use us_fault_lines::{config_line, run_line};
 use us_flows::ConfigFault;
 use us_replay::RunFault;
 use us_requests::TraceFault;
@@ -110,7 +111,7 @@ impl fmt::Display for Fault {
             Fault::Run(fault) => write!(f, "{}", run_line(*fault)),
             Fault::Map(fault, record) => write!(f, "{}", map_line(*fault, *record)),
             Fault::Check(fault) => write!(f, "{}", check_line(*fault)),
-            Fault::Device(stream) => write!(f, "{}", io_line(*stream)),
+            Fault::Device(stream) => write!(f, "{}", stream_line(*stream)),
             Fault::NoMemory => f.write_str("fault memory"),
         }
     }
