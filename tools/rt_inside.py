@@ -1,4 +1,4 @@
-"""What tools/try-edits and tools/prove take of the insides of the command `rt`.
+"""What tools/try-edits, tools/prove and tools/make-page take of the insides of the command `rt`.
 
 `rt` tries the edits of must-fail/ alone. To judge other edits as the gate does, this page loads the program `rt` as a
 module, and calls its functions. It is the one place that knows them, and was written for rattle-kit-13f and rattle-kit-13b.
@@ -148,14 +148,21 @@ def keep_sums():
     rt.rtlib.Crate.stamp = functools.cache(rt.rtlib.Crate.stamp)
 
 
+def is_of_its_text(crate):
+    """Whether a library stands that was built since the crate's files were last written."""
+    if not os.path.isdir(crate.rlib):
+        return False
+    built = os.path.getmtime(crate.rlib)
+    return all(os.path.getmtime(file) < built for file in rt.rtlib.files_of(crate.folder))
+
+
 def take_library(crate, other):
     """Gives a crate the library that the gate built of the same text in another checkout, where the crate has none and those
     below it have theirs. The gate puts no stamp beside what it builds, since its libraries hold statements alone, which fit
     only the libraries that they were built over: so all of them have to come from one checkout."""
-    if crate.is_built() or not os.path.isdir(other.rlib) or not all(below.is_built() for below in crate.below()):
+    if crate.is_built() or not is_of_its_text(other) or not all(below.is_built() for below in crate.below()):
         return
-    built = os.path.getmtime(other.rlib)
-    if crate.stamp() == other.stamp() and all(os.path.getmtime(file) < built for file in rt.rtlib.files_of(other.folder)):
+    if crate.stamp() == other.stamp():
         shutil.rmtree(f"{crate.folder}/out/rlib", ignore_errors=True)
         shutil.copytree(f"{other.folder}/out/rlib", f"{crate.folder}/out/rlib")
         with open(f"{crate.folder}/out/rlib/stamp", "w", encoding="utf-8") as file:
@@ -213,3 +220,13 @@ def build(crate, jobs, said):
     Whether the library stands."""
     crate.out = said
     return crate.build_rlib(["--jobs", str(jobs)], anew=False) == 0
+
+
+# What tools/make-page takes.
+
+
+def have_libraries(crate):
+    """Whether each library below a crate stands, and was built since its files, and the libraries below it, were last written."""
+    below = crate.below()
+    is_over = lambda it: all(os.path.getmtime(lower.rlib) <= os.path.getmtime(it.rlib) for lower in it.below())
+    return all(map(is_of_its_text, below)) and all(map(is_over, below))
