@@ -33,6 +33,3 @@ pub use faults::PageFault;
 pub use hands::Hand;
 pub use lints::lint;
 pub use runs::Run;
-
-#[cfg(test)]
-mod tests;
