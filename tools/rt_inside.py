@@ -225,14 +225,6 @@ def build(crate, jobs, said):
 # What tools/make-page takes.
 
 
-def built_at(crate):
-    """When a library was built. One that `rt ci` kept still has this time where it is put into another checkout."""
-    return os.path.getmtime(os.path.join(crate.rlib, "format"))
-
-
 def have_libraries(crate):
-    """Whether each library below a crate stands, was put there since its files were last written, and was built since the
-    libraries below it were."""
-    below = crate.below()
-    is_over = lambda it: all(built_at(lower) <= built_at(it) for lower in it.below())
-    return all(map(is_of_its_text, below)) and all(map(is_over, below))
+    """Whether each library below a crate stands, and was put there since its files were last written, as after `rt ci`."""
+    return all(map(is_of_its_text, crate.below()))
