@@ -6,7 +6,9 @@ pub mod TakingLemmas
 pub mod SettledLemmas
 pub mod RoundLemmas
 pub mod MadeLemmas
+pub mod BatchLemmas
 pub mod ReplayStopLemmas
+pub mod HeldLemmas
 pub mod LoopLemmas
 pub mod ReplayLemmas
 pub mod LawfulLemmas

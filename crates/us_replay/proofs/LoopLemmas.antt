@@ -1,7 +1,7 @@
 -- The loop over rounds: how state, progress and writers stand after each.
-use Rattle.std.proofs.Common.{◌≡◌, ℕ, zero, suc, ◌+◌, ◌*◌, ◌^◌, ◌<◌, ◌≤◌, List, [], ◌∷◌, ◌++◌, length, replicate, map, take, drop, cond, nat_le, Bool, sum, sum_by, count_by, true, Option, Err, refl, ap, sym, subst, ◌∙◌, arith}
+use Rattle.std.proofs.Common.{◌≡◌, ℕ, zero, suc, ◌+◌, ◌*◌, ◌^◌, ◌<◌, ◌≤◌, List, [], ◌∷◌, ◌++◌, length, replicate, map, take, drop, cond, nat_le, Bool, sum, sum_by, count_by, true, false, Option, Err, refl, ap, sym, subst, ◌∙◌, arith}
 use Rattle.std.specs.List.{AllByRecursion, drop-map, range_with_len, zip}
-use Rattle.std.proofs.lemmas.Bool.{and_parts, leb-true}
+use Rattle.std.proofs.lemmas.Bool.{and_parts, false≢true, leb-true}
 use Rattle.std.proofs.lemmas.Nat.{mul-le}
 use Rattle.std.proofs.lemmas.List.{length-map, length-replicate, drop_more, drop_all, take_all}
 use Rattle.std.proofs.lemmas.List.Sums.{sum_by-cons, sum_by-append, count_by-le-length}
@@ -18,19 +18,22 @@ use Rattle.us_round.specs.Rounds.{State, round_of, opening, schedule, final}
 use Rattle.us_output.specs.Outputs.{Scheduled, RoundOut, AreWithinLimits, out_of}
 use Rattle.us_round.specs.FinalRows.{final_rows}
 use Rattle.us_replay.specs.Collecting.{AreAsks}
-use Rattle.us_output.specs.Files.{records, lines, is_granted, is_missed}
+use Rattle.us_output.specs.Files.{records, is_granted, is_missed}
 use Rattle.us_lawful.specs.Output.{counts_row, all_rows, judged_of, output_of}
 use Rattle.us_output.proofs.PartLemmas.{all_append}
 use Rattle.us_output.specs.Lines.{HasFields}
-use Rattle.us_replay.specs.Replays.{KeptLimits, summary_of}
+use Rattle.us_replay.specs.Replays.{AreLeftBy, KeptLimits, summary_of, writing}
 use Rattle.us_lawful.proofs.TraceTextLaws.{length-cuts}
-use Rattle.us_replay.specs.Progress.{Progress, Along, EndsAs, grown, CanMake, IsMade, last_rows, opening_progress, out_after, output_in, step_of, summary_after, with_last, with_round}
+use Rattle.us_replay.specs.Batches.{with_next}
+use Rattle.us_replay.specs.Progress.{Progress, Along, EndsAs, CanMake, Holds, IsMade, last_rows, opening_progress, out_after, output_in, step_of, summary_after, with_last, with_none_left, with_round}
 use Rattle.us_replay.proofs.RoundLemmas.{After, after, HasCalendars, opening-calendars, next-calendars, some-records}
 use Rattle.us_replay.proofs.CollectingLemmas.{all-within, are-asks}
 use Rattle.us_replay.proofs.SumLemmas.{added-below, length-cut, sum-cut}
+use Rattle.us_replay.specs.declared.faults.RunFault.{RunFault}
 use Rattle.us_replay.specs.declared.faults.RunFault.TheVariants as fault
 use Rattle.us_round.proofs.PlacingLemmas.{next-of}
-use Rattle.us_replay.proofs.ReplayStopLemmas.{next-part, nothing-yet, none-kept, stops-between, AreTexts, AreLast}
+use Rattle.us_replay.proofs.ReplayStopLemmas.{IsPart, next-part, nothing-yet, none-kept, stops-between}
+use Rattle.us_replay.proofs.HeldLemmas.{held, holds-next, last-part}
 
 -- Before round 0.
 
@@ -199,20 +202,36 @@ pub along-next : (t : Tables) (v : TraceAsks) (k : ℕ) (state next : State) (p 
 along-next t v k state next p q asks lawful along below are made =
     along-made t v k state next p q lawful along below (subst (λ xs. IsMade state p xs next q) are made)
 
--- the texts that were made of it
-pub texts-here : (t : Tables) (v : TraceAsks) (k : ℕ) (state next : State) (p q : Progress) (asks : List Ask)
-    (maps report : List ℕ) → Along t v k state p → k < v.rounds → asks ≡ asks_in v k → IsMade state p asks next q →
-    maps ≡ q.to_maps → report ≡ q.to_report → AreTexts (output_in t v) k maps report
+-- what the batch holds then
+pub holds-made : (t : Tables) (v : TraceAsks) (sent k : ℕ) (state next : State) (p q : Progress) (asks : List Ask) →
+    Along t v k state p → k < v.rounds → asks ≡ asks_in v k → IsMade state p asks next q →
+    Holds (output_in t v) sent k p.batch → Holds (output_in t v) sent (k + 1) q.batch
 unfolding with_round
-texts-here t v k state next p q asks maps report along below are made maps_are report_is =
-    let same : out_after state p asks ≡ out_after state p (asks_in v k) = ap (out_after state p) are in
-    record {
-      round = out_after state p (asks_in v k);
-      rest = drop (k + 1) (output_in t v).given;
-      here = next-here t v k state p along below;
-      maps_are = maps_are ∙ ap (λ p. p.to_maps) made.progress_is ∙ ap records same;
-      report_is = report_is ∙ ap (λ p. p.to_report) made.progress_is ∙ ap (λ out. lines out.rows) same;
-    }
+holds-made t v sent k state next p q asks along below are made holds =
+    subst (Holds (output_in t v) sent (k + 1))
+    (ap (λ xs. with_next p.batch (out_after state p xs)) (sym are) ∙ sym (ap (λ p. p.batch) made.progress_is))
+    (holds-next (output_in t v) sent k p.batch (out_after state p (asks_in v k)) _ holds (next-here t v k state p along below))
+
+-- where it was sent, nothing else of it changes
+pub along-sent : (t : Tables) (v : TraceAsks) (k : ℕ) (state : State) (p : Progress) → Along t v k state p →
+    Along t v k state (with_none_left p)
+along-sent t v k state p along = record {
+  within = along.within;
+  lawful = along.lawful;
+  tables = along.tables;
+  round = along.round;
+  clusters = along.clusters;
+  asked = along.asked;
+  collected = along.collected;
+  rest = along.rest;
+  ends = along.ends;
+  granted = along.granted;
+  missed = along.missed;
+  few_granted = along.few_granted;
+  few_missed = along.few_missed;
+  limits = along.limits;
+  fields = along.fields;
+}
 
 -- each round has records
 some-in : (state : State) (cuts : List (List ℕ)) (k : ℕ) (next : RoundOut) (rest : List RoundOut) →
@@ -236,15 +255,51 @@ unfolding output_of
 some-next t v k lawful next rest here =
     some-in (opening t) (cuts_in t v) k next rest (opening-calendars t) lawful.some_channels.0 here
 
+-- what writers tell where memory was wanting
+pub left-wanting : (done : ℕ) (a b d e : Option (List ℕ)) (maps_failed maps_before maps_after report_failed report_before report_after : Bool) →
+    maps_failed ≡ false → report_failed ≡ false → (maps_before ≡ false → maps_after ≡ false) →
+    (report_before ≡ false → report_after ≡ false) →
+    AreLeftBy (fault.NoMemory done) (writing a b maps_failed maps_before maps_after) (writing d e report_failed report_before report_after)
+left-wanting done a b d e maps_failed maps_before maps_after report_failed report_before report_after maps report maps_still report_still =
+    record {
+      maps_failed = maps;
+      report_blamed = λ never. absurd (false≢true never);
+      report_failed = λ failed. absurd (false≢true (sym report ∙ failed));
+      maps_unflushed = λ failed. absurd (false≢true (sym maps ∙ failed));
+      report_unflushed = λ failed. absurd (false≢true (sym report ∙ failed));
+      maps_never_flushed = λ before _. maps_still before;
+      report_never_flushed = report_still;
+    }
+
+-- what they tell of a call at its end, and of what came before it
+pub left-since : (f : RunFault) (a b c d e g : Option (List ℕ)) (maps_failed maps_first maps_before maps_after report_failed report_first report_before report_after : Bool) →
+    (maps_first ≡ false → maps_before ≡ false) → (report_first ≡ false → report_before ≡ false) →
+    AreLeftBy f (writing b c maps_failed maps_before maps_after) (writing e g report_failed report_before report_after) →
+    AreLeftBy f (writing a c maps_failed maps_first maps_after) (writing d g report_failed report_first report_after)
+left-since f a b c d e g maps_failed maps_first maps_before maps_after report_failed report_first report_before report_after maps_still report_still left =
+    record {
+      maps_failed = left.maps_failed;
+      report_blamed = left.report_blamed;
+      report_failed = left.report_failed;
+      maps_unflushed = left.maps_unflushed;
+      report_unflushed = left.report_unflushed;
+      maps_never_flushed = λ first. left.maps_never_flushed (maps_still first);
+      report_never_flushed = λ first. left.report_never_flushed (report_still first);
+    }
+
 -- where nothing was written
-pub ends-at-once : (t : Tables) (v : TraceAsks) (a d : Option (List ℕ)) → AreTables t →
-    EndsAs t v (grown a a) (grown d d) (Err (fault.NoMemory 0))
-ends-at-once t v a d lawful = record {
+pub ends-at-once : (t : Tables) (v : TraceAsks) (a d : Option (List ℕ)) (maps_failed maps_flushed report_failed report_flushed : Bool) →
+    AreTables t → maps_failed ≡ false → report_failed ≡ false →
+    EndsAs t v (writing a a maps_failed maps_flushed maps_flushed) (writing d d report_failed report_flushed report_flushed)
+    (Err (fault.NoMemory 0))
+ends-at-once t v a d maps_failed maps_flushed report_failed report_flushed lawful maps report = record {
   ran = (
-    stops-between (output_in t v) 0 _ _ (nothing-yet (output_in t v) a d) (some-next t v 0 lawful),
+    stops-between (output_in t v) 0 report_failed _ _ (nothing-yet (output_in t v) a d) (some-next t v 0 lawful),
     none-kept t (cuts_in t v),
   );
   fields = tt;
+  left = left-wanting 0 a a d d maps_failed maps_flushed maps_flushed report_failed report_flushed report_flushed maps report
+      (λ before. before) (λ before. before);
 }
 
 -- All rounds.
@@ -263,19 +318,17 @@ pub last-made : (v : TraceAsks) (state : State) (p q : Progress) (counts : Count
     counts ≡ v.counts → q ≡ with_last p state v.counts
 last-made v state p q counts made are = made ∙ ap (with_last p state) are
 
--- the end of the report, where all rounds were made
-pub texts-last : (t : Tables) (v : TraceAsks) (k : ℕ) (state : State) (p q : Progress) (maps report : List ℕ) →
-    Along t v k state p → k ≡ v.rounds → q ≡ with_last p state v.counts → maps ≡ q.to_maps → report ≡ q.to_report →
-    AreLast (output_in t v) k maps report
+-- the batch at the end, where all rounds were made
+pub part-last : (t : Tables) (v : TraceAsks) (sent k : ℕ) (state : State) (p q : Progress) (counts : Counts) →
+    Along t v k state p → k ≡ v.rounds → counts ≡ v.counts → q ≡ with_last p state counts → Holds (output_in t v) sent k p.batch →
+    IsPart (output_in t v) sent (held (output_in t v) sent k) q.batch
 unfolding with_last output_of final
-texts-last t v k state p q maps report along all made maps_are report_is =
+part-last t v sent k state p q counts along all same made holds =
     let none : drop k (cuts_in t v) ≡ [] = drop_all k (cuts_in t v) (omega (arith, all, length-cuts t v)) in
     let ended : state ≡ final (opening t) (cuts_in t v) = sym (ap (final state) none) ∙ along.ends in
-    record {
-      none = drop_all k (output_in t v).given (omega (arith, all, length-given t v));
-      maps_are = maps_are ∙ ap (λ p. p.to_maps) made;
-      report_is = report_is ∙ ap (λ p. p.to_report) made ∙ ap (λ s. lines (final_rows s ++ counts_row v.counts ∷ [])) ended;
-    }
+    last-part (output_in t v) sent k p.batch q.batch (last_rows state counts) holds (all ∙ sym (length-given t v))
+    (ap (λ s. last_rows s counts) ended ∙ ap (last_rows (final (opening t) (cuts_in t v))) same)
+    (ap (λ p. p.batch) made)
 
 -- what all lines have
 pub fields-last : (t : Tables) (v : TraceAsks) (k : ℕ) (state : State) (p : Progress) (counts : Counts) → Along t v k state p →

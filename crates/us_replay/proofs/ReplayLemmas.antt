@@ -1,5 +1,5 @@
 -- The run of a trace that was read is that of the requests that its text tells.
-use Rattle.std.proofs.Common.{◌≡◌, ℕ, true, List, length, map, Option, Result, Ok, Err, ap, subst, ◌∙◌}
+use Rattle.std.proofs.Common.{◌≡◌, ℕ, true, Bool, List, length, map, Option, Result, Ok, Err, ap, subst, ◌∙◌}
 use Rattle.std.specs.List.{range_with_len}
 use Rattle.us_flows.specs.Tables.{Tables, rounds_fit}
 use Rattle.us_flows.specs.Clusters.{words_of}
@@ -12,7 +12,7 @@ use Rattle.us_replay.specs.declared.summaries.Summary.{Summary}
 use Rattle.us_replay.specs.declared.faults.RunFault.{RunFault}
 use Rattle.us_replay.specs.Endings.{Ending, Refused, StoppedBy, ended, rounds_done}
 use Rattle.us_lawful.specs.Output.{output_of}
-use Rattle.us_replay.specs.Replays.{Growth, Ran, RanText, KeptLimits, Stands, Replayed, cuts_of, output_for}
+use Rattle.us_replay.specs.Replays.{Growth, Ran, RanText, KeptLimits, Stands, cuts_of, output_for}
 use Rattle.us_replay.specs.Progress.{RanTrace}
 
 -- the asks of each round add up to the cut of the rows
@@ -31,33 +31,33 @@ output-same t rounds requests v is =
     ap (λ cuts. output_of t cuts v.counts) (cuts-same t rounds requests v is) ∙
     ap (output_of t (cuts_of t rounds requests)) is.counts
 
-pub ran-text : (t : Tables) (rounds : ℕ) (told : Option (List ℕ)) (v : TraceAsks) (to_maps to_report : Growth)
-    (result : Result Summary RunFault) → Reads t rounds told (Ok v) → RanTrace t v to_maps to_report result →
-    RanText t rounds told to_maps to_report (ended result)
+ran-text : (t : Tables) (rounds : ℕ) (told : Option (List ℕ)) (v : TraceAsks) (to_maps to_report : Growth) (failed : Bool)
+    (result : Result Summary RunFault) → Reads t rounds told (Ok v) → RanTrace t v to_maps to_report failed result →
+    RanText t rounds told to_maps to_report failed (ended result)
 unfolding output_for
-ran-text t rounds told v to_maps to_report result (text, is_text, no_fault, is) (ran, kept) = (
+ran-text t rounds told v to_maps to_report failed result (text, is_text, no_fault, is) (ran, kept) = (
   text,
   is_text,
   no_fault,
-  subst (λ out. Ran out (counts_of t rounds (requests_of text)) to_maps to_report (ended result))
+  subst (λ out. Ran out (counts_of t rounds (requests_of text)) to_maps to_report failed (ended result))
       (output-same t rounds (requests_of text) v is)
-      (subst (λ counts. Ran (output_of t (cuts_in t v) v.counts) counts to_maps to_report (ended result))
+      (subst (λ counts. Ran (output_of t (cuts_in t v) v.counts) counts to_maps to_report failed (ended result))
       is.counts ran),
   subst (λ cuts. KeptLimits t cuts (rounds_done (ended result))) (cuts-same t rounds (requests_of text) v is) kept,
 )
 
 -- nothing of a run is refused
-stands : (t : Tables) (rounds : ℕ) (told : Option (List ℕ)) (to_maps to_report : Growth) (end : Result Summary Ending) →
-    rounds_fit t rounds ≡ true → RanText t rounds told to_maps to_report end →
-    Stands t rounds told to_maps to_report end
-stands t rounds told to_maps to_report (Ok summary) can ran = (can, ran)
-stands t rounds told to_maps to_report (Err (StoppedBy what done)) can ran = (can, ran)
-stands t rounds told to_maps to_report (Err (Refused why)) can (text, is_text, sound, never, kept) = absurd never
+stands : (t : Tables) (rounds : ℕ) (told : Option (List ℕ)) (to_maps to_report : Growth) (failed : Bool)
+    (end : Result Summary Ending) → rounds_fit t rounds ≡ true → RanText t rounds told to_maps to_report failed end →
+    Stands t rounds told to_maps to_report failed end
+stands t rounds told to_maps to_report failed (Ok summary) can ran = (can, ran)
+stands t rounds told to_maps to_report failed (Err (StoppedBy what done)) can ran = (can, ran)
+stands t rounds told to_maps to_report failed (Err (Refused why)) can (text, is_text, sound, never, kept) = absurd never
 
 -- whatever `run` answers
-pub replayed : (t : Tables) (rounds : ℕ) (told : Option (List ℕ)) (v : TraceAsks) (to_maps to_report : Growth)
+pub run-stands : (t : Tables) (rounds : ℕ) (told : Option (List ℕ)) (v : TraceAsks) (to_maps to_report : Growth) (failed : Bool)
     (result : Result Summary RunFault) → rounds_fit t rounds ≡ true → Reads t rounds told (Ok v) →
-    RanTrace t v to_maps to_report result → Replayed t rounds told to_maps to_report result
-replayed t rounds told v to_maps to_report result can read ran =
-    stands t rounds told to_maps to_report (ended result) can
-    (ran-text t rounds told v to_maps to_report result read ran)
+    RanTrace t v to_maps to_report failed result → Stands t rounds told to_maps to_report failed (ended result)
+run-stands t rounds told v to_maps to_report failed result can read ran =
+    stands t rounds told to_maps to_report failed (ended result) can
+    (ran-text t rounds told v to_maps to_report failed result read ran)

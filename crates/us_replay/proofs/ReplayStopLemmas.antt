@@ -1,10 +1,11 @@
 -- What stands where a run ended early: of each text the parts of so many rounds, and the front of what follows.
-use Rattle.std.proofs.Common.{◌≡◌, ℕ, zero, suc, ◌+◌, ◌<◌, ◌≤◌, ◌⊎◌, List, [], ◌∷◌, ◌++◌, length, take, drop, flat_map, Option, Result, Ok, Err, IsErrAnd, refl, ap, sym, subst, ◌∙◌, inl, inr, arith, append_assoc, append-nil, length-append}
-use Rattle.std.proofs.Math.Seq.{take-append-add}
+use Rattle.std.proofs.Common.{◌≡◌, ℕ, zero, suc, ◌+◌, ◌<◌, ◌≤◌, ◌⊎◌, Bool, true, List, [], ◌∷◌, ◌++◌, length, take, drop, flat_map, Option, Result, Ok, Err, IsErrAnd, refl, ap, sym, subst, ◌∙◌, inl, inr, arith, append_assoc, append-nil, length-append, length-drop}
+use Rattle.std.proofs.Math.Seq.{take-add, take-append-add}
 use Rattle.std.proofs.lemmas.Bool.{cases_lt}
 use Rattle.std.proofs.lemmas.Grind.{flat_map-append}
 use Rattle.std.proofs.lemmas.List.{take-append-drop, take-append-le, take_at, take_all}
 use Rattle.std.specs.Io.KnownBytes.{Appends, Keeps}
+use Rattle.std.specs.List.{AllByRecursion}
 use Rattle.us_round.proofs.PlacingLemmas.{next-of}
 use Rattle.us_slots.proofs.DeviceLemmas.{appends_nothing, appends_join, appends_keep}
 use Rattle.us_flows.specs.Tables.{Tables}
@@ -12,10 +13,12 @@ use Rattle.us_requests.specs.declared.asks.Counts.{Counts}
 use Rattle.us_replay.specs.declared.faults.RunFault.{RunFault}
 use Rattle.us_output.specs.Outputs.{RoundOut}
 use Rattle.us_output.specs.Files.{records, round_lines, lines}
-use Rattle.us_replay.specs.Endings.{Ending, Refused, StoppedBy, Maps, Report, Memory, rounds_done}
+use Rattle.us_replay.specs.Endings.{Ending, Refused, Stopper, StoppedBy, Maps, Report, Memory, rounds_done}
 use Rattle.us_lawful.specs.Output.{Output, maps_text, report_text}
-use Rattle.us_replay.specs.Replays.{Growth, Took, TookRounds, HasRounds, Stopped, Ran, KeptLimits}
-use Rattle.us_replay.specs.Progress.{Sent, Flushed, grown}
+use Rattle.us_replay.specs.Batches.{Batch, StoppedAtMaps, StoppedAtReport, Sent, ends_of, lines_before, rounds_within}
+use Rattle.us_replay.specs.Replays.{Growth, HasRounds, HasWhole, KeptLimits, Ran, Stopped, StoppedEarly, Took, TookFront, TookLines, TookRounds, grown}
+use Rattle.us_replay.specs.Progress.{Flushed}
+use Rattle.us_replay.proofs.BatchLemmas.{AreWithin, lines-before, parts-grow, parts-most, within-greatest, within-hold, within-most, within-next}
 
 -- Lists.
 
@@ -26,94 +29,73 @@ next-part f xs k x rest h =
     ap (flat_map f) (next-of xs k x rest h).taken ∙ flat_map-append f (take k xs) (x ∷ []) ∙
     ap (λ ys. flat_map f (take k xs) ++ ys) (append-nil (f x))
 
--- more rounds have no fewer bytes
-pub parts-grow : {X : Type 0} (f : X → List ℕ) (xs : List X) (i j : ℕ) → i ≤ j →
-    length (flat_map f (take i xs)) ≤ length (flat_map f (take j xs))
-parts-grow f [] zero j h = omega arith
-parts-grow f [] (suc i) j h = omega arith
-parts-grow f (x ∷ xs) zero j h = omega arith
-parts-grow f (x ∷ xs) (suc i) zero h = absurd (omega (arith, h))
-parts-grow f (x ∷ xs) (suc i) (suc j) h =
-    omega (
-      arith,
-      length-append (f x) (flat_map f (take i xs)),
-      length-append (f x) (flat_map f (take j xs)),
-      parts-grow f xs i j (omega (arith, h)),
-    )
-
 -- the parts before a place, and those from there on
-pub parts-split : {X : Type 0} (f : X → List ℕ) (xs : List X) (k : ℕ) →
+parts-split : {X : Type 0} (f : X → List ℕ) (xs : List X) (k : ℕ) →
     flat_map f (take k xs) ++ flat_map f (drop k xs) ≡ flat_map f xs
 parts-split f xs k = sym (flat_map-append f (take k xs) (drop k xs)) ∙ ap (flat_map f) (take-append-drop k xs)
 
--- Stops.
+-- the front of a text, of which a part stands behind others
+front-of : (text before part behind : List ℕ) (n : ℕ) → text ≡ before ++ (part ++ behind) → n ≤ length part →
+    before ++ take n part ≡ take (length before + n) text
+front-of text before part behind n whole inside =
+    ap (λ bs. before ++ bs) (sym (take-append-le n part behind inside)) ∙ sym (take-append-add before (part ++ behind) n) ∙
+    ap (take (length before + n)) (sym whole)
 
--- the writers took the parts of k rounds, and of what follows m bytes and n bytes
-pub record Fronts (out : Output) (k m n : ℕ) (to_maps to_report : Growth) : Type 0 where
-  pub rounds : k ≤ length out.given
-  pub maps : Took to_maps (flat_map records (take k out.given) ++ take m (flat_map records (drop k out.given)))
-  pub maps_short : m ≤ length (flat_map records (drop k out.given))
-  pub report : Took to_report (flat_map round_lines (take k out.given) ++ take n (flat_map round_lines (drop k out.given) ++ lines out.last))
-  pub report_short : n ≤ length (flat_map round_lines (drop k out.given) ++ lines out.last)
+front-short : (text before part behind : List ℕ) (n : ℕ) → text ≡ before ++ (part ++ behind) → n ≤ length part →
+    length before + n ≤ length text
+front-short text before part behind n whole inside =
+    omega (arith, inside, ap length whole, length-append before (part ++ behind), length-append part behind)
 
--- which isn't all of the next round
-abbrev pub IsShort : Output → ℕ → ℕ → ℕ → Type 0
-IsShort out k m n = (next : RoundOut) (rest : List RoundOut) → drop k out.given ≡ next ∷ rest →
-    (m < length (records next)) ⊎ (n < length (round_lines next))
+beginning : (text before behind : List ℕ) → text ≡ before ++ behind → take (length before) text ≡ before
+beginning text before behind whole = ap (take (length before)) whole ∙ take_at before behind (length before) refl
 
--- a front of a text that begins with some bytes
-front-at : (whole first second : List ℕ) (n : ℕ) → first ++ second ≡ whole →
-    first ++ take n second ≡ take (length first + n) whole
-front-at whole first second n h = sym (take-append-add first second n) ∙ ap (take (length first + n)) h
-
-not-more : {X : Type 0} (f : X → List ℕ) (xs : List X) (k n more : ℕ) (x : X) (rest : List X) → drop k xs ≡ x ∷ rest →
-    n < length (f x) → length (flat_map f (take more xs)) ≤ length (flat_map f (take k xs)) + n → more ≤ k
-not-more f xs k n more x rest here short holds =
-    let bytes = ap length (next-part f xs k x rest here) ∙ length-append (flat_map f (take k xs)) (f x) in
-    elim (cases_lt k more) [
-      | inl over ↦ absurd (omega (arith, bytes, parts-grow f xs (k + 1) more (omega (arith, over)), short, holds))
-      | inr most ↦ most
-    ]
+beginning-short : (text before behind : List ℕ) → text ≡ before ++ behind → length before ≤ length text
+beginning-short text before behind whole = omega (arith, ap length whole, length-append before behind)
 
 ended : {X : Type 0} (k : ℕ) (xs : List X) → drop k xs ≡ [] → length xs ≤ k
 ended k [] h = omega arith
 ended zero (x ∷ xs) h = let no : x ∷ xs ≡ [] = h in cc
 ended (suc k) (x ∷ xs) h = omega (arith, ended k xs h)
 
-pub stopped : (out : Output) (k m n : ℕ) (to_maps to_report : Growth) → Fronts out k m n to_maps to_report →
-    IsShort out k m n → Stopped out to_maps to_report k
-stopped out k m n to_maps to_report fronts short =
-    let given : List RoundOut = out.given in
-    let maps_before : List ℕ = flat_map records (take k given) in
-    let maps_behind : List ℕ = flat_map records (drop k given) in
-    let report_before : List ℕ = flat_map round_lines (take k given) in
-    let report_behind : List ℕ = flat_map round_lines (drop k given) ++ lines out.last in
-    let maps_whole : maps_before ++ maps_behind ≡ maps_text out = parts-split records given k in
-    let report_whole : report_before ++ report_behind ≡ report_text out =
-    sym (append_assoc report_before (flat_map round_lines (drop k given)) (lines out.last)) ∙
-    ap (λ bs. bs ++ lines out.last) (parts-split round_lines given k) in
-    record {
-      maps_taken = length maps_before + m;
-      report_taken = length report_before + n;
-      maps_short = omega (arith, ap length maps_whole, length-append maps_before maps_behind, fronts.maps_short);
-      report_short = omega (arith, ap length report_whole, length-append report_before report_behind, fronts.report_short);
-      maps_front = subst (Took to_maps) (front-at (maps_text out) maps_before maps_behind m maps_whole) fronts.maps;
-      report_front = subst (Took to_report) (front-at (report_text out) report_before report_behind n report_whole) fronts.report;
-      rounds = fronts.rounds;
-      maps_hold = omega arith;
-      report_hold = omega arith;
-      greatest = λ more within in_maps in_report. most more (drop k given) refl in_maps in_report within;
-    }
-  where
-    most : (more : ℕ) (rest : List RoundOut) → drop k out.given ≡ rest →
-        HasRounds records out.given more (length (flat_map records (take k out.given)) + m) →
-        HasRounds round_lines out.given more (length (flat_map round_lines (take k out.given)) + n) →
-        more ≤ length out.given → more ≤ k
-    most more [] here in_maps in_report within = omega (arith, ended k out.given here, within)
-    most more (next ∷ rest) here in_maps in_report within = elim (short next rest here) [
-      | inl in_records ↦ not-more records out.given k m more next rest here in_records in_maps
-      | inr in_lines ↦ not-more round_lines out.given k n more next rest here in_lines in_report
-    ]
+report-split : (out : Output) (k : ℕ) →
+    report_text out ≡ flat_map round_lines (take k out.given) ++ (flat_map round_lines (drop k out.given) ++ lines out.last)
+report-split out k =
+    ap (λ bs. bs ++ lines out.last) (sym (parts-split round_lines out.given k)) ∙
+    append_assoc (flat_map round_lines (take k out.given)) (flat_map round_lines (drop k out.given)) (lines out.last)
+
+-- the writers took both texts
+abbrev pub TookAll : Output → Growth → Growth → Type 0
+TookAll out to_maps to_report = Took to_maps (maps_text out) × Took to_report (report_text out)
+
+-- Stops.
+
+-- the writers took so many bytes, which hold k rounds and no more
+stopped-with : (out : Output) (k m n : ℕ) (to_maps to_report : Growth) → k ≤ length out.given →
+    m ≤ length (maps_text out) → n ≤ length (report_text out) →
+    Took to_maps (take m (maps_text out)) → Took to_report (take n (report_text out)) →
+    HasRounds records out.given k m → HasRounds round_lines out.given k n →
+    (k < length out.given → HasRounds records out.given (k + 1) m → HasRounds round_lines out.given (k + 1) n → ⊥) →
+    (stopped : Stopped out to_maps to_report k) × (stopped.maps_taken ≡ m)
+stopped-with out k m n to_maps to_report inside maps_short report_short maps_front report_front maps_hold report_hold no_more = (
+  record {
+    maps_taken = m;
+    report_taken = n;
+    maps_short = maps_short;
+    report_short = report_short;
+    maps_front = maps_front;
+    report_front = report_front;
+    rounds = inside;
+    maps_hold = maps_hold;
+    report_hold = report_hold;
+    greatest = λ more within in_maps in_report. elim (cases_lt k more) [
+      | inl over ↦ absurd (no_more (omega (arith, over, within))
+          (omega (arith, in_maps, parts-grow records out.given (k + 1) more (omega (arith, over))))
+          (omega (arith, in_report, parts-grow round_lines out.given (k + 1) more (omega (arith, over)))))
+      | inr most ↦ most
+    ];
+  },
+  refl,
+)
 
 -- On the way.
 
@@ -123,184 +105,362 @@ pub passed-on : {A : Type 0} {reason : RunFault} (result : Result A RunFault) �
 passed-on (Ok value) never = absurd never
 passed-on (Err given) is = ap (λ r. Err r) is
 
-pub so-far-at : (out : Output) (j k : ℕ) (to_maps to_report : Growth) → j ≡ k → TookRounds out j to_maps to_report →
-    TookRounds out k to_maps to_report
-so-far-at out j k to_maps to_report same so_far = subst (λ n. TookRounds out n to_maps to_report) same so_far
-
 pub nothing-yet : (out : Output) (a d : Option (List ℕ)) → TookRounds out 0 (grown a a) (grown d d)
 nothing-yet out a d = record { rounds = omega arith; maps = appends_nothing a; report = appends_nothing d }
 
--- a stop before anything of a round was written, where it has records
--- what stands there
-abbrev pub EndsBetween : Output → Growth → Growth → ℕ → Type 0
-EndsBetween out to_maps to_report k = TookRounds out k to_maps to_report × Stopped out to_maps to_report k
-
-pub stops-between : (out : Output) (k : ℕ) (to_maps to_report : Growth) → TookRounds out k to_maps to_report →
+-- a stop where just the texts of k rounds were taken, and each round has records
+pub stops-between : (out : Output) (k : ℕ) (failed : Bool) (to_maps to_report : Growth) → TookRounds out k to_maps to_report →
     ((next : RoundOut) (rest : List RoundOut) → drop k out.given ≡ next ∷ rest → 0 < length (records next)) →
-    EndsBetween out to_maps to_report k
-stops-between out k to_maps to_report so_far some = (
-  so_far,
-  stopped out k 0 0 to_maps to_report (record {
-    rounds = so_far.rounds;
-    maps = subst (Took to_maps) (sym (append-nil (flat_map records (take k out.given)))) so_far.maps;
-    maps_short = omega arith;
-    report = subst (Took to_report) (sym (append-nil (flat_map round_lines (take k out.given)))) so_far.report;
-    report_short = omega arith;
-  }) (λ next rest here. inl (some next rest here)),
-)
-
--- what is written of the round at a place, or of the end of the report
-pub record IsPart (out : Output) (k : ℕ) (maps report : List ℕ) : Type 0 where
-  pub maps_behind : List ℕ
-  pub report_behind : List ℕ
-  pub maps_is : flat_map records (drop k out.given) ≡ maps ++ maps_behind
-  pub report_is : flat_map round_lines (drop k out.given) ++ lines out.last ≡ report ++ report_behind
-  pub maps_whole : flat_map records (take (k + 1) out.given) ≡ flat_map records (take k out.given) ++ maps
-  pub short_maps : (n : ℕ) → n < length maps → IsShort out k n 0
-  pub short_report : (n : ℕ) → n < length report → IsShort out k (length maps) n
-
--- a fault while it is written
-pub sent-stops : (out : Output) (counts : Counts) (k : ℕ) (a b c d e f : Option (List ℕ)) (maps report : List ℕ)
-    (end : Ending) → TookRounds out k (grown a b) (grown d e) → IsPart out k maps report →
-    Sent maps report k (grown b c) (grown e f) (Err end) → Ran out counts (grown a c) (grown d f) (Err end)
-sent-stops out counts k a b c d e f maps report (StoppedBy Maps done) so_far part (is, (n, below, front), kept) =
-    let before : List ℕ = flat_map records (take k out.given) in
-    let taken : take n (flat_map records (drop k out.given)) ≡ take n maps =
-    ap (take n) part.maps_is ∙ take-append-le n maps part.maps_behind (omega (arith, below)) in
-    let same : flat_map round_lines (take k out.given) ++ [] ≡ flat_map round_lines (take done out.given) =
-    append-nil (flat_map round_lines (take k out.given)) ∙ ap (λ j. flat_map round_lines (take j out.given)) (sym is) in (
-      inl (subst (Appends d f) same (appends_join d e f (flat_map round_lines (take k out.given)) [] so_far.report kept)),
-      subst (Stopped out (grown a c) (grown d f)) (sym is) (stopped out k n 0 (grown a c) (grown d f) (record {
-        rounds = so_far.rounds;
-        maps = subst (Appends a c) (sym (ap (λ bs. before ++ bs) taken)) (appends_join a b c before (take n maps) so_far.maps front);
-        maps_short = omega (arith, below, ap length part.maps_is, length-append maps part.maps_behind);
-        report = appends_join d e f (flat_map round_lines (take k out.given)) [] so_far.report kept;
-        report_short = omega arith;
-      }) (part.short_maps n below)),
+    StoppedEarly Memory out k to_maps to_report failed
+stops-between out k failed to_maps to_report so_far some =
+    let maps_before : List ℕ = flat_map records (take k out.given) in
+    let report_before : List ℕ = flat_map round_lines (take k out.given) in
+    let maps_whole : maps_text out ≡ maps_before ++ flat_map records (drop k out.given) = sym (parts-split records out.given k) in
+    let report_whole = report-split out k in (
+      (stopped-with out k (length maps_before) (length report_before) to_maps to_report so_far.rounds
+          (beginning-short (maps_text out) maps_before _ maps_whole)
+          (beginning-short (report_text out) report_before _ report_whole)
+          (subst (Took to_maps) (sym (beginning (maps_text out) maps_before _ maps_whole)) so_far.maps)
+          (subst (Took to_report) (sym (beginning (report_text out) report_before _ report_whole)) so_far.report)
+          (omega arith) (omega arith) (λ below in_maps in_report. next (drop k out.given) refl below in_maps)).0,
+      so_far,
     )
-sent-stops out counts k a b c d e f maps report (StoppedBy Report done) so_far part (is, wrote, (n, below, front)) =
-    let before : List ℕ = flat_map round_lines (take k out.given) in
-    let whole : take (length maps) (flat_map records (drop k out.given)) ≡ maps =
-    ap (take (length maps)) part.maps_is ∙ take_at maps part.maps_behind (length maps) refl in
-    let taken : take n (flat_map round_lines (drop k out.given) ++ lines out.last) ≡ take n report =
-    ap (take n) part.report_is ∙ take-append-le n report part.report_behind (omega (arith, below)) in
-    let records_of : flat_map records (take k out.given) ++ maps ≡ flat_map records (take (done + 1) out.given) =
-    sym part.maps_whole ∙ ap (λ j. flat_map records (take (j + 1) out.given)) (sym is) in (
-      subst (Appends a c) records_of (appends_join a b c (flat_map records (take k out.given)) maps so_far.maps wrote),
-      subst (Stopped out (grown a c) (grown d f)) (sym is) (stopped out k (length maps) n (grown a c) (grown d f) (record {
-        rounds = so_far.rounds;
-        maps = subst (Appends a c) (sym (ap (λ bs. flat_map records (take k out.given) ++ bs) whole))
-            (appends_join a b c (flat_map records (take k out.given)) maps so_far.maps wrote);
-        maps_short = omega (arith, ap length part.maps_is, length-append maps part.maps_behind);
-        report = subst (Appends d f) (sym (ap (λ bs. before ++ bs) taken)) (appends_join d e f before (take n report) so_far.report front);
-        report_short = omega (arith, below, ap length part.report_is, length-append report part.report_behind);
-      }) (part.short_report n below)),
-    )
-sent-stops out counts k a b c d e f maps report (StoppedBy Memory done) so_far part never = absurd never
-sent-stops out counts k a b c d e f maps report (Refused why) so_far part never = absurd never
+  where
+    next : (rest : List RoundOut) → drop k out.given ≡ rest → k < length out.given →
+        HasRounds records out.given (k + 1) (length (flat_map records (take k out.given))) → ⊥
+    next [] none below holds = omega (arith, ended k out.given none, below)
+    next (round ∷ rest) here below holds =
+        omega (
+          arith,
+          holds,
+          ap length (next-part records out.given k round rest here),
+          length-append (flat_map records (take k out.given)) (records round),
+          some round rest here,
+        )
 
--- the texts of the round at a place
-pub record AreTexts (out : Output) (k : ℕ) (maps report : List ℕ) : Type 0 where
-  pub round : RoundOut
+-- What a batch holds.
+
+-- the texts of these rounds, which stand behind k others, and maybe the lines at the end
+pub record IsPart (out : Output) (k : ℕ) (rounds : List RoundOut) (b : Batch) : Type 0 where
   pub rest : List RoundOut
-  pub here : drop k out.given ≡ round ∷ rest
-  pub maps_are : maps ≡ records round
-  pub report_is : report ≡ round_lines round
+  pub here : drop k out.given ≡ rounds ++ rest
+  pub records_are : b.records ≡ flat_map records rounds
+  pub ends_are : b.ends ≡ ends_of rounds
+  pub own : List ℕ
+  pub lines_are : b.lines ≡ flat_map round_lines rounds ++ own
+  pub behind : List ℕ
+  pub lines_behind : flat_map round_lines rest ++ lines out.last ≡ own ++ behind
+  pub at_end : (own ≡ []) ⊎ (rest ≡ [])
 
-pub round-part : (out : Output) (k : ℕ) (maps report : List ℕ) → AreTexts out k maps report → IsPart out k maps report
-round-part out k maps report texts =
-    let same : (next : RoundOut) (more : List RoundOut) → drop k out.given ≡ next ∷ more → next ≡ texts.round =
-    λ next more at. let both : next ∷ more ≡ texts.round ∷ texts.rest = sym at ∙ texts.here in cc in
-    record {
-      maps_behind = flat_map records texts.rest;
-      report_behind = flat_map round_lines texts.rest ++ lines out.last;
-      maps_is = ap (flat_map records) texts.here ∙ ap (λ bs. bs ++ flat_map records texts.rest) (sym texts.maps_are);
-      report_is = ap (λ given. flat_map round_lines given ++ lines out.last) texts.here ∙
-          append_assoc (round_lines texts.round) (flat_map round_lines texts.rest) (lines out.last) ∙
-          ap (λ bs. bs ++ (flat_map round_lines texts.rest ++ lines out.last)) (sym texts.report_is);
-      maps_whole = next-part records out.given k texts.round texts.rest texts.here
-          ∙ ap (λ bs. flat_map records (take k out.given) ++ bs) (sym texts.maps_are);
-      short_maps = λ n below next more at.
-          inl (omega (arith, below, ap length texts.maps_are, ap (λ g. length (records g)) (same next more at)));
-      short_report = λ n below next more at.
-          inr (omega (arith, below, ap length texts.report_is, ap (λ g. length (round_lines g)) (same next more at)));
-    }
+module _ (out : Output) (k : ℕ) (rounds : List RoundOut) (b : Batch) (part : IsPart out k rounds b) (inside : k ≤ length out.given) where
+  maps-whole : maps_text out ≡ flat_map records (take k out.given) ++ (b.records ++ flat_map records part.rest)
+  maps-whole =
+      sym (parts-split records out.given k) ∙
+      ap (λ bs. flat_map records (take k out.given) ++ bs)
+      (ap (flat_map records) part.here ∙ flat_map-append records rounds part.rest ∙
+      ap (λ bs. bs ++ flat_map records part.rest) (sym part.records_are))
 
--- and after all rounds the end of the report
-pub record AreLast (out : Output) (k : ℕ) (maps report : List ℕ) : Type 0 where
-  pub none : drop k out.given ≡ []
-  pub maps_are : maps ≡ []
-  pub report_is : report ≡ lines out.last
+  report-whole : report_text out ≡ flat_map round_lines (take k out.given) ++ (b.lines ++ part.behind)
+  report-whole =
+      report-split out k ∙
+      ap (λ bs. flat_map round_lines (take k out.given) ++ bs)
+      (ap (λ given. flat_map round_lines given ++ lines out.last) part.here ∙
+      ap (λ bs. bs ++ lines out.last) (flat_map-append round_lines rounds part.rest) ∙
+      append_assoc (flat_map round_lines rounds) (flat_map round_lines part.rest) (lines out.last) ∙
+      ap (λ bs. flat_map round_lines rounds ++ bs) part.lines_behind ∙
+      sym (append_assoc (flat_map round_lines rounds) part.own part.behind) ∙
+      ap (λ bs. bs ++ part.behind) (sym part.lines_are))
 
-pub last-part : (out : Output) (k : ℕ) (maps report : List ℕ) → AreLast out k maps report → IsPart out k maps report
-last-part out k maps report texts = record {
-  maps_behind = [];
-  report_behind = [];
-  maps_is = ap (flat_map records) texts.none ∙ ap (λ bs. bs ++ []) (sym texts.maps_are);
-  report_is = ap (λ given. flat_map round_lines given ++ lines out.last) texts.none ∙ sym texts.report_is ∙
-      sym (append-nil report);
-  maps_whole =
-      ap (flat_map records) (take_all (k + 1) out.given (omega (arith, ended k out.given texts.none))
-      ∙ sym (take_all k out.given (ended k out.given texts.none)))
-      ∙ sym (append-nil (flat_map records (take k out.given)))
-      ∙ ap (λ bs. flat_map records (take k out.given) ++ bs) (sym texts.maps_are);
-  short_maps = λ n below. absurd (omega (arith, below, ap length texts.maps_are));
-  short_report = λ n below next more at. let no : [] ≡ next ∷ more = sym texts.none ∙ at in cc;
-}
+  counted : k + length rounds + length part.rest ≡ length out.given
+  counted =
+      omega (arith, inside, length-drop k out.given, ap length part.here, length-append rounds part.rest)
 
--- a round that was all taken
-pub sent-round : (out : Output) (k : ℕ) (a b c d e f : Option (List ℕ)) (maps report : List ℕ) →
-    TookRounds out k (grown a b) (grown d e) → AreTexts out k maps report →
-    Took (grown b c) maps → Took (grown e f) report → TookRounds out (k + 1) (grown a c) (grown d f)
-sent-round out k a b c d e f maps report so_far texts wrote_maps wrote_report = record {
-  rounds = omega (arith, (next-of out.given k texts.round texts.rest texts.here).below);
-  maps = subst (Appends a c) (sym (next-part records out.given k texts.round texts.rest texts.here))
-      (appends_join a b c (flat_map records (take k out.given)) (records texts.round) so_far.maps
-      (subst (Appends b c) texts.maps_are wrote_maps));
-  report = subst (Appends d f) (sym (next-part round_lines out.given k texts.round texts.rest texts.here))
-      (appends_join d e f (flat_map round_lines (take k out.given)) (round_lines texts.round) so_far.report
-      (subst (Appends e f) texts.report_is wrote_report));
-}
+  -- the parts of the rounds up to one of them
+  parts-upto : (f : RoundOut → List ℕ) (j : ℕ) → j ≤ length rounds →
+      flat_map f (take (k + j) out.given) ≡ flat_map f (take k out.given) ++ flat_map f (take j rounds)
+  parts-upto f j within =
+      ap (flat_map f)
+      (take-add k j out.given ∙ ap (λ xs. take k out.given ++ take j xs) part.here ∙
+      ap (λ xs. take k out.given ++ xs) (take-append-le j rounds part.rest within)) ∙
+      flat_map-append f (take k out.given) (take j rounds)
+
+  bytes-upto : (f : RoundOut → List ℕ) (j : ℕ) → j ≤ length rounds →
+      length (flat_map f (take (k + j) out.given)) ≡ length (flat_map f (take k out.given)) + length (flat_map f (take j rounds))
+  bytes-upto f j within =
+      ap length (parts-upto f j within) ∙ length-append (flat_map f (take k out.given)) (flat_map f (take j rounds))
+
+  -- all lines of its rounds are there
+  pub lines-there : length (flat_map round_lines rounds) ≤ length b.lines
+  lines-there = omega (arith, ap length part.lines_are, length-append (flat_map round_lines rounds) part.own)
+
+  lines-of : (j : ℕ) → take (length (flat_map round_lines (take j rounds))) b.lines ≡ flat_map round_lines (take j rounds)
+  lines-of j =
+      beginning b.lines (flat_map round_lines (take j rounds)) (flat_map round_lines (drop j rounds) ++ part.own)
+      (part.lines_are ∙ ap (λ bs. bs ++ part.own) (sym (parts-split round_lines rounds j)) ∙
+      append_assoc (flat_map round_lines (take j rounds)) (flat_map round_lines (drop j rounds)) part.own)
+
+  -- a stop where so many bytes of it were taken
+  stopped-at : (m n : ℕ) (to_maps to_report : Growth) → m ≤ length b.records → n ≤ length b.lines →
+      Took to_maps (flat_map records (take k out.given) ++ take m b.records) →
+      Took to_report (flat_map round_lines (take k out.given) ++ take n b.lines) →
+      (rounds_within m n (ends_of rounds) ≡ length rounds → part.rest ≡ []) →
+      (stopped : Stopped out to_maps to_report (k + rounds_within m n (ends_of rounds)))
+      × (stopped.maps_taken ≡ length (flat_map records (take k out.given)) + m)
+  stopped-at m n to_maps to_report in_records in_lines took_maps took_report only_at_end =
+      let w : ℕ = rounds_within m n (ends_of rounds) in
+      let most : w ≤ length rounds = within-most rounds m n in
+      let held : AreWithin rounds m n w = within-hold rounds m n w (omega arith) in
+      stopped-with out (k + w) (length (flat_map records (take k out.given)) + m) (length (flat_map round_lines (take k out.given)) + n)
+      to_maps to_report (omega (arith, counted, most))
+      (front-short (maps_text out) _ b.records _ m maps-whole in_records)
+      (front-short (report_text out) _ b.lines _ n report-whole in_lines)
+      (subst (Took to_maps) (front-of (maps_text out) _ b.records _ m maps-whole in_records) took_maps)
+      (subst (Took to_report) (front-of (report_text out) _ b.lines _ n report-whole in_lines) took_report)
+      (omega (arith, bytes-upto records w most, held.records))
+      (omega (arith, bytes-upto round_lines w most, held.lines))
+      (no_more w refl)
+    where
+      no_more : (w : ℕ) → w ≡ rounds_within m n (ends_of rounds) → k + w < length out.given →
+          HasRounds records out.given (k + w + 1) (length (flat_map records (take k out.given)) + m) →
+          HasRounds round_lines out.given (k + w + 1) (length (flat_map round_lines (take k out.given)) + n) → ⊥
+      no_more w is below in_maps in_report = elim (cases_lt w (length rounds)) [
+        | inl early ↦
+            let next : k + w + 1 ≡ k + (w + 1) = omega arith in
+            let before : w + 1 ≤ length rounds = omega (arith, early) in
+            within-next rounds m n (subst (λ w. w < length rounds) is early) (subst (λ w. AreWithin rounds m n (w + 1)) is (record {
+              records = omega (arith, in_maps, ap (λ j. length (flat_map records (take j out.given))) next, bytes-upto records (w + 1) before);
+              lines = omega (arith, in_report, ap (λ j. length (flat_map round_lines (take j out.given))) next, bytes-upto round_lines (w + 1) before);
+            }))
+        | inr late ↦
+            let all : w ≡ length rounds = omega (arith, late, is, within-most rounds m n) in
+            omega (arith, counted, below, all, ap length (only_at_end (sym is ∙ all)))
+      ]
+
+  -- so many bytes of records hold so many whole rounds
+  whole-there : (m : ℕ) → m < length b.records →
+      HasWhole out (length (flat_map records (take k out.given)) + m) (k + rounds_within m (length b.lines) (ends_of rounds))
+  whole-there m short =
+      let w : ℕ = rounds_within m (length b.lines) (ends_of rounds) in
+      let most : w ≤ length rounds = within-most rounds m (length b.lines) in
+      let held : AreWithin rounds m (length b.lines) w = within-hold rounds m (length b.lines) w (omega arith) in
+      record {
+        rounds = omega (arith, counted, most);
+        hold = omega (arith, bytes-upto records w most, held.records);
+        greatest = λ more within holds. elim (cases_lt (k + w) more) [
+          | inl over ↦ absurd (beyond w refl more over holds)
+          | inr no_more ↦ no_more
+        ];
+      }
+    where
+      beyond : (w : ℕ) → w ≡ rounds_within m (length b.lines) (ends_of rounds) → (more : ℕ) → k + w < more →
+          HasRounds records out.given more (length (flat_map records (take k out.given)) + m) → ⊥
+      beyond w is more over holds =
+          let next : k + w + 1 ≡ k + (w + 1) = omega arith in
+          let grown_by = parts-grow records out.given (k + w + 1) more (omega (arith, over)) in
+          elim (cases_lt w (length rounds)) [
+            | inl early ↦
+                let before : w + 1 ≤ length rounds = omega (arith, early) in
+                within-next rounds m (length b.lines) (subst (λ w. w < length rounds) is early)
+                (subst (λ w. AreWithin rounds m (length b.lines) (w + 1)) is (record {
+                  records = omega (
+                    arith,
+                    holds,
+                    grown_by,
+                    ap (λ j. length (flat_map records (take j out.given))) next,
+                    bytes-upto records (w + 1) before,
+                  );
+                  lines = omega (arith, parts-most round_lines rounds (w + 1), lines-there);
+                }))
+            | inr late ↦
+                let all : length rounds ≤ w = late in
+                let held = within-hold rounds m (length b.lines) (length rounds) (omega (arith, all, is)) in
+                omega (
+                  arith,
+                  short,
+                  held.records,
+                  ap length part.records_are,
+                  ap (λ xs. length (flat_map records xs)) (take_all (length rounds) rounds (omega arith)),
+                )
+          ]
+
+  -- the maps file's writer stops it
+  pub maps-stop : (done : ℕ) (failed : Bool) (a c d f g : Option (List ℕ)) (h : Option (List ℕ)) →
+      TookRounds out k (grown a c) (grown f g) → StoppedAtMaps b k done (grown c d) (grown g h) failed →
+      StoppedEarly Maps out done (grown a d) (grown f h) failed
+  maps-stop done failed a c d f g h so_far at =
+      let m : ℕ = at.record_bytes in
+      let n : ℕ = at.line_bytes in
+      let w : ℕ = rounds_within m n (ends_of rounds) in
+      let w0 : ℕ = rounds_within m (length b.lines) (ends_of rounds) in
+      let most0 : w0 ≤ length rounds = within-most rounds m (length b.lines) in
+      let recorded : lines_before (rounds_within m (length b.lines) b.ends) b.ends ≡ length (flat_map round_lines (take w0 rounds)) =
+      ap (λ ends. lines_before (rounds_within m (length b.lines) ends) ends) part.ends_are ∙ lines-before rounds w0 most0 in
+      let n_short : n ≤ length (flat_map round_lines (take w0 rounds)) = omega (arith, at.no_more, recorded) in
+      let in_lines : n ≤ length b.lines = omega (arith, n_short, parts-most round_lines rounds w0, lines-there) in
+      let took_report = appends_join f g h (flat_map round_lines (take k out.given)) (take n b.lines) so_far.report at.report in
+      let done_is : done ≡ k + w = at.done_is ∙ ap (λ ends. k + rounds_within m n ends) part.ends_are in
+      let stopped = stopped-at m n (grown a d) (grown f h) (omega (arith, at.short)) in_lines
+      (appends_join a c d (flat_map records (take k out.given)) (take m b.records) so_far.maps at.maps) took_report
+      (λ all. absurd (not_all all)) in
+      subst (λ j. StoppedEarly Maps out j (grown a d) (grown f h) failed) (sym done_is) (
+        stopped.0,
+        subst (λ taken. TookLines out (k + w) taken (grown f h) failed) (sym stopped.1) (elim at.all_or_failed [
+          | inl all ↦
+              let n_is : n ≡ length (flat_map round_lines (take w0 rounds)) = all ∙ recorded in
+              let held : AreWithin rounds m n w = within-hold rounds m n w (omega arith) in
+              let held0 : AreWithin rounds m (length b.lines) w0 = within-hold rounds m (length b.lines) w0 (omega arith) in
+              let fewer : w ≤ w0 =
+              within-greatest rounds m (length b.lines) w (within-most rounds m n)
+              (record { records = held.records; lines = omega (arith, held.lines, in_lines) }) in
+              let more : w0 ≤ w =
+              within-greatest rounds m n w0 most0 (record { records = held0.records; lines = omega (arith, n_is) }) in
+              let same : w0 ≡ w = omega (arith, fewer, more) in
+              let taken : take n b.lines ≡ flat_map round_lines (take w0 rounds) = ap (λ n. take n b.lines) n_is ∙ lines-of w0 in
+              let text : flat_map round_lines (take k out.given) ++ take n b.lines ≡ flat_map round_lines (take (k + w) out.given) =
+              ap (λ bs. flat_map round_lines (take k out.given) ++ bs) taken ∙ sym (parts-upto round_lines w0 most0) ∙
+              ap (λ j. flat_map round_lines (take (k + j) out.given)) same in
+              inl (subst (Took (grown f h)) text took_report)
+          | inr both ↦
+              let held : AreWithin rounds m n w = within-hold rounds m n w (omega arith) in
+              let fewer : w ≤ w0 =
+              within-greatest rounds m (length b.lines) w (within-most rounds m n)
+              (record { records = held.records; lines = omega (arith, held.lines, in_lines) }) in
+              let front : take n b.lines ≡ take n (flat_map round_lines (take w0 rounds)) = same-front w0 n n_short in
+              let text : flat_map round_lines (take k out.given) ++ take n b.lines ≡
+              take (length (flat_map round_lines (take k out.given)) + n) (flat_map round_lines (take (k + w0) out.given)) =
+              ap (λ bs. flat_map round_lines (take k out.given) ++ bs) front ∙
+              sym (take-append-add (flat_map round_lines (take k out.given)) (flat_map round_lines (take w0 rounds)) n) ∙
+              ap (take (length (flat_map round_lines (take k out.given)) + n)) (sym (parts-upto round_lines w0 most0)) in
+              inr (inr (both, record {
+                whole = k + w0;
+                has_whole = whole-there m at.short;
+                no_fewer = omega (arith, fewer);
+                bytes = length (flat_map round_lines (take k out.given)) + n;
+                front = subst (Took (grown f h)) text took_report;
+              }))
+        ]),
+      )
+    where
+      not_all : rounds_within at.record_bytes at.line_bytes (ends_of rounds) ≡ length rounds → ⊥
+      not_all all =
+          let held = within-hold rounds at.record_bytes at.line_bytes (length rounds) (omega (arith, all)) in
+          omega (
+            arith,
+            at.short,
+            held.records,
+            ap length part.records_are,
+            ap (λ xs. length (flat_map records xs)) (take_all (length rounds) rounds (omega arith)),
+          )
+      same-front : (j n : ℕ) → n ≤ length (flat_map round_lines (take j rounds)) →
+          take n b.lines ≡ take n (flat_map round_lines (take j rounds))
+      same-front j n short =
+          ap (take n)
+          (part.lines_are ∙ ap (λ bs. bs ++ part.own) (sym (parts-split round_lines rounds j)) ∙
+          append_assoc (flat_map round_lines (take j rounds)) (flat_map round_lines (drop j rounds)) part.own) ∙
+          take-append-le n (flat_map round_lines (take j rounds)) _ short
+
+  -- the report's does
+  pub report-stops : (done : ℕ) (failed : Bool) (a c d f g h : Option (List ℕ)) →
+      TookRounds out k (grown a c) (grown f g) → StoppedAtReport b k done (grown c d) (grown g h) →
+      StoppedEarly Report out done (grown a d) (grown f h) failed
+  report-stops done failed a c d f g h so_far at =
+      let m : ℕ = length b.records in
+      let n : ℕ = at.line_bytes in
+      let w : ℕ = rounds_within m n (ends_of rounds) in
+      let most : w ≤ length rounds = within-most rounds m n in
+      let all_records : take m b.records ≡ b.records = take_all m b.records (omega arith) in
+      let done_is : done ≡ k + w = at.done_is ∙ ap (λ ends. k + rounds_within m n ends) part.ends_are in
+      let took_maps = appends_join a c d (flat_map records (take k out.given)) b.records so_far.maps at.maps in
+      let whole : flat_map records (take k out.given) ++ b.records ≡ flat_map records (take (k + length rounds) out.given) =
+      ap (λ bs. flat_map records (take k out.given) ++ bs)
+      (part.records_are ∙ ap (flat_map records) (sym (take_all (length rounds) rounds (omega arith)))) ∙
+      sym (parts-upto records (length rounds) (omega arith)) in
+      subst (λ j. StoppedEarly Report out j (grown a d) (grown f h) failed) (sym done_is) (
+        (stopped-at m n (grown a d) (grown f h) (omega arith) (omega (arith, at.short))
+            (subst (λ bs. Took (grown a d) (flat_map records (take k out.given) ++ bs)) (sym all_records) took_maps)
+            (appends_join f g h (flat_map round_lines (take k out.given)) (take n b.lines) so_far.report at.report) at_end).0,
+        (
+          k + length rounds,
+          omega (arith, most),
+          omega (arith, counted),
+          subst (Took (grown a d)) whole took_maps,
+        ),
+      )
+    where
+      at_end : rounds_within (length b.records) at.line_bytes (ends_of rounds) ≡ length rounds → part.rest ≡ []
+      at_end all = elim part.at_end [
+        | inl none ↦
+            let held = within-hold rounds (length b.records) at.line_bytes (length rounds) (omega (arith, all)) in
+            absurd (omega (
+              arith,
+              at.short,
+              held.lines,
+              ap length part.lines_are,
+              length-append (flat_map round_lines rounds) part.own,
+              ap length none,
+              ap (λ xs. length (flat_map round_lines xs)) (take_all (length rounds) rounds (omega arith)),
+            ))
+        | inr last ↦ last
+      ]
+
+  -- or both took it
+  pub part-sent : (a c d f g h : Option (List ℕ)) → TookRounds out k (grown a c) (grown f g) → part.own ≡ [] →
+      Took (grown c d) b.records → Took (grown g h) b.lines → TookRounds out (k + length rounds) (grown a d) (grown f h)
+  part-sent a c d f g h so_far none took_records took_lines =
+      let all : take (length rounds) rounds ≡ rounds = take_all (length rounds) rounds (omega arith) in
+      record {
+        rounds = omega (arith, counted);
+        maps = subst (Took (grown a d))
+            (ap (λ bs. flat_map records (take k out.given) ++ bs) (part.records_are ∙ ap (flat_map records) (sym all)) ∙
+            sym (parts-upto records (length rounds) (omega arith)))
+            (appends_join a c d (flat_map records (take k out.given)) b.records so_far.maps took_records);
+        report = subst (Took (grown f h))
+            (ap (λ bs. flat_map round_lines (take k out.given) ++ bs)
+            (part.lines_are ∙ ap (λ bs. flat_map round_lines rounds ++ bs) none ∙ append-nil (flat_map round_lines rounds) ∙
+            ap (flat_map round_lines) (sym all)) ∙
+            sym (parts-upto round_lines (length rounds) (omega arith)))
+            (appends_join f g h (flat_map round_lines (take k out.given)) b.lines so_far.report took_lines);
+      }
+
+  pub last-sent : (a c d f g h : Option (List ℕ)) → TookRounds out k (grown a c) (grown f g) → part.rest ≡ [] → part.behind ≡ [] →
+      Took (grown c d) b.records → Took (grown g h) b.lines → TookAll out (grown a d) (grown f h)
+  last-sent a c d f g h so_far none nothing took_records took_lines = (
+    subst (Took (grown a d))
+        (ap (λ bs. flat_map records (take k out.given) ++ bs)
+        (sym (append-nil b.records) ∙ ap (λ rest. b.records ++ flat_map records rest) (sym none)) ∙ sym maps-whole)
+        (appends_join a c d (flat_map records (take k out.given)) b.records so_far.maps took_records),
+    subst (Took (grown f h))
+        (ap (λ bs. flat_map round_lines (take k out.given) ++ bs)
+        (sym (append-nil b.lines) ∙ ap (λ bs. b.lines ++ bs) (sym nothing)) ∙ sym report-whole)
+        (appends_join f g h (flat_map round_lines (take k out.given)) b.lines so_far.report took_lines),
+  )
+
+-- a batch that wasn't all taken
+pub sent-stops : (out : Output) (counts : Counts) (k : ℕ) (rounds : List RoundOut) (b : Batch) (failed : Bool)
+    (a c d f g h : Option (List ℕ)) (end : Ending) → IsPart out k rounds b → TookRounds out k (grown a c) (grown f g) →
+    Sent b k (grown c d) (grown g h) failed (Err end) → Ran out counts (grown a d) (grown f h) failed (Err end)
+sent-stops out counts k rounds b failed a c d f g h (StoppedBy Maps done) part so_far at =
+    maps-stop out k rounds b part so_far.rounds done failed a c d f g h so_far at
+sent-stops out counts k rounds b failed a c d f g h (StoppedBy Report done) part so_far at =
+    report-stops out k rounds b part so_far.rounds done failed a c d f g h so_far at
+sent-stops out counts k rounds b failed a c d f g h (StoppedBy Memory done) part so_far never = absurd never
+sent-stops out counts k rounds b failed a c d f g h (Refused why) part so_far never = absurd never
 
 -- The end.
 
--- the writers took both texts
-abbrev pub TookAll : Output → Growth → Growth → Type 0
-TookAll out to_maps to_report = Took to_maps (maps_text out) × Took to_report (report_text out)
-
-pub sent-last : (out : Output) (k : ℕ) (a b c d e f : Option (List ℕ)) (maps report : List ℕ) →
-    TookRounds out k (grown a b) (grown d e) → AreLast out k maps report →
-    Took (grown b c) maps → Took (grown e f) report → TookAll out (grown a c) (grown d f)
-sent-last out k a b c d e f maps report so_far texts wrote_maps wrote_report =
-    let all : take k out.given ≡ out.given = take_all k out.given (ended k out.given texts.none) in (
-      subst (Appends a c) (append-nil (flat_map records (take k out.given)) ∙ ap (flat_map records) all)
-          (appends_join a b c (flat_map records (take k out.given)) [] so_far.maps (subst (Appends b c) texts.maps_are wrote_maps)),
-      subst (Appends d f) (ap (λ given. flat_map round_lines given ++ lines out.last) all)
-          (appends_join d e f (flat_map round_lines (take k out.given)) (lines out.last) so_far.report
-          (subst (Appends e f) texts.report_is wrote_report)),
-    )
-
--- a stop after both texts
-pub stops-after : (out : Output) (k : ℕ) (to_maps to_report : Growth) → k ≡ length out.given →
-    TookAll out to_maps to_report → Stopped out to_maps to_report k
-stops-after out k to_maps to_report all took = record {
-  maps_taken = length (maps_text out);
-  report_taken = length (report_text out);
-  maps_short = omega arith;
-  report_short = omega arith;
-  maps_front = subst (Took to_maps) (sym (take_all (length (maps_text out)) (maps_text out) (omega arith))) took.0;
-  report_front = subst (Took to_report) (sym (take_all (length (report_text out)) (report_text out) (omega arith))) took.1;
-  rounds = omega (arith, all);
-  maps_hold = whole records (maps_text out) (omega arith);
-  report_hold = whole round_lines (report_text out)
-      (omega (arith, length-append (flat_map round_lines out.given) (lines out.last)));
-  greatest = λ more within in_maps in_report. omega (arith, within, all);
-}
-  where
-    whole : (part : RoundOut → List ℕ) (text : List ℕ) → length (flat_map part out.given) ≤ length text →
-        length (flat_map part (take k out.given)) ≤ length text
-    whole part text h =
-        omega (arith, h, ap (λ given. length (flat_map part given)) (take_all k out.given (omega (arith, all))))
+-- a stop behind both texts
+stops-after : (out : Output) (k : ℕ) (to_maps to_report : Growth) → k ≡ length out.given → TookAll out to_maps to_report →
+    Stopped out to_maps to_report k
+stops-after out k to_maps to_report all took =
+    let every : take k out.given ≡ out.given = take_all k out.given (omega (arith, all)) in
+    (stopped-with out k (length (maps_text out)) (length (report_text out)) to_maps to_report (omega (arith, all))
+    (omega arith) (omega arith)
+    (subst (Took to_maps) (sym (take_all (length (maps_text out)) (maps_text out) (omega arith))) took.0)
+    (subst (Took to_report) (sym (take_all (length (report_text out)) (report_text out) (omega arith))) took.1)
+    (omega (arith, ap (λ given. length (flat_map records given)) every))
+    (omega (arith, ap (λ given. length (flat_map round_lines given)) every,
+    length-append (flat_map round_lines out.given) (lines out.last)))
+    (λ below. absurd (omega (arith, all, below)))).0
 
 pub flushed-all : (out : Output) (a b c d e f : Option (List ℕ)) → TookAll out (grown a b) (grown d e) →
     Keeps b c → Keeps e f → TookAll out (grown a c) (grown d f)
@@ -308,33 +468,59 @@ flushed-all out a b c d e f took maps report =
     (appends_keep a b c (maps_text out) took.0 maps, appends_keep d e f (report_text out) took.1 report)
 
 -- a fault of a flush
-pub flush-stops : (out : Output) (counts : Counts) (k : ℕ) (a b c d e f : Option (List ℕ)) (end : Ending) →
+pub flush-stops : (out : Output) (counts : Counts) (k : ℕ) (failed : Bool) (a b c d e f : Option (List ℕ)) (end : Ending) →
     k ≡ length out.given → TookAll out (grown a b) (grown d e) →
-    Flushed k (grown b c) (grown e f) (Err end) → Ran out counts (grown a c) (grown d f) (Err end)
-flush-stops out counts k a b c d e f (StoppedBy Maps done) all took (maps, report, is) =
+    Flushed k (grown b c) (grown e f) (Err end) → Ran out counts (grown a c) (grown d f) failed (Err end)
+flush-stops out counts k failed a b c d e f (StoppedBy Maps done) all took (maps, report, is) =
     let whole : TookAll out (grown a c) (grown d f) = flushed-all out a b c d e f took maps report in
-    (inr (is ∙ all, whole.1), stops-after out done (grown a c) (grown d f) (is ∙ all) whole)
-flush-stops out counts k a b c d e f (StoppedBy Report done) all took (maps, report, is) =
+    (stops-after out done (grown a c) (grown d f) (is ∙ all) whole, inr (inl (is ∙ all, whole.1)))
+flush-stops out counts k failed a b c d e f (StoppedBy Report done) all took (maps, report, is) =
     let whole : TookAll out (grown a c) (grown d f) = flushed-all out a b c d e f took maps report in
-    let every : take (done + 1) out.given ≡ out.given = take_all (done + 1) out.given (omega (arith, is, all)) in
-    (subst (Appends a c) (sym (ap (flat_map records) every)) whole.0, stops-after out done (grown a c) (grown d f) (is ∙ all) whole)
-flush-stops out counts k a b c d e f (StoppedBy Memory done) all took never = absurd never
-flush-stops out counts k a b c d e f (Refused why) all took never = absurd never
+    let every : take done out.given ≡ out.given = take_all done out.given (omega (arith, is, all)) in (
+      stops-after out done (grown a c) (grown d f) (is ∙ all) whole,
+      (done, omega arith, omega (arith, is, all), subst (Appends a c) (sym (ap (flat_map records) every)) whole.0),
+    )
+flush-stops out counts k failed a b c d e f (StoppedBy Memory done) all took never = absurd never
+flush-stops out counts k failed a b c d e f (Refused why) all took never = absurd never
 
 -- Limits.
 
--- where a round is stopped, the rounds before it are named
-pub sent-kept : (t : Tables) (cuts : List (List ℕ)) (k : ℕ) (maps report : List ℕ) (to_maps to_report : Growth)
-    (end : Ending) → KeptLimits t cuts k → Sent maps report k to_maps to_report (Err end) →
-    KeptLimits t cuts (rounds_done (Err end))
-sent-kept t cuts k maps report to_maps to_report (StoppedBy Maps done) kept (is, front, nothing) =
-    subst (KeptLimits t cuts) (sym is) kept
-sent-kept t cuts k maps report to_maps to_report (StoppedBy Report done) kept (is, wrote, front) =
-    subst (KeptLimits t cuts) (sym is) kept
-sent-kept t cuts k maps report to_maps to_report (StoppedBy Memory done) kept never = absurd never
-sent-kept t cuts k maps report to_maps to_report (Refused why) kept never = absurd never
+fewer-kept : {X : Type 0} (P : X → Type 0) (xs : List X) (i j : ℕ) → i ≤ j → AllByRecursion P (take j xs) →
+    AllByRecursion P (take i xs)
+fewer-kept P [] zero j h kept = tt
+fewer-kept P [] (suc i) j h kept = tt
+fewer-kept P (x ∷ xs) zero j h kept = tt
+fewer-kept P (x ∷ xs) (suc i) zero h kept = absurd (omega (arith, h))
+fewer-kept P (x ∷ xs) (suc i) (suc j) h kept = (kept.0, fewer-kept P xs i j (omega (arith, h)) kept.1)
 
--- and where a flush is, all of them
+pub kept-before : (t : Tables) (cuts : List (List ℕ)) (done k : ℕ) → done ≤ k → KeptLimits t cuts k → KeptLimits t cuts done
+unfolding KeptLimits
+kept-before t cuts done k fewer kept = fewer-kept _ _ done k fewer kept
+
+-- a batch names no more rounds than those that it ends with
+pub sent-kept : (t : Tables) (cuts : List (List ℕ)) (out : Output) (before k : ℕ) (rounds : List RoundOut) (b : Batch)
+    (failed : Bool) (to_maps to_report : Growth) (end : Ending) → IsPart out before rounds b → before + length rounds ≡ k →
+    KeptLimits t cuts k → Sent b before to_maps to_report failed (Err end) → KeptLimits t cuts (rounds_done (Err end))
+sent-kept t cuts out before k rounds b failed to_maps to_report (StoppedBy Maps done) part all kept at =
+    kept-before t cuts done k (omega (
+      arith,
+      all,
+      at.done_is,
+      ap (rounds_within at.record_bytes at.line_bytes) part.ends_are,
+      within-most rounds at.record_bytes at.line_bytes,
+    )) kept
+sent-kept t cuts out before k rounds b failed to_maps to_report (StoppedBy Report done) part all kept at =
+    kept-before t cuts done k (omega (
+      arith,
+      all,
+      at.done_is,
+      ap (rounds_within (length b.records) at.line_bytes) part.ends_are,
+      within-most rounds (length b.records) at.line_bytes,
+    )) kept
+sent-kept t cuts out before k rounds b failed to_maps to_report (StoppedBy Memory done) part all kept never = absurd never
+sent-kept t cuts out before k rounds b failed to_maps to_report (Refused why) part all kept never = absurd never
+
+-- and where a flush stops it, all of them
 pub flushed-kept : (t : Tables) (cuts : List (List ℕ)) (k : ℕ) (to_maps to_report : Growth) (end : Ending) →
     KeptLimits t cuts k → Flushed k to_maps to_report (Err end) → KeptLimits t cuts (rounds_done (Err end))
 flushed-kept t cuts k to_maps to_report (StoppedBy Maps done) kept (maps, report, is) =

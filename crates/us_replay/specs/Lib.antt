@@ -14,4 +14,6 @@ pub mod RunExamples
 -- inside the crate, and of no use to a reader of the promise: how requests are collected; what a replay keeps from one
 -- round to the next
 pub mod Collecting
+-- what is sent together
+pub mod Batches
 pub mod Progress

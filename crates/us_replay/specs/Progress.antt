@@ -1,9 +1,8 @@
 -- A replay on its way: the cuts of the trace that was read, what is kept from one round to the next, and what one writing
 -- of texts leaves.
-use Rattle.std.specs.Prelude.{◌≡◌, ℕ, ◌+◌, ◌*◌, ◌^◌, ◌<◌, ◌≤◌, true, List, [], ◌∷◌, ◌++◌, length, drop, take, replicate, sum, sum_by, count_by, Option, Result, Ok, Err, OnOk}
+use Rattle.std.specs.Prelude.{◌≡◌, ℕ, ◌+◌, ◌*◌, ◌^◌, ◌-◌, ◌<◌, ◌≤◌, Bool, true, List, [], ◌∷◌, ◌++◌, length, drop, take, replicate, sum, sum_by, count_by, Option, Result, Ok, Err, OnOk}
 use Rattle.std.specs.List.{AllByRecursion}
 use Rattle.std.specs.Io.KnownBytes.{Keeps}
-use Rattle.us_slots.specs.Devices.{AppendsFront}
 use Rattle.us_flows.specs.Tables.{Tables, max_run_ticks, rounds_fit}
 use Rattle.us_flows.specs.Clusters.{words_of}
 use Rattle.us_flows.specs.Lawful.{AreTables}
@@ -21,12 +20,13 @@ use Rattle.us_output.specs.Outputs.{RoundOut, AreWithinLimits, out_of}
 use Rattle.us_replay.specs.declared.summaries.Summary.{Summary}
 use Rattle.us_replay.specs.declared.faults.RunFault.{RunFault}
 use Rattle.us_replay.specs.Collecting.{AreAsks, chunk_quota}
-use Rattle.us_output.specs.Files.{records, round_lines, lines, is_granted, is_missed}
+use Rattle.us_output.specs.Files.{lines, is_granted, is_missed}
 use Rattle.us_lawful.specs.Output.{counts_row, judged_of, Output, all_rows, maps_text, output_of, report_text, run_of}
 use Rattle.us_replay.specs.Endings.{ended, rounds_done, Ending, Refused, StoppedBy, Maps, Report, Memory}
 use Rattle.us_lawful.specs.Texts.{AreLawful}
 use Rattle.us_output.specs.Lines.{HasFields}
-use Rattle.us_replay.specs.Replays.{Growth, Took, Ran, KeptLimits}
+use Rattle.us_replay.specs.Batches.{Batch, batch_of, no_rounds, with_next}
+use Rattle.us_replay.specs.Replays.{AreLeft, Growth, KeptLimits, Ran, Writing}
 
 -- Traces.
 
@@ -39,9 +39,9 @@ abbrev pub IsLawfulOutput : Tables → TraceAsks → Type 0
 IsLawfulOutput t v = AreLawful (run_of t (cuts_in t v) v.counts) (maps_text (output_in t v)) (report_text (output_in t v))
 
 -- the run of a trace that was read
-abbrev pub RanTrace : Tables → TraceAsks → Growth → Growth → Result Summary RunFault → Type 0
-RanTrace t v to_maps to_report result =
-    Ran (output_in t v) v.counts to_maps to_report (ended result)
+abbrev pub RanTrace : Tables → TraceAsks → Growth → Growth → Bool → Result Summary RunFault → Type 0
+RanTrace t v to_maps to_report report_failed result =
+    Ran (output_in t v) v.counts to_maps to_report report_failed (ended result)
     × KeptLimits t (cuts_in t v) (rounds_done (ended result))
 
 -- a trace that can be run with a configuration
@@ -49,14 +49,11 @@ pub record IsTraceFor (t : Tables) (v : TraceAsks) : Type 0 where
   pub fits : rounds_fit t v.rounds ≡ true
   pub known : (round : ℕ) → AllByRecursion (λ ask. ask.cluster < length (words_of t)) (asks_in v round)
 
--- what a writer had and has
-abbrev pub grown : Option (List ℕ) → Option (List ℕ) → Growth
-grown before after = record { before = before; after = after }
-
 -- what stands at the end of its run
-pub record EndsAs (t : Tables) (v : TraceAsks) (to_maps to_report : Growth) (result : Result Summary RunFault) : Type 0 where
-  pub ran : RanTrace t v to_maps to_report result
+pub record EndsAs (t : Tables) (v : TraceAsks) (maps report : Writing) (result : Result Summary RunFault) : Type 0 where
+  pub ran : RanTrace t v maps.grew report.grew report.failed result
   pub fields : OnOk result (AllByRecursion HasFields (judged_of (output_in t v)).lines)
+  pub left : AreLeft maps report result
 
 -- Progress.
 
@@ -65,9 +62,8 @@ pub record Progress : Type 0 where
   pub cut : List ℕ
   -- the bytes that were collected so far
   pub collected : ℕ
-  -- the texts that are to be written next
-  pub to_maps : List ℕ
-  pub to_report : List ℕ
+  -- what is to be sent next
+  pub batch : Batch
   -- the G and M lines so far
   pub granted : ℕ
   pub missed : ℕ
@@ -75,7 +71,7 @@ pub record Progress : Type 0 where
 -- before round 0 of so many words
 abbrev pub opening_progress : ℕ → Progress
 opening_progress clusters =
-    record { cut = replicate clusters 0; collected = 0; to_maps = []; to_report = []; granted = 0; missed = 0 }
+    record { cut = replicate clusters 0; collected = 0; batch = no_rounds; granted = 0; missed = 0 }
 
 -- the most lines of requested grants in a round: of all channels with all their assignments
 abbrev pub max_requested : ℕ
@@ -101,8 +97,7 @@ with_asks p asks = record p {
 -- the texts of a round were made
 unfoldable pub with_round : Progress → RoundOut → Progress
 with_round p out = record p {
-  to_maps = records out;
-  to_report = round_lines out;
+  batch = with_next p.batch out;
   granted = p.granted + count_by is_granted out.rows;
   missed = p.missed + count_by is_missed out.rows;
 }
@@ -113,7 +108,12 @@ last_rows state counts = final_rows state ++ counts_row counts ∷ []
 
 -- their text was made
 unfoldable pub with_last : Progress → State → Counts → Progress
-with_last p state counts = record p { to_maps = []; to_report = lines (last_rows state counts) }
+with_last p state counts =
+    record p { batch = record p.batch { lines = p.batch.lines ++ lines (last_rows state counts) } }
+
+-- the batch was sent
+abbrev pub with_none_left : Progress → Progress
+with_none_left p = record p { batch = no_rounds }
 
 -- what the replay did
 abbrev pub summary_after : Progress → ℕ → Counts → Summary
@@ -177,14 +177,10 @@ pub record Along (t : Tables) (v : TraceAsks) (k : ℕ) (state : State) (p : Pro
 
 -- Writing.
 
--- of two texts the maps file's writer took the one, and then the report's the other, as far as the end says
-abbrev pub Sent : List ℕ → List ℕ → ℕ → Growth → Growth → Result (Unit {0}) Ending → Type 0
-Sent maps report done to_maps to_report (Ok _) = Took to_maps maps × Took to_report report
-Sent maps report done to_maps to_report (Err (StoppedBy Maps rounds)) =
-    (rounds ≡ done) × AppendsFront to_maps.before to_maps.after maps × Took to_report []
-Sent maps report done to_maps to_report (Err (StoppedBy Report rounds)) =
-    (rounds ≡ done) × Took to_maps maps × AppendsFront to_report.before to_report.after report
-Sent maps report done to_maps to_report (Err _) = ⊥
+-- the batch holds the texts of the rounds from `sent` to k
+pub record Holds (out : Output) (sent k : ℕ) (b : Batch) : Type 0 where
+  pub from : sent ≤ k
+  pub rounds : b ≡ batch_of (take (k - sent) (drop sent out.given)) []
 
 -- a flush keeps what was taken, and where it stops the run it names these rounds
 abbrev pub Flushed : ℕ → Growth → Growth → Result (Unit {0}) Ending → Type 0

@@ -1,5 +1,5 @@
 -- Replays (ours): what a run writes, and what stands after it ended early.
-use Rattle.std.specs.Prelude.{◌≡◌, ℕ, ◌+◌, ◌≤◌, ◌⊎◌, List, [], length, map, flat_map, count_by, take, true, false, Option, None, Result, Ok, Err}
+use Rattle.std.specs.Prelude.{◌≡◌, ℕ, ◌+◌, ◌≤◌, ◌⊎◌, List, [], length, map, flat_map, count_by, take, Bool, true, false, Option, None, Result, Ok, Err, OnOk}
 use Rattle.std.specs.List.{AllByRecursion, range_with_len}
 use Rattle.std.specs.Io.KnownBytes.{Appends}
 use Rattle.us_flows.specs.Tables.{Tables, rounds_fit}
@@ -16,7 +16,7 @@ use Rattle.us_lawful.specs.Output.{Output, output_of, maps_text, report_text, al
 use Rattle.us_lawful.specs.Texts.{AreLawful}
 use Rattle.us_replay.specs.declared.summaries.Summary.{Summary}
 use Rattle.us_replay.specs.declared.faults.RunFault.{RunFault}
-use Rattle.us_replay.specs.Endings.{Refusal, Rounds, Workers, Trace, Maps, Report, Memory, Ending, Refused, StoppedBy, ended, rounds_done}
+use Rattle.us_replay.specs.Endings.{Refusal, Rounds, Workers, Trace, Stopper, Maps, Report, Memory, Ending, Refused, StoppedBy, blames_maps, blames_report, ended, rounds_done}
 
 -- What a run gives.
 
@@ -41,6 +41,9 @@ summary_of out counts = record {
 pub record Growth : Type 0 where
   pub before : Option (List ℕ)
   pub after : Option (List ℕ)
+
+abbrev pub grown : Option (List ℕ) → Option (List ℕ) → Growth
+grown before after = record { before = before; after = after }
 
 -- where a writer tells its bytes, it took just these
 abbrev pub Took : Growth → List ℕ → Type 0
@@ -72,26 +75,49 @@ pub record TookRounds (out : Output) (done : ℕ) (to_maps to_report : Growth) :
   pub maps : Took to_maps (flat_map records (take done out.given))
   pub report : Took to_report (flat_map round_lines (take done out.given))
 
--- The records of a round are written before its lines, and both before those of the next round. So where the maps file's
--- writer stops the run, the report's took the lines of the rounds before, or behind all rounds the whole report;
-abbrev pub TookLines : Output → ℕ → Growth → Type 0
-TookLines out done g =
+-- Rounds are written in batches: of each one the records, and then the lines. Where the maps file's writer stops the run, the
+-- lines of the rounds whose records it has whole still go to the report.
+
+-- so many bytes of the maps file have the records of just `whole` rounds
+pub record HasWhole (out : Output) (taken whole : ℕ) : Type 0 where
+  pub rounds : whole ≤ length out.given
+  pub hold : HasRounds records out.given whole taken
+  pub greatest : (more : ℕ) → more ≤ length out.given → HasRounds records out.given more taken → more ≤ whole
+
+-- a writer took a front of the lines of these rounds, of which there are `done` or more
+pub record TookFront (out : Output) (done maps_taken : ℕ) (g : Growth) : Type 0 where
+  pub whole : ℕ
+  pub has_whole : HasWhole out maps_taken whole
+  pub no_fewer : done ≤ whole
+  pub bytes : ℕ
+  pub front : Took g (take bytes (flat_map round_lines (take whole out.given)))
+
+-- So the report's writer took the lines of just the rounds that are done, or behind all rounds the whole report; or, where it
+-- failed too, such a front;
+abbrev pub TookLines : Output → ℕ → ℕ → Growth → Bool → Type 0
+TookLines out done maps_taken g failed =
     Took g (flat_map round_lines (take done out.given)) ⊎ ((done ≡ length out.given) × Took g (report_text out))
+    ⊎ ((failed ≡ true) × TookFront out done maps_taken g)
 
--- and where the report's writer does, the maps file's took the records of the round that it was at too, if it was at one
+-- and where the report's writer stops it, the maps file's took the records of all rounds that were sent, done or not
 abbrev pub TookRecords : Output → ℕ → Growth → Type 0
-TookRecords out done g = Took g (flat_map records (take (done + 1) out.given))
+TookRecords out done g =
+    (sent : ℕ) × (done ≤ sent) × (sent ≤ length out.given) × Took g (flat_map records (take sent out.given))
 
--- the run of a trace that was read: what stands at its end. Memory is wanting between rounds alone
-abbrev pub Ran : Output → Counts → Growth → Growth → Result Summary Ending → Type 0
-Ran out counts to_maps to_report (Ok summary) =
+-- what stands where a run is stopped after `done` rounds. Memory is wanting between rounds alone
+abbrev pub StoppedEarly : Stopper → Output → ℕ → Growth → Growth → Bool → Type 0
+StoppedEarly Maps out done to_maps to_report report_failed =
+    (stopped : Stopped out to_maps to_report done) × TookLines out done stopped.maps_taken to_report report_failed
+StoppedEarly Report out done to_maps to_report report_failed = Stopped out to_maps to_report done × TookRecords out done to_maps
+StoppedEarly Memory out done to_maps to_report report_failed = Stopped out to_maps to_report done × TookRounds out done to_maps to_report
+
+-- the run of a trace that was read: what stands at its end
+abbrev pub Ran : Output → Counts → Growth → Growth → Bool → Result Summary Ending → Type 0
+Ran out counts to_maps to_report report_failed (Ok summary) =
     Took to_maps (maps_text out) × Took to_report (report_text out) × (summary ≡ summary_of out counts)
-Ran out counts to_maps to_report (Err (StoppedBy Memory done)) =
-    TookRounds out done to_maps to_report × Stopped out to_maps to_report done
-Ran out counts to_maps to_report (Err (StoppedBy Maps done)) = TookLines out done to_report × Stopped out to_maps to_report done
-Ran out counts to_maps to_report (Err (StoppedBy Report done)) =
-    TookRecords out done to_maps × Stopped out to_maps to_report done
-Ran out counts to_maps to_report (Err (Refused why)) = ⊥
+Ran out counts to_maps to_report report_failed (Err (StoppedBy what done)) =
+    StoppedEarly what out done to_maps to_report report_failed
+Ran out counts to_maps to_report report_failed (Err (Refused why)) = ⊥
 
 -- Limits.
 
@@ -106,10 +132,10 @@ unfoldable pub output_for : Tables → ℕ → List ℕ → Output
 output_for t rounds text = output_of t (cuts_of t rounds (requests_of text)) (counts_of t rounds (requests_of text))
 
 -- what the source tells is the text of a trace without a fault, and the rounds were run for its requests
-abbrev pub RanText : Tables → ℕ → Option (List ℕ) → Growth → Growth → Result Summary Ending → Type 0
-RanText t rounds told to_maps to_report end =
+abbrev pub RanText : Tables → ℕ → Option (List ℕ) → Growth → Growth → Bool → Result Summary Ending → Type 0
+RanText t rounds told to_maps to_report report_failed end =
     (text : List ℕ) × IsTextOf told text × (trace_fault text ≡ None)
-    × Ran (output_for t rounds text) (counts_of t rounds (requests_of text)) to_maps to_report end
+    × Ran (output_for t rounds text) (counts_of t rounds (requests_of text)) to_maps to_report report_failed end
     × KeptLimits t (cuts_of t rounds (requests_of text)) (rounds_done end)
 
 abbrev pub TookNothing : Growth → Growth → Type 0
@@ -123,15 +149,11 @@ IsRefused t rounds told Workers = rounds_fit t rounds ≡ true
 IsRefused t rounds told (Trace reason) = (rounds_fit t rounds ≡ true) × Reads t rounds told (Err reason)
 
 -- what stands at the end of a replay: nothing was written, or its rounds were run, all of them or those that were done
-abbrev pub Stands : Tables → ℕ → Option (List ℕ) → Growth → Growth → Result Summary Ending → Type 0
-Stands t rounds told to_maps to_report (Err (Refused why)) =
+abbrev pub Stands : Tables → ℕ → Option (List ℕ) → Growth → Growth → Bool → Result Summary Ending → Type 0
+Stands t rounds told to_maps to_report report_failed (Err (Refused why)) =
     IsRefused t rounds told why × TookNothing to_maps to_report
-Stands t rounds told to_maps to_report end =
-    (rounds_fit t rounds ≡ true) × RanText t rounds told to_maps to_report end
-
--- a replay: what stands by its answer
-abbrev pub Replayed : Tables → ℕ → Option (List ℕ) → Growth → Growth → Result Summary RunFault → Type 0
-Replayed t rounds told to_maps to_report result = Stands t rounds told to_maps to_report (ended result)
+Stands t rounds told to_maps to_report report_failed end =
+    (rounds_fit t rounds ≡ true) × RanText t rounds told to_maps to_report report_failed end
 
 -- Lawful output.
 
@@ -149,3 +171,42 @@ pub record WroteLawful (t : Tables) (rounds : ℕ) (told : Option (List ℕ)) (t
   pub took_maps : Took to_maps maps
   pub took_report : Took to_report report
   pub lawful : AreLawful (run_for t rounds (requests_of text)) maps report
+
+-- Writers.
+
+-- what a writer tells of a run: its bytes, whether it failed, and whether its last call was a flush that went well, before the
+-- run and after it
+pub record Writing : Type 0 where
+  pub grew : Growth
+  pub failed : Bool
+  pub was_flushed : Bool
+  pub flushed : Bool
+
+abbrev pub writing : Option (List ℕ) → Option (List ℕ) → Bool → Bool → Bool → Writing
+writing before after failed was_flushed flushed =
+    record { grew = grown before after; failed = failed; was_flushed = was_flushed; flushed = flushed }
+
+-- what both tell once a fault ended a run. The report's may fail behind the maps file's, which is blamed then
+pub record AreLeftBy (f : RunFault) (maps report : Writing) : Type 0 where
+  pub maps_failed : maps.failed ≡ blames_maps f
+  pub report_blamed : blames_report f ≡ true → report.failed ≡ true
+  pub report_failed : report.failed ≡ true → (blames_report f ≡ true) ⊎ (blames_maps f ≡ true)
+  pub maps_unflushed : maps.failed ≡ true → maps.flushed ≡ false
+  pub report_unflushed : report.failed ≡ true → report.flushed ≡ false
+  pub maps_never_flushed : maps.was_flushed ≡ false → blames_report f ≡ false → maps.flushed ≡ false
+  pub report_never_flushed : report.was_flushed ≡ false → report.flushed ≡ false
+
+-- and once it has ended
+abbrev pub AreLeft : {A : Type 0} → Writing → Writing → Result A RunFault → Type 0
+AreLeft maps report (Ok _) =
+    (maps.failed ≡ false) × (report.failed ≡ false) × (maps.flushed ≡ true) × (report.flushed ≡ true)
+AreLeft maps report (Err f) = AreLeftBy f maps report
+
+-- Replays.
+
+-- a replay: what stands by its answer, that its output is lawful where it is done, and what its writers tell
+pub record Replayed (t : Tables) (rounds : ℕ) (told : Option (List ℕ)) (maps report : Writing) (result : Result Summary RunFault)
+    : Type 0 where
+  pub stands : Stands t rounds told maps.grew report.grew report.failed (ended result)
+  pub lawful : OnOk result (WroteLawful t rounds told maps.grew report.grew)
+  pub left : AreLeft maps report result

@@ -1,4 +1,4 @@
-ghost use Rattle.std.specs.Prelude.{◌≡◌, ◌↔◌, ◌⊎◌, ◌<◌, ◌≤◌, true, false, length, option_map, Err, IfOk, OnOk, IfErr, is_ok};
+ghost use Rattle.std.specs.Prelude.{◌≡◌, ◌↔◌, ◌⊎◌, ◌<◌, ◌≤◌, true, false, length, option_map, Err, IfOk, OnOk, IfErr};
 ghost use Rattle.us_flows.specs.Tables;
 ghost use Rattle.us_flows.specs.Clusters.{words_of};
 ghost use Rattle.us_flows.specs.Lawful.{AreTables};
@@ -6,9 +6,9 @@ ghost use Rattle.us_slots.specs.Devices.{TookAtMost};
 ghost use Rattle.us_requests.specs.Readings.{max_bytes};
 ghost use Rattle.us_round.specs.Rounds.{opening};
 ghost use Rattle.us_replay.specs.Collecting.{AreOpen};
-ghost use Rattle.us_replay.specs.Endings.{AreLeft, comes_before, blames_maps, blames_report};
-ghost use Rattle.us_replay.specs.Replays.{Growth, Replayed, WroteLawful};
-ghost use Rattle.us_replay.specs.Progress.{CanMake, EndsAs, IsLawfulOutput, IsMade, IsTraceFor, grown, opening_progress};
+ghost use Rattle.us_replay.specs.Endings.{comes_before};
+ghost use Rattle.us_replay.specs.Replays.{Replayed, writing};
+ghost use Rattle.us_replay.specs.Progress.{CanMake, EndsAs, IsLawfulOutput, IsMade, IsTraceFor, opening_progress};
 
 use crate::collecting::open_intake;
 use crate::doers::{Doers, RunMail};
@@ -27,6 +27,7 @@ use us_round::{Alone, RoundMail, State, step};
 use us_slots::{NoMemory, Sink, Source};
 use whole_run::WholeRun;
 
+mod batches;
 mod progress;
 mod sending;
 mod whole_run;
@@ -36,9 +37,11 @@ mod whole_run;
 /// there are, and which comes when, changes nothing of what is written.
 ///
 /// The number of rounds is looked at first (RU1), then that of workers (RU2), and then the trace is read to its end
-/// (RU3). Each round writes its records and then its lines, the channels in table order; after the last one the F lines,
-/// the A lines and the U line are written, and both writers are flushed, the maps file's first. The first fault ends the
-/// replay (RU4, RU5, RU6).
+/// (RU3). Each round has its records and its lines, the channels in table order; behind the last one the lines end with the F
+/// lines, the A lines and the U line. Rounds are written several at a time, once there are 256, 48 KiB of records or 64 KiB of
+/// lines, and at the end: first their records and then their lines, so that a line never stands without the records of its
+/// round. Then both writers are flushed, the maps file's first. The first fault ends the replay (RU4, RU5, RU6); where memory
+/// is wanting (RU6), the rounds that weren't written yet are given up.
 ///
 /// The requests of a round are added to their words by whichever workers, and then taken: one swap for each, of the word
 /// that it names, and of no other word. To take a word that holds nothing and wasn't taken, where no channel is open,
@@ -59,12 +62,10 @@ pub fn replay<H: Threads + Wait + Sync, R: Source, W1: Sink, W2: Sink, G: Gate +
     requires trace_ready { R.failed trace.old ≡ false }
     requires maps_ready { W1.failed maps.old ≡ false }
     requires report_ready { W2.failed report.old ≡ false }
-    ensures replayed { let to_maps : Growth = record { before = W1.contents maps.old; after = W1.contents maps.new } in
-        let to_report : Growth = record { before = W2.contents report.old; after = W2.contents report.new } in
-        Replayed config.now rounds (R.remaining trace.old) to_maps to_report result }
-    ensures lawful { let to_maps : Growth = record { before = W1.contents maps.old; after = W1.contents maps.new } in
-        let to_report : Growth = record { before = W2.contents report.old; after = W2.contents report.new } in
-        OnOk result (WroteLawful config.now rounds (R.remaining trace.old) to_maps to_report) }
+    ensures replayed { Replayed config.now rounds (R.remaining trace.old)
+        (writing (W1.contents maps.old) (W1.contents maps.new) (W1.failed maps.new) (W1.flushed maps.old) (W1.flushed maps.new))
+        (writing (W2.contents report.old) (W2.contents report.new) (W2.failed report.new) (W2.flushed report.old) (W2.flushed report.new))
+        result }
     ensures rounds { (result ≡ Err RunFault.Rounds) ↔ (Tables.rounds_fit config.now rounds ≡ false) }
     ensures workers { (result ≡ Err RunFault.Workers) ↔
         (Tables.rounds_fit config.now rounds ≡ true) × ((workers ≡ 0) ⊎ (64 < workers)) }
@@ -75,14 +76,6 @@ pub fn replay<H: Threads + Wait + Sync, R: Source, W1: Sink, W2: Sink, G: Gate +
         TookAtMost max_bytes (R.remaining trace.old) (R.remaining trace.new) }
     ensures trace_wanting { result ≡ Err (RunFault.Trace TraceFault.NoMemory) →
         TookAtMost max_bytes (R.remaining trace.old) (R.remaining trace.new) }
-    ensures maps_failed { W1.failed maps.new ≡ blames_maps result }
-    ensures report_failed { W2.failed report.new ≡ blames_report result }
-    ensures flushed { OnOk result ((W1.flushed maps.new ≡ true) × (W2.flushed report.new ≡ true)) }
-    ensures maps_unflushed { W1.failed maps.new ≡ true → W1.flushed maps.new ≡ false }
-    ensures report_unflushed { W2.failed report.new ≡ true → W2.flushed report.new ≡ false }
-    ensures maps_flushed { W1.flushed maps.old ≡ false → blames_report result ≡ false →
-        W1.flushed maps.new ≡ is_ok result }
-    ensures report_flushed { W2.flushed report.old ≡ false → W2.flushed report.new ≡ is_ok result }
 {
     check_run(config, rounds, workers)?;
     let trace = Trace::read(alloc, trace, config, rounds)?;
@@ -102,12 +95,10 @@ pub fn replay_alone<R: Source, W1: Sink, W2: Sink>(
     requires trace_ready { R.failed trace.old ≡ false }
     requires maps_ready { W1.failed maps.old ≡ false }
     requires report_ready { W2.failed report.old ≡ false }
-    ensures replayed { let to_maps : Growth = record { before = W1.contents maps.old; after = W1.contents maps.new } in
-        let to_report : Growth = record { before = W2.contents report.old; after = W2.contents report.new } in
-        Replayed config.now rounds (R.remaining trace.old) to_maps to_report result }
-    ensures lawful { let to_maps : Growth = record { before = W1.contents maps.old; after = W1.contents maps.new } in
-        let to_report : Growth = record { before = W2.contents report.old; after = W2.contents report.new } in
-        OnOk result (WroteLawful config.now rounds (R.remaining trace.old) to_maps to_report) }
+    ensures replayed { Replayed config.now rounds (R.remaining trace.old)
+        (writing (W1.contents maps.old) (W1.contents maps.new) (W1.failed maps.new) (W1.flushed maps.old) (W1.flushed maps.new))
+        (writing (W2.contents report.old) (W2.contents report.new) (W2.failed report.new) (W2.flushed report.old) (W2.flushed report.new))
+        result }
     ensures rounds { (result ≡ Err RunFault.Rounds) ↔ (Tables.rounds_fit config.now rounds ≡ false) }
     ensures workers { ¬ (result ≡ Err RunFault.Workers) }
     ensures nothing_read { result ≡ Err RunFault.Rounds → trace.new ≡ trace.old }
@@ -117,14 +108,6 @@ pub fn replay_alone<R: Source, W1: Sink, W2: Sink>(
         TookAtMost max_bytes (R.remaining trace.old) (R.remaining trace.new) }
     ensures trace_wanting { result ≡ Err (RunFault.Trace TraceFault.NoMemory) →
         TookAtMost max_bytes (R.remaining trace.old) (R.remaining trace.new) }
-    ensures maps_failed { W1.failed maps.new ≡ blames_maps result }
-    ensures report_failed { W2.failed report.new ≡ blames_report result }
-    ensures flushed { OnOk result ((W1.flushed maps.new ≡ true) × (W2.flushed report.new ≡ true)) }
-    ensures maps_unflushed { W1.failed maps.new ≡ true → W1.flushed maps.new ≡ false }
-    ensures report_unflushed { W2.failed report.new ≡ true → W2.flushed report.new ≡ false }
-    ensures maps_flushed { W1.flushed maps.old ≡ false → blames_report result ≡ false →
-        W1.flushed maps.new ≡ is_ok result }
-    ensures report_flushed { W2.flushed report.old ≡ false → W2.flushed report.new ≡ is_ok result }
 {
     check_run(config, rounds, 1)?;
     let read = Trace::read(alloc, trace, config, rounds)?;
@@ -163,11 +146,11 @@ fn run<H: Threads + Wait + Sync, W1: Sink, W2: Sink, G: Gate + Sync>(
     requires trace { IsTraceFor config.now trace.now }
     requires maps_ready { W1.failed maps.old ≡ false }
     requires report_ready { W2.failed report.old ≡ false }
-    ensures ends { EndsAs config.now trace.now (grown (W1.contents maps.old) (W1.contents maps.new))
-        (grown (W2.contents report.old) (W2.contents report.new)) result }
+    ensures ends { EndsAs config.now trace.now
+        (writing (W1.contents maps.old) (W1.contents maps.new) (W1.failed maps.new) (W1.flushed maps.old) (W1.flushed maps.new))
+        (writing (W2.contents report.old) (W2.contents report.new) (W2.failed report.new) (W2.flushed report.old) (W2.flushed report.new))
+        result }
     ensures lawful { OnOk result (IsLawfulOutput config.now trace.now) }
-    ensures left { AreLeft result (W1.failed maps.new) (W1.flushed maps.old) (W1.flushed maps.new)
-        (W2.failed report.new) (W2.flushed report.old) (W2.flushed report.new) }
 {
     let workers = workers_for(config, trace, workers);
     if workers < 2 {
@@ -188,11 +171,11 @@ fn run_alone<W1: Sink, W2: Sink, G: Gate>(
     requires trace { IsTraceFor config.now trace.now }
     requires maps_ready { W1.failed maps.old ≡ false }
     requires report_ready { W2.failed report.old ≡ false }
-    ensures ends { EndsAs config.now trace.now (grown (W1.contents maps.old) (W1.contents maps.new))
-        (grown (W2.contents report.old) (W2.contents report.new)) result }
+    ensures ends { EndsAs config.now trace.now
+        (writing (W1.contents maps.old) (W1.contents maps.new) (W1.failed maps.new) (W1.flushed maps.old) (W1.flushed maps.new))
+        (writing (W2.contents report.old) (W2.contents report.new) (W2.failed report.new) (W2.flushed report.old) (W2.flushed report.new))
+        result }
     ensures lawful { OnOk result (IsLawfulOutput config.now trace.now) }
-    ensures left { AreLeft result (W1.failed maps.new) (W1.flushed maps.old) (W1.flushed maps.new)
-        (W2.failed report.new) (W2.flushed report.old) (W2.flushed report.new) }
 {
     let Ok((intake, seat)) = open_intake(alloc, config.clusters()) else {
         return Err(RunFault::NoMemory(0));
@@ -216,10 +199,10 @@ fn run_alone_with<'a, W1: Sink, W2: Sink, G: Gate>(
     requires open { AreOpen (length (words_of config.now)) (option_map (λ i. i.now) intake) seat }
     requires maps_ready { W1.failed maps.old ≡ false }
     requires report_ready { W2.failed report.old ≡ false }
-    ensures ends { EndsAs config.now trace.now (grown (W1.contents maps.old) (W1.contents maps.new))
-        (grown (W2.contents report.old) (W2.contents report.new)) result }
-    ensures left { AreLeft result (W1.failed maps.new) (W1.flushed maps.old) (W1.flushed maps.new)
-        (W2.failed report.new) (W2.flushed report.old) (W2.flushed report.new) }
+    ensures ends { EndsAs config.now trace.now
+        (writing (W1.contents maps.old) (W1.contents maps.new) (W1.failed maps.new) (W1.flushed maps.old) (W1.flushed maps.new))
+        (writing (W2.contents report.old) (W2.contents report.new) (W2.failed report.new) (W2.flushed report.old) (W2.flushed report.new))
+        result }
 {
     let Ok(mut progress) = Progress::opening(alloc, config.clusters(), intake, seat) else {
         return Err(RunFault::NoMemory(0));
@@ -250,11 +233,11 @@ fn run_shared<H: Threads + Wait + Sync, W1: Sink, W2: Sink, G: Gate + Sync>(
     requires trace { IsTraceFor config.now trace.now }
     requires maps_ready { W1.failed maps.old ≡ false }
     requires report_ready { W2.failed report.old ≡ false }
-    ensures ends { EndsAs config.now trace.now (grown (W1.contents maps.old) (W1.contents maps.new))
-        (grown (W2.contents report.old) (W2.contents report.new)) result }
+    ensures ends { EndsAs config.now trace.now
+        (writing (W1.contents maps.old) (W1.contents maps.new) (W1.failed maps.new) (W1.flushed maps.old) (W1.flushed maps.new))
+        (writing (W2.contents report.old) (W2.contents report.new) (W2.failed report.new) (W2.flushed report.old) (W2.flushed report.new))
+        result }
     ensures lawful { OnOk result (IsLawfulOutput config.now trace.now) }
-    ensures left { AreLeft result (W1.failed maps.new) (W1.flushed maps.old) (W1.flushed maps.new)
-        (W2.failed report.new) (W2.flushed report.old) (W2.flushed report.new) }
 {
     let Ok((intake, seat)) = open_intake(alloc, config.clusters()) else {
         return Err(RunFault::NoMemory(0));
@@ -282,10 +265,10 @@ fn run_shared_with<'a, H: Threads + Wait + Sync, W1: Sink, W2: Sink, G: Gate + S
     requires open { AreOpen (length (words_of config.now)) (option_map (λ i. i.now) intake) seat }
     requires maps_ready { W1.failed maps.old ≡ false }
     requires report_ready { W2.failed report.old ≡ false }
-    ensures ends { EndsAs config.now trace.now (grown (W1.contents maps.old) (W1.contents maps.new))
-        (grown (W2.contents report.old) (W2.contents report.new)) result }
-    ensures left { AreLeft result (W1.failed maps.new) (W1.flushed maps.old) (W1.flushed maps.new)
-        (W2.failed report.new) (W2.flushed report.old) (W2.flushed report.new) }
+    ensures ends { EndsAs config.now trace.now
+        (writing (W1.contents maps.old) (W1.contents maps.new) (W1.failed maps.new) (W1.flushed maps.old) (W1.flushed maps.new))
+        (writing (W2.contents report.old) (W2.contents report.new) (W2.failed report.new) (W2.flushed report.old) (W2.flushed report.new))
+        result }
 {
     let Ok(progress) = Progress::opening(alloc, config.clusters(), intake, seat) else {
         return Err(RunFault::NoMemory(0));
@@ -312,10 +295,10 @@ fn run_kept<'a, H: Threads + Wait + Sync, W1: Sink, W2: Sink, G: Gate + Copy + S
     requires opening { progress ≡ opening_progress (length (words_of config.now)) }
     requires maps_ready { W1.failed maps.old ≡ false }
     requires report_ready { W2.failed report.old ≡ false }
-    ensures ends { EndsAs config.now trace.now (grown (W1.contents maps.old) (W1.contents maps.new))
-        (grown (W2.contents report.old) (W2.contents report.new)) result }
-    ensures left { AreLeft result (W1.failed maps.new) (W1.flushed maps.old) (W1.flushed maps.new)
-        (W2.failed report.new) (W2.flushed report.old) (W2.flushed report.new) }
+    ensures ends { EndsAs config.now trace.now
+        (writing (W1.contents maps.old) (W1.contents maps.new) (W1.failed maps.new) (W1.flushed maps.old) (W1.flushed maps.new))
+        (writing (W2.contents report.old) (W2.contents report.new) (W2.failed report.new) (W2.flushed report.old) (W2.flushed report.new))
+        result }
 {
     let helpers = workers.saturating_sub(1);
     let (Ok(collects), Ok(fills), Ok(builds)) = (
@@ -377,33 +360,32 @@ fn run_by<'a, D: Doers<'a>, W1: Sink, W2: Sink>(
     requires doers { D.knows doers.old config.now }
     requires maps_ready { W1.failed maps.old ≡ false }
     requires report_ready { W2.failed report.old ≡ false }
-    ensures ends { EndsAs config.now trace.now (grown (W1.contents maps.old) (W1.contents maps.new))
-        (grown (W2.contents report.old) (W2.contents report.new)) result }
-    ensures left { AreLeft result (W1.failed maps.new) (W1.flushed maps.old) (W1.flushed maps.new)
-        (W2.failed report.new) (W2.flushed report.old) (W2.flushed report.new) }
+    ensures ends { EndsAs config.now trace.now
+        (writing (W1.contents maps.old) (W1.contents maps.new) (W1.failed maps.new) (W1.flushed maps.old) (W1.flushed maps.new))
+        (writing (W2.contents report.old) (W2.contents report.new) (W2.failed report.new) (W2.flushed report.old) (W2.flushed report.new))
+        result }
 {
     let Ok(mut state) = opened(alloc, config) else {
         return Err(RunFault::NoMemory(0));
     };
     let rounds = trace.rounds();
+    let mut sent = 0;
     for done in 0..rounds {
         let asks = trace.asks(done);
         let Ok(next) = make_round(alloc, state, progress, asks, doers) else {
-            return Err(RunFault::NoMemory(done));
+            return Err(RunFault::NoMemory(sent));
         };
         state = next;
-        send(progress.to_maps(), progress.to_report(), done, maps, report)?;
+        if progress.batch().is_full() {
+            send(progress.batch(), sent, maps, report)?;
+            progress.begin_batch();
+            sent = done + 1;
+        }
     }
     let Ok(()) = progress.take_last(alloc, &state, trace.counts()) else {
-        return Err(RunFault::NoMemory(rounds));
+        return Err(RunFault::NoMemory(sent));
     };
-    send(
-        progress.to_maps(),
-        progress.to_report(),
-        rounds,
-        maps,
-        report,
-    )?;
+    send(progress.batch(), sent, maps, report)?;
     flush(rounds, maps, report)?;
     Ok(progress.summary(rounds, trace.counts()))
 }

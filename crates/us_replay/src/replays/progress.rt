@@ -6,26 +6,25 @@ ghost use Rattle.us_output.specs.Lines.{HasFields};
 ghost use Rattle.us_output.specs.Outputs.{AreWithinLimits, out_of};
 ghost use Rattle.us_replay.specs.Collecting.{AreAsks, AreOpen, chunk_quota};
 ghost use Rattle.us_replay.specs.Progress as spec;
-ghost use Rattle.us_replay.specs.Progress.{HasRoom, last_rows, summary_after, with_asks, with_last, with_round};
+ghost use Rattle.us_replay.specs.Progress.{HasRoom, last_rows, summary_after, with_asks, with_last, with_none_left, with_round};
 
+use super::batches::Batch;
 use crate::collecting::Collector;
 use crate::doers::Doers;
 use crate::summaries::Summary;
 use std::alloc::Global;
 use std::marker::Model;
 use us_intake::{Intake, Seat};
-use us_output::{LineTally, Scratch, push_rows};
+use us_output::{LineTally, Scratch};
 use us_requests::{Ask, Counts};
 use us_round::{RoundDone, Row, State, TraceCounts};
 use us_slots::NoMemory;
 
-/// What a replay keeps from one round to the next beside the state: what collects requests, the buffers that every round
-/// uses again, and how many lines there were.
+/// What a replay keeps from one round to the next beside the state: what collects requests, what is to be sent next, and how many lines there were.
 #[derive(Drop)]
 pub(crate) struct Progress<'a> {
     collector: Collector<'a>,
-    to_maps: Vec<u8>,
-    to_report: Vec<u8>,
+    batch: Batch,
     tally: LineTally,
     scratch: Scratch,
 }
@@ -36,8 +35,7 @@ impl<'a> Model for Progress<'a> {
     ghost view = { λ p. record {
       cut = p.collector.cut;
       collected = p.collector.collected;
-      to_maps = p.to_maps.items;
-      to_report = p.to_report.items;
+      batch = p.batch;
       granted = p.tally.granted;
       missed = p.tally.missed;
     } };
@@ -56,8 +54,7 @@ impl<'a> Progress<'a> {
     {
         Ok(Progress {
             collector: Collector::open(alloc, clusters, intake, seat)?,
-            to_maps: Vec::new(alloc),
-            to_report: Vec::new(alloc),
+            batch: Batch::new(alloc)?,
             tally: LineTally {
                 granted: 0,
                 missed: 0,
@@ -89,7 +86,7 @@ impl<'a> Progress<'a> {
         self.collector.cut()
     }
 
-    /// Makes all that is to be written of a round. After want of memory nothing is said of what stands here.
+    /// Makes all that is to be sent of a round. After want of memory nothing is said of what stands here.
     // `with_round` is closed elsewhere: only here is it what the calls below make.
     #[tactic(auto, unfolding(crate::specs::Progress::with_round))]
     pub(crate) fn take_round(&mut self, made: &RoundDone) -> Result<(), NoMemory>
@@ -101,10 +98,8 @@ impl<'a> Progress<'a> {
         ensures fields { OnOk result (AllByRecursion HasFields
             (out_of made.now.state.tables made.now.scheduled).rows) }
     {
-        self.to_maps.clear();
-        made.push_records(&mut self.to_maps, &mut self.scratch)?;
-        self.to_report.clear();
-        made.push_lines(&mut self.to_report, &mut self.scratch, &mut self.tally)
+        self.batch
+            .push_round(made, &mut self.scratch, &mut self.tally)
     }
 
     /// Makes the end of the report, of the state after all rounds. After want of memory nothing is said of what stands
@@ -128,23 +123,21 @@ impl<'a> Progress<'a> {
             not_requestable: u64::from(counts.not_requestable),
             late: u64::from(counts.late),
         }))?;
-        self.to_maps.clear();
-        self.to_report.clear();
-        push_rows(&mut self.to_report, &mut self.scratch, &rows)
+        self.batch.push_last(&rows, &mut self.scratch)
     }
 
-    /// What is to be written to the maps file.
-    pub(crate) fn to_maps(&self) -> &[u8]
-        ensures { result.now ≡ self.now.to_maps }
+    /// What is to be sent next.
+    pub(crate) fn batch(&self) -> &Batch
+        ensures { result.now ≡ self.now.batch }
     {
-        &self.to_maps
+        &self.batch
     }
 
-    /// What is to be written to the report.
-    pub(crate) fn to_report(&self) -> &[u8]
-        ensures { result.now ≡ self.now.to_report }
+    /// Begins the next batch.
+    pub(crate) fn begin_batch(&mut self)
+        ensures { self.new ≡ with_none_left self.old }
     {
-        &self.to_report
+        self.batch.clear();
     }
 
     /// What the replay did, where so many rounds were made of a trace with these counts.
