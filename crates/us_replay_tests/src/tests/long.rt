@@ -83,6 +83,24 @@ fn maps_file_that_fails_in_round_3(rt: HostRuntime) {
     }
 }
 
+/// The report fails among the lines of round 2, behind a maps file that failed, and is given no more.
+#[test]
+fn both_files_that_fail(rt: HostRuntime) {
+    for fails in [true, false] {
+        let (maps, report) = (
+            short_writer(MAPS, 280, fails),
+            short_writer(REPORT, 200, fails),
+        );
+        let wanted = (
+            Err(RunFault::WriteMaps(2)),
+            (false, 1),
+            (true, 280, true, 1, 0),
+            (true, 200, true, 1, 0),
+        );
+        expect(&rt, rt.alloc(), maps, report, wanted);
+    }
+}
+
 /// A flush that fails tells all rounds.
 #[test]
 fn flushes(rt: HostRuntime) {

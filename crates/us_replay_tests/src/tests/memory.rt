@@ -12,21 +12,16 @@ use us_replay::{RunFault, replay_alone};
 use us_requests::{Trace, TraceFault};
 use us_slots::{FromRead, FromWrite};
 
-/// What the bonded run comes to where it ends with this fault, and its trace was called so often at its end: records and
-/// lines of the rounds that are done, and no flush. None: this is no want of memory.
+/// What the bonded run comes to where it ends with this fault, and its trace was called so often at its end: both rounds are
+/// sent once they are all made, so nothing was written. None: this is no want of memory.
 fn refused(fault: RunFault, ends: usize) -> Option<Outcome> {
-    let (to_maps, to_report) = match fault {
-        RunFault::Trace(TraceFault::NoMemory) | RunFault::NoMemory(0) => (0, 0),
-        RunFault::NoMemory(1) => (68, 0),
-        RunFault::NoMemory(2) => (152, 164),
-        _ => return None,
-    };
-    Some((
-        Err(fault),
-        (false, ends),
-        (false, to_maps, true, 0, 0),
-        (false, to_report, true, 0, 0),
-    ))
+    match fault {
+        RunFault::Trace(TraceFault::NoMemory) | RunFault::NoMemory(0) => {
+            let unused = (false, 0, true, 0, 0);
+            Some((Err(fault), (false, ends), unused, unused))
+        }
+        _ => None,
+    }
 }
 
 /// Compares what the bonded run by so many workers comes to with the whole outcome, or where memory was refused with that
