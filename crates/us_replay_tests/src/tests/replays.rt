@@ -115,7 +115,7 @@ fn maps_file_that_fails_at_each_byte(rt: HostRuntime) {
     }
 }
 
-/// Round 0 has no line, so that a full report ends the run after it. The G line, of 33 bytes, is the one of the rounds.
+/// Round 0 has no line, so that it is done where the report takes nothing. The G line, of 33 bytes, is the one of the rounds.
 #[test]
 fn report_that_fails_at_each_byte(rt: HostRuntime) {
     for room in 0..REPORT.len() {
