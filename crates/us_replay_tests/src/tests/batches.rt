@@ -7,6 +7,7 @@ use us_replay::{replay, replay_alone};
 use us_slots::{FromRead, FromWrite};
 
 /// A writer that takes all, and tells how often it was called and how many bytes the first calls gave it.
+#[derive(Drop)]
 struct CountingWriter {
     calls: usize,
     bytes: [usize; 3],
