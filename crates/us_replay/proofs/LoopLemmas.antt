@@ -1,7 +1,7 @@
 -- The loop over rounds: how state, progress and writers stand after each.
-use Rattle.std.proofs.Common.{◌≡◌, ℕ, zero, suc, ◌+◌, ◌*◌, ◌^◌, ◌<◌, ◌≤◌, List, [], ◌∷◌, ◌++◌, length, replicate, map, take, drop, cond, nat_le, Bool, sum, sum_by, count_by, true, false, Option, Err, refl, ap, sym, subst, ◌∙◌, arith}
+use Rattle.std.proofs.Common.{◌≡◌, ℕ, zero, suc, ◌+◌, ◌*◌, ◌^◌, ◌<◌, ◌≤◌, List, [], ◌∷◌, ◌++◌, length, replicate, map, take, drop, cond, nat_le, Bool, sum, sum_by, count_by, true, Bool, Option, Err, refl, ap, sym, subst, ◌∙◌, arith}
 use Rattle.std.specs.List.{AllByRecursion, drop-map, range_with_len, zip}
-use Rattle.std.proofs.lemmas.Bool.{and_parts, false≢true, leb-true}
+use Rattle.std.proofs.lemmas.Bool.{and_parts, leb-true}
 use Rattle.std.proofs.lemmas.Nat.{mul-le}
 use Rattle.std.proofs.lemmas.List.{length-map, length-replicate, drop_more, drop_all, take_all}
 use Rattle.std.proofs.lemmas.List.Sums.{sum_by-cons, sum_by-append, count_by-le-length}
@@ -22,14 +22,13 @@ use Rattle.us_output.specs.Files.{records, is_granted, is_missed}
 use Rattle.us_lawful.specs.Output.{counts_row, all_rows, judged_of, output_of}
 use Rattle.us_output.proofs.PartLemmas.{all_append}
 use Rattle.us_output.specs.Lines.{HasFields}
-use Rattle.us_replay.specs.Replays.{AreLeftBy, KeptLimits, summary_of, writing}
+use Rattle.us_replay.specs.Replays.{KeptLimits, grown, summary_of}
 use Rattle.us_lawful.proofs.TraceTextLaws.{length-cuts}
 use Rattle.us_replay.specs.Batches.{with_next}
 use Rattle.us_replay.specs.Progress.{Progress, Along, EndsAs, CanMake, Holds, IsMade, last_rows, opening_progress, out_after, output_in, step_of, summary_after, with_last, with_none_left, with_round}
 use Rattle.us_replay.proofs.RoundLemmas.{After, after, HasCalendars, opening-calendars, next-calendars, some-records}
 use Rattle.us_replay.proofs.CollectingLemmas.{all-within, are-asks}
 use Rattle.us_replay.proofs.SumLemmas.{added-below, length-cut, sum-cut}
-use Rattle.us_replay.specs.declared.faults.RunFault.{RunFault}
 use Rattle.us_replay.specs.declared.faults.RunFault.TheVariants as fault
 use Rattle.us_round.proofs.PlacingLemmas.{next-of}
 use Rattle.us_replay.proofs.ReplayStopLemmas.{IsPart, next-part, nothing-yet, none-kept, stops-between}
@@ -255,51 +254,15 @@ unfolding output_of
 some-next t v k lawful next rest here =
     some-in (opening t) (cuts_in t v) k next rest (opening-calendars t) lawful.some_channels.0 here
 
--- what writers tell where memory was wanting
-pub left-wanting : (done : ℕ) (a b d e : Option (List ℕ)) (maps_failed maps_before maps_after report_failed report_before report_after : Bool) →
-    maps_failed ≡ false → report_failed ≡ false → (maps_before ≡ false → maps_after ≡ false) →
-    (report_before ≡ false → report_after ≡ false) →
-    AreLeftBy (fault.NoMemory done) (writing a b maps_failed maps_before maps_after) (writing d e report_failed report_before report_after)
-left-wanting done a b d e maps_failed maps_before maps_after report_failed report_before report_after maps report maps_still report_still =
-    record {
-      maps_failed = maps;
-      report_blamed = λ never. absurd (false≢true never);
-      report_failed = λ failed. absurd (false≢true (sym report ∙ failed));
-      maps_unflushed = λ failed. absurd (false≢true (sym maps ∙ failed));
-      report_unflushed = λ failed. absurd (false≢true (sym report ∙ failed));
-      maps_never_flushed = λ before _. maps_still before;
-      report_never_flushed = report_still;
-    }
-
--- what they tell of a call at its end, and of what came before it
-pub left-since : (f : RunFault) (a b c d e g : Option (List ℕ)) (maps_failed maps_first maps_before maps_after report_failed report_first report_before report_after : Bool) →
-    (maps_first ≡ false → maps_before ≡ false) → (report_first ≡ false → report_before ≡ false) →
-    AreLeftBy f (writing b c maps_failed maps_before maps_after) (writing e g report_failed report_before report_after) →
-    AreLeftBy f (writing a c maps_failed maps_first maps_after) (writing d g report_failed report_first report_after)
-left-since f a b c d e g maps_failed maps_first maps_before maps_after report_failed report_first report_before report_after maps_still report_still left =
-    record {
-      maps_failed = left.maps_failed;
-      report_blamed = left.report_blamed;
-      report_failed = left.report_failed;
-      maps_unflushed = left.maps_unflushed;
-      report_unflushed = left.report_unflushed;
-      maps_never_flushed = λ first. left.maps_never_flushed (maps_still first);
-      report_never_flushed = λ first. left.report_never_flushed (report_still first);
-    }
-
 -- where nothing was written
-pub ends-at-once : (t : Tables) (v : TraceAsks) (a d : Option (List ℕ)) (maps_failed maps_flushed report_failed report_flushed : Bool) →
-    AreTables t → maps_failed ≡ false → report_failed ≡ false →
-    EndsAs t v (writing a a maps_failed maps_flushed maps_flushed) (writing d d report_failed report_flushed report_flushed)
-    (Err (fault.NoMemory 0))
-ends-at-once t v a d maps_failed maps_flushed report_failed report_flushed lawful maps report = record {
+pub ends-at-once : (t : Tables) (v : TraceAsks) (a d : Option (List ℕ)) (failed : Bool) → AreTables t →
+    EndsAs t v (grown a a) (grown d d) failed (Err (fault.NoMemory 0))
+ends-at-once t v a d failed lawful = record {
   ran = (
-    stops-between (output_in t v) 0 report_failed _ _ (nothing-yet (output_in t v) a d) (some-next t v 0 lawful),
+    stops-between (output_in t v) 0 failed _ _ (nothing-yet (output_in t v) a d) (some-next t v 0 lawful),
     none-kept t (cuts_in t v),
   );
   fields = tt;
-  left = left-wanting 0 a a d d maps_failed maps_flushed maps_flushed report_failed report_flushed report_flushed maps report
-      (λ before. before) (λ before. before);
 }
 
 -- All rounds.
