@@ -19,20 +19,22 @@ use Rattle.us_output.specs.Outputs.{Scheduled, RoundOut, AreWithinLimits, out_of
 use Rattle.us_round.specs.FinalRows.{final_rows}
 use Rattle.us_replay.specs.Collecting.{AreAsks}
 use Rattle.us_output.specs.Files.{records, is_granted, is_missed}
-use Rattle.us_lawful.specs.Output.{counts_row, all_rows, judged_of, output_of}
+use Rattle.us_lawful.specs.Output.{Output, counts_row, all_rows, judged_of, output_of}
 use Rattle.us_output.proofs.PartLemmas.{all_append}
 use Rattle.us_output.specs.Lines.{HasFields}
-use Rattle.us_replay.specs.Replays.{KeptLimits, grown, summary_of}
+use Rattle.us_replay.specs.Replays.{Growth, KeptLimits, Took, TookRounds, grown, summary_of}
 use Rattle.us_lawful.proofs.TraceTextLaws.{length-cuts}
-use Rattle.us_replay.specs.Batches.{with_next}
+use Rattle.us_replay.specs.Batches.{AreInside, Batch, Sent, with_next}
+use Rattle.us_replay.specs.Endings.{ending_of}
 use Rattle.us_replay.specs.Progress.{Progress, Along, EndsAs, CanMake, Holds, IsMade, last_rows, opening_progress, out_after, output_in, step_of, summary_after, with_last, with_none_left, with_round}
 use Rattle.us_replay.proofs.RoundLemmas.{After, after, HasCalendars, opening-calendars, next-calendars, some-records}
 use Rattle.us_replay.proofs.CollectingLemmas.{all-within, are-asks}
 use Rattle.us_replay.proofs.SumLemmas.{added-below, length-cut, sum-cut}
+use Rattle.us_replay.specs.declared.faults.RunFault.{RunFault}
 use Rattle.us_replay.specs.declared.faults.RunFault.TheVariants as fault
 use Rattle.us_round.proofs.PlacingLemmas.{next-of}
-use Rattle.us_replay.proofs.ReplayStopLemmas.{IsPart, next-part, nothing-yet, none-kept, stops-between}
-use Rattle.us_replay.proofs.HeldLemmas.{held, holds-next, last-part}
+use Rattle.us_replay.proofs.ReplayStopLemmas.{IsPart, TookAll, last-sent, part-sent, kept-before, next-part, none-kept, nothing-yet, sent-kept, sent-stops, stops-between}
+use Rattle.us_replay.proofs.HeldLemmas.{count-ends, held, held-own, held-part, holds-next, last-part, length-held, part-inside}
 
 -- Before round 0.
 
@@ -284,7 +286,7 @@ last-made v state p q counts made are = made ∙ ap (with_last p state) are
 -- the batch at the end, where all rounds were made
 pub part-last : (t : Tables) (v : TraceAsks) (sent k : ℕ) (state : State) (p q : Progress) (counts : Counts) →
     Along t v k state p → k ≡ v.rounds → counts ≡ v.counts → q ≡ with_last p state counts → Holds (output_in t v) sent k p.batch →
-    IsPart (output_in t v) sent (held (output_in t v) sent k) q.batch
+    (part : IsPart (output_in t v) sent (held (output_in t v) sent k) q.batch) × (part.rest ≡ []) × (part.behind ≡ [])
 unfolding with_last output_of final
 part-last t v sent k state p q counts along all same made holds =
     let none : drop k (cuts_in t v) ≡ [] = drop_all k (cuts_in t v) (omega (arith, all, length-cuts t v)) in
@@ -292,6 +294,96 @@ part-last t v sent k state p q counts along all same made holds =
     last-part (output_in t v) sent k p.batch q.batch (last_rows state counts) holds (all ∙ sym (length-given t v))
     (ap (λ s. last_rows s counts) ended ∙ ap (last_rows (final (opening t) (cuts_in t v))) same)
     (ap (λ p. p.batch) made)
+
+-- What is sent.
+
+-- the batch, as it is lent to be sent
+pub record IsHeld (out : Output) (sent k : ℕ) (b : Batch) : Type 0 where
+  pub inside : sent ≤ length out.given
+  pub part : IsPart out sent (held out sent k) b
+  pub count : sent + length (held out sent k) ≡ k
+  pub few : sent + length b.ends ≡ k
+  pub ends_inside : AreInside b
+
+is-held : (out : Output) (sent k : ℕ) (b : Batch) → sent ≤ k → k ≤ length out.given → IsPart out sent (held out sent k) b →
+    IsHeld out sent k b
+is-held out sent k b from most part =
+    let count = length-held out sent k from most in
+    record {
+      inside = omega (arith, from, most);
+      part = part;
+      count = count;
+      few = omega (arith, count, count-ends out sent (held out sent k) b part);
+      ends_inside = part-inside out sent (held out sent k) b part (omega (arith, from, most));
+    }
+
+-- behind a round that was made,
+pub held-then : (t : Tables) (v : TraceAsks) (sent k : ℕ) (p : Progress) (b : Batch) → Holds (output_in t v) sent k p.batch →
+    k ≤ v.rounds → b ≡ p.batch → IsHeld (output_in t v) sent k b
+held-then t v sent k p b holds within is =
+    is-held (output_in t v) sent k b holds.from (omega (arith, within, length-given t v))
+    (subst (IsPart (output_in t v) sent (held (output_in t v) sent k)) (sym is) (held-part (output_in t v) sent k p.batch holds))
+
+-- and at the end
+pub held-last : (t : Tables) (v : TraceAsks) (sent k : ℕ) (state : State) (p q : Progress) (counts : Counts) (b : Batch) →
+    Along t v k state p → k ≡ v.rounds → counts ≡ v.counts → q ≡ with_last p state counts → Holds (output_in t v) sent k p.batch →
+    b ≡ q.batch → IsHeld (output_in t v) sent k b
+held-last t v sent k state p q counts b along all same made holds is =
+    is-held (output_in t v) sent k b holds.from (omega (arith, all, length-given t v))
+    (subst (IsPart (output_in t v) sent (held (output_in t v) sent k)) (sym is) (part-last t v sent k state p q counts along all same made holds).0)
+
+-- a batch that wasn't all taken
+pub sent-ends : (t : Tables) (v : TraceAsks) (sent k : ℕ) (b : Batch) (failed : Bool) (a c d f g h : Option (List ℕ))
+    (why : RunFault) → IsHeld (output_in t v) sent k b → TookRounds (output_in t v) sent (grown a c) (grown f g) →
+    KeptLimits t (cuts_in t v) k → Sent b sent (grown c d) (grown g h) failed (Err (ending_of why)) →
+    EndsAs t v (grown a d) (grown f h) failed (Err why)
+sent-ends t v sent k b failed a c d f g h why is so_far kept at = record {
+  ran = (
+    sent-stops (output_in t v) v.counts sent (held (output_in t v) sent k) b failed a c d f g h (ending_of why) is.part so_far at,
+    sent-kept t (cuts_in t v) (output_in t v) sent k (held (output_in t v) sent k) b failed (grown c d) (grown g h)
+        (ending_of why) is.part is.count kept at,
+  );
+  fields = tt;
+}
+
+-- or that was,
+pub next-took : (t : Tables) (v : TraceAsks) (sent k : ℕ) (p : Progress) (b : Batch) (a c d f g h : Option (List ℕ)) →
+    Holds (output_in t v) sent k p.batch → k ≤ v.rounds → b ≡ p.batch → TookRounds (output_in t v) sent (grown a c) (grown f g) →
+    Took (grown c d) b.records → Took (grown g h) b.lines → TookRounds (output_in t v) k (grown a d) (grown f h)
+next-took t v sent k p b a c d f g h holds within is so_far took_records took_lines =
+    let out : Output = output_in t v in
+    let is_held : IsHeld out sent k b = held-then t v sent k p b holds within is in
+    let part = held-part out sent k p.batch holds in
+    subst (λ n. TookRounds out n (grown a d) (grown f h)) is_held.count
+    (part-sent out sent (held out sent k) p.batch part is_held.inside a c d f g h so_far
+    (held-own out sent k p.batch holds)
+    (subst (λ b. Took (grown c d) b.records) is took_records)
+    (subst (λ b. Took (grown g h) b.lines) is took_lines))
+
+-- also at the end
+pub last-took : (t : Tables) (v : TraceAsks) (sent k : ℕ) (state : State) (p q : Progress) (counts : Counts) (b : Batch)
+    (a c d f g h : Option (List ℕ)) → Along t v k state p → k ≡ v.rounds → counts ≡ v.counts → q ≡ with_last p state counts →
+    Holds (output_in t v) sent k p.batch → b ≡ q.batch → TookRounds (output_in t v) sent (grown a c) (grown f g) →
+    Took (grown c d) b.records → Took (grown g h) b.lines → TookAll (output_in t v) (grown a d) (grown f h)
+last-took t v sent k state p q counts b a c d f g h along all same made holds is so_far took_records took_lines =
+    let out : Output = output_in t v in
+    let part = part-last t v sent k state p q counts along all same made holds in
+    last-sent out sent (held out sent k) q.batch part.0
+    (held-last t v sent k state p q counts b along all same made holds is).inside a c d f g h so_far part.1 part.2
+    (subst (λ b. Took (grown c d) b.records) is took_records)
+    (subst (λ b. Took (grown g h) b.lines) is took_lines)
+
+-- want of memory
+pub wanting-ends : (t : Tables) (v : TraceAsks) (sent k : ℕ) (state : State) (p : Progress) (failed : Bool) (to_maps to_report : Growth) →
+    Along t v k state p → Holds (output_in t v) sent k p.batch → TookRounds (output_in t v) sent to_maps to_report →
+    EndsAs t v to_maps to_report failed (Err (fault.NoMemory sent))
+wanting-ends t v sent k state p failed to_maps to_report along holds so_far = record {
+  ran = (
+    stops-between (output_in t v) sent failed to_maps to_report so_far (some-next t v sent along.lawful),
+    kept-before t (cuts_in t v) sent k holds.from along.limits,
+  );
+  fields = tt;
+}
 
 -- what all lines have
 pub fields-last : (t : Tables) (v : TraceAsks) (k : ℕ) (state : State) (p : Progress) (counts : Counts) → Along t v k state p →
