@@ -1,5 +1,5 @@
 -- What a replay in memory and what is printed of it come to.
-use Rattle.std.proofs.Common.{◌≡◌, ℕ, List, [], ◌++◌, Option, Some, None, Result, Ok, Err, IfSome, OnOk, refl, ap, sym, subst, ◌∙◌}
+use Rattle.std.proofs.Common.{◌≡◌, ℕ, Bool, List, [], ◌++◌, Option, Some, None, Result, Ok, Err, IfSome, OnOk, refl, ap, sym, subst, ◌∙◌}
 use Rattle.std.specs.Io.KnownBytes.{Appends, Keeps}
 use Rattle.us_slots.proofs.DeviceLemmas.{appends_join, appends_keep}
 use Rattle.us_flows.specs.Tables.{Tables, rounds_fit}
@@ -7,21 +7,18 @@ use Rattle.us_flows.specs.Answers.{Answers}
 use Rattle.us_requests.specs.Texts.{trace_fault}
 use Rattle.us_replay.specs.declared.summaries.Summary.{Summary}
 use Rattle.us_lawful.specs.Output.{maps_text, report_text}
-use Rattle.us_replay.specs.Replays.{Growth, Replayed, output_for}
+use Rattle.us_replay.specs.Replays.{Replayed, grown, output_for}
 use Rattle.us_command_line.specs.declared.orders.Order.{Order}
 use Rattle.us_command_line.specs.declared.orders.Order.TheVariants as order
 use Rattle.mapsim.specs.Marks.{IsSplit}
 use Rattle.mapsim.specs.Dumps.{IsDump}
 use Rattle.mapsim.specs.Printouts.{Gives, Replays, Prints, PrintsAsAsked}
 
--- a list of bytes that was empty
-abbrev pub grown : List ℕ → Growth
-grown bytes = record { before = Some []; after = Some bytes }
-
--- a replay in memory that was Ok
-pub gives : (t : Tables) (rounds : ℕ) (trace : List ℕ) (summary : Summary) (maps report : List ℕ) →
-    Replayed t rounds (Some trace) (grown maps) (grown report) (Ok summary) → Gives t rounds trace maps report
-gives t rounds trace summary maps report (fit, (text, is_text, sound, (to_maps, to_report, told), kept)) =
+-- a replay in memory, into lists that were empty, that was Ok
+pub gives : (t : Tables) (rounds : ℕ) (trace : List ℕ) (summary : Summary) (maps report : List ℕ) (failed : Bool) →
+    Replayed t rounds (Some trace) (grown (Some []) (Some maps)) (grown (Some []) (Some report)) failed (Ok summary) →
+    Gives t rounds trace maps report
+gives t rounds trace summary maps report failed (fit, (text, is_text, sound, (to_maps, to_report, told), kept)) =
     let same : text ≡ trace = sym is_text.tells in
     record {
       fit = fit;

@@ -1,5 +1,5 @@
 -- What a replay in memory comes to, and by which fault it is refused.
-use Rattle.std.proofs.Common.{◌≡◌, ℕ, List, [], Some, None, Ok, Err, refl, ap, sym, subst, ◌∙◌}
+use Rattle.std.proofs.Common.{◌≡◌, ℕ, Bool, List, [], Some, None, Ok, Err, refl, ap, sym, subst, ◌∙◌}
 use Rattle.us_flows.specs.Tables.{Tables}
 use Rattle.us_flows.specs.Answers.{Answers}
 use Rattle.us_flows.specs.declared.faults.ConfigFault.{ConfigFault}
@@ -11,21 +11,17 @@ use Rattle.us_lawful.specs.Texts.{AreLawful}
 use Rattle.us_replay.specs.declared.summaries.Summary.{Summary}
 use Rattle.us_replay.specs.declared.faults.RunFault.{RunFault}
 use Rattle.us_replay.specs.declared.faults.RunFault.TheVariants as run
-use Rattle.us_replay.specs.Replays.{Growth, Replayed, WroteLawful, output_for, run_for}
+use Rattle.us_replay.specs.Replays.{Growth, Replayed, WroteLawful, grown, output_for, run_for}
 use Rattle.us_page.specs.declared.faults.PageFault.{PageFault}
 use Rattle.us_page.specs.declared.faults.PageFault.TheVariants as page
 use Rattle.us_page.specs.Runs.{Run, Gives, IsGiven, IsRefused, RefusesTrace, of_config, of_run}
 
--- a list of bytes that was empty
-abbrev pub grown : List ℕ → Growth
-grown bytes = record { before = Some []; after = Some bytes }
-
--- a replay in memory that was Ok
-pub gives : (t : Tables) (text : List ℕ) (rounds : ℕ) (summary : Summary) (maps report line : List ℕ) →
-    Replayed t rounds (Some text) (grown maps) (grown report) (Ok summary) →
-    WroteLawful t rounds (Some text) (grown maps) (grown report) → line ≡ [] →
+-- a replay in memory, into lists that were empty, that was Ok
+pub gives : (t : Tables) (text : List ℕ) (rounds : ℕ) (summary : Summary) (maps report line : List ℕ) (failed : Bool) →
+    Replayed t rounds (Some text) (grown (Some []) (Some maps)) (grown (Some []) (Some report)) failed (Ok summary) →
+    WroteLawful t rounds (Some text) (grown (Some []) (Some maps)) (grown (Some []) (Some report)) → line ≡ [] →
     Gives t text rounds (record { maps = maps; report = report; line = line })
-gives t text rounds summary maps report line (fit, (told, is_text, sound, (to_maps, to_report, counted), kept)) wrote none =
+gives t text rounds summary maps report line failed (fit, (told, is_text, sound, (to_maps, to_report, counted), kept)) wrote none =
     let same : told ≡ text = sym is_text.tells in
     record {
       fit = fit;
@@ -40,19 +36,19 @@ gives t text rounds summary maps report line (fit, (told, is_text, sound, (to_ma
     }
 
 -- one that a fault ended, which is none of the workers
-pub refuses : (t : Tables) (text : List ℕ) (rounds : ℕ) (to_maps to_report : Growth) (f : RunFault) →
-    Replayed t rounds (Some text) to_maps to_report (Err f) → ¬ (f ≡ run.Workers) → RefusesTrace t text rounds (of_run f)
-refuses t text rounds to_maps to_report run.Rounds (refused, took) other = refused
-refuses t text rounds to_maps to_report run.Workers (refused, took) other = absurd (other refl)
-refuses t text rounds to_maps to_report (run.Trace trace.Header) (refused, took) other = refused
-refuses t text rounds to_maps to_report (run.Trace (trace.Fields n)) (refused, took) other = refused
-refuses t text rounds to_maps to_report (run.Trace (trace.Number n)) (refused, took) other = refused
-refuses t text rounds to_maps to_report (run.Trace trace.TooLarge) (refused, took) other = refused
-refuses t text rounds to_maps to_report (run.Trace trace.Read) (refused, took) other = tt
-refuses t text rounds to_maps to_report (run.Trace trace.NoMemory) (refused, took) other = tt
-refuses t text rounds to_maps to_report (run.WriteMaps n) stopped other = tt
-refuses t text rounds to_maps to_report (run.WriteReport n) stopped other = tt
-refuses t text rounds to_maps to_report (run.NoMemory n) stopped other = tt
+pub refuses : (t : Tables) (text : List ℕ) (rounds : ℕ) (to_maps to_report : Growth) (failed : Bool) (f : RunFault) →
+    Replayed t rounds (Some text) to_maps to_report failed (Err f) → ¬ (f ≡ run.Workers) → RefusesTrace t text rounds (of_run f)
+refuses t text rounds to_maps to_report failed run.Rounds (refused, took) other = refused
+refuses t text rounds to_maps to_report failed run.Workers (refused, took) other = absurd (other refl)
+refuses t text rounds to_maps to_report failed (run.Trace trace.Header) (refused, took) other = refused
+refuses t text rounds to_maps to_report failed (run.Trace (trace.Fields n)) (refused, took) other = refused
+refuses t text rounds to_maps to_report failed (run.Trace (trace.Number n)) (refused, took) other = refused
+refuses t text rounds to_maps to_report failed (run.Trace trace.TooLarge) (refused, took) other = refused
+refuses t text rounds to_maps to_report failed (run.Trace trace.Read) (refused, took) other = tt
+refuses t text rounds to_maps to_report failed (run.Trace trace.NoMemory) (refused, took) other = tt
+refuses t text rounds to_maps to_report failed (run.WriteMaps n) stopped other = tt
+refuses t text rounds to_maps to_report failed (run.WriteReport n) stopped other = tt
+refuses t text rounds to_maps to_report failed (run.NoMemory n) stopped other = tt
 
 -- of two texts: a configuration that has a fault,
 pub config_refuses : (config_text trace_text : List ℕ) (rounds : ℕ) (f : ConfigFault) → Answers config_text (Err f) →

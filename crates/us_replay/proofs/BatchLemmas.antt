@@ -1,18 +1,20 @@
 -- Batches: where their rounds end, and how many end within so many bytes.
-use Rattle.std.proofs.Common.{◌≡◌, ◌≢◌, ℕ, zero, suc, ◌+◌, ◌<◌, ◌≤◌, ◌⊎◌, ◌||◌, nat_lt, List, [], ◌∷◌, ◌++◌, length, map, flat_map, take, drop, true, false, refl, ap, sym, subst, ◌∙◌, inl, inr, arith, append_assoc, append-nil, length-append, lt-ltb, le-ltb}
+use Rattle.std.proofs.Common.{◌≡◌, ◌≢◌, ℕ, zero, suc, ◌+◌, ◌<◌, ◌≤◌, ◌⊎◌, ◌||◌, nat_lt, cond, Bool, not, Some, None, List, [], ◌∷◌, ◌++◌, length, map, flat_map, take, drop, true, false, refl, ap, sym, subst, ◌∙◌, inl, inr, arith, append_assoc, append-nil, length-append, lt-ltb, le-ltb}
 use Rattle.std.proofs.Math.Seq.{take-add}
 use Rattle.std.proofs.Math.ListN.{get_or}
-use Rattle.std.proofs.lemmas.Bool.{cases_lt, ltb-false, ltb-true, or_cases, or_from, or_left, or_parts, or_right}
+use Rattle.std.proofs.lemmas.Bool.{cases_lt, false≢true, ltb-false, ltb-true, or_cases, or_from, or_left, or_parts, or_right}
 use Rattle.std.proofs.lemmas.Grind.{flat_map-append}
 use Rattle.std.proofs.lemmas.List.{get_or_append_left, get_or_push, get_or-map, length-map, length_push, take-append-drop, take-append-le, take_all}
 use Rattle.std.proofs.lemmas.List.FromFn.{fill_by_all, get_or-map-range_with_len, length-map-range_with_len}
 use Rattle.std.proofs.lemmas.List.Sums.{fails_before_first, passes_at_first, position_or_len_is, prefix_len-le-length}
-use Rattle.std.specs.List.{AllByRecursion, position_or_len}
+use Rattle.std.proofs.lemmas.List.Quantifiers.{position-Some}
+use Rattle.std.specs.List.{AllByRecursion, position, position_or_len, range_with_len}
+use Rattle.us_output.proofs.PartLemmas.{all_at}
 use Rattle.us_output.specs.Outputs.{RoundOut}
 use Rattle.us_output.specs.declared.rows.Row.{Row}
 use Rattle.us_output.specs.Files.{records, round_lines, lines}
 use Rattle.us_replay.specs.declared.replays.batches.End.{End}
-use Rattle.us_replay.specs.Batches.{Batch, AreInside, batch_of, end_of, ends_of, lines_before, no_rounds, rounds_within, with_next}
+use Rattle.us_replay.specs.Batches.{Batch, AreInside, batch_of, end_of, ends_of, is_past, lines_before, no_rounds, rounds_within, with_next}
 
 -- Lists.
 
@@ -124,7 +126,7 @@ pub all-inside : (rounds : List RoundOut) (most : ℕ) → length (flat_map roun
 unfolding ends_of
 all-inside rounds most whole = each 0 (length rounds)
   where
-    each : (from n : ℕ) → AllByRecursion (λ end. end.lines ≤ most) (map (λ before. end_of rounds (before + 1)) (Rattle.std.specs.List.range_with_len from n))
+    each : (from n : ℕ) → AllByRecursion (λ end. end.lines ≤ most) (map (λ before. end_of rounds (before + 1)) (range_with_len from n))
     each from zero = tt
     each from (suc n) = (omega (arith, whole, parts-most round_lines rounds (from + 1)), each (from + 1) n)
 
@@ -139,11 +141,37 @@ lines-before rounds (suc n) within =
     ap (λ end. end.lines) (end-at rounds n none (omega (arith, within))) ∙
     ap (λ n. length (flat_map round_lines (take n rounds))) next
 
+-- which is inside the lines
+pub before-inside : (b : Batch) (n : ℕ) → AreInside b → n ≤ length b.ends → lines_before n b.ends ≤ length b.lines
+before-inside b zero inside within = omega arith
+before-inside b (suc n) inside within =
+    let none : End = record { records = 0; lines = 0 } in
+    let at : lines_before (suc n) b.ends ≡ (get_or b.ends n none).lines =
+    get_or-map (λ end. end.lines) b.ends n none 0 (omega (arith, within)) in
+    omega (arith, at, all_at (λ end. end.lines ≤ length b.lines) b.ends n none inside (omega (arith, within)))
+
 -- How many end within so many bytes.
 
--- a round that ends behind them
-abbrev is_past : ℕ → ℕ → End → Bool
-is_past m n end = nat_lt m end.records || nat_lt n end.lines
+-- a place that was found, or none
+pub found-within : (m n : ℕ) (ends : List End) (place : ℕ) → Some place ≡ position (is_past m n) ends →
+    place ≡ rounds_within m n ends
+found-within m n ends place found =
+    let none : End = record { records = 0; lines = 0 } in
+    let at = position-Some (is_past m n) ends place none (sym found) in
+    sym (position_or_len_is (is_past m n) ends place none (omega (arith, at.0)) at.2 (λ _. at.1))
+
+not-none : (b : Bool) (place : ℕ) → b ≡ true → cond b (Some place) None ≡ None → ⊥
+not-none true place is none = let no : Some place ≡ None = none in cc
+not-none false place is none = false≢true is
+
+pub all-within : (m n : ℕ) (ends : List End) → None ≡ position (is_past m n) ends → length ends ≡ rounds_within m n ends
+all-within m n ends none =
+    let w : ℕ = rounds_within m n ends in
+    let most : w ≤ length ends = prefix_len-le-length (λ end. not (is_past m n end)) ends in
+    elim (cases_lt w (length ends)) [
+      | inl early ↦ absurd (not-none (nat_lt w (length ends)) w (lt-ltb w (length ends) early) (sym none))
+      | inr late ↦ omega (arith, most, late)
+    ]
 
 pub within-most : (rounds : List RoundOut) (m n : ℕ) → rounds_within m n (ends_of rounds) ≤ length rounds
 within-most rounds m n = omega (arith, prefix_len-le-length (λ end. not (is_past m n end)) (ends_of rounds), length-ends rounds)
@@ -162,10 +190,12 @@ within-hold rounds m n (suc i) h =
     let next : i + 1 ≡ suc i = omega arith in
     let fails : is_past m n (end_of rounds (i + 1)) ≡ false =
     ap (is_past m n) (sym end) ∙ fails_before_first (is_past m n) (ends_of rounds) i none (omega (arith, h)) in
-    let both = or_parts _ _ fails in
+    let here_records : ℕ = length (flat_map records (take (i + 1) rounds)) in
+    let here_lines : ℕ = length (flat_map round_lines (take (i + 1) rounds)) in
+    let both = or_parts (nat_lt m here_records) (nat_lt n here_lines) fails in
     record {
-      records = subst (λ j. length (flat_map records (take j rounds)) ≤ m) next (ltb-false m _ both.0);
-      lines = subst (λ j. length (flat_map round_lines (take j rounds)) ≤ n) next (ltb-false n _ both.1);
+      records = subst (λ j. length (flat_map records (take j rounds)) ≤ m) next (ltb-false m here_records both.0);
+      lines = subst (λ j. length (flat_map round_lines (take j rounds)) ≤ n) next (ltb-false n here_lines both.1);
     }
 
 -- and not the next one
@@ -177,9 +207,11 @@ within-next rounds m n below are =
     let end : get_or (ends_of rounds) w none ≡ end_of rounds (w + 1) = end-at rounds w none below in
     let passes : is_past m n (end_of rounds (w + 1)) ≡ true =
     ap (is_past m n) (sym end) ∙ passes_at_first (is_past m n) (ends_of rounds) none (omega (arith, below, length-ends rounds)) in
-    elim (or_cases _ _ passes) [
-      | inl more ↦ omega (arith, are.records, ltb-true m _ more)
-      | inr more ↦ omega (arith, are.lines, ltb-true n _ more)
+    let next_records : ℕ = length (flat_map records (take (w + 1) rounds)) in
+    let next_lines : ℕ = length (flat_map round_lines (take (w + 1) rounds)) in
+    elim (or_cases (nat_lt m next_records) (nat_lt n next_lines) passes) [
+      | inl more ↦ omega (arith, are.records, ltb-true m next_records more)
+      | inr more ↦ omega (arith, are.lines, ltb-true n next_lines more)
     ]
 
 -- so there are no more

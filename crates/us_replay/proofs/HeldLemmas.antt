@@ -55,26 +55,32 @@ held-part out sent k b holds = record {
 }
 
 pub held-own : (out : Output) (sent k : ℕ) (b : Batch) (holds : Holds out sent k b) → (held-part out sent k b holds).own ≡ []
+unfolding held-part
 held-own out sent k b holds = refl
 
 -- behind all rounds, with the lines at the end of the report
 pub last-part : (out : Output) (sent k : ℕ) (b last : Batch) (rows : List Row) → Holds out sent k b → k ≡ length out.given →
-    rows ≡ out.last → last ≡ record b { lines = b.lines ++ lines rows } → IsPart out sent (held out sent k) last
+    rows ≡ out.last → last ≡ record b { lines = b.lines ++ lines rows } →
+    (part : IsPart out sent (held out sent k) last) × (part.rest ≡ []) × (part.behind ≡ [])
+unfolding held-part
 last-part out sent k b last rows holds all are is =
     let none : drop (k - sent) (drop sent out.given) ≡ [] = no-more out sent k holds.from all in
-    let part = held-part out sent k b holds in
-    record {
-      rest = [];
-      here = part.here ∙ ap (λ rest. held out sent k ++ rest) none;
-      records_are = ap (λ b. b.records) is ∙ part.records_are;
-      ends_are = ap (λ b. b.ends) is ∙ part.ends_are;
-      own = lines out.last;
-      lines_are = ap (λ b. b.lines) is ∙ ap (λ rows. b.lines ++ lines rows) are ∙
-          ap (λ bs. bs ++ lines out.last) (part.lines_are ∙ append-nil (flat_map round_lines (held out sent k)));
-      behind = [];
-      lines_behind = sym (append-nil (lines out.last));
-      at_end = inr refl;
-    }
+    let part = held-part out sent k b holds in (
+      record {
+        rest = [];
+        here = part.here ∙ ap (λ rest. held out sent k ++ rest) none;
+        records_are = ap (λ b. b.records) is ∙ part.records_are;
+        ends_are = ap (λ b. b.ends) is ∙ part.ends_are;
+        own = lines out.last;
+        lines_are = ap (λ b. b.lines) is ∙ ap (λ rows. b.lines ++ lines rows) are ∙
+            ap (λ bs. bs ++ lines out.last) (part.lines_are ∙ append-nil (flat_map round_lines (held out sent k)));
+        behind = [];
+        lines_behind = sym (append-nil (lines out.last));
+        at_end = inr refl;
+      },
+      refl,
+      refl,
+    )
   where
     no-more : (out : Output) (sent k : ℕ) → sent ≤ k → k ≡ length out.given → drop (k - sent) (drop sent out.given) ≡ []
     no-more out sent k from all =

@@ -14,9 +14,9 @@ use Rattle.us_lawful.proofs.LawfulLaws.{texts_of_schedules_are_lawful}
 use Rattle.us_lawful.proofs.TraceTextLaws.{are-cuts, length-cuts}
 use Rattle.us_replay.specs.declared.summaries.Summary.{Summary}
 use Rattle.us_replay.specs.declared.faults.RunFault.{RunFault}
-use Rattle.us_replay.specs.Replays.{Growth, Replayed, Writing, WroteLawful, cuts_of}
-use Rattle.us_replay.specs.Progress.{EndsAs, IsLawfulOutput, RanTrace, output_in}
-use Rattle.us_replay.proofs.ReplayLemmas.{cuts-same, run-stands}
+use Rattle.us_replay.specs.Replays.{Growth, WroteLawful, cuts_of}
+use Rattle.us_replay.specs.Progress.{IsLawfulOutput, RanTrace, output_in}
+use Rattle.us_replay.proofs.ReplayLemmas.{cuts-same}
 
 pub lawful-output : (t : Tables) (v : TraceAsks) (result : Result Summary RunFault) → AreTables t →
     rounds_fit t v.rounds ≡ true → OnOk result (AllByRecursion HasFields (judged_of (output_in t v)).lines) →
@@ -26,7 +26,7 @@ lawful-output t v (Ok summary) lawful fits fields =
     texts_of_schedules_are_lawful t (cuts_in t v) v.counts lawful (are-cuts t v)
     (ap (rounds_fit t) (length-cuts t v) ∙ fits) fields
 
-wrote-lawful : (t : Tables) (rounds : ℕ) (told : Option (List ℕ)) (v : TraceAsks) (to_maps to_report : Growth)
+pub wrote-lawful : (t : Tables) (rounds : ℕ) (told : Option (List ℕ)) (v : TraceAsks) (to_maps to_report : Growth)
     (failed : Bool) (result : Result Summary RunFault) → Reads t rounds told (Ok v) → RanTrace t v to_maps to_report failed result →
     OnOk result (IsLawfulOutput t v) → OnOk result (WroteLawful t rounds told to_maps to_report)
 wrote-lawful t rounds told v to_maps to_report failed (Err fault) read ran lawful = tt
@@ -45,13 +45,3 @@ wrote-lawful t rounds told v to_maps to_report failed (Ok summary) (text, is_tex
       lawful = subst (λ counts. AreLawful (run_of t (cuts_of t rounds requests) counts) maps report) is.counts
           (subst (λ cuts. AreLawful (run_of t cuts v.counts) maps report) (cuts-same t rounds requests v is) lawful);
     }
-
--- a replay whose trace was read
-pub replayed : (t : Tables) (rounds : ℕ) (told : Option (List ℕ)) (v : TraceAsks) (maps report : Writing)
-    (result : Result Summary RunFault) → rounds_fit t rounds ≡ true → Reads t rounds told (Ok v) → EndsAs t v maps report result →
-    OnOk result (IsLawfulOutput t v) → Replayed t rounds told maps report result
-replayed t rounds told v maps report result can read ends lawful = record {
-  stands = run-stands t rounds told v maps.grew report.grew report.failed result can read ends.ran;
-  lawful = wrote-lawful t rounds told v maps.grew report.grew report.failed result read ends.ran lawful;
-  left = ends.left;
-}

@@ -1,7 +1,7 @@
 -- The loop over rounds: how state, progress and writers stand after each.
-use Rattle.std.proofs.Common.{◌≡◌, ℕ, zero, suc, ◌+◌, ◌*◌, ◌^◌, ◌<◌, ◌≤◌, List, [], ◌∷◌, ◌++◌, length, replicate, map, take, drop, cond, nat_le, Bool, sum, sum_by, count_by, true, false, Option, Err, refl, ap, sym, subst, ◌∙◌, arith}
+use Rattle.std.proofs.Common.{◌≡◌, ℕ, zero, suc, ◌+◌, ◌*◌, ◌^◌, ◌<◌, ◌≤◌, List, [], ◌∷◌, ◌++◌, length, replicate, map, take, drop, cond, nat_le, Bool, sum, sum_by, count_by, true, Bool, Option, Err, refl, ap, sym, subst, ◌∙◌, arith}
 use Rattle.std.specs.List.{AllByRecursion, drop-map, range_with_len, zip}
-use Rattle.std.proofs.lemmas.Bool.{and_parts, false≢true, leb-true}
+use Rattle.std.proofs.lemmas.Bool.{and_parts, leb-true}
 use Rattle.std.proofs.lemmas.Nat.{mul-le}
 use Rattle.std.proofs.lemmas.List.{length-map, length-replicate, drop_more, drop_all, take_all}
 use Rattle.std.proofs.lemmas.List.Sums.{sum_by-cons, sum_by-append, count_by-le-length}
@@ -19,12 +19,13 @@ use Rattle.us_output.specs.Outputs.{Scheduled, RoundOut, AreWithinLimits, out_of
 use Rattle.us_round.specs.FinalRows.{final_rows}
 use Rattle.us_replay.specs.Collecting.{AreAsks}
 use Rattle.us_output.specs.Files.{records, is_granted, is_missed}
-use Rattle.us_lawful.specs.Output.{counts_row, all_rows, judged_of, output_of}
+use Rattle.us_lawful.specs.Output.{Output, counts_row, all_rows, judged_of, output_of}
 use Rattle.us_output.proofs.PartLemmas.{all_append}
 use Rattle.us_output.specs.Lines.{HasFields}
-use Rattle.us_replay.specs.Replays.{AreLeftBy, KeptLimits, summary_of, writing}
+use Rattle.us_replay.specs.Replays.{Growth, KeptLimits, Took, TookRounds, grown, summary_of}
 use Rattle.us_lawful.proofs.TraceTextLaws.{length-cuts}
-use Rattle.us_replay.specs.Batches.{with_next}
+use Rattle.us_replay.specs.Batches.{AreInside, Batch, Sent, with_next}
+use Rattle.us_replay.specs.Endings.{ending_of}
 use Rattle.us_replay.specs.Progress.{Progress, Along, EndsAs, CanMake, Holds, IsMade, last_rows, opening_progress, out_after, output_in, step_of, summary_after, with_last, with_none_left, with_round}
 use Rattle.us_replay.proofs.RoundLemmas.{After, after, HasCalendars, opening-calendars, next-calendars, some-records}
 use Rattle.us_replay.proofs.CollectingLemmas.{all-within, are-asks}
@@ -32,8 +33,8 @@ use Rattle.us_replay.proofs.SumLemmas.{added-below, length-cut, sum-cut}
 use Rattle.us_replay.specs.declared.faults.RunFault.{RunFault}
 use Rattle.us_replay.specs.declared.faults.RunFault.TheVariants as fault
 use Rattle.us_round.proofs.PlacingLemmas.{next-of}
-use Rattle.us_replay.proofs.ReplayStopLemmas.{IsPart, next-part, nothing-yet, none-kept, stops-between}
-use Rattle.us_replay.proofs.HeldLemmas.{held, holds-next, last-part}
+use Rattle.us_replay.proofs.ReplayStopLemmas.{IsPart, TookAll, last-sent, part-sent, kept-before, next-part, none-kept, nothing-yet, sent-kept, sent-stops, stops-between}
+use Rattle.us_replay.proofs.HeldLemmas.{count-ends, held, held-own, held-part, holds-next, last-part, length-held, part-inside}
 
 -- Before round 0.
 
@@ -255,51 +256,15 @@ unfolding output_of
 some-next t v k lawful next rest here =
     some-in (opening t) (cuts_in t v) k next rest (opening-calendars t) lawful.some_channels.0 here
 
--- what writers tell where memory was wanting
-pub left-wanting : (done : ℕ) (a b d e : Option (List ℕ)) (maps_failed maps_before maps_after report_failed report_before report_after : Bool) →
-    maps_failed ≡ false → report_failed ≡ false → (maps_before ≡ false → maps_after ≡ false) →
-    (report_before ≡ false → report_after ≡ false) →
-    AreLeftBy (fault.NoMemory done) (writing a b maps_failed maps_before maps_after) (writing d e report_failed report_before report_after)
-left-wanting done a b d e maps_failed maps_before maps_after report_failed report_before report_after maps report maps_still report_still =
-    record {
-      maps_failed = maps;
-      report_blamed = λ never. absurd (false≢true never);
-      report_failed = λ failed. absurd (false≢true (sym report ∙ failed));
-      maps_unflushed = λ failed. absurd (false≢true (sym maps ∙ failed));
-      report_unflushed = λ failed. absurd (false≢true (sym report ∙ failed));
-      maps_never_flushed = λ before _. maps_still before;
-      report_never_flushed = report_still;
-    }
-
--- what they tell of a call at its end, and of what came before it
-pub left-since : (f : RunFault) (a b c d e g : Option (List ℕ)) (maps_failed maps_first maps_before maps_after report_failed report_first report_before report_after : Bool) →
-    (maps_first ≡ false → maps_before ≡ false) → (report_first ≡ false → report_before ≡ false) →
-    AreLeftBy f (writing b c maps_failed maps_before maps_after) (writing e g report_failed report_before report_after) →
-    AreLeftBy f (writing a c maps_failed maps_first maps_after) (writing d g report_failed report_first report_after)
-left-since f a b c d e g maps_failed maps_first maps_before maps_after report_failed report_first report_before report_after maps_still report_still left =
-    record {
-      maps_failed = left.maps_failed;
-      report_blamed = left.report_blamed;
-      report_failed = left.report_failed;
-      maps_unflushed = left.maps_unflushed;
-      report_unflushed = left.report_unflushed;
-      maps_never_flushed = λ first. left.maps_never_flushed (maps_still first);
-      report_never_flushed = λ first. left.report_never_flushed (report_still first);
-    }
-
 -- where nothing was written
-pub ends-at-once : (t : Tables) (v : TraceAsks) (a d : Option (List ℕ)) (maps_failed maps_flushed report_failed report_flushed : Bool) →
-    AreTables t → maps_failed ≡ false → report_failed ≡ false →
-    EndsAs t v (writing a a maps_failed maps_flushed maps_flushed) (writing d d report_failed report_flushed report_flushed)
-    (Err (fault.NoMemory 0))
-ends-at-once t v a d maps_failed maps_flushed report_failed report_flushed lawful maps report = record {
+pub ends-at-once : (t : Tables) (v : TraceAsks) (a d : Option (List ℕ)) (failed : Bool) → AreTables t →
+    EndsAs t v (grown a a) (grown d d) failed (Err (fault.NoMemory 0))
+ends-at-once t v a d failed lawful = record {
   ran = (
-    stops-between (output_in t v) 0 report_failed _ _ (nothing-yet (output_in t v) a d) (some-next t v 0 lawful),
+    stops-between (output_in t v) 0 failed _ _ (nothing-yet (output_in t v) a d) (some-next t v 0 lawful),
     none-kept t (cuts_in t v),
   );
   fields = tt;
-  left = left-wanting 0 a a d d maps_failed maps_flushed maps_flushed report_failed report_flushed report_flushed maps report
-      (λ before. before) (λ before. before);
 }
 
 -- All rounds.
@@ -321,7 +286,7 @@ last-made v state p q counts made are = made ∙ ap (with_last p state) are
 -- the batch at the end, where all rounds were made
 pub part-last : (t : Tables) (v : TraceAsks) (sent k : ℕ) (state : State) (p q : Progress) (counts : Counts) →
     Along t v k state p → k ≡ v.rounds → counts ≡ v.counts → q ≡ with_last p state counts → Holds (output_in t v) sent k p.batch →
-    IsPart (output_in t v) sent (held (output_in t v) sent k) q.batch
+    (part : IsPart (output_in t v) sent (held (output_in t v) sent k) q.batch) × (part.rest ≡ []) × (part.behind ≡ [])
 unfolding with_last output_of final
 part-last t v sent k state p q counts along all same made holds =
     let none : drop k (cuts_in t v) ≡ [] = drop_all k (cuts_in t v) (omega (arith, all, length-cuts t v)) in
@@ -329,6 +294,96 @@ part-last t v sent k state p q counts along all same made holds =
     last-part (output_in t v) sent k p.batch q.batch (last_rows state counts) holds (all ∙ sym (length-given t v))
     (ap (λ s. last_rows s counts) ended ∙ ap (last_rows (final (opening t) (cuts_in t v))) same)
     (ap (λ p. p.batch) made)
+
+-- What is sent.
+
+-- the batch, as it is lent to be sent
+pub record IsHeld (out : Output) (sent k : ℕ) (b : Batch) : Type 0 where
+  pub inside : sent ≤ length out.given
+  pub part : IsPart out sent (held out sent k) b
+  pub count : sent + length (held out sent k) ≡ k
+  pub few : sent + length b.ends ≡ k
+  pub ends_inside : AreInside b
+
+is-held : (out : Output) (sent k : ℕ) (b : Batch) → sent ≤ k → k ≤ length out.given → IsPart out sent (held out sent k) b →
+    IsHeld out sent k b
+is-held out sent k b from most part =
+    let count = length-held out sent k from most in
+    record {
+      inside = omega (arith, from, most);
+      part = part;
+      count = count;
+      few = omega (arith, count, count-ends out sent (held out sent k) b part);
+      ends_inside = part-inside out sent (held out sent k) b part (omega (arith, from, most));
+    }
+
+-- behind a round that was made,
+pub held-then : (t : Tables) (v : TraceAsks) (sent k : ℕ) (p : Progress) (b : Batch) → Holds (output_in t v) sent k p.batch →
+    k ≤ v.rounds → b ≡ p.batch → IsHeld (output_in t v) sent k b
+held-then t v sent k p b holds within is =
+    is-held (output_in t v) sent k b holds.from (omega (arith, within, length-given t v))
+    (subst (IsPart (output_in t v) sent (held (output_in t v) sent k)) (sym is) (held-part (output_in t v) sent k p.batch holds))
+
+-- and at the end
+pub held-last : (t : Tables) (v : TraceAsks) (sent k : ℕ) (state : State) (p q : Progress) (counts : Counts) (b : Batch) →
+    Along t v k state p → k ≡ v.rounds → counts ≡ v.counts → q ≡ with_last p state counts → Holds (output_in t v) sent k p.batch →
+    b ≡ q.batch → IsHeld (output_in t v) sent k b
+held-last t v sent k state p q counts b along all same made holds is =
+    is-held (output_in t v) sent k b holds.from (omega (arith, all, length-given t v))
+    (subst (IsPart (output_in t v) sent (held (output_in t v) sent k)) (sym is) (part-last t v sent k state p q counts along all same made holds).0)
+
+-- a batch that wasn't all taken
+pub sent-ends : (t : Tables) (v : TraceAsks) (sent k : ℕ) (b : Batch) (failed : Bool) (a c d f g h : Option (List ℕ))
+    (why : RunFault) → IsHeld (output_in t v) sent k b → TookRounds (output_in t v) sent (grown a c) (grown f g) →
+    KeptLimits t (cuts_in t v) k → Sent b sent (grown c d) (grown g h) failed (Err (ending_of why)) →
+    EndsAs t v (grown a d) (grown f h) failed (Err why)
+sent-ends t v sent k b failed a c d f g h why is so_far kept at = record {
+  ran = (
+    sent-stops (output_in t v) v.counts sent (held (output_in t v) sent k) b failed a c d f g h (ending_of why) is.part so_far at,
+    sent-kept t (cuts_in t v) (output_in t v) sent k (held (output_in t v) sent k) b failed (grown c d) (grown g h)
+        (ending_of why) is.part is.count kept at,
+  );
+  fields = tt;
+}
+
+-- or that was,
+pub next-took : (t : Tables) (v : TraceAsks) (sent k : ℕ) (p : Progress) (b : Batch) (a c d f g h : Option (List ℕ)) →
+    Holds (output_in t v) sent k p.batch → k ≤ v.rounds → b ≡ p.batch → TookRounds (output_in t v) sent (grown a c) (grown f g) →
+    Took (grown c d) b.records → Took (grown g h) b.lines → TookRounds (output_in t v) k (grown a d) (grown f h)
+next-took t v sent k p b a c d f g h holds within is so_far took_records took_lines =
+    let out : Output = output_in t v in
+    let is_held : IsHeld out sent k b = held-then t v sent k p b holds within is in
+    let part = held-part out sent k p.batch holds in
+    subst (λ n. TookRounds out n (grown a d) (grown f h)) is_held.count
+    (part-sent out sent (held out sent k) p.batch part is_held.inside a c d f g h so_far
+    (held-own out sent k p.batch holds)
+    (subst (λ b. Took (grown c d) b.records) is took_records)
+    (subst (λ b. Took (grown g h) b.lines) is took_lines))
+
+-- also at the end
+pub last-took : (t : Tables) (v : TraceAsks) (sent k : ℕ) (state : State) (p q : Progress) (counts : Counts) (b : Batch)
+    (a c d f g h : Option (List ℕ)) → Along t v k state p → k ≡ v.rounds → counts ≡ v.counts → q ≡ with_last p state counts →
+    Holds (output_in t v) sent k p.batch → b ≡ q.batch → TookRounds (output_in t v) sent (grown a c) (grown f g) →
+    Took (grown c d) b.records → Took (grown g h) b.lines → TookAll (output_in t v) (grown a d) (grown f h)
+last-took t v sent k state p q counts b a c d f g h along all same made holds is so_far took_records took_lines =
+    let out : Output = output_in t v in
+    let part = part-last t v sent k state p q counts along all same made holds in
+    last-sent out sent (held out sent k) q.batch part.0
+    (held-last t v sent k state p q counts b along all same made holds is).inside a c d f g h so_far part.1 part.2
+    (subst (λ b. Took (grown c d) b.records) is took_records)
+    (subst (λ b. Took (grown g h) b.lines) is took_lines)
+
+-- want of memory
+pub wanting-ends : (t : Tables) (v : TraceAsks) (sent k : ℕ) (state : State) (p : Progress) (failed : Bool) (to_maps to_report : Growth) →
+    Along t v k state p → Holds (output_in t v) sent k p.batch → TookRounds (output_in t v) sent to_maps to_report →
+    EndsAs t v to_maps to_report failed (Err (fault.NoMemory sent))
+wanting-ends t v sent k state p failed to_maps to_report along holds so_far = record {
+  ran = (
+    stops-between (output_in t v) sent failed to_maps to_report so_far (some-next t v sent along.lawful),
+    kept-before t (cuts_in t v) sent k holds.from along.limits,
+  );
+  fields = tt;
+}
 
 -- what all lines have
 pub fields-last : (t : Tables) (v : TraceAsks) (k : ℕ) (state : State) (p : Progress) (counts : Counts) → Along t v k state p →

@@ -12,7 +12,7 @@ use Rattle.us_replay.specs.declared.summaries.Summary.{Summary}
 use Rattle.us_replay.specs.declared.faults.RunFault.{RunFault}
 use Rattle.us_replay.specs.Endings.{Ending, Refused, StoppedBy, ended, rounds_done}
 use Rattle.us_lawful.specs.Output.{output_of}
-use Rattle.us_replay.specs.Replays.{Growth, Ran, RanText, KeptLimits, Stands, cuts_of, output_for}
+use Rattle.us_replay.specs.Replays.{Growth, Ran, RanText, KeptLimits, Replayed, Stands, cuts_of, output_for}
 use Rattle.us_replay.specs.Progress.{RanTrace}
 
 -- the asks of each round add up to the cut of the rows
@@ -55,9 +55,9 @@ stands t rounds told to_maps to_report failed (Err (StoppedBy what done)) can ra
 stands t rounds told to_maps to_report failed (Err (Refused why)) can (text, is_text, sound, never, kept) = absurd never
 
 -- whatever `run` answers
-pub run-stands : (t : Tables) (rounds : ℕ) (told : Option (List ℕ)) (v : TraceAsks) (to_maps to_report : Growth) (failed : Bool)
+pub replayed : (t : Tables) (rounds : ℕ) (told : Option (List ℕ)) (v : TraceAsks) (to_maps to_report : Growth) (failed : Bool)
     (result : Result Summary RunFault) → rounds_fit t rounds ≡ true → Reads t rounds told (Ok v) →
-    RanTrace t v to_maps to_report failed result → Stands t rounds told to_maps to_report failed (ended result)
-run-stands t rounds told v to_maps to_report failed result can read ran =
+    RanTrace t v to_maps to_report failed result → Replayed t rounds told to_maps to_report failed result
+replayed t rounds told v to_maps to_report failed result can read ran =
     stands t rounds told to_maps to_report failed (ended result) can
     (ran-text t rounds told v to_maps to_report failed result read ran)

@@ -68,10 +68,13 @@ AreInside b = AllByRecursion (λ end. end.lines ≤ length b.lines) b.ends
 
 -- Sending.
 
--- how many rounds end within so many bytes of records and so many of lines
+-- a round ends behind so many bytes of records, or of lines
+abbrev pub is_past : ℕ → ℕ → End → Bool
+is_past record_bytes line_bytes end = nat_lt record_bytes end.records || nat_lt line_bytes end.lines
+
+-- how many rounds end within them
 abbrev pub rounds_within : ℕ → ℕ → List End → ℕ
-rounds_within record_bytes line_bytes ends =
-    position_or_len (λ end. nat_lt record_bytes end.records || nat_lt line_bytes end.lines) ends
+rounds_within record_bytes line_bytes ends = position_or_len (is_past record_bytes line_bytes) ends
 
 -- where the lines of so many rounds end
 abbrev pub lines_before : ℕ → List End → ℕ

@@ -26,7 +26,7 @@ use Rattle.us_replay.specs.Endings.{ended, rounds_done, Ending, Refused, Stopped
 use Rattle.us_lawful.specs.Texts.{AreLawful}
 use Rattle.us_output.specs.Lines.{HasFields}
 use Rattle.us_replay.specs.Batches.{Batch, batch_of, no_rounds, with_next}
-use Rattle.us_replay.specs.Replays.{AreLeft, Growth, KeptLimits, Ran, Writing}
+use Rattle.us_replay.specs.Replays.{Growth, KeptLimits, Ran}
 
 -- Traces.
 
@@ -50,10 +50,10 @@ pub record IsTraceFor (t : Tables) (v : TraceAsks) : Type 0 where
   pub known : (round : ℕ) → AllByRecursion (λ ask. ask.cluster < length (words_of t)) (asks_in v round)
 
 -- what stands at the end of its run
-pub record EndsAs (t : Tables) (v : TraceAsks) (maps report : Writing) (result : Result Summary RunFault) : Type 0 where
-  pub ran : RanTrace t v maps.grew report.grew report.failed result
+pub record EndsAs (t : Tables) (v : TraceAsks) (to_maps to_report : Growth) (report_failed : Bool) (result : Result Summary RunFault)
+    : Type 0 where
+  pub ran : RanTrace t v to_maps to_report report_failed result
   pub fields : OnOk result (AllByRecursion HasFields (judged_of (output_in t v)).lines)
-  pub left : AreLeft maps report result
 
 -- Progress.
 

@@ -155,6 +155,11 @@ Stands t rounds told to_maps to_report report_failed (Err (Refused why)) =
 Stands t rounds told to_maps to_report report_failed end =
     (rounds_fit t rounds ≡ true) × RanText t rounds told to_maps to_report report_failed end
 
+-- a replay: what stands by its answer
+abbrev pub Replayed : Tables → ℕ → Option (List ℕ) → Growth → Growth → Bool → Result Summary RunFault → Type 0
+Replayed t rounds told to_maps to_report report_failed result =
+    Stands t rounds told to_maps to_report report_failed (ended result)
+
 -- Lawful output.
 
 -- what a replay of these requests is judged by
@@ -174,17 +179,15 @@ pub record WroteLawful (t : Tables) (rounds : ℕ) (told : Option (List ℕ)) (t
 
 -- Writers.
 
--- what a writer tells of a run: its bytes, whether it failed, and whether its last call was a flush that went well, before the
--- run and after it
+-- what a writer tells beside its bytes: whether it failed, and whether its last call was a flush that went well, before a run
+-- and after it
 pub record Writing : Type 0 where
-  pub grew : Growth
   pub failed : Bool
   pub was_flushed : Bool
   pub flushed : Bool
 
-abbrev pub writing : Option (List ℕ) → Option (List ℕ) → Bool → Bool → Bool → Writing
-writing before after failed was_flushed flushed =
-    record { grew = grown before after; failed = failed; was_flushed = was_flushed; flushed = flushed }
+abbrev pub writing : Bool → Bool → Bool → Writing
+writing failed was_flushed flushed = record { failed = failed; was_flushed = was_flushed; flushed = flushed }
 
 -- what both tell once a fault ended a run. The report's may fail behind the maps file's, which is blamed then
 pub record AreLeftBy (f : RunFault) (maps report : Writing) : Type 0 where
@@ -201,12 +204,3 @@ abbrev pub AreLeft : {A : Type 0} → Writing → Writing → Result A RunFault 
 AreLeft maps report (Ok _) =
     (maps.failed ≡ false) × (report.failed ≡ false) × (maps.flushed ≡ true) × (report.flushed ≡ true)
 AreLeft maps report (Err f) = AreLeftBy f maps report
-
--- Replays.
-
--- a replay: what stands by its answer, that its output is lawful where it is done, and what its writers tell
-pub record Replayed (t : Tables) (rounds : ℕ) (told : Option (List ℕ)) (maps report : Writing) (result : Result Summary RunFault)
-    : Type 0 where
-  pub stands : Stands t rounds told maps.grew report.grew report.failed (ended result)
-  pub lawful : OnOk result (WroteLawful t rounds told maps.grew report.grew)
-  pub left : AreLeft maps report result

@@ -7,7 +7,7 @@ ghost use Rattle.us_requests.specs.Readings.{max_bytes};
 ghost use Rattle.us_round.specs.Rounds.{opening};
 ghost use Rattle.us_replay.specs.Collecting.{AreOpen};
 ghost use Rattle.us_replay.specs.Endings.{comes_before};
-ghost use Rattle.us_replay.specs.Replays.{Replayed, writing};
+ghost use Rattle.us_replay.specs.Replays.{AreLeft, Replayed, WroteLawful, grown, writing};
 ghost use Rattle.us_replay.specs.Progress.{CanMake, EndsAs, IsLawfulOutput, IsMade, IsTraceFor, opening_progress};
 
 use crate::collecting::open_intake;
@@ -63,9 +63,10 @@ pub fn replay<H: Threads + Wait + Sync, R: Source, W1: Sink, W2: Sink, G: Gate +
     requires maps_ready { W1.failed maps.old ≡ false }
     requires report_ready { W2.failed report.old ≡ false }
     ensures replayed { Replayed config.now rounds (R.remaining trace.old)
-        (writing (W1.contents maps.old) (W1.contents maps.new) (W1.failed maps.new) (W1.flushed maps.old) (W1.flushed maps.new))
-        (writing (W2.contents report.old) (W2.contents report.new) (W2.failed report.new) (W2.flushed report.old) (W2.flushed report.new))
-        result }
+        (grown (W1.contents maps.old) (W1.contents maps.new)) (grown (W2.contents report.old) (W2.contents report.new))
+        (W2.failed report.new) result }
+    ensures lawful { OnOk result (WroteLawful config.now rounds (R.remaining trace.old)
+        (grown (W1.contents maps.old) (W1.contents maps.new)) (grown (W2.contents report.old) (W2.contents report.new))) }
     ensures rounds { (result ≡ Err RunFault.Rounds) ↔ (Tables.rounds_fit config.now rounds ≡ false) }
     ensures workers { (result ≡ Err RunFault.Workers) ↔
         (Tables.rounds_fit config.now rounds ≡ true) × ((workers ≡ 0) ⊎ (64 < workers)) }
@@ -76,6 +77,8 @@ pub fn replay<H: Threads + Wait + Sync, R: Source, W1: Sink, W2: Sink, G: Gate +
         TookAtMost max_bytes (R.remaining trace.old) (R.remaining trace.new) }
     ensures trace_wanting { result ≡ Err (RunFault.Trace TraceFault.NoMemory) →
         TookAtMost max_bytes (R.remaining trace.old) (R.remaining trace.new) }
+    ensures left { AreLeft (writing (W1.failed maps.new) (W1.flushed maps.old) (W1.flushed maps.new))
+        (writing (W2.failed report.new) (W2.flushed report.old) (W2.flushed report.new)) result }
 {
     check_run(config, rounds, workers)?;
     let trace = Trace::read(alloc, trace, config, rounds)?;
@@ -96,9 +99,10 @@ pub fn replay_alone<R: Source, W1: Sink, W2: Sink>(
     requires maps_ready { W1.failed maps.old ≡ false }
     requires report_ready { W2.failed report.old ≡ false }
     ensures replayed { Replayed config.now rounds (R.remaining trace.old)
-        (writing (W1.contents maps.old) (W1.contents maps.new) (W1.failed maps.new) (W1.flushed maps.old) (W1.flushed maps.new))
-        (writing (W2.contents report.old) (W2.contents report.new) (W2.failed report.new) (W2.flushed report.old) (W2.flushed report.new))
-        result }
+        (grown (W1.contents maps.old) (W1.contents maps.new)) (grown (W2.contents report.old) (W2.contents report.new))
+        (W2.failed report.new) result }
+    ensures lawful { OnOk result (WroteLawful config.now rounds (R.remaining trace.old)
+        (grown (W1.contents maps.old) (W1.contents maps.new)) (grown (W2.contents report.old) (W2.contents report.new))) }
     ensures rounds { (result ≡ Err RunFault.Rounds) ↔ (Tables.rounds_fit config.now rounds ≡ false) }
     ensures workers { ¬ (result ≡ Err RunFault.Workers) }
     ensures nothing_read { result ≡ Err RunFault.Rounds → trace.new ≡ trace.old }
@@ -108,6 +112,8 @@ pub fn replay_alone<R: Source, W1: Sink, W2: Sink>(
         TookAtMost max_bytes (R.remaining trace.old) (R.remaining trace.new) }
     ensures trace_wanting { result ≡ Err (RunFault.Trace TraceFault.NoMemory) →
         TookAtMost max_bytes (R.remaining trace.old) (R.remaining trace.new) }
+    ensures left { AreLeft (writing (W1.failed maps.new) (W1.flushed maps.old) (W1.flushed maps.new))
+        (writing (W2.failed report.new) (W2.flushed report.old) (W2.flushed report.new)) result }
 {
     check_run(config, rounds, 1)?;
     let read = Trace::read(alloc, trace, config, rounds)?;
@@ -146,10 +152,10 @@ fn run<H: Threads + Wait + Sync, W1: Sink, W2: Sink, G: Gate + Sync>(
     requires trace { IsTraceFor config.now trace.now }
     requires maps_ready { W1.failed maps.old ≡ false }
     requires report_ready { W2.failed report.old ≡ false }
-    ensures ends { EndsAs config.now trace.now
-        (writing (W1.contents maps.old) (W1.contents maps.new) (W1.failed maps.new) (W1.flushed maps.old) (W1.flushed maps.new))
-        (writing (W2.contents report.old) (W2.contents report.new) (W2.failed report.new) (W2.flushed report.old) (W2.flushed report.new))
-        result }
+    ensures ends { EndsAs config.now trace.now (grown (W1.contents maps.old) (W1.contents maps.new))
+        (grown (W2.contents report.old) (W2.contents report.new)) (W2.failed report.new) result }
+    ensures left { AreLeft (writing (W1.failed maps.new) (W1.flushed maps.old) (W1.flushed maps.new))
+        (writing (W2.failed report.new) (W2.flushed report.old) (W2.flushed report.new)) result }
     ensures lawful { OnOk result (IsLawfulOutput config.now trace.now) }
 {
     let workers = workers_for(config, trace, workers);
@@ -171,10 +177,10 @@ fn run_alone<W1: Sink, W2: Sink, G: Gate>(
     requires trace { IsTraceFor config.now trace.now }
     requires maps_ready { W1.failed maps.old ≡ false }
     requires report_ready { W2.failed report.old ≡ false }
-    ensures ends { EndsAs config.now trace.now
-        (writing (W1.contents maps.old) (W1.contents maps.new) (W1.failed maps.new) (W1.flushed maps.old) (W1.flushed maps.new))
-        (writing (W2.contents report.old) (W2.contents report.new) (W2.failed report.new) (W2.flushed report.old) (W2.flushed report.new))
-        result }
+    ensures ends { EndsAs config.now trace.now (grown (W1.contents maps.old) (W1.contents maps.new))
+        (grown (W2.contents report.old) (W2.contents report.new)) (W2.failed report.new) result }
+    ensures left { AreLeft (writing (W1.failed maps.new) (W1.flushed maps.old) (W1.flushed maps.new))
+        (writing (W2.failed report.new) (W2.flushed report.old) (W2.flushed report.new)) result }
     ensures lawful { OnOk result (IsLawfulOutput config.now trace.now) }
 {
     let Ok((intake, seat)) = open_intake(alloc, config.clusters()) else {
@@ -199,10 +205,10 @@ fn run_alone_with<'a, W1: Sink, W2: Sink, G: Gate>(
     requires open { AreOpen (length (words_of config.now)) (option_map (λ i. i.now) intake) seat }
     requires maps_ready { W1.failed maps.old ≡ false }
     requires report_ready { W2.failed report.old ≡ false }
-    ensures ends { EndsAs config.now trace.now
-        (writing (W1.contents maps.old) (W1.contents maps.new) (W1.failed maps.new) (W1.flushed maps.old) (W1.flushed maps.new))
-        (writing (W2.contents report.old) (W2.contents report.new) (W2.failed report.new) (W2.flushed report.old) (W2.flushed report.new))
-        result }
+    ensures ends { EndsAs config.now trace.now (grown (W1.contents maps.old) (W1.contents maps.new))
+        (grown (W2.contents report.old) (W2.contents report.new)) (W2.failed report.new) result }
+    ensures left { AreLeft (writing (W1.failed maps.new) (W1.flushed maps.old) (W1.flushed maps.new))
+        (writing (W2.failed report.new) (W2.flushed report.old) (W2.flushed report.new)) result }
 {
     let Ok(mut progress) = Progress::opening(alloc, config.clusters(), intake, seat) else {
         return Err(RunFault::NoMemory(0));
@@ -233,10 +239,10 @@ fn run_shared<H: Threads + Wait + Sync, W1: Sink, W2: Sink, G: Gate + Sync>(
     requires trace { IsTraceFor config.now trace.now }
     requires maps_ready { W1.failed maps.old ≡ false }
     requires report_ready { W2.failed report.old ≡ false }
-    ensures ends { EndsAs config.now trace.now
-        (writing (W1.contents maps.old) (W1.contents maps.new) (W1.failed maps.new) (W1.flushed maps.old) (W1.flushed maps.new))
-        (writing (W2.contents report.old) (W2.contents report.new) (W2.failed report.new) (W2.flushed report.old) (W2.flushed report.new))
-        result }
+    ensures ends { EndsAs config.now trace.now (grown (W1.contents maps.old) (W1.contents maps.new))
+        (grown (W2.contents report.old) (W2.contents report.new)) (W2.failed report.new) result }
+    ensures left { AreLeft (writing (W1.failed maps.new) (W1.flushed maps.old) (W1.flushed maps.new))
+        (writing (W2.failed report.new) (W2.flushed report.old) (W2.flushed report.new)) result }
     ensures lawful { OnOk result (IsLawfulOutput config.now trace.now) }
 {
     let Ok((intake, seat)) = open_intake(alloc, config.clusters()) else {
@@ -265,10 +271,10 @@ fn run_shared_with<'a, H: Threads + Wait + Sync, W1: Sink, W2: Sink, G: Gate + S
     requires open { AreOpen (length (words_of config.now)) (option_map (λ i. i.now) intake) seat }
     requires maps_ready { W1.failed maps.old ≡ false }
     requires report_ready { W2.failed report.old ≡ false }
-    ensures ends { EndsAs config.now trace.now
-        (writing (W1.contents maps.old) (W1.contents maps.new) (W1.failed maps.new) (W1.flushed maps.old) (W1.flushed maps.new))
-        (writing (W2.contents report.old) (W2.contents report.new) (W2.failed report.new) (W2.flushed report.old) (W2.flushed report.new))
-        result }
+    ensures ends { EndsAs config.now trace.now (grown (W1.contents maps.old) (W1.contents maps.new))
+        (grown (W2.contents report.old) (W2.contents report.new)) (W2.failed report.new) result }
+    ensures left { AreLeft (writing (W1.failed maps.new) (W1.flushed maps.old) (W1.flushed maps.new))
+        (writing (W2.failed report.new) (W2.flushed report.old) (W2.flushed report.new)) result }
 {
     let Ok(progress) = Progress::opening(alloc, config.clusters(), intake, seat) else {
         return Err(RunFault::NoMemory(0));
@@ -295,10 +301,10 @@ fn run_kept<'a, H: Threads + Wait + Sync, W1: Sink, W2: Sink, G: Gate + Copy + S
     requires opening { progress ≡ opening_progress (length (words_of config.now)) }
     requires maps_ready { W1.failed maps.old ≡ false }
     requires report_ready { W2.failed report.old ≡ false }
-    ensures ends { EndsAs config.now trace.now
-        (writing (W1.contents maps.old) (W1.contents maps.new) (W1.failed maps.new) (W1.flushed maps.old) (W1.flushed maps.new))
-        (writing (W2.contents report.old) (W2.contents report.new) (W2.failed report.new) (W2.flushed report.old) (W2.flushed report.new))
-        result }
+    ensures ends { EndsAs config.now trace.now (grown (W1.contents maps.old) (W1.contents maps.new))
+        (grown (W2.contents report.old) (W2.contents report.new)) (W2.failed report.new) result }
+    ensures left { AreLeft (writing (W1.failed maps.new) (W1.flushed maps.old) (W1.flushed maps.new))
+        (writing (W2.failed report.new) (W2.flushed report.old) (W2.flushed report.new)) result }
 {
     let helpers = workers.saturating_sub(1);
     let (Ok(collects), Ok(fills), Ok(builds)) = (
@@ -360,10 +366,10 @@ fn run_by<'a, D: Doers<'a>, W1: Sink, W2: Sink>(
     requires doers { D.knows doers.old config.now }
     requires maps_ready { W1.failed maps.old ≡ false }
     requires report_ready { W2.failed report.old ≡ false }
-    ensures ends { EndsAs config.now trace.now
-        (writing (W1.contents maps.old) (W1.contents maps.new) (W1.failed maps.new) (W1.flushed maps.old) (W1.flushed maps.new))
-        (writing (W2.contents report.old) (W2.contents report.new) (W2.failed report.new) (W2.flushed report.old) (W2.flushed report.new))
-        result }
+    ensures ends { EndsAs config.now trace.now (grown (W1.contents maps.old) (W1.contents maps.new))
+        (grown (W2.contents report.old) (W2.contents report.new)) (W2.failed report.new) result }
+    ensures left { AreLeft (writing (W1.failed maps.new) (W1.flushed maps.old) (W1.flushed maps.new))
+        (writing (W2.failed report.new) (W2.flushed report.old) (W2.flushed report.new)) result }
 {
     let Ok(mut state) = opened(alloc, config) else {
         return Err(RunFault::NoMemory(0));

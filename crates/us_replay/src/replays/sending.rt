@@ -24,8 +24,8 @@ pub(crate) fn send<W1: Sink, W2: Sink>(
     ensures sent { Sent batch.now before (grown (W1.contents maps.old) (W1.contents maps.new))
         (grown (W2.contents report.old) (W2.contents report.new)) (W2.failed report.new) (ended result) }
     ensures left { IfErr result (λ f. AreLeftBy f
-        (writing (W1.contents maps.old) (W1.contents maps.new) (W1.failed maps.new) (W1.flushed maps.old) (W1.flushed maps.new))
-        (writing (W2.contents report.old) (W2.contents report.new) (W2.failed report.new) (W2.flushed report.old) (W2.flushed report.new))) }
+        (writing (W1.failed maps.new) (W1.flushed maps.old) (W1.flushed maps.new))
+        (writing (W2.failed report.new) (W2.flushed report.old) (W2.flushed report.new))) }
     ensures ready { OnOk result ((W1.failed maps.new ≡ false) × (W2.failed report.new ≡ false)) }
     ensures maps_still_unflushed { W1.flushed maps.old ≡ false → W1.flushed maps.new ≡ false }
     ensures report_still_unflushed { W2.flushed report.old ≡ false → W2.flushed report.new ≡ false }
@@ -79,8 +79,8 @@ pub(crate) fn flush<W1: Sink, W2: Sink>(
     ensures flushed { Flushed done (grown (W1.contents maps.old) (W1.contents maps.new))
         (grown (W2.contents report.old) (W2.contents report.new)) (ended result) }
     ensures left { AreLeft
-        (writing (W1.contents maps.old) (W1.contents maps.new) (W1.failed maps.new) (W1.flushed maps.old) (W1.flushed maps.new))
-        (writing (W2.contents report.old) (W2.contents report.new) (W2.failed report.new) (W2.flushed report.old) (W2.flushed report.new))
+        (writing (W1.failed maps.new) (W1.flushed maps.old) (W1.flushed maps.new))
+        (writing (W2.failed report.new) (W2.flushed report.old) (W2.flushed report.new))
         result }
 {
     match maps.flush() {

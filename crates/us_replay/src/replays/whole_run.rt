@@ -30,7 +30,7 @@ impl<'a, 'b, 'm, 'r, H: Wait, G: Gate + Copy + Drop, W1: Sink, W2: Sink> Beside<
     ghost use Rattle.std.specs.Prelude.{◌≡◌, false, length};
     ghost use Rattle.us_flows.specs.Clusters.{words_of};
     ghost use Rattle.us_replay.specs.Progress.{EndsAs, IsTraceFor, opening_progress};
-    ghost use Rattle.us_replay.specs.Replays.{writing};
+    ghost use Rattle.us_replay.specs.Replays.{AreLeft, grown, writing};
 
     // How it ended, and the writers.
     type Output = (Result<Summary, RunFault>, &'m mut W1, &'r mut W2);
@@ -40,10 +40,10 @@ impl<'a, 'b, 'm, 'r, H: Wait, G: Gate + Copy + Drop, W1: Sink, W2: Sink> Beside<
         × (W1.failed t.maps.now ≡ false) × (W2.failed t.report.now ≡ false) };
 
     ghost gives = { λ t r. (r.1.ghost_name ≡ t.maps.ghost_name) × (r.2.ghost_name ≡ t.report.ghost_name)
-        × EndsAs t.config.now t.trace.now
-        (writing (W1.contents t.maps.now) (W1.contents r.1.now) (W1.failed r.1.now) (W1.flushed t.maps.now) (W1.flushed r.1.now))
-        (writing (W2.contents t.report.now) (W2.contents r.2.now) (W2.failed r.2.now) (W2.flushed t.report.now) (W2.flushed r.2.now))
-        r.0 };
+        × EndsAs t.config.now t.trace.now (grown (W1.contents t.maps.now) (W1.contents r.1.now))
+        (grown (W2.contents t.report.now) (W2.contents r.2.now)) (W2.failed r.2.now) r.0
+        × AreLeft (writing (W1.failed r.1.now) (W1.flushed t.maps.now) (W1.flushed r.1.now))
+        (writing (W2.failed r.2.now) (W2.flushed t.report.now) (W2.flushed r.2.now)) r.0 };
 
     fn run(self, crew: &Crew<'_, H>) -> (Result<Summary, RunFault>, &'m mut W1, &'r mut W2) {
         let (mut progress, maps, report) = (self.progress, self.maps, self.report);

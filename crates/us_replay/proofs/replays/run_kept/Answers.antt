@@ -10,4 +10,4 @@ with_crew-ended-requires-sync-M g c κs within = search (run_mail_sync, sendable
 pub returns-in_default-clause-ends : goal.returns-in_default-clause-ends
 returns-in_default-clause-ends g c =
     ends-at-once c.args.config.now c.args.trace.now (g.W1.Sink.contents c.args.maps.now) (g.W2.Sink.contents c.args.report.now)
-    _ _ _ _ c.requires.lawful c.requires.maps_ready c.requires.report_ready
+    _ c.requires.lawful
