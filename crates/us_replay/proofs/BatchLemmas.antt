@@ -1,17 +1,15 @@
 -- Batches: where their rounds end, and how many end within so many bytes.
-use Rattle.std.proofs.Common.{◌≡◌, ◌≢◌, ℕ, zero, suc, ◌+◌, ◌<◌, ◌≤◌, ◌⊎◌, ◌||◌, nat_lt, cond, Bool, not, Some, None, List, [], ◌∷◌, ◌++◌, length, map, flat_map, take, drop, true, false, refl, ap, sym, subst, ◌∙◌, inl, inr, arith, append_assoc, append-nil, length-append, lt-ltb, le-ltb}
-use Rattle.std.proofs.Math.Seq.{take-add}
+use Rattle.std.proofs.Common.{◌≡◌, ℕ, zero, suc, ◌+◌, ◌<◌, ◌≤◌, nat_lt, cond, Bool, not, Some, None, List, [], ◌∷◌, ◌++◌, length, map, flat_map, take, drop, true, false, refl, ap, sym, subst, ◌∙◌, inl, inr, arith, append-nil, length-append, lt-ltb}
 use Rattle.std.proofs.Math.ListN.{get_or}
-use Rattle.std.proofs.lemmas.Bool.{cases_lt, false≢true, ltb-false, ltb-true, or_cases, or_from, or_left, or_parts, or_right}
+use Rattle.std.proofs.lemmas.Bool.{cases_lt, false≢true, ltb-false, ltb-true, or_cases, or_parts}
 use Rattle.std.proofs.lemmas.Grind.{flat_map-append}
-use Rattle.std.proofs.lemmas.List.{get_or_append_left, get_or_push, get_or-map, length-map, length_push, take-append-drop, take-append-le, take_all}
+use Rattle.std.proofs.lemmas.List.{get_or_append_left, get_or_push, get_or-map, length_push, take-append-drop, take-append-le, take_all}
 use Rattle.std.proofs.lemmas.List.FromFn.{fill_by_all, get_or-map-range_with_len, length-map-range_with_len}
 use Rattle.std.proofs.lemmas.List.Sums.{fails_before_first, passes_at_first, position_or_len_is, prefix_len-le-length}
 use Rattle.std.proofs.lemmas.List.Quantifiers.{position-Some}
-use Rattle.std.specs.List.{AllByRecursion, position, position_or_len, range_with_len}
+use Rattle.std.specs.List.{AllByRecursion, position, range_with_len}
 use Rattle.us_output.proofs.PartLemmas.{all_at}
 use Rattle.us_output.specs.Outputs.{RoundOut}
-use Rattle.us_output.specs.declared.rows.Row.{Row}
 use Rattle.us_output.specs.Files.{records, round_lines, lines}
 use Rattle.us_replay.specs.declared.replays.batches.End.{End}
 use Rattle.us_replay.specs.Batches.{Batch, AreInside, batch_of, end_of, ends_of, is_past, lines_before, no_rounds, rounds_within, with_next}
@@ -219,8 +217,8 @@ pub within-greatest : (rounds : List RoundOut) (m n j : ℕ) → j ≤ length ro
     j ≤ rounds_within m n (ends_of rounds)
 within-greatest rounds m n j inside are = elim (cases_lt (rounds_within m n (ends_of rounds)) j) [
   | inl over ↦ absurd (within-next rounds m n (omega (arith, over, inside)) (record {
-      records = omega (arith, are.records, parts-grow records rounds (rounds_within m n (ends_of rounds) + 1) j (omega (arith, over)));
-      lines = omega (arith, are.lines, parts-grow round_lines rounds (rounds_within m n (ends_of rounds) + 1) j (omega (arith, over)));
-    }))
+    records = omega (arith, are.records, parts-grow records rounds (rounds_within m n (ends_of rounds) + 1) j (omega (arith, over)));
+    lines = omega (arith, are.lines, parts-grow round_lines rounds (rounds_within m n (ends_of rounds) + 1) j (omega (arith, over)));
+  }))
   | inr most ↦ most
 ]

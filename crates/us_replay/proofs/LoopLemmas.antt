@@ -1,5 +1,5 @@
 -- The loop over rounds: how state, progress and writers stand after each.
-use Rattle.std.proofs.Common.{◌≡◌, ℕ, zero, suc, ◌+◌, ◌*◌, ◌^◌, ◌<◌, ◌≤◌, List, [], ◌∷◌, ◌++◌, length, replicate, map, take, drop, cond, nat_le, Bool, sum, sum_by, count_by, true, Bool, Option, Err, refl, ap, sym, subst, ◌∙◌, arith}
+use Rattle.std.proofs.Common.{◌≡◌, ℕ, zero, suc, ◌+◌, ◌*◌, ◌^◌, ◌<◌, ◌≤◌, List, [], ◌∷◌, length, replicate, map, take, drop, cond, nat_le, Bool, sum, sum_by, count_by, true, Bool, Option, Err, refl, ap, sym, subst, ◌∙◌, arith}
 use Rattle.std.specs.List.{AllByRecursion, drop-map, range_with_len, zip}
 use Rattle.std.proofs.lemmas.Bool.{and_parts, leb-true}
 use Rattle.std.proofs.lemmas.Nat.{mul-le}
@@ -16,10 +16,9 @@ use Rattle.us_requests.specs.Traces.{TraceAsks, asks_in, asked_before, asks_befo
 use Rattle.us_output.specs.declared.rows.Row.{Row}
 use Rattle.us_round.specs.Rounds.{State, round_of, opening, schedule, final}
 use Rattle.us_output.specs.Outputs.{Scheduled, RoundOut, AreWithinLimits, out_of}
-use Rattle.us_round.specs.FinalRows.{final_rows}
 use Rattle.us_replay.specs.Collecting.{AreAsks}
 use Rattle.us_output.specs.Files.{records, is_granted, is_missed}
-use Rattle.us_lawful.specs.Output.{Output, counts_row, all_rows, judged_of, output_of}
+use Rattle.us_lawful.specs.Output.{Output, all_rows, judged_of, output_of}
 use Rattle.us_output.proofs.PartLemmas.{all_append}
 use Rattle.us_output.specs.Lines.{HasFields}
 use Rattle.us_replay.specs.Replays.{Growth, KeptLimits, Took, TookRounds, grown, summary_of}

@@ -1,5 +1,5 @@
 -- What stands where a run ended early: of each text the parts of so many rounds, and the front of what follows.
-use Rattle.std.proofs.Common.{◌≡◌, ℕ, zero, suc, ◌+◌, ◌<◌, ◌≤◌, ◌⊎◌, Bool, true, List, [], ◌∷◌, ◌++◌, length, take, drop, flat_map, Option, Result, Ok, Err, IsErrAnd, refl, ap, sym, subst, ◌∙◌, inl, inr, arith, append_assoc, append-nil, length-append, length-drop}
+use Rattle.std.proofs.Common.{◌≡◌, ℕ, zero, suc, ◌+◌, ◌<◌, ◌≤◌, ◌⊎◌, Bool, List, [], ◌∷◌, ◌++◌, length, take, drop, flat_map, Option, Result, Ok, Err, IsErrAnd, refl, ap, sym, subst, ◌∙◌, inl, inr, arith, append_assoc, append-nil, length-append, length-drop}
 use Rattle.std.proofs.Math.Seq.{take-add, take-append-add}
 use Rattle.std.proofs.lemmas.Bool.{cases_lt}
 use Rattle.std.proofs.lemmas.Grind.{flat_map-append}
@@ -13,10 +13,10 @@ use Rattle.us_requests.specs.declared.asks.Counts.{Counts}
 use Rattle.us_replay.specs.declared.faults.RunFault.{RunFault}
 use Rattle.us_output.specs.Outputs.{RoundOut}
 use Rattle.us_output.specs.Files.{records, round_lines, lines}
-use Rattle.us_replay.specs.Endings.{Ending, Refused, Stopper, StoppedBy, Maps, Report, Memory, rounds_done}
+use Rattle.us_replay.specs.Endings.{Ending, Refused, StoppedBy, Maps, Report, Memory, rounds_done}
 use Rattle.us_lawful.specs.Output.{Output, maps_text, report_text}
 use Rattle.us_replay.specs.Batches.{Batch, StoppedAtMaps, StoppedAtReport, Sent, ends_of, lines_before, rounds_within}
-use Rattle.us_replay.specs.Replays.{Growth, HasRounds, HasWhole, KeptLimits, Ran, Stopped, StoppedEarly, Took, TookFront, TookLines, TookRounds, grown}
+use Rattle.us_replay.specs.Replays.{Growth, HasRounds, HasWhole, KeptLimits, Ran, Stopped, StoppedEarly, Took, TookLines, TookRounds, grown}
 use Rattle.us_replay.specs.Progress.{Flushed}
 use Rattle.us_replay.proofs.BatchLemmas.{AreWithin, lines-before, parts-grow, parts-most, within-greatest, within-hold, within-most, within-next}
 
@@ -331,13 +331,16 @@ module _ (out : Output) (k : ℕ) (rounds : List RoundOut) (b : Batch) (part : I
               ap (λ bs. flat_map round_lines (take k out.given) ++ bs) front ∙
               sym (take-append-add (flat_map round_lines (take k out.given)) (flat_map round_lines (take w0 rounds)) n) ∙
               ap (take (length (flat_map round_lines (take k out.given)) + n)) (sym (parts-upto round_lines w0 most0)) in
-              inr (inr (both, record {
-                whole = k + w0;
-                has_whole = whole-there m at.short;
-                no_fewer = omega (arith, fewer);
-                bytes = length (flat_map round_lines (take k out.given)) + n;
-                front = subst (Took (grown f h)) text took_report;
-              }))
+              inr (inr (
+                both,
+                record {
+                  whole = k + w0;
+                  has_whole = whole-there m at.short;
+                  no_fewer = omega (arith, fewer);
+                  bytes = length (flat_map round_lines (take k out.given)) + n;
+                  front = subst (Took (grown f h)) text took_report;
+                },
+              ))
         ]),
       )
     where
@@ -351,6 +354,7 @@ module _ (out : Output) (k : ℕ) (rounds : List RoundOut) (b : Batch) (part : I
             ap length part.records_are,
             ap (λ xs. length (flat_map records xs)) (take_all (length rounds) rounds (omega arith)),
           )
+
       same-front : (j n : ℕ) → n ≤ length (flat_map round_lines (take j rounds)) →
           take n b.lines ≡ take n (flat_map round_lines (take j rounds))
       same-front j n short =
@@ -458,8 +462,11 @@ stops-after out k to_maps to_report all took =
     (subst (Took to_maps) (sym (take_all (length (maps_text out)) (maps_text out) (omega arith))) took.0)
     (subst (Took to_report) (sym (take_all (length (report_text out)) (report_text out) (omega arith))) took.1)
     (omega (arith, ap (λ given. length (flat_map records given)) every))
-    (omega (arith, ap (λ given. length (flat_map round_lines given)) every,
-    length-append (flat_map round_lines out.given) (lines out.last)))
+    (omega (
+      arith,
+      ap (λ given. length (flat_map round_lines given)) every,
+      length-append (flat_map round_lines out.given) (lines out.last),
+    ))
     (λ below. absurd (omega (arith, all, below)))).0
 
 pub flushed-all : (out : Output) (a b c d e f : Option (List ℕ)) → TookAll out (grown a b) (grown d e) →

@@ -4,7 +4,6 @@ use Rattle.std.specs.List.{AllByRecursion, position_or_len, range_with_len}
 use Rattle.us_output.specs.Outputs.{RoundOut}
 use Rattle.us_output.specs.declared.rows.Row.{Row}
 use Rattle.us_output.specs.Files.{records, round_lines, lines}
-use Rattle.us_lawful.specs.Output.{Output}
 use Rattle.us_replay.specs.Endings.{Ending, Refused, StoppedBy, Maps, Report, Memory}
 use Rattle.us_replay.specs.Replays.{Growth, Took}
 use Rattle.us_replay.specs.declared.replays.batches.End.{End}

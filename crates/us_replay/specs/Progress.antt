@@ -1,6 +1,6 @@
 -- A replay on its way: the cuts of the trace that was read, what is kept from one round to the next, and what one writing
 -- of texts leaves.
-use Rattle.std.specs.Prelude.{◌≡◌, ℕ, ◌+◌, ◌*◌, ◌^◌, ◌-◌, ◌<◌, ◌≤◌, Bool, true, List, [], ◌∷◌, ◌++◌, length, drop, take, replicate, sum, sum_by, count_by, Option, Result, Ok, Err, OnOk}
+use Rattle.std.specs.Prelude.{◌≡◌, ℕ, ◌+◌, ◌*◌, ◌^◌, ◌-◌, ◌<◌, ◌≤◌, Bool, true, List, [], ◌∷◌, ◌++◌, length, drop, take, replicate, sum, sum_by, count_by, Result, Ok, Err, OnOk}
 use Rattle.std.specs.List.{AllByRecursion}
 use Rattle.std.specs.Io.KnownBytes.{Keeps}
 use Rattle.us_flows.specs.Tables.{Tables, max_run_ticks, rounds_fit}
@@ -22,7 +22,7 @@ use Rattle.us_replay.specs.declared.faults.RunFault.{RunFault}
 use Rattle.us_replay.specs.Collecting.{AreAsks, chunk_quota}
 use Rattle.us_output.specs.Files.{lines, is_granted, is_missed}
 use Rattle.us_lawful.specs.Output.{counts_row, judged_of, Output, all_rows, maps_text, output_of, report_text, run_of}
-use Rattle.us_replay.specs.Endings.{ended, rounds_done, Ending, Refused, StoppedBy, Maps, Report, Memory}
+use Rattle.us_replay.specs.Endings.{ended, rounds_done, Ending, Refused, StoppedBy, Memory}
 use Rattle.us_lawful.specs.Texts.{AreLawful}
 use Rattle.us_output.specs.Lines.{HasFields}
 use Rattle.us_replay.specs.Batches.{Batch, batch_of, no_rounds, with_next}

@@ -1,13 +1,11 @@
 use Rattle.std.proofs.Common.{◌≡◌, ◌<◌, ◌+◌, ◌^◌, ℕ, sym, ap, subst, ◌∙◌, arith, rules}
 use Rattle.us_flows.specs.Tables.{Tables}
 use Rattle.us_requests.specs.Traces.{TraceAsks, cuts_in}
-use Rattle.us_lawful.specs.Output.{Output}
-use Rattle.us_replay.specs.Batches.{Batch, with_next}
 use Rattle.us_replay.specs.Endings.{ending_of}
-use Rattle.us_replay.specs.Replays.{KeptLimits, TookRounds, grown}
+use Rattle.us_replay.specs.Replays.{KeptLimits, grown}
 use Rattle.us_replay.specs.Progress.{Along, CanMake, EndsAs, Holds, Progress, output_in, summary_after}
-use Rattle.us_replay.proofs.ReplayStopLemmas.{flush-stops, flushed-all, flushed-kept, last-sent, part-sent, passed-on, TookAll}
-use Rattle.us_replay.proofs.HeldLemmas.{held, held-part, holds-none}
+use Rattle.us_replay.proofs.ReplayStopLemmas.{flush-stops, flushed-all, flushed-kept, passed-on, TookAll}
+use Rattle.us_replay.proofs.HeldLemmas.{holds-none}
 use Rattle.us_replay.proofs.LoopLemmas.{IsHeld, along-next, along-opening, along-sent, can-make, ends-at-once, fields-last, held-last, held-then, holds-made, last-made, last-took, length-given, next-took, sent-ends, summary-is, wanting-ends}
 use Rattle.us_replay.proofs.replays.run_by.Goals.{then-is_full+in_ok-send, else-is_full}
 use Rattle.us_replay.proofs.replays.run_by.Goals as goal
@@ -135,16 +133,16 @@ loop-done-preserved g c =
             subst (λ p. Holds (output_in t v) (k + 1) (k + 1) p.batch) (sym w.begin_batch.ensures) (holds-none (output_in t v) (k + 1)),
           )
       | else-is_full w ↦ rw (w.progress-is, w.maps-is, w.report-is, w.sent-is) (
-          c.loop-done.invariant.0,
-          next,
-          c.loop-done.invariant.2,
-          c.loop-done.invariant.3,
-          c.loop-done.invariant.4,
-          knows,
-          c.loop-done.invariant.6,
-          c.loop-done.invariant.7,
-          holds,
-        )
+        c.loop-done.invariant.0,
+        next,
+        c.loop-done.invariant.2,
+        c.loop-done.invariant.3,
+        c.loop-done.invariant.4,
+        knows,
+        c.loop-done.invariant.6,
+        c.loop-done.invariant.7,
+        holds,
+      )
     ]
 
 pub returns-in_default-take_last-clause-ends : goal.returns-in_default-take_last-clause-ends
