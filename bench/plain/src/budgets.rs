@@ -56,18 +56,26 @@ impl<'c> Budgets<'c> {
         self.of_channels[channel].costs.of(bytes)
     }
 
+    /// Begins a round with so many minislots, or goes on with more.
     #[inline]
     pub fn set(&mut self, channel: usize, minislots: u32) {
+        self.open |= 1 << channel;
+        self.lower(channel, minislots);
+    }
+
+    #[inline]
+    fn lower(&mut self, channel: usize, minislots: u32) {
         let budget = &mut self.of_channels[channel];
         budget.minislots = minislots;
         budget.carries = budget.capacities[minislots as usize];
-        let is_open = budget.carries > self.least_header;
-        self.open = self.open & !(1 << channel) | Channels::from(is_open) << channel;
+        if budget.carries <= self.least_header {
+            self.open &= !(1 << channel);
+        }
     }
 
     #[inline]
     pub fn spend(&mut self, channel: usize, minislots: u32) {
-        self.set(channel, self.of_channels[channel].minislots - minislots);
+        self.lower(channel, self.of_channels[channel].minislots - minislots);
     }
 
     pub fn give_back(&mut self, channel: usize, minislots: u32) {

@@ -36,8 +36,59 @@ struct Entry {
     poll: Form,
 }
 
+/// By what a channel's minislots become times.
+struct Pace {
+    minislot_log2: u32,
+    /// Minislots of a MAP.
+    len: u32,
+    round_quarters: u32,
+}
+
+impl Pace {
+    /// The minislots of a time, rounded down. One begins every `25 * 2^minislot_log2` quarter microseconds.
+    #[inline]
+    fn floor(&self, quarters: u32) -> u32 {
+        (quarters >> self.minislot_log2) / TICK_QUARTERS
+    }
+
+    /// What makes rounding up of rounding down, where it is added before.
+    #[inline]
+    fn almost_a_minislot(&self) -> u32 {
+        (TICK_QUARTERS << self.minislot_log2) - 1
+    }
+}
+
 impl Entry {
+    /// Settles what is due in a round. Answers the next round in which something is.
+    #[inline]
+    fn settle(&mut self, pace: &Pace, round: u32, board: &mut Board) -> u32 {
+        let begin = round * pace.round_quarters;
+        let end = begin + pace.round_quarters;
+        while self.ideal < end {
+            if self.ideal >= begin {
+                self.is_poll = !self.is_active;
+            }
+            let form = if self.is_poll { &self.poll } else { &self.grant };
+            let closes = self.ideal + self.times.jitter;
+            let first = pace.floor((self.ideal + pace.almost_a_minislot()).saturating_sub(begin));
+            let last = pace.floor(closes - begin).min(pace.len - 1);
+            let (label, k, i) = (form.label, self.k, self.i);
+            let fit = if board.is_full() { None } else { board.earliest_fit(form.minislots, first, last) };
+            if let Some(start) = fit {
+                board.put(start, form.minislots, form.element, Holder::Occurrence { label, k, i });
+            } else if closes < end {
+                board.missed.push(Missed { label, k, i });
+            } else {
+                return round + 1;
+            }
+            let grants = form.grants;
+            self.step(grants);
+        }
+        self.ideal / pace.round_quarters
+    }
+
     /// Goes on to the next occurrence.
+    #[inline]
     fn step(&mut self, grants: u8) {
         self.k += 1;
         if self.k == grants {
@@ -68,9 +119,7 @@ pub struct Calendar {
     /// A board with the contention reserve, and one with both reserves.
     reserved: [Board; 2],
     maintenance_every: u32,
-    minislot_log2: u32,
-    len: u32,
-    round_quarters: u32,
+    pace: Pace,
     rounds: u32,
 }
 
@@ -88,9 +137,11 @@ impl Calendar {
             next_mark: 0,
             reserved: [false, true].map(|has_maintenance| Board::with_reserves(channel, has_maintenance)),
             maintenance_every: channel.maintenance_every,
-            minislot_log2: channel.minislot_log2,
-            len: channel.len,
-            round_quarters: config.round_ticks * TICK_QUARTERS,
+            pace: Pace {
+                minislot_log2: channel.minislot_log2,
+                len: channel.len,
+                round_quarters: config.round_ticks * TICK_QUARTERS,
+            },
             rounds,
         };
         for flow in entries_of(config, place) {
@@ -99,13 +150,19 @@ impl Calendar {
         let mut stations: Vec<_> = config.stations.iter().filter(|station| station.channel == place).collect();
         stations.sort_by_key(|station| station.id);
         for station in stations {
-            let label = Label { word: "station", id: station.id, sid: station.sid, iuc: STATION_MAINTENANCE, minislots: channel.station_minislots };
+            let label = Label {
+                word: "station",
+                id: station.id,
+                sid: station.sid,
+                iuc: STATION_MAINTENANCE,
+                minislots: channel.station_minislots,
+            };
             let form = calendar.form(label, 1);
             calendar.add(station.times, form, form);
         }
         calendar.wheel = Wheel::new(calendar.entries.len());
         for entry in 0..calendar.entries.len() {
-            calendar.note(0, calendar.entries[entry].ideal / calendar.round_quarters, entry);
+            calendar.note(0, calendar.entries[entry].ideal / calendar.pace.round_quarters, entry);
         }
         calendar
     }
@@ -180,48 +237,10 @@ impl Calendar {
             while bits != 0 {
                 let entry = word * u64::BITS as usize + bits.trailing_zeros() as usize;
                 bits &= bits - 1;
-                let next = self.settle(round, entry, board);
+                let next = self.entries[entry].settle(&self.pace, round, board);
                 self.note(round, next, entry);
             }
         }
-    }
-
-    /// The minislots of a time. A minislot begins every `25 * 2^minislot_log2` quarter microseconds.
-    #[inline]
-    fn minislots(&self, quarters: u32) -> u32 {
-        (quarters >> self.minislot_log2) / TICK_QUARTERS
-    }
-
-    /// Settles what is due of an entry in a round. Answers the next round in which something is.
-    #[inline]
-    fn settle(&mut self, round: u32, place: usize, board: &mut Board) -> u32 {
-        let begin = round * self.round_quarters;
-        let end = begin + self.round_quarters;
-        let almost_a_minislot = (TICK_QUARTERS << self.minislot_log2) - 1;
-        let mut ideal = self.entries[place].ideal;
-        while ideal < end {
-            let closes = ideal + self.entries[place].times.jitter;
-            let first = self.minislots((ideal + almost_a_minislot).saturating_sub(begin));
-            let last = self.minislots(closes - begin).min(self.len - 1);
-            let entry = &mut self.entries[place];
-            if ideal >= begin {
-                entry.is_poll = !entry.is_active;
-            }
-            let form = if entry.is_poll { &entry.poll } else { &entry.grant };
-            let (label, k, i) = (form.label, entry.k, entry.i);
-            let fit = if board.is_full() { None } else { board.earliest_fit(form.minislots, first, last) };
-            if let Some(start) = fit {
-                board.put(start, form.minislots, form.element, Holder::Occurrence { label, k, i });
-            } else if closes < end {
-                board.missed.push(Missed { label, k, i });
-            } else {
-                return round + 1;
-            }
-            let grants = form.grants;
-            entry.step(grants);
-            ideal = entry.ideal;
-        }
-        ideal / self.round_quarters
     }
 }
 

@@ -217,7 +217,11 @@ fn flow(mut table: Table, channels: &[Channel]) -> Result<Flow, Fault> {
             .map(|id| place_of(channels, id))
             .collect::<Result<_, _>>()?,
         clusters: clusters(&table.list("clusters")?)?,
-        service: if makes_requests { Service::Requests(requests(&mut table)?) } else { Service::Grants(grants(&mut table)?) },
+        service: if makes_requests {
+            Service::Requests(requests(&mut table)?)
+        } else {
+            Service::Grants(grants(&mut table)?)
+        },
         times: if kind == Type::BestEffort { None } else { Some(times(&mut table)?) },
     };
     let (most_channels, most_clusters) = if makes_requests { (8, 2) } else { (1, 1) };

@@ -3,7 +3,7 @@
 use crate::board::{Board, Grant, Holder};
 use crate::calendar::Label;
 use crate::planner::Seat;
-use crate::text::{Piece, Text};
+use crate::text::{Part, Piece, Text};
 
 /// No G or M line has as many bytes, nor does one with what is written behind it.
 const LINE_BYTES: usize = 128;
@@ -47,56 +47,58 @@ impl Liner {
         Liner { channel: Piece::new(&format!("{id},")), labels: labels.iter().map(LabelPieces::new).collect() }
     }
 
-    /// Puts the lines of a round there. The numbers of the board's grants stand in the order of their starts.
-    pub fn put(&self, round: u32, board: &Board, order: &[u8], seats: &SeatPieces, text: &mut Text) {
-        let lines = order.len() + board.missed.len();
-        if lines == 0 {
+    /// Adds the lines of a round. The numbers of the board's grants stand in the order of their starts.
+    pub fn add(&self, round: u32, board: &Board, order: &[u8], seats: &SeatPieces, text: &mut Text) {
+        if order.is_empty() && board.missed.is_empty() {
             return;
         }
-        text.make_room((lines + 1) * LINE_BYTES);
-        let granted = self.front(round, text);
+        let granted = self.front(round);
         for number in order {
-            text.put(&granted);
-            self.put_granted(&board.grants[*number as usize], seats, text);
+            text.add::<LINE_BYTES>(|line| {
+                line.put(&granted);
+                self.put_granted(&board.grants[*number as usize], seats, line);
+            });
         }
         let front = granted.with_first(b'M');
         for missed in &board.missed {
-            text.put(&front);
-            text.put(&self.labels[missed.label as usize].entry);
-            text.put_number(missed.i);
-            text.put_number(u32::from(missed.k));
-            text.end_line();
+            text.add::<LINE_BYTES>(|line| {
+                line.put(&front);
+                line.put(&self.labels[missed.label as usize].entry);
+                line.put_number(missed.i);
+                line.put_number(u32::from(missed.k));
+                line.end_line();
+            });
         }
     }
 
-    /// `G,round,channel,`, put together at the end of the text.
-    fn front(&self, round: u32, text: &mut Text) -> Piece<16> {
-        let begin = text.len();
-        text.put_bytes(b"G,");
-        text.put_number(round);
-        text.put(&self.channel);
-        text.take_from(begin)
+    /// `G,round,channel,`
+    fn front(&self, round: u32) -> Piece<24> {
+        Piece::build(|front| {
+            front.put_bytes(b"G,");
+            front.put_number(round);
+            front.put(&self.channel);
+        })
     }
 
-    #[inline]
-    fn put_granted(&self, grant: &Grant, seats: &SeatPieces, text: &mut Text) {
+    #[inline(always)]
+    fn put_granted(&self, grant: &Grant, seats: &SeatPieces, line: &mut Part<LINE_BYTES>) {
         match grant.holder {
             Holder::Occurrence { label, k, i } => {
                 let label = &self.labels[label as usize];
-                text.put(&label.entry);
-                text.put_number(i);
-                text.put_number(u32::from(k));
-                text.put(&label.owner);
-                text.put_number(grant.start());
-                text.put(&label.minislots);
+                line.put(&label.entry);
+                line.put_number(i);
+                line.put_number(u32::from(k));
+                line.put(&label.owner);
+                line.put_number(grant.start());
+                line.put(&label.minislots);
             }
             Holder::Request { seat, credit } => {
-                text.put(&seats.0[seat as usize]);
-                text.put_number(grant.iuc());
-                text.put_number(grant.start());
-                text.put_number(u32::from(grant.minislots));
-                text.put_number(credit);
-                text.end_line();
+                line.put(&seats.0[seat as usize]);
+                line.put_number(grant.iuc());
+                line.put_number(grant.start());
+                line.put_number(u32::from(grant.minislots));
+                line.put_number(credit);
+                line.end_line();
             }
         }
     }

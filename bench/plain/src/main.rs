@@ -63,7 +63,14 @@ impl Words {
         }
         let [config, trace, maps, report, rounds, workers] = given;
         let workers = workers.map_or(Some(1), |word| word.parse().ok())?;
-        Some(Words { config: config?, trace: trace?, maps: maps?, report: report?, rounds: rounds?.parse().ok()?, workers })
+        Some(Words {
+            config: config?,
+            trace: trace?,
+            maps: maps?,
+            report: report?,
+            rounds: rounds?.parse().ok()?,
+            workers,
+        })
     }
 }
 
@@ -87,7 +94,8 @@ fn run(words: &Words) -> Result<String, Fault> {
     let report = of_file(File::create(&words.report), &words.report)?;
     let trace = trace::read(&text, &config, words.rounds).map_err(|fault| format!("{}: {fault}", words.trace))?;
     drop(text);
-    let lines = of_file(replay::replay(&config, &trace, words.rounds, words.workers as usize, &maps, &report), "output")?;
+    let lines =
+        of_file(replay::replay(&config, &trace, words.rounds, words.workers as usize, &maps, &report), "output")?;
     let trace::Passed { unknown, not_requestable, late } = trace.passed;
     Ok(format!(
         "rounds {} granted {} missed {} unknown {unknown} not_requestable {not_requestable} late {late}",

@@ -86,7 +86,10 @@ impl<'c> Planner<'c> {
             first_channels: 0,
         };
         // in table order: a cluster, with its flow's place among those that make requests
-        let clusters = requesting.iter().enumerate().flat_map(|(place, (flow, _))| (0..flow.clusters.len()).map(move |n| (place, n)));
+        let clusters = requesting
+            .iter()
+            .enumerate()
+            .flat_map(|(place, (flow, _))| (0..flow.clusters.len()).map(move |n| (place, n)));
         let mut order: Vec<(usize, (usize, usize))> = clusters.enumerate().collect();
         order.sort_by_key(|(_, (place, cluster))| {
             let (flow, requests) = requesting[*place];

@@ -2,7 +2,7 @@
 
 use crate::board::{element, Board};
 use crate::config::Channel;
-use crate::text::Text;
+use crate::text::{Part, Text};
 
 const NOBODY: u32 = 0;
 const BROADCAST: u32 = 0x3fff;
@@ -15,6 +15,10 @@ const FRONT_BYTES: usize = 6;
 const HEAD_BYTES: usize = 16;
 const ELEMENT_BYTES: usize = 4;
 const MOST_ELEMENTS: usize = 240;
+const RECORD_BYTES: usize = FRONT_BYTES + HEAD_BYTES + MOST_ELEMENTS * ELEMENT_BYTES;
+/// Where the length of the body and the number of elements stand.
+const LENGTH_AT: usize = 4;
+const COUNT_AT: usize = FRONT_BYTES + 2;
 
 /// What the records of a channel are made by.
 pub struct Recorder {
@@ -46,56 +50,62 @@ impl Recorder {
         }
     }
 
-    /// Puts the record of a round there. The numbers of the board's grants stand in the order of their starts.
-    pub fn put(&self, round: u32, board: &Board, order: &[u8], text: &mut Text) {
-        text.make_room(FRONT_BYTES + HEAD_BYTES + MOST_ELEMENTS * ELEMENT_BYTES);
-        let begin = text.len();
-        self.put_head(round, text);
+    /// Adds the record of a round. The numbers of the board's grants stand in the order of their starts.
+    pub fn add(&self, round: u32, board: &Board, order: &[u8], text: &mut Text) {
+        text.add::<RECORD_BYTES>(|record| {
+            self.put_head(round, record);
+            self.put_elements(board, order, record);
+            let body = record.len() - FRONT_BYTES;
+            record.set(LENGTH_AT, &(body as u16).to_be_bytes());
+            record.set(COUNT_AT, &[((body - HEAD_BYTES) / ELEMENT_BYTES) as u8]);
+        });
+    }
+
+    /// Puts the front and the head there, but for the length and the number of elements.
+    #[inline(always)]
+    fn put_head(&self, round: u32, record: &mut Part<RECORD_BYTES>) {
+        let ack_time = (round * self.round_ticks).saturating_sub(self.lead_ticks) >> self.minislot_log2;
+        record.put_bytes(&round.to_be_bytes());
+        record.put_bytes(&[0, 0, self.id, self.ucd_count, 0, 0]);
+        record.put_bytes(&(round * self.len).to_be_bytes());
+        record.put_bytes(&ack_time.to_be_bytes());
+        record.put_bytes(&self.backoffs);
+    }
+
+    #[inline(always)]
+    fn put_elements(&self, board: &Board, order: &[u8], record: &mut Part<RECORD_BYTES>) {
         let mut end = 0;
         if board.has_maintenance {
-            put_element(text, element(BROADCAST, INITIAL_MAINTENANCE));
+            put_element(record, element(BROADCAST, INITIAL_MAINTENANCE));
             end = self.maintenance_minislots;
         }
         for number in order {
             let grant = &board.grants[*number as usize];
-            self.put_gap(end, grant.start(), text);
-            put_element(text, grant.element);
+            self.put_gap(end, grant.start(), record);
+            put_element(record, grant.element);
             end = grant.start() + u32::from(grant.minislots);
         }
-        self.put_gap(end, self.len - self.contention_minislots, text);
+        self.put_gap(end, self.len - self.contention_minislots, record);
         if self.contention_minislots > 0 {
-            put_element(text, element(BROADCAST, REQUEST) | (self.len - self.contention_minislots));
+            put_element(record, element(BROADCAST, REQUEST) | (self.len - self.contention_minislots));
         }
-        put_element(text, element(NOBODY, NULL) | self.len);
+        put_element(record, element(NOBODY, NULL) | self.len);
         for sid in &board.pendings {
-            put_element(text, element(u32::from(*sid), DATA_GRANT_PENDING) | self.len);
+            put_element(record, element(u32::from(*sid), DATA_GRANT_PENDING) | self.len);
         }
-        let body = text.len() - begin - FRONT_BYTES;
-        text.set(begin + 4, &(body as u16).to_be_bytes());
-        text.set(begin + FRONT_BYTES + 2, &[((body - HEAD_BYTES) / ELEMENT_BYTES) as u8]);
-    }
-
-    /// Puts the front and the head there, but for the length and the number of elements.
-    fn put_head(&self, round: u32, text: &mut Text) {
-        let ack_time = (round * self.round_ticks).saturating_sub(self.lead_ticks) >> self.minislot_log2;
-        text.put_bytes(&round.to_be_bytes());
-        text.put_bytes(&[0, 0, self.id, self.ucd_count, 0, 0]);
-        text.put_bytes(&(round * self.len).to_be_bytes());
-        text.put_bytes(&ack_time.to_be_bytes());
-        text.put_bytes(&self.backoffs);
     }
 
     /// Puts the element of the idle minislots there that end at `end`, if there are any.
-    #[inline]
-    fn put_gap(&self, start: u32, end: u32, text: &mut Text) {
+    #[inline(always)]
+    fn put_gap(&self, start: u32, end: u32, record: &mut Part<RECORD_BYTES>) {
         if start < end {
             let sid = if end - start >= self.request_minislots { BROADCAST } else { NOBODY };
-            put_element(text, element(sid, REQUEST) | start);
+            put_element(record, element(sid, REQUEST) | start);
         }
     }
 }
 
 #[inline(always)]
-fn put_element(text: &mut Text, element: u32) {
-    text.put_bytes(&element.to_be_bytes());
+fn put_element(record: &mut Part<RECORD_BYTES>, element: u32) {
+    record.put_bytes(&element.to_be_bytes());
 }

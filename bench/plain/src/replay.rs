@@ -23,7 +23,7 @@ use std::thread;
 const BATCH_BYTES: usize = 1 << 16;
 const SHARED_BATCH_BYTES: usize = 1 << 20;
 const FIRST_BATCH_ROUNDS: usize = 16;
-const MOST_BATCH_ROUNDS: usize = 1_024;
+const MOST_BATCH_ROUNDS: usize = 256;
 /// Several workers divide the texts of a batch into so many parts each.
 const PARTS_OF_A_WORKER: usize = 2;
 
@@ -89,8 +89,8 @@ impl Sheet {
 
     fn write_map(&mut self, form: &Form, channel: usize, round: u32, board: &Board) {
         let order = self.starts.order(board, form.lens[channel]);
-        form.recorders[channel].put(round, board, order, &mut self.maps);
-        form.liners[channel].put(round, board, order, &form.seats, &mut self.report);
+        form.recorders[channel].add(round, board, order, &mut self.maps);
+        form.liners[channel].add(round, board, order, &form.seats, &mut self.report);
         self.lines.granted += board.grants.len();
         self.lines.missed += board.missed.len();
     }
@@ -185,7 +185,11 @@ fn form(config: &Config, calendars: &[Calendar], planner: &Planner) -> Form {
     let recorder = |channel| Recorder::new(channel, config.round_ticks, config.lead_ticks);
     Form {
         recorders: channels.iter().map(recorder).collect(),
-        liners: channels.iter().zip(calendars).map(|(channel, calendar)| Liner::new(channel.id, &calendar.labels)).collect(),
+        liners: channels
+            .iter()
+            .zip(calendars)
+            .map(|(channel, calendar)| Liner::new(channel.id, &calendar.labels))
+            .collect(),
         seats: SeatPieces::new(&planner.seats),
         lens: channels.iter().map(|channel| channel.len).collect(),
     }
@@ -200,7 +204,11 @@ fn write_tasks<'b>(form: &'b Form, batch: &'b Batch, sheets: &'b mut [Sheet]) ->
 fn fill_tasks<'b>(calendars: &'b mut [Calendar], batch: &'b mut Batch) -> impl Iterator<Item = Task<'b>> {
     let (first, rounds) = (batch.first, batch.rounds);
     let boards = batch.boards.iter_mut();
-    let task = move |(calendar, boards): (_, &'b mut Vec<Board>)| Task::Fill { calendar, boards: &mut boards[..rounds], first };
+    let task = move |(calendar, boards): (_, &'b mut Vec<Board>)| Task::Fill {
+        calendar,
+        boards: &mut boards[..rounds],
+        first,
+    };
     calendars.iter_mut().zip(boards).map(task)
 }
 
@@ -218,7 +226,13 @@ fn rounds_of_batch(rounds: usize, bytes: usize, workers: usize) -> Option<usize>
 }
 
 /// The lines that stand behind those of all rounds.
-fn last_lines(config: &Config, trace: &Trace, calendars: &[Calendar], planner: &mut Planner, last_round: u32) -> String {
+fn last_lines(
+    config: &Config,
+    trace: &Trace,
+    calendars: &[Calendar],
+    planner: &mut Planner,
+    last_round: u32,
+) -> String {
     let mut lines = String::new();
     let mut states = planner.states(last_round).into_iter();
     for flow in config.flows.iter().filter(|flow| matches!(flow.service, Service::Requests(_))) {

@@ -14,6 +14,16 @@ impl<const N: usize> Piece<N> {
         Piece { bytes, len: text.len() as u8 }
     }
 
+    /// A piece that is put together, with what is written behind its end.
+    #[inline(always)]
+    pub fn build(put: impl FnOnce(&mut Part<N>)) -> Self {
+        let mut bytes = [0; N];
+        let mut part = Part { bytes: &mut bytes, len: 0 };
+        put(&mut part);
+        let len = part.len as u8;
+        Piece { bytes, len }
+    }
+
     /// The same with another first byte.
     pub fn with_first(mut self, byte: u8) -> Self {
         self.bytes[0] = byte;
@@ -33,7 +43,13 @@ const fn numbers(has_zeros: bool) -> [Piece<4>; THOUSAND] {
     let mut number = 0;
     while number < THOUSAND {
         let digits = [number / 100, number / 10 % 10, number % 10];
-        let mut place = if has_zeros || number >= 100 { 0 } else if number >= 10 { 1 } else { 2 };
+        let mut place = if has_zeros || number >= 100 {
+            0
+        } else if number >= 10 {
+            1
+        } else {
+            2
+        };
         let piece = &mut pieces[number];
         while place < 3 {
             piece.bytes[piece.len as usize] = b'0' + digits[place] as u8;
@@ -46,7 +62,7 @@ const fn numbers(has_zeros: bool) -> [Piece<4>; THOUSAND] {
     pieces
 }
 
-/// Bytes in the making. Who puts something there has asked for room before.
+/// The bytes of a file in the making.
 #[derive(Default)]
 pub struct Text {
     bytes: Vec<u8>,
@@ -54,14 +70,6 @@ pub struct Text {
 }
 
 impl Text {
-    /// Makes room for so many bytes more.
-    #[inline]
-    pub fn make_room(&mut self, more: usize) {
-        if self.bytes.len() - self.len < more {
-            self.bytes.resize(2 * (self.len + more), 0);
-        }
-    }
-
     pub fn clear(&mut self) {
         self.len = 0;
     }
@@ -74,39 +82,48 @@ impl Text {
         &self.bytes[..self.len]
     }
 
+    /// Adds a part of at most `N` bytes, what is written behind its end among them.
+    #[inline(always)]
+    pub fn add<const N: usize>(&mut self, put: impl FnOnce(&mut Part<N>)) {
+        if self.bytes.len() - self.len < N {
+            self.bytes.resize(2 * self.bytes.len() + N, 0);
+        }
+        let mut part = Part { bytes: self.bytes[self.len..].first_chunk_mut().expect("there is room"), len: 0 };
+        put(&mut part);
+        self.len += part.len;
+    }
+}
+
+/// A part of a text that is being put together.
+pub struct Part<'t, const N: usize> {
+    bytes: &'t mut [u8; N],
+    len: usize,
+}
+
+impl<const N: usize> Part<'_, N> {
+    #[inline(always)]
+    pub fn len(&self) -> usize {
+        self.len
+    }
+
     /// Puts bytes there, all of which are written and some of which stay.
     #[inline(always)]
-    fn put_first<const N: usize>(&mut self, bytes: &[u8; N], len: usize) {
-        *self.bytes[self.len..].first_chunk_mut().expect("there is room") = *bytes;
+    fn put_first<const M: usize>(&mut self, bytes: &[u8; M], len: usize) {
+        *self.bytes[self.len..].first_chunk_mut().expect("a part is long enough") = *bytes;
         self.len += len;
     }
 
     #[inline(always)]
-    pub fn put<const N: usize>(&mut self, piece: &Piece<N>) {
+    pub fn put<const M: usize>(&mut self, piece: &Piece<M>) {
         self.put_first(&piece.bytes, piece.len as usize);
     }
 
     #[inline(always)]
-    pub fn put_bytes<const N: usize>(&mut self, bytes: &[u8; N]) {
-        self.put_first(bytes, N);
+    pub fn put_bytes<const M: usize>(&mut self, bytes: &[u8; M]) {
+        self.put_first(bytes, M);
     }
 
-    /// Takes away what was put there from `begin` on.
-    #[inline(always)]
-    pub fn take_from<const N: usize>(&mut self, begin: usize) -> Piece<N> {
-        let bytes = *self.bytes[begin..].first_chunk().expect("these bytes stand there");
-        let len = (self.len - begin) as u8;
-        self.len = begin;
-        Piece { bytes, len }
-    }
-
-    /// Overwrites bytes that stand there.
-    #[inline(always)]
-    pub fn set<const N: usize>(&mut self, at: usize, bytes: &[u8; N]) {
-        *self.bytes[at..].first_chunk_mut().expect("these bytes stand there") = *bytes;
-    }
-
-    /// Puts a number and a comma there.
+    /// Puts a number below 1,000,000,000 and a comma there.
     #[inline(always)]
     pub fn put_number(&mut self, number: u32) {
         match NUMBERS.get(number as usize) {
@@ -115,15 +132,29 @@ impl Text {
         }
     }
 
+    #[inline(always)]
     fn put_great_number(&mut self, number: u32) {
-        self.put_number(number / THOUSAND as u32);
+        let (thousands, rest) = (number as usize / THOUSAND, number as usize % THOUSAND);
+        if let Some(piece) = NUMBERS.get(thousands) {
+            self.put(piece);
+        } else {
+            self.put(&NUMBERS[thousands / THOUSAND]);
+            self.len -= 1;
+            self.put(&THREE_DIGITS[thousands % THOUSAND]);
+        }
         self.len -= 1;
-        self.put(&THREE_DIGITS[number as usize % THOUSAND]);
+        self.put(&THREE_DIGITS[rest]);
     }
 
     /// Puts a line feed where the last comma stands.
     #[inline(always)]
     pub fn end_line(&mut self) {
         self.bytes[self.len - 1] = b'\n';
+    }
+
+    /// Overwrites bytes that stand there.
+    #[inline(always)]
+    pub fn set<const M: usize>(&mut self, at: usize, bytes: &[u8; M]) {
+        *self.bytes[at..].first_chunk_mut().expect("these bytes stand there") = *bytes;
     }
 }
