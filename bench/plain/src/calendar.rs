@@ -1,6 +1,7 @@
 //! What a channel grants at intervals, without a request: unsolicited grants, polls and station maintenance. Times are
 //! in quarter microseconds.
 
+use crate::bits::{ones, WORD};
 use crate::board::{element, Board, Holder, Missed};
 use crate::config::{Channel, Config, Flow, Service, Times, Type};
 use crate::trace::Mark;
@@ -233,10 +234,8 @@ impl Calendar {
         self.hear(round);
         self.wheel.turn(round);
         for word in 0..self.wheel.words() {
-            let mut bits = self.wheel.take(round, word);
-            while bits != 0 {
-                let entry = word * u64::BITS as usize + bits.trailing_zeros() as usize;
-                bits &= bits - 1;
+            for bit in ones(self.wheel.take(round, word)) {
+                let entry = word * WORD + bit;
                 let next = self.entries[entry].settle(&self.pace, round, board);
                 self.note(round, next, entry);
             }

@@ -1,9 +1,11 @@
 //! The lines of the report.
 
 use crate::board::{Board, Grant, Holder};
-use crate::calendar::Label;
-use crate::planner::Seat;
+use crate::calendar::{Calendar, Label};
+use crate::config::{Config, Service, Type};
+use crate::planner::{Seat, State};
 use crate::text::{Part, Piece, Text};
+use crate::trace::Passed;
 
 /// No G or M line has as many bytes, nor does one with what is written behind it.
 const LINE_BYTES: usize = 128;
@@ -102,4 +104,22 @@ impl Liner {
             }
         }
     }
+}
+
+/// The lines that stand behind those of all rounds: what each cluster has outstanding and its flow's bucket holds, which
+/// flows are active, and how many rows of the trace were passed over.
+pub fn last(config: &Config, states: &[State], calendars: &[Calendar], passed: &Passed) -> String {
+    let mut lines = String::new();
+    let mut states = states.iter();
+    for flow in config.flows.iter().filter(|flow| matches!(flow.service, Service::Requests(_))) {
+        for (cluster, State { outstanding, units }) in (0..flow.clusters.len()).zip(&mut states) {
+            let units = units.map_or("-".to_string(), |units| units.to_string());
+            lines += &format!("F,{},{cluster},{outstanding},{units}\n", flow.id);
+        }
+    }
+    for flow in config.flows.iter().filter(|flow| flow.kind == Type::ActivityDetection) {
+        let is_active = calendars[flow.channels[0]].is_active(flow.id);
+        lines += &format!("A,{},{}\n", flow.id, u8::from(is_active));
+    }
+    lines + &format!("U,{},{},{}\n", passed.unknown, passed.not_requestable, passed.late)
 }

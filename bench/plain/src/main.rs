@@ -9,9 +9,10 @@
 //! - `board`: the minislots of one MAP
 //! - `calendar`, `wheel`: what a channel grants at intervals
 //! - `planner`, `limits`, `budgets`: what is granted of what was asked for
-//! - `starts`, `text`, `records`, `lines`: maps file and report
+//! - `text`, `starts`, `records`, `lines`, `sheets`: maps file and report
 //! - `replay`: all rounds, by one worker or several
 
+mod bits;
 mod board;
 mod budgets;
 mod bursts;
@@ -22,6 +23,7 @@ mod lines;
 mod planner;
 mod records;
 mod replay;
+mod sheets;
 mod starts;
 mod text;
 mod toml;

@@ -1,14 +1,15 @@
 //! What a round grants of what was asked for. SID clusters have their turns one after another: each is planned shares on
 //! the channels of its flow, which are placed at once, since no plan depends on where grants are placed.
 
+use crate::bits::{ones, Set, WORD};
 use crate::board::{element, Board, Holder, MOST_PENDINGS};
 use crate::budgets::{Budgets, Channels, HEADER_BYTES};
 use crate::bursts::Cost;
 use crate::config::{Config, Flow, Requests, Service};
 use crate::limits::Limits;
 use crate::trace::Ask;
+use std::cmp::Reverse;
 
-const WORD: usize = u64::BITS as usize;
 /// A flow has at most so many channels.
 const MOST_SEATS: usize = 8;
 
@@ -21,6 +22,12 @@ pub struct Seat {
     pub sid: u32,
     pub flow: u32,
     pub cluster: u32,
+}
+
+/// What a cluster has outstanding, and the units in its flow's bucket, if it has one.
+pub struct State {
+    pub outstanding: u64,
+    pub units: Option<u64>,
 }
 
 #[derive(Clone, Copy)]
@@ -58,10 +65,10 @@ pub struct Planner<'c> {
     /// By flow.
     limits: Vec<Limits>,
     budgets: Budgets<'c>,
-    /// A bit for each turn of which bytes are outstanding.
-    asking: Vec<u64>,
-    /// A bit for each turn of a flow with a minimum rate.
-    with_reserve: Vec<u64>,
+    /// Turns of which bytes are outstanding.
+    asking: Set,
+    /// Turns of flows with a minimum rate.
+    with_reserve: Set,
     /// First shares by turn, while a round is planned, and how many turns have some.
     firsts: Vec<Shares>,
     turns_with_firsts: u32,
@@ -79,34 +86,32 @@ impl<'c> Planner<'c> {
             turn_of: Vec::new(),
             limits: requesting.iter().map(|(_, requests)| Limits::new(requests, config.round_ticks)).collect(),
             budgets: Budgets::new(&config.channels, least_header),
-            asking: Vec::new(),
-            with_reserve: Vec::new(),
+            asking: Set::new(0),
+            with_reserve: Set::new(0),
             firsts: Vec::new(),
             turns_with_firsts: 0,
             first_channels: 0,
         };
-        // in table order: a cluster, with its flow's place among those that make requests
-        let clusters = requesting
-            .iter()
-            .enumerate()
-            .flat_map(|(place, (flow, _))| (0..flow.clusters.len()).map(move |n| (place, n)));
-        let mut order: Vec<(usize, (usize, usize))> = clusters.enumerate().collect();
-        order.sort_by_key(|(_, (place, cluster))| {
-            let (flow, requests) = requesting[*place];
-            (u32::MAX - requests.priority, flow.id, *cluster)
+        // each cluster in table order: its flow's place among those that make requests, and its own in the flow
+        let clusters = |(place, (flow, _)): (usize, &(&Flow, _))| (0..flow.clusters.len()).map(move |n| (place, n));
+        let clusters: Vec<_> = requesting.iter().enumerate().flat_map(clusters).collect();
+        let mut order: Vec<usize> = (0..clusters.len()).collect();
+        order.sort_by_key(|number| {
+            let (place, cluster) = clusters[*number];
+            let (flow, requests) = requesting[place];
+            (Reverse(requests.priority), flow.id, cluster)
         });
         planner.turn_of = vec![0; order.len()];
-        for (number, (place, cluster)) in order {
-            planner.turn_of[number] = planner.turns.len();
+        for (turn, number) in order.into_iter().enumerate() {
+            let (place, cluster) = clusters[number];
+            planner.turn_of[number] = turn;
             planner.add_turn(requesting[place], place, cluster);
         }
         planner.firsts = vec![[0; MOST_SEATS]; planner.turns.len()];
-        planner.asking = vec![0; planner.turns.len().div_ceil(WORD)];
-        planner.with_reserve = planner.asking.clone();
-        for turn in 0..planner.turns.len() {
-            if planner.limits[planner.turns[turn].limits].has_reserve() {
-                planner.with_reserve[turn / WORD] |= 1 << (turn % WORD);
-            }
+        planner.asking = Set::new(planner.turns.len());
+        planner.with_reserve = Set::new(planner.turns.len());
+        for (number, turn) in planner.turns.iter().enumerate() {
+            planner.with_reserve.insert_if(number, planner.limits[turn.limits].has_reserve());
         }
         planner
     }
@@ -123,11 +128,11 @@ impl<'c> Planner<'c> {
         self.turns.push(Turn { outstanding: 0, limits, seats, seats_end, header: header_of(requests), channels });
     }
 
-    /// The bytes that are outstanding of each cluster, in table order, and the units in its flow's bucket in a round.
-    pub fn states(&mut self, round: u32) -> Vec<(u64, Option<u64>)> {
+    /// How each cluster stands in a round, in table order.
+    pub fn states(&mut self, round: u32) -> Vec<State> {
         let state = |turn: &usize| {
             let turn = &self.turns[*turn];
-            (turn.outstanding, self.limits[turn.limits].units_in(round))
+            State { outstanding: turn.outstanding, units: self.limits[turn.limits].units_in(round) }
         };
         self.turn_of.iter().map(state).collect()
     }
@@ -137,7 +142,7 @@ impl<'c> Planner<'c> {
         for ask in cut {
             self.take_in(ask);
         }
-        if self.asking.iter().all(|bits| *bits == 0) {
+        if self.asking.is_empty() {
             return;
         }
         for channel in 0..boards.of_rounds.len() {
@@ -151,16 +156,14 @@ impl<'c> Planner<'c> {
     fn take_in(&mut self, ask: &Ask) {
         let turn = self.turn_of[ask.cluster as usize];
         self.turns[turn].outstanding += u64::from(ask.bytes);
-        self.asking[turn / WORD] |= u64::from(ask.bytes > 0) << (turn % WORD);
+        self.asking.insert_if(turn, ask.bytes > 0);
     }
 
     /// Plans the first shares of all turns: what is reserved for their flows.
     fn plan_reserves(&mut self, round: u32) {
-        for word in 0..self.asking.len() {
-            let mut bits = self.asking[word] & self.with_reserve[word];
-            while bits != 0 {
-                self.plan_reserve(word * WORD + bits.trailing_zeros() as usize, round);
-                bits &= bits - 1;
+        for word in 0..self.asking.words.len() {
+            for bit in ones(self.asking.words[word] & self.with_reserve.words[word]) {
+                self.plan_reserve(word * WORD + bit, round);
             }
         }
     }
@@ -203,11 +206,9 @@ impl<'c> Planner<'c> {
     /// Goes through the turns that ask. It ends once no channel carries a byte more and no list of pendings has room.
     fn serve_turns(&mut self, round: u32, boards: &mut Boards) {
         let mut open_lists = self.first_channels;
-        for word in 0..self.asking.len() {
-            let mut bits = self.asking[word];
-            while bits != 0 {
-                let number = word * WORD + bits.trailing_zeros() as usize;
-                bits &= bits - 1;
+        for word in 0..self.asking.words.len() {
+            for bit in ones(self.asking.words[word]) {
+                let number = word * WORD + bit;
                 if self.serve_turn(number, round, boards) == 0 {
                     self.list_pending(number, &mut open_lists, boards);
                 }
@@ -250,7 +251,7 @@ impl<'c> Planner<'c> {
         }
         self.limits[turn.limits].credit(credit);
         self.turns[number].outstanding -= credit;
-        self.asking[number / WORD] &= !(u64::from(turn.outstanding == credit) << (number % WORD));
+        self.asking.remove_if(number, turn.outstanding == credit);
         credit
     }
 

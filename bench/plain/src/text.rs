@@ -74,10 +74,6 @@ impl Text {
         self.len = 0;
     }
 
-    pub fn len(&self) -> usize {
-        self.len
-    }
-
     pub fn as_bytes(&self) -> &[u8] {
         &self.bytes[..self.len]
     }

@@ -1,11 +1,11 @@
 //! Which entries of a calendar are looked at in which round.
 
+use crate::bits::WORD;
 use std::cmp::Reverse;
 use std::collections::BinaryHeap;
 
 /// Rounds that are near.
 const NEAR: u32 = 64;
-const WORD: usize = u64::BITS as usize;
 
 /// For each of the next rounds a set of entries, as bits; and a heap of those that are noted for a later round.
 pub struct Wheel {
