@@ -1,6 +1,7 @@
 //! The board of a MAP: which minislots are idle, and what is granted.
 
 use crate::config::Channel;
+use crate::elements::{iuc, offset};
 
 /// A MAP has at most so many assignments, reserves among them.
 const MOST_ASSIGNMENTS: u32 = 100;
@@ -19,7 +20,7 @@ pub enum Holder {
 
 #[derive(Clone, Copy)]
 pub struct Grant {
-    /// SID, IUC and offset as a MAP has them.
+    /// Its SID, its IUC and its start.
     pub element: u32,
     pub minislots: u16,
     pub holder: Holder,
@@ -27,11 +28,11 @@ pub struct Grant {
 
 impl Grant {
     pub fn start(&self) -> u32 {
-        self.element & 0x3fff
+        offset(self.element)
     }
 
     pub fn iuc(&self) -> u32 {
-        self.element >> 14 & 15
+        iuc(self.element)
     }
 }
 
@@ -41,11 +42,6 @@ pub struct Missed {
     pub label: u16,
     pub k: u8,
     pub i: u32,
-}
-
-/// SID and IUC of an element at offset 0.
-pub fn element(sid: u32, iuc: u32) -> u32 {
-    sid << 18 | iuc << 14
 }
 
 #[derive(Default, Clone)]

@@ -1,9 +1,7 @@
 //! What bursts cost in minislots, and what minislots carry.
 
 use crate::config::Channel;
-
-pub const SHORT_DATA_GRANT: u32 = 9;
-pub const LONG_DATA_GRANT: u32 = 10;
+use crate::elements::{LONG_DATA_GRANT, SHORT_DATA_GRANT};
 
 /// A burst profile.
 pub struct Profile {

@@ -2,15 +2,13 @@
 //! in quarter microseconds.
 
 use crate::bits::{ones, WORD};
-use crate::board::{element, Board, Holder, Missed};
+use crate::board::{Board, Holder, Missed};
 use crate::config::{Channel, Config, Flow, Service, Times, Type};
+use crate::elements::{element, REQUEST, STATION_MAINTENANCE, UNSOLICITED_GRANT};
 use crate::trace::Mark;
 use crate::wheel::Wheel;
 
 const TICK_QUARTERS: u32 = 25;
-const REQUEST: u32 = 1;
-const STATION_MAINTENANCE: u32 = 4;
-const UNSOLICITED_GRANT: u32 = 11;
 
 /// What an interval of an entry has.
 #[derive(Clone, Copy)]

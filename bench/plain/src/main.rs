@@ -4,7 +4,7 @@
 //! In reading order:
 //!
 //! - `toml`, `config`: the configuration as tables
-//! - `bursts`: what a burst costs, and what minislots carry
+//! - `elements`, `bursts`: SIDs and IUCs; what a burst costs, and what minislots carry
 //! - `trace`: what is asked for in each round
 //! - `board`: the minislots of one MAP
 //! - `calendar`, `wheel`: what a channel grants at intervals
@@ -18,6 +18,7 @@ mod budgets;
 mod bursts;
 mod calendar;
 mod config;
+mod elements;
 mod limits;
 mod lines;
 mod planner;

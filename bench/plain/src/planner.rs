@@ -2,10 +2,11 @@
 //! the channels of its flow, which are placed at once, since no plan depends on where grants are placed.
 
 use crate::bits::{ones, Set, WORD};
-use crate::board::{element, Board, Holder, MOST_PENDINGS};
+use crate::board::{Board, Holder, MOST_PENDINGS};
 use crate::budgets::{Budgets, Channels, HEADER_BYTES};
 use crate::bursts::Cost;
 use crate::config::{Config, Flow, Requests, Service};
+use crate::elements::element;
 use crate::limits::Limits;
 use crate::trace::Ask;
 use std::cmp::Reverse;

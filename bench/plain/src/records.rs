@@ -1,15 +1,10 @@
 //! The records of the maps file: MAP bodies with their round and length.
 
-use crate::board::{element, Board};
-use crate::config::Channel;
+use crate::board::Board;
+use crate::config::{Channel, Config};
+use crate::elements::{element, BROADCAST, INITIAL_MAINTENANCE, LONG_DATA_GRANT, NOBODY, NULL, REQUEST};
 use crate::text::{Part, Text};
 
-const NOBODY: u32 = 0;
-const BROADCAST: u32 = 0x3fff;
-const REQUEST: u32 = 1;
-const INITIAL_MAINTENANCE: u32 = 3;
-const NULL: u32 = 7;
-const DATA_GRANT_PENDING: u32 = 10;
 /// Round and length of a record, before the body.
 const FRONT_BYTES: usize = 6;
 const HEAD_BYTES: usize = 16;
@@ -21,33 +16,15 @@ const LENGTH_AT: usize = 4;
 const COUNT_AT: usize = FRONT_BYTES + 2;
 
 /// What the records of a channel are made by.
-pub struct Recorder {
-    id: u8,
-    ucd_count: u8,
-    backoffs: [u8; 4],
-    len: u32,
-    minislot_log2: u32,
+pub struct Recorder<'c> {
+    channel: &'c Channel,
     round_ticks: u32,
     lead_ticks: u32,
-    request_minislots: u32,
-    maintenance_minislots: u32,
-    contention_minislots: u32,
 }
 
-impl Recorder {
-    pub fn new(channel: &Channel, round_ticks: u32, lead_ticks: u32) -> Recorder {
-        Recorder {
-            id: channel.id,
-            ucd_count: channel.ucd_count,
-            backoffs: channel.backoffs,
-            len: channel.len,
-            minislot_log2: channel.minislot_log2,
-            round_ticks,
-            lead_ticks,
-            request_minislots: channel.request_minislots,
-            maintenance_minislots: channel.maintenance_minislots,
-            contention_minislots: channel.contention_minislots,
-        }
+impl<'c> Recorder<'c> {
+    pub fn new(channel: &'c Channel, config: &Config) -> Self {
+        Recorder { channel, round_ticks: config.round_ticks, lead_ticks: config.lead_ticks }
     }
 
     /// Adds the record of a round. The numbers of the board's grants stand in the order of their starts.
@@ -64,20 +41,21 @@ impl Recorder {
     /// Puts the front and the head there, but for the length and the number of elements.
     #[inline(always)]
     fn put_head(&self, round: u32, record: &mut Part<RECORD_BYTES>) {
-        let ack_time = (round * self.round_ticks).saturating_sub(self.lead_ticks) >> self.minislot_log2;
+        let ack_time = (round * self.round_ticks).saturating_sub(self.lead_ticks) >> self.channel.minislot_log2;
         record.put_bytes(&round.to_be_bytes());
-        record.put_bytes(&[0, 0, self.id, self.ucd_count, 0, 0]);
-        record.put_bytes(&(round * self.len).to_be_bytes());
+        record.put_bytes(&[0, 0, self.channel.id, self.channel.ucd_count, 0, 0]);
+        record.put_bytes(&(round * self.channel.len).to_be_bytes());
         record.put_bytes(&ack_time.to_be_bytes());
-        record.put_bytes(&self.backoffs);
+        record.put_bytes(&self.channel.backoffs);
     }
 
     #[inline(always)]
     fn put_elements(&self, board: &Board, order: &[u8], record: &mut Part<RECORD_BYTES>) {
+        let Channel { len, maintenance_minislots, contention_minislots, .. } = *self.channel;
         let mut end = 0;
         if board.has_maintenance {
             put_element(record, element(BROADCAST, INITIAL_MAINTENANCE));
-            end = self.maintenance_minislots;
+            end = maintenance_minislots;
         }
         for number in order {
             let grant = &board.grants[*number as usize];
@@ -85,13 +63,14 @@ impl Recorder {
             put_element(record, grant.element);
             end = grant.start() + u32::from(grant.minislots);
         }
-        self.put_gap(end, self.len - self.contention_minislots, record);
-        if self.contention_minislots > 0 {
-            put_element(record, element(BROADCAST, REQUEST) | (self.len - self.contention_minislots));
+        let contention = len - contention_minislots;
+        self.put_gap(end, contention, record);
+        if contention < len {
+            put_element(record, element(BROADCAST, REQUEST) | contention);
         }
-        put_element(record, element(NOBODY, NULL) | self.len);
+        put_element(record, element(NOBODY, NULL) | len);
         for sid in &board.pendings {
-            put_element(record, element(u32::from(*sid), DATA_GRANT_PENDING) | self.len);
+            put_element(record, element(u32::from(*sid), LONG_DATA_GRANT) | len);
         }
     }
 
@@ -99,7 +78,7 @@ impl Recorder {
     #[inline(always)]
     fn put_gap(&self, start: u32, end: u32, record: &mut Part<RECORD_BYTES>) {
         if start < end {
-            let sid = if end - start >= self.request_minislots { BROADCAST } else { NOBODY };
+            let sid = if end - start >= self.channel.request_minislots { BROADCAST } else { NOBODY };
             put_element(record, element(sid, REQUEST) | start);
         }
     }

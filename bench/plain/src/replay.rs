@@ -65,7 +65,7 @@ impl Batch {
         }
     }
 
-    fn write_tasks<'b>(&'b mut self, scribes: &'b Scribes) -> impl Iterator<Item = Task<'b>> {
+    fn write_tasks<'b>(&'b mut self, scribes: &'b Scribes<'b>) -> impl Iterator<Item = Task<'b>> {
         let (first, rounds, sheets) = (self.first, self.rounds, self.sheets.len());
         let boards = &self.boards[..];
         self.sheets.iter_mut().enumerate().map(move |(number, sheet)| {
@@ -88,7 +88,14 @@ enum Task<'b> {
     /// Fills the boards of a channel, from a round on.
     Fill { calendar: &'b mut Calendar, boards: &'b mut [Board], first: u32 },
     /// Puts a sheet together, of some of the boards that begin with a round.
-    Write { scribes: &'b Scribes, boards: &'b [Vec<Board>], sheet: &'b mut Sheet, first: u32, begin: usize, end: usize },
+    Write {
+        scribes: &'b Scribes<'b>,
+        boards: &'b [Vec<Board>],
+        sheet: &'b mut Sheet,
+        first: u32,
+        begin: usize,
+        end: usize,
+    },
     /// Saves one of both texts of a batch.
     Save { batch: &'b Batch, file: &'b File, text: fn(&Sheet) -> &Text, result: &'b mut io::Result<()> },
 }
@@ -137,7 +144,7 @@ struct Run<'r> {
     workers: usize,
     calendars: Vec<Calendar>,
     planner: Planner<'r>,
-    scribes: Scribes,
+    scribes: Scribes<'r>,
     /// The batch that is filled, the one that is planned, the one that is written and the one that is saved.
     batches: [Batch; 4],
 }

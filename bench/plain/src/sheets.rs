@@ -2,7 +2,7 @@
 
 use crate::board::Board;
 use crate::calendar::Calendar;
-use crate::config::Config;
+use crate::config::{Channel, Config};
 use crate::lines::{Liner, SeatPieces};
 use crate::planner::Seat;
 use crate::records::Recorder;
@@ -10,23 +10,23 @@ use crate::starts::Starts;
 use crate::text::Text;
 
 /// What the texts of a channel are made by.
-struct Scribe {
-    recorder: Recorder,
+struct Scribe<'c> {
+    recorder: Recorder<'c>,
     liner: Liner,
     /// Minislots of a MAP.
     len: u32,
 }
 
 /// What texts are made by.
-pub struct Scribes {
-    of_channels: Vec<Scribe>,
+pub struct Scribes<'c> {
+    of_channels: Vec<Scribe<'c>>,
     seats: SeatPieces,
 }
 
-impl Scribes {
-    pub fn new(config: &Config, calendars: &[Calendar], seats: &[Seat]) -> Scribes {
-        let scribe = |(channel, calendar): (_, &Calendar)| Scribe {
-            recorder: Recorder::new(channel, config.round_ticks, config.lead_ticks),
+impl<'c> Scribes<'c> {
+    pub fn new(config: &'c Config, calendars: &[Calendar], seats: &[Seat]) -> Self {
+        let scribe = |(channel, calendar): (&'c Channel, &Calendar)| Scribe {
+            recorder: Recorder::new(channel, config),
             liner: Liner::new(channel.id, &calendar.labels),
             len: channel.len,
         };

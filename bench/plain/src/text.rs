@@ -1,6 +1,7 @@
 //! Bytes that are put together for a file, and numbers in them.
 
-/// A text of at most `N` bytes. Behind it stand zeros, so that it can be copied in one piece of known length.
+/// A text of at most `N` bytes. All `N` are copied where it is put, since a copy of known length takes few instructions;
+/// what stands behind the text is overwritten by what comes next.
 #[derive(Clone, Copy)]
 pub struct Piece<const N: usize> {
     bytes: [u8; N],
@@ -14,7 +15,7 @@ impl<const N: usize> Piece<N> {
         Piece { bytes, len: text.len() as u8 }
     }
 
-    /// A piece that is put together, with what is written behind its end.
+    /// A piece that is put together. There is room in it for what is written behind the text.
     #[inline(always)]
     pub fn build(put: impl FnOnce(&mut Part<N>)) -> Self {
         let mut bytes = [0; N];
@@ -43,20 +44,18 @@ const fn numbers(has_zeros: bool) -> [Piece<4>; THOUSAND] {
     let mut number = 0;
     while number < THOUSAND {
         let digits = [number / 100, number / 10 % 10, number % 10];
-        let mut place = if has_zeros || number >= 100 {
-            0
-        } else if number >= 10 {
-            1
-        } else {
-            2
-        };
-        let piece = &mut pieces[number];
-        while place < 3 {
-            piece.bytes[piece.len as usize] = b'0' + digits[place] as u8;
-            piece.len += 1;
+        let is_put = [has_zeros || number >= 100, has_zeros || number >= 10, true];
+        let mut len = 0;
+        let mut place = 0;
+        while place < digits.len() {
+            if is_put[place] {
+                pieces[number].bytes[len] = b'0' + digits[place] as u8;
+                len += 1;
+            }
             place += 1;
         }
-        piece.len += 1;
+        // and the comma
+        pieces[number].len = len as u8 + 1;
         number += 1;
     }
     pieces
