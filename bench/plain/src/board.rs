@@ -166,12 +166,16 @@ impl Board {
 
     #[inline]
     fn take(&mut self, start: u32, minislots: u32) {
-        let (mut at, end) = (start, start + minislots);
-        while at < end {
-            let (word, bit) = ((at / WORD) as usize, at % WORD);
-            let here = (WORD - bit).min(end - at);
-            self.idle[word] &= !(u64::MAX >> (WORD - here) << bit);
-            at += here;
+        let last = start + minislots - 1;
+        let (first_word, last_word) = ((start / WORD) as usize, (last / WORD) as usize);
+        let from_start = u64::MAX << (start % WORD);
+        let up_to_last = u64::MAX >> (WORD - 1 - last % WORD);
+        if first_word == last_word {
+            self.idle[first_word] &= !(from_start & up_to_last);
+        } else {
+            self.idle[first_word] &= !from_start;
+            self.idle[first_word + 1..last_word].fill(0);
+            self.idle[last_word] &= !up_to_last;
         }
     }
 }
