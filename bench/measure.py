@@ -22,8 +22,8 @@
 
 `workers` is one series over all loads: in each of its rounds each program replays each load once by each number of
 workers, in an order by chance. So what else the machine does meets all alike. All of them write the same files in turn.
-So does `plain`. It counts instructions of a twentieth of what it times. Where there is no cargo it says so, and measures
-mapsim alone.
+So does `plain`. It counts instructions, with one worker, of a twentieth of what it times. A ratio is mapsim's figure
+divided by that of the plain program. Where there is no cargo it says so, and measures mapsim alone.
 
 `instructions` counts with one worker. A round is the difference of a replay and of one of half its rounds, over the
 same trace, and a round without requests the same over a trace with no row. A request read is the difference of these

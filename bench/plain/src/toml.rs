@@ -191,18 +191,17 @@ impl<'t> Reader<'t> {
 
     fn value(&mut self) -> Result<Value<'t>, Fault> {
         match self.peek() {
-            Some(b'[') => Ok(Value::List(self.items(b'[', b']', Self::value)?)),
+            Some(b'[') => Ok(Value::List(self.items(b']', Self::value)?)),
             Some(b'{') => {
                 let line = self.line();
-                Ok(Value::Table(Table { name: "", line, pairs: self.items(b'{', b'}', Self::pair)? }))
+                Ok(Value::Table(Table { name: "", line, pairs: self.items(b'}', Self::pair)? }))
             }
             _ => self.number_or_flag(),
         }
     }
 
-    /// What stands between brackets or braces, split by commas.
-    fn items<T>(&mut self, open: u8, close: u8, item: fn(&mut Self) -> Result<T, Fault>) -> Result<Vec<T>, Fault> {
-        debug_assert_eq!(self.peek(), Some(open));
+    /// What stands between brackets or braces, split by commas. The next byte opens them.
+    fn items<T>(&mut self, close: u8, item: fn(&mut Self) -> Result<T, Fault>) -> Result<Vec<T>, Fault> {
         self.at += 1;
         let mut items = Vec::new();
         loop {
