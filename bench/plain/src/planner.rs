@@ -276,7 +276,10 @@ impl<'c> Planner<'c> {
             left -= u64::from(*share);
         }
         for (share, weight) in shares.iter_mut().zip(weights) {
-            let more = u32::from(left > 0 && *share < weight);
+            if left == 0 {
+                break;
+            }
+            let more = u32::from(*share < weight);
             *share += more;
             left -= u64::from(more);
         }
