@@ -32,7 +32,15 @@ pub struct SeatPieces(Vec<Piece<31>>);
 
 impl SeatPieces {
     pub fn new(seats: &[Seat]) -> SeatPieces {
-        let piece = |seat: &Seat| Piece::new(&format!("req,{},{},0,{},", seat.flow, seat.cluster, seat.sid));
+        let piece = |seat: &Seat| {
+            Piece::build(|piece| {
+                piece.put_bytes(b"req,");
+                piece.put_number(seat.flow);
+                piece.put_number(seat.cluster);
+                piece.put_bytes(b"0,");
+                piece.put_number(seat.sid);
+            })
+        };
         SeatPieces(seats.iter().map(piece).collect())
     }
 }
