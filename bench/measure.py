@@ -11,7 +11,8 @@
                                            ratios of both, and whether it prints and writes the same bytes
 
   --part N          N times fewer rounds and requests
-  --runs N          runs of each measurement of `times` and `plain` (5) and of `workers` (9, and a figure takes no fewer)
+  --runs N          runs of each measurement of `times` and `plain` (5), and of `workers` (9, and a figure takes no
+                    fewer)
   --workers N,..    numbers of workers: `times` and `plain` take each (1; 1,2,4), `workers` and `bytes` compare the first
                     with the others (1,2,4 and 1,2,4,16)
   --beside N        so many processes spin, each on a processor if it gets one, while `workers` measures (0)
@@ -254,41 +255,47 @@ def built_plain():
     return PLAIN / "target/release/plain"
 
 
-def both_and_ratio(show, mine, other):
-    """Cells of a figure of mapsim, of the same of the plain program where there is one, and of their ratio."""
-    return [show(mine), "-", "-"] if other is None else [show(mine), show(other), f"{mine / other:.2f}"]
+def pair_of(replays, plain):
+    """The replays of a load by mapsim, and by the plain program where there is one."""
+    return [replays, replays.by(plain)] if plain else [replays]
 
 
-def of_both(of, replays, plain):
-    """A figure of mapsim, and the same of the plain program or None."""
-    return of(replays), of(replays.by(plain)) if plain else None
-
-
-def counted(replays, plain):
-    """Instructions of a part of a load, by both programs."""
+def counted(pair):
+    """Instructions of a part of a load by each program."""
+    replays = pair[0]
     folder = replays.folder / "counted"
     folder.mkdir(exist_ok=True)
     small = Replays(replays.program, folder, replays.name, replays.part * COUNTED_PART)
-    return of_both(Replays.instructions, small, plain)
+    return [small.by(one.program).instructions() for one in pair]
+
+
+def cells(figures, show):
+    """A figure of mapsim, that of the plain program, and their ratio."""
+    mine, *plain = map(show, figures)
+    return [mine, *plain, f"{figures[0] / figures[1]:.2f}"] if plain else [mine, "-", "-"]
+
+
+def write_the_same(pair, numbers_of_workers):
+    """Whether the plain program prints and writes what mapsim does, by each number of workers."""
+    wanted = pair[0].sums(1)
+    return all(one.sums(workers) == wanted for one in pair[1:] for workers in numbers_of_workers)
 
 
 def measure_plain(replays_of, given):
     """The table of both programs. Answers the status."""
-    plain, loads, numbers_of_workers, status = built_plain(), list(replays_of), given.workers or [1, 2, 4], 0
-    counts = [counted(replays, plain) for replays in loads]
-    pairs = [[replays, *([replays.by(plain)] if plain else [])] for replays in loads]
-    measured = [(one, workers) for pair in pairs for one in pair for workers in numbers_of_workers]
-    seconds = in_one_series(measured, given)
-    head("Load", "Rounds", f"Millions of instructions, of 1/{COUNTED_PART}", "plain", "ratio",
-         *(name for workers in numbers_of_workers for name in (f"Seconds by {workers}: median", "plain", "ratio")), "Bytes")
+    plain, numbers_of_workers, status = built_plain(), given.workers or [1, 2, 4], 0
+    pairs = [pair_of(replays, plain) for replays in replays_of]
+    counts = [counted(pair) for pair in pairs]
+    each = [(one, workers) for pair in pairs for one in pair for workers in numbers_of_workers]
+    seconds = {one: statistics.median(runs) for one, runs in in_one_series(each, given).items()}
+    figures = [f"Millions of instructions, of 1/{COUNTED_PART}", *(f"Seconds by {n}: median" for n in numbers_of_workers)]
+    head("Load", "Rounds", *(name for figure in figures for name in (figure, "plain", "ratio")), "Bytes")
     for pair, count in zip(pairs, counts):
-        cells = both_and_ratio(lambda count: f"{count / 1e6:.1f}", *count)
-        for workers in numbers_of_workers:
-            medians = [statistics.median(seconds[one, workers]) for one in pair]
-            cells += both_and_ratio("{:.3f}".format, *medians, *[None] * (2 - len(medians)))
-        wanted = pair[0].sums(1)
-        is_same = all(one.sums(workers) == wanted for one in pair[1:] for workers in numbers_of_workers)
-        row(pair[0].name, f"{pair[0].rounds:,}", *cells, ("the same" if is_same else "OTHER") if plain else "-")
+        is_same = write_the_same(pair, numbers_of_workers)
+        row(pair[0].name, f"{pair[0].rounds:,}", *cells(count, lambda number: f"{number / 1e6:.1f}"),
+            *(cell for workers in numbers_of_workers
+              for cell in cells([seconds[one, workers] for one in pair], "{:.3f}".format)),
+            "-" if plain is None else "the same" if is_same else "OTHER")
         status = max(status, 0 if is_same else 1)
     return status
 

@@ -123,8 +123,8 @@ pub struct Calendar {
 }
 
 impl Calendar {
-    /// The calendar of a channel for a run of so many rounds. Its marks are in the order of rounds, and in a round those as
-    /// active come last.
+    /// The calendar of a channel for a run of so many rounds. Its marks are in the order of rounds, and in a round those
+    /// as active come last.
     pub fn new(config: &Config, place: usize, marks: Vec<Mark>, rounds: u32) -> Calendar {
         let channel = &config.channels[place];
         let mut calendar = Calendar {

@@ -114,8 +114,8 @@ impl Liner {
     }
 }
 
-/// The lines that stand behind those of all rounds: what each cluster has outstanding and its flow's bucket holds, which
-/// flows are active, and how many rows of the trace were passed over.
+/// The lines that stand behind those of all rounds: what each cluster has outstanding and its flow's bucket holds,
+/// which flows are active, and how many rows of the trace were passed over.
 pub fn last(config: &Config, states: &[State], calendars: &[Calendar], passed: &Passed) -> String {
     let mut lines = String::new();
     let mut states = states.iter();

@@ -1,5 +1,5 @@
-//! What a round grants of what was asked for. SID clusters have their turns one after another: each is planned shares on
-//! the channels of its flow, which are placed at once, since no plan depends on where grants are placed.
+//! What a round grants of what was asked for. SID clusters have their turns one after another: each is planned shares
+//! on the channels of its flow, which are placed at once, since no plan depends on where grants are placed.
 
 use crate::bits::{ones, Set, WORD};
 use crate::board::{Board, Holder, MOST_PENDINGS};
