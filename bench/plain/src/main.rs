@@ -10,7 +10,7 @@
 //! - `calendar`, `wheel`: what a channel grants at intervals
 //! - `planner`, `limits`, `budgets`: what is granted of what was asked for
 //! - `text`, `starts`, `records`, `lines`, `sheets`: maps file and report
-//! - `replay`: all rounds, by one worker or several
+//! - `crew`, `replay`: all rounds, by one worker or several
 
 mod bits;
 mod board;
@@ -18,6 +18,7 @@ mod budgets;
 mod bursts;
 mod calendar;
 mod config;
+mod crew;
 mod elements;
 mod limits;
 mod lines;

@@ -43,14 +43,14 @@ struct Turn {
 }
 
 /// The boards of one round, by channel.
-pub struct Boards<'b> {
+pub struct Boards<'a, 'b> {
     /// Boards of some rounds, by channel.
-    pub of_rounds: &'b mut [Vec<Board>],
+    pub of_rounds: &'a mut [&'b mut [Board]],
     /// The number of the round among these.
     pub at: usize,
 }
 
-impl Boards<'_> {
+impl Boards<'_, '_> {
     #[inline]
     fn of(&mut self, channel: usize) -> &mut Board {
         &mut self.of_rounds[channel][self.at]

@@ -8,14 +8,14 @@
 use crate::board::Board;
 use crate::calendar::Calendar;
 use crate::config::Config;
+use crate::crew::Crew;
 use crate::lines;
 use crate::planner::{Boards, Planner};
 use crate::sheets::{Lines, Scribes, Sheet};
-use crate::text::Text;
 use crate::trace::Trace;
 use std::fs::File;
 use std::io::{self, Write};
-use std::sync::Mutex;
+use std::sync::{Mutex, MutexGuard, RwLock, RwLockReadGuard, RwLockWriteGuard};
 use std::thread;
 
 /// The bytes of both files that a batch is to come to, for one worker and for several.
@@ -26,165 +26,158 @@ const MOST_BATCH_ROUNDS: usize = 256;
 /// Several workers divide the texts of a batch into so many sheets each.
 const SHEETS_OF_A_WORKER: usize = 2;
 
-/// Some rounds one after another.
+/// Where some rounds one after another are kept.
 struct Batch {
-    first: u32,
-    rounds: usize,
     /// Boards of these rounds and maybe more, by channel.
-    boards: Vec<Vec<Board>>,
+    boards: Vec<RwLock<Vec<Board>>>,
     /// Their texts, one sheet behind another.
-    sheets: Vec<Sheet>,
+    sheets: Vec<RwLock<Sheet>>,
 }
 
-impl Batch {
-    fn new(channels: usize, sheets: usize) -> Batch {
-        let boards = (0..channels).map(|_| Vec::new()).collect();
-        Batch { first: 0, rounds: 0, boards, sheets: (0..sheets).map(|_| Sheet::new()).collect() }
-    }
-
-    fn begin(&mut self, first: u32, rounds: usize) {
-        self.first = first;
-        self.rounds = rounds;
-        for boards in &mut self.boards {
-            if boards.len() < rounds {
-                boards.resize_with(rounds, Board::default);
-            }
-        }
-        self.sheets.iter_mut().for_each(Sheet::clear);
-    }
-
-    fn fill_tasks<'b>(&'b mut self, calendars: &'b mut [Calendar]) -> impl Iterator<Item = Task<'b>> {
-        let (first, rounds) = (self.first, self.rounds);
-        let boards = self.boards.iter_mut().map(move |boards| &mut boards[..rounds]);
-        calendars.iter_mut().zip(boards).map(move |(calendar, boards)| Task::Fill { calendar, boards, first })
-    }
-
-    fn plan(&mut self, planner: &mut Planner, trace: &Trace) {
-        for (round, at) in (self.first..).zip(0..self.rounds) {
-            planner.serve(round, trace.cut(round), &mut Boards { of_rounds: &mut self.boards, at });
-        }
-    }
-
-    fn write_tasks<'b>(&'b mut self, scribes: &'b Scribes<'b>) -> impl Iterator<Item = Task<'b>> {
-        let (first, rounds, sheets) = (self.first, self.rounds, self.sheets.len());
-        let boards = &self.boards[..];
-        self.sheets.iter_mut().enumerate().map(move |(number, sheet)| {
-            let [begin, end] = [number, number + 1].map(|number| rounds * number / sheets);
-            Task::Write { scribes, boards, sheet, first, begin, end }
-        })
-    }
-
-    fn save(&self, mut file: &File, text: fn(&Sheet) -> &Text) -> io::Result<()> {
-        self.sheets.iter().try_for_each(|sheet| file.write_all(text(sheet).as_bytes()))
-    }
-
-    fn bytes(&self) -> usize {
-        self.sheets.iter().map(Sheet::bytes).sum()
-    }
+/// A batch by its place, and which rounds it has.
+#[derive(Clone, Copy)]
+struct Rounds {
+    batch: usize,
+    first: u32,
+    count: usize,
 }
 
 /// What any worker can do beside the plan.
-enum Task<'b> {
-    /// Fills the boards of a channel, from a round on.
-    Fill { calendar: &'b mut Calendar, boards: &'b mut [Board], first: u32 },
-    /// Puts a sheet together, of some of the boards that begin with a round.
-    Write {
-        scribes: &'b Scribes<'b>,
-        boards: &'b [Vec<Board>],
-        sheet: &'b mut Sheet,
-        first: u32,
-        begin: usize,
-        end: usize,
+enum Task {
+    /// Fills the boards of a channel.
+    Fill {
+        rounds: Rounds,
+        channel: usize,
     },
-    /// Saves one of both texts of a batch.
-    Save { batch: &'b Batch, file: &'b File, text: fn(&Sheet) -> &Text, result: &'b mut io::Result<()> },
+    /// Puts a sheet together.
+    Write {
+        rounds: Rounds,
+        sheet: usize,
+    },
+    SaveMaps {
+        batch: usize,
+    },
+    SaveReport {
+        batch: usize,
+    },
 }
 
-impl Task<'_> {
-    fn run(self) {
-        match self {
-            Task::Fill { calendar, boards, first } => {
-                for (round, board) in (first..).zip(boards) {
-                    calendar.fill(round, board);
-                }
-            }
-            Task::Write { scribes, boards, sheet, first, begin, end } => {
-                for at in begin..end {
-                    for (channel, boards) in boards.iter().enumerate() {
-                        sheet.add(scribes, channel, first + at as u32, &boards[at]);
-                    }
-                }
-            }
-            Task::Save { batch, file, text, result } => *result = batch.save(file, text),
-        }
-    }
-}
-
-/// Does the tasks by so many workers. The calling thread does its own work first.
-fn work(workers: usize, own: impl FnOnce(), tasks: Vec<Task>) {
-    let helpers = (workers - 1).min(tasks.len());
-    let tasks = Mutex::new(tasks);
-    let next = || tasks.lock().expect("no worker panicked").pop();
-    let help = || {
-        while let Some(task) = next() {
-            task.run();
-        }
-    };
-    thread::scope(|scope| {
-        for _ in 0..helpers {
-            scope.spawn(help);
-        }
-        own();
-        help();
-    });
-}
-
+/// What all workers share. Who takes a lock never waits for one: no two tasks of a step need the same.
 struct Run<'r> {
-    trace: &'r Trace,
-    workers: usize,
-    calendars: Vec<Calendar>,
-    planner: Planner<'r>,
+    calendars: Vec<Mutex<Calendar>>,
     scribes: Scribes<'r>,
-    /// The batch that is filled, the one that is planned, the one that is written and the one that is saved.
     batches: [Batch; 4],
+    maps: &'r File,
+    report: &'r File,
+    /// The first fault of a file, if there was one.
+    saved: Mutex<io::Result<()>>,
 }
 
-impl<'r> Run<'r> {
-    fn new(config: &'r Config, trace: &'r Trace, rounds: u32, workers: usize) -> Run<'r> {
-        let channels = config.channels.len();
-        let calendar = |channel| Calendar::new(config, channel, trace.marks[channel].clone(), rounds);
-        let calendars: Vec<_> = (0..channels).map(calendar).collect();
-        let planner = Planner::new(config);
-        let scribes = Scribes::new(config, &calendars, &planner.seats);
-        let sheets = if workers == 1 { 1 } else { SHEETS_OF_A_WORKER * workers };
-        let batches = [(); 4].map(|()| Batch::new(channels, sheets));
-        Run { trace, workers, calendars, planner, scribes, batches }
+fn locked<T>(lock: &Mutex<T>) -> MutexGuard<'_, T> {
+    lock.lock().expect("no worker panicked")
+}
+
+fn shared<T>(lock: &RwLock<T>) -> RwLockReadGuard<'_, T> {
+    lock.read().expect("no worker panicked")
+}
+
+fn changed<T>(lock: &RwLock<T>) -> RwLockWriteGuard<'_, T> {
+    lock.write().expect("no worker panicked")
+}
+
+impl Run<'_> {
+    fn run(&self, task: Task) {
+        match task {
+            Task::Fill { rounds, channel } => self.fill(rounds, channel),
+            Task::Write { rounds, sheet } => self.write(rounds, sheet),
+            Task::SaveMaps { batch } => self.save(batch, self.maps, |sheet| sheet.maps.as_bytes()),
+            Task::SaveReport { batch } => self.save(batch, self.report, |sheet| sheet.report.as_bytes()),
+        }
     }
 
-    /// Takes each batch through its stage.
-    fn step(&mut self, maps: &File, report: &File) -> io::Result<()> {
-        let [filled, planned, written, saved] = &mut self.batches;
-        let (mut of_maps, mut of_report) = (Ok(()), Ok(()));
-        let mut tasks: Vec<_> = filled.fill_tasks(&mut self.calendars).collect();
-        tasks.extend(written.write_tasks(&self.scribes));
-        let batch = &*saved;
-        tasks.push(Task::Save { batch, file: maps, text: |sheet| &sheet.maps, result: &mut of_maps });
-        tasks.push(Task::Save { batch, file: report, text: |sheet| &sheet.report, result: &mut of_report });
-        work(self.workers, || planned.plan(&mut self.planner, self.trace), tasks);
-        of_maps.and(of_report)
+    fn fill(&self, Rounds { batch, first, count }: Rounds, channel: usize) {
+        let calendar = &mut *locked(&self.calendars[channel]);
+        let boards = &mut *changed(&self.batches[batch].boards[channel]);
+        if boards.len() < count {
+            boards.resize_with(count, Board::default);
+        }
+        for (round, board) in (first..).zip(&mut boards[..count]) {
+            calendar.fill(round, board);
+        }
     }
 
-    /// How many rounds a batch has that comes to the bytes that are wanted, as the one that was written last tells.
-    fn wanted_rounds(&self) -> Option<usize> {
-        let wanted = if self.workers == 1 { BATCH_BYTES } else { SHARED_BATCH_BYTES };
-        let Batch { rounds, .. } = self.batches[2];
-        let rounds = (rounds * wanted).checked_div(self.batches[2].bytes())?;
-        Some(rounds.clamp(1, MOST_BATCH_ROUNDS))
+    fn plan(&self, Rounds { batch, first, count }: Rounds, planner: &mut Planner, trace: &Trace) {
+        let mut boards: Vec<_> = self.batches[batch].boards.iter().map(changed).collect();
+        let mut boards: Vec<&mut [Board]> = boards.iter_mut().map(|boards| &mut boards[..]).collect();
+        for (round, at) in (first..).zip(0..count) {
+            planner.serve(round, trace.cut(round), &mut Boards { of_rounds: &mut boards, at });
+        }
+    }
+
+    fn write(&self, Rounds { batch, first, count }: Rounds, number: usize) {
+        let Batch { boards, sheets } = &self.batches[batch];
+        let boards: Vec<_> = boards.iter().map(shared).collect();
+        let boards: Vec<&[Board]> = boards.iter().map(|boards| &boards[..]).collect();
+        let sheet = &mut *changed(&sheets[number]);
+        sheet.clear();
+        for at in count * number / sheets.len()..count * (number + 1) / sheets.len() {
+            for (channel, boards) in boards.iter().enumerate() {
+                sheet.add(&self.scribes, channel, first + at as u32, &boards[at]);
+            }
+        }
+    }
+
+    fn save(&self, batch: usize, mut file: &File, text: fn(&Sheet) -> &[u8]) {
+        for sheet in &self.batches[batch].sheets {
+            if let Err(fault) = file.write_all(text(&shared(sheet))) {
+                *locked(&self.saved) = Err(fault);
+            }
+        }
+    }
+
+    /// What is to do in a step beside the plan.
+    fn tasks(&self, [filled, _, written, saved]: [Rounds; 4]) -> Vec<Task> {
+        let mut tasks = Vec::new();
+        if filled.count > 0 {
+            tasks.extend((0..self.calendars.len()).map(|channel| Task::Fill { rounds: filled, channel }));
+        }
+        if written.count > 0 {
+            let sheets = 0..self.batches[written.batch].sheets.len();
+            tasks.extend(sheets.map(|sheet| Task::Write { rounds: written, sheet }));
+        }
+        if saved.count > 0 {
+            tasks.extend([Task::SaveReport { batch: saved.batch }, Task::SaveMaps { batch: saved.batch }]);
+        }
+        tasks
+    }
+
+    /// How many rounds a batch has that comes to so many bytes, as one that was written tells.
+    fn rounds_of(&self, wanted: usize, Rounds { batch, count, .. }: Rounds) -> Option<usize> {
+        let bytes: usize = self.batches[batch].sheets.iter().map(|sheet| shared(sheet).bytes()).sum();
+        Some((count * wanted).checked_div(bytes)?.clamp(1, MOST_BATCH_ROUNDS))
+    }
+
+    /// Takes all batches through all stages.
+    fn lead(&self, crew: &Crew<Task>, planner: &mut Planner, trace: &Trace, rounds: u32, batch_bytes: usize) {
+        let (mut next, mut batch_rounds) = (0, FIRST_BATCH_ROUNDS);
+        // the batch that is filled, the one that is planned, the one that is written and the one that is saved
+        let mut stages = [0, 1, 2, 3].map(|batch| Rounds { batch, first: 0, count: 0 });
+        loop {
+            stages[0] = Rounds { first: next, count: batch_rounds.min((rounds - next) as usize), ..stages[0] };
+            next += stages[0].count as u32;
+            if stages.iter().all(|rounds| rounds.count == 0) || locked(&self.saved).is_err() {
+                return;
+            }
+            crew.work(self.tasks(stages), || self.plan(stages[1], planner, trace), |task| self.run(task));
+            batch_rounds = self.rounds_of(batch_bytes, stages[2]).filter(|rounds| *rounds > 0).unwrap_or(batch_rounds);
+            stages.rotate_right(1);
+        }
     }
 
     fn lines(&self) -> Lines {
         let mut sum = Lines::default();
-        for Lines { granted, missed } in self.batches.iter().flat_map(|batch| &batch.sheets).map(|sheet| sheet.lines) {
+        for sheet in self.batches.iter().flat_map(|batch| &batch.sheets) {
+            let Lines { granted, missed } = shared(sheet).lines;
             sum.granted += granted;
             sum.missed += missed;
         }
@@ -201,20 +194,38 @@ pub fn replay(
     maps: &File,
     mut report: &File,
 ) -> io::Result<Lines> {
-    let mut run = Run::new(config, trace, rounds, workers);
-    let (mut next, mut batch_rounds) = (0, FIRST_BATCH_ROUNDS);
-    loop {
-        let left = (rounds - next) as usize;
-        run.batches[0].begin(next, batch_rounds.min(left));
-        if run.batches.iter().all(|batch| batch.rounds == 0) {
-            break;
+    let channels = config.channels.len();
+    let calendar = |channel| Calendar::new(config, channel, trace.marks[channel].clone(), rounds);
+    let calendars: Vec<_> = (0..channels).map(calendar).collect();
+    let mut planner = Planner::new(config);
+    let (sheets, batch_bytes) =
+        if workers == 1 { (1, BATCH_BYTES) } else { (SHEETS_OF_A_WORKER * workers, SHARED_BATCH_BYTES) };
+    let batch = || Batch {
+        boards: (0..channels).map(|_| RwLock::default()).collect(),
+        sheets: (0..sheets).map(|_| RwLock::new(Sheet::new())).collect(),
+    };
+    let run = Run {
+        scribes: Scribes::new(config, &calendars, &planner.seats),
+        calendars: calendars.into_iter().map(Mutex::new).collect(),
+        batches: [(); 4].map(|()| batch()),
+        maps,
+        report,
+        saved: Mutex::new(Ok(())),
+    };
+    let crew = Crew::new();
+    thread::scope(|scope| {
+        for _ in 1..workers {
+            scope.spawn(|| crew.help(|task| run.run(task)));
         }
-        next += run.batches[0].rounds as u32;
-        run.step(maps, report)?;
-        batch_rounds = run.wanted_rounds().unwrap_or(batch_rounds);
-        run.batches.rotate_right(1);
-    }
-    let states = run.planner.states(rounds - 1);
-    report.write_all(lines::last(config, &states, &run.calendars, &trace.passed).as_bytes())?;
-    Ok(run.lines())
+        run.lead(&crew, &mut planner, trace, rounds, batch_bytes);
+        crew.end();
+    });
+    let lines = run.lines();
+    let Run { calendars, saved, .. } = run;
+    saved.into_inner().expect("no worker panicked")?;
+    let calendars: Vec<_> =
+        calendars.into_iter().map(|calendar| calendar.into_inner().expect("no worker panicked")).collect();
+    let states = planner.states(rounds - 1);
+    report.write_all(lines::last(config, &states, &calendars, &trace.passed).as_bytes())?;
+    Ok(lines)
 }
