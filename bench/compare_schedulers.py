@@ -1,9 +1,10 @@
 #!/usr/bin/env python3
 """Compares mapsim with bench/plain_scheduler.py on random configurations and traces.
 
-  bench/compare_schedulers.py FIRST LAST [PROGRAM]
+  bench/compare_schedulers.py FIRST LAST [PROGRAM [WORKERS]]
 
-The seeds go from FIRST to below LAST, and PROGRAM is crates/mapsim/out/mapsim where none is named. Where the two
+The seeds go from FIRST to below LAST. PROGRAM is crates/mapsim/out/mapsim where none is named; another one, such as
+bench/plain/target/release/plain, is compared in its place. WORKERS is how many it has (1). Where the two
 differ, the configuration, the trace and the number of rounds are left in a folder `schedulers-SEED` of the system's
 folder for temporary files. The last line counts how often each case of a rule came up."""
 import collections
@@ -20,7 +21,9 @@ HERE = pathlib.Path(__file__).resolve().parent
 sys.path.insert(0, str(HERE))
 import plain_scheduler
 
-PROGRAM = sys.argv[3] if len(sys.argv) > 3 else str(HERE.parent / "crates/mapsim/out/mapsim")
+# whole, since it is run in other folders
+PROGRAM = str(pathlib.Path(sys.argv[3] if len(sys.argv) > 3 else HERE.parent / "crates/mapsim/out/mapsim").resolve())
+WORKERS = sys.argv[4] if len(sys.argv) > 4 else "1"
 HEADER = "tick,channel,sid,units"
 SILENT, ACTIVE = 1, 2
 MAX_TICK = 4_294_967_295
@@ -376,7 +379,7 @@ def run(text, requests, rounds):
         (folder / "config").write_text(text)
         (folder / "trace").write_text(requests)
         words = [PROGRAM, "replay", "--config", "config", "--trace", "trace", "--rounds", str(rounds), "--maps", "maps",
-                 "--report", "report"]
+                 "--report", "report", "--workers", WORKERS]
         done = subprocess.run(words, cwd=folder, capture_output=True, timeout=600)
         files = [(folder / name).read_bytes() if (folder / name).exists() else None for name in ("maps", "report")]
         return done.returncode, done.stdout, done.stderr, *files

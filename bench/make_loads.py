@@ -24,6 +24,13 @@ the first six are written.
                    50,000 rounds
   talking          16 channels, 1,024 flows with activity detection, which fall silent and speak again; 1,000,000 marks,
                    50,000 rounds
+  overloaded       16 channels, 1,000 best-effort flows of two clusters over 8 channels, all with channel 1 first, which
+                   ask for some four times what fits; 1,000,000 requests, 8,000 rounds
+  far_one          1,024 polls, one in 20 to 100 ms each, on one channel; 3,000 rounds
+  far_two          1,024 polls, one in 40 ms each, on two channels; 3,000 rounds
+  far_all          1,024 polls, one in 20 to 100 ms each, on 16 channels; 1,500 rounds
+  far_long         1,024 polls, one in 200 to 2,000 ms each, on one channel; 3,000 rounds
+  far_half         the same of 512 polls
   greatest_tables  16 channels, 1,024 flows of 8 channels and 2 clusters, 256 stations; 0 rounds, so mapsim reads the
                    tables and answers fault RU1
 """
@@ -171,6 +178,13 @@ class RandomPlant:
                            f"headers = true\n{minimum}{polls}")
         self.asking += [(channels[0], cluster[0], 3_000 // unit) for cluster in sids]
 
+    def add_poll(self, id, channel, least, most):
+        """A flow that is polled on one channel."""
+        sid = self.next_sid(channel)
+        times = self.times(least, most, 2_000)
+        self.tables.append(f"[[flow]]\nid = {id}\ntype = 4\nchannels = [{channel}]\nclusters = [[{sid}]]\npriority = 0\n"
+                           f"rate = 0\nburst = 3044\nunit = 1\nheaders = true\n{times}")
+
     def bonded(self, least, most):
         """Some of the channels."""
         count = self.random.randint(least, most)
@@ -307,6 +321,21 @@ def talking():
     return Load("\n".join(plant.tables), 50_000, 1_000_000, plant.marks, HEADER_WITH_KINDS)
 
 
+def overloaded():
+    plant = RandomPlant(16)
+    for number in range(1_000):
+        plant.add_data(number + 1, 2, [1, *plant.random.sample(range(2, 17), 7)], 2, 0, 100_000)
+    return plant.load(8_000, 1_000_000)
+
+
+def far(channels, polls, least, most, rounds):
+    """Polls that are due many rounds ahead; their intervals are in microseconds."""
+    plant = RandomPlant(channels)
+    for number in range(polls):
+        plant.add_poll(number + 1, 1 + number % channels, least, most)
+    return plant.load(rounds, 0)
+
+
 def greatest_tables():
     channels = [PLAIN_CHANNEL.format(id=id) for id in range(1, 17)]
     flows = [GREATEST_FLOW.format(id=id, clusters=[[2 * id - 1] * 8, [2 * id] * 8], priority=id % 8)
@@ -324,6 +353,12 @@ LOADS = {
     "thousand_calls": lambda: calls(1_000),
     "reserved": reserved,
     "talking": talking,
+    "overloaded": overloaded,
+    "far_one": lambda: far(1, 1_024, 20_000, 100_000, 3_000),
+    "far_two": lambda: far(2, 1_024, 40_000, 40_000, 3_000),
+    "far_all": lambda: far(16, 1_024, 20_000, 100_000, 1_500),
+    "far_long": lambda: far(1, 1_024, 200_000, 2_000_000, 3_000),
+    "far_half": lambda: far(1, 512, 200_000, 2_000_000, 3_000),
     "greatest_tables": greatest_tables,
 }
 

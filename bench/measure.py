@@ -6,11 +6,15 @@
                                            those of the first number
   bench/measure.py instructions [LOAD..]   instructions by valgrind's callgrind: a whole replay, a round, a request read
   bench/measure.py bytes [LOAD..]          compares what some numbers of workers print and write
+  bench/measure.py plain [LOAD..]          builds the plain program of bench/plain, and measures it beside mapsim on all
+                                           loads, where none is named: instructions, seconds by numbers of workers, the
+                                           ratios of both, and whether it prints and writes the same bytes
 
   --part N          N times fewer rounds and requests
-  --runs N          runs of each measurement of `times` (5) and of `workers` (9, and a figure takes no fewer)
-  --workers N,..    numbers of workers: `times` takes each (1), `workers` and `bytes` compare the first with the others
-                    (1,2,4 and 1,2,4,16)
+  --runs N          runs of each measurement of `times` and `plain` (5), and of `workers` (9, and a figure takes no
+                    fewer)
+  --workers N,..    numbers of workers: `times` and `plain` take each (1; 1,2,4), `workers` and `bytes` compare the first
+                    with the others (1,2,4 and 1,2,4,16)
   --beside N        so many processes spin, each on a processor if it gets one, while `workers` measures (0)
   --against FILE    a second program, which `workers` measures too
   --folder FOLDER   where the files of a measurement lie for its time (where temporary files do). A disk that still writes
@@ -19,6 +23,8 @@
 
 `workers` is one series over all loads: in each of its rounds each program replays each load once by each number of
 workers, in an order by chance. So what else the machine does meets all alike. All of them write the same files in turn.
+So does `plain`. It counts instructions, with one worker, of a twentieth of what it times. A ratio is mapsim's figure
+divided by that of the plain program. Where there is no cargo it says so, and measures mapsim alone.
 
 `instructions` counts with one worker. A round is the difference of a replay and of one of half its rounds, over the
 same trace, and a round without requests the same over a trace with no row. A request read is the difference of these
@@ -35,6 +41,7 @@ import os
 import pathlib
 import random
 import re
+import shutil
 import statistics
 import subprocess
 import sys
@@ -45,6 +52,9 @@ import make_loads
 
 TOP = pathlib.Path(__file__).resolve().parent.parent
 GNU_TIME = "/usr/bin/time"
+PLAIN = TOP / "bench/plain"
+# Instructions are counted of so many times fewer rounds and requests.
+COUNTED_PART = 20
 # What spins until the process that started it is gone.
 BUSY = "import os\nstarter = os.getppid()\nwhile os.getppid() == starter:\n    for _ in range(1_000_000): pass"
 
@@ -57,7 +67,7 @@ class Replays:
     """Replays of one load: its files in a folder, and its numbers."""
 
     def __init__(self, program, folder, name, part):
-        self.program, self.folder, self.name = program, folder, name
+        self.program, self.folder, self.name, self.part = program, folder, name, part
         self.rounds, self.requests = make_loads.make(folder, name, part)
         (folder / "empty.csv").write_text(make_loads.HEADER, encoding="ascii")
         self.outputs = [folder / "maps", folder / "report"]
@@ -80,8 +90,7 @@ class Replays:
         """Seconds by the clock, and the most memory in KB, or None."""
         before = [GNU_TIME, "-q", "-f", "%M KB"] if os.access(GNU_TIME, os.X_OK) else []
         # else the program would cut off what the run before wrote, and wait for the disk to be done with it
-        for path in self.outputs:
-            path.unlink(missing_ok=True)
+        self.remove_outputs()
         start = time.perf_counter()
         _printed, told = self.run(workers=workers, before=before)
         seconds = time.perf_counter() - start
@@ -95,10 +104,21 @@ class Replays:
         return int(re.search(r"Collected : (\d+)", told)[1])
 
     def sums(self, workers):
-        """Sums of what is printed and written by so many workers."""
+        """Sums of what is printed and written by so many workers. A run of no rounds makes no file."""
+        self.remove_outputs()
         printed, _told = self.run(workers=workers)
-        written = [path.read_bytes() for path in self.outputs]
+        written = [path.read_bytes() for path in self.outputs if path.exists()]
         return [hashlib.sha256(part).hexdigest() for part in (printed.encode(), *written)]
+
+    def remove_outputs(self):
+        for path in self.outputs:
+            path.unlink(missing_ok=True)
+
+    def by(self, program):
+        """The same replays by another program."""
+        other = copy.copy(self)
+        other.program = program
+        return other
 
     def output_bytes(self):
         return sum(path.stat().st_size for path in self.outputs if path.exists())
@@ -163,9 +183,7 @@ def of_programs(replays, given):
     """Replays of a load by each program, with the word that names it."""
     yield replays, "program"
     if given.against:
-        other = copy.copy(replays)
-        other.program = given.against
-        yield other, "against"
+        yield replays.by(given.against), "against"
 
 
 def a_round_takes(seconds, replays):
@@ -225,7 +243,65 @@ def measure_bytes(replays_of, given):
     return status
 
 
-TABLES = {"times": measure_times, "workers": measure_workers, "instructions": measure_instructions, "bytes": measure_bytes}
+def built_plain():
+    """The plain program, built; or None where there is no cargo."""
+    if shutil.which("cargo") is None:
+        print("measure: there is no cargo, so the plain program is left out", file=sys.stderr)
+        return None
+    # one crate after another, for what else the machine does
+    built = subprocess.run(["cargo", "build", "--release", "--quiet", "-j1"], cwd=PLAIN, capture_output=True, text=True)
+    if built.returncode != 0:
+        raise Stop(f"the plain program can't be built: {built.stderr.strip()[-300:]}")
+    return PLAIN / "target/release/plain"
+
+
+def pair_of(replays, plain):
+    """The replays of a load by mapsim, and by the plain program where there is one."""
+    return [replays, replays.by(plain)] if plain else [replays]
+
+
+def counted(pair):
+    """Instructions of a part of a load by each program."""
+    replays = pair[0]
+    folder = replays.folder / "counted"
+    folder.mkdir(exist_ok=True)
+    small = Replays(replays.program, folder, replays.name, replays.part * COUNTED_PART)
+    return [small.by(one.program).instructions() for one in pair]
+
+
+def cells(figures, show):
+    """A figure of mapsim, that of the plain program, and their ratio."""
+    mine, *plain = map(show, figures)
+    return [mine, *plain, f"{figures[0] / figures[1]:.2f}"] if plain else [mine, "-", "-"]
+
+
+def write_the_same(pair, numbers_of_workers):
+    """Whether the plain program prints and writes what mapsim does, by each number of workers."""
+    wanted = pair[0].sums(1)
+    return all(one.sums(workers) == wanted for one in pair[1:] for workers in numbers_of_workers)
+
+
+def measure_plain(replays_of, given):
+    """The table of both programs. Answers the status."""
+    plain, numbers_of_workers, status = built_plain(), given.workers or [1, 2, 4], 0
+    pairs = [pair_of(replays, plain) for replays in replays_of]
+    counts = [counted(pair) for pair in pairs]
+    each = [(one, workers) for pair in pairs for one in pair for workers in numbers_of_workers]
+    seconds = {one: statistics.median(runs) for one, runs in in_one_series(each, given).items()}
+    figures = [f"Millions of instructions, of 1/{COUNTED_PART}", *(f"Seconds by {n}: median" for n in numbers_of_workers)]
+    head("Load", "Rounds", *(name for figure in figures for name in (figure, "plain", "ratio")), "Bytes")
+    for pair, count in zip(pairs, counts):
+        is_same = write_the_same(pair, numbers_of_workers)
+        row(pair[0].name, f"{pair[0].rounds:,}", *cells(count, lambda number: f"{number / 1e6:.1f}"),
+            *(cell for workers in numbers_of_workers
+              for cell in cells([seconds[one, workers] for one in pair], "{:.3f}".format)),
+            "-" if plain is None else "the same" if is_same else "OTHER")
+        status = max(status, 0 if is_same else 1)
+    return status
+
+
+TABLES = {"times": measure_times, "workers": measure_workers, "instructions": measure_instructions,
+          "bytes": measure_bytes, "plain": measure_plain}
 
 
 def numbers(text):
@@ -244,6 +320,8 @@ def main():
     words.add_argument("--folder", metavar="FOLDER")
     words.add_argument("--program", default=TOP / "crates/mapsim/out/mapsim", metavar="FILE")
     given = words.parse_intermixed_args()
+    if given.table == "plain":
+        given.loads = given.loads or list(make_loads.LOADS)
     names = make_loads.chosen(words, given)
     if given.runs is None:
         given.runs = 9 if given.table == "workers" else 5
