@@ -1,4 +1,5 @@
 ghost use Rattle.std.specs.Prelude.{◌≡◌, ◌+◌, ◌*◌, ◌≤◌, [], slice_index, Some, IfOk, OnOk};
+ghost use Rattle.std.specs.Bool.{OnTrue};
 ghost use Rattle.us_slots.specs.Times.{minislot_ticks};
 ghost use Rattle.us_flows.specs.Ranges.{max_round_ticks};
 ghost use Rattle.us_flows.specs.Tables.{segment_header_bytes};
@@ -7,7 +8,7 @@ ghost use Rattle.us_slots.specs.Capacities.{capacity_of};
 ghost use Rattle.us_split.specs.PartialPlans as spec;
 ghost use Rattle.us_split.specs.TurnRows.{IsTable};
 ghost use Rattle.us_split.specs.KnownCosts.{AreCosts};
-ghost use Rattle.us_split.specs.PartialPlans.{budget_in, returned, taken, with_claim};
+ghost use Rattle.us_split.specs.PartialPlans.{IsFull, budget_in, returned, taken, with_claim};
 
 use crate::claims::{Claim, Claimant};
 use crate::known_costs::{KnownCost, cost_of, first_costs};
@@ -112,6 +113,13 @@ impl ChannelPlan {
         ensures burst { result + header ≤ max_burst_bytes }
     {
         self.carried().saturating_sub(header)
+    }
+
+    /// Whether it carries no byte.
+    pub(crate) fn is_full(&self) -> bool
+        ensures { OnTrue result (IsFull self.now) }
+    {
+        self.carried() == 0
     }
 
     /// The most bytes that its minislots carry.
