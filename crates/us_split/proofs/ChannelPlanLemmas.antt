@@ -37,6 +37,8 @@ pub few_slots : (time : Timing) (slots : ℕ) → slots * minislot_ticks time �
 few_slots time slots ticks =
     (le-div_iff_mul-le {k = minislot_ticks time} {x = slots} {y = 4096} (pow_pos time.minislot_log2)).1 ticks
 
+pub ruleset few_facts = (few_slots)
+
 -- Ids.
 
 abbrev pub ids : List ChannelPlan → List ℕ

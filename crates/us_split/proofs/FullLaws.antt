@@ -1,8 +1,9 @@
 -- Where no channel carries a byte: no turn gets one, and nothing changes. Of plans, and of turns by their places.
 use Rattle.std.proofs.Common.{◌≡◌, ℕ, zero, suc, ◌+◌, ◌-◌, ◌==◌, min, List, [], ◌∷◌, map, Option, Some, None, slice_get, refl, sym, ap, ap₂, ◌∙◌, subst, inl, inr, arith}
 use Rattle.std.specs.Prelude.{sum, slice_index, slice_index_or}
-use Rattle.std.specs.List.{AllByRecursion}
+use Rattle.std.specs.List.{All, AllByRecursion}
 use Rattle.std.proofs.lemmas.Bool.{cases_Bool}
+use Rattle.std.proofs.lemmas.List.Elements.{recursion_from_All}
 use Rattle.us_flows.specs.Tables.{header_bytes}
 use Rattle.us_flows.specs.Clusters.{Turn}
 use Rattle.us_slots.specs.Lists.{added}
@@ -39,7 +40,7 @@ unfolding shares_of weights
 none_shared outstanding ledger turn full =
     let header : ℕ = header_bytes turn.cluster.flow in
     let none = all_none (λ id. weight header (budget_of ledger.budgets id)) turn.cluster.flow.channels
-        (λ id. no_weight header id ledger.budgets full) in
+    (λ id. no_weight header id ledger.budgets full) in
     omega (arith, divided-sum (demand outstanding ledger turn) (weights turn.cluster.flow ledger.budgets), none)
 
 none_planned : (outstanding : List ℕ) (ledger : Ledger) (turns : List Turn) → CarryNothing ledger.budgets →
@@ -66,16 +67,16 @@ no_weight_at header [] place full = refl
 no_weight_at header (c ∷ cs) zero full = omega (arith, full.0.carries)
 no_weight_at header (c ∷ cs) (suc place) full = no_weight_at header cs place full.1
 
-pub none_shared_at : (row : TurnRow) (bytes : ℕ) (cs : List ChannelPlan) → AllByRecursion IsFull cs →
+pub none_shared_at : (row : TurnRow) (bytes : ℕ) (cs : List ChannelPlan) → All IsFull cs →
     sum (shares_at row bytes cs) ≡ 0
 none_shared_at row bytes cs full =
     let none = all_none (λ (seat : Seat). weight_at row.asker.header cs seat.place) row.seats
-        (λ seat. no_weight_at row.asker.header cs seat.place full) in
+    (λ seat. no_weight_at row.asker.header cs seat.place (recursion_from_All IsFull cs full)) in
     omega (arith, divided-sum bytes (map (λ (seat : Seat). weight_at row.asker.header cs seat.place) row.seats), none)
 
 -- no turn changes anything
 pub none_further : (rows : List TurnRow) (outstanding places : List ℕ) (cs : List ChannelPlan) (allowances : List (Option ℕ)) →
-    AllByRecursion IsFull cs → partial_of cs allowances ≡ with_rows rows outstanding places (partial_of cs allowances)
+    All IsFull cs → partial_of cs allowances ≡ with_rows rows outstanding places (partial_of cs allowances)
 none_further rows outstanding [] cs allowances full = refl
 none_further rows outstanding (place ∷ places) cs allowances full =
     none_further rows outstanding places cs allowances full ∙
@@ -96,14 +97,14 @@ none_returned header share (c ∷ cs) full none =
 
 -- nor does one in a second pass, where it has no first shares
 pub no_second : (row : TurnRow) (bytes : ℕ) (first : List ℕ) (cs : List ChannelPlan) (allowances : List (Option ℕ)) →
-    AllByRecursion IsFull cs → sum first ≡ 0 →
+    All IsFull cs → sum first ≡ 0 →
     partial_of cs allowances ≡ with_second_row row bytes first (partial_of cs allowances)
 no_second row bytes first cs allowances full none =
     let header : ℕ = row.asker.header in
     let more : List ℕ = more_in row bytes first (partial_of cs allowances) in
     let same : cs ≡ returned_at header first row.seats cs =
     none_at_seats (λ k. returned header (slice_index first k)) 0 row.seats cs
-    (λ k. none_returned header (slice_index first k) cs full (omega (arith, share-le-sum first k, none))) in
+    (λ k. none_returned header (slice_index first k) cs (recursion_from_All IsFull cs full) (omega (arith, share-le-sum first k, none))) in
     let asked : ℕ = at_most (slice_index_or allowances row.asker.claimant.place None) (bytes - sum first) in
     let ws : List ChannelPlan → List ℕ = λ cs. map (λ (seat : Seat). weight_at header cs seat.place) row.seats in
     let empty : sum more ≡ 0 =

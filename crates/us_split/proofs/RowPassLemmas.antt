@@ -12,7 +12,7 @@ use Rattle.us_split.specs.Divisions.{divided}
 use Rattle.us_slots.specs.Lists.{added}
 use Rattle.us_split.specs.Plans.{at_most}
 use Rattle.us_split.specs.PartialPlans.{ChannelPlan, PartialPlan, taken}
-use Rattle.us_split.specs.TurnRows.{AreFirsts, FirstPass, FitsIf, FitsRow, TurnRow, at_seats, changed, first_in, is_reserved, more_at, more_in, partial_of, pass_of, put_from, reserve_for, returned_at, some_reserved, taken_at, weight_at, with_first_if, with_first_row, with_firsts, with_second_if, with_second_row, with_seconds}
+use Rattle.us_split.specs.TurnRows.{AreFirsts, FirstPass, FitsIf, FitsRow, TurnRow, at_seats, changed, first_in, is_reserved, more_at, more_in, partial_of, pass_of, put_from, reserve_for, returned_at, shares_at, some_reserved, taken_at, weight_at, with_first_if, with_first_row, with_firsts, with_second_if, with_second_row, with_seconds}
 use Rattle.us_split.proofs.DivisionLemmas.{divided-length, sum-cons}
 use Rattle.us_split.proofs.PartialPlanLemmas.{share-le-sum}
 use Rattle.us_split.proofs.RowPlanLemmas.{none_spent}
@@ -72,7 +72,7 @@ nothing_first row bytes shares cs allowances reserves firsts are empty =
     ap (λ ss. pass_of cs allowances reserves (firsts ++ ss ∷ [])) same ∙
     ap₂ (λ xs limits. pass_of xs limits reserves (firsts ++ own ∷ []))
     (none_at_seats (λ k. taken row.asker.header (slice_index own k)) 0 row.seats cs (λ k.
-        none_taken row.asker.header (slice_index own k) cs (omega (arith, share-le-sum own k, empty))))
+    none_taken row.asker.header (slice_index own k) cs (omega (arith, share-le-sum own k, empty))))
     (none_spent allowances place (sum own) empty) ∙
     ap (λ rs. pass_of (taken_at row.asker.header own row.seats cs)
     (set allowances place (option_map (λ most. most - sum own) (slice_index_or allowances place None))) rs (firsts ++ own ∷ []))

@@ -1,6 +1,6 @@
 ghost use Rattle.std.specs.Prelude.{◌≡◌, ℕ, ◌+◌, ◌*◌, ◌<◌, ◌≤◌, length, map, zip, sum, slice_index, OnOk};
 ghost use Rattle.std.specs.Bool.{OnTrue};
-ghost use Rattle.std.specs.List.{AllByRecursion};
+ghost use Rattle.std.specs.List.{All, AllByRecursion};
 ghost use Rattle.us_slots.specs.Times.{minislot_ticks};
 ghost use Rattle.us_flows.specs.Ranges.{max_channels_of_flow, max_round_ticks};
 ghost use Rattle.us_flows.specs.Tables.{segment_header_bytes};
@@ -61,7 +61,7 @@ pub(crate) fn weigh_at(
 
 /// Whether no channel carries a byte: then no turn gets one.
 pub(crate) fn are_full(channels: &[ChannelPlan]) -> bool
-    ensures { OnTrue result (AllByRecursion IsFull channels.now) }
+    ensures { OnTrue result (All IsFull channels.now) }
 {
     channels.iter().all(|channel| channel.is_full())
 }

@@ -8,7 +8,7 @@ ghost use Rattle.us_slots.specs.Capacities.{capacity_of};
 ghost use Rattle.us_split.specs.PartialPlans as spec;
 ghost use Rattle.us_split.specs.TurnRows.{IsTable};
 ghost use Rattle.us_split.specs.KnownCosts.{AreCosts};
-ghost use Rattle.us_split.specs.PartialPlans.{IsFull, budget_in, returned, taken, with_claim};
+ghost use Rattle.us_split.specs.PartialPlans.{IsFull, budget_in, most_slots, returned, taken, with_claim};
 
 use crate::claims::{Claim, Claimant};
 use crate::known_costs::{KnownCost, cost_of, first_costs};
@@ -123,9 +123,11 @@ impl ChannelPlan {
     }
 
     /// The most bytes that its minislots carry.
+    #[tactic(auto, using(crate::proofs::ChannelPlanLemmas::few_facts))]
     fn carried(&self) -> u32
         ensures value { result ≡ capacity_of self.now.channel.bursts.time self.now.channel.bursts.long self.now.slots }
         ensures burst { result ≤ max_burst_bytes }
+        ensures within { self.now.slots ≤ most_slots self.now.channel }
     {
         match self.carries.get(self.slots as usize) {
             Some(bytes) => *bytes,

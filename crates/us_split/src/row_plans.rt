@@ -1,7 +1,9 @@
-ghost use Rattle.std.specs.Prelude.{◌≡◌, ℕ, List, None, [], ◌∷◌, ◌++◌, ◌<◌, ◌≤◌, ◌+◌, ◌-◌, length, map, set, option_map, slice_index, slice_index_or, OnOk};
-ghost use Rattle.std.specs.List.{AllByRecursion};
+ghost use Rattle.std.specs.Prelude.{◌≡◌, ℕ, List, None, [], ◌∷◌, ◌++◌, ◌<◌, ◌≤◌, ◌+◌, ◌-◌, length, map, set, sum, option_map, slice_index, slice_index_or, OnOk};
+ghost use Rattle.std.specs.Bool.{OnTrue};
+ghost use Rattle.std.specs.List.{All, AllByRecursion};
 ghost use Rattle.us_flows.specs.Tables.{segment_header_bytes};
 ghost use Rattle.us_split.specs.Plans.{at_most, max_burst_bytes};
+ghost use Rattle.us_split.specs.PartialPlans.{IsFull};
 ghost use Rattle.us_split.specs.TurnRows as spec;
 ghost use Rattle.us_split.specs.TurnRows.{AreFirsts, FitsRow, IsRowWithin, first_pass, last_pass, more_at, no_firsts, partial_of, pass_of, shares_at, with_first_row, with_firsts, with_row, with_rows, with_second_row, with_seconds};
 
@@ -80,6 +82,13 @@ fn some_reserved(rows: &[TurnRow], askers: &[u16], reserves: &[u64]) -> bool
     false
 }
 
+/// Whether none of these bytes is there and no channel carries one. Where there are some, no channel is looked at.
+fn none_left(bytes: &Shares, channels: &[ChannelPlan]) -> bool
+    ensures { OnTrue result ((sum bytes.now ≡ 0) × All IsFull channels.now) }
+{
+    bytes.total() == 0 && are_full(channels)
+}
+
 /// Divides so many bytes over the channels of a turn. The weights are written beside the shares, so that neither is moved.
 #[inline(always)]
 fn share_out(
@@ -148,7 +157,7 @@ fn plan_rows(
         let row = &rows[usize::from(*place)];
         let bytes = outstanding[row.cluster()];
         plan_row(row, bytes, channels, allowances, &mut weights, &mut shares)?;
-        if weights.total() == 0 && are_full(channels) {
+        if none_left(&weights, channels) {
             return Ok(());
         }
     }
@@ -256,7 +265,7 @@ fn plan_second(
     ensures kept { map (λ c. c.channel) channels.new ≡ map (λ c. c.channel) channels.old }
     ensures flows { length allowances.new ≡ length allowances.old }
 {
-    if first.total() == 0 && are_full(channels) {
+    if none_left(first, channels) {
         return Ok(());
     }
     give_back_all(channels, row.asker().header, row.seats(), first.bytes());
