@@ -9,7 +9,7 @@ use Rattle.us_flows.specs.Clusters.{Turn}
 use Rattle.us_slots.specs.Lists.{added}
 use Rattle.us_split.specs.declared.turn_rows.Seat.{Seat}
 use Rattle.us_split.specs.Divisions.{divided}
-use Rattle.us_split.specs.Plans.{Budget, Ledger, Planned, at_most, budget_of, demand, plan_of, shares_of, weight, weights}
+use Rattle.us_split.specs.Plans.{Budget, Ledger, at_most, budget_of, demand, plan_of, shares_of, weight, weights}
 use Rattle.us_split.specs.Laws.{CarryNothing, FullGiveNothing}
 use Rattle.us_split.specs.PartialPlans.{ChannelPlan, IsFull, most_slots, returned}
 use Rattle.us_split.specs.TurnRows.{TurnRow, more_in, partial_of, put_from, returned_at, shares_at, weight_at, with_row_if, with_rows, with_second_row}
