@@ -3,9 +3,10 @@
 use Rattle.std.proofs.Common.{◌≡◌, ◌≢◌, ℕ, zero, suc, ◌+◌, ◌-◌, ◌*◌, ◌/◌, ◌==◌, ◌<◌, ◌≤◌, min, List, [], ◌∷◌, ◌++◌, length, map, set, get_or, Option, Some, None, option_map, refl, sym, ap, ap₂, ◌∙◌, subst, inl, inr, eq-eqb, ne_eqb, append-nil, arith}
 use Rattle.std.specs.Prelude.{slice_index, position, option_and_then, option_to_list}
 use Rattle.std.specs.List.{AllByRecursion}
-use Rattle.std.proofs.Math.Nat.{div-le_self, div-mul-le_self}
-use Rattle.std.proofs.lemmas.Nat.{mul-le}
+use Rattle.std.proofs.Math.Nat.{div-le_self, div-mul-le_self, le-div_iff_mul-le}
+use Rattle.std.proofs.lemmas.Nat.{mul-le, pow_pos}
 use Rattle.std.proofs.lemmas.Bool.{cases_eq}
+use Rattle.us_slots.specs.Times.{Timing, minislot_ticks}
 use Rattle.us_flows.specs.declared.channels.Channel.{Channel}
 use Rattle.us_flows.specs.Tables.{header_bytes}
 use Rattle.us_flows.specs.Ranges.{max_round_ticks}
@@ -30,6 +31,13 @@ pub most_few : (slots ticks : ℕ) → min (min slots 4294967295) (4096 / ticks)
 most_few slots ticks = omega (arith, div-le_self 4096 ticks)
 
 pub ruleset most_facts = (most_ticks, most_few)
+
+-- minislots that last no longer than a round are no more than a MAP can have
+pub few_slots : (time : Timing) (slots : ℕ) → slots * minislot_ticks time ≤ 4096 → slots ≤ 4096 / minislot_ticks time
+few_slots time slots ticks =
+    (le-div_iff_mul-le {k = minislot_ticks time} {x = slots} {y = 4096} (pow_pos time.minislot_log2)).1 ticks
+
+pub ruleset few_facts = (few_slots)
 
 -- Ids.
 

@@ -22,4 +22,5 @@ pub mod ByPlaceLemmas
 pub mod TurnRowLemmas
 pub mod RowPlanLemmas
 pub mod RowPassLemmas
+pub mod FullLaws
 pub mod RowTwoPassLemmas

@@ -40,7 +40,7 @@ ledger_stays planned ledger none =
     ap₂ (λ budgets allowances. let l : Ledger = record { budgets = budgets; allowances = allowances } in l)
     (budgets_stay planned ledger.budgets none) (none_less planned ledger.allowances none)
 
-minus-none : (xs ys : List ℕ) → sum ys ≡ 0 → minus xs ys ≡ xs
+pub minus-none : (xs ys : List ℕ) → sum ys ≡ 0 → minus xs ys ≡ xs
 minus-none [] ys none = refl
 minus-none (x ∷ xs) [] none = refl
 minus-none (x ∷ xs) (y ∷ ys) none =

@@ -1,5 +1,5 @@
 -- Two passes by rows, step by step: what a turn does to a pass, and one turn more.
-use Rattle.std.proofs.Common.{◌≡◌, ℕ, zero, suc, ◌+◌, ◌-◌, ◌<◌, ◌||◌, Bool, true, false, nat_lt, if◌then◌else◌, min, List, [], ◌∷◌, ◌++◌, length, map, set, drop, replicate, get_or, Option, Some, None, option_map, slice_get, refl, sym, ap, ap₂, ◌∙◌, subst, inl, inr, arith}
+use Rattle.std.proofs.Common.{◌≡◌, ℕ, zero, suc, ◌+◌, ◌-◌, ◌<◌, ◌||◌, Bool, true, false, nat_lt, if◌then◌else◌, List, [], ◌∷◌, ◌++◌, length, map, set, drop, replicate, get_or, Option, Some, None, option_map, slice_get, refl, sym, ap, ap₂, ◌∙◌, subst, inl, inr, arith}
 use Rattle.std.specs.Prelude.{sum, slice_index, slice_index_or}
 use Rattle.std.proofs.Math.Seq.{get_or-append_seam}
 use Rattle.std.proofs.lemmas.Bool.{cases_lt}
@@ -12,9 +12,9 @@ use Rattle.us_split.specs.Divisions.{divided}
 use Rattle.us_slots.specs.Lists.{added}
 use Rattle.us_split.specs.Plans.{at_most}
 use Rattle.us_split.specs.PartialPlans.{ChannelPlan, PartialPlan, taken}
-use Rattle.us_split.specs.TurnRows.{AreFirsts, FirstPass, FitsIf, FitsRow, TurnRow, at_seats, changed, first_in, is_reserved, more_at, more_in, partial_of, pass_of, put_from, reserve_for, returned_at, some_reserved, taken_at, weight_at, with_first_if, with_first_row, with_firsts, with_second_if, with_second_row, with_seconds}
+use Rattle.us_split.specs.TurnRows.{AreFirsts, FirstPass, FitsIf, FitsRow, TurnRow, at_seats, changed, first_in, is_reserved, more_at, more_in, partial_of, pass_of, put_from, reserve_for, returned_at, shares_at, some_reserved, taken_at, weight_at, with_first_if, with_first_row, with_firsts, with_second_if, with_second_row, with_seconds}
 use Rattle.us_split.proofs.DivisionLemmas.{divided-length, sum-cons}
-use Rattle.us_split.proofs.PartialPlanLemmas.{none_divided, share-le-sum}
+use Rattle.us_split.proofs.PartialPlanLemmas.{share-le-sum}
 use Rattle.us_split.proofs.RowPlanLemmas.{none_spent}
 
 -- The first pass.
@@ -25,35 +25,34 @@ zeros (x ∷ xs) none =
     let first : x ≡ 0 = omega (arith, sum-cons x xs, none) in
     ap₂ (λ n ns. n ∷ ns) first (zeros xs (omega (arith, sum-cons x xs, none)))
 
--- where a turn may have nothing its shares are 0,
-none_first : (row : TurnRow) (bytes : ℕ) (cs : List ChannelPlan) (allowances : List (Option ℕ)) (reserves : List ℕ) →
-    min (at_most (slice_index_or allowances row.asker.claimant.place None) bytes) (reserve_for row reserves) ≡ 0 →
-    first_in row bytes (partial_of cs allowances) reserves ≡ replicate (length row.seats) 0
-none_first row bytes cs allowances reserves none =
+-- where a turn gets nothing its shares are 0,
+none_first : (row : TurnRow) (bytes : ℕ) (cs : List ChannelPlan) → sum (shares_at row bytes cs) ≡ 0 →
+    shares_at row bytes cs ≡ replicate (length row.seats) 0
+none_first row bytes cs none =
     let ws : List ℕ = map (λ (seat : Seat). weight_at row.asker.header cs seat.place) row.seats in
-    ap (λ n. divided n ws) none ∙ zeros (divided 0 ws) (none_divided ws) ∙
-    ap (λ n. replicate n 0) (divided-length 0 ws ∙ length-map row.seats (λ (seat : Seat). weight_at row.asker.header cs seat.place))
+    zeros (divided bytes ws) none ∙
+    ap (λ n. replicate n 0) (divided-length bytes ws ∙ length-map row.seats (λ (seat : Seat). weight_at row.asker.header cs seat.place))
 
-none_changed : (f : ChannelPlan → ChannelPlan) → ((c : ChannelPlan) → c ≡ f c) → (cs : List ChannelPlan) (place : ℕ) →
+none_changed : (f : ChannelPlan → ChannelPlan) (cs : List ChannelPlan) (place : ℕ) → AllByRecursion (λ c. c ≡ f c) cs →
     cs ≡ changed f cs place
-none_changed f same [] place = refl
-none_changed f same (c ∷ cs) zero = ap (λ x. x ∷ cs) (same c)
-none_changed f same (c ∷ cs) (suc place) = ap (λ xs. c ∷ xs) (none_changed f same cs place)
+none_changed f [] place same = refl
+none_changed f (c ∷ cs) zero same = ap (λ x. x ∷ cs) same.0
+none_changed f (c ∷ cs) (suc place) same = ap (λ xs. c ∷ xs) (none_changed f cs place same.1)
 
-none_taken : (header share : ℕ) (c : ChannelPlan) → share ≡ 0 → c ≡ taken header share c
-none_taken header share c none =
+pub none_at_seats : (f : ℕ → ChannelPlan → ChannelPlan) (position : ℕ) (seats : List Seat) (cs : List ChannelPlan) →
+    ((k : ℕ) → AllByRecursion (λ c. c ≡ f k c) cs) → cs ≡ at_seats f position seats cs
+none_at_seats f position [] cs same = refl
+none_at_seats f position (seat ∷ seats) cs same =
+    none_at_seats f (position + 1) seats cs same ∙
+    ap (at_seats f (position + 1) seats) (none_changed (f position) cs seat.place (same position))
+
+none_taken : (header share : ℕ) (cs : List ChannelPlan) → share ≡ 0 → AllByRecursion (λ c. c ≡ taken header share c) cs
+none_taken header share [] none = tt
+none_taken header share (c ∷ cs) none =
     let slots : c.slots ≡ c.slots - 0 = omega arith in
-    ap (λ n. let c : ChannelPlan = record { channel = c.channel; slots = n; claims = c.claims } in c) slots ∙
-    ap (λ n. taken header n c) (sym none)
-
-none_taken_at : (header position : ℕ) (shares : List ℕ) (seats : List Seat) (cs : List ChannelPlan) → sum shares ≡ 0 →
-    cs ≡ at_seats (λ k. taken header (slice_index shares k)) position seats cs
-none_taken_at header position shares [] cs none = refl
-none_taken_at header position shares (seat ∷ seats) cs none =
-    none_taken_at header (position + 1) shares seats cs none ∙
-    ap (at_seats (λ k. taken header (slice_index shares k)) (position + 1) seats)
-    (none_changed (taken header (slice_index shares position))
-    (λ c. none_taken header (slice_index shares position) c (omega (arith, share-le-sum shares position, none))) cs seat.place)
+    let own : c ≡ taken header 0 c =
+    ap (λ n. let c : ChannelPlan = record { channel = c.channel; slots = n; claims = c.claims } in c) slots in
+    (own ∙ ap (λ n. taken header n c) (sym none), none_taken header share cs none)
 
 none_reserved : (reserves : List ℕ) (place bytes : ℕ) → bytes ≡ 0 →
     reserves ≡ set reserves place (slice_index reserves place - bytes)
@@ -64,16 +63,17 @@ none_reserved reserves place bytes none =
 -- and change nothing
 pub nothing_first : (row : TurnRow) (bytes : ℕ) (shares : List ℕ) (cs : List ChannelPlan) (allowances : List (Option ℕ))
     (reserves : List ℕ) (firsts : List (List ℕ)) → shares ≡ replicate (length row.seats) 0 →
-    min (at_most (slice_index_or allowances row.asker.claimant.place None) bytes) (reserve_for row reserves) ≡ 0 →
+    sum (first_in row bytes (partial_of cs allowances) reserves) ≡ 0 →
     pass_of cs allowances reserves (firsts ++ shares ∷ []) ≡ with_first_row row bytes (pass_of cs allowances reserves firsts)
-nothing_first row bytes shares cs allowances reserves firsts are none =
+nothing_first row bytes shares cs allowances reserves firsts are empty =
     let own : List ℕ = first_in row bytes (partial_of cs allowances) reserves in
     let place : ℕ = row.asker.claimant.place in
-    let same : shares ≡ own = are ∙ sym (none_first row bytes cs allowances reserves none) in
-    let empty : sum own ≡ 0 = ap (λ n. sum (divided n (map (λ (seat : Seat). weight_at row.asker.header cs seat.place) row.seats))) none ∙ none_divided _ in
+    let same : shares ≡ own = are ∙ sym (none_first row _ cs empty) in
     ap (λ ss. pass_of cs allowances reserves (firsts ++ ss ∷ [])) same ∙
     ap₂ (λ xs limits. pass_of xs limits reserves (firsts ++ own ∷ []))
-    (none_taken_at row.asker.header 0 own row.seats cs empty) (none_spent allowances place (sum own) empty) ∙
+    (none_at_seats (λ k. taken row.asker.header (slice_index own k)) 0 row.seats cs (λ k.
+    none_taken row.asker.header (slice_index own k) cs (omega (arith, share-le-sum own k, empty))))
+    (none_spent allowances place (sum own) empty) ∙
     ap (λ rs. pass_of (taken_at row.asker.header own row.seats cs)
     (set allowances place (option_map (λ most. most - sum own) (slice_index_or allowances place None))) rs (firsts ++ own ∷ []))
     (none_reserved reserves place (sum own) empty)

@@ -27,7 +27,7 @@ use Rattle.us_split.proofs.TurnRowLemmas.{row_planned, row_there, rows_inside, r
 -- A turn.
 
 -- where there is no share nothing is planned
-none_put : (asker : Asker) (position : ℕ) (seats : List Seat) (shares : List ℕ) (cs : List ChannelPlan) → sum shares ≡ 0 →
+pub none_put : (asker : Asker) (position : ℕ) (seats : List Seat) (shares : List ℕ) (cs : List ChannelPlan) → sum shares ≡ 0 →
     cs ≡ put_from asker position seats shares cs
 none_put asker position [] shares cs none = refl
 none_put asker position (seat ∷ seats) shares cs none =
@@ -45,16 +45,20 @@ none_spent allowances place bytes none =
     same None = refl
     same (Some most) = let all : most - bytes ≡ most = omega arith in ap Some all
 
+pub nothing_planned : (row : TurnRow) (bytes : ℕ) (cs : List ChannelPlan) (allowances : List (Option ℕ)) →
+    sum (shares_in row bytes (partial_of cs allowances)) ≡ 0 →
+    partial_of cs allowances ≡ with_row row bytes (partial_of cs allowances)
+unfolding with_row
+nothing_planned row bytes cs allowances empty =
+    let shares : List ℕ = shares_in row bytes (partial_of cs allowances) in
+    ap₂ partial_of (none_put row.asker 0 row.seats shares cs empty)
+    (none_spent allowances row.asker.claimant.place (sum shares) empty)
+
 pub nothing_asked : (row : TurnRow) (bytes : ℕ) (cs : List ChannelPlan) (allowances : List (Option ℕ)) →
     at_most (slice_index_or allowances row.asker.claimant.place None) bytes ≡ 0 →
     partial_of cs allowances ≡ with_row row bytes (partial_of cs allowances)
-unfolding with_row
 nothing_asked row bytes cs allowances none =
-    let shares : List ℕ = shares_in row bytes (partial_of cs allowances) in
-    let empty : sum shares ≡ 0 =
-    ap (λ n. sum (shares_at row n cs)) none ∙ none_divided _ in
-    ap₂ partial_of (none_put row.asker 0 row.seats shares cs empty)
-    (none_spent allowances row.asker.claimant.place (sum shares) empty)
+    nothing_planned row bytes cs allowances (ap (λ n. sum (shares_at row n cs)) none ∙ none_divided _)
 
 -- what its shares come to
 pub shares_planned : (row : TurnRow) (bytes demand total : ℕ) (shares : List ℕ) (old new : List ChannelPlan)

@@ -1,12 +1,10 @@
 -- Plans of two passes by rows: what both passes come to, for those who ask.
-use Rattle.std.proofs.Common.{◌≡◌, ◌≢◌, ℕ, zero, suc, ◌+◌, ◌-◌, ◌*◌, ◌/◌, ◌==◌, ◌<◌, ◌≤◌, ◌||◌, nat_lt, min, Bool, true, false, if◌then◌else◌, List, [], ◌∷◌, ◌++◌, length, map, set, filter, Option, Some, None, option_map, slice_get, refl, sym, ap, ap₂, ◌∙◌, subst, inl, inr, eq-eqb, ne_eqb, append_assoc, append-nil, get_or-set_same, get_or-set_other, arith}
+use Rattle.std.proofs.Common.{◌≡◌, ◌≢◌, ℕ, zero, suc, ◌+◌, ◌-◌, ◌*◌, ◌==◌, ◌<◌, ◌≤◌, ◌||◌, nat_lt, min, Bool, true, false, if◌then◌else◌, List, [], ◌∷◌, ◌++◌, length, map, set, filter, Option, Some, None, option_map, slice_get, refl, sym, ap, ap₂, ◌∙◌, subst, inl, inr, eq-eqb, ne_eqb, append_assoc, append-nil, get_or-set_same, get_or-set_other, arith}
 use Rattle.std.specs.Prelude.{sum, position, slice_index, slice_index_or}
 use Rattle.std.specs.List.{AllByRecursion, cons_option}
-use Rattle.std.proofs.Math.Nat.{le-div_iff_mul-le}
 use Rattle.std.proofs.lemmas.Bool.{cases_Bool, cases_eq, cases_lt, ltb-false}
 use Rattle.std.proofs.lemmas.List.{get_or_past, length-map, length-set}
 use Rattle.std.proofs.lemmas.List.Sums.{sum_by-cons}
-use Rattle.std.proofs.lemmas.Nat.{pow_pos}
 use Rattle.std.proofs.lemmas.Option.{slice_get_within}
 use Rattle.us_slots.specs.Times.{minislot_ticks}
 use Rattle.us_flows.specs.declared.channels.Channel.{Channel}
@@ -23,7 +21,7 @@ use Rattle.us_split.specs.Asking.{AgreeOn, asking_in, asks, claims_at, plan_of_a
 use Rattle.us_split.specs.PartialPlans.{Asker, ChannelPlan, IsPlaceOf, PartialPlan, asker_of, budget_in, idle_plan, ledger_in, most_slots, with_turn}
 use Rattle.us_split.specs.TurnRows.{FirstPass, TurnRow, at_seats, changed, cleared, first_in, first_pass, is_reserved, last_pass, more_in, no_firsts, partial_of, pass_of, place_of, put_from, reserve_for, returned_at, row_of, rows_from, seats_from, some_reserved, taken_at, weight_at, with_first_if, with_first_row, with_firsts, with_second_if, with_second_row, with_seconds}
 use Rattle.us_split.proofs.AskingLaws.{AreIdle, asked_in, askers_claim_all, first_idle, first_same, limits_agree, turns_pass}
-use Rattle.us_split.proofs.ChannelPlanLemmas.{absent, claimed_turn, ids, later, not_first}
+use Rattle.us_split.proofs.ChannelPlanLemmas.{absent, claimed_turn, few_slots, ids, later, not_first}
 use Rattle.us_split.proofs.ChannelShareLemmas.{first_place, later_place}
 use Rattle.us_split.proofs.ClaimLemmas.{all_at, flow_of}
 use Rattle.us_split.proofs.MinRateLemmas.{flow_reserve, rates_agree, reserved_less}
@@ -185,10 +183,7 @@ module _ (t : Tables) (turn : Turn) (lawful : AreTables t) (is : IsTurnIn t turn
   within_most : (c : ChannelPlan) (cost : ℕ) → (c.slots + cost) * minislot_ticks c.channel.bursts.time ≤ 4096 →
       min (c.slots + cost) (most_slots c.channel) ≡ c.slots + cost
   within_most c cost ticks =
-      let few : c.slots + cost ≤ 4096 / minislot_ticks c.channel.bursts.time =
-      (le-div_iff_mul-le {k = minislot_ticks c.channel.bursts.time} {x = c.slots + cost} {y = 4096}
-      (pow_pos c.channel.bursts.time.minislot_log2)).1 ticks in
-      omega (arith, few)
+      omega (arith, few_slots c.channel.bursts.time (c.slots + cost) ticks)
 
   given_each : (shares : List ℕ) (found : Option ℕ) (c : ChannelPlan) →
       (c.slots + share_cost c.channel header (share_at shares found)) * minislot_ticks c.channel.bursts.time ≤ 4096 →

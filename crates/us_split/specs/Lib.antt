@@ -13,7 +13,7 @@ pub mod Plans
 pub mod Claims
 -- what holds of every plan
 pub mod PlanLaws
--- laws: that one pass does where nothing is reserved, and whose the claims of a plan are
+-- laws: that one pass does where nothing is reserved, that full channels give nothing, and whose the claims of a plan are
 pub mod Laws
 -- who asks in a round, and that its plan is theirs
 pub mod Asking

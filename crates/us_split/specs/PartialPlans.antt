@@ -1,5 +1,5 @@
 -- Inside the crate: a turn by its places, and a plan in the making.
-use Rattle.std.specs.Prelude.{◌≡◌, ℕ, ◌+◌, ◌-◌, ◌/◌, ◌^◌, ◌<◌, ◌==◌, min, if◌then◌else◌, List, [], ◌∷◌, ◌++◌, length, map, find, position, slice_index, slice_get, slice_index_or, zip, Option, Some, option_to_list}
+use Rattle.std.specs.Prelude.{◌≡◌, ℕ, ◌+◌, ◌-◌, ◌/◌, ◌^◌, ◌<◌, ◌≤◌, ◌==◌, min, if◌then◌else◌, List, [], ◌∷◌, ◌++◌, length, map, find, position, slice_index, slice_get, slice_index_or, zip, Option, Some, option_to_list}
 use Rattle.us_slots.specs.Bursts.{grant_cost}
 use Rattle.us_slots.specs.Times.{minislot_ticks}
 use Rattle.us_flows.specs.declared.channels.Channel.{Channel}
@@ -7,7 +7,7 @@ use Rattle.us_flows.specs.Ranges.{max_round_ticks}
 use Rattle.us_flows.specs.Tables.{Tables, FlowTable, header_bytes}
 use Rattle.us_flows.specs.Clusters.{Turn}
 use Rattle.us_flows.specs.declared.turns.Turn as places
-use Rattle.us_split.specs.Plans.{Budget, Ledger, Planned, shares_of, share_cost, cost_on, allowed_less}
+use Rattle.us_split.specs.Plans.{Budget, Ledger, Planned, weight, shares_of, share_cost, cost_on, allowed_less}
 use Rattle.us_split.specs.Claims.{Claimant, Claim, claimant_of, claim_on}
 
 -- a turn of a flow, by its places, none of which is past 16 bits
@@ -137,3 +137,8 @@ abbrev pub returned : ℕ → ℕ → ChannelPlan → ChannelPlan
 returned header share c = record c {
   slots = min (c.slots + share_cost c.channel header share) (most_slots c.channel);
 }
+
+-- a channel carries no byte, in no more minislots than a MAP can have
+pub record IsFull (c : ChannelPlan) : Type 0 where
+  pub carries : weight 0 (Some (budget_in c)) ≡ 0
+  pub within : c.slots ≤ most_slots c.channel

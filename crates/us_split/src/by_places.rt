@@ -1,10 +1,11 @@
 ghost use Rattle.std.specs.Prelude.{◌≡◌, ℕ, ◌+◌, ◌*◌, ◌<◌, ◌≤◌, length, map, zip, sum, slice_index, OnOk};
-ghost use Rattle.std.specs.List.{AllByRecursion};
+ghost use Rattle.std.specs.Bool.{OnTrue};
+ghost use Rattle.std.specs.List.{All, AllByRecursion};
 ghost use Rattle.us_slots.specs.Times.{minislot_ticks};
 ghost use Rattle.us_flows.specs.Ranges.{max_channels_of_flow, max_round_ticks};
 ghost use Rattle.us_flows.specs.Tables.{segment_header_bytes};
 ghost use Rattle.us_split.specs.Plans.{max_burst_bytes};
-ghost use Rattle.us_split.specs.PartialPlans.{returned, taken, with_share};
+ghost use Rattle.us_split.specs.PartialPlans.{IsFull, returned, taken, with_share};
 ghost use Rattle.us_split.specs.TurnRows.{changed, cleared, put_from, returned_at, taken_at, weight_at};
 
 use crate::channel_plans::{Asker, ChannelPlan};
@@ -56,6 +57,13 @@ pub(crate) fn weigh_at(
         total += u64::from(weight);
     }
     total
+}
+
+/// Whether no channel carries a byte: then no turn gets one.
+pub(crate) fn are_full(channels: &[ChannelPlan]) -> bool
+    ensures { OnTrue result (All IsFull channels.now) }
+{
+    channels.iter().all(|channel| channel.is_full())
 }
 
 /// Claims a share on the channel at this place, if it is above 0.

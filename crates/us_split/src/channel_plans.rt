@@ -1,4 +1,5 @@
 ghost use Rattle.std.specs.Prelude.{◌≡◌, ◌+◌, ◌*◌, ◌≤◌, [], slice_index, Some, IfOk, OnOk};
+ghost use Rattle.std.specs.Bool.{OnTrue};
 ghost use Rattle.us_slots.specs.Times.{minislot_ticks};
 ghost use Rattle.us_flows.specs.Ranges.{max_round_ticks};
 ghost use Rattle.us_flows.specs.Tables.{segment_header_bytes};
@@ -7,7 +8,7 @@ ghost use Rattle.us_slots.specs.Capacities.{capacity_of};
 ghost use Rattle.us_split.specs.PartialPlans as spec;
 ghost use Rattle.us_split.specs.TurnRows.{IsTable};
 ghost use Rattle.us_split.specs.KnownCosts.{AreCosts};
-ghost use Rattle.us_split.specs.PartialPlans.{budget_in, returned, taken, with_claim};
+ghost use Rattle.us_split.specs.PartialPlans.{IsFull, budget_in, most_slots, returned, taken, with_claim};
 
 use crate::claims::{Claim, Claimant};
 use crate::known_costs::{KnownCost, cost_of, first_costs};
@@ -114,10 +115,19 @@ impl ChannelPlan {
         self.carried().saturating_sub(header)
     }
 
+    /// Whether it carries no byte.
+    pub(crate) fn is_full(&self) -> bool
+        ensures { OnTrue result (IsFull self.now) }
+    {
+        self.carried() == 0
+    }
+
     /// The most bytes that its minislots carry.
+    #[tactic(auto, using(crate::proofs::ChannelPlanLemmas::few_facts))]
     fn carried(&self) -> u32
         ensures value { result ≡ capacity_of self.now.channel.bursts.time self.now.channel.bursts.long self.now.slots }
         ensures burst { result ≤ max_burst_bytes }
+        ensures within { self.now.slots ≤ most_slots self.now.channel }
     {
         match self.carries.get(self.slots as usize) {
             Some(bytes) => *bytes,

@@ -2,7 +2,7 @@
 
 ghost use Rattle.us_split.specs.Asking.{AskersClaim, TurnsPass};
 ghost use Rattle.us_split.specs.Requested.{CutsAreOfClusters};
-ghost use Rattle.us_split.specs.Laws.{ClaimsAreOfTurns, ClustersClaimOnce, OnePassDoes};
+ghost use Rattle.us_split.specs.Laws.{ClaimsAreOfTurns, ClustersClaimOnce, FullGiveNothing, OnePassDoes};
 
 /// Each claim of a plan is of a turn of the tables: of its cluster, with its header, and with the cluster's SID on the
 /// channel.
@@ -34,4 +34,9 @@ pub fn cuts_are_of_clusters()
 /// Where all reserves that are listed are 0, a plan is made in one pass.
 pub fn one_pass_does()
     ensures { OnePassDoes }
+{}
+
+/// Where no channel carries a byte, no turn gets one, in a second pass none that has no first shares.
+pub fn full_give_nothing()
+    ensures { FullGiveNothing }
 {}

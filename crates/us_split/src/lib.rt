@@ -50,8 +50,8 @@ pub use asking::Askers;
 pub use claims::{Claim, Claimant};
 pub use divisions::{MAX_CHANNELS_OF_FLOW, divide};
 pub use laws::{
-    askers_claim, claims_are_of_turns, clusters_claim_once, cuts_are_of_clusters, one_pass_does,
-    turns_pass,
+    askers_claim, claims_are_of_turns, clusters_claim_once, cuts_are_of_clusters,
+    full_give_nothing, one_pass_does, turns_pass,
 };
 pub use planner::Planner;
 pub use planning::plan;

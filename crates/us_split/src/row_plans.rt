@@ -1,11 +1,13 @@
-ghost use Rattle.std.specs.Prelude.{◌≡◌, ℕ, List, None, [], ◌∷◌, ◌++◌, ◌<◌, ◌≤◌, ◌+◌, ◌-◌, length, map, set, option_map, slice_index, slice_index_or, OnOk};
-ghost use Rattle.std.specs.List.{AllByRecursion};
+ghost use Rattle.std.specs.Prelude.{◌≡◌, ℕ, List, None, [], ◌∷◌, ◌++◌, ◌<◌, ◌≤◌, ◌+◌, ◌-◌, length, map, set, sum, option_map, slice_index, slice_index_or, OnOk};
+ghost use Rattle.std.specs.Bool.{OnTrue};
+ghost use Rattle.std.specs.List.{All, AllByRecursion};
 ghost use Rattle.us_flows.specs.Tables.{segment_header_bytes};
 ghost use Rattle.us_split.specs.Plans.{at_most, max_burst_bytes};
+ghost use Rattle.us_split.specs.PartialPlans.{IsFull};
 ghost use Rattle.us_split.specs.TurnRows as spec;
 ghost use Rattle.us_split.specs.TurnRows.{AreFirsts, FitsRow, IsRowWithin, first_pass, last_pass, more_at, no_firsts, partial_of, pass_of, shares_at, with_first_row, with_firsts, with_row, with_rows, with_second_row, with_seconds};
 
-use crate::by_places::{give_back_all, put_all, take_all};
+use crate::by_places::{are_full, give_back_all, put_all, take_all};
 use crate::channel_plans::ChannelPlan;
 use crate::shares::Shares;
 use crate::turn_rows::TurnRow;
@@ -80,6 +82,13 @@ fn some_reserved(rows: &[TurnRow], askers: &[u16], reserves: &[u64]) -> bool
     false
 }
 
+/// Whether none of these bytes is there and no channel carries one. Where there are some, no channel is looked at.
+fn none_left(bytes: &Shares, channels: &[ChannelPlan]) -> bool
+    ensures { OnTrue result ((sum bytes.now ≡ 0) × All IsFull channels.now) }
+{
+    bytes.total() == 0 && are_full(channels)
+}
+
 /// Divides so many bytes over the channels of a turn. The weights are written beside the shares, so that neither is moved.
 #[inline(always)]
 fn share_out(
@@ -125,7 +134,8 @@ fn plan_row(
     Ok(())
 }
 
-/// Plans the turns at these places, one after another.
+/// Plans the turns at these places, one after another, until no channel carries a byte. The channels are looked at where a
+/// turn found none that carries one.
 fn plan_rows(
     rows: &[TurnRow],
     channels: &mut [ChannelPlan],
@@ -147,6 +157,9 @@ fn plan_rows(
         let row = &rows[usize::from(*place)];
         let bytes = outstanding[row.cluster()];
         plan_row(row, bytes, channels, allowances, &mut weights, &mut shares)?;
+        if none_left(&weights, channels) {
+            return Ok(());
+        }
     }
     Ok(())
 }
@@ -170,7 +183,7 @@ fn plan_first(
 {
     let reserve = reserve_for(row, reserves);
     let demand = demand_of(allowances, row.flow(), outstanding).min(reserve);
-    if demand == 0 {
+    if demand == 0 || are_full(channels) {
         return row.no_shares();
     }
     let mut weights = Shares::none(0);
@@ -236,7 +249,8 @@ fn more_of(row: &TurnRow, first: &Shares, bytes: u64, channels: &[ChannelPlan]) 
     more
 }
 
-/// Plans a turn of so many outstanding bytes beside its first shares, once its channels have their costs back.
+/// Plans a turn of so many outstanding bytes beside its first shares, once its channels have their costs back. Where it has
+/// none and no channel carries a byte, it gets none.
 fn plan_second(
     row: &TurnRow,
     first: &Shares,
@@ -251,6 +265,9 @@ fn plan_second(
     ensures kept { map (λ c. c.channel) channels.new ≡ map (λ c. c.channel) channels.old }
     ensures flows { length allowances.new ≡ length allowances.old }
 {
+    if none_left(first, channels) {
+        return Ok(());
+    }
     give_back_all(channels, row.asker().header, row.seats(), first.bytes());
     let left = outstanding.saturating_sub(first.total());
     let demand = demand_of(allowances, row.flow(), left);

@@ -1,14 +1,33 @@
-use Rattle.std.proofs.Common.{ℕ, ◌-◌, length, set, option_map, None, ap, ap₂, ◌∙◌, sym, arith}
+use Rattle.std.proofs.Common.{ℕ, ◌-◌, ◌<◌, length, set, option_map, None, ap, ap₂, ◌∙◌, sym, subst, arith}
 use Rattle.std.specs.Prelude.{slice_index, slice_index_or}
+use Rattle.std.specs.List.{AllByRecursion}
 use Rattle.us_split.specs.Plans.{at_most}
 use Rattle.us_split.specs.PartialPlans.{Asker}
 use Rattle.us_split.specs.TurnRows.{put_from, returned_at}
+use Rattle.us_split.proofs.FullLaws.{no_second}
 use Rattle.us_split.proofs.RowPassLemmas.{second_planned}
 use Rattle.us_split.proofs.SecondPassLemmas.{added-at, added-length}
 use Rattle.us_split.proofs.row_plans.plan_second.Goals as goal
 
 abbrev header_in : Asker → ℕ
 header_in asker = asker.header
+
+pub returns-then-none_left-clause-plan : goal.returns-then-none_left-clause-plan
+returns-then-none_left-clause-plan c =
+    no_second c.args.row.now c.args.outstanding c.args.first.now c.args.channels.now c.args.allowances.now
+    c.if-none_left.ensures.1 c.if-none_left.ensures.0
+
+pub more_of-more-requires-clause-inside : goal.more_of-more-requires-clause-inside
+more_of-more-requires-clause-inside c =
+    subst (λ n. AllByRecursion (λ seat. seat.place < n) c.args.row.now.seats) (sym c.give_back_all-2.auto.channels)
+    c.requires.row.inside
+
+pub put_all-requires-clause-inside : goal.put_all-requires-clause-inside
+put_all-requires-clause-inside c =
+    subst (λ seats. AllByRecursion (λ seat. seat.place < length c.give_back_all-2.new.channels) seats)
+    (sym c.seats-2.ensures.value)
+    (subst (λ n. AllByRecursion (λ seat. seat.place < n) c.args.row.now.seats) (sym c.give_back_all-2.auto.channels)
+    c.requires.row.inside)
 
 pub put_all-requires-clause-one_each : goal.put_all-requires-clause-one_each
 put_all-requires-clause-one_each c =
