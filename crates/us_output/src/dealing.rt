@@ -111,7 +111,7 @@ impl Dealt {
 
 /// Clears all lists.
 fn clear(lists: &mut [Listed])
-    ensures { AreDealt [] lists.new }
+    ensures dealt { AreDealt [] lists.new }
     ensures len { length lists.new ≡ length lists.old }
 {
     for at in 0..lists.len() {

@@ -12,5 +12,5 @@ loop-at-preserved c =
       len = length-set lists c.loop-at.at _ ∙ c.loop-at.invariant.len;
     }
 
-pub returns-1 : goal.returns-1
-returns-1 c = none_dealt c.loop-at.lists (λ id inside. c.loop-at.invariant.empty id (omega (arith, inside)))
+pub returns-clause-dealt : goal.returns-clause-dealt
+returns-clause-dealt c = none_dealt c.loop-at.lists (λ id inside. c.loop-at.invariant.empty id (omega (arith, inside)))
