@@ -126,7 +126,8 @@ fn deal_one(alloc: Global, lists: &mut Vec<Listed>, pending: PendingSid) -> Resu
 {
     let place = pending.place();
     make_room(alloc, lists, place + 1)?;
-    add(lists, place, pending.sid())
+    add(lists, place, pending.sid())?;
+    Ok(())
 }
 
 /// Makes room for so many lists.

@@ -39,7 +39,6 @@ pub(crate) fn maps_of(
 }
 
 /// The MAP of one channel. What stood in the list of runs is dropped.
-#[tactic(auto, using(us_channel::proofs::MapLemmas::few_bytes))]
 fn built_map(
     alloc: Global,
     config: &Config,
@@ -56,7 +55,7 @@ fn built_map(
         spec.IsWithinLimits config.now round pendings part.now) }
 {
     let sids = dealt.on(part.channel().id);
-    map_of(
+    let map = map_of(
         alloc,
         config,
         round,
@@ -64,5 +63,6 @@ fn built_map(
         part.board(),
         sids,
         runs,
-    )
+    )?;
+    Ok(map)
 }

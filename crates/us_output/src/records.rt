@@ -59,7 +59,7 @@ pub fn push_records(
 /// Adds the record of a channel's MAP, with the SIDs that were dealt to it.
 fn push_record(
     text: &mut Vec<u8>,
-    record: &mut [u8; RECORD_BYTES],
+    out: &mut [u8; RECORD_BYTES],
     dealt: &Dealt,
     config: &Config,
     round: u32,
@@ -77,10 +77,10 @@ fn push_record(
     let sids = dealt.on(channel.id);
     let len = part.channel_round().board().len() as u16;
     let head = head_of(config, channel, round);
-    let end = put_granted(record, round, &head, part, 1 + sids.len());
-    let end = put_next(record, end, Element::null_at(len));
-    let end = put_pendings(record, end, sids, len);
-    push_first(text, record, end)?;
+    let end = put_granted(out, round, &head, part, 1 + sids.len());
+    let end = put_next(out, end, Element::null_at(len));
+    let end = put_pendings(out, end, sids, len);
+    push_first(text, out, end)?;
     Ok(())
 }
 

@@ -1,4 +1,4 @@
-use Rattle.std.proofs.Common.{length, ap, ◌∙◌, arith}
+use Rattle.std.proofs.Common.{◌∙◌, arith}
 use Rattle.std.proofs.lemmas.List.{length-set}
 use Rattle.us_output.proofs.PendingLemmas.{none_dealt, one_cleared}
 use Rattle.us_output.proofs.dealing.clear.Goals as goal

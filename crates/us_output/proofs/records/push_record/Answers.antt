@@ -13,7 +13,7 @@ unfolding AreDealt
 returns-clause-record c = λ pendings dealt.
     let b = c.args.part.now in
     let runs : List Run = runs_of b.board.cells in
-    let count : ℕ = length runs + (1 + c.len.result) in
+    let count : ℕ = length runs + (1 + length c.on-sids.result.now) in
     let opening : List ℕ =
     to_be_bytes w32 c.args.round ++ to_be_bytes w16 (16 + 4 * count) ++ front c.head_of-head.result count in
     let is : c.channel-channel.result.now ≡ b.channel =
@@ -29,7 +29,7 @@ returns-clause-record c = λ pendings dealt.
     head c.head_of-head.ensures.lawful.four
     (rw (c.board.ensures, c.channel_round-2.ensures) at c.len-len.ensures.value ∙ c.requires.built.len) refl
     sids
-    (omega (arith, c.len.ensures))
+    (omega arith)
     refl c.put_granted-end.ensures.bytes
     (rw c.null_at.ensures at c.put_next-end.ensures.bytes)
     c.put_pendings-end.ensures.bytes in
