@@ -1,8 +1,10 @@
 -- Who is pending: by the places of turns, and by the bytes that are left.
-use Rattle.std.proofs.Common.{◌≡◌, ℕ, suc, ◌+◌, ◌-◌, ◌^◌, ◌<◌, ◌≤◌, nat_lt, ◌==◌, ◌&&◌, Bool, true, false, List, [], ◌∷◌, ◌++◌, length, map, take, drop, get_or, Option, Some, None, refl, ap, ap₂, sym, ◌⊎◌, ◌∙◌, inl, inr, arith, append_assoc}
+use Rattle.std.proofs.Common.{◌≡◌, ℕ, zero, suc, ◌+◌, ◌^◌, ◌<◌, ◌≤◌, nat_lt, ◌==◌, ◌&&◌, Bool, true, false, List, [], ◌∷◌, ◌++◌, length, map, take, drop, set, get_or, Option, Some, None, refl, ap, ap₂, sym, subst, ◌⊎◌, ◌∙◌, inl, inr, arith}
 use Rattle.std.specs.Prelude.{zip, filter, filter_map, option_map, option_and_then, slice_get, slice_index}
 use Rattle.std.specs.List.{AllByRecursion, cons_option}
-use Rattle.std.proofs.lemmas.List.{append-nil, take_all, drop_all, drop_more, length-append}
+use Rattle.std.proofs.lemmas.Bool.{cases_eq, cases_lt, eq-eqb, ne_eqb}
+use Rattle.std.proofs.lemmas.List.{append-nil, drop_all, get_or_past, get_or-set_other, get_or-set_same, map-append}
+use Rattle.std.proofs.lemmas.List.Elements.{filter-append}
 use Rattle.std.proofs.lemmas.Option.{slice_get-get_or, slice_get-map, slice_get_past}
 use Rattle.std.specs.Int.{IsInRange}
 use Rattle.us_flows.specs.declared.turns.Turn as places
@@ -10,8 +12,8 @@ use Rattle.us_flows.specs.Tables.{Tables, FlowTable}
 use Rattle.us_flows.specs.Turns.{turn_at, in_flow}
 use Rattle.us_flows.specs.Clusters.{turns_of}
 use Rattle.us_flows.specs.Lawful.{AreTables, IsFlow}
-use Rattle.us_output.specs.Outputs.{first_sid}
-use Rattle.us_output.specs.Leftovers.{still_asking, still_asking_at}
+use Rattle.us_output.specs.Outputs.{first_sid, pendings_on}
+use Rattle.us_output.specs.Leftovers.{AreDealt, still_asking, still_asking_at}
 use Rattle.us_output.proofs.PartLemmas.{all_found, all_weaker}
 
 -- turns that are told by their places
@@ -118,48 +120,76 @@ asking t before left turn bytes = by_flow (slice_get t.flows turn.flow)
     by_flow None = refl
     by_flow (Some flow) = by_sids flow (slice_get flow.clusters turn.list)
 
--- SIDs on a channel, one pending after another
-abbrev pub sids_at : ℕ → List (ℕ × ℕ) → List ℕ
+-- SIDs on a channel
+abbrev sids_at : ℕ → List (ℕ × ℕ) → List ℕ
 sids_at id pendings = map (λ pending. pending.1) (filter (λ pending. pending.0 == id) pendings)
 
-pub one_sid : (id : ℕ) (pendings : List (ℕ × ℕ)) (sids : List ℕ) (i sid : ℕ) (pending : ℕ × ℕ) → i < length pendings →
-    pending ≡ get_or pendings i pending → (pending.0 == id) ≡ true → sid ≡ pending.1 → length sids < 38 →
-    (sids ++ sid ∷ []) ++ take (38 - length (sids ++ sid ∷ [])) (sids_at id (drop (i + 1) pendings)) ≡
-    sids ++ take (38 - length sids) (sids_at id (drop i pendings))
-one_sid id pendings sids i sid pending inside is on same few =
-    let rest : List ℕ = sids_at id (drop (i + 1) pendings) in
-    let here : drop i pendings ≡ pending ∷ drop (i + 1) pendings =
-    drop_more pendings i pending inside ∙ ap (λ s. s ∷ drop (i + 1) pendings) (sym is) in
-    let now : sids_at id (drop i pendings) ≡ sid ∷ rest = rw here (rw on (ap (λ n. n ∷ rest) (sym same))) in
-    let room : 38 - length sids ≡ suc (38 - length (sids ++ sid ∷ [])) =
-    omega (arith, length-append sids (sid ∷ []), few) in
-    append_assoc sids (sid ∷ []) (take (38 - length (sids ++ sid ∷ [])) rest) ∙
-    ap₂ (λ n xs. sids ++ take n xs) (sym room) (sym now)
+sids_append : (id : ℕ) (first second : List (ℕ × ℕ)) → sids_at id (first ++ second) ≡ sids_at id first ++ sids_at id second
+sids_append id first second =
+    ap (map (λ (pending : ℕ × ℕ). pending.1)) (filter-append (λ pending. pending.0 == id) first second) ∙
+    map-append (λ (pending : ℕ × ℕ). pending.1) (filter (λ pending. pending.0 == id) first)
+    (filter (λ pending. pending.0 == id) second)
 
-pub no_sid : (id : ℕ) (pendings : List (ℕ × ℕ)) (sids : List ℕ) (i : ℕ) (pending : ℕ × ℕ) → i < length pendings →
-    pending ≡ get_or pendings i pending → (pending.0 == id) ≡ false →
-    sids ++ take (38 - length sids) (sids_at id (drop (i + 1) pendings)) ≡
-    sids ++ take (38 - length sids) (sids_at id (drop i pendings))
-no_sid id pendings sids i pending inside is other =
-    let here : drop i pendings ≡ pending ∷ drop (i + 1) pendings =
-    drop_more pendings i pending inside ∙ ap (λ s. s ∷ drop (i + 1) pendings) (sym is) in
-    let now : sids_at id (drop i pendings) ≡ sids_at id (drop (i + 1) pendings) = rw here (rw other refl) in
-    ap (λ xs. sids ++ take (38 - length sids) xs) (sym now)
+-- of the first of some and one more, the first
+first_again : (n : ℕ) (xs ys : List ℕ) → take n (take n xs ++ ys) ≡ take n (xs ++ ys)
+first_again zero xs ys = refl
+first_again (suc n) [] ys = refl
+first_again (suc n) (x ∷ xs) ys = ap (λ rest. x ∷ rest) (first_again n xs ys)
 
-pub all_sids : (id : ℕ) (pendings : List (ℕ × ℕ)) (sids whole : List ℕ) (i : ℕ) → length pendings ≤ i →
-    sids ++ take (38 - length sids) (sids_at id (drop i pendings)) ≡ whole → sids ≡ whole
-all_sids id pendings sids whole i end so_far =
-    let rest : List ℕ = sids_at id (drop i pendings) in
-    let none : rest ≡ [] = rw (drop_all i pendings end) refl in
-    let taken : take (38 - length sids) rest ≡ rest = take_all (38 - length sids) rest (rw none (omega arith)) in
-    sym (append-nil sids) ∙ ap (λ xs. sids ++ xs) (sym (taken ∙ none)) ∙ so_far
+-- Pendings that are dealt out: one more,
+pub dealt_one : (pendings : List (ℕ × ℕ)) (lists : List (List ℕ)) (p : ℕ × ℕ) → p.0 < length lists → AreDealt pendings lists →
+    AreDealt (pendings ++ p ∷ []) (set lists p.0 (take 38 (get_or lists p.0 [] ++ p.1 ∷ [])))
+unfolding AreDealt pendings_on
+dealt_one pendings lists p inside dealt = λ id. elim (cases_eq id p.0) [
+  | inl same ↦
+      subst (λ k. get_or (set lists p.0 new) k [] ≡ take 38 (sids_at k (pendings ++ p ∷ []))) (sym same) here
+  | inr other ↦
+      let elsewhere : (p.0 == id) ≡ false = ne_eqb p.0 id (λ is. other (sym is)) in
+      get_or-set_other lists p.0 id new [] other ∙ dealt id ∙ ap (take 38) (sym (sids_append id pendings (p ∷ []) ∙
+      rw elsewhere (append-nil (sids_at id pendings))))
+]
+  where
+    new : List ℕ
+    new = take 38 (get_or lists p.0 [] ++ p.1 ∷ [])
 
-pub enough_sids : (sids more whole : List ℕ) → length sids ≡ 38 → sids ++ take (38 - length sids) more ≡ whole →
-    sids ≡ whole
-enough_sids sids more whole full so_far =
-    let none : 38 - length sids ≡ 0 = omega (arith, full) in
-    let all : sids ++ [] ≡ whole = rw none at so_far in
-    sym (append-nil sids) ∙ all
+    more : sids_at p.0 (pendings ++ p ∷ []) ≡ sids_at p.0 pendings ++ p.1 ∷ []
+    more =
+        let on : (p.0 == p.0) ≡ true = eq-eqb p.0 p.0 refl in
+        sids_append p.0 pendings (p ∷ []) ∙ rw on refl
+
+    here : get_or (set lists p.0 new) p.0 [] ≡ take 38 (sids_at p.0 (pendings ++ p ∷ []))
+    here =
+        get_or-set_same lists p.0 new [] inside ∙ ap (λ xs. take 38 (xs ++ p.1 ∷ [])) (dealt p.0) ∙
+        first_again 38 (sids_at p.0 pendings) (p.1 ∷ []) ∙ ap (take 38) (sym more)
+
+-- one more list,
+with_none : (lists : List (List ℕ)) (id : ℕ) → get_or (lists ++ [] ∷ []) id [] ≡ get_or lists id []
+with_none [] zero = refl
+with_none [] (suc id) = refl
+with_none (l ∷ lists) zero = refl
+with_none (l ∷ lists) (suc id) = with_none lists id
+
+pub dealt_room : (pendings : List (ℕ × ℕ)) (lists : List (List ℕ)) → AreDealt pendings lists →
+    AreDealt pendings (lists ++ [] ∷ [])
+unfolding AreDealt
+dealt_room pendings lists dealt = λ id. with_none lists id ∙ dealt id
+
+-- and none
+pub none_dealt : (lists : List (List ℕ)) → ((id : ℕ) → id < length lists → get_or lists id [] ≡ []) → AreDealt [] lists
+unfolding AreDealt pendings_on
+none_dealt lists empty = λ id. elim (cases_lt id (length lists)) [
+  | inl inside ↦ empty id inside
+  | inr past ↦ get_or_past lists id [] past
+]
+
+pub one_cleared : (lists : List (List ℕ)) (at : ℕ) → at < length lists → ((id : ℕ) → id < at → get_or lists id [] ≡ []) →
+    (id : ℕ) → id < at + 1 → get_or (set lists at []) id [] ≡ []
+one_cleared lists at inside empty id early = elim (cases_eq id at) [
+  | inl same ↦ subst (λ k. get_or (set lists at []) k [] ≡ []) (sym same) (get_or-set_same lists at [] [] inside)
+  | inr other ↦
+      let before : id < at = grind (arith, early, other) in
+      get_or-set_other lists at id [] [] other ∙ empty id before
+]
 
 -- the SIDs of a flow of lawful tables have 14 bits
 pub known_sids : (t : Tables) (place : ℕ) (flow : FlowTable) → AreTables t → slice_get t.flows place ≡ Some flow →

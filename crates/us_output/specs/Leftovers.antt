@@ -1,5 +1,5 @@
 -- How a round tells who is pending, by the outstanding bytes before and after its grants; and what its boards keep.
-use Rattle.std.specs.Prelude.{◌≡◌, ℕ, ◌<◌, nat_lt, ◌==◌, ◌&&◌, if◌then◌else◌, List, length, filter_map, slice_index, Option, None, option_and_then}
+use Rattle.std.specs.Prelude.{◌≡◌, ℕ, ◌<◌, nat_lt, ◌==◌, ◌&&◌, if◌then◌else◌, List, [], length, filter_map, slice_index, slice_index_or, Option, None, option_and_then}
 use Rattle.std.specs.List.{AllByRecursion}
 use Rattle.us_flows.specs.Tables.{Tables, map_len}
 use Rattle.us_flows.specs.Turns.{turn_at}
@@ -9,7 +9,7 @@ use Rattle.us_flows.specs.Lawful.{IsChannel}
 use Rattle.us_calendar.specs.Calendars as calendars
 use Rattle.us_channel.specs.Placements.{PlacedClaim}
 use Rattle.us_channel.specs.Channels.{Built}
-use Rattle.us_output.specs.Outputs.{Scheduled, first_sid}
+use Rattle.us_output.specs.Outputs.{Scheduled, first_sid, pendings_on}
 
 -- a turn that has bytes left, as many as were outstanding of it before, is pending
 abbrev pub still_asking : List ℕ → List ℕ → Turn → Option (ℕ × ℕ)
@@ -20,6 +20,10 @@ still_asking outstanding left turn =
 -- the same of a turn that is told by its places in the tables
 abbrev pub still_asking_at : Tables → List ℕ → List ℕ → places.Turn → Option (ℕ × ℕ)
 still_asking_at t outstanding left turn = option_and_then (still_asking outstanding left) (turn_at t turn)
+
+-- the SIDs that are pending, dealt out by the ids of their channels: each list is that of its channel's MAP
+unfoldable pub AreDealt : List (ℕ × ℕ) → List (List ℕ) → Type 0
+AreDealt pendings lists = (id : ℕ) → slice_index_or lists id [] ≡ pendings_on id pendings
 
 -- a round of these channels, where this is pending
 abbrev pub told : ℕ → List Built → List (ℕ × ℕ) → Scheduled

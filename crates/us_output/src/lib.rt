@@ -27,7 +27,8 @@ mod lines;
 mod threes;
 mod words;
 
-// Who is pending.
+// Who is pending, and on which channel.
+mod dealing;
 mod pendings;
 
 // From grants to lines, by where they start: put in one after another, or noted by minislot.

@@ -11,9 +11,6 @@ use std::marker::Model;
 use us_flows::{Config, Flow, Turn};
 use us_slots::NoMemory;
 
-/// The most pendings of a MAP (ours).
-const MAX_PENDINGS: usize = 38;
-
 /// Where a turn is pending: a channel, by its id, and the SID there, of 14 bits.
 #[derive(Clone, Copy)]
 pub struct PendingSid {
@@ -40,15 +37,16 @@ impl PendingSid {
         PendingSid { channel, sid }
     }
 
-    /// Whether it is on the channel with this id.
-    fn is_on(&self, id: u8) -> bool
-        ensures { result ≡ (self.now.0 == id) }
+    /// The id of the channel, as a place in a list.
+    pub(crate) fn place(&self) -> usize
+        ensures value { result ≡ self.now.0 }
+        ensures in_range { result < 256 }
     {
-        self.channel == id
+        usize::from(self.channel)
     }
 
     /// The SID.
-    fn sid(&self) -> u16
+    pub(crate) fn sid(&self) -> u16
         ensures value { result ≡ self.now.1 }
         ensures in_range { result < 2 ^ 14 }
     {
@@ -134,33 +132,4 @@ fn sid_of(channels: &[u8], sids: &[u16]) -> Option<PendingSid>
         return None;
     }
     Some(PendingSid::new(channels[0], sids[0]))
-}
-
-/// Lists the SIDs that the MAP of a channel has: the first that are pending there, at most 38. What stood in the list is
-/// dropped.
-#[tactic(auto, unfolding(crate::specs::Outputs::pendings_on))]
-pub(crate) fn list_sids(
-    sids: &mut Vec<u16>,
-    pendings: &[PendingSid],
-    id: u8,
-) -> Result<(), NoMemory>
-    ensures value { OnOk result (sids.new.items ≡ spec.pendings_on id pendings.now) }
-    ensures few { OnOk result (length sids.new.items ≤ max_pendings) }
-    ensures bits { OnOk result (AllByRecursion (λ sid. sid < 2 ^ 14) sids.new.items) }
-{
-    sids.clear();
-    // mostly nobody is
-    if pendings.is_empty() {
-        return Ok(());
-    }
-    sids.reserve(MAX_PENDINGS)?;
-    for pending in pendings {
-        if sids.len() == MAX_PENDINGS {
-            break;
-        }
-        if pending.is_on(id) {
-            sids.push_reserved(pending.sid());
-        }
-    }
-    Ok(())
 }

@@ -1,21 +1,22 @@
-ghost use Rattle.std.specs.Prelude.{◌≡◌, ◌+◌, ◌*◌, ◌^◌, ◌<◌, ◌≤◌, ◌++◌, length, take, flat_map, OnOk};
+ghost use Rattle.std.specs.Prelude.{◌≡◌, ◌+◌, ◌*◌, ◌^◌, ◌<◌, ◌≤◌, ℕ, List, ◌++◌, length, take, flat_map, OnOk};
 ghost use Rattle.std.specs.List.{AllByRecursion};
 ghost use Rattle.std.specs.Int.{to_be_bytes, w16, w32};
 ghost use Rattle.us_codec.specs.Elements.{word_of};
 ghost use Rattle.us_codec.specs.Bodies.{front, max_elements, spelling};
-ghost use Rattle.us_codec.specs.MapsFiles.{Piece, record_bytes};
+ghost use Rattle.us_codec.specs.MapsFiles.{record_bytes};
 ghost use Rattle.us_flows.specs.Tables.{max_run_ticks};
 ghost use Rattle.us_channel.specs.Maps.{max_pendings, pending_element, run_element};
 ghost use Rattle.us_holes.specs.Boards.{max_assignments};
 ghost use Rattle.us_holes.specs.Runs.{runs_of};
 ghost use Rattle.us_output.specs.Ahead.{words_of};
 ghost use Rattle.us_output.specs.Files.{records};
-ghost use Rattle.us_output.specs.Leftovers.{IsBuiltFor, told};
+ghost use Rattle.us_output.specs.Leftovers.{AreDealt, IsBuiltFor, told};
 ghost use Rattle.us_output.specs.Outputs as spec;
 ghost use Rattle.us_output.specs.Outputs.{AreWithinLimits, out_of};
 
 use crate::channels_with_text::ChannelWithText;
-use crate::pendings::{PendingSid, list_sids};
+use crate::dealing::Dealt;
+use crate::pendings::PendingSid;
 use crate::scratch::Scratch;
 use us_channel::{gap_of, head_of, pending_of};
 use us_codec::{
@@ -47,37 +48,39 @@ pub fn push_records(
         text.old.items ++ records (out_of config.now (told round channels.now pendings.now))) }
     ensures limits { OnOk result (AreWithinLimits config.now (told round channels.now pendings.now)) }
 {
+    let Scratch { dealt, record, .. } = scratch;
+    dealt.deal(pendings)?;
     for part in channels {
-        push_record(text, scratch, config, round, part, pendings)?;
+        push_record(text, record, dealt, config, round, part)?;
     }
     Ok(())
 }
 
-/// Adds the record of a channel's MAP.
+/// Adds the record of a channel's MAP, with the SIDs that were dealt to it.
 fn push_record(
     text: &mut Vec<u8>,
-    scratch: &mut Scratch,
+    out: &mut [u8; RECORD_BYTES],
+    dealt: &Dealt,
     config: &Config,
     round: u32,
     part: &ChannelWithText,
-    pendings: &[PendingSid],
 ) -> Result<(), NoMemory>
     requires built { IsBuiltFor config.now part.now }
     requires time { (round + 1) * config.now.round_ticks ≤ max_run_ticks }
-    ensures record { let piece : Piece =
-        record { round = round; body = spelling (spec.built_map config.now round pendings.now part.now) } in
-        OnOk result (text.new.items ≡ text.old.items ++ record_bytes piece) }
-    ensures limits { OnOk result (spec.IsWithinLimits config.now round pendings.now part.now) }
+    ensures record { OnOk result ((pendings : List (ℕ × ℕ)) → AreDealt pendings dealt.now.lists.items →
+        text.new.items ≡ text.old.items ++ record_bytes
+        (record { round = round; body = spelling (spec.built_map config.now round pendings part.now) })) }
+    ensures limits { OnOk result ((pendings : List (ℕ × ℕ)) → AreDealt pendings dealt.now.lists.items →
+        spec.IsWithinLimits config.now round pendings part.now) }
 {
-    let Scratch { sids, record, .. } = scratch;
     let channel = part.channel_round().channel();
-    list_sids(sids, pendings, channel.id)?;
+    let sids = dealt.on(channel.id);
     let len = part.channel_round().board().len() as u16;
     let head = head_of(config, channel, round);
-    let end = put_granted(record, round, &head, part, 1 + sids.len());
-    let end = put_next(record, end, Element::null_at(len));
-    let end = put_pendings(record, end, sids, len);
-    push_first(text, record, end)?;
+    let end = put_granted(out, round, &head, part, 1 + sids.len());
+    let end = put_next(out, end, Element::null_at(len));
+    let end = put_pendings(out, end, sids, len);
+    push_first(text, out, end)?;
     Ok(())
 }
 

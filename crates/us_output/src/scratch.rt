@@ -1,3 +1,4 @@
+use crate::dealing::Dealt;
 use crate::lines::PAGE_BYTES;
 use crate::orders::LineOrder;
 use crate::records::RECORD_BYTES;
@@ -7,9 +8,11 @@ use us_holes::Run;
 /// What is kept from round to round for the texts of rounds: lists, and the bytes in which a record or lines are put
 /// together. What stands in it never matters.
 pub struct Scratch {
-    // the runs of a board, where its MAP is wanted as a value, and the SIDs that are pending on its channel
+    // the runs of a board, where its MAP is wanted as a value
     pub(crate) runs: Vec<Run>,
-    pub(crate) sids: Vec<u16>,
+
+    // the SIDs that are pending, by channel
+    pub(crate) dealt: Dealt,
 
     // the G lines of a channel, by where they start
     pub(crate) order: LineOrder,
@@ -23,7 +26,7 @@ impl Drop for Scratch {
     fn drop(self) {
         let Scratch {
             runs: _,
-            sids: _,
+            dealt: _,
             order: _,
             record: _,
             page: _,
@@ -36,7 +39,7 @@ impl Scratch {
     pub fn new(alloc: Global) -> Scratch {
         Scratch {
             runs: Vec::new(alloc),
-            sids: Vec::new(alloc),
+            dealt: Dealt::new(alloc),
             order: LineOrder::new(alloc),
             record: [0; RECORD_BYTES],
             page: [0; PAGE_BYTES],
