@@ -1,9 +1,9 @@
 //! All rounds of a run, by one worker or several.
 //!
-//! A calendar hangs on nothing that is requested, and texts hang on boards alone. So rounds go in batches, and each
+//! A calendar depends on nothing that is requested, and texts depend on boards alone. So rounds go in batches, and each
 //! batch goes through four stages: calendars fill its boards, the calling thread plans it and places its grants, its
-//! texts are put together, and they are saved. In a step four batches that follow one another are in one stage each,
-//! and whichever worker is free does what is to do beside the plan.
+//! texts are put together, and they are saved. At any time four successive batches are in one stage each, and whichever
+//! worker is free does what has to be done beside the plan.
 
 use crate::board::Board;
 use crate::calendar::Calendar;
