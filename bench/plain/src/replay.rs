@@ -135,7 +135,7 @@ impl Run<'_> {
         }
     }
 
-    /// What is to do in a step beside the plan.
+    /// What has to be done in a step beside the plan.
     fn tasks(&self, [filled, _, written, saved]: [Rounds; 4]) -> Vec<Task> {
         let mut tasks = Vec::new();
         if filled.count > 0 {
