@@ -6,7 +6,7 @@
 The seeds go from FIRST to below LAST. PROGRAM is crates/mapsim/out/mapsim where none is named; another one, such as
 bench/plain/target/release/plain, is compared in its place. WORKERS is how many it has (1). Where the two
 differ, the configuration, the trace and the number of rounds are left in a folder `schedulers-SEED` of the system's
-folder for temporary files. The last line counts how often each case of a rule came up."""
+folder for temporary files. The last line counts how often each case of a rule came up. Status 2: the words are wrong."""
 import collections
 import json
 import pathlib
@@ -464,6 +464,9 @@ def inputs(seed, most_rounds=MAX_RUN_TICKS):
 
 
 def main():
+    if len(sys.argv) not in (3, 4, 5) or not (sys.argv[1] + sys.argv[2]).isdigit():
+        print(__doc__, file=sys.stderr)
+        sys.exit(2)
     first, last = int(sys.argv[1]), int(sys.argv[2])
     counts = collections.Counter()
     for seed in range(first, last):
