@@ -80,17 +80,6 @@ module _ (pace : Pace) (round from : ℕ) (states : List EntryState) (at place :
   not_turn state is none e =
       let never : true ≡ false = sym (turn_is state is ∙ eq-eqb at (next_turn pace round from place state) e) ∙ none in cc
 
--- nobody has a turn in a round before its place comes
-pub had_turn : (pace : Pace) (round from : ℕ) (states : List EntryState) (place : ℕ) → place < from →
-    has_turn pace round from states round place ≡ false
-had_turn pace round from states place had = elim (at_place states place) [
-  | inl some ↦
-      let next = next_had pace round from place some.0 had in
-      turn_is pace round from states round place some.0 some.1 ∙
-      ne_eqb round (next_turn pace round from place some.0) (λ e. omega (arith, next, e))
-  | inr none ↦ turn_none pace round from states round place none
-]
-
 -- how far a round has come, from what it began with
 pub record Going (pace : Pace) (round : ℕ) (old_states : List EntryState) (old_board : Board) (old_told : List Settled)
     (from : ℕ) (states : List EntryState) (board : Board) (told : List Settled) (agenda : Agenda) : Type 0 where
@@ -133,10 +122,6 @@ module _ (pace : Pace) (round : ℕ) (old_states : List EntryState) (old_board :
   quiet_at i state yet is none =
       quiet_before pace state round (known_at states i state g.known is) (later_at i state yet is none)
 
-  pub none_before : (i : ℕ) → i < from → is_noted agenda agenda.round i ≡ false
-  none_before i had =
-      ap (λ r. is_noted agenda r i) g.notes.now ∙ g.notes.noted round i (omega arith) ∙ had_turn pace round from states i had
-
   -- Where nothing more is noted for the round, it is over:
   module _ (over : IsNone (is_noted agenda agenda.round)) where
     none : IsNone (is_noted agenda round)
@@ -160,36 +145,6 @@ module _ (pace : Pace) (round : ℕ) (old_states : List EntryState) (old_board :
     pub ends_told : told ≡ old_told ++ (run_entries pace round old_states old_board).settled
     ends_told = sym (append-nil told) ∙ sym (ap (λ ran. told ++ ran.settled) nothing_left) ∙ g.same_told
 
-    -- an entry that was idle in the round has its turn in the next one or later, as it was noted
-    next_same : (q : ℕ) (state : EntryState) → slice_get states q ≡ Some state →
-        next_turn pace round from q state ≡ next_turn pace (round + 1) 0 q state
-    next_same q state is =
-        let then = next_yet pace (round + 1) 0 q state (omega arith) in
-        elim (cases_lt q from) [
-          | inl had ↦ next_had pace round from q state had ∙ sym then
-          | inr yet ↦
-              let later = later_at q state yet is (none q) in
-              let next = next_yet pace round from q state yet in
-              omega (arith, next, then, later)
-        ]
-
-    same_turn : (r q : ℕ) → has_turn pace round from states r q ≡ has_turn pace (round + 1) 0 states r q
-    same_turn r q = elim (at_place states q) [
-      | inr none ↦ turn_none pace round from states r q none ∙ sym (turn_none pace (round + 1) 0 states r q none)
-      | inl some ↦
-          turn_is pace round from states r q some.0 some.1 ∙ ap (λ n. r == n) (next_same q some.0 some.1) ∙
-          sym (turn_is pace (round + 1) 0 states r q some.0 some.1)
-    ]
-
-    pub ends_agenda : (new : Agenda) → new.round ≡ agenda.round + 1 → length new.near ≡ length agenda.near →
-        ((r q : ℕ) → new.round ≤ r → is_noted new r q ≡ is_noted agenda r q) → IsAgenda pace (round + 1) 0 states new
-    ends_agenda new now room same = record {
-      now = now ∙ ap (λ r. r + 1) g.notes.now;
-      few = omega (arith, room, g.notes.few);
-      noted = λ r q low.
-          same r q (omega (arith, low, now, g.notes.now)) ∙ g.notes.noted r q (omega (arith, low)) ∙ same_turn r q;
-    }
-
   -- else the first that is noted has its turn:
   module _ (place : ℕ) (first : IsFirst (is_noted agenda agenda.round) place) where
     none_earlier : (q : ℕ) → q < place → is_noted agenda round q ≡ false
@@ -202,9 +157,6 @@ module _ (pace : Pace) (round : ℕ) (old_states : List EntryState) (old_board :
 
     pub place_within : place < length states
     place_within = within states place turn.0 turn.1
-
-    pub place_few : place < length agenda.near
-    place_few = omega (arith, place_within, g.notes.few)
 
     pub yet : from ≤ place
     yet = elim (cases_lt place from) [
@@ -329,12 +281,7 @@ module _ (pace : Pace) (round : ℕ) (old_states : List EntryState) (old_board :
             known = set_known states place state_now g.known is_state;
           }
 
--- Before round 0 no entry is noted,
-pub none_noted : (pace : Pace) (round : ℕ) (agenda : Agenda) → agenda.round ≡ round →
-    ((r : ℕ) → IsNone (is_noted agenda r)) → IsAgenda pace round 0 [] agenda
-none_noted pace round agenda now none = record { now = now; few = omega arith; noted = λ r q _. none r q }
-
--- and then one more
+-- Before round 0 one more entry is noted.
 pushed_here : (states : List EntryState) (state : EntryState) → slice_get (states ++ state ∷ []) (length states) ≡ Some state
 pushed_here [] state = refl
 pushed_here (first ∷ states) state = pushed_here states state
