@@ -1,5 +1,5 @@
 -- What is due in a round has its turn, in the order of entries, and nothing else needs one.
-use Rattle.std.proofs.Common.{◌≡◌, ◌≢◌, ℕ, zero, suc, ◌+◌, ◌-◌, ◌/◌, ◌<◌, ◌≤◌, ◌⊎◌, ◌==◌, Bool, true, false, List, [], ◌∷◌, ◌++◌, length, map, max, drop, Some, None, slice_get, get_or, refl, ap, ap₂, subst, sym, ◌∙◌, inl, inr, append_assoc, eq-eqb, ne_eqb, lt-ltb, le-ltb, option_map, unwrap_or, add-one, drop-cons, arith}
+use Rattle.std.proofs.Common.{◌≡◌, ◌≢◌, ℕ, zero, suc, ◌+◌, ◌-◌, ◌<◌, ◌≤◌, ◌⊎◌, ◌==◌, true, false, List, [], ◌∷◌, ◌++◌, length, map, max, drop, Some, None, slice_get, get_or, refl, ap, ap₂, subst, sym, ◌∙◌, inl, inr, append_assoc, eq-eqb, ne_eqb, lt-ltb, le-ltb, option_map, unwrap_or, add-one, drop-cons, arith}
 use Rattle.std.specs.List.{AllByRecursion}
 use Rattle.std.proofs.Math.ListN.{set, length-set}
 use Rattle.std.proofs.lemmas.List.{append-nil, length-append}

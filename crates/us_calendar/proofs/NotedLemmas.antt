@@ -1,8 +1,7 @@
 -- What is noted far comes near.
-use Rattle.std.proofs.Common.{◌≡◌, ◌≢◌, ℕ, ◌+◌, ◌%◌, ◌<◌, ◌≤◌, ◌||◌, Bool, true, false, List, length, refl, ap, ap₂, sym, subst, ◌∙◌, inl, inr, arith}
+use Rattle.std.proofs.Common.{◌≡◌, ℕ, ◌||◌, true, false, List, refl, ap, ap₂, sym, ◌∙◌, inl, inr}
 use Rattle.std.specs.BTreeSet.{BTreeSet}
-use Rattle.std.proofs.lemmas.Bool.{cases_Bool, cases_eq, cases_lt}
-use Rattle.std.proofs.lemmas.Bool.Decides.{nat_tests}
+use Rattle.std.proofs.lemmas.Bool.{cases_Bool, cases_eq}
 use Rattle.us_calendar.specs.Agendas.{is_near, is_far, IsBitChanged, IsChanged}
 
 module _ (near new_near : List ℕ) (far new_far : BTreeSet (ℕ × ℕ)) (round place : ℕ)

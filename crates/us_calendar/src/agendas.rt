@@ -59,7 +59,8 @@ impl Agenda {
         self.round
     }
 
-    /// Notes the entry at a place for a round.
+    /// Notes the entry at a place for a round. It is written into its callers, as are the other two that a round calls, so that
+    /// a bit is set and found without a call.
     #[inline(always)]
     pub(crate) fn note(&mut self, round: u32, place: usize) -> Result<(), NoMemory>
         requires later { self.old.round ≤ round }

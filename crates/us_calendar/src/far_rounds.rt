@@ -41,7 +41,7 @@ impl FarRounds {
         }
     }
 
-    /// Notes the entry at a place for a round.
+    /// Notes the entry at a place for a round. It is a call of its own, since most entries are noted near.
     #[inline(never)]
     pub(crate) fn note(&mut self, round: u32, place: usize) -> Result<(), NoMemory>
         ensures noted { OnOk result (spec.IsChanged (spec.is_far self.old) (spec.is_far self.new) round place true) }

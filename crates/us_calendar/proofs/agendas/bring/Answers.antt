@@ -1,5 +1,4 @@
-use Rattle.std.proofs.Common.{◌≡◌, ◌||◌, subst, sym, ◌∙◌, refl, arith}
-use Rattle.us_calendar.specs.Agendas.{AreInside}
+use Rattle.std.proofs.Common.{◌∙◌, arith}
 use Rattle.us_calendar.proofs.NotedLemmas.{came_here, came_from}
 use Rattle.us_calendar.proofs.agendas.bring.Goals as goal
 

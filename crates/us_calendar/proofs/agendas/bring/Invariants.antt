@@ -1,4 +1,4 @@
-use Rattle.std.proofs.Common.{◌≡◌, ℕ, ◌%◌, ◌||◌, length, vec_len}
+use Rattle.std.proofs.Common.{◌≡◌, ℕ, ◌%◌, ◌||◌, length}
 use Rattle.us_calendar.specs.Agendas.{is_near, is_far, AreInside, IsLate}
 use Rattle.us_calendar.proofs.agendas.bring.Given as goal
 

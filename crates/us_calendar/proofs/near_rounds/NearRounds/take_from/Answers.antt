@@ -1,4 +1,4 @@
-use Rattle.std.proofs.Common.{◌≡◌, ◌+◌, ◌-◌, ◌*◌, ◌/◌, ◌%◌, ◌^◌, ◌<◌, false, length, bit_and, subst, sym, arith}
+use Rattle.std.proofs.Common.{◌+◌, ◌-◌, ◌*◌, ◌/◌, ◌%◌, ◌^◌, ◌<◌, false, length, bit_and, subst, sym, arith}
 use Rattle.std.proofs.Math.ListN.{set}
 use Rattle.us_calendar.specs.Agendas.{is_near, IsFirst, IsBitChanged, NoneBefore}
 use Rattle.us_calendar.proofs.BitLemmas.{first_found, first_cleared}
