@@ -1,5 +1,5 @@
 -- Entries hear a round's cut, one after another.
-use Rattle.std.proofs.Common.{◌≡◌, ◌≢◌, ℕ, zero, suc, ◌+◌, ◌<◌, ◌≤◌, Bool, false, is_some, List, [], ◌∷◌, length, map, Option, Some, None, slice_get, refl, ap, sym, ◌∙◌, inl, inr, subst, arith}
+use Rattle.std.proofs.Common.{◌≡◌, ◌≢◌, ℕ, zero, suc, ◌+◌, ◌<◌, ◌≤◌, ◌==◌, Bool, false, option_map, unwrap_or, is_some, List, [], ◌∷◌, length, map, Option, Some, None, slice_get, refl, ap, sym, ◌∙◌, inl, inr, subst, arith}
 use Rattle.std.specs.List.{AllByRecursion}
 use Rattle.std.proofs.Math.ListN.{set, length-set}
 use Rattle.std.proofs.lemmas.List.{length-map}
@@ -8,7 +8,7 @@ use Rattle.us_calendar.specs.Activity.{hears_of, is_marked}
 use Rattle.us_calendar.specs.Occurrences.{Pace}
 use Rattle.us_calendar.specs.Settling.{EntryState, heard}
 use Rattle.us_calendar.specs.declared.silences.Silence.{Silence}
-use Rattle.us_calendar.specs.Agendas.{IsAgenda, IsToday, IsLater, due_at}
+use Rattle.us_calendar.specs.Agendas.{Agenda, IsAgenda, next_turn}
 use Rattle.us_calendar.specs.Kept.{AreHeard, IsEntryState}
 use Rattle.us_calendar.proofs.HeardLemmas.{none_of}
 use Rattle.us_calendar.proofs.AgendaLemmas.{within, set_same, set_other, set_known}
@@ -137,67 +137,17 @@ hearing_ends cut old states place to h past =
 
 -- Hearing changes nothing of when an entry is due.
 
-heard_at : (cut : List ℕ) (states : List EntryState) (p : ℕ) (state : EntryState) → slice_get states p ≡ Some state →
-    slice_get (map (heard cut) states) p ≡ Some (heard cut state)
-heard_at cut [] p state is = let never : None ≡ Some state = is in cc
-heard_at cut (first ∷ states) zero state is = ap (λ s. Some (heard cut s)) (the_some first state is)
-heard_at cut (first ∷ states) (suc p) state is = heard_at cut states p state is
+turn_heard : (cut : List ℕ) (pace : Pace) (round from at place : ℕ) (states : List EntryState) (p : ℕ) →
+    unwrap_or (option_map (λ s. at == next_turn pace round from place s) (slice_get states p)) false ≡
+    unwrap_or (option_map (λ s. at == next_turn pace round from place s) (slice_get (map (heard cut) states) p)) false
+turn_heard cut pace round from at place [] p = refl
+turn_heard cut pace round from at place (first ∷ states) zero = refl
+turn_heard cut pace round from at place (first ∷ states) (suc p) = turn_heard cut pace round from at place states p
 
-was_at : (cut : List ℕ) (states : List EntryState) (p : ℕ) (now : EntryState) →
-    slice_get (map (heard cut) states) p ≡ Some now →
-    (state : EntryState) × (slice_get states p ≡ Some state) × (heard cut state ≡ now)
-was_at cut [] p now is = let never : None ≡ Some now = is in cc
-was_at cut (first ∷ states) zero now is = (first, refl, the_some (heard cut first) now is)
-was_at cut (first ∷ states) (suc p) now is = was_at cut states p now is
-
-module _ (cut : List ℕ) (pace : Pace) (round from : ℕ) (states : List EntryState) where
-  today_heard : (p : ℕ) → IsToday pace round from states p → IsToday pace round from (map (heard cut) states) p
-  today_heard p is = record {
-    state = heard cut is.state;
-    there = heard_at cut states p is.state is.there;
-    waits = is.waits;
-    due = is.due;
-  }
-
-  today_was : (p : ℕ) → IsToday pace round from (map (heard cut) states) p → IsToday pace round from states p
-  today_was p is =
-      let was = was_at cut states p is.state is.there in
-      record {
-        state = was.0;
-        there = was.1;
-        waits = is.waits;
-        due = subst (λ s. due_at pace s ≤ round) (sym was.2) is.due;
-      }
-
-  later_heard : (at p : ℕ) → IsLater pace round from states at p → IsLater pace round from (map (heard cut) states) at p
-  later_heard at p is = record {
-    state = heard cut is.state;
-    there = heard_at cut states p is.state is.there;
-    next = is.next;
-    idle = is.idle;
-  }
-
-  later_was : (at p : ℕ) → IsLater pace round from (map (heard cut) states) at p → IsLater pace round from states at p
-  later_was at p is =
-      let was = was_at cut states p is.state is.there in
-      let same : due_at pace is.state ≡ due_at pace was.0 = ap (due_at pace) (sym was.2) in
-      record {
-        state = was.0;
-        there = was.1;
-        next = omega (arith, is.next, same);
-        idle = λ low. let idle = is.idle low in omega (arith, idle, same);
-      }
-
-  pub agenda_heard : (near : List (List ℕ)) (far : List ℕ) → IsAgenda pace round from states near far →
-      IsAgenda pace round from (map (heard cut) states) near far
-  agenda_heard near far agenda = record {
-    few = omega (arith, agenda.few, length-map states (heard cut));
-    lists = agenda.lists;
-    rising = agenda.rising;
-    far_rising = agenda.far_rising;
-    far_late = agenda.far_late;
-    today = λ p noted. today_heard p (agenda.today p noted);
-    all_today = λ p is. agenda.all_today p (today_was p is);
-    later = λ at p low noted. later_heard at p (agenda.later at p low noted);
-    all_later = λ at p is. agenda.all_later at p (later_was at p is);
-  }
+pub agenda_heard : (cut : List ℕ) (pace : Pace) (round from : ℕ) (states : List EntryState) (agenda : Agenda) →
+    IsAgenda pace round from states agenda → IsAgenda pace round from (map (heard cut) states) agenda
+agenda_heard cut pace round from states agenda is = record {
+  now = is.now;
+  few = omega (arith, is.few, length-map states (heard cut));
+  noted = λ at place low. is.noted at place low ∙ turn_heard cut pace round from at place states place;
+}

@@ -14,7 +14,7 @@ use Rattle.us_calendar.specs.Settling.{Settlement, SettledEntry, EntryState, spo
 use Rattle.us_calendar.specs.Calendars.{Calendar, Ran, run_entries, StartsInside, granted_in, one_if_granted}
 use Rattle.us_calendar.specs.declared.settled.Settled.{Settled}
 use Rattle.us_calendar.specs.Kept.{IsEntryState, IsKept, AreHeard}
-use Rattle.us_calendar.specs.Agendas.{IsAgenda}
+use Rattle.us_calendar.specs.Agendas.{Agenda, IsAgenda}
 use Rattle.us_calendar.proofs.SettleLemmas.{then_settle}
 use Rattle.us_calendar.proofs.HeardLemmas.{heard_now, heard_then}
 use Rattle.us_calendar.proofs.HearingLemmas.{agenda_heard}
@@ -138,69 +138,60 @@ pub lent : {A : Type 0} → (old new : List A) (len : ℕ) → len ≡ length ol
 lent old new len is many = ap (λ n. take n (new ++ drop (length new) old)) is ∙ written old new many
 
 -- and so the calendar keeps what it owes
-pub run_kept : (calendar : Calendar) (now : List EntryState) (next len lists from to : ℕ) (board : Board)
-    (near new_near : List (List ℕ)) (far new_far : List ℕ) → IsKept calendar near far from to →
+pub run_kept : (calendar : Calendar) (now : List EntryState) (next len from to : ℕ) (board : Board)
+    (agenda new : Agenda) → IsKept calendar agenda from to →
     now ≡ (run_entries calendar.pace calendar.next_round calendar.states board).states → AllByRecursion IsEntryState now →
-    len ≡ length calendar.states → lists ≡ length near →
-    next ≡ calendar.next_round + 1 → IsAgenda calendar.pace next 0 now new_near new_far →
+    len ≡ length calendar.states → IsAgenda calendar.pace next 0 now new →
     IsKept (record {
       pace = calendar.pace;
       next_round = next;
       states = take len (now ++ drop (length now) calendar.states);
-    }) (take lists (new_near ++ drop (length new_near) near)) new_far from to
-run_kept calendar now next len lists from to board near new_near far new_far kept now_is states len_is lists_is next_is agenda =
+    }) new from to
+run_kept calendar now next len from to board agenda new kept now_is states len_is notes =
     let ended = run_ended calendar.pace calendar.next_round calendar.states board in
     let many : length now ≡ length calendar.states = ap length now_is ∙ ended.many in
     let most = settled_most now states in
     let few : length now ≤ 1280 = omega (arith, kept.few, many) in
     let back = lent calendar.states now len len_is many in
-    let same : length new_near ≡ length near = omega (arith, agenda.lists, kept.agenda.lists) in
-    let lists_back = lent near new_near lists lists_is same in
     let still = subst (λ ss. AreHeard ss from to) (sym now_is)
     (heard_then calendar.pace calendar.next_round calendar.states board from to kept.heard) in
-    subst (λ ls. IsKept (record {
-      pace = calendar.pace;
-      next_round = next;
-      states = take len (now ++ drop (length now) calendar.states);
-    }) ls new_far from to) (sym lists_back)
-    (subst (λ rs. IsKept (record { pace = calendar.pace; next_round = next; states = rs }) new_near new_far from to) (sym back) (record {
+    subst (λ rs. IsKept (record { pace = calendar.pace; next_round = next; states = rs }) new from to) (sym back) (record {
       known = record { len = kept.known.len; ticks = kept.known.ticks; settled = omega (arith, most, few) };
       few = few;
       states = states;
       heard = still;
-      agenda = agenda;
-    }))
+      notes = notes;
+    })
 
 -- also when it hears
-pub hear_kept : (calendar : Calendar) (cut : List ℕ) (now : List EntryState) (len from to : ℕ) (near : List (List ℕ))
-    (far : List ℕ) → IsKept calendar near far from to → now ≡ map (heard cut) calendar.states →
-    AllByRecursion IsEntryState now → len ≡ length calendar.states →
+pub hear_kept : (calendar : Calendar) (cut : List ℕ) (now : List EntryState) (len from to : ℕ) (agenda : Agenda) →
+    IsKept calendar agenda from to → now ≡ map (heard cut) calendar.states → AllByRecursion IsEntryState now →
+    len ≡ length calendar.states →
     IsKept (record {
       pace = calendar.pace;
       next_round = calendar.next_round;
       states = take len (now ++ drop (length now) calendar.states);
-    }) near far from to
-hear_kept calendar cut now len from to near far kept now_is states len_is =
+    }) agenda from to
+hear_kept calendar cut now len from to agenda kept now_is states len_is =
     let many : length now ≡ length calendar.states = ap length now_is ∙ length-map calendar.states (heard cut) in
     let back = lent calendar.states now len len_is many in
     let settled = ap settled_by now_is ∙ settled_heard cut calendar.states in
-    let agenda = agenda_heard cut calendar.pace calendar.next_round 0 calendar.states near far kept.agenda in
-    subst (λ rs. IsKept (record { pace = calendar.pace; next_round = calendar.next_round; states = rs }) near far from to)
+    let notes = agenda_heard cut calendar.pace calendar.next_round 0 calendar.states agenda kept.notes in
+    subst (λ rs. IsKept (record { pace = calendar.pace; next_round = calendar.next_round; states = rs }) agenda from to)
     (sym back) (record {
       known = record { len = kept.known.len; ticks = kept.known.ticks; settled = omega (arith, settled, kept.known.settled) };
       few = omega (arith, kept.few, many);
       states = states;
       heard = subst (λ ss. AreHeard ss from to) (sym now_is) (heard_now cut calendar.states from to kept.heard);
-      agenda = subst (λ ss. IsAgenda calendar.pace calendar.next_round 0 ss near far) (sym now_is) agenda;
+      notes = subst (λ ss. IsAgenda calendar.pace calendar.next_round 0 ss agenda) (sym now_is) notes;
     })
 
 -- before round 0 too
-pub opening_kept : (pace : Pace) (states : List EntryState) (es : List Entry) (near : List (List ℕ)) (far : List ℕ)
-    (from to : ℕ) → 1 ≤ pace.len → pace.len * minislot_ticks pace.time ≤ 4096 → states ≡ map opening_state es →
-    length es ≤ 1280 → AllByRecursion IsEntryState states → AreHeard states from to →
-    IsAgenda pace 0 0 states near far →
-    IsKept (record { pace = pace; next_round = 0; states = states }) near far from to
-opening_kept pace states es near far from to some ticks states_are few all are agenda =
+pub opening_kept : (pace : Pace) (states : List EntryState) (es : List Entry) (agenda : Agenda) (from to : ℕ) →
+    1 ≤ pace.len → pace.len * minislot_ticks pace.time ≤ 4096 → states ≡ map opening_state es → length es ≤ 1280 →
+    AllByRecursion IsEntryState states → AreHeard states from to → IsAgenda pace 0 0 states agenda →
+    IsKept (record { pace = pace; next_round = agenda.round; states = states }) agenda from to
+opening_kept pace states es agenda from to some ticks states_are few all are notes =
     let many : length states ≡ length es = ap length states_are ∙ length-map es opening_state in
     let most = settled_most states all in
     record {
@@ -208,5 +199,5 @@ opening_kept pace states es near far from to some ticks states_are few all are a
       few = omega (arith, many, few);
       states = all;
       heard = are;
-      agenda = agenda;
+      notes = subst (λ n. IsAgenda pace n 0 states agenda) (sym notes.now) notes;
     }

@@ -1,117 +1,115 @@
--- What is noted of the entries of a calendar: the round in which each is due next. Of this round and of each of the 15
--- behind it there is a list of the entries that are due in it; all others stand in one list, with their rounds.
-use Rattle.std.specs.Prelude.{◌≡◌, ℕ, ◌+◌, ◌*◌, ◌/◌, ◌%◌, ◌<◌, ◌≤◌, ◌⊎◌, max, List, [], ◌∷◌, ◌++◌, length, drop, Some, slice_get, slice_index, slice_index_or, slice_set}
+-- What is noted of the entries of a calendar: the round in which each has its next turn. An entry goes by its place among
+-- the entries. The next 64 rounds are near: of each 64 places there is a word for each of them, with a bit for each place.
+-- All that is noted for later rounds stands in an ordered set of rounds and places.
+use Rattle.std.specs.Prelude.{◌≡◌, ℕ, ◌+◌, ◌*◌, ◌/◌, ◌%◌, ◌^◌, ◌-◌, ◌==◌, ◌<◌, ◌≤◌, nat_lt, max, if◌then◌else◌, Bool, true, false, List, length, option_map, unwrap_or, slice_get, slice_index}
+use Rattle.std.specs.Int.{bit_at}
+use Rattle.std.specs.Ordering.{nat_cmp, ordering_then}
+use Rattle.std.specs.declared.cmp.Ordering.{Ordering}
+use Rattle.std.specs.BTreeSet.{BTreeSet, contains}
 use Rattle.us_calendar.specs.Occurrences.{Pace, ideal, end_of}
 use Rattle.us_calendar.specs.Settling.{EntryState}
 
--- an entry is noted by its place among the entries, of which a channel has fewer
-abbrev pub places : ℕ
-places = 2048
-
--- round and place as one number: earlier rounds come first, and in a round places
-abbrev pub key_of : ℕ → ℕ → ℕ
-key_of at place = at * places + place
-
+-- how many rounds are near: as many as a word has bits
 abbrev pub near_rounds : ℕ
-near_rounds = 16
+near_rounds = 64
 
--- the list of a round that is near
-abbrev pub index_of : ℕ → ℕ
-index_of round = round % near_rounds
+-- whether the bit of a place is set in the word of a round
+abbrev pub is_near : List ℕ → ℕ → ℕ → Bool
+is_near words round place = bit_at (slice_index words (place / 64 * near_rounds + round % near_rounds)) (place % 64) == 1
 
-abbrev pub list_of : List (List ℕ) → ℕ → List ℕ
-list_of near round = slice_index_or near (index_of round) []
+-- earlier rounds come first, and in a round places
+abbrev pub note_cmp : ℕ × ℕ → ℕ × ℕ → Ordering
+note_cmp one other = ordering_then (nat_cmp one.0 other.0) (nat_cmp one.1 other.1)
 
--- each number is above those before it
-abbrev pub IsRising : List ℕ → Type 0
-IsRising numbers = (i j : ℕ) → i < j → j < length numbers → slice_index numbers i < slice_index numbers j
+abbrev pub is_far : BTreeSet (ℕ × ℕ) → ℕ → ℕ → Bool
+is_far notes round place = contains note_cmp notes (round, place)
 
--- it stands in the list, at `first` or behind it
-abbrev pub IsNoted : List ℕ → ℕ → ℕ → Type 0
-IsNoted numbers first number = (i : ℕ) × (first ≤ i) × (i < length numbers) × (slice_index numbers i ≡ number)
+-- the number of the next round, with what is noted for it and for later ones
+pub record Agenda : Type 0 where
+  pub round : ℕ
+  pub near : List ℕ
+  pub far : BTreeSet (ℕ × ℕ)
 
--- the first `count` are below a number, and no other
-pub record IsParted (numbers : List ℕ) (count end : ℕ) : Type 0 where
-  pub inside : count ≤ length numbers
-  pub below : (i : ℕ) → i < count → slice_index numbers i < end
-  pub above : (i : ℕ) → count ≤ i → i < length numbers → end ≤ slice_index numbers i
+-- whether the entry at a place is noted for a round, the next one or a later one
+abbrev pub is_noted : Agenda → ℕ → ℕ → Bool
+is_noted agenda round place =
+    if nat_lt round agenda.round then false else if nat_lt round (agenda.round + near_rounds)
+    then is_near agenda.near round place else is_far agenda.far round place
 
--- what a list has once a number is noted in it: that one, and what it had
-pub record IsNotedIn (old : List ℕ) (number : ℕ) (new : List ℕ) : Type 0 where
-  pub rising : IsRising new
-  pub was : (other : ℕ) → IsNoted new 0 other → (other ≡ number) ⊎ IsNoted old 0 other
-  pub still : (other : ℕ) → IsNoted old 0 other → IsNoted new 0 other
-  pub now : IsNoted new 0 number
+-- what is far isn't near, and is of places that have bits
+abbrev pub IsLate : BTreeSet (ℕ × ℕ) → ℕ → Type 0
+IsLate far from = (round place : ℕ) → is_far far round place ≡ true → from ≤ round
 
--- in round `round` or before it, the entry at a place is noted for round `at`
-abbrev pub IsNotedFor : List (List ℕ) → List ℕ → ℕ → ℕ → ℕ → Type 0
-IsNotedFor near far round at place = ((at < round + near_rounds) × IsNoted (list_of near at) 0 place)
-    ⊎ ((round + near_rounds ≤ at) × (place < places) × IsNoted far 0 (key_of at place))
+abbrev pub AreInside : BTreeSet (ℕ × ℕ) → ℕ → Type 0
+AreInside far places = (round place : ℕ) → is_far far round place ≡ true → place < places
+
+-- no round of the set is before its first one, which is the last that there is where nothing is noted
+pub record IsFirstRound (far : BTreeSet (ℕ × ℕ)) (first : ℕ) : Type 0 where
+  pub least : IsLate far first
+  pub there : first < 2 ^ 32 - 1 → (place : ℕ) × (is_far far first place ≡ true)
+
+-- what is noted for one round is changed at one place,
+pub record IsChanged (old new : ℕ → ℕ → Bool) (round place : ℕ) (noted : Bool) : Type 0 where
+  pub here : new round place ≡ noted
+  pub others : (other_round other : ℕ) → (other_round ≡ round → other ≡ place → ⊥) → new other_round other ≡ old other_round other
+
+-- or for all rounds that share their words with it
+pub record IsBitChanged (old : List ℕ) (round place : ℕ) (noted : Bool) (new : List ℕ) : Type 0 where
+  pub here : (same : ℕ) → same % near_rounds ≡ round % near_rounds → is_near new same place ≡ noted
+  pub others : (other_round other : ℕ) → (other_round % near_rounds ≡ round % near_rounds → other ≡ place → ⊥) →
+      is_near new other_round other ≡ is_near old other_round other
+  pub many : length new ≡ length old
+
+-- what was far for a round is near, and nothing else is changed
+pub record IsBrought (near : List ℕ) (far : BTreeSet (ℕ × ℕ)) (round : ℕ) (new_near : List ℕ) (new_far : BTreeSet (ℕ × ℕ)) :
+    Type 0 where
+  pub here : (place : ℕ) → is_near new_near round place ≡ is_far far round place
+  pub others : (other place : ℕ) → (other % near_rounds ≡ round % near_rounds → ⊥) →
+      is_near new_near other place ≡ is_near near other place
+  pub far_others : (other place : ℕ) → (other ≡ round → ⊥) → is_far new_far other place ≡ is_far far other place
+  pub many : length new_near ≡ length near
+
+-- the first word of a round from one on that isn't 0, or the first that isn't there
+pub record IsFirstWord (words : List ℕ) (from first : ℕ) : Type 0 where
+  pub behind : from ≤ first
+  pub same : first % near_rounds ≡ from % near_rounds
+  pub some : first < length words → 0 < slice_index words first
+  pub none : (word : ℕ) → from ≤ word → word < first → word % near_rounds ≡ from % near_rounds →
+      slice_index words word ≡ 0
+
+-- the lowest bit of a number that is set
+pub record IsLowest (bits at : ℕ) : Type 0 where
+  pub inside : at < 64
+  pub set : bit_at bits at ≡ 1
+  pub below : (lower : ℕ) → lower < at → bit_at bits lower ≡ 0
+
+-- nothing is noted before a place, or nowhere
+abbrev pub NoneBefore : (ℕ → Bool) → ℕ → Type 0
+NoneBefore noted from = (place : ℕ) → place < from → noted place ≡ false
+
+abbrev pub IsNone : (ℕ → Bool) → Type 0
+IsNone noted = (place : ℕ) → noted place ≡ false
+
+-- the first place that is noted
+pub record IsFirst (noted : ℕ → Bool) (place : ℕ) : Type 0 where
+  pub there : noted place ≡ true
+  pub before : NoneBefore noted place
 
 -- the round in which something of an entry is due next, or was first where it waits
 abbrev pub due_at : Pace → EntryState → ℕ
 due_at pace state = ideal state.entry (length state.settled) / end_of pace 0
 
--- In a round the entries before `from` have had their turn. The one at a place has its turn yet, since something of it is
--- due or waits;
-pub record IsToday (pace : Pace) (round from : ℕ) (states : List EntryState) (place : ℕ) : Type 0 where
-  pub state : EntryState
-  pub there : slice_get states place ≡ Some state
-  pub waits : from ≤ place
-  pub due : due_at pace state ≤ round
+-- The round in which the entry at a place has its next turn, where in this round those before `from` have had theirs: this
+-- one if something of it is due or waits, and else the one in which something is due.
+abbrev pub next_turn : Pace → ℕ → ℕ → ℕ → EntryState → ℕ
+next_turn pace round from place state = max (if nat_lt place from then round + 1 else round) (due_at pace state)
 
--- or it has no turn in this round, and the next in round `at`.
-pub record IsLater (pace : Pace) (round from : ℕ) (states : List EntryState) (at place : ℕ) : Type 0 where
-  pub state : EntryState
-  pub there : slice_get states place ≡ Some state
-  pub next : at ≡ max (round + 1) (due_at pace state)
-  pub idle : from ≤ place → round < due_at pace state
+abbrev pub has_turn : Pace → ℕ → ℕ → List EntryState → ℕ → ℕ → Bool
+has_turn pace round from states at place =
+    unwrap_or (option_map (λ state. at == next_turn pace round from place state) (slice_get states place)) false
 
 -- What is noted in a round: each entry for the one round in which it has its next turn, and nothing else.
-pub record IsAgenda (pace : Pace) (round from : ℕ) (states : List EntryState) (near : List (List ℕ)) (far : List ℕ) :
-    Type 0 where
-  pub few : length states ≤ places
-  pub lists : length near ≡ near_rounds
-  pub rising : (at : ℕ) → IsRising (list_of near at)
-  pub far_rising : IsRising far
-  pub far_late : (at place : ℕ) → place < places → IsNoted far 0 (key_of at place) → round + near_rounds ≤ at
-  pub today : (place : ℕ) → IsNoted (list_of near round) 0 place → IsToday pace round from states place
-  pub all_today : (place : ℕ) → IsToday pace round from states place → IsNoted (list_of near round) 0 place
-  pub later : (at place : ℕ) → round < at → IsNotedFor near far round at place → IsLater pace round from states at place
-  pub all_later : (at place : ℕ) → IsLater pace round from states at place → IsNotedFor near far round at place
-
--- noting the entry at a place for round `at`, in round `round` or before it, changes one list
-abbrev pub IsPut : List (List ℕ) → List ℕ → ℕ → ℕ → ℕ → List (List ℕ) → List ℕ → Type 0
-IsPut near far round at place new_near new_far =
-    ((at < round + near_rounds) × (new_far ≡ far) × ((list : List ℕ) × IsNotedIn (list_of near at) place list
-    × (new_near ≡ slice_set near (index_of at) list)))
-    ⊎ ((round + near_rounds ≤ at) × (new_near ≡ near) × IsNotedIn far (key_of at place) new_far)
-
--- the first place that is noted for a round is taken
-abbrev pub IsTaken : List (List ℕ) → ℕ → ℕ → List (List ℕ) → Type 0
-IsTaken near round place new_near = (list : List ℕ) × (list_of near round ≡ place ∷ list)
-    × (new_near ≡ slice_set near (index_of round) list)
-
--- what is noted where the first ones of a round's list are out of it, which are to be taken before the others
-abbrev pub with_taken : List ℕ → List (List ℕ) → ℕ → List (List ℕ)
-with_taken taken near round = slice_set near (index_of round) (taken ++ list_of near round)
-
--- a list has the places of the first keys, and nothing else
-pub record IsFilled (keys : List ℕ) (count : ℕ) (list : List ℕ) : Type 0 where
-  pub rising : IsRising list
-  pub was : (place : ℕ) → IsNoted list 0 place → (i : ℕ) × (i < count) × (slice_index keys i % places ≡ place)
-  pub still : (i : ℕ) → i < count → IsNoted list 0 (slice_index keys i % places)
-
--- where a round is over, its list is made that of the round 16 behind it, which was the first of the others
-pub record IsBrought (near : List (List ℕ)) (far : List ℕ) (round : ℕ) (new_near : List (List ℕ)) (new_far : List ℕ) :
-    Type 0 where
-  pub count : ℕ
-  pub parted : IsParted far count (key_of (round + near_rounds + 1) 0)
-  pub list : List ℕ
-  pub filled : IsFilled far count list
-  pub near_is : new_near ≡ slice_set near (index_of round) list
-  pub far_is : new_far ≡ drop count far
-
--- nothing is noted for a round, and nothing for the round 16 behind it
-abbrev pub IsIdle : List (List ℕ) → List ℕ → ℕ → Type 0
-IsIdle near far round = (list_of near round ≡ []) × IsParted far 0 (key_of (round + near_rounds + 1) 0)
+pub record IsAgenda (pace : Pace) (round from : ℕ) (states : List EntryState) (agenda : Agenda) : Type 0 where
+  pub now : agenda.round ≡ round
+  pub few : length states ≤ length agenda.near
+  pub noted : (at place : ℕ) → round ≤ at → is_noted agenda at place ≡ has_turn pace round from states at place

@@ -8,7 +8,7 @@ use Rattle.us_calendar.specs.Entries.{Entry, IsEntry}
 use Rattle.us_calendar.specs.Occurrences.{Pace, ideal, end_of}
 use Rattle.us_calendar.specs.Settling.{EntryState, Settlement, SettledEntry, kind_at, if_detected, left_out, settle_entry}
 use Rattle.us_calendar.specs.Calendars.{Calendar, IsCalendar}
-use Rattle.us_calendar.specs.Agendas.{IsAgenda}
+use Rattle.us_calendar.specs.Agendas.{Agenda, IsAgenda}
 use Rattle.us_calendar.specs.declared.interval_kinds.Kinds.{Kinds}
 use Rattle.us_calendar.specs.declared.silences.Silence.{Silence}
 use Rattle.us_calendar.specs.declared.occurrences.Occurrence.{Occurrence}
@@ -95,9 +95,9 @@ pub record AreHeard (states : List EntryState) (from to : ℕ) : Type 0 where
   pub behind : (p : ℕ) (state : EntryState) → slice_get states p ≡ Some state → to ≤ p → state.entry.silence ≡ None
 
 -- what a calendar keeps, with what it notes
-pub record IsKept (calendar : Calendar) (near : List (List ℕ)) (far : List ℕ) (from to : ℕ) : Type 0 where
+pub record IsKept (calendar : Calendar) (agenda : Agenda) (from to : ℕ) : Type 0 where
   pub known : IsCalendar calendar
   pub few : length calendar.states ≤ 1280
   pub states : AllByRecursion IsEntryState calendar.states
   pub heard : AreHeard calendar.states from to
-  pub agenda : IsAgenda calendar.pace calendar.next_round 0 calendar.states near far
+  pub notes : IsAgenda calendar.pace calendar.next_round 0 calendar.states agenda

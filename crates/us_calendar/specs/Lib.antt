@@ -27,7 +27,5 @@ pub mod Examples
 pub mod ActivityExamples
 -- inside the crate: what is noted of entries that are due later,
 pub mod Agendas
--- sets of places, as bits,
-pub mod PlaceSets
 -- and how a calendar is kept
 pub mod Kept

@@ -6,16 +6,14 @@ ghost use Rattle.us_flows.specs.Lawful.{IsChannel};
 ghost use Rattle.us_calendar.specs.Calendars as spec;
 ghost use Rattle.us_calendar.specs.Kept.{IsKept};
 
-use crate::agendas::{noted, settle_due};
+use crate::agendas::Agenda;
 use crate::entry_states::EntryState;
 use crate::heard_entries::{HeardPlaces, activity_among, hear_all};
 use crate::listing::entries_of;
-use crate::near_rounds::clear_all;
 use crate::paces::Pace;
-use crate::places::Places;
-use crate::rising::Rising;
 use crate::settled::Settled;
 use crate::spans::Span;
+use crate::turns::{noted, settle_due};
 use std::alloc::Global;
 use std::marker::Model;
 use us_flows::{Channel, Config};
@@ -25,14 +23,10 @@ use us_slots::NoMemory;
 /// The calendar of a channel.
 pub struct Calendar {
     pace: Pace,
-    next_round: u32,
     states: Vec<EntryState>,
 
-    // the places of the entries that are due in one of the next 16 rounds, a set for each round
-    near: Vec<Places>,
-
-    // rounds and places of all others
-    far: Rising,
+    // the round that is run next, and for which round each entry is noted
+    agenda: Agenda,
 
     // the places of those whose activity is detected
     heard: HeardPlaces,
@@ -41,10 +35,10 @@ pub struct Calendar {
 impl Model for Calendar {
     ghost Value = { spec.Calendar };
 
-    ghost view = { λ c. record { pace = c.pace; next_round = c.next_round; states = c.states.items } };
+    ghost view = { λ c. record { pace = c.pace; next_round = c.agenda.round; states = c.states.items } };
 
-    ghost invariant = { λ c. IsKept (record { pace = c.pace; next_round = c.next_round; states = c.states.items })
-        c.near.items c.far c.heard.from c.heard.to };
+    ghost invariant = { λ c. IsKept (record { pace = c.pace; next_round = c.agenda.round; states = c.states.items })
+        c.agenda c.heard.from c.heard.to };
 }
 
 /// Gives the entries up. It is written out so that it is one step wherever a calendar ends.
@@ -52,10 +46,8 @@ impl Drop for Calendar {
     fn drop(self) {
         let Calendar {
             pace: _,
-            next_round: _,
             states: _,
-            near: _,
-            far: _,
+            agenda: _,
             heard: _,
         } = self;
     }
@@ -81,14 +73,12 @@ impl Calendar {
             len: config.map_len(channel),
         };
         let entries = entries_of(alloc, config, channel)?;
-        let (states, near, far) = noted(alloc, &Span::new(pace, 0), &entries)?;
+        let (states, agenda) = noted(alloc, &Span::new(pace, 0), &entries)?;
         let heard = HeardPlaces::of(&states);
         Ok(Calendar {
             pace,
-            next_round: 0,
             states,
-            near,
-            far,
+            agenda,
             heard,
         })
     }
@@ -192,24 +182,19 @@ impl Calendar {
         ensures counts { OnOk result (length settled.new.items + spec.settled_in self.old ≤ spec.settled_in self.new) }
         ensures pace { self.new.pace ≡ self.old.pace }
     {
-        let span = Span::new(self.pace, round);
         settled.clear();
         match settle_due(
-            &span,
+            self.pace,
+            round,
             &mut self.states,
-            &mut self.near,
-            &mut self.far,
+            &mut self.agenda,
             board,
             settled,
         ) {
-            Ok(()) => {
-                self.next_round = round + 1;
-                Ok(())
-            }
+            Ok(()) => Ok(()),
             Err(refused) => {
                 self.states.clear();
-                clear_all(&mut self.near);
-                self.far.clear();
+                self.agenda.clear();
                 self.heard = HeardPlaces { from: 0, to: 0 };
                 Err(refused)
             }
@@ -229,6 +214,6 @@ impl Calendar {
         ensures value { result ≡ self.now.next_round }
         ensures known { spec.IsCalendar self.now }
     {
-        self.next_round
+        self.agenda.round()
     }
 }

@@ -47,20 +47,17 @@ mod entry_states;
 // The entries of a channel.
 mod listing;
 
-// What is noted of an entry.
-mod keys;
-
-// Numbers in order.
-mod rising;
-
-// Places in order, as bits.
-mod places;
-
-// What is noted for the next rounds.
+// Which entries are noted for the next rounds.
 mod near_rounds;
 
-// The entries that are due.
+// And which for later ones.
+mod far_rounds;
+
+// For which round each entry is noted.
 mod agendas;
+
+// The entries that are due in a round.
+mod turns;
 
 // The entries that hear whether their flows are silent.
 mod heard_entries;

@@ -1,119 +1,118 @@
-ghost use Rattle.std.specs.Prelude.{◌≡◌, ◌+◌, ◌<◌, ◌≤◌, ◌^◌, [], length, IfNone, IfOk, IfSome, OnOk};
-ghost use Rattle.std.specs.Bool.{OnTrue, OnFalse};
-ghost use Rattle.std.specs.List.{AllByRecursion};
+ghost use Rattle.std.specs.Prelude.{◌≡◌, ◌+◌, ◌*◌, ◌%◌, ◌/◌, ◌<◌, ◌≤◌, ℕ, List, true, false, [], length, slice_index, IfNone, IfOk, IfSome};
+ghost use Rattle.std.specs.Bool.{OnTrue};
 ghost use Rattle.us_calendar.specs.Agendas as spec;
 
-use crate::keys::{key_of, place_of};
-use crate::places::{Places, WordPlaces};
-use crate::rising::Rising;
 use std::alloc::Global;
+use std::marker::Model;
 use us_slots::NoMemory;
 
-/// The rounds that have a list of their own at a time: this one and those that come next.
-const NEAR_ROUNDS: u32 = 16;
+/// How many rounds are near: the one that is run next, and those behind it.
+pub(crate) const NEAR_ROUNDS: u32 = 64;
 
-/// The index of a round's list.
-fn index_of(round: u32) -> usize
-    ensures value { result ≡ spec.index_of round }
-    ensures inside { result < spec.near_rounds }
-{
-    (round % NEAR_ROUNDS) as usize
+/// How many words stand together, one for each near round.
+const ROUNDS: usize = NEAR_ROUNDS as usize;
+
+/// How many places a word has a bit for.
+const BITS: usize = 64;
+
+/// For which of the near rounds the entry at each place is noted. Of each 64 places there is a word for each round.
+pub(crate) struct NearRounds {
+    words: Vec<u64>,
 }
 
-/// Lists of the first rounds, in which nothing is noted.
-pub(crate) fn no_lists(alloc: Global) -> Result<Vec<Places>, NoMemory>
-    ensures many { IfOk result (λ near. length near.items ≡ spec.near_rounds) }
-    ensures none { IfOk result (λ near. AllByRecursion (λ list. list ≡ []) near.items) }
-{
-    let mut near = Vec::with_capacity(alloc, NEAR_ROUNDS as usize)?;
-    for _ in 0..NEAR_ROUNDS {
-        near.push(Places::new())?;
-    }
-    Ok(near)
+impl Model for NearRounds {
+    ghost Value = { List ℕ };
+
+    ghost view = { λ n. n.words.items };
+
+    ghost invariant = { λ n. length n.words.items % 64 ≡ 0 };
 }
 
-/// Nothing is noted any more.
-pub(crate) fn clear_all(near: &mut [Places])
-    ensures many { length near.new ≡ length near.old }
-    ensures none { AllByRecursion (λ list. list ≡ []) near.new }
-{
-    for list in near.iter_mut() {
-        list.clear();
+/// Gives the words up. It is written out so that it is one step wherever the rounds end.
+impl Drop for NearRounds {
+    fn drop(self) {
+        let NearRounds { words: _ } = self;
     }
 }
 
-/// Whether a round has nothing to do: nothing is noted for it, and where it ends nothing comes to its list.
-pub(crate) fn is_idle(near: &[Places], far: &Rising, round: u32) -> bool
-    requires lists { length near.now ≡ spec.near_rounds }
-    requires early { round + spec.near_rounds + 1 < 2 ^ 32 }
-    ensures idle { OnTrue result (spec.IsIdle near.now far.now round) }
-    ensures busy { OnFalse result (spec.IsIdle near.now far.now round → ⊥) }
-{
-    if !near[index_of(round)].is_empty() {
-        return false;
+impl NearRounds {
+    /// Rounds for which none of these many entries is noted.
+    pub(crate) fn new(alloc: Global, entries: usize) -> Result<NearRounds, NoMemory>
+        requires few { entries ≤ 1280 }
+        ensures room { IfOk result (λ near. entries ≤ length near) }
+        ensures none { IfOk result (λ near. (round : ℕ) → spec.IsNone (spec.is_near near round)) }
+    {
+        let mut words = Vec::new(alloc);
+        words.resize(entries.div_ceil(BITS) * ROUNDS, 0)?;
+        Ok(NearRounds { words })
     }
-    far.is_from(key_of(round + NEAR_ROUNDS + 1, 0))
+
+    /// Notes the entry at a place for a round.
+    pub(crate) fn note(&mut self, round: u32, place: usize)
+        requires { place < length self.old }
+        ensures { spec.IsBitChanged self.old round place true self.new }
+    {
+        self.words[word_of(round, place)] |= 1 << (place % BITS);
+    }
+
+    /// Takes the first place that is noted for a round, where none before `from` is.
+    pub(crate) fn take_from(&mut self, round: u32, from: usize) -> Option<usize>
+        requires { spec.NoneBefore (spec.is_near self.old round) from }
+        ensures first { IfSome result (spec.IsFirst (spec.is_near self.old round)) }
+        ensures taken { IfSome result (λ place. spec.IsBitChanged self.old round place false self.new) }
+        ensures none { IfNone result (spec.IsNone (spec.is_near self.old round)) }
+        ensures unchanged { IfNone result (self.new ≡ self.old) }
+    {
+        let word = first_word(&self.words, word_of(round, from));
+        if word >= self.words.len() {
+            return None;
+        }
+        let bits = self.words[word];
+        let bit = lowest(bits);
+        self.words[word] = bits & !(1 << bit);
+        Some(word / ROUNDS * BITS + bit)
+    }
+
+    /// Whether nothing is noted for a round.
+    pub(crate) fn is_idle(&self, round: u32) -> bool
+        ensures { OnTrue result (spec.IsNone (spec.is_near self.now round)) }
+    {
+        first_word(&self.words, word_of(round, 0)) >= self.words.len()
+    }
+
+    /// Nothing is noted any more.
+    pub(crate) fn clear(&mut self)
+        ensures { self.new ≡ [] }
+    {
+        self.words.clear();
+    }
 }
 
-/// Takes the first of the places that are noted for a round: of those that are out of its list, and then of the list. Those of
-/// a word come out of it together, so that most are taken without a look at the list.
-pub(crate) fn take_next(taken: &mut WordPlaces, near: &mut [Places], round: u32) -> Option<usize>
-    requires { length near.old ≡ spec.near_rounds }
-    ensures some { IfSome result (λ place. spec.IsTaken (spec.with_taken taken.old near.old round) round place
-        (spec.with_taken taken.new near.new round)) }
-    ensures none { IfNone result
-        ((spec.list_of near.new round ≡ []) × (near.new ≡ spec.with_taken taken.old near.old round)) }
-    ensures lists { length near.new ≡ length near.old }
+/// The lowest bit that is set.
+fn lowest(bits: u64) -> usize
+    requires { 0 < bits }
+    ensures { spec.IsLowest bits result }
 {
-    if let Some(place) = taken.take_first() {
-        return Some(place);
-    }
-    *taken = near[index_of(round)].take_word();
-    taken.take_first()
+    bits.trailing_zeros() as usize
 }
 
-/// Notes the entry at a place for round `at`, in round `round` or before it.
-pub(crate) fn note(
-    near: &mut [Places],
-    far: &mut Rising,
-    round: u32,
-    at: u32,
-    place: usize,
-) -> Result<(), NoMemory>
-    requires lists { length near.old ≡ spec.near_rounds }
-    requires place { place < spec.places }
-    requires later { round ≤ at }
-    ensures { OnOk result (spec.IsPut near.old far.old round at place near.new far.new) }
+/// The index of the word that has the bit of a place in a round.
+fn word_of(round: u32, place: usize) -> usize
+    ensures { result ≡ place / 64 * spec.near_rounds + round % spec.near_rounds }
 {
-    if at - round < NEAR_ROUNDS {
-        near[index_of(at)].note(place);
-        return Ok(());
-    }
-    far.note(key_of(at, place))?;
-    Ok(())
+    place / BITS * ROUNDS + (round % NEAR_ROUNDS) as usize
 }
 
-/// Ends a round, for which nothing is noted any more: its list is that of the round 16 behind it from here on.
-pub(crate) fn bring(near: &mut [Places], far: &mut Rising, round: u32)
-    requires lists { length near.old ≡ spec.near_rounds }
-    requires early { round + spec.near_rounds + 1 < 2 ^ 32 }
-    requires over { spec.list_of near.old round ≡ [] }
-    ensures { spec.IsBrought near.old far.old round near.new far.new }
+/// The first word of the same round from this one on in which a bit is set, or one that isn't there.
+fn first_word(words: &[u64], from: usize) -> usize
+    ensures { spec.IsFirstWord words.now from result }
 {
-    let count = far.count_below(key_of(round + NEAR_ROUNDS + 1, 0));
-    fill(&mut near[index_of(round)], far, count);
-    far.drop_first(count);
-}
-
-/// Puts the places of the first keys in a list that has none.
-fn fill(list: &mut Places, far: &Rising, count: usize)
-    requires none { list.old ≡ [] }
-    requires inside { count ≤ length far.now }
-    ensures { spec.IsFilled far.now count list.new }
-{
-    let mut at = 0;
-    while at < count {
-        list.note(place_of(far.get(at)));
-        at += 1;
+    let mut word = from;
+    while word < words.len() {
+        if words[word] != 0 {
+            break;
+        }
+        word += ROUNDS;
     }
+    word
 }

@@ -1,6 +1,6 @@
 ghost use Rattle.std.specs.Prelude.{◌≡◌, IfSome, OnOk};
 
-use super::plain::{Plain, ROUNDS, Round, is_active, is_as_plain, mark};
+use super::plain::{Plain, Round, is_active, is_as_plain, mark};
 use super::tables::config_of;
 use std::alloc::Global;
 use std::process::Abort;
@@ -14,11 +14,16 @@ pub(super) fn same(rt: &impl Abort, found: u64, wanted: u64) {
     assert_eq!(rt; found, wanted);
 }
 
-/// How many rounds a calendar of these entries settles as the plain program does, with the marks of a seed: up to the first
-/// one in which they differ. `None` where memory is refused, or the tables are.
-pub(super) fn rounds_alike(alloc: Global, entries: &mut [Plain], seed: u64) -> Option<u64> {
+/// How many of so many rounds a calendar of these entries settles as the plain program does, with the marks of a seed: up to
+/// the first one in which they differ. `None` where memory is refused, or the tables are.
+pub(super) fn rounds_alike(
+    alloc: Global,
+    entries: &mut [Plain],
+    seed: u64,
+    rounds: u64,
+) -> Option<u64> {
     match opened(alloc, entries) {
-        Some(mut calendar) => rounds_of(alloc, &mut calendar, entries, seed),
+        Some(mut calendar) => rounds_of(alloc, &mut calendar, entries, seed, rounds),
         None => None,
     }
 }
@@ -29,15 +34,16 @@ fn rounds_of(
     calendar: &mut Calendar,
     entries: &mut [Plain],
     seed: u64,
+    rounds: u64,
 ) -> Option<u64>
     requires { calendar.old.pace.len ≡ 160 }
 {
-    for round in 0..ROUNDS {
+    for round in 0..rounds {
         if !is_alike(alloc, calendar, entries, seed)? {
             return Some(round);
         }
     }
-    Some(ROUNDS)
+    Some(rounds)
 }
 
 /// How many of so many rounds a calendar of these entries settles, none of them marked: up to the first that it doesn't.

@@ -14,7 +14,7 @@ fn unsettled(kind: Kind, id: u16, start: u64, every: (u64, u64), grants: u64, sl
         grants,
         slots,
         word: 0,
-        settled: [false; 64],
+        settled: [0; 64],
     }
 }
 
@@ -91,6 +91,41 @@ pub(super) fn random_entries(seed: &mut u64) -> [Plain; 10] {
     let mut entries = [unsettled(Kind::Station, 0, 0, (1_000, 0), 1, 4); 10];
     for (i, entry) in entries.iter_mut().enumerate() {
         *entry = random_entry(seed, 10 - i as u16);
+    }
+    number_words(&mut entries);
+    entries
+}
+
+/// Less rounds than these are in an interval.
+fn most_rounds(seed: &mut u64) -> u64
+    ensures some { 0 < result }
+    ensures few { result ≤ 5_000 }
+{
+    match next(seed, 4) {
+        0 => 3,
+        1 => 70,
+        2 => 700,
+        _ => 5_000,
+    }
+}
+
+/// The same entry with an interval of 1 to 5,000 rounds.
+fn far_entry(seed: &mut u64, entry: Plain) -> Plain {
+    let most = most_rounds(seed);
+    let interval = 2_000 * (1 + next(seed, most)) - next(seed, 2_000);
+    Plain {
+        interval,
+        jitter: entry.jitter % interval,
+        start: next(seed, interval),
+        ..entry
+    }
+}
+
+/// Random entries of which some have long intervals.
+pub(super) fn far_entries(seed: &mut u64) -> [Plain; 10] {
+    let mut entries = random_entries(seed);
+    for entry in entries.iter_mut() {
+        *entry = far_entry(seed, *entry);
     }
     number_words(&mut entries);
     entries

@@ -1,8 +1,5 @@
 use us_calendar::{Kind, Settled};
 
-/// The rounds of a comparison, of 2,000 microseconds.
-pub(super) const ROUNDS: u64 = 5;
-
 /// The minislots of a poll.
 const POLL: u64 = 2;
 
@@ -25,8 +22,8 @@ pub(super) struct Plain {
     pub(super) slots: u64,
     /// The number of its flow's first word.
     pub(super) word: u64,
-    /// Which of its occurrences are settled, by number.
-    pub(super) settled: [bool; 64],
+    /// The occurrences of which some are settled, 64 in a row: of each that is, its number and 1.
+    pub(super) settled: [u64; 64],
 }
 
 /// A round, the seed of the marks, and what a calendar settled in it.
@@ -48,19 +45,20 @@ pub(super) fn mark(seed: u64, round: u64, word: u64) -> u64 {
     u64::from((mixed >> 16) % 4 == 0)
 }
 
-/// Whether a flow is active in a round, by all marks up to it.
+/// Whether a flow is active in a round, by its last mark up to it.
 pub(super) fn is_active(entry: &Plain, seed: u64, at: u64) -> bool {
-    let mut active = true;
-    for round in 0..ROUNDS {
-        if round <= at {
-            if mark(seed, round, entry.word.saturating_add(1)) > 0 {
-                active = true;
-            } else if mark(seed, round, entry.word) > 0 {
-                active = false;
-            }
+    if entry.kind != Kind::Activity {
+        return true;
+    }
+    for before in 0..at.saturating_add(1) {
+        if mark(seed, at - before, entry.word.saturating_add(1)) > 0 {
+            return true;
+        }
+        if mark(seed, at - before, entry.word) > 0 {
+            return false;
         }
     }
-    active || entry.kind != Kind::Activity
+    true
 }
 
 /// Kinds in the order of their turns.
@@ -169,8 +167,11 @@ fn settle(entry: &Plain, number: u64, round: Round, cells: &mut Cells) -> Option
     let end = begin.saturating_add(8_000);
     let (i, k) = spot_of(entry, number);
     let window = window_of(entry, i);
+    if window.0 >= end {
+        return None;
+    }
     let active = is_active(entry, round.seed, window.0 / 8_000);
-    if window.0 >= end || (!active && k > 0) {
+    if !active && k > 0 {
         return None;
     }
     let (kind, id) = (number_of(entry.kind), u64::from(entry.id));
@@ -194,12 +195,21 @@ fn one_more(settled: &[Settled], same: usize, told: Told) -> usize {
     }
 }
 
-/// Goes over all occurrences of an entry.
+/// The interval of an entry that begins last before a moment, both in microseconds, or its first one.
+fn interval_at(entry: &Plain, us: u64) -> u64 {
+    us.saturating_sub(entry.start) / entry.interval.max(1)
+}
+
+/// Goes over the occurrences of an entry that begin before a round ends, but for those whose windows end before it begins.
 fn turn_of(entry: &mut Plain, round: Round, cells: &mut Cells, same: &mut usize) {
-    for number in 0..64usize {
-        if !entry.settled[number] {
-            if let Some(told) = settle(entry, number as u64, round, cells) {
-                entry.settled[number] = true;
+    let begin = round.number.saturating_mul(2_000);
+    let first = interval_at(entry, begin.saturating_sub(entry.jitter));
+    let last = interval_at(entry, begin.saturating_add(2_000)).saturating_add(1);
+    for number in first.saturating_mul(entry.grants)..last.saturating_mul(entry.grants) {
+        let noted = (number % 64) as usize;
+        if entry.settled[noted] != number + 1 {
+            if let Some(told) = settle(entry, number, round, cells) {
+                entry.settled[noted] = number + 1;
                 *same = one_more(round.settled, *same, told);
             }
         }

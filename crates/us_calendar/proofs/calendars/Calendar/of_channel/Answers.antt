@@ -11,7 +11,7 @@ invariant_of-result c =
     let ticks : c.map_len.result * minislot_ticks c.time.result.now ≤ 4096 =
     omega (arith, c.map_len.ensures.ticks, ap (λ t. c.map_len.result * minislot_ticks t) time) in
     opening_kept (record { time = c.time.result.now; len = c.map_len.result }) c.in_ok-states.states.items
-    c.in_ok-entries.entries.items c.in_ok-states.near.items c.in_ok-states.far c.of-heard.result.from
+    c.in_ok-entries.entries.items c.in_ok-states.agenda c.of-heard.result.from
     c.of-heard.result.to c.map_len.ensures.some ticks
     (c.in_ok-states.ensures.states ∙ ap (map opening_state) c.deref.ensures.value) c.in_ok-entries.ensures.few
     c.in_ok-states.ensures.known
