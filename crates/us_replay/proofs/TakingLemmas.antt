@@ -1,10 +1,9 @@
 -- Taking: the words of a round's asks are swapped one after another, and then all that was submitted was taken.
-use Rattle.std.proofs.Common.{◌≡◌, ◌≢◌, ℕ, ◌+◌, ◌^◌, ◌<◌, ◌≤◌, List, [], ◌∷◌, ◌++◌, length, map, take, drop, get_or, set, replicate, slice_index, refl, ap, sym, subst, ◌∙◌, inl, inr, arith}
+use Rattle.std.proofs.Common.{◌≡◌, ◌≢◌, ℕ, ◌+◌, ◌^◌, ◌<◌, ◌≤◌, List, [], ◌∷◌, ◌++◌, length, map, take, drop, get_or, set, replicate, slice_index, refl, ap, sym, ◌∙◌, inl, inr, arith}
 use Rattle.std.specs.List.{AllByRecursion}
 use Rattle.std.proofs.lemmas.Bool.{cases_eq, cases_lt}
 use Rattle.std.proofs.lemmas.List.{append-nil, append_assoc, drop_all, drop_more, get_or_default, get_or-set_same, get_or-set_other, length-replicate, length-set, map-append, take_all, take_more}
 use Rattle.us_slots.specs.Lists.{added}
-use Rattle.us_intake.specs.Tallies.{raised}
 use Rattle.us_intake.specs.Seats.{Seat, IsSeat, IsWhole, seat_after_take}
 use Rattle.us_intake.proofs.TallyLemmas.{index-added, index-empty, index-past, index_le_sum, length-added, same_tally}
 use Rattle.us_output.proofs.PartLemmas.{all_at}

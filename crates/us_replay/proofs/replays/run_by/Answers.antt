@@ -1,4 +1,4 @@
-use Rattle.std.proofs.Common.{false, ◌≡◌, ◌<◌, ◌+◌, ◌^◌, length, sym, ap, subst, ◌∙◌, arith, rules}
+use Rattle.std.proofs.Common.{false, ◌<◌, ◌+◌, ◌^◌, length, sym, ap, subst, ◌∙◌, arith, rules}
 use Rattle.us_requests.specs.Traces.{cuts_in}
 use Rattle.us_replay.specs.Endings.{ending_of}
 use Rattle.us_replay.specs.Replays.{KeptLimits}
