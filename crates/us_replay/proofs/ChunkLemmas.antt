@@ -3,12 +3,13 @@ use Rattle.std.proofs.Common.{◌≡◌, ℕ, zero, suc, ◌+◌, ◌-◌, ◌*�
 use Rattle.std.specs.List.{AllByRecursion}
 use Rattle.std.proofs.Math.Nat.{div-mul-le_self, div-one}
 use Rattle.std.proofs.lemmas.Nat.{le-div}
-use Rattle.std.proofs.lemmas.List.{append-nil, append_assoc, length-append, length-drop, length-take-le, take-append-drop}
+use Rattle.std.proofs.lemmas.List.{append-nil, append_assoc, length-append, length-drop, length-take-le, nil_from_length, take-append-drop}
 use Rattle.std.proofs.lemmas.Grind.{flat_map-append}
 use Rattle.us_intake.specs.Seats.{Intake, Seat, new_seat, seat_after_split, spent}
+use Rattle.us_output.proofs.PartLemmas.{all_append}
 use Rattle.us_requests.specs.declared.asks.Ask.{Ask}
 use Rattle.us_replay.specs.Collecting.{AreAsks, IsChunk, chunk_quota}
-use Rattle.us_replay.proofs.CollectingLemmas.{are-append, no-items, with_all}
+use Rattle.us_replay.proofs.CollectingLemmas.{are-append}
 
 corner : (a b : ℕ) → suc a + b ≤ suc a * suc b
 corner zero b = omega arith
@@ -29,14 +30,6 @@ share asks (suc b) some few =
     others zero one all = absurd (omega (arith, one))
     others (suc a) one all = omega (arith, corner a b, all)
 
-all-more : {T : Type 0} (P : T → Type 0) (items : List T) (item : T) → AllByRecursion P items → P item →
-    AllByRecursion P (items ++ item ∷ [])
-all-more P [] item all here = (here, tt)
-all-more P (x ∷ items) item all here = (all.0, all-more P items item all.1 here)
-
-no-quota : (quota : ℕ) → quota ≡ quota - chunk_quota []
-no-quota quota = omega arith
-
 -- how far the asks of a round are divided: what is left of the seat, the chunks, the asks behind them, and how many chunks
 -- are still to come
 pub record AreDivided {T : Type 0} (seat_of : T → Seat) (asks_of : T → List Ask) (intake : Intake) (whole : Seat)
@@ -55,8 +48,7 @@ module _ {T : Type 0} (seat_of : T → Seat) (asks_of : T → List Ask) (intake 
       AreDivided seat_of asks_of intake whole asks parts whole [] asks parts
   none-divided are some few = record {
     all = refl;
-    seat_is = ap (λ q. with_all whole q whole.takes whole.submitted whole.taken whole.additions whole.swapped)
-        (no-quota whole.quota);
+    seat_is = let none : whole.quota - 0 ≡ whole.quota = omega arith in rw none refl;
     chunks = tt;
     rest_are = are;
     enough = few;
@@ -108,11 +100,9 @@ module _ {T : Type 0} (seat_of : T → Seat) (asks_of : T → List Ask) (intake 
       omega (arith, length-append done chunk) in
       record {
         all = ap (λ l. l ++ behind) more ∙ append_assoc done chunk behind ∙ ap (λ l. done ++ l) parts_are ∙ so_far.all;
-        seat_is = kept_is ∙ ap (λ (s : Seat). seat_after_split s (chunk_quota chunk)) so_far.seat_is ∙
-            ap (λ q. with_all whole q whole.takes whole.submitted whole.taken whole.additions whole.swapped) quota ∙
-            ap (λ l. seat_after_split whole (chunk_quota l)) (sym more);
-        chunks = all-more (λ item. IsChunk intake (seat_of item) (asks_of item)) items item so_far.chunks
-            (new_is ∙ ap (λ l. new_seat intake (chunk_quota l)) (sym chunk_is), subst (AreAsks intake.clusters) (sym chunk_is) both.0);
+        seat_is = rw (kept_is, so_far.seat_is, more, quota) refl;
+        chunks = all_append (λ item. IsChunk intake (seat_of item) (asks_of item)) items (item ∷ []) so_far.chunks
+            (rw chunk_is (new_is, both.0), tt);
         rest_are = both.1;
         enough = omega (arith, len, shares.1);
         last = λ none. omega (arith, len, shares.2 (omega (arith, some, none)));
@@ -124,4 +114,4 @@ module _ {T : Type 0} (seat_of : T → Seat) (asks_of : T → List Ask) (intake 
       AreDivided seat_of asks_of intake whole asks parts seat items rest left → left ≡ 0 → flat_map asks_of items ≡ asks
   all-divided seat items rest left so_far none =
       sym (append-nil (flat_map asks_of items)) ∙
-      ap (λ l. flat_map asks_of items ++ l) (sym (no-items rest (so_far.last none))) ∙ so_far.all
+      ap (λ l. flat_map asks_of items ++ l) (sym (nil_from_length rest (so_far.last none))) ∙ so_far.all

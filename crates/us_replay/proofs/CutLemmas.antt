@@ -1,91 +1,118 @@
--- Cuts: what one more ask changes.
-use Rattle.std.proofs.Common.{◌≡◌, ℕ, ◌+◌, ◌<◌, ◌≤◌, List, [], ◌∷◌, ◌++◌, length, map, filter, take, get_or, set, replicate, cond, eqb, true, false, zero, suc, sum_by, refl, ap, sym, ◌∙◌, inl, inr, arith}
+-- Cuts: what asks come to by word, and what one more of them adds.
+use Rattle.std.proofs.Common.{◌≡◌, ◌≢◌, ℕ, ◌+◌, ◌==◌, ◌<◌, ◌≤◌, List, [], ◌∷◌, ◌++◌, length, map, filter, take, get_or, replicate, sum, sum_by, slice_index, refl, ap, sym, ◌∙◌, inl, inr, arith, eq-eqb, ne_eqb}
 use Rattle.std.specs.List.{AllByRecursion, range_with_len}
-use Rattle.std.proofs.lemmas.Bool.{cases_Bool, eq-eqb, ne_eqb}
-use Rattle.std.proofs.lemmas.List.{take_more}
+use Rattle.std.proofs.lemmas.Bool.{cases_eq, cases_lt}
+use Rattle.std.proofs.lemmas.List.{length-replicate, length-set, take_more}
 use Rattle.std.proofs.lemmas.List.Elements.{filter-append}
 use Rattle.std.proofs.lemmas.List.Sums.{sum_by-append, sum_by-cons}
-use Rattle.std.proofs.lemmas.List.FromFn.{get_or-map-range_with_len}
+use Rattle.std.proofs.lemmas.List.FromFn.{get_or-map-range_with_len, length-map-range_with_len}
+use Rattle.us_slots.specs.Lists.{added}
+use Rattle.us_intake.specs.Tallies.{raised}
+use Rattle.us_intake.proofs.TallyLemmas.{index-empty, index-raised, more, more-else, more-here, same_tally, sum-added, sum-empty, sum-raised}
+use Rattle.us_output.proofs.PartLemmas.{all_at}
 use Rattle.us_requests.specs.declared.asks.Ask.{Ask}
 use Rattle.us_requests.specs.Cuts.{asked, cut_of}
 
-abbrev bytes_in : List Ask → ℕ
-bytes_in asks = sum_by (λ ask. ask.bytes) asks
+abbrev pub bytes_of : List Ask → ℕ
+bytes_of asks = sum_by (λ (ask : Ask). ask.bytes) asks
 
--- of one ask
-asked-one : (ask : Ask) (cluster : ℕ) → asked (ask ∷ []) cluster ≡ cond (eqb ask.cluster cluster) ask.bytes 0
-asked-one ask cluster = elim (cases_Bool (eqb ask.cluster cluster)) [
-  | inl t ↦ let one = sum_by-cons (λ ask. ask.bytes) ask [] in rw t (omega (arith, one))
-  | inr f ↦ rw f refl
+pub length-cut : (n : ℕ) (asks : List Ask) → length (cut_of n asks) ≡ n
+unfolding cut_of
+length-cut n asks = length-map-range_with_len (asked asks) 0 n
+
+pub index-cut : (n : ℕ) (asks : List Ask) (word : ℕ) → word < n → slice_index (cut_of n asks) word ≡ asked asks word
+unfolding cut_of
+index-cut n asks word lt = get_or-map-range_with_len (asked asks) 0 n word word 0 lt (omega arith)
+
+-- an ask asks for nothing of another word
+pub asked-else : (ask : Ask) (asks : List Ask) (word : ℕ) → ask.cluster ≢ word → asked (ask ∷ asks) word ≡ asked asks word
+asked-else ask asks word other = rw (ne_eqb ask.cluster word other) refl
+
+-- what one ask adds, to its own word alone
+asked-one : (ask : Ask) (word : ℕ) → asked (ask ∷ []) word ≡ more ask.cluster ask.bytes word
+asked-one ask word = elim (cases_eq ask.cluster word) [
+  | inl own ↦
+      let all : bytes_of (ask ∷ []) ≡ ask.bytes = omega (arith, sum_by-cons (λ (ask : Ask). ask.bytes) ask []) in
+      rw (eq-eqb ask.cluster word own) (all ∙ sym (more-here ask.cluster ask.bytes word (sym own)))
+  | inr other ↦
+      asked-else ask [] word other ∙ sym (more-else ask.cluster ask.bytes word (λ e. other (sym e)))
 ]
 
--- what one more ask adds, to its own cluster alone
-asked-push : (asks : List Ask) (ask : Ask) (cluster : ℕ) →
-    asked (asks ++ ask ∷ []) cluster ≡ asked asks cluster + cond (eqb ask.cluster cluster) ask.bytes 0
-asked-push asks ask cluster =
-    ap bytes_in (filter-append (λ ask. eqb ask.cluster cluster) asks (ask ∷ [])) ∙
-    sum_by-append (λ ask. ask.bytes) (filter (λ ask. eqb ask.cluster cluster) asks) (filter (λ ask. eqb ask.cluster cluster) (ask ∷ [])) ∙
-    ap (λ n. asked asks cluster + n) (asked-one ask cluster)
+asked-append : (asks others : List Ask) (word : ℕ) → asked (asks ++ others) word ≡ asked asks word + asked others word
+asked-append asks others word =
+    ap bytes_of (filter-append (λ (ask : Ask). ask.cluster == word) asks others) ∙
+    sum_by-append (λ (ask : Ask). ask.bytes) (filter (λ (ask : Ask). ask.cluster == word) asks)
+    (filter (λ (ask : Ask). ask.cluster == word) others)
 
-asked-elsewhere : (asks : List Ask) (ask : Ask) (cluster : ℕ) → (ask.cluster ≡ cluster → ⊥) →
-    asked (asks ++ ask ∷ []) cluster ≡ asked asks cluster
-asked-elsewhere asks ask cluster other =
-    let apart : eqb ask.cluster cluster ≡ false = ne_eqb ask.cluster cluster other in
-    omega (arith, asked-push asks ask cluster ∙ ap (λ b. asked asks cluster + cond b ask.bytes 0) apart)
+-- functions of which one is the sum of two
+added-map : (all f g : ℕ → ℕ) → ((i : ℕ) → all i ≡ f i + g i) → (is : List ℕ) →
+    map all is ≡ added (map f is) (map g is)
+added-map all f g split [] = refl
+added-map all f g split (i ∷ is) =
+    ap (λ n. n ∷ map all is) (split i) ∙ ap (λ l. (f i + g i) ∷ l) (added-map all f g split is)
 
--- functions that agree from a number on
-same-from : (f g : ℕ → ℕ) (from n : ℕ) → ((i : ℕ) → from ≤ i → f i ≡ g i) →
-    map f (range_with_len from n) ≡ map g (range_with_len from n)
-same-from f g from zero same = refl
-same-from f g from (suc n) same =
-    ap (λ x. x ∷ map f (range_with_len (from + 1) n)) (same from (omega arith)) ∙
-    ap (λ xs. g from ∷ xs) (same-from f g (from + 1) n (λ i h. same i (omega (arith, h))))
-
--- and that agree but at one
-same-but : (f g : ℕ → ℕ) (from n i v : ℕ) → ((j : ℕ) → j ≡ from + i → g j ≡ v) →
-    ((j : ℕ) → (j ≡ from + i → ⊥) → f j ≡ g j) →
-    set (map f (range_with_len from n)) i v ≡ map g (range_with_len from n)
-same-but f g from zero i v at same = refl
-same-but f g from (suc n) zero v at same =
-    ap (λ x. x ∷ map f (range_with_len (from + 1) n)) (sym (at from (omega arith))) ∙
-    ap (λ xs. g from ∷ xs) (same-from f g (from + 1) n (λ i h. same i (λ e. omega (arith, e, h))))
-same-but f g from (suc n) (suc i) v at same =
-    ap (λ x. x ∷ set (map f (range_with_len (from + 1) n)) i v) (same from (λ e. omega (arith, e))) ∙
-    ap (λ xs. g from ∷ xs)
-    (same-but f g (from + 1) n i v (λ j e. at j (omega (arith, e))) (λ j h. same j (λ e. h (omega (arith, e)))))
-
--- each ask names a cluster that is there
-pub known-at : (n : ℕ) (asks : List Ask) (i : ℕ) (d : Ask) → AllByRecursion (λ ask. ask.cluster < n) asks →
-    i < length asks → (get_or asks i d).cluster < n
-known-at n [] i d known below = absurd (omega (arith, below))
-known-at n (ask ∷ asks) zero d known below = known.0
-known-at n (ask ∷ asks) (suc i) d known below = known-at n asks i d known.1 (omega (arith, below))
+pub cut-append : (n : ℕ) (asks others : List Ask) → cut_of n (asks ++ others) ≡ added (cut_of n asks) (cut_of n others)
+unfolding cut_of
+cut-append n asks others =
+    added-map (asked (asks ++ others)) (asked asks) (asked others) (asked-append asks others) (range_with_len 0 n)
 
 -- no asks, no bytes
 pub cut-none : (n : ℕ) → replicate n 0 ≡ cut_of n []
-unfolding cut_of
-cut-none n = none 0 n
-  where
-    none : (from n : ℕ) → replicate n 0 ≡ map (asked []) (range_with_len from n)
-    none from zero = refl
-    none from (suc n) = ap (λ xs. 0 ∷ xs) (none (from + 1) n)
+cut-none n =
+    same_tally (replicate n 0) (cut_of n []) (length-replicate {A = ℕ} n 0 ∙ sym (length-cut n []))
+    (λ word lt. index-empty n word ∙ sym (index-cut n [] word (omega (arith, lt, length-replicate {A = ℕ} n 0))))
 
--- one more ask is added at its cluster
-pub cut-more : (cut : List ℕ) (asks : List Ask) (n i cluster bytes : ℕ) (d : Ask) → cut ≡ cut_of n (take i asks) →
-    i < length asks → cluster ≡ (get_or asks i d).cluster → bytes ≡ (get_or asks i d).bytes →
-    AllByRecursion (λ ask. ask.cluster < n) asks → set cut cluster (get_or cut cluster 0 + bytes) ≡ cut_of n (take (i + 1) asks)
-unfolding cut_of
-cut-more cut asks n i cluster bytes d so_far below is has known =
-    let room : cluster < n = omega (arith, is, known-at n asks i d known below) in
+pub sum-none : (n : ℕ) → sum (cut_of n []) ≡ 0
+sum-none n = ap sum (sym (cut-none n)) ∙ sum-empty n
+
+-- one more ask is added at its word
+pub cut-more : (n : ℕ) (asks : List Ask) (i : ℕ) (d : Ask) → AllByRecursion (λ ask. ask.cluster < n) asks → i < length asks →
+    raised (cut_of n (take i asks)) (get_or asks i d).cluster (get_or asks i d).bytes ≡ cut_of n (take (i + 1) asks)
+cut-more n asks i d known below =
     let ask : Ask = get_or asks i d in
-    let more : take (i + 1) asks ≡ take i asks ++ ask ∷ [] = take_more asks i d below in
-    let before : get_or (map (asked (take i asks)) (range_with_len 0 n)) cluster 0 ≡ asked (take i asks) cluster =
-    get_or-map-range_with_len (asked (take i asks)) 0 n cluster cluster 0 room (omega arith) in
-    let itself : eqb ask.cluster cluster ≡ true = eq-eqb ask.cluster cluster (sym is) in
-    let added : asked (take i asks ++ ask ∷ []) cluster ≡ asked (take i asks) cluster + bytes =
-    asked-push (take i asks) ask cluster ∙ ap (λ b. asked (take i asks) cluster + cond b ask.bytes 0) itself ∙
-    ap (λ n. asked (take i asks) cluster + n) (sym has) in
-    rw (so_far, before, more) (same-but (asked (take i asks)) (asked (take i asks ++ ask ∷ [])) 0 n cluster
-    (asked (take i asks) cluster + bytes)
-    (λ j e. ap (asked (take i asks ++ ask ∷ [])) (omega (arith, e)) ∙ added)
-    (λ j other. sym (asked-elsewhere (take i asks) ask j (λ e. other (omega (arith, e, is))))))
+    let old : List ℕ = cut_of n (take i asks) in
+    let there : ask.cluster < length old =
+    omega (arith, all_at (λ (ask : Ask). ask.cluster < n) asks i d known below, length-cut n (take i asks)) in
+    let row : length (raised old ask.cluster ask.bytes) ≡ n =
+    length-set old ask.cluster (slice_index old ask.cluster + ask.bytes) ∙ length-cut n (take i asks) in
+    same_tally (raised old ask.cluster ask.bytes) (cut_of n (take (i + 1) asks)) (row ∙ sym (length-cut n (take (i + 1) asks)))
+    (λ word lt. omega (
+      arith,
+      index-raised old ask.cluster ask.bytes word there,
+      index-cut n (take i asks) word (omega (arith, lt, row)),
+      index-cut n (take (i + 1) asks) word (omega (arith, lt, row)),
+      ap (λ l. asked l word) (take_more asks i d below),
+      asked-append (take i asks) (ask ∷ []) word,
+      asked-one ask word,
+    ))
+
+-- the cut of a round has no more bytes than its asks
+sum-one : (n : ℕ) (ask : Ask) → sum (cut_of n (ask ∷ [])) ≤ ask.bytes
+sum-one n ask = elim (cases_lt ask.cluster n) [
+  | inl there ↦ omega (
+    arith,
+    ap sum (cut-more n (ask ∷ []) 0 ask (there, tt) (omega arith)),
+    sum-raised (cut_of n []) ask.cluster ask.bytes (omega (arith, there, length-cut n [])),
+    sum-none n,
+  )
+  | inr past ↦
+      let nothing : cut_of n (ask ∷ []) ≡ cut_of n [] =
+      same_tally (cut_of n (ask ∷ [])) (cut_of n []) (length-cut n (ask ∷ []) ∙ sym (length-cut n []))
+      (λ word lt.
+      let here : word < n = omega (arith, lt, length-cut n (ask ∷ [])) in
+      index-cut n (ask ∷ []) word here ∙ asked-else ask [] word (λ e. omega (arith, e, here, past)) ∙
+      sym (index-cut n [] word here)) in
+      omega (arith, ap sum nothing, sum-none n)
+]
+
+pub sum-cut : (n : ℕ) (asks : List Ask) → sum (cut_of n asks) ≤ bytes_of asks
+sum-cut n [] = omega (arith, sum-none n)
+sum-cut n (ask ∷ asks) =
+    omega (
+      arith,
+      ap sum (cut-append n (ask ∷ []) asks),
+      sum-added (cut_of n (ask ∷ [])) (cut_of n asks),
+      sum-one n ask,
+      sum-cut n asks,
+      sum_by-cons (λ (ask : Ask). ask.bytes) ask asks,
+    )

@@ -1,16 +1,15 @@
 -- What the batch holds between two sends: the texts of the rounds that were made since the first.
-use Rattle.std.proofs.Common.{◌≡◌, ℕ, ◌+◌, ◌-◌, ◌≤◌, List, [], ◌∷◌, ◌++◌, length, take, drop, flat_map, refl, ap, sym, subst, ◌∙◌, inl, inr, arith, append-nil, length-drop}
+use Rattle.std.proofs.Common.{◌≡◌, ℕ, ◌+◌, ◌-◌, ◌≤◌, List, [], ◌∷◌, ◌++◌, length, take, drop, flat_map, refl, ap, sym, ◌∙◌, inl, inr, arith, append-nil, length-drop}
 use Rattle.std.proofs.lemmas.List.{drop_all, drop-drop, length-take-le, take-append-drop}
-use Rattle.std.specs.List.{AllByRecursion}
 use Rattle.us_round.proofs.PlacingLemmas.{next-of}
 use Rattle.us_output.specs.declared.rows.Row.{Row}
 use Rattle.us_output.specs.Outputs.{RoundOut}
 use Rattle.us_output.specs.Files.{round_lines, lines}
 use Rattle.us_lawful.specs.Output.{Output}
-use Rattle.us_replay.specs.Batches.{AreInside, Batch, batch_of, no_rounds, with_next}
+use Rattle.us_replay.specs.Batches.{Batch, batch_of, no_rounds, with_next}
 use Rattle.us_replay.specs.Progress.{Holds}
-use Rattle.us_replay.proofs.BatchLemmas.{all-inside, empty-batch, length-ends, next-batch}
-use Rattle.us_replay.proofs.ReplayStopLemmas.{IsPart, lines-there}
+use Rattle.us_replay.proofs.BatchLemmas.{empty-batch, next-batch}
+use Rattle.us_replay.proofs.ReplayStopLemmas.{IsPart}
 
 -- the rounds that it holds
 abbrev pub held : Output → ℕ → ℕ → List RoundOut
@@ -64,7 +63,8 @@ pub last-part : (out : Output) (sent k : ℕ) (b last : Batch) (rows : List Row)
     (part : IsPart out sent (held out sent k) last) × (part.rest ≡ []) × (part.behind ≡ [])
 unfolding held-part
 last-part out sent k b last rows holds all are is =
-    let none : drop (k - sent) (drop sent out.given) ≡ [] = no-more out sent k holds.from all in
+    let none : drop (k - sent) (drop sent out.given) ≡ [] =
+    drop_all (k - sent) (drop sent out.given) (omega (arith, length-drop sent out.given, holds.from, all)) in
     let part = held-part out sent k b holds in (
       record {
         rest = [];
@@ -72,8 +72,7 @@ last-part out sent k b last rows holds all are is =
         records_are = ap (λ b. b.records) is ∙ part.records_are;
         ends_are = ap (λ b. b.ends) is ∙ part.ends_are;
         own = lines out.last;
-        lines_are = ap (λ b. b.lines) is ∙ ap (λ rows. b.lines ++ lines rows) are ∙
-            ap (λ bs. bs ++ lines out.last) (part.lines_are ∙ append-nil (flat_map round_lines (held out sent k)));
+        lines_are = ap (λ b. b.lines) is ∙ rw (are, part.lines_are, append-nil) refl;
         behind = [];
         lines_behind = sym (append-nil (lines out.last));
         at_end = inr refl;
@@ -81,19 +80,3 @@ last-part out sent k b last rows holds all are is =
       refl,
       refl,
     )
-  where
-    no-more : (out : Output) (sent k : ℕ) → sent ≤ k → k ≡ length out.given → drop (k - sent) (drop sent out.given) ≡ []
-    no-more out sent k from all =
-        drop_all (k - sent) (drop sent out.given) (omega (arith, length-drop sent out.given, from, all))
-
--- What sending it needs.
-
-pub part-inside : (out : Output) (k : ℕ) (rounds : List RoundOut) (b : Batch) (part : IsPart out k rounds b) →
-    k ≤ length out.given → AreInside b
-part-inside out k rounds b part inside =
-    subst (AllByRecursion (λ end. end.lines ≤ length b.lines)) (sym part.ends_are)
-    (all-inside rounds (length b.lines) (lines-there out k rounds b part inside))
-
-pub count-ends : (out : Output) (k : ℕ) (rounds : List RoundOut) (b : Batch) (part : IsPart out k rounds b) →
-    length b.ends ≡ length rounds
-count-ends out k rounds b part = ap length part.ends_are ∙ length-ends rounds

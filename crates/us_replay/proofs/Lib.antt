@@ -1,5 +1,4 @@
 pub mod CutLemmas
-pub mod SumLemmas
 pub mod CollectingLemmas
 pub mod ChunkLemmas
 pub mod TakingLemmas
@@ -11,5 +10,4 @@ pub mod ReplayStopLemmas
 pub mod HeldLemmas
 pub mod LoopLemmas
 pub mod ReplayLemmas
-pub mod LawfulLemmas
 pub mod SendLemmas

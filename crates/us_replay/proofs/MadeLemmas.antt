@@ -7,7 +7,7 @@ use Rattle.us_round.specs.Rounds.{State, RoundResult, round_of}
 use Rattle.us_round.specs.States.{settled_by, max_settled_by}
 use Rattle.us_output.specs.Outputs.{AreWithinLimits, out_of}
 use Rattle.us_output.specs.Lines.{HasFields}
-use Rattle.us_replay.specs.Progress.{Progress, CanMake, HasRoom, IsMade, out_after, step_of, with_asks, with_round}
+use Rattle.us_replay.specs.Progress.{Progress, AreFewBefore, CanMake, HasRoom, IsMade, out_after, step_of, with_asks, with_round}
 use Rattle.us_replay.proofs.RoundLemmas.{after}
 
 -- where no MAP passes its limits, there are few lines beside those of what was settled
@@ -31,32 +31,12 @@ module _ (state : State) (cut : List ℕ) (made : RoundResult) (is : made ≡ ro
       AreWithinLimits made.state.tables made.scheduled →
       HasRoom q (length (out_of made.state.tables made.scheduled).rows)
   room-for p q asks ready collected few rounds most within =
-      let round : made.state.round ≡ state.round + 1 = ap (λ m. m.state.round) is ∙ (after state cut).round_is in
-      let lines = few (within-same within) in
-      let channels = ready.lawful.some_channels.1 in record {
-        granted = omega (
-          arith,
-          ap (λ p. p.granted) collected,
-          ready.few_granted,
-          channels,
-          lines,
-          rows-same,
-          round,
-          rounds,
-          most,
-        );
-        missed = omega (
-          arith,
-          ap (λ p. p.missed) collected,
-          ready.few_missed,
-          channels,
-          lines,
-          rows-same,
-          round,
-          rounds,
-          most,
-        );
-      }
+      rw (collected, rows-same) (record { granted = room p.granted ready.few_granted; missed = room p.missed ready.few_missed })
+    where
+      room : (lines : ℕ) → AreFewBefore state lines → lines + length (out_of state.tables made.scheduled).rows < 2 ^ 64
+      room lines before =
+          let round : made.state.round ≡ state.round + 1 = ap (λ m. m.state.round) is ∙ (after state cut).round_is in
+          omega (arith, before, ready.lawful.some_channels.1, few (within-same within), rows-same, round, rounds, most)
 
   pub is-made : (p q r : Progress) (asks : List Ask) (next : State) → CanMake state p asks → q ≡ with_asks p asks →
       cut ≡ q.cut → HasFew state made → r ≡ with_round q (out_of made.state.tables made.scheduled) →

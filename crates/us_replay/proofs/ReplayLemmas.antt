@@ -1,5 +1,5 @@
 -- The run of a trace that was read is that of the requests that its text tells.
-use Rattle.std.proofs.Common.{◌≡◌, ℕ, true, Bool, List, length, map, Option, Result, Ok, Err, ap, subst, ◌∙◌}
+use Rattle.std.proofs.Common.{◌≡◌, ℕ, true, Bool, List, length, map, Option, Result, Ok, Err, OnOk, ap, subst, ◌∙◌}
 use Rattle.std.specs.List.{range_with_len}
 use Rattle.us_flows.specs.Tables.{Tables, rounds_fit}
 use Rattle.us_flows.specs.Clusters.{words_of}
@@ -11,9 +11,10 @@ use Rattle.us_requests.specs.Readings.{Reads}
 use Rattle.us_replay.specs.declared.summaries.Summary.{Summary}
 use Rattle.us_replay.specs.declared.faults.RunFault.{RunFault}
 use Rattle.us_replay.specs.Endings.{Ending, Refused, StoppedBy, ended, rounds_done}
-use Rattle.us_lawful.specs.Output.{output_of}
-use Rattle.us_replay.specs.Replays.{Growth, Ran, RanText, KeptLimits, Replayed, Stands, cuts_of, output_for}
-use Rattle.us_replay.specs.Progress.{RanTrace}
+use Rattle.us_lawful.specs.Output.{maps_text, output_of, report_text, run_of}
+use Rattle.us_lawful.specs.Texts.{AreLawful}
+use Rattle.us_replay.specs.Replays.{Growth, Ran, RanText, KeptLimits, Replayed, Stands, WroteLawful, cuts_of, output_for}
+use Rattle.us_replay.specs.Progress.{IsLawfulOutput, RanTrace, output_in}
 
 -- the asks of each round add up to the cut of the rows
 pub cuts-same : (t : Tables) (rounds : ℕ) (requests : List Request) (v : TraceAsks) → IsTraceOf t rounds requests v →
@@ -61,3 +62,24 @@ pub replayed : (t : Tables) (rounds : ℕ) (told : Option (List ℕ)) (v : Trace
 replayed t rounds told v to_maps to_report failed result can read ran =
     stands t rounds told to_maps to_report failed (ended result) can
     (ran-text t rounds told v to_maps to_report failed result read ran)
+
+-- and what it writes is lawful
+pub wrote-lawful : (t : Tables) (rounds : ℕ) (told : Option (List ℕ)) (v : TraceAsks) (to_maps to_report : Growth)
+    (failed : Bool) (result : Result Summary RunFault) → Reads t rounds told (Ok v) → RanTrace t v to_maps to_report failed result →
+    OnOk result (IsLawfulOutput t v) → OnOk result (WroteLawful t rounds told to_maps to_report)
+wrote-lawful t rounds told v to_maps to_report failed (Err fault) read ran lawful = tt
+wrote-lawful t rounds told v to_maps to_report failed (Ok summary) (text, is_text, no_fault, is) (ran, kept) lawful =
+    let requests : List Request = requests_of text in
+    let maps : List ℕ = maps_text (output_in t v) in
+    let report : List ℕ = report_text (output_in t v) in
+    record {
+      text = text;
+      is_text = is_text;
+      sound = no_fault;
+      maps = maps;
+      report = report;
+      took_maps = ran.0;
+      took_report = ran.1;
+      lawful = subst (λ counts. AreLawful (run_of t (cuts_of t rounds requests) counts) maps report) is.counts
+          (subst (λ cuts. AreLawful (run_of t cuts v.counts) maps report) (cuts-same t rounds requests v is) lawful);
+    }

@@ -1,8 +1,9 @@
 -- Rounds: what is outstanding was asked for, and what a round gives is never nothing.
 use Rattle.std.proofs.Common.{◌≡◌, ℕ, ◌+◌, ◌-◌, ◌<◌, ◌≤◌, List, [], ◌∷◌, length, map, flat_map, sum, refl, ◌∙◌, inl, inr, arith, length-append}
-use Rattle.std.specs.List.{zip}
+use Rattle.std.specs.List.{AllByRecursion, zip}
 use Rattle.std.proofs.lemmas.Bool.{cases_Bool}
 use Rattle.std.proofs.lemmas.List.{length-map}
+use Rattle.std.proofs.lemmas.List.Sums.{sum_by-cons}
 use Rattle.us_codec.specs.Bodies.{MapBody, spelling}
 use Rattle.us_codec.specs.MapsFiles.{Piece, record_bytes, maps_file}
 use Rattle.us_flows.specs.Tables.{Tables}
@@ -12,9 +13,31 @@ use Rattle.us_calendar.specs.Calendars as calendars
 use Rattle.us_split.specs.Requested.{requested_by, requested_in, with_cut}
 use Rattle.us_channel.specs.Placements.{PlacedClaim, credits}
 use Rattle.us_round.specs.Rounds.{State, all_grants, begun, build_planned, builds_of, fills_of, is_of_cluster, uncredited, opening, round_from, round_of, round_plan}
+use Rattle.us_round.proofs.PhaseLemmas.{zip_long}
 use Rattle.us_output.specs.Outputs.{RoundOut, built_map, out_of}
 use Rattle.us_output.specs.Files.{records}
-use Rattle.us_replay.proofs.SumLemmas.{sum-cons, sum-added}
+
+-- Sums of two lists side by side.
+
+sum-cons : (x : ℕ) (xs : List ℕ) → sum (x ∷ xs) ≡ x + sum xs
+sum-cons x xs = sum_by-cons (λ y. y) x xs
+
+abbrev added : List ℕ → List ℕ → List ℕ
+added xs ys = map (λ pair. pair.0 + pair.1) (zip xs ys)
+
+sum-added : (xs ys : List ℕ) → sum (added xs ys) ≤ sum xs + sum ys
+sum-added [] ys = omega arith
+sum-added (x ∷ xs) [] = omega arith
+sum-added (x ∷ xs) (y ∷ ys) =
+    omega (arith, sum-cons (x + y) (added xs ys), sum-cons x xs, sum-cons y ys, sum-added xs ys)
+
+-- numbers whose sums together are below a bound are below it one by one
+pub added-below : (bound : ℕ) (xs ys : List ℕ) → sum xs + sum ys < bound →
+    AllByRecursion (λ pair. pair.0 + pair.1 < bound) (zip xs ys)
+added-below bound [] ys h = tt
+added-below bound (x ∷ xs) [] h = tt
+added-below bound (x ∷ xs) (y ∷ ys) h =
+    (omega (arith, sum-cons x xs, sum-cons y ys, h), added-below bound xs ys (omega (arith, sum-cons x xs, sum-cons y ys, h)))
 
 -- States.
 
@@ -78,11 +101,6 @@ HasCalendars state = length state.calendars ≡ length state.tables.channels
 pub opening-calendars : (t : Tables) → HasCalendars (opening t)
 opening-calendars t = length-map t.channels (calendars.opening t)
 
-length-pairs : {A B : Type 0} (xs : List A) (ys : List B) → length ys ≡ length xs → length (zip xs ys) ≡ length xs
-length-pairs [] ys same = refl
-length-pairs (x ∷ xs) [] same = omega (arith, same)
-length-pairs (x ∷ xs) (y ∷ ys) same = omega (arith, length-pairs xs ys (omega (arith, same)))
-
 -- so a round builds each channel
 length-builds : (state : State) (cut : List ℕ) → HasCalendars state →
     length (builds_of (begun state cut)) ≡ length state.tables.channels
@@ -90,8 +108,9 @@ unfolding builds_of
 length-builds state cut has =
     length-map (fills_of (begun state cut)) (build_planned (round_plan (begun state cut))) ∙
     length-map (zip state.tables.channels (map (calendars.heard_by cut) state.calendars)) _ ∙
-    length-pairs state.tables.channels (map (calendars.heard_by cut) state.calendars)
-    (length-map state.calendars (calendars.heard_by cut) ∙ has)
+    zip_long state.tables.channels (map (calendars.heard_by cut) state.calendars)
+    (omega (arith, length-map state.calendars (calendars.heard_by cut), has)) ∙
+    length-map state.calendars (calendars.heard_by cut) ∙ has
 
 pub next-calendars : (state : State) (cut : List ℕ) → HasCalendars state → HasCalendars (round_of state cut).state
 unfolding round_of round_from

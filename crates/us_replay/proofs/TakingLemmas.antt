@@ -1,19 +1,17 @@
 -- Taking: the words of a round's asks are swapped one after another, and then all that was submitted was taken.
-use Rattle.std.proofs.Common.{◌≡◌, ◌≢◌, ℕ, zero, suc, ◌+◌, ◌^◌, ◌<◌, ◌≤◌, List, [], ◌∷◌, ◌++◌, length, map, take, drop, get_or, set, replicate, slice_index, refl, ap, sym, subst, ◌∙◌, inl, inr, arith}
-use Rattle.std.specs.List.{AllByRecursion, range_with_len}
-use Rattle.std.proofs.lemmas.Bool.{cases_eq, cases_lt, ne_eqb}
+use Rattle.std.proofs.Common.{◌≡◌, ◌≢◌, ℕ, ◌+◌, ◌^◌, ◌<◌, ◌≤◌, List, [], ◌∷◌, ◌++◌, length, map, take, drop, get_or, set, replicate, slice_index, refl, ap, sym, ◌∙◌, inl, inr, arith}
+use Rattle.std.specs.List.{AllByRecursion}
+use Rattle.std.proofs.lemmas.Bool.{cases_eq, cases_lt}
 use Rattle.std.proofs.lemmas.List.{append-nil, append_assoc, drop_all, drop_more, get_or_default, get_or-set_same, get_or-set_other, length-replicate, length-set, map-append, take_all, take_more}
-use Rattle.std.proofs.lemmas.List.FromFn.{get_or-map-range_with_len, length-map-range_with_len}
 use Rattle.us_slots.specs.Lists.{added}
-use Rattle.us_intake.specs.Tallies.{raised}
 use Rattle.us_intake.specs.Seats.{Seat, IsSeat, IsWhole, seat_after_take}
-use Rattle.us_intake.proofs.TallyLemmas.{index-added, index-past, index_le_sum, length-added, same_tally}
+use Rattle.us_intake.proofs.TallyLemmas.{index-added, index-empty, index-past, index_le_sum, length-added, same_tally}
+use Rattle.us_output.proofs.PartLemmas.{all_at}
 use Rattle.us_requests.specs.declared.asks.Ask.{Ask}
 use Rattle.us_requests.specs.Cuts.{asked, cut_of}
 use Rattle.us_replay.specs.Collecting.{IsDue, IsTold, seat_after_takes}
-use Rattle.us_replay.proofs.CutLemmas.{known-at}
-use Rattle.us_replay.proofs.CollectingLemmas.{added-empty, added-raised, added-same, with_all}
-use Rattle.us_replay.proofs.SumLemmas.{length-cut}
+use Rattle.us_replay.proofs.CutLemmas.{asked-else, index-cut, length-cut}
+use Rattle.us_replay.proofs.CollectingLemmas.{added-empty, added-raised, added-same}
 
 -- the words that asks name
 abbrev named : List Ask → List ℕ
@@ -22,47 +20,34 @@ named asks = map (λ (ask : Ask). ask.cluster) asks
 -- the words of the asks before `at` were swapped, the cut has what they held, and of each word of which no other asks, all
 -- that was submitted was taken
 pub record AreTaken (old seat : Seat) (asks : List Ask) (at : ℕ) (cut : List ℕ) : Type 0 where
-  pub same : seat ≡ with_all old old.quota old.takes old.submitted (added old.taken cut) old.additions
-      (old.swapped ++ named (take at asks))
+  pub same : seat ≡ record old { taken = added old.taken cut; swapped = old.swapped ++ named (take at asks) }
   pub row : length cut ≡ old.intake.clusters
   pub even : (word : ℕ) → asked (drop at asks) word ≡ 0 → slice_index seat.taken word ≡ slice_index seat.submitted word
 
--- an ask asks for nothing of another word
-asked-else : (ask : Ask) (asks : List Ask) (word : ℕ) → ask.cluster ≢ word → asked (ask ∷ asks) word ≡ asked asks word
-asked-else ask asks word other = rw (ne_eqb ask.cluster word other) refl
-
 not-cut : (n : ℕ) (asks : List Ask) (word : ℕ) → asked asks word ≡ 0 → slice_index (cut_of n asks) word ≡ 0
-unfolding cut_of
 not-cut n asks word none =
     elim (cases_lt word n) [
-      | inl lt ↦ get_or-map-range_with_len (asked asks) 0 n word word 0 lt (omega arith) ∙ none
-      | inr past ↦ index-past (map (asked asks) (range_with_len 0 n)) word
-          (omega (arith, length-map-range_with_len (asked asks) 0 n, past))
+      | inl lt ↦ index-cut n asks word lt ∙ none
+      | inr past ↦ index-past (cut_of n asks) word (omega (arith, length-cut n asks, past))
     ]
+
+-- a word that none of the asks behind one names, and that one doesn't either
+not-named : (asks : List Ask) (at : ℕ) (d : Ask) (word : ℕ) → at < length asks → (get_or asks at d).cluster ≢ word →
+    asked (drop (at + 1) asks) word ≡ 0 → asked (drop at asks) word ≡ 0
+not-named asks at d word inside other none =
+    ap (λ l. asked l word) (drop_more asks at d inside) ∙ asked-else (get_or asks at d) (drop (at + 1) asks) word other ∙ none
 
 -- A cut has something only of words that its asks name,
 pub cut-is-told : (n : ℕ) (asks : List Ask) (cut : List ℕ) → AllByRecursion (λ ask. ask.cluster < n) asks →
     cut ≡ cut_of n asks → IsTold asks cut
 cut-is-told n asks cut known is =
-    let row : length cut ≡ n = ap length is ∙ length-cut n asks in
-    record {
-      known = subst (λ m. AllByRecursion (λ (ask : Ask). ask.cluster < m) asks) (sym row) known;
-      only = λ word none. ap (λ l. slice_index l word) is ∙ not-cut n asks word none;
-    }
+    rw is (record { known = rw (length-cut n asks) known; only = λ word none. not-cut n asks word none })
 
 -- and so has a clear one.
-clear-at : (n word : ℕ) → slice_index (replicate n 0) word ≡ 0
-clear-at zero word = refl
-clear-at (suc n) zero = refl
-clear-at (suc n) (suc word) = clear-at n word
-
 pub clear-is-told : (n : ℕ) (asks : List Ask) (cut : List ℕ) → AllByRecursion (λ ask. ask.cluster < n) asks →
     cut ≡ replicate n 0 → IsTold asks cut
 clear-is-told n asks cut known is =
-    record {
-      known = subst (λ m. AllByRecursion (λ (ask : Ask). ask.cluster < m) asks) (sym (ap length is ∙ length-replicate n 0)) known;
-      only = λ word _. ap (λ l. slice_index l word) is ∙ clear-at n word;
-    }
+    rw is (record { known = rw (length-replicate {A = ℕ} n 0) known; only = λ word _. index-empty n word })
 
 -- The words of the asks before `at` were cleared: only words that the others name have something.
 pub record AreCleared (n : ℕ) (asks : List Ask) (at : ℕ) (cut : List ℕ) : Type 0 where
@@ -78,8 +63,7 @@ cleared-more n asks at place cut d so_far inside is there =
         | inl e ↦ ap (slice_index (set cut place 0)) e ∙ get_or-set_same cut place 0 0 (omega (arith, there, so_far.row))
         | inr apart ↦
             get_or-set_other cut place word 0 0 apart ∙
-            so_far.only word (ap (λ l. asked l word) (drop_more asks at d inside) ∙
-            asked-else (get_or asks at d) (drop (at + 1) asks) word (λ e. apart (sym (is ∙ e))) ∙ none)
+            so_far.only word (not-named asks at d word inside (λ e. apart (sym (is ∙ e))) none)
       ];
     }
 
@@ -87,10 +71,7 @@ pub all-cleared : (n : ℕ) (asks : List Ask) (at : ℕ) (cut : List ℕ) → Ar
     cut ≡ replicate n 0
 all-cleared n asks at cut done end =
     same_tally cut (replicate n 0) (done.row ∙ sym (length-replicate n 0))
-    (λ word lt. done.only word (ap (λ l. asked l word) (drop_all at asks end)) ∙ sym (clear-at n word))
-
-abbrev after_swaps : Seat → List ℕ → List ℕ → Seat
-after_swaps old taken swapped = with_all old old.quota old.takes old.submitted taken old.additions swapped
+    (λ word lt. done.only word (ap (λ l. asked l word) (drop_all at asks end)) ∙ sym (index-empty n word))
 
 -- before the first ask
 pub none-taken : (old : Seat) (asks : List Ask) (cut : List ℕ) → IsDue old asks →
@@ -98,9 +79,7 @@ pub none-taken : (old : Seat) (asks : List Ask) (cut : List ℕ) → IsDue old a
 none-taken old asks cut due nothing =
     let n : ℕ = old.intake.clusters in
     record {
-      same = ap (λ l. after_swaps old l old.swapped) (sym (added-empty n old.taken due.row)) ∙
-          ap (λ l. after_swaps old (added old.taken l) old.swapped) (sym nothing) ∙
-          ap (after_swaps old (added old.taken cut)) (sym (append-nil old.swapped));
+      same = rw (nothing, added-empty n old.taken due.row, append-nil old.swapped) refl;
       row = ap length nothing ∙ length-replicate n 0;
       even = λ word none.
           let submitted : slice_index old.submitted word ≡ slice_index old.taken word + slice_index (cut_of n asks) word =
@@ -113,7 +92,7 @@ module _ (old seat after : Seat) (asks : List Ask) (at place word held found : �
     (so_far : AreTaken old seat asks at cut) (inside : at < length asks) (is : word ≡ (get_or asks at d).cluster)
     (place_is : place ≡ word) (held_is : held ≡ get_or cut place held) (after_is : after ≡ seat_after_take seat word found) where
   there : word < old.intake.clusters
-  there = omega (arith, is, known-at old.intake.clusters asks at d due.known inside)
+  there = omega (arith, is, all_at (λ (ask : Ask). ask.cluster < old.intake.clusters) asks at d due.known inside)
 
   read : slice_index cut word ≡ held
   read =
@@ -140,47 +119,33 @@ module _ (old seat after : Seat) (asks : List Ask) (at place word held found : �
   swapped : (old.swapped ++ named (take at asks)) ++ word ∷ [] ≡ old.swapped ++ named (take (at + 1) asks)
   swapped =
       let ask : Ask = get_or asks at d in
-      append_assoc old.swapped (named (take at asks)) (word ∷ []) ∙
-      ap (λ w. old.swapped ++ (named (take at asks) ++ w ∷ [])) is ∙
-      ap (λ l. old.swapped ++ l) (sym (map-append (λ (ask : Ask). ask.cluster) (take at asks) (ask ∷ []))) ∙
-      ap (λ l. old.swapped ++ named l) (sym (take_more asks at d inside))
+      rw (take_more asks at d inside, map-append (λ (ask : Ask). ask.cluster) (take at asks) (ask ∷ []), ← is)
+      (append_assoc old.swapped (named (take at asks)) (word ∷ []))
 
   -- nothing changes with another word
   even-else : (other : ℕ) → other ≢ word → asked (drop (at + 1) asks) other ≡ 0 →
       slice_index after.taken other ≡ slice_index after.submitted other
   even-else other apart none =
-      let none_now : asked (drop at asks) other ≡ 0 =
-      ap (λ l. asked l other) (drop_more asks at d inside) ∙
-      asked-else (get_or asks at d) (drop (at + 1) asks) other (λ e. apart (sym (is ∙ e))) ∙ none in
       let taken : slice_index after.taken other ≡ slice_index seat.taken other =
       ap (λ (s : Seat). slice_index s.taken other) after_is ∙
       get_or-set_other seat.taken word other (slice_index seat.taken word + found) 0 apart in
       let submitted : slice_index after.submitted other ≡ slice_index seat.submitted other =
       ap (λ (s : Seat). slice_index s.submitted other) after_is in
-      omega (arith, taken, submitted, so_far.even other none_now)
-
-  more-taken : (IsWhole seat → slice_index after.taken word ≡ slice_index after.submitted word) →
-      AreTaken old after asks (at + 1) (raised cut word found)
-  more-taken whole =
-      record {
-        same = after_is ∙ ap (λ (s : Seat). seat_after_take s word found) so_far.same ∙
-            ap (λ l. after_swaps old l ((old.swapped ++ named (take at asks)) ++ word ∷ []))
-            (added-raised old.taken cut word found (omega (arith, there, due.row)) (omega (arith, there, so_far.row))) ∙
-            ap (after_swaps old (added old.taken (raised cut word found))) swapped;
-        row = length-set cut word (slice_index cut word + found) ∙ so_far.row;
-        even = λ other none. elim (cases_eq other word) [
-          | inl e ↦ subst (λ (w : ℕ). slice_index after.taken w ≡ slice_index after.submitted w) (sym e)
-              (whole (subst (λ (s : Seat). IsWhole s) (sym so_far.same) due.whole))
-          | inr apart ↦ even-else other apart none
-        ];
-      }
+      taken ∙ so_far.even other (not-named asks at d other inside (λ e. apart (sym (is ∙ e))) none) ∙ sym submitted
 
   pub taken-more : (IsWhole seat → slice_index after.taken word ≡ slice_index after.submitted word) →
       AreTaken old after asks (at + 1) (set cut place (held + found))
   taken-more whole =
-      let put : raised cut word found ≡ set cut place (held + found) =
-      ap (λ n. set cut word (n + found)) read ∙ ap (λ p. set cut p (held + found)) (sym place_is) in
-      subst (AreTaken old after asks (at + 1)) put (more-taken whole)
+      let more =
+      added-raised old.taken cut word found (omega (arith, there, due.row)) (omega (arith, there, so_far.row)) in
+      rw (place_is, ← read) (record {
+        same = rw (after_is, so_far.same, more, swapped) refl;
+        row = length-set cut word (slice_index cut word + found) ∙ so_far.row;
+        even = λ other none. elim (cases_eq other word) [
+          | inl e ↦ rw e (whole (rw so_far.same due.whole))
+          | inr apart ↦ even-else other apart none
+        ];
+      })
 
 -- after the last ask
 pub all-taken : (old seat : Seat) (asks : List Ask) (at : ℕ) (cut : List ℕ) → IsDue old asks →
@@ -194,12 +159,10 @@ all-taken old seat asks at cut due done end =
     ap length taken ∙ length-added old.taken cut (due.row ∙ sym done.row) ∙ due.row in
     let submitted_row : length seat.submitted ≡ n =
     ap length (submitted ∙ due.due) ∙ length-added old.taken (cut_of n asks) (due.row ∙ sym (length-cut n asks)) ∙ due.row in
-    let no_more : drop at asks ≡ [] = drop_all at asks end in
     let even : seat.taken ≡ seat.submitted =
     same_tally seat.taken seat.submitted (taken_row ∙ sym submitted_row)
-    (λ word lt. done.even word (ap (λ l. asked l word) no_more)) in
+    (λ word lt. done.even word (ap (λ l. asked l word) (drop_all at asks end))) in
     let all : added old.taken cut ≡ old.submitted = sym taken ∙ even ∙ submitted in (
-      added-same old.taken cut (cut_of n asks) (done.row ∙ sym due.row) (length-cut n asks ∙ sym due.row) (all ∙ due.due),
-      done.same ∙ ap (λ l. after_swaps old l (old.swapped ++ named (take at asks))) all ∙
-          ap (λ l. after_swaps old old.submitted (old.swapped ++ named l)) (take_all at asks end),
+      added-same old.taken cut (cut_of n asks) (done.row ∙ sym (length-cut n asks)) (all ∙ due.due),
+      rw (done.same, all, take_all at asks end) refl,
     )

@@ -1,6 +1,6 @@
 -- Batches (ours): the texts of some rounds, which are sent together, the records in one piece and the lines in one.
-use Rattle.std.specs.Prelude.{◌≡◌, ℕ, ◌+◌, ◌<◌, ◌≤◌, ◌⊎◌, ◌||◌, Bool, true, List, [], ◌∷◌, ◌++◌, length, map, flat_map, take, nat_le, nat_lt, slice_index, Result, Ok, Err}
-use Rattle.std.specs.List.{AllByRecursion, position_or_len, range_with_len}
+use Rattle.std.specs.Prelude.{◌≡◌, ℕ, ◌+◌, ◌<◌, ◌≤◌, ◌⊎◌, ◌&&◌, ◌||◌, Bool, true, List, [], ◌∷◌, ◌++◌, length, map, flat_map, take, nat_le, slice_index, Result, Ok, Err}
+use Rattle.std.specs.List.{AllByRecursion, prefix_len, range_with_len}
 use Rattle.us_output.specs.Outputs.{RoundOut}
 use Rattle.us_output.specs.declared.rows.Row.{Row}
 use Rattle.us_output.specs.Files.{records, round_lines, lines}
@@ -67,13 +67,13 @@ AreInside b = AllByRecursion (λ end. end.lines ≤ length b.lines) b.ends
 
 -- Sending.
 
--- a round ends behind so many bytes of records, or of lines
-abbrev pub is_past : ℕ → ℕ → End → Bool
-is_past record_bytes line_bytes end = nat_lt record_bytes end.records || nat_lt line_bytes end.lines
+-- a round ends within so many bytes of records and of lines
+abbrev pub is_within : ℕ → ℕ → End → Bool
+is_within record_bytes line_bytes end = nat_le end.records record_bytes && nat_le end.lines line_bytes
 
--- how many rounds end within them
+-- how many rounds do
 abbrev pub rounds_within : ℕ → ℕ → List End → ℕ
-rounds_within record_bytes line_bytes ends = position_or_len (is_past record_bytes line_bytes) ends
+rounds_within record_bytes line_bytes ends = prefix_len (is_within record_bytes line_bytes) ends
 
 -- where the lines of so many rounds end
 abbrev pub lines_before : ℕ → List End → ℕ

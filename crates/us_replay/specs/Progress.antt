@@ -1,6 +1,5 @@
--- A replay on its way: the cuts of the trace that was read, what is kept from one round to the next, and what one writing
--- of texts leaves.
-use Rattle.std.specs.Prelude.{◌≡◌, ℕ, ◌+◌, ◌*◌, ◌^◌, ◌-◌, ◌<◌, ◌≤◌, Bool, true, List, [], ◌∷◌, ◌++◌, length, drop, take, replicate, sum, sum_by, count_by, Result, Ok, Err, OnOk}
+-- A replay on its way: what it runs, what it keeps from one round to the next, and what its batch holds.
+use Rattle.std.specs.Prelude.{◌≡◌, ℕ, ◌+◌, ◌*◌, ◌^◌, ◌-◌, ◌<◌, ◌≤◌, Bool, true, false, List, [], ◌∷◌, ◌++◌, length, drop, take, replicate, sum, sum_by, count_by, Option, Result, Ok, Err, OnOk}
 use Rattle.std.specs.List.{AllByRecursion}
 use Rattle.std.specs.Io.KnownBytes.{Keeps}
 use Rattle.us_flows.specs.Tables.{Tables, max_run_ticks, rounds_fit}
@@ -21,12 +20,12 @@ use Rattle.us_replay.specs.declared.summaries.Summary.{Summary}
 use Rattle.us_replay.specs.declared.faults.RunFault.{RunFault}
 use Rattle.us_replay.specs.Collecting.{AreAsks, chunk_quota}
 use Rattle.us_output.specs.Files.{lines, is_granted, is_missed}
-use Rattle.us_lawful.specs.Output.{counts_row, judged_of, Output, all_rows, maps_text, output_of, report_text, run_of}
+use Rattle.us_lawful.specs.Output.{counts_row, Output, all_rows, maps_text, output_of, report_text, run_of}
 use Rattle.us_replay.specs.Endings.{ended, rounds_done, Ending, Refused, StoppedBy, Memory}
 use Rattle.us_lawful.specs.Texts.{AreLawful}
 use Rattle.us_output.specs.Lines.{HasFields}
 use Rattle.us_replay.specs.Batches.{Batch, batch_of, no_rounds, with_next}
-use Rattle.us_replay.specs.Replays.{Growth, KeptLimits, Ran}
+use Rattle.us_replay.specs.Replays.{AreLeft, Growth, KeptLimits, Ran, Writing, grown, writing}
 
 -- Traces.
 
@@ -49,11 +48,24 @@ pub record IsTraceFor (t : Tables) (v : TraceAsks) : Type 0 where
   pub fits : rounds_fit t v.rounds ≡ true
   pub known : (round : ℕ) → AllByRecursion (λ ask. ask.cluster < length (words_of t)) (asks_in v round)
 
--- what stands at the end of its run
-pub record EndsAs (t : Tables) (v : TraceAsks) (to_maps to_report : Growth) (report_failed : Bool) (result : Result Summary RunFault)
-    : Type 0 where
-  pub ran : RanTrace t v to_maps to_report report_failed result
-  pub fields : OnOk result (AllByRecursion HasFields (judged_of (output_in t v)).lines)
+-- a writer in a run: the bytes that it took, and what else it tells
+pub record Written : Type 0 where
+  pub bytes : Growth
+  pub flags : Writing
+
+abbrev pub written : {S : Type 0} → (S → Option (List ℕ)) → (S → Bool) → (S → Bool) → S → S → Written
+written contents failed flushed before after =
+    record { bytes = grown (contents before) (contents after); flags = writing (failed after) (flushed before) (flushed after) }
+
+-- a run can begin: of such a trace, by writers of which none has failed
+abbrev pub CanRun : Tables → TraceAsks → Bool → Bool → Type 0
+CanRun t v maps_failed report_failed = IsTraceFor t v × (maps_failed ≡ false) × (report_failed ≡ false)
+
+-- and how it ends
+abbrev pub Ended : Tables → TraceAsks → Written → Written → Result Summary RunFault → Type 0
+Ended t v maps report result =
+    RanTrace t v maps.bytes report.bytes report.flags.failed result × OnOk result (IsLawfulOutput t v)
+    × AreLeft maps.flags report.flags result
 
 -- Progress.
 
@@ -156,7 +168,7 @@ pub record IsMade (state : State) (p : Progress) (asks : List Ask) (next : State
   pub fields : AllByRecursion HasFields (out_after state p asks).rows
 
 -- how a replay stands after k rounds
-pub record Along (t : Tables) (v : TraceAsks) (k : ℕ) (state : State) (p : Progress) : Type 0 where
+pub record IsAlong (t : Tables) (v : TraceAsks) (k : ℕ) (state : State) (p : Progress) : Type 0 where
   pub within : k ≤ v.rounds
   pub lawful : AreTables t
   pub tables : state.tables ≡ t
@@ -174,6 +186,10 @@ pub record Along (t : Tables) (v : TraceAsks) (k : ℕ) (state : State) (p : Pro
   pub few_missed : AreFewBefore state p.missed
   pub limits : KeptLimits t (cuts_in t v) k
   pub fields : AllByRecursion HasFields (all_rows (take k (output_in t v).given))
+
+-- whatever its batch holds
+abbrev pub Along : Tables → TraceAsks → ℕ → State → Progress → Type 0
+Along t v k state p = IsAlong t v k state (with_none_left p)
 
 -- Writing.
 

@@ -1,14 +1,13 @@
-ghost use Rattle.std.specs.Prelude.{◌≡◌, ◌↔◌, ◌⊎◌, ◌<◌, ◌≤◌, true, false, length, option_map, Err, IfOk, OnOk, IfErr};
+ghost use Rattle.std.specs.Prelude.{◌≡◌, ◌↔◌, ◌⊎◌, ◌<◌, ◌≤◌, true, false, length, Err, IfOk, OnOk, IfErr};
 ghost use Rattle.us_flows.specs.Tables;
 ghost use Rattle.us_flows.specs.Clusters.{words_of};
 ghost use Rattle.us_flows.specs.Lawful.{AreTables};
 ghost use Rattle.us_slots.specs.Devices.{TookAtMost};
 ghost use Rattle.us_requests.specs.Readings.{max_bytes};
 ghost use Rattle.us_round.specs.Rounds.{opening};
-ghost use Rattle.us_replay.specs.Collecting.{AreOpen};
 ghost use Rattle.us_replay.specs.Endings.{comes_before};
 ghost use Rattle.us_replay.specs.Replays.{AreLeft, Replayed, WroteLawful, grown, writing};
-ghost use Rattle.us_replay.specs.Progress.{CanMake, EndsAs, IsLawfulOutput, IsMade, IsTraceFor, opening_progress};
+ghost use Rattle.us_replay.specs.Progress.{CanMake, CanRun, Ended, IsMade, opening_progress, written};
 
 use crate::collecting::open_intake;
 use crate::doers::{Doers, RunMail};
@@ -21,7 +20,6 @@ use std::sync::Wait;
 use std::thread::Threads;
 use us_crew::{Gate, MAX_WORKERS, Mailboxes, OpenGate, with_crew};
 use us_flows::Config;
-use us_intake::{Intake, Seat};
 use us_requests::{Ask, Trace, TraceFault};
 use us_round::{Alone, RoundMail, State, step};
 use us_slots::{NoMemory, Sink, Source};
@@ -86,7 +84,10 @@ pub fn replay<H: Threads + Wait + Sync, R: Source, W1: Sink, W2: Sink, G: Gate +
 }
 
 /// Replays a trace as [`replay`] does by one worker, which is the calling thread: it starts no thread, waits for nobody and
-/// enters no gate, so it is there where threads aren't. RU2 never comes.
+/// enters no gate. It takes no threads and no handle, for callers that have none, such as the page's module.
+///
+/// The number of rounds is looked at first (RU1), and then the trace is read (RU3); the first fault of a writer ends the
+/// replay (RU4, RU5), and so does want of memory (RU6). RU2 never comes.
 pub fn replay_alone<R: Source, W1: Sink, W2: Sink>(
     alloc: Global,
     config: &Config,
@@ -138,7 +139,8 @@ pub fn check_run(config: &Config, rounds: u32, workers: usize) -> Result<(), Run
     Ok(())
 }
 
-/// Replays a trace that was read, by the calling thread where there is no work for a second worker.
+/// Replays a trace that was read, by the calling thread where there is no work for a second worker. Else the intake where
+/// requests are collected is opened here, since it has to outlive the workers.
 fn run<H: Threads + Wait + Sync, W1: Sink, W2: Sink, G: Gate + Sync>(
     threads: &H,
     alloc: Global,
@@ -149,20 +151,24 @@ fn run<H: Threads + Wait + Sync, W1: Sink, W2: Sink, G: Gate + Sync>(
     maps: &mut W1,
     report: &mut W2,
 ) -> Result<Summary, RunFault>
-    requires trace { IsTraceFor config.now trace.now }
-    requires maps_ready { W1.failed maps.old ≡ false }
-    requires report_ready { W2.failed report.old ≡ false }
-    ensures ends { EndsAs config.now trace.now (grown (W1.contents maps.old) (W1.contents maps.new))
-        (grown (W2.contents report.old) (W2.contents report.new)) (W2.failed report.new) result }
-    ensures left { AreLeft (writing (W1.failed maps.new) (W1.flushed maps.old) (W1.flushed maps.new))
-        (writing (W2.failed report.new) (W2.flushed report.old) (W2.flushed report.new)) result }
-    ensures lawful { OnOk result (IsLawfulOutput config.now trace.now) }
+    requires { CanRun config.now trace.now (W1.failed maps.old) (W2.failed report.old) }
+    ensures { Ended config.now trace.now (written W1.contents W1.failed W1.flushed maps.old maps.new)
+        (written W2.contents W2.failed W2.flushed report.old report.new) result }
 {
     let workers = workers_for(config, trace, workers);
     if workers < 2 {
         return run_alone(alloc, config, trace, gate, maps, report);
     }
-    run_shared(threads, alloc, config, trace, workers, gate, maps, report)
+    let Ok((intake, seat)) = open_intake(alloc, config.clusters()) else {
+        return Err(RunFault::NoMemory(0));
+    };
+    let intake = intake.as_ref();
+    let Ok(progress) = Progress::opening(alloc, config.clusters(), intake, seat) else {
+        return Err(RunFault::NoMemory(0));
+    };
+    run_kept(
+        threads, alloc, config, trace, workers, gate, progress, maps, report,
+    )
 }
 
 /// Replays a trace by the calling thread: opens the intake where its requests are collected.
@@ -174,45 +180,36 @@ fn run_alone<W1: Sink, W2: Sink, G: Gate>(
     maps: &mut W1,
     report: &mut W2,
 ) -> Result<Summary, RunFault>
-    requires trace { IsTraceFor config.now trace.now }
-    requires maps_ready { W1.failed maps.old ≡ false }
-    requires report_ready { W2.failed report.old ≡ false }
-    ensures ends { EndsAs config.now trace.now (grown (W1.contents maps.old) (W1.contents maps.new))
-        (grown (W2.contents report.old) (W2.contents report.new)) (W2.failed report.new) result }
-    ensures left { AreLeft (writing (W1.failed maps.new) (W1.flushed maps.old) (W1.flushed maps.new))
-        (writing (W2.failed report.new) (W2.flushed report.old) (W2.flushed report.new)) result }
-    ensures lawful { OnOk result (IsLawfulOutput config.now trace.now) }
+    requires { CanRun config.now trace.now (W1.failed maps.old) (W2.failed report.old) }
+    ensures { Ended config.now trace.now (written W1.contents W1.failed W1.flushed maps.old maps.new)
+        (written W2.contents W2.failed W2.flushed report.old report.new) result }
 {
     let Ok((intake, seat)) = open_intake(alloc, config.clusters()) else {
         return Err(RunFault::NoMemory(0));
     };
     let intake = intake.as_ref();
-    run_alone_with(alloc, config, trace, intake, seat, gate, maps, report)
+    let Ok(progress) = Progress::opening(alloc, config.clusters(), intake, seat) else {
+        return Err(RunFault::NoMemory(0));
+    };
+    run_alone_from(alloc, config, trace, progress, gate, maps, report)
 }
 
-/// Replays a trace by the calling thread, with an intake that was opened for it, and its seat.
-fn run_alone_with<'a, W1: Sink, W2: Sink, G: Gate>(
+/// Replays a trace by the calling thread, with what is kept between rounds.
+fn run_alone_from<'a, W1: Sink, W2: Sink, G: Gate>(
     alloc: Global,
     config: &'a Config,
     trace: &'a Trace,
-    intake: Option<&'a Intake>,
-    seat: Option<Seat>,
+    progress: Progress<'a>,
     gate: &'a G,
     maps: &mut W1,
     report: &mut W2,
 ) -> Result<Summary, RunFault>
-    requires trace { IsTraceFor config.now trace.now }
-    requires open { AreOpen (length (words_of config.now)) (option_map (λ i. i.now) intake) seat }
-    requires maps_ready { W1.failed maps.old ≡ false }
-    requires report_ready { W2.failed report.old ≡ false }
-    ensures ends { EndsAs config.now trace.now (grown (W1.contents maps.old) (W1.contents maps.new))
-        (grown (W2.contents report.old) (W2.contents report.new)) (W2.failed report.new) result }
-    ensures left { AreLeft (writing (W1.failed maps.new) (W1.flushed maps.old) (W1.flushed maps.new))
-        (writing (W2.failed report.new) (W2.flushed report.old) (W2.flushed report.new)) result }
+    requires opening { progress ≡ opening_progress (length (words_of config.now)) }
+    requires ready { CanRun config.now trace.now (W1.failed maps.old) (W2.failed report.old) }
+    ensures { Ended config.now trace.now (written W1.contents W1.failed W1.flushed maps.old maps.new)
+        (written W2.contents W2.failed W2.flushed report.old report.new) result }
 {
-    let Ok(mut progress) = Progress::opening(alloc, config.clusters(), intake, seat) else {
-        return Err(RunFault::NoMemory(0));
-    };
+    let mut progress = progress;
     let mut doers = Alone { gate };
     run_by(
         alloc,
@@ -222,65 +219,6 @@ fn run_alone_with<'a, W1: Sink, W2: Sink, G: Gate>(
         &mut doers,
         maps,
         report,
-    )
-}
-
-/// Replays a trace by several workers: opens the intake where its requests are collected, which has to outlive them.
-fn run_shared<H: Threads + Wait + Sync, W1: Sink, W2: Sink, G: Gate + Sync>(
-    threads: &H,
-    alloc: Global,
-    config: &Config,
-    trace: &Trace,
-    workers: usize,
-    gate: &G,
-    maps: &mut W1,
-    report: &mut W2,
-) -> Result<Summary, RunFault>
-    requires trace { IsTraceFor config.now trace.now }
-    requires maps_ready { W1.failed maps.old ≡ false }
-    requires report_ready { W2.failed report.old ≡ false }
-    ensures ends { EndsAs config.now trace.now (grown (W1.contents maps.old) (W1.contents maps.new))
-        (grown (W2.contents report.old) (W2.contents report.new)) (W2.failed report.new) result }
-    ensures left { AreLeft (writing (W1.failed maps.new) (W1.flushed maps.old) (W1.flushed maps.new))
-        (writing (W2.failed report.new) (W2.flushed report.old) (W2.flushed report.new)) result }
-    ensures lawful { OnOk result (IsLawfulOutput config.now trace.now) }
-{
-    let Ok((intake, seat)) = open_intake(alloc, config.clusters()) else {
-        return Err(RunFault::NoMemory(0));
-    };
-    let intake = intake.as_ref();
-    run_shared_with(
-        threads, alloc, config, trace, intake, seat, workers, gate, maps, report,
-    )
-}
-
-/// Replays a trace by several workers, with an intake that was opened for it, and its seat.
-fn run_shared_with<'a, H: Threads + Wait + Sync, W1: Sink, W2: Sink, G: Gate + Sync>(
-    threads: &H,
-    alloc: Global,
-    config: &'a Config,
-    trace: &'a Trace,
-    intake: Option<&'a Intake>,
-    seat: Option<Seat>,
-    workers: usize,
-    gate: &'a G,
-    maps: &mut W1,
-    report: &mut W2,
-) -> Result<Summary, RunFault>
-    requires trace { IsTraceFor config.now trace.now }
-    requires open { AreOpen (length (words_of config.now)) (option_map (λ i. i.now) intake) seat }
-    requires maps_ready { W1.failed maps.old ≡ false }
-    requires report_ready { W2.failed report.old ≡ false }
-    ensures ends { EndsAs config.now trace.now (grown (W1.contents maps.old) (W1.contents maps.new))
-        (grown (W2.contents report.old) (W2.contents report.new)) (W2.failed report.new) result }
-    ensures left { AreLeft (writing (W1.failed maps.new) (W1.flushed maps.old) (W1.flushed maps.new))
-        (writing (W2.failed report.new) (W2.flushed report.old) (W2.flushed report.new)) result }
-{
-    let Ok(progress) = Progress::opening(alloc, config.clusters(), intake, seat) else {
-        return Err(RunFault::NoMemory(0));
-    };
-    run_kept(
-        threads, alloc, config, trace, workers, gate, progress, maps, report,
     )
 }
 
@@ -297,14 +235,10 @@ fn run_kept<'a, H: Threads + Wait + Sync, W1: Sink, W2: Sink, G: Gate + Copy + S
     report: &mut W2,
 ) -> Result<Summary, RunFault>
     requires lawful { AreTables config.now }
-    requires trace { IsTraceFor config.now trace.now }
     requires opening { progress ≡ opening_progress (length (words_of config.now)) }
-    requires maps_ready { W1.failed maps.old ≡ false }
-    requires report_ready { W2.failed report.old ≡ false }
-    ensures ends { EndsAs config.now trace.now (grown (W1.contents maps.old) (W1.contents maps.new))
-        (grown (W2.contents report.old) (W2.contents report.new)) (W2.failed report.new) result }
-    ensures left { AreLeft (writing (W1.failed maps.new) (W1.flushed maps.old) (W1.flushed maps.new))
-        (writing (W2.failed report.new) (W2.flushed report.old) (W2.flushed report.new)) result }
+    requires ready { CanRun config.now trace.now (W1.failed maps.old) (W2.failed report.old) }
+    ensures { Ended config.now trace.now (written W1.contents W1.failed W1.flushed maps.old maps.new)
+        (written W2.contents W2.failed W2.flushed report.old report.new) result }
 {
     let helpers = workers.saturating_sub(1);
     let (Ok(collects), Ok(fills), Ok(builds)) = (
@@ -361,15 +295,11 @@ fn run_by<'a, D: Doers<'a>, W1: Sink, W2: Sink>(
     maps: &mut W1,
     report: &mut W2,
 ) -> Result<Summary, RunFault>
-    requires trace { IsTraceFor config.now trace.now }
     requires opening { progress.old ≡ opening_progress (length (words_of config.now)) }
     requires doers { D.knows doers.old config.now }
-    requires maps_ready { W1.failed maps.old ≡ false }
-    requires report_ready { W2.failed report.old ≡ false }
-    ensures ends { EndsAs config.now trace.now (grown (W1.contents maps.old) (W1.contents maps.new))
-        (grown (W2.contents report.old) (W2.contents report.new)) (W2.failed report.new) result }
-    ensures left { AreLeft (writing (W1.failed maps.new) (W1.flushed maps.old) (W1.flushed maps.new))
-        (writing (W2.failed report.new) (W2.flushed report.old) (W2.flushed report.new)) result }
+    requires ready { CanRun config.now trace.now (W1.failed maps.old) (W2.failed report.old) }
+    ensures { Ended config.now trace.now (written W1.contents W1.failed W1.flushed maps.old maps.new)
+        (written W2.contents W2.failed W2.flushed report.old report.new) result }
 {
     let Ok(mut state) = opened(alloc, config) else {
         return Err(RunFault::NoMemory(0));

@@ -1,4 +1,4 @@
-ghost use Rattle.std.specs.Prelude.{◌≡◌, ◌+◌, ◌^◌, ◌<◌, ◌≤◌, [], ◌++◌, length, take, count_by, position, IfOk, IfSome, OnOk};
+ghost use Rattle.std.specs.Prelude.{◌≡◌, ◌+◌, ◌^◌, ◌<◌, ◌≤◌, [], ◌++◌, length, take, count_by, IfOk, OnOk};
 ghost use Rattle.std.specs.List.{AllByRecursion};
 ghost use Rattle.us_output.specs.Files.{is_granted, is_missed, lines};
 ghost use Rattle.us_output.specs.Lines.{HasFields};
@@ -133,20 +133,10 @@ impl Batch {
         ensures value { result ≡ spec.rounds_within record_bytes line_bytes self.now.ends }
         ensures inside { result ≤ length self.now.ends }
     {
-        match self.first_past(record_bytes, line_bytes) {
-            Some(rounds) => rounds,
-            None => self.ends.len(),
-        }
-    }
-
-    /// The place of its first round that doesn't.
-    fn first_past(&self, record_bytes: usize, line_bytes: usize) -> Option<usize>
-        ensures value { result ≡ position (λ end. spec.is_past record_bytes line_bytes end) self.now.ends }
-        ensures inside { IfSome result (λ place. place < length self.now.ends) }
-    {
         self.ends
             .iter()
-            .position(|end| record_bytes < end.records || line_bytes < end.lines)
+            .take_while(|end| end.records <= record_bytes && end.lines <= line_bytes)
+            .count()
     }
 
     /// The lines of its first rounds, of which there are so many.

@@ -27,23 +27,19 @@ pub(super) struct WholeRun<'a, 'b, 'm, 'r, G: Gate, W1, W2> {
 
 impl<'a, 'b, 'm, 'r, H: Wait, G: Gate + Copy + Drop, W1: Sink, W2: Sink> Beside<H>
     for WholeRun<'a, 'b, 'm, 'r, G, W1, W2> {
-    ghost use Rattle.std.specs.Prelude.{◌≡◌, false, length};
+    ghost use Rattle.std.specs.Prelude.{◌≡◌, length};
     ghost use Rattle.us_flows.specs.Clusters.{words_of};
-    ghost use Rattle.us_replay.specs.Progress.{EndsAs, IsTraceFor, opening_progress};
-    ghost use Rattle.us_replay.specs.Replays.{AreLeft, grown, writing};
+    ghost use Rattle.us_replay.specs.Progress.{CanRun, Ended, opening_progress, written};
 
     // How it ended, and the writers.
     type Output = (Result<Summary, RunFault>, &'m mut W1, &'r mut W2);
 
-    ghost can_run = { λ t. IsTraceFor t.config.now t.trace.now
-        × (t.progress ≡ opening_progress (length (words_of t.config.now)))
-        × (W1.failed t.maps.now ≡ false) × (W2.failed t.report.now ≡ false) };
+    ghost can_run = { λ t. (t.progress ≡ opening_progress (length (words_of t.config.now)))
+        × CanRun t.config.now t.trace.now (W1.failed t.maps.now) (W2.failed t.report.now) };
 
     ghost gives = { λ t r. (r.1.ghost_name ≡ t.maps.ghost_name) × (r.2.ghost_name ≡ t.report.ghost_name)
-        × EndsAs t.config.now t.trace.now (grown (W1.contents t.maps.now) (W1.contents r.1.now))
-        (grown (W2.contents t.report.now) (W2.contents r.2.now)) (W2.failed r.2.now) r.0
-        × AreLeft (writing (W1.failed r.1.now) (W1.flushed t.maps.now) (W1.flushed r.1.now))
-        (writing (W2.failed r.2.now) (W2.flushed t.report.now) (W2.flushed r.2.now)) r.0 };
+        × Ended t.config.now t.trace.now (written W1.contents W1.failed W1.flushed t.maps.now r.1.now)
+        (written W2.contents W2.failed W2.flushed t.report.now r.2.now) r.0 };
 
     fn run(self, crew: &Crew<'_, H>) -> (Result<Summary, RunFault>, &'m mut W1, &'r mut W2) {
         let (mut progress, maps, report) = (self.progress, self.maps, self.report);

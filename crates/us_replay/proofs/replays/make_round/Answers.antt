@@ -1,7 +1,7 @@
 use Rattle.std.proofs.Common.{◌^◌, ◌<◌, length, ap, rules, sym, ◌∙◌}
 use Rattle.us_replay.proofs.LoopLemmas.{pairs-room}
 use Rattle.us_replay.proofs.MadeLemmas.{is-made, room-for}
-use Rattle.us_replay.proofs.SumLemmas.{length-cut}
+use Rattle.us_replay.proofs.CutLemmas.{length-cut}
 use Rattle.us_replay.proofs.replays.make_round.Goals as goal
 
 pub step-requires-clause-ready : goal.step-requires-clause-ready

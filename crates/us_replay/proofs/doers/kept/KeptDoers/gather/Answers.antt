@@ -2,8 +2,9 @@ use Rattle.std.proofs.Common.{◌≡◌, sym, subst, ◌∙◌}
 use Rattle.std.specs.Prelude.{IfOk}
 use Rattle.std.specs.List.{AllByRecursion}
 use Rattle.us_crew.specs.Values.{values_of}
+use Rattle.us_round.proofs.PhaseLemmas.{accepted}
 use Rattle.us_replay.specs.Collecting.{IsChunk, seat_after_asks}
-use Rattle.us_replay.proofs.CollectingLemmas.{accepted, gathered, of-intake}
+use Rattle.us_replay.proofs.CollectingLemmas.{gathered, of-intake}
 use Rattle.us_replay.proofs.doers.kept.KeptDoers.gather.Goals as goal
 
 pub map_kept-requires : goal.map_kept-requires
