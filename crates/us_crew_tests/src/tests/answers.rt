@@ -23,12 +23,13 @@ static WORKERS: &[usize] = &[1, 2, 3, 4, 16, 64];
 /// A fault is that of the first item that is refused.
 #[test]
 fn answers_and_faults(rt: HostRuntime) {
+    let rt = &rt;
+    let alloc = rt.alloc();
     for case in CASES {
         let mut case = *case;
         for workers in WORKERS {
             case.workers = *workers;
-            let found = answer_of(&rt, rt.alloc(), &case, &OpenGate);
-            same(&rt, found, case.answer);
+            same(rt, answer_of(rt, alloc, &case, &OpenGate), case.answer);
         }
     }
 }
@@ -42,8 +43,10 @@ static FAULTS: &[CrewFault<u64>] = &[
 /// Each fault is written. A clause says what is written then.
 #[test]
 fn texts_of_faults(rt: HostRuntime) {
+    let rt = &rt;
+    let alloc = rt.alloc();
     for fault in FAULTS {
-        let text = format!(in rt.alloc(); "{fault}");
-        same(&rt, Ok(u64::from(text.is_ok())), Ok(1));
+        let text = fault.to_string(alloc);
+        same(rt, Ok(u64::from(text.is_ok())), Ok(1));
     }
 }

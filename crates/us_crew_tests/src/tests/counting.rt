@@ -119,7 +119,9 @@ fn entered<H: Abort + Threads + Wait + Sync>(rt: &H, alloc: Global, case: &Case,
 /// Each item is entered for once in a phase, in that phase and by its number.
 #[test]
 fn entered_once(rt: HostRuntime) {
+    let rt = &rt;
+    let alloc = rt.alloc();
     for (case, wanted) in ENTERED {
-        entered(&rt, rt.alloc(), case, *wanted);
+        entered(rt, alloc, case, *wanted);
     }
 }

@@ -60,13 +60,7 @@ pub(super) fn pause(turns: u32) {
 }
 
 impl<'a, G: Gate + Copy + Drop> Rounds<'a, G> {
-    /// A round, the digits of whose phases stand one behind the other. A fault of the first keeps nobody from the second.
-    fn round<H: Wait>(&self, crew: &Crew<'_, H>) -> Told {
-        pause(self.case.pause);
-        let front = self.doubled(crew);
-        self.halved(crew, front)
-    }
-
+    /// What the first phase tells.
     fn doubled<H: Wait>(&self, crew: &Crew<'_, H>) -> Told {
         let Ok(numbers) = numbers_to(self.alloc, self.case.numbers) else {
             return Err(CrewFault::NoMemory);
@@ -84,6 +78,7 @@ impl<'a, G: Gate + Copy + Drop> Rounds<'a, G> {
         tell(Ok(0), answer, self.case.base)
     }
 
+    /// What both tell, the digits of the second behind those of the first.
     fn halved<H: Wait>(&self, crew: &Crew<'_, H>, front: Told) -> Told {
         let Ok(numbers) = numbers_to(self.alloc, self.case.numbers) else {
             return Err(CrewFault::NoMemory);
@@ -112,7 +107,11 @@ impl<'a, G: Gate + Copy + Drop, H: Wait> Beside<H> for Rounds<'a, G> {
     fn run(self, crew: &Crew<'_, H>) -> Told {
         let mut told = self.case.answer;
         for _ in 0..self.case.rounds {
-            told = self.round(crew);
+            pause(self.case.pause);
+
+            // A fault of the first phase keeps nobody from the second.
+            let front = self.doubled(crew);
+            told = self.halved(crew, front);
             if told != self.case.answer {
                 break;
             }

@@ -26,10 +26,12 @@ static CASES: &[Case] = &[
 /// refused in turn.
 #[test]
 fn refused_memory(rt: HostRuntime) {
+    let rt = &rt;
+    let alloc = rt.alloc();
     for case in CASES {
-        let found = answer_of(&rt, rt.alloc(), case, &OpenGate);
+        let found = answer_of(rt, alloc, case, &OpenGate);
         if found != Err(CrewFault::NoMemory) {
-            same(&rt, found, case.answer);
+            same(rt, found, case.answer);
         }
     }
 }
