@@ -14,7 +14,7 @@ use us_crew::{Gate, Phase};
 struct Meeting<'a> {
     held: &'a Held,
     turns: u64,
-    /// A bit for each item that is held. A call has each item once, and turns its bit: so all are alike between calls.
+    /// A bit for each item that is held. A call has each item once, which turns its bit: so all are alike between calls.
     entered: AtomicU64,
     missed: AtomicU64,
 }
@@ -60,21 +60,21 @@ impl<'a> Gate for Meeting<'a> {
     }
 }
 
-/// A case, and the items that meet: a bit for each, from that of item 0 up.
+/// A case, and the items that are held: a bit for each, from that of item 0 up.
 #[derive(Clone, Copy)]
 pub(super) struct Held {
     pub(super) case: Case,
     pub(super) items: u64,
-    /// Those that stay long once all have met.
+    /// Those of them that stay long once all have met.
     pub(super) staying: u64,
-    /// How often the case is done.
+    /// How often the case is answered.
     pub(super) times: u32,
-    /// How many are held in vain each time.
+    /// How many items are held in vain each time.
     pub(super) alone: u64,
 }
 
-/// A case is answered, and so many come alone.
-fn comes_alone<H: Abort + Threads + Wait + Sync>(rt: &H, alloc: Global, held: &Held, turns: u64) {
+/// A case is answered once, and as many of its items are held in vain as it says.
+fn meets<H: Abort + Threads + Wait + Sync>(rt: &H, alloc: Global, held: &Held, turns: u64) {
     let gate = Meeting {
         held,
         turns,
@@ -89,7 +89,7 @@ fn comes_alone<H: Abort + Threads + Wait + Sync>(rt: &H, alloc: Global, held: &H
     same(rt, Ok(gate.missed.load(Ordering::SeqCst)), Ok(held.alone));
 }
 
-/// As often as is said, for each of some cases.
+/// The same of each of these, as often as it says.
 pub(super) fn all_meet<H: Abort + Threads + Wait + Sync>(
     rt: &H,
     alloc: Global,
@@ -98,7 +98,7 @@ pub(super) fn all_meet<H: Abort + Threads + Wait + Sync>(
 ) {
     for held in all {
         for _ in 0..held.times {
-            comes_alone(rt, alloc, held, turns);
+            meets(rt, alloc, held, turns);
         }
     }
 }
