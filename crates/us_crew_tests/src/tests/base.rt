@@ -1,17 +1,17 @@
 ghost use Rattle.std.specs.Prelude.{◌*◌, ◌%◌, ◌^◌, ⊤};
 
-use std::alloc::Global;
+use super::kept_base::by_kept;
+use std::alloc::{AllocError, Global};
 use std::process::Abort;
 use std::sync::Wait;
 use std::thread::Threads;
 use us_crew::{CrewFault, Gate, Phase, Work, map_owned};
-use us_slots::NoMemory;
 
 /// What is answered for numbers.
 pub(super) type Answered = Result<Vec<u64>, CrewFault<u64>>;
 
-/// An answer as these tests tell it: the numbers as digits to base 16, of which the last 16 are told, or the fault. It
-/// owns nothing.
+/// An answer as these tests tell it: the numbers as digits to a base, of which the last 64 bits are told, or the fault.
+/// It owns nothing.
 pub(super) type Told = Result<u64, CrewFault<u64>>;
 
 /// The one assertion of these tests.
@@ -44,7 +44,7 @@ impl Work<u64, u64, u64> for Doubling {
     }
 }
 
-/// Numbers to double, from 1 up.
+/// Numbers to double, from 1 up, by workers that are started anew, or in rounds by workers that are kept.
 #[derive(Clone, Copy)]
 pub(super) struct Case {
     pub(super) numbers: u64,
@@ -52,9 +52,16 @@ pub(super) struct Case {
     pub(super) most: u64,
     pub(super) workers: usize,
     pub(super) phase: Phase,
+    /// Of the digits that are told.
+    pub(super) base: u64,
+    /// The rounds of workers that are kept, each of two phases. Without any, workers are started anew.
+    pub(super) rounds: u32,
+    /// The turns before a round in which nothing is called.
+    pub(super) pause: u32,
+    /// The most threads beside the owner of workers that are kept.
+    pub(super) helpers: usize,
+    /// The answer. Workers that are kept halve the numbers too: those digits follow.
     pub(super) answer: Told,
-    /// The answer of a crew that halves the numbers too: those digits follow.
-    pub(super) kept: Told,
 }
 
 pub(super) const DOUBLED: Case = Case {
@@ -62,37 +69,35 @@ pub(super) const DOUBLED: Case = Case {
     most: u64::MAX,
     workers: 3,
     phase: Phase::Fill,
+    base: 16,
+    rounds: 0,
+    pause: 0,
+    helpers: usize::MAX,
     answer: Ok(0x2468a),
-    kept: Ok(0x2468a_01122),
 };
 
-/// Items 2, 3 and 4 are refused.
-pub(super) const REFUSED: Case = Case {
-    most: 2,
-    answer: Err(CrewFault::Item(2, 3)),
-    kept: Err(CrewFault::Item(2, 3)),
+/// The same by workers that are kept.
+pub(super) const KEPT: Case = Case {
+    rounds: 3,
+    answer: Ok(0x2468a_01122),
     ..DOUBLED
 };
 
-/// The numbers from 1 to this.
-pub(super) fn numbers_to(alloc: Global, last: u64) -> Result<Vec<u64>, NoMemory> {
-    let mut numbers = Vec::new(alloc);
-    for number in 1..=last {
-        numbers.push(number)?;
-    }
-    Ok(numbers)
-}
-
-/// What is answered for a case.
-pub(super) fn map_case<H: Threads + Wait + Sync, G: Gate + Sync>(
+/// What is answered for a case by its workers.
+pub(super) fn answer_of<H: Threads + Wait + Sync, G: Gate + Sync>(
     threads: &H,
     alloc: Global,
     case: &Case,
     gate: &G,
 ) -> Told {
-    let numbers = numbers_to(alloc, case.numbers)?;
+    if case.rounds > 0 {
+        return by_kept(threads, alloc, case, gate);
+    }
+    let Ok(numbers) = numbers_to(alloc, case.numbers) else {
+        return Err(CrewFault::NoMemory);
+    };
     let work = Doubling { most: case.most };
-    tell(map_owned(
+    let answer = map_owned(
         threads,
         alloc,
         &work,
@@ -100,14 +105,27 @@ pub(super) fn map_case<H: Threads + Wait + Sync, G: Gate + Sync>(
         numbers,
         case.workers,
         gate,
-    ))
+    );
+    tell(Ok(0), answer, case.base)
 }
 
-/// Tells of an answer.
-pub(super) fn tell(answer: Answered) -> Told {
-    let mut told = 0_u64;
-    for number in &answer? {
-        told = told.wrapping_mul(16).wrapping_add(*number);
+/// The numbers from 1 to this.
+pub(super) fn numbers_to(alloc: Global, last: u64) -> Result<Vec<u64>, AllocError> {
+    (1..=last).collect(alloc)
+}
+
+/// Tells of an answer, behind what was told before. Of two faults the answer's is told.
+pub(super) fn tell(before: Told, answer: Answered, base: u64) -> Told {
+    match answer {
+        Ok(numbers) => before.and(Ok(digits(before.unwrap_or(0), &numbers, base))),
+        Err(fault) => Err(fault),
     }
-    Ok(told)
+}
+
+/// Numbers in their order, as digits to a base behind those that are told.
+pub(super) fn digits(mut told: u64, numbers: &[u64], base: u64) -> u64 {
+    for number in numbers {
+        told = told.wrapping_mul(base).wrapping_add(*number);
+    }
+    told
 }

@@ -1,8 +1,8 @@
 ghost use Rattle.std.specs.Prelude.{◌<◌, ⊤};
 
-use super::base::{Case, DOUBLED, Told, map_case, same};
-use super::kept_base::by_kept;
+use super::base::{Case, DOUBLED, KEPT, answer_of, same};
 use std::alloc::Global;
+use std::process::Abort;
 use std::sync::Wait;
 use std::sync::atomic::{AtomicU64, Ordering};
 use std::thread::Threads;
@@ -13,18 +13,6 @@ use us_crew::{Gate, Phase};
 #[derive(Drop)]
 struct Counting {
     counts: AtomicU64,
-}
-
-impl Counting {
-    fn new() -> Counting {
-        Counting {
-            counts: AtomicU64::new(0),
-        }
-    }
-
-    fn told(&self) -> u64 {
-        self.counts.load(Ordering::SeqCst)
-    }
 }
 
 /// The place of a digit.
@@ -51,56 +39,89 @@ impl Gate for Counting {
     }
 }
 
-static ENTERED: &[(usize, Phase, u64)] = &[
-    (1, Phase::Collect, 0x11111),
-    (3, Phase::Collect, 0x11111),
-    (64, Phase::Collect, 0x11111),
-    (1, Phase::Fill, 0x11111_00000),
-    (3, Phase::Fill, 0x11111_00000),
-    (64, Phase::Fill, 0x11111_00000),
-    (1, Phase::Build, 0x11111_00000_00000),
-    (3, Phase::Build, 0x11111_00000_00000),
-    (64, Phase::Build, 0x11111_00000_00000),
+const COLLECT: Case = Case {
+    phase: Phase::Collect,
+    ..DOUBLED
+};
+
+const BUILD: Case = Case {
+    phase: Phase::Build,
+    ..DOUBLED
+};
+
+/// Workers that are kept go through two phases three times.
+static ENTERED: &[(Case, u64)] = &[
+    (
+        Case {
+            workers: 1,
+            ..COLLECT
+        },
+        0x11111,
+    ),
+    (COLLECT, 0x11111),
+    (
+        Case {
+            workers: 64,
+            ..COLLECT
+        },
+        0x11111,
+    ),
+    (
+        Case {
+            workers: 1,
+            ..DOUBLED
+        },
+        0x11111_00000,
+    ),
+    (DOUBLED, 0x11111_00000),
+    (
+        Case {
+            workers: 64,
+            ..DOUBLED
+        },
+        0x11111_00000,
+    ),
+    (
+        Case {
+            workers: 1,
+            ..BUILD
+        },
+        0x11111_00000_00000,
+    ),
+    (BUILD, 0x11111_00000_00000),
+    (
+        Case {
+            workers: 64,
+            ..BUILD
+        },
+        0x11111_00000_00000,
+    ),
+    (Case { workers: 1, ..KEPT }, 0x33333_33333_00000),
+    (Case { workers: 4, ..KEPT }, 0x33333_33333_00000),
+    (
+        Case {
+            workers: 64,
+            ..KEPT
+        },
+        0x33333_33333_00000,
+    ),
 ];
 
-/// Who enters for the items of a case.
-fn entered<H: Threads + Wait + Sync>(
-    threads: &H,
-    alloc: Global,
-    workers: usize,
-    phase: Phase,
-) -> Told {
-    let gate = Counting::new();
-    let case = Case {
-        workers,
-        phase,
-        ..DOUBLED
+/// So many enter for the items of a case.
+fn entered<H: Abort + Threads + Wait + Sync>(rt: &H, alloc: Global, case: &Case, wanted: u64) {
+    let gate = Counting {
+        counts: AtomicU64::new(0),
     };
-    map_case(threads, alloc, &case, &gate)?;
-    Ok(gate.told())
+    same(rt, answer_of(rt, alloc, case, &gate), case.answer);
+    same(rt, Ok(gate.counts.load(Ordering::SeqCst)), Ok(wanted));
 }
 
-/// Each item is entered for once, in its phase and by its number.
+/// Each item is entered for once in a phase, in that phase and by its number.
 #[test]
 fn entered_once(rt: HostRuntime) {
-    for (workers, phase, wanted) in ENTERED {
-        let found = entered(&rt, rt.alloc(), *workers, *phase);
-        same(&rt, found, Ok(*wanted));
-    }
-}
-
-/// Who enters in three rounds of two phases by workers that are kept.
-fn kept_entered<H: Threads + Wait + Sync>(threads: &H, alloc: Global, workers: usize) -> Told {
-    let gate = Counting::new();
-    let case = Case { workers, ..DOUBLED };
-    by_kept(threads, alloc, &case, &gate, 3)?;
-    Ok(gate.told())
-}
-
-#[test]
-fn kept_entered_once(rt: HostRuntime) {
-    for workers in [1, 4, 64] {
-        let found = kept_entered(&rt, rt.alloc(), workers);
-        same(&rt, found, Ok(0x33333_33333_00000));
+    let rt = &rt;
+    let alloc = rt.alloc();
+    for (case, wanted) in ENTERED {
+        entered(rt, alloc, case, *wanted);
     }
 }

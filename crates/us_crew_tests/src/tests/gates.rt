@@ -1,258 +1,242 @@
 ghost use Rattle.std.specs.Prelude.{⊤};
 
-use super::base::{Case, DOUBLED, Told, map_case, same};
-use super::kept_base::by_kept;
+use super::base::{Case, DOUBLED, KEPT, answer_of, same};
+use super::kept_base::{LONG, pause};
 use std::alloc::Global;
+use std::process::Abort;
 use std::sync::Wait;
 use std::sync::atomic::{AtomicU64, Ordering};
 use std::thread::{Threads, yield_now};
 use us_crew::{Gate, Phase};
-use us_slots::NoMemory;
 
-/// A gate that holds some items that stand side by side, for at most so many turns: each until all of them have entered as
-/// often as it has. How often one has entered is the number of the call, since a call has each item once.
+/// A gate that holds some items, for at most so many turns: each until all of them have entered for its call.
 #[derive(Drop)]
-struct Meeting {
-    first: usize,
+struct Meeting<'a> {
+    held: &'a Held,
     turns: u64,
-    calls: Vec<AtomicU64>,
+    /// A bit for each item that is held. A call has each item once, which turns its bit: so all are alike between calls.
+    entered: AtomicU64,
     missed: AtomicU64,
 }
 
-impl Meeting {
-    fn of(alloc: Global, held: &Held, turns: u64) -> Result<Meeting, NoMemory> {
-        let mut calls = Vec::new(alloc);
-        for _ in held.first..=held.last {
-            calls.push(AtomicU64::new(0))?;
-        }
-        Ok(Meeting {
-            first: held.first,
-            turns,
-            calls,
-            missed: AtomicU64::new(0),
-        })
-    }
-
-    /// For how many calls all have entered.
-    fn all(&self) -> u64 {
-        let mut least = u64::MAX;
-        for calls in &self.calls {
-            least = least.min(calls.load(Ordering::SeqCst));
-        }
-        least
-    }
-
-    /// Whether all have entered for a call behind so many, after at most so many turns.
-    fn meets(&self, before: u64) -> bool {
+impl<'a> Meeting<'a> {
+    /// Waits until these have entered, and no others. Who waits in vain came alone.
+    fn wait(&self, all: u64) {
         for _ in 0..self.turns {
-            if self.all() > before {
-                return true;
+            if self.entered.load(Ordering::SeqCst) == all {
+                return;
             }
             yield_now();
         }
-        false
+        self.missed.fetch_add(1, Ordering::SeqCst);
     }
 
-    /// How many came alone.
-    fn missed(&self) -> u64 {
-        self.missed.load(Ordering::SeqCst)
+    /// Turns the bit of an item, and waits for the others.
+    fn meet(&self, item: u64) {
+        if self.entered.load(Ordering::SeqCst) & item == 0 {
+            self.entered.fetch_add(item, Ordering::SeqCst);
+            self.wait(self.held.items);
+        } else {
+            self.entered.fetch_sub(item, Ordering::SeqCst);
+            self.wait(0);
+        }
     }
 }
 
-impl Gate for Meeting {
+impl<'a> Gate for Meeting<'a> {
     ghost entered = { λ _ _ _. ⊤ };
 
     fn enter(&self, _phase: Phase, index: usize) {
-        if index < self.first {
+        if index >= 64 {
             return;
         }
-        let Some(calls) = self.calls.get(index - self.first) else {
-            return;
-        };
-        if !self.meets(calls.fetch_add(1, Ordering::SeqCst)) {
-            self.missed.fetch_add(1, Ordering::SeqCst);
+        let item = 1 << index;
+        if self.held.items & item != 0 {
+            self.meet(item);
+        }
+        if self.held.staying & item != 0 {
+            pause(LONG);
         }
     }
 }
 
-/// A case, and the items that meet.
+/// A case, and the items that are held: a bit for each, from that of item 0 up.
 #[derive(Clone, Copy)]
-struct Held {
-    case: Case,
-    first: usize,
-    last: usize,
+pub(super) struct Held {
+    pub(super) case: Case,
+    pub(super) items: u64,
+    /// Those of them that stay long once all have met.
+    pub(super) staying: u64,
+    /// How often the case is answered.
+    pub(super) times: u32,
+    /// How many items are held in vain each time.
+    pub(super) alone: u64,
 }
 
-/// As many workers as there may be, and four, with a number each.
+/// A case is answered once, and as many of its items are held in vain as it says.
+fn meets<H: Abort + Threads + Wait + Sync>(rt: &H, alloc: Global, held: &Held, turns: u64) {
+    let gate = Meeting {
+        held,
+        turns,
+        entered: AtomicU64::new(0),
+        missed: AtomicU64::new(0),
+    };
+    same(
+        rt,
+        answer_of(rt, alloc, &held.case, &gate),
+        held.case.answer,
+    );
+    same(rt, Ok(gate.missed.load(Ordering::SeqCst)), Ok(held.alone));
+}
+
+/// The same of each of these, as often as it says.
+pub(super) fn all_meet<H: Abort + Threads + Wait + Sync>(
+    rt: &H,
+    alloc: Global,
+    all: &[Held],
+    turns: u64,
+) {
+    for held in all {
+        for _ in 0..held.times {
+            meets(rt, alloc, held, turns);
+        }
+    }
+}
+
+/// As many workers as there may be, with a number each.
 const ALL: Case = Case {
     numbers: 64,
     workers: 64,
     phase: Phase::Collect,
-    kept: Ok(0xd025_7ad0_24f0_0110),
+    answer: Ok(0x8acf_1357_9be0_2460),
     ..DOUBLED
 };
 
+/// Four workers, with a number each.
 const FOUR: Case = Case {
     numbers: 4,
     workers: 4,
-    kept: Ok(0x246800112),
+    answer: Ok(0x2468),
     ..DOUBLED
 };
 
-/// Two workers have items 0 and 1, and the others; three have 0 and 1, 2 alone, and the others.
-const TWO: Case = Case {
-    workers: 2,
-    ..DOUBLED
+/// Five numbers by three workers, who have items 0 and 1, 2 alone, and the others.
+const THREE: Held = Held {
+    case: DOUBLED,
+    items: 0b110,
+    staying: 0,
+    times: 1_000,
+    alone: 0,
 };
 
-/// With each, how often they meet where there is no limit.
-static HELD: &[(Held, u32)] = &[
-    (
-        Held {
-            case: ALL,
-            first: 0,
-            last: 63,
+/// Two workers have items 0 and 1, and the others.
+static HELD: &[Held] = &[
+    Held {
+        case: ALL,
+        items: u64::MAX,
+        times: 5,
+        ..THREE
+    },
+    Held {
+        case: FOUR,
+        items: 0b1111,
+        ..THREE
+    },
+    Held {
+        case: Case {
+            workers: 2,
+            ..DOUBLED
         },
-        5,
-    ),
-    (
-        Held {
-            case: FOUR,
-            first: 0,
-            last: 3,
-        },
-        1_000,
-    ),
-    (
-        Held {
-            case: TWO,
-            first: 1,
-            last: 2,
-        },
-        1_000,
-    ),
-    (
-        Held {
-            case: DOUBLED,
-            first: 1,
-            last: 2,
-        },
-        1_000,
-    ),
-    (
-        Held {
-            case: DOUBLED,
-            first: 2,
-            last: 3,
-        },
-        1_000,
-    ),
+        ..THREE
+    },
+    THREE,
+    Held {
+        items: 0b1100,
+        ..THREE
+    },
 ];
-
-/// How many workers of a case came alone.
-fn missed<H: Threads + Wait + Sync>(threads: &H, alloc: Global, held: &Held, turns: u64) -> Told {
-    let gate = Meeting::of(alloc, held, turns)?;
-    map_case(threads, alloc, &held.case, &gate)?;
-    Ok(gate.missed())
-}
 
 /// Each of all workers is held before its item until all are, and the items on either side of each cut are held until
 /// both are.
 #[test]
 fn workers_meet(rt: HostRuntime) {
-    for (held, _) in HELD {
-        let found = missed(&rt, rt.alloc(), held, 100_000_000);
-        same(&rt, found, Ok(0));
-    }
-}
-
-/// One worker never meets another: it is held in vain at the first item.
-#[test]
-fn one_worker_is_alone(rt: HostRuntime) {
-    let held = Held {
-        case: Case {
-            workers: 1,
-            ..DOUBLED
-        },
-        first: 0,
-        last: 1,
-    };
-    same(&rt, missed(&rt, rt.alloc(), &held, 1_000), Ok(1));
+    all_meet(&rt, rt.alloc(), HELD, 100_000_000);
 }
 
 /// Workers meet as well where the gate has no limit, a thousand times over, and all that there may be some times.
 #[test]
 fn workers_meet_without_limit(rt: HostRuntime) {
-    for (held, times) in HELD {
-        for _ in 0..*times {
-            let found = missed(&rt, rt.alloc(), held, u64::MAX);
-            same(&rt, found, Ok(0));
-        }
-    }
+    all_meet(&rt, rt.alloc(), HELD, u64::MAX);
 }
 
-/// Of five items two workers that are kept have 0 and 1, and the others; three have 0 alone, 1 and 2, and the others.
-static KEPT: &[(Held, u32)] = &[
-    (
-        Held {
-            case: ALL,
-            first: 0,
-            last: 63,
+static ALONE: &[Held] = &[Held {
+    case: Case {
+        workers: 1,
+        ..DOUBLED
+    },
+    items: 0b11,
+    times: 1,
+    alone: 1,
+    ..THREE
+}];
+
+/// One worker never meets another: it is held in vain at the first item.
+#[test]
+fn one_worker_is_alone(rt: HostRuntime) {
+    all_meet(&rt, rt.alloc(), ALONE, 1_000);
+}
+
+const OFTEN: Case = Case {
+    rounds: 1_000,
+    ..KEPT
+};
+
+/// Three workers that are kept have of five items 0 alone, 1 and 2, and the others.
+const KEPT_THREE: Held = Held {
+    case: OFTEN,
+    items: 0b11,
+    times: 1,
+    ..THREE
+};
+
+/// Two workers that are kept have items 0 and 1, and the others.
+static KEPT_HELD: &[Held] = &[
+    Held {
+        case: Case {
+            rounds: 20,
+            base: 1_000_003,
+            answer: Ok(0x0069_efbb_d1ba_72a0),
+            ..ALL
         },
-        20,
-    ),
-    (
-        Held {
-            case: FOUR,
-            first: 0,
-            last: 3,
+        items: u64::MAX,
+        ..KEPT_THREE
+    },
+    Held {
+        case: Case {
+            rounds: 1_000,
+            answer: Ok(0x2468_0112),
+            ..FOUR
         },
-        1_000,
-    ),
-    (
-        Held {
-            case: TWO,
-            first: 1,
-            last: 2,
+        items: 0b1111,
+        ..KEPT_THREE
+    },
+    Held {
+        case: Case {
+            workers: 2,
+            ..OFTEN
         },
-        1_000,
-    ),
-    (
-        Held {
-            case: DOUBLED,
-            first: 0,
-            last: 1,
-        },
-        1_000,
-    ),
-    (
-        Held {
-            case: DOUBLED,
-            first: 2,
-            last: 3,
-        },
-        1_000,
-    ),
+        items: 0b110,
+        ..KEPT_THREE
+    },
+    KEPT_THREE,
+    Held {
+        items: 0b1100,
+        ..KEPT_THREE
+    },
 ];
-
-/// How many of workers that are kept came alone, in so many rounds of two phases; and one more where they answer otherwise.
-fn kept_missed<H: Threads + Wait + Sync>(
-    threads: &H,
-    alloc: Global,
-    held: &Held,
-    rounds: u32,
-) -> Told {
-    let gate = Meeting::of(alloc, held, u64::MAX)?;
-    let told = by_kept(threads, alloc, &held.case, &gate, rounds);
-    let is_other = u64::from(told != held.case.kept);
-    Ok(gate.missed().wrapping_add(is_other))
-}
 
 /// Workers that are kept meet in each phase of each round, without a limit.
 #[test]
 fn kept_workers_meet(rt: HostRuntime) {
-    for (held, rounds) in KEPT {
-        let found = kept_missed(&rt, rt.alloc(), held, *rounds);
-        same(&rt, found, Ok(0));
-    }
+    all_meet(&rt, rt.alloc(), KEPT_HELD, u64::MAX);
 }

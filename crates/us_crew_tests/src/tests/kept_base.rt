@@ -4,7 +4,7 @@ use super::base::{Case, Doubling, Told, numbers_to, tell};
 use std::alloc::Global;
 use std::sync::Wait;
 use std::thread::{Parker, Threads, yield_now};
-use us_crew::{Beside, Crew, Gate, Mail, Mailboxes, Phase, Work, map_kept, with_crew};
+use us_crew::{Beside, Crew, CrewFault, Gate, Mail, Mailboxes, Phase, Work, map_kept, with_crew};
 
 /// Halves numbers, and refuses none.
 #[derive(Clone, Copy)]
@@ -40,36 +40,33 @@ impl<'a, G: Gate + Drop> Mail for BothMail<'a, G> {
     }
 }
 
-/// So many rounds by a crew that is kept: two phases, of different works.
+/// The rounds of a case by a crew that is kept: two phases, of different works.
 #[derive(Drop)]
 struct Rounds<'a, G: Gate> {
     alloc: Global,
     case: &'a Case,
     gate: G,
-    plan: Plan,
     mail: &'a BothMail<'a, G>,
 }
 
+/// The turns in which whoever waits falls asleep, and more.
+pub(super) const LONG: u32 = 5_000;
+
 /// Takes so many turns in which nothing is called.
-fn pause(turns: u32) {
+pub(super) fn pause(turns: u32) {
     for _ in 0..turns {
         yield_now();
     }
 }
 
 impl<'a, G: Gate + Copy + Drop> Rounds<'a, G> {
-    /// A round, the digits of whose phases stand one behind the other. A fault of the first keeps nobody from the second.
-    fn round<H: Wait>(&self, crew: &Crew<'_, H>) -> Told {
-        pause(self.plan.pause);
-        let front = self.doubled(crew);
-        let back = self.halved(crew)?;
-        Ok(front?.wrapping_mul(0x10_0000).wrapping_add(back))
-    }
-
+    /// What the first phase tells.
     fn doubled<H: Wait>(&self, crew: &Crew<'_, H>) -> Told {
-        let numbers = numbers_to(self.alloc, self.case.numbers)?;
+        let Ok(numbers) = numbers_to(self.alloc, self.case.numbers) else {
+            return Err(CrewFault::NoMemory);
+        };
         let most = self.case.most;
-        tell(map_kept(
+        let answer = map_kept(
             crew,
             self.mail.doubles,
             self.alloc,
@@ -77,12 +74,16 @@ impl<'a, G: Gate + Copy + Drop> Rounds<'a, G> {
             self.case.phase,
             numbers,
             self.gate,
-        ))
+        );
+        tell(Ok(0), answer, self.case.base)
     }
 
-    fn halved<H: Wait>(&self, crew: &Crew<'_, H>) -> Told {
-        let numbers = numbers_to(self.alloc, self.case.numbers)?;
-        tell(map_kept(
+    /// What both tell, the digits of the second behind those of the first.
+    fn halved<H: Wait>(&self, crew: &Crew<'_, H>, front: Told) -> Told {
+        let Ok(numbers) = numbers_to(self.alloc, self.case.numbers) else {
+            return Err(CrewFault::NoMemory);
+        };
+        let answer = map_kept(
             crew,
             self.mail.halves,
             self.alloc,
@@ -90,7 +91,8 @@ impl<'a, G: Gate + Copy + Drop> Rounds<'a, G> {
             Phase::Build,
             numbers,
             self.gate,
-        ))
+        );
+        tell(front, answer, self.case.base)
     }
 }
 
@@ -103,10 +105,14 @@ impl<'a, G: Gate + Copy + Drop, H: Wait> Beside<H> for Rounds<'a, G> {
     ghost gives = { λ _ _. ⊤ };
 
     fn run(self, crew: &Crew<'_, H>) -> Told {
-        let mut told = self.case.kept;
-        for _ in 0..self.plan.rounds {
-            told = self.round(crew);
-            if told != self.case.kept {
+        let mut told = self.case.answer;
+        for _ in 0..self.case.rounds {
+            pause(self.case.pause);
+
+            // A fault of the first phase keeps nobody from the second.
+            let front = self.doubled(crew);
+            told = self.halved(crew, front);
+            if told != self.case.answer {
                 break;
             }
         }
@@ -114,55 +120,32 @@ impl<'a, G: Gate + Copy + Drop, H: Wait> Beside<H> for Rounds<'a, G> {
     }
 }
 
-/// So many rounds, each after so many turns in which nothing is called.
-#[derive(Clone, Copy)]
-pub(super) struct Plan {
-    pub(super) rounds: u32,
-    pub(super) pause: u32,
-    /// The threads beside the owner.
-    pub(super) helpers: usize,
-}
-
-/// Rounds by workers that are kept, of whom each has a thread.
+/// Rounds by parts for the workers of the case, whatever threads there are.
 pub(super) fn by_kept<H: Threads + Wait + Sync, G: Gate + Copy + Sync + Send + Drop>(
     threads: &H,
     alloc: Global,
     case: &Case,
     gate: G,
-    rounds: u32,
-) -> Told {
-    let plan = Plan {
-        rounds,
-        pause: 0,
-        helpers: case.workers.saturating_sub(1),
-    };
-    by_plan(threads, alloc, case, gate, plan)
-}
-
-/// Rounds by parts for the workers of the case, whatever threads there are.
-pub(super) fn by_plan<H: Threads + Wait + Sync, G: Gate + Copy + Sync + Send + Drop>(
-    threads: &H,
-    alloc: Global,
-    case: &Case,
-    gate: G,
-    plan: Plan,
 ) -> Told {
     let others = case.workers.saturating_sub(1);
-    let doubles = Mailboxes::open(alloc, others)?;
-    let halves = Mailboxes::open(alloc, others)?;
+    let Ok(doubles) = Mailboxes::open(alloc, others) else {
+        return Err(CrewFault::NoMemory);
+    };
+    let Ok(halves) = Mailboxes::open(alloc, others) else {
+        return Err(CrewFault::NoMemory);
+    };
     let mail = BothMail {
         doubles: &doubles,
         halves: &halves,
     };
     with_crew(
         threads,
-        plan.helpers,
+        others.min(case.helpers),
         &mail,
         Rounds {
             alloc,
             case,
             gate,
-            plan,
             mail: &mail,
         },
     )

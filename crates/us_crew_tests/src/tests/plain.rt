@@ -1,43 +1,44 @@
-use super::base::{Doubling, Told, numbers_to, same};
+use super::base::{Case, DOUBLED, Told, answer_of, digits, same};
 use rayon::prelude::*;
 use std::alloc::Global;
-use std::sync::Wait;
 use std::thread::Threads;
-use us_crew::{OpenGate, Phase, map_owned};
-use us_slots::NoMemory;
+use us_crew::{CrewFault, OpenGate, Phase};
 
 /// How many numbers are doubled, from 1 up.
 const COUNT: u64 = 5_000;
 
-/// Tells of numbers in their order, as digits to base 1,000,003.
-fn told(numbers: &[u64]) -> u64 {
-    let mut told = 0_u64;
-    for number in numbers {
-        told = told.wrapping_mul(1_000_003).wrapping_add(*number);
-    }
-    told
+/// A base in which what is told depends on each of them.
+const BASE: u64 = 1_000_003;
+
+static MANY: Case = Case {
+    numbers: COUNT,
+    workers: 7,
+    phase: Phase::Build,
+    base: BASE,
+    answer: Ok(0x219e815283883de8),
+    ..DOUBLED
+};
+
+fn double(number: u64) -> u64 {
+    number.wrapping_mul(2)
 }
 
 /// Twice each number, by `rayon`.
-fn by_rayon(threads: &(impl Threads + Wait + Sync), alloc: Global) -> Result<u64, NoMemory> {
-    let numbers = numbers_to(alloc, COUNT)?;
-    let doubled: Vec<u64> = numbers
-        .par_iter()
-        .map(|number: &u64| number.wrapping_mul(2))
-        .collect(threads, alloc)?;
-    Ok(told(&doubled))
-}
-
-/// The same by workers.
-fn by_workers(threads: &(impl Threads + Wait + Sync), alloc: Global) -> Told {
-    let numbers = numbers_to(alloc, COUNT)?;
-    let work = Doubling { most: u64::MAX };
-    let doubled = map_owned(threads, alloc, &work, Phase::Build, numbers, 7, &OpenGate)?;
-    Ok(told(&doubled))
+fn by_rayon(threads: &(impl Threads + Sync), alloc: Global) -> Told {
+    let doubled: Result<Vec<u64>, _> = (1..COUNT + 1)
+        .into_par_iter()
+        .map(double)
+        .collect(threads, alloc);
+    match doubled {
+        Ok(doubled) => Ok(digits(0, &doubled, BASE)),
+        Err(_) => Err(CrewFault::NoMemory),
+    }
 }
 
 #[test]
 fn as_rayon_collects(rt: HostRuntime) {
-    same(&rt, by_workers(&rt, rt.alloc()), Ok(0x219e815283883de8));
-    assert_eq!(rt; by_rayon(&rt, rt.alloc()), Ok(0x219e815283883de8));
+    let rt = &rt;
+    let alloc = rt.alloc();
+    same(rt, answer_of(rt, alloc, &MANY, &OpenGate), MANY.answer);
+    same(rt, by_rayon(rt, alloc), MANY.answer);
 }
