@@ -1,9 +1,9 @@
-pub mod FieldLemmas
+pub mod DigitLemmas
+pub mod WordLemmas
 pub mod PartLemmas
 pub mod PendingLemmas
 pub mod OrderLemmas
 pub mod SinkLemmas
-pub mod SpotLemmas
 pub mod NoteLemmas
 pub mod FinalLemmas
 pub mod LineLemmas
@@ -11,5 +11,5 @@ pub mod OutputLaws
 pub mod OwnerLemmas
 pub mod MapLemmas
 pub mod RecordLemmas
+pub mod SpotLemmas
 pub mod TextLemmas
-pub mod PageLemmas

@@ -1,18 +1,10 @@
 ghost use Rattle.std.specs.Prelude.{◌≡◌, ◌+◌, ◌*◌, ◌≤◌, length, take, None, Some, OnOk, IfErr};
-ghost use Rattle.std.specs.List.{AllByRecursion};
 ghost use Rattle.us_holes.specs.Boards.{max_assignments};
 ghost use Rattle.us_holes.specs.Runs.{runs_of};
 ghost use Rattle.us_output.specs.Ahead as spec;
-ghost use Rattle.us_output.specs.Files.{lines};
-ghost use Rattle.us_output.specs.Leftovers.{AreInside};
-ghost use Rattle.us_output.specs.Lines.{HasFields};
-ghost use Rattle.us_output.specs.Orders.{ordered_spots};
-ghost use Rattle.us_output.specs.Outputs.{rows_on};
 
-use crate::lines::PAGE_BYTES;
-use crate::orders::LineOrder;
+use crate::channel_lines::ChannelLines;
 use crate::records::{RECORD_BYTES, put_runs};
-use crate::texts::push_all;
 use std::alloc::Global;
 use us_channel::ChannelRound;
 use us_codec::ELEMENT_BYTES;
@@ -28,12 +20,7 @@ pub(crate) struct Ahead {
     pub runs: usize,
     pub elements: [u8; RECORD_BYTES],
 
-    // the G lines in order, and the text of all lines
-    pub order: LineOrder,
-    pub lines: Vec<u8>,
-
-    // the bytes in which lines are put together
-    pub page: [u8; PAGE_BYTES],
+    pub lines: ChannelLines,
 }
 
 /// Gives the lists up. It is written out so that it is one step wherever a channel ends.
@@ -43,9 +30,7 @@ impl Drop for Ahead {
             round: _,
             runs: _,
             elements: _,
-            order: _,
             lines: _,
-            page: _,
         } = self;
     }
 }
@@ -59,9 +44,7 @@ impl Ahead {
             round: None,
             runs: 0,
             elements: [0; RECORD_BYTES],
-            order: LineOrder::new(alloc),
-            lines: Vec::new(alloc),
-            page: [0; PAGE_BYTES],
+            lines: ChannelLines::new(alloc),
         }
     }
 
@@ -73,7 +56,7 @@ impl Ahead {
     {
         self.round = None;
         self.write_elements(channel);
-        self.write_lines(channel, round)?;
+        self.lines.write(round, channel)?;
         self.round = Some(round);
         Ok(())
     }
@@ -88,26 +71,6 @@ impl Ahead {
     {
         self.runs = channel.board().run_count();
         put_runs(&mut self.elements, 0, channel.channel(), channel.board());
-    }
-
-    /// Writes the lines.
-    fn write_lines(&mut self, channel: &ChannelRound, round: u32) -> Result<(), NoMemory>
-        ensures ordered { OnOk result (AreInside channel.now → self.new.order.spots.items ≡ ordered_spots channel.now) }
-        ensures lines { OnOk result (AreInside channel.now → self.new.lines.items ≡ lines (rows_on round channel.now)) }
-        ensures fields { OnOk result (AreInside channel.now → AllByRecursion HasFields (rows_on round channel.now)) }
-        ensures round { self.new.round ≡ self.old.round }
-        ensures runs { self.new.runs ≡ self.old.runs }
-        ensures elements { self.new.elements ≡ self.old.elements }
-    {
-        self.lines.clear();
-        push_all(
-            &mut self.lines,
-            &mut self.order,
-            &mut self.page,
-            round,
-            channel,
-        )?;
-        Ok(())
     }
 
     /// The elements, as bytes.
