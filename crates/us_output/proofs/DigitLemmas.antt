@@ -57,6 +57,9 @@ later n j below small =
     rw all (stands 1000 0 n (4 + j) (omega arith) below (omega (arith, small)) ∙
     ap (λ m. get_or (eight m) (4 + j) 0) same ∙ ap (λ k. get_or (eight n) k 0) long ∙ get_or-append-add (four n) (others n) j 0)
 
+few_digits : (n : ℕ) → n < 1000 → length (decimal n) ≤ 3
+few_digits n below = length-decimal-le 3 n (omega arith) (omega (arith, below)) (omega (arith, below))
+
 of_four : (xs : List ℕ) → length xs ≡ 4 → get_or xs 0 0 ∷ get_or xs 1 0 ∷ get_or xs 2 0 ∷ get_or xs 3 0 ∷ [] ≡ xs
 of_four (a ∷ b ∷ c ∷ d ∷ []) long = refl
 of_four [] long = absurd (omega (arith, long))
@@ -65,19 +68,17 @@ of_four (a ∷ b ∷ []) long = absurd (omega (arith, long))
 of_four (a ∷ b ∷ c ∷ []) long = absurd (omega (arith, long))
 of_four (a ∷ b ∷ c ∷ d ∷ e ∷ xs) long = absurd (omega (arith, long))
 
--- the first bytes of a number are a comma and its digits
-pub field_is : (n : ℕ) → n < 1000 → take (1 + length (decimal n)) (get_or FIELDS.now (n * 8) 0 ∷ get_or FIELDS.now (n * 8 + 1) 0 ∷
+-- the first bytes of a number are a comma and its digits, behind which it says how many they are
+pub field_is : (n : ℕ) → n < 1000 → take (get_or FIELDS.now (n * 8 + 4) 0) (get_or FIELDS.now (n * 8) 0 ∷ get_or FIELDS.now (n * 8 + 1) 0 ∷
     get_or FIELDS.now (n * 8 + 2) 0 ∷ get_or FIELDS.now (n * 8 + 3) 0 ∷ []) ≡ 44 ∷ decimal n
 field_is n below =
     let first : n * 8 + 0 ≡ n * 8 = omega arith in
-    let few : length (decimal n) ≤ 3 = length-decimal-le 3 n (omega arith) (omega (arith, below)) (omega (arith, below)) in
     let text : List ℕ = 44 ∷ decimal n in
-    rw (rw first at (early n 0 below (omega arith)), early n 1 below (omega arith), early n 2 below (omega arith), early n 3 below (omega arith), of_four (four n) (length-four n below))
-    (take-take (1 + length (decimal n)) 4 (text ++ 46 ∷ 46 ∷ []) (omega (arith, few)) ∙ take_at text (46 ∷ 46 ∷ []) (1 + length (decimal n)) (omega arith))
+    rw (later n 0 below (omega arith), rw first at (early n 0 below (omega arith)), early n 1 below (omega arith), early n 2 below (omega arith), early n 3 below (omega arith), of_four (four n) (length-four n below))
+    (take-take (1 + length (decimal n)) 4 (text ++ 46 ∷ 46 ∷ []) (omega (arith, few_digits n below)) ∙ take_at text (46 ∷ 46 ∷ []) (1 + length (decimal n)) (omega arith))
 
--- the other bytes are how many these are, and its last three digits
-pub count_is : (n : ℕ) → n < 1000 → get_or FIELDS.now (n * 8 + 4) 0 ≡ 1 + length (decimal n)
-count_is n below = later n 0 below (omega arith)
+pub count_few : (n : ℕ) → n < 1000 → get_or FIELDS.now (n * 8 + 4) 0 ≤ 4
+count_few n below = omega (arith, later n 0 below (omega arith), few_digits n below)
 
 pub three_is : (n : ℕ) → n < 1000 → get_or FIELDS.now (n * 8 + 5) 0 ∷ get_or FIELDS.now (n * 8 + 5 + 1) 0 ∷ get_or FIELDS.now (n * 8 + 5 + 2) 0 ∷ [] ≡
     (48 + n / 100) ∷ (48 + n % 100 / 10) ∷ (48 + n % 10) ∷ []

@@ -1,5 +1,4 @@
 pub mod DigitLemmas
-pub mod WordLemmas
 pub mod PartLemmas
 pub mod PendingLemmas
 pub mod OrderLemmas

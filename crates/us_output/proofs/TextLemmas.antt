@@ -1,5 +1,5 @@
 -- Lines, as the text of a round has them.
-use Rattle.std.proofs.Common.{◌≡◌, ℕ, ◌+◌, ◌^◌, ◌<◌, ◌≤◌, Bool, List, [], ◌∷◌, ◌++◌, length, flat_map, get_or, drop, append_assoc, refl, ap, ◌∙◌, sym, arith}
+use Rattle.std.proofs.Common.{◌≡◌, ℕ, ◌+◌, ◌^◌, ◌<◌, Bool, List, [], ◌∷◌, ◌++◌, length, flat_map, get_or, drop, append_assoc, refl, ap, ◌∙◌, sym, arith}
 use Rattle.std.specs.Prelude.{cond, count_by}
 use Rattle.std.proofs.lemmas.List.{drop_more, length-append}
 use Rattle.std.proofs.lemmas.List.Sums.{count_by-le-length, sum_by-append, sum_by-cons}
@@ -11,7 +11,7 @@ use Rattle.us_calendar.specs.declared.settled.Settled.{Settled}
 use Rattle.us_calendar.specs.declared.settled.Settled.TheVariants as settled
 use Rattle.us_channel.specs.Channels.{Built}
 use Rattle.us_output.specs.Outputs.{Scheduled, out_of, rows_on, settled_row}
-use Rattle.us_output.specs.Files.{is_granted, is_missed, lines, round_lines}
+use Rattle.us_output.specs.Files.{is_granted, is_missed, lines}
 use Rattle.us_output.specs.Leftovers.{AreInside}
 use Rattle.us_output.specs.Lines.{text_of}
 use Rattle.us_output.specs.Orders.{missed_of, ordered_spots, rows_at}
@@ -32,11 +32,7 @@ lines_flat round (b ∷ channels) =
     ap (λ more. flat_map text_of (rows_on round b) ++ more) (lines_flat round channels) ∙
     sym (flat_map-append text_of (rows_on round b) (flat_map (rows_on round) channels))
 
--- the lines of what a round gives, for the crates above
-pub lines_of_out : (t : Tables) (s : Scheduled) → round_lines (out_of t s) ≡ lines (flat_map (rows_on s.round) s.channels)
-unfolding out_of
-lines_of_out t s = refl
-
+-- the rows of what a round gives, for the crates above
 pub rows_of_out : (t : Tables) (s : Scheduled) → (out_of t s).rows ≡ flat_map (rows_on s.round) s.channels
 unfolding out_of
 rows_of_out t s = refl
@@ -66,13 +62,7 @@ pub record AreCounted (round : ℕ) (b : Built) : Type 0 where
   pub granted : count_by is_granted (rows_on round b) ≡ length (ordered_spots b)
   pub all : count_by is_missed (rows_on round b) + length (ordered_spots b) ≡ length b.settled + length b.grants
   pub whole : length (rows_on round b) ≡ length b.settled + length b.grants
-  pub requested : length b.grants ≤ length (ordered_spots b)
   pub missed : length (missed_of round b.channel b.settled) + length (ordered_spots b) ≡ length b.settled + length b.grants
-
-few_missed : (round : ℕ) (c : Channel) (all : List Settled) → length (missed_of round c all) ≤ length all
-few_missed round c [] = omega arith
-few_missed round c (settled.Granted kind id i k start slots owner ∷ all) = omega (arith, few_missed round c all)
-few_missed round c (settled.Missed kind id i k ∷ all) = omega (arith, few_missed round c all)
 
 pub counted : (round : ℕ) (b : Built) → AreInside b → AreCounted round b
 counted round b inside =
@@ -102,7 +92,6 @@ counted round b inside =
         parts,
       );
       whole = all;
-      requested = omega (arith, all, parts, spots.2, few_missed round c b.settled);
       missed = omega (arith, all, parts, spots.2);
     }
 

@@ -1,7 +1,7 @@
 ghost use Rattle.std.specs.Prelude.{◌≡◌, ◌+◌, ◌/◌, ◌%◌, ◌<◌, ◌≤◌, [], ◌∷◌, ◌++◌, length, take};
 ghost use Rattle.std.specs.Fmt.{decimal};
 
-use crate::puts::put_bytes;
+use crate::puts::{put_bytes, put_first};
 
 /// Eight bytes for each of some numbers below 1,000: a comma and its digits, with dots behind them up to four bytes; how many
 /// bytes the comma and the digits are; and three digits, of which the first may be 0. The numbers are told by their digits but
@@ -48,8 +48,8 @@ pub(crate) fn put_short(out: &mut [u8], at: usize, number: u64) -> usize
     ensures size { result ≤ at + 4 }
     ensures bytes { take result out.new ≡ take at out.old ++ 44 ∷ decimal number }
 {
-    put_bytes(out, at, field_of(number));
-    at + bytes_of(number)
+    let (bytes, count) = field_of(number);
+    put_first(out, at, bytes, count)
 }
 
 /// Puts three digits of a number below 1,000, with a 0 for each that it lacks.
@@ -61,36 +61,20 @@ pub(crate) fn put_three(out: &mut [u8], at: usize, number: u64) -> usize
     ensures bytes { take result out.new ≡
         take at out.old ++ (48 + number / 100) ∷ (48 + number % 100 / 10) ∷ (48 + number % 10) ∷ [] }
 {
-    put_bytes(out, at, three_of(number))
+    let bytes = FIELDS.as_bytes();
+    let row = number as usize * 8 + 5;
+    put_bytes(out, at, [bytes[row], bytes[row + 1], bytes[row + 2]])
 }
 
-/// A comma and the digits of a number below 1,000, in four bytes.
+/// Four bytes that begin with a comma and the digits of a number below 1,000, and how many bytes these are.
 #[inline(always)]
-fn field_of(number: u64) -> [u8; 4]
+fn field_of(number: u64) -> ([u8; 4], usize)
     requires { number < 1000 }
-    ensures { take (1 + length (decimal number)) result ≡ 44 ∷ decimal number }
+    ensures bytes { take result.1 result.0 ≡ 44 ∷ decimal number }
+    ensures few { result.1 ≤ 4 }
 {
     let bytes = FIELDS.as_bytes();
-    let at = number as usize * 8;
-    [bytes[at], bytes[at + 1], bytes[at + 2], bytes[at + 3]]
-}
-
-/// How many bytes these are.
-#[inline(always)]
-fn bytes_of(number: u64) -> usize
-    requires { number < 1000 }
-    ensures { result ≡ 1 + length (decimal number) }
-{
-    usize::from(FIELDS.as_bytes()[number as usize * 8 + 4])
-}
-
-/// Three digits of a number below 1,000.
-#[inline(always)]
-fn three_of(number: u64) -> [u8; 3]
-    requires { number < 1000 }
-    ensures { result ≡ (48 + number / 100) ∷ (48 + number % 100 / 10) ∷ (48 + number % 10) ∷ [] }
-{
-    let bytes = FIELDS.as_bytes();
-    let at = number as usize * 8 + 5;
-    [bytes[at], bytes[at + 1], bytes[at + 2]]
+    let row = number as usize * 8;
+    let field = [bytes[row], bytes[row + 1], bytes[row + 2], bytes[row + 3]];
+    (field, usize::from(bytes[row + 4]))
 }

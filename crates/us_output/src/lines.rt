@@ -5,7 +5,7 @@ ghost use Rattle.us_output.specs.Lines.{Fit, HasFields};
 ghost use Rattle.us_output.specs.declared.rows.Row.TheVariants as rows;
 
 use crate::digits::{put_short, put_three};
-use crate::puts::{put_byte, put_bytes, put_some};
+use crate::puts::{put_byte, put_bytes, put_first, put_some};
 use crate::rows::{
     EntryWord, FinalActivity, FinalState, Grant, MissedOccurrence, Row, TraceCounts,
 };
@@ -18,10 +18,6 @@ const FIELD_BYTES: usize = 21;
 
 /// The digits of the greatest number.
 const MAX_DIGITS: usize = 20;
-
-/// For each entry how many bytes a comma and its word are, and eight bytes that begin with both.
-static WORDS: [u8; 54] = *b"\
-    \x04,ugs    \x03,ad     \x04,rtp    \x05,nrtp   \x08,station\x04,req    ";
 
 /// Puts a row's line, with its line feed, behind what stands before `at`. Inlined, as each line of a round is put by it.
 #[inline(always)]
@@ -48,23 +44,18 @@ fn put_grant(out: &mut [u8], at: usize, grant: &Grant) -> usize
     ensures line { take result out.new ≡ take at out.old ++ spec.grant_text grant.now }
     ensures fields { HasFields (rows.Granted grant.now) }
 {
-    let Grant {
-        round,
-        channel,
-        entry,
-        id,
-        i,
-        k,
-        sid,
-        iuc,
-        start,
-        slots,
-        credit,
-    } = *grant;
-    let at = put_event(out, at, b'G', round, channel, entry, id, i);
-    let at = put_two(out, at, k, sid);
-    let at = put_two(out, at, iuc, start);
-    let at = put_two(out, at, slots, credit);
+    let at = put_event(
+        out,
+        at,
+        b'G',
+        grant.round,
+        grant.channel,
+        grant.entry,
+        grant.id,
+        grant.i,
+    );
+    let at = put_four(out, at, grant.k, grant.sid, grant.iuc, grant.start);
+    let at = put_two(out, at, grant.slots, grant.credit);
     put_byte(out, at, b'\n')
 }
 
@@ -75,16 +66,17 @@ fn put_missed(out: &mut [u8], at: usize, missed: &MissedOccurrence) -> usize
     ensures line { take result out.new ≡ take at out.old ++ spec.missed_text missed.now }
     ensures fields { HasFields (rows.Missed missed.now) }
 {
-    let MissedOccurrence {
-        round,
-        channel,
-        entry,
-        id,
-        i,
-        k,
-    } = *missed;
-    let at = put_event(out, at, b'M', round, channel, entry, id, i);
-    let at = put_number(out, at, k);
+    let at = put_event(
+        out,
+        at,
+        b'M',
+        missed.round,
+        missed.channel,
+        missed.entry,
+        missed.id,
+        missed.i,
+    );
+    let at = put_number(out, at, missed.k);
     put_byte(out, at, b'\n')
 }
 
@@ -95,15 +87,9 @@ fn put_final(out: &mut [u8], at: usize, state: &FinalState) -> usize
     ensures line { take result out.new ≡ take at out.old ++ spec.final_text state.now }
     ensures fields { HasFields (rows.Final state.now) }
 {
-    let FinalState {
-        flow,
-        cluster,
-        outstanding,
-        units,
-    } = *state;
-    let at = put_front(out, at, b'F', flow, cluster);
-    let at = put_number(out, at, outstanding);
-    let at = put_units(out, at, units);
+    let at = put_front(out, at, b'F', state.flow, state.cluster);
+    let at = put_number(out, at, state.outstanding);
+    let at = put_units(out, at, state.units);
     put_byte(out, at, b'\n')
 }
 
@@ -114,8 +100,7 @@ fn put_activity(out: &mut [u8], at: usize, activity: &FinalActivity) -> usize
     ensures line { take result out.new ≡ take at out.old ++ spec.activity_text activity.now }
     ensures fields { HasFields (rows.Activity activity.now) }
 {
-    let FinalActivity { flow, active } = *activity;
-    let at = put_front(out, at, b'A', flow, active);
+    let at = put_front(out, at, b'A', activity.flow, activity.active);
     put_byte(out, at, b'\n')
 }
 
@@ -126,13 +111,8 @@ fn put_counts(out: &mut [u8], at: usize, counts: &TraceCounts) -> usize
     ensures line { take result out.new ≡ take at out.old ++ spec.counts_text counts.now }
     ensures fields { HasFields (rows.Counts counts.now) }
 {
-    let TraceCounts {
-        unknown,
-        not_requestable,
-        late,
-    } = *counts;
-    let at = put_front(out, at, b'U', unknown, not_requestable);
-    let at = put_number(out, at, late);
+    let at = put_front(out, at, b'U', counts.unknown, counts.not_requestable);
+    let at = put_number(out, at, counts.late);
     put_byte(out, at, b'\n')
 }
 
@@ -191,8 +171,24 @@ fn put_word(out: &mut [u8], at: usize, entry: EntryWord) -> usize
     ensures size { result ≤ at + 8 }
     ensures bytes { take result out.new ≡ take at out.old ++ 44 ∷ spec.word_text entry }
 {
-    put_bytes(out, at, word_of(entry));
-    at + bytes_of(entry)
+    let (bytes, count) = word_of(entry);
+    put_first(out, at, bytes, count)
+}
+
+/// Eight bytes that begin with a comma and the word of an entry, and how many bytes these two are.
+#[inline(always)]
+fn word_of(entry: EntryWord) -> ([u8; 8], usize)
+    ensures bytes { take result.1 result.0 ≡ 44 ∷ spec.word_text entry }
+    ensures few { result.1 ≤ 8 }
+{
+    match entry {
+        EntryWord::Unsolicited => (*b",ugs    ", 4),
+        EntryWord::Activity => (*b",ad     ", 3),
+        EntryWord::RealTimePoll => (*b",rtp    ", 4),
+        EntryWord::NonRealTimePoll => (*b",nrtp   ", 5),
+        EntryWord::Station => (*b",station", 8),
+        EntryWord::Requested => (*b",req    ", 4),
+    }
 }
 
 /// Puts two numbers, each behind a comma.
@@ -205,6 +201,18 @@ fn put_two(out: &mut [u8], at: usize, first: u64, second: u64) -> usize
 {
     let at = put_number(out, at, first);
     put_number(out, at, second)
+}
+
+/// Puts four numbers, each behind a comma.
+#[inline(always)]
+fn put_four(out: &mut [u8], at: usize, first: u64, second: u64, third: u64, fourth: u64) -> usize
+    requires { at + 84 ≤ length out.old }
+    ensures size { result ≤ at + 84 }
+    ensures bytes { take result out.new ≡ take at out.old ++ spec.numbers (first ∷ second ∷ third ∷ fourth ∷ []) }
+    ensures fit { Fit (first ∷ second ∷ third ∷ fourth ∷ []) }
+{
+    let at = put_two(out, at, first, second);
+    put_two(out, at, third, fourth)
 }
 
 /// Puts a comma and a number in decimal. Most numbers of a line have up to three digits, and are put without a call.
@@ -249,30 +257,4 @@ fn put_longer(out: &mut [u8], at: usize, number: u64) -> usize
     let start = itoa::write_digits(number, &mut digits, MAX_DIGITS);
     let end = put_byte(out, at, b',');
     put_some(out, end, &digits[start..])
-}
-
-/// How many bytes a comma and the word of an entry are.
-#[inline(always)]
-fn bytes_of(entry: EntryWord) -> usize
-    ensures { result ≡ 1 + length (spec.word_text entry) }
-{
-    usize::from(WORDS[entry as usize * 9])
-}
-
-/// Eight bytes that begin with these.
-#[inline(always)]
-fn word_of(entry: EntryWord) -> [u8; 8]
-    ensures { take (1 + length (spec.word_text entry)) result ≡ 44 ∷ spec.word_text entry }
-{
-    let at = entry as usize * 9 + 1;
-    [
-        WORDS[at],
-        WORDS[at + 1],
-        WORDS[at + 2],
-        WORDS[at + 3],
-        WORDS[at + 4],
-        WORDS[at + 5],
-        WORDS[at + 6],
-        WORDS[at + 7],
-    ]
 }

@@ -36,6 +36,23 @@ pub(crate) fn put_bytes<const N: usize>(out: &mut [u8], at: usize, bytes: [u8; N
     end
 }
 
+/// The same, where only the first of them are wanted, so many: what stands behind these may be any bytes.
+#[inline(always)]
+pub(crate) fn put_first<const N: usize>(
+    out: &mut [u8],
+    at: usize,
+    bytes: [u8; N],
+    count: usize,
+) -> usize
+    requires room { at + N ≤ length out.old }
+    requires few { count ≤ N }
+    ensures end { result ≡ at + count }
+    ensures bytes { take result out.new ≡ take at out.old ++ take count bytes.entry }
+{
+    put_bytes(out, at, bytes);
+    at + count
+}
+
 /// Puts some bytes where as many stand, as one: so they are stored at once, where a copy of a slice would first ask whether
 /// the two overlap.
 #[inline(always)]

@@ -111,7 +111,7 @@ fn missed_lines(part: &ChannelRound, granted: usize) -> usize
     requires granted { granted ≡ length (ordered_spots part.now) }
     ensures { result + granted ≡ length part.now.settled + length part.now.grants }
 {
-    part.settled().len() - (granted - part.grants().len())
+    part.settled().len() + part.grants().len() - granted
 }
 
 /// Adds the lines of some rows, such as those at the end of a report: F lines, A lines, the U line. The one fault is want of
