@@ -44,22 +44,11 @@ impl Ahead {
         ensures none { IfErr result (λ _. self.new.round ≡ None) }
     {
         self.round = None;
-        self.write_elements(channel);
+        self.runs = channel.board().run_count();
+        put_runs(&mut self.elements, 0, channel.channel(), channel.board());
         self.lines.write(round, channel)?;
         self.round = Some(round);
         Ok(())
-    }
-
-    /// Writes the elements.
-    fn write_elements(&mut self, channel: &ChannelRound)
-        ensures runs { self.new.runs ≡ length (runs_of channel.now.board.cells) }
-        ensures few { self.new.runs ≤ 2 * max_assignments + 1 }
-        ensures elements { take (4 * self.new.runs) self.new.elements ≡
-            spec.words_of channel.now.channel (runs_of channel.now.board.cells) }
-        ensures round { self.new.round ≡ self.old.round }
-    {
-        self.runs = channel.board().run_count();
-        put_runs(&mut self.elements, 0, channel.channel(), channel.board());
     }
 
     /// The elements, as bytes.

@@ -44,18 +44,9 @@ fn put_grant(out: &mut [u8], at: usize, grant: &Grant) -> usize
     ensures line { take result out.new ≡ take at out.old ++ spec.grant_text grant.now }
     ensures fields { HasFields (rows.Granted grant.now) }
 {
-    let at = put_event(
-        out,
-        at,
-        b'G',
-        grant.round,
-        grant.channel,
-        grant.entry,
-        grant.id,
-        grant.i,
-    );
-    let at = put_four(out, at, grant.k, grant.sid, grant.iuc, grant.start);
-    let at = put_two(out, at, grant.slots, grant.credit);
+    let at = put_event(out, at, b'G', grant.round, grant.channel, grant.entry);
+    let at = put_four(out, at, grant.id, grant.i, grant.k, grant.sid);
+    let at = put_four(out, at, grant.iuc, grant.start, grant.slots, grant.credit);
     put_byte(out, at, b'\n')
 }
 
@@ -66,16 +57,8 @@ fn put_missed(out: &mut [u8], at: usize, missed: &MissedOccurrence) -> usize
     ensures line { take result out.new ≡ take at out.old ++ spec.missed_text missed.now }
     ensures fields { HasFields (rows.Missed missed.now) }
 {
-    let at = put_event(
-        out,
-        at,
-        b'M',
-        missed.round,
-        missed.channel,
-        missed.entry,
-        missed.id,
-        missed.i,
-    );
+    let at = put_event(out, at, b'M', missed.round, missed.channel, missed.entry);
+    let at = put_two(out, at, missed.id, missed.i);
     let at = put_number(out, at, missed.k);
     put_byte(out, at, b'\n')
 }
@@ -87,7 +70,8 @@ fn put_final(out: &mut [u8], at: usize, state: &FinalState) -> usize
     ensures line { take result out.new ≡ take at out.old ++ spec.final_text state.now }
     ensures fields { HasFields (rows.Final state.now) }
 {
-    let at = put_front(out, at, b'F', state.flow, state.cluster);
+    let at = put_byte(out, at, b'F');
+    let at = put_two(out, at, state.flow, state.cluster);
     let at = put_number(out, at, state.outstanding);
     let at = put_units(out, at, state.units);
     put_byte(out, at, b'\n')
@@ -100,7 +84,8 @@ fn put_activity(out: &mut [u8], at: usize, activity: &FinalActivity) -> usize
     ensures line { take result out.new ≡ take at out.old ++ spec.activity_text activity.now }
     ensures fields { HasFields (rows.Activity activity.now) }
 {
-    let at = put_front(out, at, b'A', activity.flow, activity.active);
+    let at = put_byte(out, at, b'A');
+    let at = put_two(out, at, activity.flow, activity.active);
     put_byte(out, at, b'\n')
 }
 
@@ -111,12 +96,13 @@ fn put_counts(out: &mut [u8], at: usize, counts: &TraceCounts) -> usize
     ensures line { take result out.new ≡ take at out.old ++ spec.counts_text counts.now }
     ensures fields { HasFields (rows.Counts counts.now) }
 {
-    let at = put_front(out, at, b'U', counts.unknown, counts.not_requestable);
+    let at = put_byte(out, at, b'U');
+    let at = put_two(out, at, counts.unknown, counts.not_requestable);
     let at = put_number(out, at, counts.late);
     put_byte(out, at, b'\n')
 }
 
-/// Puts what G and M lines begin with: the letter, the round and the channel, the entry, its id and its interval.
+/// Puts what G and M lines begin with: the letter, the round and the channel, and the entry.
 #[inline(always)]
 fn put_event(
     out: &mut [u8],
@@ -125,30 +111,16 @@ fn put_event(
     round: u64,
     channel: u64,
     entry: EntryWord,
-    id: u64,
-    i: u64,
 ) -> usize
-    requires { at + 93 ≤ length out.old }
-    ensures size { result ≤ at + 93 }
-    ensures bytes { take result out.new ≡ take at out.old ++ letter ∷ (spec.numbers (round ∷ channel ∷ []) ++
-        (44 ∷ (spec.word_text entry ++ spec.numbers (id ∷ i ∷ [])))) }
-    ensures fit { Fit (round ∷ channel ∷ id ∷ i ∷ []) }
-{
-    let at = put_front(out, at, letter, round, channel);
-    let at = put_word(out, at, entry);
-    put_two(out, at, id, i)
-}
-
-/// Puts the letter of a line, and the numbers that come first.
-#[inline(always)]
-fn put_front(out: &mut [u8], at: usize, letter: u8, first: u64, second: u64) -> usize
-    requires { at + 43 ≤ length out.old }
-    ensures size { result ≤ at + 43 }
-    ensures bytes { take result out.new ≡ take at out.old ++ letter ∷ spec.numbers (first ∷ second ∷ []) }
-    ensures fit { Fit (first ∷ second ∷ []) }
+    requires { at + 51 ≤ length out.old }
+    ensures size { result ≤ at + 51 }
+    ensures bytes { take result out.new ≡
+        take at out.old ++ letter ∷ (spec.numbers (round ∷ channel ∷ []) ++ (44 ∷ spec.word_text entry)) }
+    ensures fit { Fit (round ∷ channel ∷ []) }
 {
     let at = put_byte(out, at, letter);
-    put_two(out, at, first, second)
+    let at = put_two(out, at, round, channel);
+    put_word(out, at, entry)
 }
 
 /// Puts the units of a bucket, a dash where there is none.
