@@ -1,9 +1,8 @@
-pub mod FieldLemmas
+pub mod DigitLemmas
 pub mod PartLemmas
 pub mod PendingLemmas
 pub mod OrderLemmas
 pub mod SinkLemmas
-pub mod SpotLemmas
 pub mod NoteLemmas
 pub mod FinalLemmas
 pub mod LineLemmas
@@ -11,5 +10,5 @@ pub mod OutputLaws
 pub mod OwnerLemmas
 pub mod MapLemmas
 pub mod RecordLemmas
+pub mod SpotLemmas
 pub mod TextLemmas
-pub mod PageLemmas

@@ -79,24 +79,6 @@ abbrev pub asks : List ℕ → List ℕ → places.Turn → Bool
 asks before left turn =
     nat_lt 0 (slice_index left turn.cluster) && (slice_index left turn.cluster == slice_index before turn.cluster)
 
-pub not_asking : (t : Tables) (before left : List ℕ) (turn : places.Turn) → asks before left turn ≡ false →
-    still_asking_at t before left turn ≡ None
-not_asking t before left turn no_bytes = by_flow (slice_get t.flows turn.flow)
-  where
-    by_sids : (flow : FlowTable) (sids : Option (List ℕ)) →
-        option_and_then (still_asking before left) (option_map (λ sids. record {
-          number = turn.cluster;
-          place = turn.flow;
-          cluster = record { flow = flow; list = turn.list; sids = sids };
-        }) sids) ≡ None
-    by_sids flow None = refl
-    by_sids flow (Some sids) = rw no_bytes refl
-
-    by_flow : (flow : Option FlowTable) →
-        option_and_then (still_asking before left) (option_and_then (in_flow turn) flow) ≡ None
-    by_flow None = refl
-    by_flow (Some flow) = by_sids flow (slice_get flow.clusters turn.list)
-
 pub asking : (t : Tables) (before left : List ℕ) (turn : places.Turn) → asks before left turn ≡ true →
     still_asking_at t before left turn ≡ option_and_then first_sid (turn_at t turn)
 asking t before left turn bytes = by_flow (slice_get t.flows turn.flow)

@@ -12,8 +12,6 @@ pub mod Files
 pub mod Leftovers
 -- inside the crate: G lines by where they start
 pub mod Orders
--- inside the crate: lines behind what all of a channel begin with
-pub mod Pages
 -- inside the crate: what is written ahead
 pub mod Ahead
 -- laws of what a round gives

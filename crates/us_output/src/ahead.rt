@@ -1,18 +1,10 @@
 ghost use Rattle.std.specs.Prelude.{◌≡◌, ◌+◌, ◌*◌, ◌≤◌, length, take, None, Some, OnOk, IfErr};
-ghost use Rattle.std.specs.List.{AllByRecursion};
 ghost use Rattle.us_holes.specs.Boards.{max_assignments};
 ghost use Rattle.us_holes.specs.Runs.{runs_of};
 ghost use Rattle.us_output.specs.Ahead as spec;
-ghost use Rattle.us_output.specs.Files.{lines};
-ghost use Rattle.us_output.specs.Leftovers.{AreInside};
-ghost use Rattle.us_output.specs.Lines.{HasFields};
-ghost use Rattle.us_output.specs.Orders.{ordered_spots};
-ghost use Rattle.us_output.specs.Outputs.{rows_on};
 
-use crate::lines::PAGE_BYTES;
-use crate::orders::LineOrder;
+use crate::channel_lines::ChannelLines;
 use crate::records::{RECORD_BYTES, put_runs};
-use crate::texts::push_all;
 use std::alloc::Global;
 use us_channel::ChannelRound;
 use us_codec::ELEMENT_BYTES;
@@ -20,6 +12,7 @@ use us_slots::NoMemory;
 
 /// What of a round's texts needs one channel alone, written by whoever has it: the elements of its board's runs, and its
 /// lines.
+#[derive(Drop)]
 pub(crate) struct Ahead {
     // the round of which they are; `None` where the channel has gone on since
     pub round: Option<u32>,
@@ -28,26 +21,7 @@ pub(crate) struct Ahead {
     pub runs: usize,
     pub elements: [u8; RECORD_BYTES],
 
-    // the G lines in order, and the text of all lines
-    pub order: LineOrder,
-    pub lines: Vec<u8>,
-
-    // the bytes in which lines are put together
-    pub page: [u8; PAGE_BYTES],
-}
-
-/// Gives the lists up. It is written out so that it is one step wherever a channel ends.
-impl Drop for Ahead {
-    fn drop(self) {
-        let Ahead {
-            round: _,
-            runs: _,
-            elements: _,
-            order: _,
-            lines: _,
-            page: _,
-        } = self;
-    }
+    pub lines: ChannelLines,
 }
 
 impl Ahead {
@@ -59,9 +33,7 @@ impl Ahead {
             round: None,
             runs: 0,
             elements: [0; RECORD_BYTES],
-            order: LineOrder::new(alloc),
-            lines: Vec::new(alloc),
-            page: [0; PAGE_BYTES],
+            lines: ChannelLines::new(alloc),
         }
     }
 
@@ -72,41 +44,10 @@ impl Ahead {
         ensures none { IfErr result (λ _. self.new.round ≡ None) }
     {
         self.round = None;
-        self.write_elements(channel);
-        self.write_lines(channel, round)?;
-        self.round = Some(round);
-        Ok(())
-    }
-
-    /// Writes the elements.
-    fn write_elements(&mut self, channel: &ChannelRound)
-        ensures runs { self.new.runs ≡ length (runs_of channel.now.board.cells) }
-        ensures few { self.new.runs ≤ 2 * max_assignments + 1 }
-        ensures elements { take (4 * self.new.runs) self.new.elements ≡
-            spec.words_of channel.now.channel (runs_of channel.now.board.cells) }
-        ensures round { self.new.round ≡ self.old.round }
-    {
         self.runs = channel.board().run_count();
         put_runs(&mut self.elements, 0, channel.channel(), channel.board());
-    }
-
-    /// Writes the lines.
-    fn write_lines(&mut self, channel: &ChannelRound, round: u32) -> Result<(), NoMemory>
-        ensures ordered { OnOk result (AreInside channel.now → self.new.order.spots.items ≡ ordered_spots channel.now) }
-        ensures lines { OnOk result (AreInside channel.now → self.new.lines.items ≡ lines (rows_on round channel.now)) }
-        ensures fields { OnOk result (AreInside channel.now → AllByRecursion HasFields (rows_on round channel.now)) }
-        ensures round { self.new.round ≡ self.old.round }
-        ensures runs { self.new.runs ≡ self.old.runs }
-        ensures elements { self.new.elements ≡ self.old.elements }
-    {
-        self.lines.clear();
-        push_all(
-            &mut self.lines,
-            &mut self.order,
-            &mut self.page,
-            round,
-            channel,
-        )?;
+        self.lines.write(round, channel)?;
+        self.round = Some(round);
         Ok(())
     }
 

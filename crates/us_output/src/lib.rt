@@ -9,10 +9,10 @@
 //! let activity = activity_rows(alloc, &config, &active)?; // the A lines, behind these
 //!
 //! // the same as bytes, straight from the channels, behind what the texts have
-//! push_records(&mut maps, &mut scratch, &config, round, &built, &pendings)?;
-//! push_lines(&mut report, &mut scratch, &mut tally, round, &built)?;
-//! push_rows(&mut report, &mut scratch, &finals)?;
-//! push_rows(&mut report, &mut scratch, &activity)?;
+//! push_records(&mut maps, &mut buffers, &config, round, &built, &pendings)?;
+//! push_lines(&mut report, &mut buffers, &mut tally, round, &built)?;
+//! push_rows(&mut report, &mut buffers, &finals)?;
+//! push_rows(&mut report, &mut buffers, &activity)?;
 //! ```
 //!
 //! What these are stands in `specs/`, in the order of its `Lib.antt`. How a round comes to its channels is for `us_round`.
@@ -21,11 +21,10 @@
 // The lines of a round,
 mod rows;
 
-// their text, and that their numbers have 64 bits.
-mod fields;
+// and their text.
+mod digits;
 mod lines;
-mod threes;
-mod words;
+mod puts;
 
 // Who is pending, and on which channel.
 mod dealing;
@@ -35,12 +34,14 @@ mod pendings;
 mod notes;
 mod orders;
 
-// Many lines of a channel, put together in a page.
-mod fronts;
-mod pages;
+// Whom lines are told, rows or text; each line of a channel is told once.
+mod line_texts;
+mod sinks;
+mod telling;
 
-// What texts keep.
-mod scratch;
+// The text of a channel's lines, and what texts keep.
+mod buffers;
+mod channel_lines;
 
 // What of them is written ahead, and a channel that has it.
 mod ahead;
@@ -68,6 +69,7 @@ mod outputs;
 // Laws of what a round gives.
 mod output_laws;
 
+pub use buffers::TextBuffers;
 pub use channels_with_text::ChannelWithText;
 pub use output_laws::{lines_are_of_grants, lines_bear_round};
 pub use outputs::{out_by, round_out};
@@ -76,7 +78,6 @@ pub use records::push_records;
 pub use reporting::{activity_rows, final_rows};
 pub use round_outs::RoundOut;
 pub use rows::{EntryWord, FinalActivity, FinalState, Grant, MissedOccurrence, Row, TraceCounts};
-pub use scratch::Scratch;
 pub use tallies::LineTally;
 pub use texts::{push_lines, push_rows};
 

@@ -1,377 +1,232 @@
-ghost use Rattle.std.specs.Prelude.{◌≡◌, ◌+◌, ◌*◌, ◌<◌, ◌≤◌, [], ◌∷◌, ◌++◌, length, drop, OnOk};
+ghost use Rattle.std.specs.Prelude.{◌≡◌, ◌+◌, ◌*◌, ◌^◌, ◌<◌, ◌≤◌, [], ◌∷◌, ◌++◌, length, take, IfSome};
 ghost use Rattle.std.specs.Fmt.{decimal};
 ghost use Rattle.us_output.specs.Lines as spec;
-ghost use Rattle.us_output.specs.Lines.{HasFields};
+ghost use Rattle.us_output.specs.Lines.{Fit, HasFields};
 ghost use Rattle.us_output.specs.declared.rows.Row.TheVariants as rows;
 
-use crate::fields::{read_activity, read_counts, read_final, read_grant, read_missed};
+use crate::digits::{put_short, put_three};
+use crate::puts::{put_byte, put_bytes, put_first, put_some};
 use crate::rows::{
     EntryWord, FinalActivity, FinalState, Grant, MissedOccurrence, Row, TraceCounts,
 };
-use crate::threes::{put_short, put_three};
-use crate::words::{bytes_of, word_of};
-use std::alloc::AllocError;
 
 /// More bytes than any line has: a letter, ten numbers, a word of seven letters behind a comma and the line feed are 220.
 pub(crate) const LINE_BYTES: usize = 256;
 
-/// How many lines a page has room for. A copy of many lines at once costs little more than one of a line.
-pub(crate) const PAGE_LINES: usize = 16;
-
-/// The bytes in which lines are put together.
-pub(crate) const PAGE_BYTES: usize = PAGE_LINES * LINE_BYTES;
-
-/// Where the line feed of the last line stands.
-const FEED: usize = PAGE_BYTES - 1;
-
 /// The most bytes of a comma and a number: the greatest has twenty digits.
 const FIELD_BYTES: usize = 21;
 
-/// Adds a row's line, with its line feed. What stood in `page` doesn't matter: each line is put together at its end from its
-/// last byte to its first, as digits are found, and then copied once.
-pub(crate) fn push_line(
-    text: &mut Vec<u8>,
-    page: &mut [u8; PAGE_BYTES],
-    row: &Row,
-) -> Result<(), AllocError>
-    ensures line { OnOk result (text.new.items ≡ text.old.items ++ spec.text_of row.now) }
+/// The digits of the greatest number.
+const MAX_DIGITS: usize = 20;
+
+/// Puts a row's line, with its line feed, behind what stands before `at`. Inlined, as each line of a round is put by it.
+#[inline(always)]
+pub(crate) fn put_line(out: &mut [u8], at: usize, row: &Row) -> usize
+    requires { at + LINE_BYTES ≤ length out.old }
+    ensures end { result ≤ length out.old }
+    ensures line { take result out.new ≡ take at out.old ++ spec.text_of row.now }
     ensures fields { HasFields row.now }
 {
     match row {
-        Row::Granted(grant) => push_grant(text, page, grant),
-        Row::Missed(missed) => push_missed(text, page, missed),
-        Row::Final(state) => push_final(text, page, state),
-        Row::Activity(activity) => push_activity(text, page, activity),
-        Row::Counts(counts) => push_counts(text, page, counts),
+        Row::Granted(grant) => put_grant(out, at, grant),
+        Row::Missed(missed) => put_missed(out, at, missed),
+        Row::Final(state) => put_final(out, at, state),
+        Row::Activity(activity) => put_activity(out, at, activity),
+        Row::Counts(counts) => put_counts(out, at, counts),
     }
 }
 
-/// Adds a G line.
-fn push_grant(
-    text: &mut Vec<u8>,
-    page: &mut [u8; PAGE_BYTES],
-    grant: &Grant,
-) -> Result<(), AllocError>
-    ensures line { OnOk result (text.new.items ≡ text.old.items ++ spec.grant_text grant.now) }
+/// Puts a G line.
+#[inline(always)]
+fn put_grant(out: &mut [u8], at: usize, grant: &Grant) -> usize
+    requires { at + LINE_BYTES ≤ length out.old }
+    ensures end { result ≤ length out.old }
+    ensures line { take result out.new ≡ take at out.old ++ spec.grant_text grant.now }
     ensures fields { HasFields (rows.Granted grant.now) }
 {
-    read_grant(grant);
-    put_feed(page);
-    let start = put_grant(page, grant);
-    text.extend_from_slice(&page[start..])
+    let at = put_event(out, at, b'G', grant.round, grant.channel, grant.entry);
+    let at = put_four(out, at, grant.id, grant.i, grant.k, grant.sid);
+    let at = put_four(out, at, grant.iuc, grant.start, grant.slots, grant.credit);
+    put_byte(out, at, b'\n')
 }
 
-/// Adds an M line.
-fn push_missed(
-    text: &mut Vec<u8>,
-    page: &mut [u8; PAGE_BYTES],
-    missed: &MissedOccurrence,
-) -> Result<(), AllocError>
-    ensures line { OnOk result (text.new.items ≡ text.old.items ++ spec.missed_text missed.now) }
+/// Puts an M line.
+fn put_missed(out: &mut [u8], at: usize, missed: &MissedOccurrence) -> usize
+    requires { at + LINE_BYTES ≤ length out.old }
+    ensures end { result ≤ length out.old }
+    ensures line { take result out.new ≡ take at out.old ++ spec.missed_text missed.now }
     ensures fields { HasFields (rows.Missed missed.now) }
 {
-    read_missed(missed);
-    put_feed(page);
-    let start = put_missed(page, missed);
-    text.extend_from_slice(&page[start..])
+    let at = put_event(out, at, b'M', missed.round, missed.channel, missed.entry);
+    let at = put_two(out, at, missed.id, missed.i);
+    let at = put_number(out, at, missed.k);
+    put_byte(out, at, b'\n')
 }
 
-/// Adds an F line.
-fn push_final(
-    text: &mut Vec<u8>,
-    page: &mut [u8; PAGE_BYTES],
-    state: &FinalState,
-) -> Result<(), AllocError>
-    ensures line { OnOk result (text.new.items ≡ text.old.items ++ spec.final_text state.now) }
+/// Puts an F line.
+fn put_final(out: &mut [u8], at: usize, state: &FinalState) -> usize
+    requires { at + LINE_BYTES ≤ length out.old }
+    ensures end { result ≤ length out.old }
+    ensures line { take result out.new ≡ take at out.old ++ spec.final_text state.now }
     ensures fields { HasFields (rows.Final state.now) }
 {
-    read_final(state);
-    put_feed(page);
-    let start = put_final(page, state);
-    text.extend_from_slice(&page[start..])
+    let at = put_byte(out, at, b'F');
+    let at = put_two(out, at, state.flow, state.cluster);
+    let at = put_number(out, at, state.outstanding);
+    let at = put_units(out, at, state.units);
+    put_byte(out, at, b'\n')
 }
 
-/// Adds an A line.
-fn push_activity(
-    text: &mut Vec<u8>,
-    page: &mut [u8; PAGE_BYTES],
-    activity: &FinalActivity,
-) -> Result<(), AllocError>
-    ensures line { OnOk result (text.new.items ≡ text.old.items ++ spec.activity_text activity.now) }
+/// Puts an A line.
+fn put_activity(out: &mut [u8], at: usize, activity: &FinalActivity) -> usize
+    requires { at + LINE_BYTES ≤ length out.old }
+    ensures end { result ≤ length out.old }
+    ensures line { take result out.new ≡ take at out.old ++ spec.activity_text activity.now }
     ensures fields { HasFields (rows.Activity activity.now) }
 {
-    read_activity(activity);
-    put_feed(page);
-    let start = put_activity(page, activity);
-    text.extend_from_slice(&page[start..])
+    let at = put_byte(out, at, b'A');
+    let at = put_two(out, at, activity.flow, activity.active);
+    put_byte(out, at, b'\n')
 }
 
-/// Adds the U line.
-fn push_counts(
-    text: &mut Vec<u8>,
-    page: &mut [u8; PAGE_BYTES],
-    counts: &TraceCounts,
-) -> Result<(), AllocError>
-    ensures line { OnOk result (text.new.items ≡ text.old.items ++ spec.counts_text counts.now) }
+/// Puts the U line.
+fn put_counts(out: &mut [u8], at: usize, counts: &TraceCounts) -> usize
+    requires { at + LINE_BYTES ≤ length out.old }
+    ensures end { result ≤ length out.old }
+    ensures line { take result out.new ≡ take at out.old ++ spec.counts_text counts.now }
     ensures fields { HasFields (rows.Counts counts.now) }
 {
-    read_counts(counts);
-    put_feed(page);
-    let start = put_counts(page, counts);
-    text.extend_from_slice(&page[start..])
+    let at = put_byte(out, at, b'U');
+    let at = put_two(out, at, counts.unknown, counts.not_requestable);
+    let at = put_number(out, at, counts.late);
+    put_byte(out, at, b'\n')
 }
 
-/// Puts a G line before its line feed.
-fn put_grant(page: &mut [u8; PAGE_BYTES], grant: &Grant) -> usize
-    requires { drop FEED page.old ≡ 10 ∷ [] }
-    ensures start { result ≤ PAGE_BYTES }
-    ensures line { drop result page.new ≡ spec.grant_text grant.now }
-{
-    let Grant {
-        round,
-        channel,
-        entry,
-        id,
-        i,
-        k,
-        sid,
-        iuc,
-        start,
-        slots,
-        credit,
-    } = *grant;
-    let numbers = [id, i, k, sid, iuc, start, slots, credit];
-    put_event(page, b'G', &[round, channel], entry, &numbers)
-}
-
-/// Puts an M line before its line feed.
-fn put_missed(page: &mut [u8; PAGE_BYTES], missed: &MissedOccurrence) -> usize
-    requires { drop FEED page.old ≡ 10 ∷ [] }
-    ensures start { result ≤ PAGE_BYTES }
-    ensures line { drop result page.new ≡ spec.missed_text missed.now }
-{
-    let MissedOccurrence {
-        round,
-        channel,
-        entry,
-        id,
-        i,
-        k,
-    } = *missed;
-    put_event(page, b'M', &[round, channel], entry, &[id, i, k])
-}
-
-/// Puts an F line before its line feed.
-fn put_final(page: &mut [u8; PAGE_BYTES], state: &FinalState) -> usize
-    requires { drop FEED page.old ≡ 10 ∷ [] }
-    ensures start { result ≤ PAGE_BYTES }
-    ensures line { drop result page.new ≡ spec.final_text state.now }
-{
-    let FinalState {
-        flow,
-        cluster,
-        outstanding,
-        units,
-    } = *state;
-    let end = put_units(page, units);
-    put_front(page, end, b'F', &[flow, cluster, outstanding])
-}
-
-/// Puts an A line before its line feed.
-fn put_activity(page: &mut [u8; PAGE_BYTES], activity: &FinalActivity) -> usize
-    requires { drop FEED page.old ≡ 10 ∷ [] }
-    ensures start { result ≤ PAGE_BYTES }
-    ensures line { drop result page.new ≡ spec.activity_text activity.now }
-{
-    let FinalActivity { flow, active } = *activity;
-    put_front(page, FEED, b'A', &[flow, active])
-}
-
-/// Puts the U line before its line feed.
-fn put_counts(page: &mut [u8; PAGE_BYTES], counts: &TraceCounts) -> usize
-    requires { drop FEED page.old ≡ 10 ∷ [] }
-    ensures start { result ≤ PAGE_BYTES }
-    ensures line { drop result page.new ≡ spec.counts_text counts.now }
-{
-    let TraceCounts {
-        unknown,
-        not_requestable,
-        late,
-    } = *counts;
-    put_front(page, FEED, b'U', &[unknown, not_requestable, late])
-}
-
-/// Puts the line feed.
-fn put_feed(page: &mut [u8; PAGE_BYTES])
-    ensures { drop FEED page.new ≡ 10 ∷ [] }
-{
-    put_byte(page, PAGE_BYTES, b'\n');
-}
-
-/// Puts a G or M line before its line feed: its letter, round and channel, its entry, and numbers.
+/// Puts what G and M lines begin with: the letter, the round and the channel, and the entry.
+#[inline(always)]
 fn put_event(
-    page: &mut [u8; PAGE_BYTES],
+    out: &mut [u8],
+    at: usize,
     letter: u8,
-    place: &[u64],
+    round: u64,
+    channel: u64,
     entry: EntryWord,
-    numbers: &[u64],
 ) -> usize
-    requires place { length place.now ≤ 3 }
-    requires numbers { length numbers.now ≤ 8 }
-    ensures start { result ≤ PAGE_BYTES }
-    ensures line { drop result page.new ≡ letter ∷ (spec.numbers place.now ++ (44 ∷
-        (spec.word_text entry ++ (spec.numbers numbers.now ++ drop FEED page.old)))) }
+    requires { at + 51 ≤ length out.old }
+    ensures size { result ≤ at + 51 }
+    ensures bytes { take result out.new ≡
+        take at out.old ++ letter ∷ (spec.numbers (round ∷ channel ∷ []) ++ (44 ∷ spec.word_text entry)) }
+    ensures fit { Fit (round ∷ channel ∷ []) }
 {
-    let end = put_numbers(page, FEED, numbers);
-    let end = put_entry(page, end, entry);
-    put_front(page, end, letter, place)
+    let at = put_byte(out, at, letter);
+    let at = put_two(out, at, round, channel);
+    put_word(out, at, entry)
 }
 
-/// Puts the letter of a line and numbers before what stands from `end` on.
-fn put_front(page: &mut [u8; PAGE_BYTES], end: usize, letter: u8, numbers: &[u64]) -> usize
-    requires few { length numbers.now ≤ 3 }
-    requires room { 64 ≤ end }
-    requires end { end ≤ PAGE_BYTES }
-    ensures start { result ≤ PAGE_BYTES }
-    ensures size { end ≤ result + 1 + FIELD_BYTES * length numbers.now }
-    ensures line { drop result page.new ≡ letter ∷ (spec.numbers numbers.now ++ drop end page.old) }
-{
-    let start = put_numbers(page, end, numbers);
-    put_byte(page, start, letter)
-}
-
-/// Puts the units of a bucket before the line feed, a dash where there is none.
-fn put_units(page: &mut [u8; PAGE_BYTES], units: Option<u64>) -> usize
-    ensures room { 64 ≤ result }
-    ensures start { result ≤ PAGE_BYTES }
-    ensures line { drop result page.new ≡ 44 ∷ (spec.units_text units ++ drop FEED page.old) }
+/// Puts the units of a bucket, a dash where there is none.
+fn put_units(out: &mut [u8], at: usize, units: Option<u64>) -> usize
+    requires { at + FIELD_BYTES ≤ length out.old }
+    ensures size { result ≤ at + FIELD_BYTES }
+    ensures bytes { take result out.new ≡ take at out.old ++ 44 ∷ spec.units_text units }
+    ensures fit { IfSome units (λ units. units < 2 ^ 64) }
 {
     match units {
-        Some(units) => put_number(page, FEED, units),
-        None => put_text(page, FEED, b",-"),
+        Some(units) => put_number(out, at, units),
+        None => put_bytes(out, at, *b",-"),
     }
 }
 
-/// Puts a comma and the word of an entry before what stands from `end` on. Inlined, as each line of a round has a word.
+/// Puts a comma and the word of an entry: eight bytes whatever the word, of which the last may not belong to it.
 #[inline(always)]
-pub(crate) fn put_entry(page: &mut [u8; PAGE_BYTES], end: usize, entry: EntryWord) -> usize
-    requires room { 8 ≤ end }
-    requires end { end ≤ PAGE_BYTES }
-    ensures size { end ≤ result + 8 }
-    ensures start { result ≤ end }
-    ensures line { drop result page.new ≡ 44 ∷ (spec.word_text entry ++ drop end page.old) }
+fn put_word(out: &mut [u8], at: usize, entry: EntryWord) -> usize
+    requires { at + 8 ≤ length out.old }
+    ensures size { result ≤ at + 8 }
+    ensures bytes { take result out.new ≡ take at out.old ++ 44 ∷ spec.word_text entry }
 {
-    let (first, last) = word_of(entry);
-    let middle = put_four_bytes(page, end, last);
-    let _start = put_four_bytes(page, middle, first);
-    end - bytes_of(entry)
+    let (bytes, count) = word_of(entry);
+    put_first(out, at, bytes, count)
 }
 
-/// Puts a text before what stands from `end` on. Inlined, as a text of known length takes a move or two.
+/// Eight bytes that begin with a comma and the word of an entry, and how many bytes these two are.
 #[inline(always)]
-pub(crate) fn put_text(page: &mut [u8; PAGE_BYTES], end: usize, text: &[u8]) -> usize
-    requires room { length text.now ≤ end }
-    requires end { end ≤ PAGE_BYTES }
-    ensures start { result + length text.now ≡ end }
-    ensures line { drop result page.new ≡ text.now ++ drop end page.old }
+fn word_of(entry: EntryWord) -> ([u8; 8], usize)
+    ensures bytes { take result.1 result.0 ≡ 44 ∷ spec.word_text entry }
+    ensures few { result.1 ≤ 8 }
 {
-    let start = end - text.len();
-    page[start..end].copy_from_slice(text);
-    start
-}
-
-/// Puts numbers, each behind a comma, before what stands from `end` on.
-fn put_numbers(page: &mut [u8; PAGE_BYTES], end: usize, numbers: &[u64]) -> usize
-    requires room { FIELD_BYTES * length numbers.now ≤ end }
-    requires end { end ≤ PAGE_BYTES }
-    ensures start { result ≤ end }
-    ensures size { end ≤ result + FIELD_BYTES * length numbers.now }
-    ensures line { drop result page.new ≡ spec.numbers numbers.now ++ drop end page.old }
-{
-    let mut left = numbers.len();
-    let mut start = end;
-    while left > 0 {
-        left -= 1;
-        start = put_number(page, start, numbers[left]);
+    match entry {
+        EntryWord::Unsolicited => (*b",ugs    ", 4),
+        EntryWord::Activity => (*b",ad     ", 3),
+        EntryWord::RealTimePoll => (*b",rtp    ", 4),
+        EntryWord::NonRealTimePoll => (*b",nrtp   ", 5),
+        EntryWord::Station => (*b",station", 8),
+        EntryWord::Requested => (*b",req    ", 4),
     }
-    start
 }
 
-/// Puts a comma and a number in decimal before what stands from `end` on. Most numbers of a line have up to three digits, and
-/// are put without a call.
+/// Puts two numbers, each behind a comma.
 #[inline(always)]
-pub(crate) fn put_number(page: &mut [u8; PAGE_BYTES], end: usize, number: u64) -> usize
-    requires room { FIELD_BYTES ≤ end }
-    requires end { end ≤ PAGE_BYTES }
-    ensures start { result < end }
-    ensures size { end ≤ result + FIELD_BYTES }
-    ensures line { drop result page.new ≡ 44 ∷ (decimal number ++ drop end page.old) }
+fn put_two(out: &mut [u8], at: usize, first: u64, second: u64) -> usize
+    requires { at + 42 ≤ length out.old }
+    ensures size { result ≤ at + 42 }
+    ensures bytes { take result out.new ≡ take at out.old ++ spec.numbers (first ∷ second ∷ []) }
+    ensures fit { Fit (first ∷ second ∷ []) }
+{
+    let at = put_number(out, at, first);
+    put_number(out, at, second)
+}
+
+/// Puts four numbers, each behind a comma.
+#[inline(always)]
+fn put_four(out: &mut [u8], at: usize, first: u64, second: u64, third: u64, fourth: u64) -> usize
+    requires { at + 84 ≤ length out.old }
+    ensures size { result ≤ at + 84 }
+    ensures bytes { take result out.new ≡ take at out.old ++ spec.numbers (first ∷ second ∷ third ∷ fourth ∷ []) }
+    ensures fit { Fit (first ∷ second ∷ third ∷ fourth ∷ []) }
+{
+    let at = put_two(out, at, first, second);
+    put_two(out, at, third, fourth)
+}
+
+/// Puts a comma and a number in decimal. Most numbers of a line have up to three digits, and are put without a call.
+#[inline(always)]
+fn put_number(out: &mut [u8], at: usize, number: u64) -> usize
+    requires { at + FIELD_BYTES ≤ length out.old }
+    ensures size { result ≤ at + FIELD_BYTES }
+    ensures bytes { take result out.new ≡ take at out.old ++ 44 ∷ decimal number }
+    ensures fit { number < 2 ^ 64 }
 {
     if number < 1_000 {
-        put_short(page, end, number)
+        put_short(out, at, number)
     } else {
-        put_long(page, end, number)
+        put_long(out, at, number)
     }
 }
 
 /// Puts a comma and a number of more than three digits. With up to six it is put three at a time.
 #[inline(always)]
-fn put_long(page: &mut [u8; PAGE_BYTES], end: usize, number: u64) -> usize
+fn put_long(out: &mut [u8], at: usize, number: u64) -> usize
     requires long { 1000 ≤ number }
-    requires room { FIELD_BYTES ≤ end }
-    requires end { end ≤ PAGE_BYTES }
-    ensures start { result < end }
-    ensures size { end ≤ result + FIELD_BYTES }
-    ensures line { drop result page.new ≡ 44 ∷ (decimal number ++ drop end page.old) }
+    requires room { at + FIELD_BYTES ≤ length out.old }
+    ensures size { result ≤ at + FIELD_BYTES }
+    ensures bytes { take result out.new ≡ take at out.old ++ 44 ∷ decimal number }
 {
     if number >= 1_000_000 {
-        return put_longer(page, end, number);
+        return put_longer(out, at, number);
     }
-    let start = put_three(page, end, number % 1_000);
-    put_short(page, start, number / 1_000)
+    let end = put_short(out, at, number / 1_000);
+    put_three(out, end, number % 1_000)
 }
 
 /// Puts a comma and a number of any size.
 #[cold]
 #[inline(never)]
-fn put_longer(page: &mut [u8; PAGE_BYTES], end: usize, number: u64) -> usize
-    requires room { FIELD_BYTES ≤ end }
-    requires end { end ≤ PAGE_BYTES }
-    ensures start { result < end }
-    ensures size { end ≤ result + FIELD_BYTES }
-    ensures line { drop result page.new ≡ 44 ∷ (decimal number ++ drop end page.old) }
+fn put_longer(out: &mut [u8], at: usize, number: u64) -> usize
+    requires { at + FIELD_BYTES ≤ length out.old }
+    ensures size { result ≤ at + FIELD_BYTES }
+    ensures bytes { take result out.new ≡ take at out.old ++ 44 ∷ decimal number }
 {
-    let start = itoa::write_digits(number, page, end);
-    put_byte(page, start, b',')
-}
-
-/// Puts four bytes before what stands from `end` on, which are read before the first is put: so both are a move.
-#[inline(always)]
-pub(crate) fn put_four_bytes(
-    page: &mut [u8; PAGE_BYTES],
-    end: usize,
-    bytes: (u8, u8, u8, u8),
-) -> usize
-    requires room { 4 ≤ end }
-    requires end { end ≤ PAGE_BYTES }
-    ensures start { result + 4 ≡ end }
-    ensures line { drop result page.new ≡ bytes.0 ∷ bytes.1 ∷ bytes.2 ∷ bytes.3 ∷ drop end page.old }
-{
-    let (first, second, third, fourth) = bytes;
-    let start = put_byte(page, end, fourth);
-    let start = put_byte(page, start, third);
-    let start = put_byte(page, start, second);
-    put_byte(page, start, first)
-}
-
-/// Puts a byte before what stands from `end` on.
-pub(crate) fn put_byte(page: &mut [u8; PAGE_BYTES], end: usize, byte: u8) -> usize
-    requires room { 0 < end }
-    requires end { end ≤ PAGE_BYTES }
-    ensures start { result + 1 ≡ end }
-    ensures line { drop result page.new ≡ byte ∷ drop end page.old }
-{
-    let start = end - 1;
-    page[start] = byte;
-    start
+    let mut digits = [0; MAX_DIGITS];
+    let start = itoa::write_digits(number, &mut digits, MAX_DIGITS);
+    let end = put_byte(out, at, b',');
+    put_some(out, end, &digits[start..])
 }

@@ -14,10 +14,11 @@ ghost use Rattle.us_output.specs.Leftovers.{AreDealt, IsBuiltFor, told};
 ghost use Rattle.us_output.specs.Outputs as spec;
 ghost use Rattle.us_output.specs.Outputs.{AreWithinLimits, out_of};
 
+use crate::buffers::TextBuffers;
 use crate::channels_with_text::ChannelWithText;
 use crate::dealing::Dealt;
 use crate::pendings::PendingSid;
-use crate::scratch::Scratch;
+use crate::puts::{put_bytes, put_some};
 use us_channel::{gap_of, head_of, pending_of};
 use us_codec::{
     ELEMENT_BYTES, Element, HEAD_BYTES, Head, MAX_BODY_BYTES, front_bytes, put_element,
@@ -36,7 +37,7 @@ pub(crate) const RECORD_BYTES: usize = MARK_BYTES + MAX_BODY_BYTES;
 /// one fault is want of memory.
 pub fn push_records(
     text: &mut Vec<u8>,
-    scratch: &mut Scratch,
+    buffers: &mut TextBuffers,
     config: &Config,
     round: u32,
     channels: &[ChannelWithText],
@@ -48,7 +49,7 @@ pub fn push_records(
         text.old.items ++ records (out_of config.now (told round channels.now pendings.now))) }
     ensures limits { OnOk result (AreWithinLimits config.now (told round channels.now pendings.now)) }
 {
-    let Scratch { dealt, record, .. } = scratch;
+    let TextBuffers { dealt, record, .. } = buffers;
     dealt.deal(pendings)?;
     for part in channels {
         push_record(text, record, dealt, config, round, part)?;
@@ -198,40 +199,4 @@ fn put_next(out: &mut [u8; RECORD_BYTES], at: usize, element: Element) -> usize
 {
     put_element(out, at, element);
     at + ELEMENT_BYTES
-}
-
-/// Puts some bytes behind what stands before `at`.
-fn put_some(out: &mut [u8; RECORD_BYTES], at: usize, bytes: &[u8]) -> usize
-    requires { at + length bytes.now ≤ RECORD_BYTES }
-    ensures end { result ≡ at + length bytes.now }
-    ensures bytes { take result out.new ≡ take at out.old ++ bytes.now }
-{
-    let end = at + bytes.len();
-    out[at..end].copy_from_slice(bytes);
-    end
-}
-
-/// The same of so many bytes as are known beforehand.
-#[inline(always)]
-fn put_bytes<const N: usize>(out: &mut [u8; RECORD_BYTES], at: usize, bytes: [u8; N]) -> usize
-    requires { at + N ≤ RECORD_BYTES }
-    ensures end { result ≡ at + N }
-    ensures bytes { take result out.new ≡ take at out.old ++ bytes.entry }
-{
-    let end = at + N;
-    put_whole(&mut out[at..end], bytes);
-    end
-}
-
-/// Puts some bytes where as many stand, as one: so they are stored at once, where a copy of a slice would first ask whether
-/// the two overlap.
-#[inline(always)]
-fn put_whole<const N: usize>(place: &mut [u8], bytes: [u8; N])
-    requires { length place.old ≡ N }
-    ensures { place.new ≡ bytes.entry }
-{
-    let Some(whole) = place.as_mut_array() else {
-        unreachable!()
-    };
-    *whole = bytes;
 }

@@ -1,30 +1,26 @@
-ghost use Rattle.std.specs.Prelude.{◌≡◌, ◌+◌, ◌^◌, ◌<◌, ◌++◌, length, flat_map, map, count_by, IfOk, IfSome, OnOk};
+ghost use Rattle.std.specs.Prelude.{◌≡◌, ◌+◌, ◌^◌, ◌<◌, ◌++◌, length, flat_map, count_by, IfOk, OnOk};
 ghost use Rattle.std.specs.Bool.{OnTrue};
 ghost use Rattle.std.specs.List.{AllByRecursion};
 ghost use Rattle.us_output.specs.Files.{lines, is_granted, is_missed};
 ghost use Rattle.us_output.specs.Leftovers.{AreInside};
 ghost use Rattle.us_output.specs.Lines.{HasFields};
-ghost use Rattle.us_output.specs.Orders.{line_at, line_row, lines_at, missed_of, ordered_lines, ordered_spots};
-ghost use Rattle.us_output.specs.Pages.{IsFit, IsMissedFit, granted_text, missed_text};
+ghost use Rattle.us_output.specs.Orders.{ordered_spots};
 ghost use Rattle.us_output.specs.Outputs as spec;
 
+use crate::buffers::TextBuffers;
+use crate::channel_lines::ChannelLines;
 use crate::channels_with_text::ChannelWithText;
-use crate::fronts::Front;
-use crate::lines::{PAGE_BYTES, PAGE_LINES, push_line};
-use crate::orders::{LineOrder, Spot, order_lines};
-use crate::pages::{put_all_missed, put_spots};
 use crate::rows::Row;
-use crate::scratch::Scratch;
+use crate::sinks::LineSink;
 use crate::tallies::LineTally;
-use us_calendar::Settled;
-use us_channel::{ChannelRound, PlacedClaim};
+use us_channel::ChannelRound;
 use us_slots::NoMemory;
 
 /// Adds the lines of a round, and counts them: channels in table order, and on each the grants by their start, then what
 /// was missed. The one fault is want of memory, and then nothing is said of the count.
 pub fn push_lines(
     text: &mut Vec<u8>,
-    scratch: &mut Scratch,
+    buffers: &mut TextBuffers,
     tally: &mut LineTally,
     round: u32,
     channels: &[ChannelWithText],
@@ -41,7 +37,7 @@ pub fn push_lines(
         tally.old.missed + count_by is_missed (flat_map (spec.rows_on round) channels.now)) }
 {
     for part in channels {
-        push_part(text, scratch, tally, round, part)?;
+        push_part(text, buffers, tally, round, part)?;
     }
     Ok(())
 }
@@ -49,7 +45,7 @@ pub fn push_lines(
 /// Adds the lines of a channel, and counts them. In many rounds there are none, and then nothing is called.
 fn push_part(
     text: &mut Vec<u8>,
-    scratch: &mut Scratch,
+    buffers: &mut TextBuffers,
     tally: &mut LineTally,
     round: u32,
     part: &ChannelWithText,
@@ -68,7 +64,7 @@ fn push_part(
     if is_quiet(channel) {
         return Ok(());
     }
-    let granted = push_written(text, scratch, round, part)?;
+    let granted = push_written(text, buffers, round, part)?;
     tally.add(granted, missed_lines(channel, granted));
     Ok(())
 }
@@ -76,22 +72,29 @@ fn push_part(
 /// Adds the lines of a channel, and answers how many of them are of grants. Lines that were written ahead are copied.
 fn push_written(
     text: &mut Vec<u8>,
-    scratch: &mut Scratch,
+    buffers: &mut TextBuffers,
     round: u32,
     part: &ChannelWithText,
 ) -> Result<usize, NoMemory>
     requires inside { AreInside part.now }
     ensures lines { OnOk result (text.new.items ≡ text.old.items ++ lines (spec.rows_on round part.now)) }
     ensures fields { OnOk result (AllByRecursion HasFields (spec.rows_on round part.now)) }
-    ensures granted { IfOk result (λ granted. granted ≡ length (ordered_lines part.now)) }
+    ensures granted { IfOk result (λ granted. granted ≡ length (ordered_spots part.now)) }
 {
     if let Some(ahead) = part.ahead(round) {
-        text.extend_from_slice(&ahead.lines)?;
-        return Ok(ahead.order.spots.len());
+        return push_lines_of(text, &ahead.lines);
     }
-    let Scratch { order, page, .. } = scratch;
-    push_all(text, order, page, round, part.channel_round())?;
-    Ok(order.spots.len())
+    buffers.lines.write(round, part.channel_round())?;
+    push_lines_of(text, &buffers.lines)
+}
+
+/// Adds the lines that were written of a channel, and answers how many of them are of grants.
+fn push_lines_of(text: &mut Vec<u8>, lines: &ChannelLines) -> Result<usize, NoMemory>
+    ensures lines { OnOk result (text.new.items ≡ text.old.items ++ lines.now.text) }
+    ensures granted { IfOk result (λ granted. granted ≡ length lines.now.order.spots.items) }
+{
+    text.extend_from_slice(lines.text.text())?;
+    Ok(lines.order.spots.len())
 }
 
 /// Whether nothing was settled or granted on a channel, so that it has no line.
@@ -101,131 +104,32 @@ fn is_quiet(part: &ChannelRound) -> bool
     part.settled().is_empty() && part.grants().is_empty()
 }
 
-/// Adds the lines of a channel. In `order` are left the spots of its G lines.
-pub(crate) fn push_all(
-    text: &mut Vec<u8>,
-    order: &mut LineOrder,
-    page: &mut [u8; PAGE_BYTES],
-    round: u32,
-    part: &ChannelRound,
-) -> Result<(), NoMemory>
-    ensures ordered { OnOk result (AreInside part.now → order.new.spots.items ≡ ordered_spots part.now) }
-    ensures lines { OnOk result
-        (AreInside part.now → text.new.items ≡ text.old.items ++ lines (spec.rows_on round part.now)) }
-    ensures fields { OnOk result (AreInside part.now → AllByRecursion HasFields (spec.rows_on round part.now)) }
-{
-    order_lines(order, part)?;
-    push_all_granted(text, page, round, part, &order.spots)?;
-    push_all_missed(text, page, round, part, order.spots.len())?;
-    Ok(())
-}
-
 /// How many M lines a channel has beside so many G lines: one for each occurrence that its calendar settled and didn't
 /// grant.
 fn missed_lines(part: &ChannelRound, granted: usize) -> usize
     requires inside { AreInside part.now }
-    requires granted { granted ≡ length (ordered_lines part.now) }
+    requires granted { granted ≡ length (ordered_spots part.now) }
     ensures { result + granted ≡ length part.now.settled + length part.now.grants }
 {
-    part.settled().len() - (granted - part.grants().len())
-}
-
-/// Adds the G lines at some spots.
-fn push_all_granted(
-    text: &mut Vec<u8>,
-    page: &mut [u8; PAGE_BYTES],
-    round: u32,
-    part: &ChannelRound,
-    spots: &[Spot],
-) -> Result<(), NoMemory>
-    ensures lines { OnOk result
-        (text.new.items ≡ text.old.items ++ lines (map (line_row round part.now.channel) (lines_at part.now spots.now))) }
-    ensures fields { OnOk result
-        (AllByRecursion HasFields (map (line_row round part.now.channel) (lines_at part.now spots.now))) }
-{
-    let front = Front::new(page, b'G', round, part.channel().id);
-    push_spots(text, page, &front, part.settled(), part.grants(), spots)?;
-    Ok(())
-}
-
-/// Adds G lines that begin with a front, a page of them at a time. Each is told straight from what was settled or granted at
-/// its spot.
-fn push_spots(
-    text: &mut Vec<u8>,
-    page: &mut [u8; PAGE_BYTES],
-    front: &Front,
-    settled: &[Settled],
-    grants: &[PlacedClaim],
-    spots: &[Spot],
-) -> Result<(), NoMemory>
-    ensures lines { OnOk result (text.new.items ≡ text.old.items ++
-        flat_map (λ spot. granted_text front.now (line_at settled.now grants.now spot)) spots.now) }
-    ensures fit { OnOk result (AllByRecursion (λ spot. IfSome (line_at settled.now grants.now spot) IsFit) spots.now) }
-{
-    let mut from = 0;
-    while from < spots.len() {
-        let to = from + (spots.len() - from).min(PAGE_LINES);
-        let start = put_spots(page, front, settled, grants, &spots[from..to]);
-        text.extend_from_slice(&page[start..])?;
-        from = to;
-    }
-    Ok(())
-}
-
-/// Adds the M lines of a channel that has so many G lines. Where these are all that was settled and granted nothing was
-/// missed, and no M line is looked for.
-fn push_all_missed(
-    text: &mut Vec<u8>,
-    page: &mut [u8; PAGE_BYTES],
-    round: u32,
-    part: &ChannelRound,
-    granted: usize,
-) -> Result<(), NoMemory>
-    ensures lines { OnOk result (AreInside part.now → granted ≡ length (ordered_lines part.now) →
-        text.new.items ≡ text.old.items ++ lines (missed_of round part.now.channel part.now.settled)) }
-    ensures fields { OnOk result (AreInside part.now → granted ≡ length (ordered_lines part.now) →
-        AllByRecursion HasFields (missed_of round part.now.channel part.now.settled)) }
-{
-    let settled = part.settled();
-    if granted == settled.len() + part.grants().len() {
-        return Ok(());
-    }
-    let front = Front::new(page, b'M', round, part.channel().id);
-    push_missed(text, page, &front, settled)?;
-    Ok(())
-}
-
-/// Adds M lines that begin with a front, a page of what was settled at a time.
-fn push_missed(
-    text: &mut Vec<u8>,
-    page: &mut [u8; PAGE_BYTES],
-    front: &Front,
-    settled: &[Settled],
-) -> Result<(), NoMemory>
-    ensures lines { OnOk result
-        (text.new.items ≡ text.old.items ++ flat_map (missed_text front.now) settled.now) }
-    ensures fit { OnOk result (AllByRecursion IsMissedFit settled.now) }
-{
-    let mut from = 0;
-    while from < settled.len() {
-        let to = from + (settled.len() - from).min(PAGE_LINES);
-        let start = put_all_missed(page, front, &settled[from..to]);
-        text.extend_from_slice(&page[start..])?;
-        from = to;
-    }
-    Ok(())
+    part.settled().len() + part.grants().len() - granted
 }
 
 /// Adds the lines of some rows, such as those at the end of a report: F lines, A lines, the U line. The one fault is want of
 /// memory.
 #[tactic(auto, unfolding(crate::specs::Files::lines))]
-pub fn push_rows(text: &mut Vec<u8>, scratch: &mut Scratch, rows: &[Row]) -> Result<(), NoMemory>
+pub fn push_rows(
+    text: &mut Vec<u8>,
+    buffers: &mut TextBuffers,
+    rows: &[Row],
+) -> Result<(), NoMemory>
     ensures lines { OnOk result (text.new.items ≡ text.old.items ++ lines rows.now) }
     ensures fields { OnOk result (AllByRecursion HasFields rows.now) }
 {
-    let Scratch { page, .. } = scratch;
+    let ChannelLines { text: lines, .. } = &mut buffers.lines;
     for row in rows {
-        push_line(text, page, row)?;
+        lines.clear();
+        lines.line(*row)?;
+        text.extend_from_slice(lines.text())?;
     }
     Ok(())
 }

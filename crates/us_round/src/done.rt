@@ -10,7 +10,7 @@ use crate::parts::Parts;
 use crate::states::State;
 use std::alloc::Global;
 use std::marker::Model;
-use us_output::{LineTally, RoundOut, Scratch, out_by, push_lines, push_records};
+use us_output::{LineTally, RoundOut, TextBuffers, out_by, push_lines, push_records};
 use us_slots::NoMemory;
 
 /// A round that was made: what it was scheduled, and the state that the next round starts from.
@@ -76,7 +76,7 @@ impl RoundDone {
     }
 
     /// Adds the records of the round: one for the MAP of each channel, in table order.
-    pub fn push_records(&self, text: &mut Vec<u8>, scratch: &mut Scratch) -> Result<(), NoMemory>
+    pub fn push_records(&self, text: &mut Vec<u8>, buffers: &mut TextBuffers) -> Result<(), NoMemory>
         ensures records { OnOk result
             (text.new.items ≡ text.old.items ++ records (out_of self.now.state.tables self.now.scheduled)) }
         ensures limits { OnOk result (AreWithinLimits self.now.state.tables self.now.scheduled) }
@@ -87,7 +87,7 @@ impl RoundDone {
             pendings,
         } = &self.parts;
         let round = core.round() - 1;
-        push_records(text, scratch, core.config(), round, channels, pendings)
+        push_records(text, buffers, core.config(), round, channels, pendings)
     }
 
     /// Adds the lines of the round, and counts them: channels in table order, and on each the grants by their start, then
@@ -96,7 +96,7 @@ impl RoundDone {
     pub fn push_lines(
         &self,
         text: &mut Vec<u8>,
-        scratch: &mut Scratch,
+        buffers: &mut TextBuffers,
         tally: &mut LineTally,
     ) -> Result<(), NoMemory>
         requires granted_room { tally.old.granted + length (out_of self.now.state.tables self.now.scheduled).rows < 2 ^ 64 }
@@ -115,6 +115,6 @@ impl RoundDone {
             pendings,
         } = &self.parts;
         let round = core.round() - 1;
-        push_lines(text, scratch, tally, round, channels)
+        push_lines(text, buffers, tally, round, channels)
     }
 }

@@ -73,7 +73,7 @@ pub use schedule_laws::{
 pub use states::State;
 pub use us_output::{
     EntryWord, FinalActivity, FinalState, Grant, LineTally, MissedOccurrence, RoundOut, Row,
-    Scratch, TraceCounts, lines_are_of_grants, lines_bear_round,
+    TextBuffers, TraceCounts, lines_are_of_grants, lines_bear_round,
 };
 
 #[cfg(test)]

@@ -6,7 +6,8 @@ ghost use Rattle.us_output.specs.Leftovers.{AreInside, IsBuiltFor};
 use super::base::built_of;
 use super::texts::{push_plain, texts_alike};
 use crate::{
-    ChannelWithText, PendingSid, Scratch, activity_rows, final_rows, out_by, push_rows, round_out,
+    ChannelWithText, PendingSid, TextBuffers, activity_rows, final_rows, out_by, push_rows,
+    round_out,
 };
 use std::alloc::Global;
 use std::slice::from_ref;
@@ -90,22 +91,22 @@ fn push_worked(
     requires inside { AllByRecursion AreInside channels.now }
     requires time { config.now.round_ticks ≤ max_run_ticks }
 {
-    let mut scratch = Scratch::new(alloc);
+    let mut buffers = TextBuffers::new(alloc);
     let out = round_out(alloc, config, 0, &OUTSTANDING, &LEFT, channels)?;
-    push_plain(text, &mut scratch, &out)?;
-    push_ends(alloc, text, &mut scratch, config)
+    push_plain(text, &mut buffers, &out)?;
+    push_ends(alloc, text, &mut buffers, config)
 }
 
 /// Adds the final lines.
 fn push_ends(
     alloc: Global,
     text: &mut Vec<u8>,
-    scratch: &mut Scratch,
+    buffers: &mut TextBuffers,
     config: &Config,
 ) -> Result<(), NoMemory> {
     let buckets = full_buckets(alloc, config)?;
-    push_rows(text, scratch, &final_rows(alloc, config, &LEFT, &buckets)?)?;
-    push_activity(alloc, text, scratch, config)
+    push_rows(text, buffers, &final_rows(alloc, config, &LEFT, &buckets)?)?;
+    push_activity(alloc, text, buffers, config)
 }
 
 /// A bucket of each flow, which is full.
@@ -120,10 +121,10 @@ fn full_buckets(alloc: Global, config: &Config) -> Result<Vec<Bucket>, NoMemory>
 fn push_activity(
     alloc: Global,
     text: &mut Vec<u8>,
-    scratch: &mut Scratch,
+    buffers: &mut TextBuffers,
     config: &Config,
 ) -> Result<(), NoMemory> {
-    push_rows(text, scratch, &activity_rows(alloc, config, &TOLD)?)
+    push_rows(text, buffers, &activity_rows(alloc, config, &TOLD)?)
 }
 
 /// Whether the channels have the same texts straight and by the plain writer, where more SIDs are pending than a MAP lists.

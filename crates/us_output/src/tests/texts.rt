@@ -5,7 +5,8 @@ ghost use Rattle.us_output.specs.Leftovers.{AreInside, IsBuiltFor, told};
 ghost use Rattle.us_output.specs.Outputs.{out_of};
 
 use crate::{
-    ChannelWithText, LineTally, PendingSid, RoundOut, Scratch, push_lines, push_records, push_rows,
+    ChannelWithText, LineTally, PendingSid, RoundOut, TextBuffers, push_lines, push_records,
+    push_rows,
 };
 use std::alloc::Global;
 use us_codec::{MAX_BODY_BYTES, Map, encode_into};
@@ -27,10 +28,10 @@ pub(super) fn texts_alike(
     requires out { out.now ≡ out_of config.now (told 0 channels.now pendings.now) }
 {
     let mut text = Vec::new(alloc);
-    let mut scratch = Scratch::new(alloc);
-    push_texts(&mut text, &mut scratch, config, channels, pendings, out)?;
-    push_texts(&mut text, &mut scratch, config, channels, pendings, out)?;
-    push_plain(&mut text, &mut scratch, out)?;
+    let mut buffers = TextBuffers::new(alloc);
+    push_texts(&mut text, &mut buffers, config, channels, pendings, out)?;
+    push_texts(&mut text, &mut buffers, config, channels, pendings, out)?;
+    push_plain(&mut text, &mut buffers, out)?;
     Ok(are_alike(&text))
 }
 
@@ -45,7 +46,7 @@ fn are_alike(text: &[u8]) -> bool {
 #[tactic(auto, unfolding(crate::specs::Outputs::out_of))]
 fn push_texts(
     text: &mut Vec<u8>,
-    scratch: &mut Scratch,
+    buffers: &mut TextBuffers,
     config: &Config,
     channels: &[ChannelWithText],
     pendings: &[PendingSid],
@@ -60,9 +61,9 @@ fn push_texts(
         granted: 0,
         missed: 0,
     };
-    push_records(text, scratch, config, 0, channels, pendings)?;
+    push_records(text, buffers, config, 0, channels, pendings)?;
     if out.rows().len() < 100 {
-        push_lines(text, scratch, &mut tally, 0, channels)?;
+        push_lines(text, buffers, &mut tally, 0, channels)?;
     }
     if (tally.granted, tally.missed) != (3, 1) {
         text.push(b'?')?;
@@ -73,13 +74,13 @@ fn push_texts(
 /// Adds the records of these MAPs, and these lines.
 pub(super) fn push_plain(
     text: &mut Vec<u8>,
-    scratch: &mut Scratch,
+    buffers: &mut TextBuffers,
     out: &RoundOut,
 ) -> Result<(), NoMemory> {
     for map in out.maps() {
         push_map(text, out.round(), map)?;
     }
-    push_rows(text, scratch, out.rows())
+    push_rows(text, buffers, out.rows())
 }
 
 fn push_map(text: &mut Vec<u8>, round: u32, map: &Map) -> Result<(), NoMemory> {

@@ -7,7 +7,7 @@ ghost use Rattle.us_replay.specs.Batches as spec;
 
 use std::alloc::Global;
 use std::marker::Model;
-use us_output::{LineTally, Scratch, push_rows};
+use us_output::{LineTally, TextBuffers, push_rows};
 use us_round::{RoundDone, Row};
 use us_slots::NoMemory;
 
@@ -62,7 +62,7 @@ impl Batch {
     pub(crate) fn push_round(
         &mut self,
         made: &RoundDone,
-        scratch: &mut Scratch,
+        buffers: &mut TextBuffers,
         tally: &mut LineTally,
     ) -> Result<(), NoMemory>
         requires granted_room { AreWithinLimits made.now.state.tables made.now.scheduled →
@@ -79,8 +79,8 @@ impl Batch {
         ensures missed { OnOk result (tally.new.missed ≡
             tally.old.missed + count_by is_missed (out_of made.now.state.tables made.now.scheduled).rows) }
     {
-        made.push_records(&mut self.records, scratch)?;
-        made.push_lines(&mut self.lines, scratch, tally)?;
+        made.push_records(&mut self.records, buffers)?;
+        made.push_lines(&mut self.lines, buffers, tally)?;
         self.ends.push(End {
             records: self.records.len(),
             lines: self.lines.len(),
@@ -89,11 +89,11 @@ impl Batch {
     }
 
     /// Adds the lines at the end of the report. After want of memory nothing is said of what stands here.
-    pub(crate) fn push_last(&mut self, rows: &[Row], scratch: &mut Scratch) -> Result<(), NoMemory>
+    pub(crate) fn push_last(&mut self, rows: &[Row], buffers: &mut TextBuffers) -> Result<(), NoMemory>
         ensures texts { OnOk result (self.new ≡ record self.old { lines = self.old.lines ++ lines rows.now }) }
         ensures fields { OnOk result (AllByRecursion HasFields rows.now) }
     {
-        push_rows(&mut self.lines, scratch, rows)
+        push_rows(&mut self.lines, buffers, rows)
     }
 
     /// Whether it is time to send it.

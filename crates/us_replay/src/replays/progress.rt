@@ -15,7 +15,7 @@ use crate::summaries::Summary;
 use std::alloc::Global;
 use std::marker::Model;
 use us_intake::{Intake, Seat};
-use us_output::{LineTally, Scratch};
+use us_output::{LineTally, TextBuffers};
 use us_requests::{Ask, Counts};
 use us_round::{RoundDone, Row, State, TraceCounts};
 use us_slots::NoMemory;
@@ -26,7 +26,7 @@ pub(crate) struct Progress<'a> {
     collector: Collector<'a>,
     batch: Batch,
     tally: LineTally,
-    scratch: Scratch,
+    buffers: TextBuffers,
 }
 
 impl<'a> Model for Progress<'a> {
@@ -59,7 +59,7 @@ impl<'a> Progress<'a> {
                 granted: 0,
                 missed: 0,
             },
-            scratch: Scratch::new(alloc),
+            buffers: TextBuffers::new(alloc),
         })
     }
 
@@ -99,7 +99,7 @@ impl<'a> Progress<'a> {
             (out_of made.now.state.tables made.now.scheduled).rows) }
     {
         self.batch
-            .push_round(made, &mut self.scratch, &mut self.tally)
+            .push_round(made, &mut self.buffers, &mut self.tally)
     }
 
     /// Makes the end of the report, of the state after all rounds. After want of memory nothing is said of what stands
@@ -123,7 +123,7 @@ impl<'a> Progress<'a> {
             not_requestable: u64::from(counts.not_requestable),
             late: u64::from(counts.late),
         }))?;
-        self.batch.push_last(&rows, &mut self.scratch)
+        self.batch.push_last(&rows, &mut self.buffers)
     }
 
     /// What is to be sent next.

@@ -1,10 +1,7 @@
-use Rattle.std.proofs.Common.{◌/◌, ◌∷◌, ◌++◌, drop, ap, ◌∙◌, arith}
-use Rattle.std.specs.Fmt.{decimal}
-use Rattle.us_output.proofs.FieldLemmas.{thousands}
+use Rattle.std.proofs.Common.{append_assoc, arith}
+use Rattle.us_output.proofs.DigitLemmas.{thousands}
 use Rattle.us_output.proofs.lines.put_long.Goals as goal
 
-pub returns-clause-line : goal.returns-clause-line
-returns-clause-line c =
-    c.put_short.ensures.line ∙ ap (λ bytes. 44 ∷ (decimal (c.args.number / 1000) ++ bytes)) c.put_three-start.ensures.line ∙
-    ap (λ bytes. 44 ∷ bytes)
-    (thousands c.args.number c.requires.long (omega arith) (drop c.args.end c.args.page.now))
+pub returns-clause-bytes : goal.returns-clause-bytes
+returns-clause-bytes c =
+    rw (c.put_three.ensures.bytes, c.put_short-end.ensures.bytes, thousands c.args.number c.requires.long (omega arith)) (simp append_assoc)

@@ -4,14 +4,10 @@ use Rattle.us_output.proofs.texts.missed_lines.Goals as goal
 
 pub overflow_sub-result : goal.overflow_sub-result
 overflow_sub-result c =
-    omega (arith, (counted 0 c.args.part.now c.requires.inside).requested, c.requires.granted, ap length c.grants.ensures.value)
-
-pub overflow_sub-result-2 : goal.overflow_sub-result-2
-overflow_sub-result-2 c =
     let all = counted 0 c.args.part.now c.requires.inside in
     omega (arith, all.all, c.requires.granted, ap length c.grants.ensures.value, ap length c.settled.ensures)
 
 pub returns : goal.returns
 returns c =
     let all = counted 0 c.args.part.now c.requires.inside in
-    omega (arith, all.all, all.requested, c.requires.granted, ap length c.grants.ensures.value, ap length c.settled.ensures)
+    omega (arith, all.all, c.requires.granted, ap length c.grants.ensures.value, ap length c.settled.ensures)

@@ -2,12 +2,12 @@ use Rattle.std.proofs.Common.{◌≡◌, ◌++◌, [], drop, ap, sym, ◌∙◌,
 use Rattle.std.specs.Prelude.{count_by, flat_map}
 use Rattle.std.specs.List.{AllByRecursion}
 use Rattle.std.proofs.lemmas.List.{drop_all}
-use Rattle.us_output.specs.Files.{is_granted, is_missed}
+use Rattle.us_output.specs.Files.{is_granted, is_missed, lines}
 use Rattle.us_output.specs.Leftovers.{AreInside}
 use Rattle.us_output.specs.Lines.{HasFields}
 use Rattle.us_output.specs.Outputs.{rows_on}
 use Rattle.us_output.proofs.PartLemmas.{all_flat}
-use Rattle.us_output.proofs.TextLemmas.{all_next, lines_flat, next_all, next_count, next_text, room_left}
+use Rattle.us_output.proofs.TextLemmas.{all_next, lines_flat, next_all, next_count, next_part, room_left}
 use Rattle.us_output.proofs.texts.push_lines.Goals as goal
 
 pub push_part-requires : goal.push_part-requires
@@ -30,7 +30,7 @@ loop-part-preserved c =
     let i = c.loop-part.part-index in
     let b = c.part-item.result in
     let put = c.in_ok-push_part.ensures in (
-      next_text round channels i b _ c.loop-part.text.items c.push_part.new.text.items _ c.loop-part-test.true
+      next_part (λ part. lines (rows_on round part)) channels i b _ c.loop-part.text.items c.push_part.new.text.items _ c.loop-part-test.true
           c.part-item.is inv.0 put.lines,
       all_next (λ part. AllByRecursion HasFields (rows_on round part)) channels i b _ c.loop-part-test.true c.part-item.is
           inv.1 put.fields,

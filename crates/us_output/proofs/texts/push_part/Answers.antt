@@ -10,23 +10,23 @@ pub returns-then-is_quiet-clause-lines : goal.returns-then-is_quiet-clause-lines
 unfolding lines
 returns-then-is_quiet-clause-lines c =
     let quiet = rw c.channel_round-channel.ensures at c.if-is_quiet.ensures in
-    sym (ap (λ rows. c.args.text.now.items ++ lines rows) (quiet_rows c.args.round c.args.part.now quiet.0 quiet.1) ∙
+    sym (ap (λ rows. c.args.text.now.items ++ lines rows) (quiet_rows c.args.round c.args.part.now c.requires.inside quiet.0 quiet.1) ∙
     append-nil c.args.text.now.items)
 
 pub returns-then-is_quiet-clause-fields : goal.returns-then-is_quiet-clause-fields
 returns-then-is_quiet-clause-fields c =
     let quiet = rw c.channel_round-channel.ensures at c.if-is_quiet.ensures in
-    subst (AllByRecursion HasFields) (sym (quiet_rows c.args.round c.args.part.now quiet.0 quiet.1)) tt
+    subst (AllByRecursion HasFields) (sym (quiet_rows c.args.round c.args.part.now c.requires.inside quiet.0 quiet.1)) tt
 
 pub returns-then-is_quiet-clause-granted : goal.returns-then-is_quiet-clause-granted
 returns-then-is_quiet-clause-granted c =
     let quiet = rw c.channel_round-channel.ensures at c.if-is_quiet.ensures in
-    omega (arith, ap (λ rows. count_by is_granted rows) (quiet_rows c.args.round c.args.part.now quiet.0 quiet.1))
+    omega (arith, ap (λ rows. count_by is_granted rows) (quiet_rows c.args.round c.args.part.now c.requires.inside quiet.0 quiet.1))
 
 pub returns-then-is_quiet-clause-missed : goal.returns-then-is_quiet-clause-missed
 returns-then-is_quiet-clause-missed c =
     let quiet = rw c.channel_round-channel.ensures at c.if-is_quiet.ensures in
-    omega (arith, ap (λ rows. count_by is_missed rows) (quiet_rows c.args.round c.args.part.now quiet.0 quiet.1))
+    omega (arith, ap (λ rows. count_by is_missed rows) (quiet_rows c.args.round c.args.part.now c.requires.inside quiet.0 quiet.1))
 
 pub add-requires-clause-granted_room : goal.add-requires-clause-granted_room
 add-requires-clause-granted_room c =

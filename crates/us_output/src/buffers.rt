@@ -1,0 +1,27 @@
+use crate::channel_lines::ChannelLines;
+use crate::dealing::Dealt;
+use crate::records::RECORD_BYTES;
+use std::alloc::Global;
+
+/// What is kept from round to round for the texts of rounds. What stands in it never matters.
+#[derive(Drop)]
+pub struct TextBuffers {
+    // the SIDs that are pending, by channel
+    pub(crate) dealt: Dealt,
+
+    // the lines of one channel
+    pub(crate) lines: ChannelLines,
+
+    pub(crate) record: [u8; RECORD_BYTES],
+}
+
+impl TextBuffers {
+    /// Empty buffers, which take no memory yet.
+    pub fn new(alloc: Global) -> TextBuffers {
+        TextBuffers {
+            dealt: Dealt::new(alloc),
+            lines: ChannelLines::new(alloc),
+            record: [0; RECORD_BYTES],
+        }
+    }
+}
