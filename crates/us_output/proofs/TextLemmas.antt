@@ -19,10 +19,6 @@ use Rattle.us_output.specs.declared.rows.Row.{Row}
 use Rattle.us_output.proofs.LineLemmas.{lines_of}
 use Rattle.us_output.proofs.SpotLemmas.{rows_are, spots_count}
 
-pub lines_append : (first second : List Row) → lines (first ++ second) ≡ lines first ++ lines second
-unfolding lines
-lines_append first second = flat_map-append text_of first second
-
 -- the lines of all channels
 pub lines_flat : (round : ℕ) (channels : List Built) →
     flat_map (λ part. lines (rows_on round part)) channels ≡ lines (flat_map (rows_on round) channels)

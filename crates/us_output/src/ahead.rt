@@ -12,7 +12,6 @@ use us_slots::NoMemory;
 
 /// What of a round's texts needs one channel alone, written by whoever has it: the elements of its board's runs, and its
 /// lines.
-#[derive(Drop)]
 pub(crate) struct Ahead {
     // the round of which they are; `None` where the channel has gone on since
     pub round: Option<u32>,
@@ -22,6 +21,18 @@ pub(crate) struct Ahead {
     pub elements: [u8; RECORD_BYTES],
 
     pub lines: ChannelLines,
+}
+
+/// Gives the lists up. It is written out so that it is one step wherever a channel ends.
+impl Drop for Ahead {
+    fn drop(self) {
+        let Ahead {
+            round: _,
+            runs: _,
+            elements: _,
+            lines: _,
+        } = self;
+    }
 }
 
 impl Ahead {

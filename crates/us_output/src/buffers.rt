@@ -4,7 +4,6 @@ use crate::records::RECORD_BYTES;
 use std::alloc::Global;
 
 /// What is kept from round to round for the texts of rounds. What stands in it never matters.
-#[derive(Drop)]
 pub struct TextBuffers {
     // the SIDs that are pending, by channel
     pub(crate) dealt: Dealt,
@@ -13,6 +12,17 @@ pub struct TextBuffers {
     pub(crate) lines: ChannelLines,
 
     pub(crate) record: [u8; RECORD_BYTES],
+}
+
+/// Gives the lists up. It is written out so that it is one step wherever texts end.
+impl Drop for TextBuffers {
+    fn drop(self) {
+        let TextBuffers {
+            dealt: _,
+            lines: _,
+            record: _,
+        } = self;
+    }
 }
 
 impl TextBuffers {

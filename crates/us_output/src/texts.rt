@@ -13,7 +13,6 @@ use crate::channels_with_text::ChannelWithText;
 use crate::rows::Row;
 use crate::sinks::LineSink;
 use crate::tallies::LineTally;
-use us_channel::ChannelRound;
 use us_slots::NoMemory;
 
 /// Adds the lines of a round, and counts them: channels in table order, and on each the grants by their start, then what
@@ -60,12 +59,11 @@ fn push_part(
     ensures missed { OnOk result
         (tally.new.missed ≡ tally.old.missed + count_by is_missed (spec.rows_on round part.now)) }
 {
-    let channel = part.channel_round();
-    if is_quiet(channel) {
+    if is_quiet(part) {
         return Ok(());
     }
     let granted = push_written(text, buffers, round, part)?;
-    tally.add(granted, missed_lines(channel, granted));
+    tally.add(granted, missed_lines(part, granted));
     Ok(())
 }
 
@@ -82,35 +80,31 @@ fn push_written(
     ensures granted { IfOk result (λ granted. granted ≡ length (ordered_spots part.now)) }
 {
     if let Some(ahead) = part.ahead(round) {
-        return push_lines_of(text, &ahead.lines);
+        text.extend_from_slice(ahead.lines.text.text())?;
+        return Ok(ahead.lines.order.spots.len());
     }
-    buffers.lines.write(round, part.channel_round())?;
-    push_lines_of(text, &buffers.lines)
-}
-
-/// Adds the lines that were written of a channel, and answers how many of them are of grants.
-fn push_lines_of(text: &mut Vec<u8>, lines: &ChannelLines) -> Result<usize, NoMemory>
-    ensures lines { OnOk result (text.new.items ≡ text.old.items ++ lines.now.text) }
-    ensures granted { IfOk result (λ granted. granted ≡ length lines.now.order.spots.items) }
-{
+    let lines = &mut buffers.lines;
+    lines.write(round, part.channel_round())?;
     text.extend_from_slice(lines.text.text())?;
     Ok(lines.order.spots.len())
 }
 
 /// Whether nothing was settled or granted on a channel, so that it has no line.
-fn is_quiet(part: &ChannelRound) -> bool
+fn is_quiet(part: &ChannelWithText) -> bool
     ensures { OnTrue result ((length part.now.settled ≡ 0) × (length part.now.grants ≡ 0)) }
 {
+    let part = part.channel_round();
     part.settled().is_empty() && part.grants().is_empty()
 }
 
 /// How many M lines a channel has beside so many G lines: one for each occurrence that its calendar settled and didn't
 /// grant.
-fn missed_lines(part: &ChannelRound, granted: usize) -> usize
+fn missed_lines(part: &ChannelWithText, granted: usize) -> usize
     requires inside { AreInside part.now }
     requires granted { granted ≡ length (ordered_spots part.now) }
     ensures { result + granted ≡ length part.now.settled + length part.now.grants }
 {
+    let part = part.channel_round();
     part.settled().len() + part.grants().len() - granted
 }
 

@@ -9,24 +9,20 @@ use Rattle.us_output.proofs.texts.push_part.Goals as goal
 pub returns-then-is_quiet-clause-lines : goal.returns-then-is_quiet-clause-lines
 unfolding lines
 returns-then-is_quiet-clause-lines c =
-    let quiet = rw c.channel_round-channel.ensures at c.if-is_quiet.ensures in
-    sym (ap (λ rows. c.args.text.now.items ++ lines rows) (quiet_rows c.args.round c.args.part.now c.requires.inside quiet.0 quiet.1) ∙
+    sym (ap (λ rows. c.args.text.now.items ++ lines rows) (quiet_rows c.args.round c.args.part.now c.requires.inside c.if-is_quiet.ensures.0 c.if-is_quiet.ensures.1) ∙
     append-nil c.args.text.now.items)
 
 pub returns-then-is_quiet-clause-fields : goal.returns-then-is_quiet-clause-fields
 returns-then-is_quiet-clause-fields c =
-    let quiet = rw c.channel_round-channel.ensures at c.if-is_quiet.ensures in
-    subst (AllByRecursion HasFields) (sym (quiet_rows c.args.round c.args.part.now c.requires.inside quiet.0 quiet.1)) tt
+    subst (AllByRecursion HasFields) (sym (quiet_rows c.args.round c.args.part.now c.requires.inside c.if-is_quiet.ensures.0 c.if-is_quiet.ensures.1)) tt
 
 pub returns-then-is_quiet-clause-granted : goal.returns-then-is_quiet-clause-granted
 returns-then-is_quiet-clause-granted c =
-    let quiet = rw c.channel_round-channel.ensures at c.if-is_quiet.ensures in
-    omega (arith, ap (λ rows. count_by is_granted rows) (quiet_rows c.args.round c.args.part.now c.requires.inside quiet.0 quiet.1))
+    omega (arith, ap (λ rows. count_by is_granted rows) (quiet_rows c.args.round c.args.part.now c.requires.inside c.if-is_quiet.ensures.0 c.if-is_quiet.ensures.1))
 
 pub returns-then-is_quiet-clause-missed : goal.returns-then-is_quiet-clause-missed
 returns-then-is_quiet-clause-missed c =
-    let quiet = rw c.channel_round-channel.ensures at c.if-is_quiet.ensures in
-    omega (arith, ap (λ rows. count_by is_missed rows) (quiet_rows c.args.round c.args.part.now c.requires.inside quiet.0 quiet.1))
+    omega (arith, ap (λ rows. count_by is_missed rows) (quiet_rows c.args.round c.args.part.now c.requires.inside c.if-is_quiet.ensures.0 c.if-is_quiet.ensures.1))
 
 pub add-requires-clause-granted_room : goal.add-requires-clause-granted_room
 add-requires-clause-granted_room c =
@@ -36,7 +32,7 @@ add-requires-clause-granted_room c =
 pub add-requires-clause-missed_room : goal.add-requires-clause-missed_room
 add-requires-clause-missed_room c =
     let all = counted c.args.round c.args.part.now c.requires.inside in
-    omega (arith, c.requires.missed_room, all.whole, rw c.channel_round-channel.ensures at c.missed_lines.ensures)
+    omega (arith, c.requires.missed_room, all.whole, c.missed_lines.ensures)
 
 pub returns-clause-granted : goal.returns-clause-granted
 returns-clause-granted c =
@@ -49,7 +45,7 @@ returns-clause-missed c =
     omega (
       arith,
       c.add.ensures.missed,
-      rw c.channel_round-channel.ensures at c.missed_lines.ensures,
+      c.missed_lines.ensures,
       all.all,
       c.in_ok-granted.ensures.granted,
     )
