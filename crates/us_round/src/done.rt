@@ -76,7 +76,11 @@ impl RoundDone {
     }
 
     /// Adds the records of the round: one for the MAP of each channel, in table order.
-    pub fn push_records(&self, text: &mut Vec<u8>, buffers: &mut TextBuffers) -> Result<(), NoMemory>
+    pub fn push_records(
+        &self,
+        text: &mut Vec<u8>,
+        buffers: &mut TextBuffers,
+    ) -> Result<(), NoMemory>
         ensures records { OnOk result
             (text.new.items ≡ text.old.items ++ records (out_of self.now.state.tables self.now.scheduled)) }
         ensures limits { OnOk result (AreWithinLimits self.now.state.tables self.now.scheduled) }

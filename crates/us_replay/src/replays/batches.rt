@@ -89,7 +89,11 @@ impl Batch {
     }
 
     /// Adds the lines at the end of the report. After want of memory nothing is said of what stands here.
-    pub(crate) fn push_last(&mut self, rows: &[Row], buffers: &mut TextBuffers) -> Result<(), NoMemory>
+    pub(crate) fn push_last(
+        &mut self,
+        rows: &[Row],
+        buffers: &mut TextBuffers,
+    ) -> Result<(), NoMemory>
         ensures texts { OnOk result (self.new ≡ record self.old { lines = self.old.lines ++ lines rows.now }) }
         ensures fields { OnOk result (AllByRecursion HasFields rows.now) }
     {
