@@ -50,6 +50,15 @@ pub(super) fn chosen_entries() -> [Plain; 10] {
     entries
 }
 
+/// The chosen entries, each due again 5,000 rounds later.
+pub(super) fn rare_entries() -> [Plain; 10] {
+    let mut entries = chosen_entries();
+    for entry in entries.iter_mut() {
+        entry.interval = 10_000_000;
+    }
+    entries
+}
+
 /// The next number below a limit, of a fixed row of numbers that look random.
 fn next(seed: &mut u64, below: u64) -> u64
     requires { 0 < below }
