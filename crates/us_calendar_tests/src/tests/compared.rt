@@ -1,5 +1,5 @@
 use super::base::{rounds_alike, rounds_settled, same};
-use super::entries::{chosen_entries, far_entries, random_entries};
+use super::entries::{chosen_entries, far_entries, random_entries, rare_entries};
 use std::alloc::Global;
 
 /// The rounds of a comparison, of 2,000 microseconds.
@@ -59,10 +59,10 @@ fn refused_memory(rt: HostRuntime) {
     }
 }
 
-/// The same where entries are due again in rounds that aren't near.
+/// The same where what is settled is due again in rounds that aren't near.
 #[test]
 fn refused_memory_far(rt: HostRuntime) {
-    if let Some(rounds) = rounds_alike(rt.alloc(), &mut far_entries(&mut 1), 0, 200) {
-        same(&rt, rounds, 200);
+    if let Some(rounds) = rounds_alike(rt.alloc(), &mut rare_entries(), 0, ROUNDS) {
+        same(&rt, rounds, ROUNDS);
     }
 }

@@ -1,4 +1,4 @@
-ghost use Rattle.std.specs.Prelude.{◌<◌};
+ghost use Rattle.std.specs.Prelude.{◌<◌, ◌≤◌};
 
 use super::plain::Plain;
 use us_calendar::Kind;
@@ -47,6 +47,15 @@ pub(super) fn chosen_entries() -> [Plain; 10] {
         unsettled(Kind::Station, 3, 500, (2_000, 700), 1, 4),
     ];
     number_words(&mut entries);
+    entries
+}
+
+/// The chosen entries, each due again 5,000 rounds later.
+pub(super) fn rare_entries() -> [Plain; 10] {
+    let mut entries = chosen_entries();
+    for entry in entries.iter_mut() {
+        entry.interval = 10_000_000;
+    }
     entries
 }
 
