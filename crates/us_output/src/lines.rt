@@ -187,7 +187,8 @@ fn put_four(out: &mut [u8], at: usize, first: u64, second: u64, third: u64, four
     put_two(out, at, third, fourth)
 }
 
-/// Puts a comma and a number in decimal. Most numbers of a line have up to three digits, and are put without a call.
+/// Puts a comma and a number in decimal. Most numbers of a line have up to three digits, and are put without a
+/// call.
 #[inline(always)]
 fn put_number(out: &mut [u8], at: usize, number: u64) -> usize
     requires { at + FIELD_BYTES ≤ length out.old }
@@ -202,8 +203,9 @@ fn put_number(out: &mut [u8], at: usize, number: u64) -> usize
     }
 }
 
-/// Puts a comma and a number of more than three digits. With up to six it is put three at a time.
-#[inline(always)]
+/// Puts a comma and a number of more than three digits. With up to six it is put three at a time. It is a call, since a line of
+/// ten such numbers would be too large to be inlined.
+#[inline(never)]
 fn put_long(out: &mut [u8], at: usize, number: u64) -> usize
     requires long { 1000 ≤ number }
     requires room { at + FIELD_BYTES ≤ length out.old }
