@@ -324,7 +324,13 @@ module _ (pace : Pace) (round : ℕ) (old_states : List EntryState) (old_board :
             known = set_known states place state_now g.known is_state;
           }
 
--- Before round 0 one more entry is noted.
+-- Before round 0 nothing is noted of no entries,
+pub none_noted : (pace : Pace) (agenda : Agenda) → agenda.round ≡ 0 → ((round : ℕ) → IsNone (is_noted agenda round)) →
+    IsAgenda pace 0 0 [] agenda
+none_noted pace agenda now none =
+    record { now = now; few = omega arith; noted = λ at p _. none at p ∙ sym (turn_none pace 0 0 [] at p refl) }
+
+-- and one more entry is noted.
 pushed_here : (states : List EntryState) (state : EntryState) → slice_get (states ++ state ∷ []) (length states) ≡ Some state
 pushed_here [] state = refl
 pushed_here (first ∷ states) state = pushed_here states state
