@@ -11,7 +11,7 @@ use Rattle.us_calendar.specs.Settling.{EntryState, SettledEntry, settle_state, a
 use Rattle.us_calendar.specs.Calendars.{Ran, run_entries}
 use Rattle.us_calendar.specs.declared.settled.Settled.{Settled}
 use Rattle.us_calendar.specs.Kept.{IsEntryState, IsQuiet}
-use Rattle.us_calendar.specs.Agendas.{Agenda, IsAgenda, IsChanged, IsFirst, IsNone, due_at, has_turn, is_noted, next_turn}
+use Rattle.us_calendar.specs.Agendas.{Agenda, IsAgenda, IsChanged, IsFirst, IsNone, NoneBefore, due_at, has_turn, is_noted, next_turn}
 use Rattle.us_calendar.proofs.EntryStateLemmas.{quiet_before}
 use Rattle.us_calendar.proofs.RunLemmas.{run_from, run_past, skip_to, run_step, the_some}
 
@@ -122,6 +122,17 @@ module _ (pace : Pace) (round : ℕ) (old_states : List EntryState) (old_board :
   quiet_at i state yet is none =
       quiet_before pace state round (known_at states i state g.known is) (later_at i state yet is none)
 
+  -- those that have had their turn aren't noted for the round any more
+  pub none_before : NoneBefore (is_noted agenda agenda.round) from
+  none_before p before =
+      ap (λ r. is_noted agenda r p) g.notes.now ∙ g.notes.noted round p (omega arith) ∙ elim (at_place states p) [
+        | inr none ↦ turn_none pace round from states round p none
+        | inl some ↦
+            let next = next_had pace round from p some.0 before in
+            turn_is pace round from states round p some.0 some.1 ∙
+            ne_eqb round (next_turn pace round from p some.0) (λ e. omega (arith, e, next))
+      ]
+
   -- Where nothing more is noted for the round, it is over:
   module _ (over : IsNone (is_noted agenda agenda.round)) where
     none : IsNone (is_noted agenda round)
@@ -144,6 +155,38 @@ module _ (pace : Pace) (round : ℕ) (old_states : List EntryState) (old_board :
 
     pub ends_told : told ≡ old_told ++ (run_entries pace round old_states old_board).settled
     ends_told = sym (append-nil told) ∙ sym (ap (λ ran. told ++ ran.settled) nothing_left) ∙ g.same_told
+
+    -- and from the next one on all are noted as before
+    next_same : (p : ℕ) (state : EntryState) → slice_get states p ≡ Some state →
+        next_turn pace round from p state ≡ next_turn pace (round + 1) 0 p state
+    next_same p state is =
+        let then = next_yet pace (round + 1) 0 p state (omega arith) in
+        elim (cases_lt p from) [
+          | inl had ↦ next_had pace round from p state had ∙ sym then
+          | inr waits ↦
+              let later = later_at p state waits is (none p) in
+              let next = next_yet pace round from p state waits in
+              omega (arith, next, then, later)
+        ]
+
+    turn_same : (at p : ℕ) → has_turn pace round from states at p ≡ has_turn pace (round + 1) 0 states at p
+    turn_same at p = elim (at_place states p) [
+      | inr none ↦
+          turn_none pace round from states at p none ∙ sym (turn_none pace (round + 1) 0 states at p none)
+      | inl some ↦
+          turn_is pace round from states at p some.0 some.1 ∙ ap (λ n. at == n) (next_same p some.0 some.1) ∙
+          sym (turn_is pace (round + 1) 0 states at p some.0 some.1)
+    ]
+
+    pub ends_agenda : (new : Agenda) → new.round ≡ agenda.round + 1 → length new.near ≡ length agenda.near →
+        ((at p : ℕ) → new.round ≤ at → is_noted new at p ≡ is_noted agenda at p) → IsAgenda pace (round + 1) 0 states new
+    ends_agenda new next room same =
+        let now = g.notes.now in
+        record {
+          now = omega (arith, next, now);
+          few = omega (arith, room, g.notes.few);
+          noted = λ at p low. same at p (omega (arith, low, next, now)) ∙ g.notes.noted at p (omega (arith, low)) ∙ turn_same at p;
+        }
 
   -- else the first that is noted has its turn:
   module _ (place : ℕ) (first : IsFirst (is_noted agenda agenda.round) place) where
@@ -281,7 +324,13 @@ module _ (pace : Pace) (round : ℕ) (old_states : List EntryState) (old_board :
             known = set_known states place state_now g.known is_state;
           }
 
--- Before round 0 one more entry is noted.
+-- Before round 0 nothing is noted of no entries,
+pub none_noted : (pace : Pace) (agenda : Agenda) → agenda.round ≡ 0 → ((round : ℕ) → IsNone (is_noted agenda round)) →
+    IsAgenda pace 0 0 [] agenda
+none_noted pace agenda now none =
+    record { now = now; few = omega arith; noted = λ at p _. none at p ∙ sym (turn_none pace 0 0 [] at p refl) }
+
+-- and one more entry is noted.
 pushed_here : (states : List EntryState) (state : EntryState) → slice_get (states ++ state ∷ []) (length states) ≡ Some state
 pushed_here [] state = refl
 pushed_here (first ∷ states) state = pushed_here states state

@@ -90,6 +90,15 @@ module _ (pace : Pace) (round begin minislot : ℕ) (e : Entry) (o : Occurrence)
       let parts = and_parts (nat_le from at) (nat_le at to) t in
       absurd (omega (arith, empty, leb-true from at parts.0, leb-true at to parts.1)))
 
+-- none where the window ends before the round begins
+pub window_past : (pace : Pace) (round begin : ℕ) (e : Entry) (o : Occurrence) (jitter : ℕ) → IsTimed e o →
+    begin ≡ start_of pace.time (round * pace.len) → jitter ≡ e.jitter → o.ideal + jitter < begin → (at : ℕ) →
+    starts_within pace.time e (number_of e o) (round * pace.len + at) ≡ false
+window_past pace round begin e o jitter is begins jitter_is past at =
+    let later = later_start pace.time (round * pace.len) (round * pace.len + at) (omega arith) in
+    none-within pace.time e (number_of e o) (round * pace.len + at)
+    (λ within. omega (arith, within.1, ideal_is e o is, later, begins, jitter_is, past))
+
 -- the answer
 
 abbrev pub IsWindow : Pace → ℕ → Entry → ℕ → ℕ → ℕ → Type 0

@@ -1,12 +1,24 @@
-use Rattle.std.proofs.Common.{◌≡◌, ◌+◌, ◌≤◌, [], ◌∷◌, length, map, true, sym, subst, ◌∙◌, arith}
+use Rattle.std.proofs.Common.{◌≡◌, ◌+◌, ◌≤◌, ◌++◌, [], ◌∷◌, length, map, true, ap, sym, subst, ◌∙◌, arith}
 use Rattle.std.proofs.lemmas.List.{length-append}
 use Rattle.std.specs.List.{AllByRecursion}
 use Rattle.us_flows.proofs.TurnLemmas.{all-append}
 use Rattle.us_calendar.specs.Settling.{opening_state}
 use Rattle.us_calendar.specs.Kept.{IsEntryState}
 use Rattle.us_calendar.specs.Agendas.{IsAgenda, IsChanged, is_noted}
-use Rattle.us_calendar.proofs.AgendaLemmas.{one_noted, states_more}
+use Rattle.us_calendar.proofs.AgendaLemmas.{none_noted, one_noted, states_more}
 use Rattle.us_calendar.proofs.turns.noted.Goals as goal
+
+pub loop-entry-init : goal.loop-entry-init
+loop-entry-init c =
+    let items = c.in_ok-states.ensures.items in
+    record {
+      states = ap (λ ss. ss ++ map opening_state c.args.entries.now) items;
+      count = ap length items;
+      room = c.in_ok-agenda.ensures.room;
+      known = subst (AllByRecursion IsEntryState) (sym items) tt;
+      agenda = subst (λ ss. IsAgenda c.args.span.now.pace 0 0 ss c.in_ok-agenda.agenda) (sym items)
+          (none_noted c.args.span.now.pace c.in_ok-agenda.agenda c.in_ok-agenda.ensures.round c.in_ok-agenda.ensures.none);
+    }
 
 pub loop-entry-preserved : goal.loop-entry-preserved
 loop-entry-preserved c =

@@ -1,4 +1,4 @@
-use Rattle.us_calendar.proofs.AgendaLemmas.{going-starts, ends_states, ends_board, ends_told}
+use Rattle.us_calendar.proofs.AgendaLemmas.{going-starts, ends_states, ends_board, ends_told, ends_agenda}
 use Rattle.us_calendar.proofs.turns.settle_due.Goals as goal
 
 pub returns-then-is_idle-clause-states : goal.returns-then-is_idle-clause-states
@@ -21,3 +21,11 @@ returns-then-is_idle-clause-settled c =
     c.args.board.now c.args.settled.now.items c.args.agenda.now
     (going-starts c.args.pace c.args.round c.args.states.now c.args.board.now c.args.settled.now.items c.args.agenda.now
     c.requires.agenda c.requires.known) c.if-is_idle.ensures
+
+pub returns-then-is_idle-clause-agenda : goal.returns-then-is_idle-clause-agenda
+returns-then-is_idle-clause-agenda c =
+    ends_agenda c.args.pace c.args.round c.args.states.now c.args.board.now c.args.settled.now.items 0 c.args.states.now
+    c.args.board.now c.args.settled.now.items c.args.agenda.now
+    (going-starts c.args.pace c.args.round c.args.states.now c.args.board.now c.args.settled.now.items c.args.agenda.now
+    c.requires.agenda c.requires.known) c.if-is_idle.ensures c.end_round.new.self c.end_round.ensures.round
+    c.end_round.ensures.room c.end_round.ensures.noted

@@ -1,9 +1,22 @@
 use Rattle.std.proofs.Common.{◌≡◌, ◌+◌, ◌∙◌, ◌++◌, length, take, drop, sym, ap, ap₂, subst, arith}
 use Rattle.std.specs.List.{AllByRecursion}
 use Rattle.us_calendar.specs.Calendars.{run_entries, StartsInside, granted_in, settled_in, Ran}
+use Rattle.us_calendar.specs.Kept.{IsEntryState}
 use Rattle.us_calendar.specs.Agendas.{IsAgenda}
 use Rattle.us_calendar.proofs.RunLaws.{run_kept, run_ended, settled_by, written}
 use Rattle.us_calendar.proofs.calendars.Calendar.settle_into.Goals as goal
+
+pub settle_due-requires-clause-known : goal.settle_due-requires-clause-known
+settle_due-requires-clause-known c =
+    subst (AllByRecursion IsEntryState) (sym c.deref_mut.ensures.value) c.self.invariant.states
+
+pub settle_due-requires-clause-agenda : goal.settle_due-requires-clause-agenda
+settle_due-requires-clause-agenda c =
+    let round_is : c.args.round ≡ c.self.inside.agenda.round =
+    c.requires.next ∙ sym (ap (λ v. v.next_round) c.self.view_is) in
+    subst (λ n. IsAgenda c.self.inside.pace n 0 c.deref_mut.result.now c.self.inside.agenda) (sym round_is)
+    (subst (λ ss. IsAgenda c.self.inside.pace c.self.inside.agenda.round 0 ss c.self.inside.agenda)
+    (sym c.deref_mut.ensures.value) c.self.invariant.notes)
 
 pub invariant_of-self : goal.invariant_of-self
 invariant_of-self c =
