@@ -52,6 +52,7 @@ import make_loads
 
 TOP = pathlib.Path(__file__).resolve().parent.parent
 GNU_TIME = "/usr/bin/time"
+CALLGRIND = ["valgrind", "--tool=callgrind", "--callgrind-out-file=/dev/null"]
 PLAIN = TOP / "bench/plain"
 # Instructions are counted of so many times fewer rounds and requests.
 COUNTED_PART = 20
@@ -99,9 +100,8 @@ class Replays:
 
     def instructions(self, rounds=None, trace=None):
         """Instructions of one replay with one worker."""
-        _printed, told = self.run(rounds, trace=trace,
-                                  before=["valgrind", "--tool=callgrind", "--callgrind-out-file=/dev/null"])
-        return int(re.search(r"Collected : (\d+)", told)[1])
+        _printed, told = self.run(rounds, trace=trace, before=CALLGRIND)
+        return collected(told)
 
     def sums(self, workers):
         """Sums of what is printed and written by so many workers. A run of no rounds makes no file."""
@@ -122,6 +122,11 @@ class Replays:
 
     def output_bytes(self):
         return sum(path.stat().st_size for path in self.outputs if path.exists())
+
+
+def collected(told):
+    """Instructions, as callgrind tells them on standard error."""
+    return int(re.search(r"Collected : (\d+)", told)[1])
 
 
 def row(*cells):

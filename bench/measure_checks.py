@@ -5,8 +5,11 @@
                                              what it wrote
   bench/measure_checks.py hostile [KIND..]   a check of the files of each kind of bench/make_hostile.py, and of the
                                              lawful ones beside them
+  bench/measure_checks.py instructions [LOAD..]
+                                             instructions of a check of what a replay of each load wrote, by valgrind's
+                                             callgrind
 
-  --part N          of `loads`: N times fewer rounds and requests
+  --part N          of `loads` and `instructions`: N times fewer rounds and requests (1, and 20 of `instructions`)
   --bytes N         of `hostile`: bytes of each maps file with its report (1,000,000)
   --runs N          runs of each measurement, of which the least and the most time is told (5)
   --program FILE    the program (crates/mapsim/out/mapsim)
@@ -30,17 +33,23 @@ import make_loads
 import measure
 
 
-def timed_check(program, files, rounds, wanted):
-    """Seconds by the clock, and the most memory in KB, or None, of a check of configuration, trace, maps and report."""
-    before = [measure.GNU_TIME, "-q", "-f", "%M KB"] if os.access(measure.GNU_TIME, os.X_OK) else []
+def check(before, program, files, rounds, wanted):
+    """A check of configuration, trace, maps and report, behind the words `before`. What it told on standard error."""
     options = [word for name, path in zip(("config", "trace", "maps", "report"), files) for word in (f"--{name}", path)]
-    start = time.perf_counter()
     done = subprocess.run([*before, program, "check", *options, "--rounds", str(rounds)], stdin=subprocess.DEVNULL,
                           capture_output=True, text=True)
-    seconds = time.perf_counter() - start
     if wanted not in (done.stdout + done.stderr).splitlines():
         raise measure.Stop(f"{files[0].stem}: wanted {wanted}, found {(done.stdout + done.stderr).strip()[-300:]}")
-    memory = re.search(r"^(\d+) KB$", done.stderr, re.MULTILINE)
+    return done.stderr
+
+
+def timed_check(program, files, rounds, wanted):
+    """Seconds by the clock, and the most memory in KB, or None, of a check."""
+    before = [measure.GNU_TIME, "-q", "-f", "%M KB"] if os.access(measure.GNU_TIME, os.X_OK) else []
+    start = time.perf_counter()
+    told = check(before, program, files, rounds, wanted)
+    seconds = time.perf_counter() - start
+    memory = re.search(r"^(\d+) KB$", told, re.MULTILINE)
     return seconds, int(memory[1]) if memory else None
 
 
@@ -74,18 +83,31 @@ def measure_hostile(words, given, folder):
         measure.row(name, cases[0].answer, *cells)
 
 
-TABLES = {"loads": measure_loads, "hostile": measure_hostile}
+def measure_instructions(words, given, folder):
+    measure.head("Load", "Rounds", "Bytes of output", "Millions of instructions of the check")
+    given.loads = given.names
+    for name in make_loads.chosen(words, given):
+        replays = measure.Replays(given.program, folder, name, given.part)
+        replays.run()
+        files = [folder / f"{name}.toml", folder / f"{name}.csv", *replays.outputs]
+        told = check(measure.CALLGRIND, given.program, files, replays.rounds, "holds")
+        measure.row(name, f"{replays.rounds:,}", f"{replays.output_bytes():,}", f"{measure.collected(told) / 1e6:.1f}")
+
+
+TABLES = {"loads": measure_loads, "hostile": measure_hostile, "instructions": measure_instructions}
 
 
 def main():
     words = argparse.ArgumentParser(description=__doc__, formatter_class=argparse.RawDescriptionHelpFormatter)
     words.add_argument("table", choices=TABLES)
     words.add_argument("names", nargs="*", metavar="NAME", help="of loads or kinds; by default six loads, or all kinds")
-    words.add_argument("--part", type=int, default=1, metavar="N")
+    words.add_argument("--part", type=int, metavar="N")
     words.add_argument("--bytes", type=int, default=1_000_000, metavar="N")
     words.add_argument("--runs", type=int, default=5, metavar="N")
     words.add_argument("--program", default=measure.TOP / "crates/mapsim/out/mapsim", metavar="FILE")
     given = words.parse_intermixed_args()
+    if given.part is None:
+        given.part = measure.COUNTED_PART if given.table == "instructions" else 1
     if given.runs < 1:
         words.error("--runs is 1 or more")
     with tempfile.TemporaryDirectory(prefix="measure-") as folder:

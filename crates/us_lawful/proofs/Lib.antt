@@ -29,5 +29,6 @@ pub mod FieldLaws
 pub mod LawfulLaws
 pub mod TraceTextLaws
 pub mod ReportReaderLemmas
+pub mod ReportPlaceLemmas
 pub mod ReportLineLemmas
 pub mod ReportLemmas

@@ -1,5 +1,5 @@
 -- Readers of a report: what each finds is spelled so, and what is spelled so it finds again.
-use Rattle.std.proofs.Common.{◌≡◌, ◌≢◌, ℕ, zero, suc, ◌+◌, ◌-◌, ◌/◌, ◌%◌, ◌^◌, ◌<◌, ◌≤◌, ◌==◌, ◌⊎◌, inl, inr, nat_lt, List, [], ◌∷◌, ◌++◌, Option, Some, None, option_map, IfSome, MatchOption, Bor, codes, Bool, true, false, refl, sym, ap, subst, ◌∙◌, arith, append_assoc}
+use Rattle.std.proofs.Common.{◌≡◌, ℕ, zero, suc, ◌+◌, ◌-◌, ◌/◌, ◌%◌, ◌^◌, ◌<◌, ◌≤◌, ◌==◌, ◌⊎◌, inl, inr, nat_lt, List, [], ◌∷◌, ◌++◌, Option, Some, None, IfSome, codes, Bool, true, false, refl, sym, ap, subst, ◌∙◌, arith, append_assoc}
 use Rattle.std.specs.Char.{is_ascii_digit}
 use Rattle.std.specs.Fmt.{decimal}
 use Rattle.std.specs.Option.{option_or}
@@ -49,24 +49,6 @@ after_found (w ∷ word) (b ∷ bytes) rest found =
       | inl same ↦ (let behind = rw (same.0) at found in cc (after_found word bytes rest behind, same.1))
       | inr other ↦ (let none = rw (other.0) at found in cc)
     ]
-
--- where no rest is behind a word, nothing is found
-after_none : (word bytes : List ℕ) → ((rest : List ℕ) → bytes ≢ word ++ rest) → None ≡ after word bytes
-unfolding after
-after_none [] bytes other = absurd (other bytes refl)
-after_none (w ∷ word) [] other = refl
-after_none (w ∷ word) (b ∷ bytes) other =
-    elim (eqb_tells b w) [
-      | inl same ↦ rw (same.0) (after_none word bytes (λ rest behind. other rest (cc (behind, same.1))))
-      | inr differs ↦ rw (differs.0) refl
-    ]
-
--- a slice without its prefix
-pub stripped : (word bytes : List ℕ) (r : Option (Bor (List ℕ))) →
-    MatchOption r ((rest : List ℕ) → bytes ≢ word ++ rest) (λ x. bytes ≡ word ++ x.now) →
-    option_map (λ x. x.now) r ≡ after word bytes
-stripped word bytes None other = after_none word bytes other
-stripped word bytes (Some x) behind = rw behind (sym (after_again word x.now))
 
 -- Numbers.
 

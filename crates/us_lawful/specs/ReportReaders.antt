@@ -1,6 +1,6 @@
 -- Readers of a report (ours): each answers what a text begins with and what stands behind it, and nothing where the text
 -- begins otherwise.
-use Rattle.std.specs.Prelude.{ℕ, ◌+◌, ◌-◌, ◌*◌, ◌^◌, ◌==◌, nat_lt, if◌then◌else◌, List, [], ◌∷◌, codes, Option, Some, None, option_and_then}
+use Rattle.std.specs.Prelude.{◌≡◌, ℕ, ◌+◌, ◌-◌, ◌*◌, ◌^◌, ◌≤◌, ◌==◌, nat_lt, if◌then◌else◌, List, [], ◌∷◌, slice_get, codes, Option, Some, None, option_and_then}
 use Rattle.std.specs.Char.{is_ascii_digit}
 use Rattle.std.specs.Option.{option_or}
 use Rattle.us_output.specs.declared.rows.EntryWord.{EntryWord}
@@ -14,6 +14,12 @@ use Rattle.us_output.specs.declared.rows.Row.TheVariants as rows
 use Rattle.us_output.specs.declared.rows.TraceCounts.{TraceCounts}
 use Rattle.us_output.specs.Lines.{word_text}
 use Rattle.us_lawful.specs.Runs.{is_requested}
+
+-- a line feed stands at a place of the bytes, or behind it
+pub record HasLineFeed (bytes : List ℕ) (from : ℕ) : Type 0 where
+  pub at : ℕ
+  pub behind : from ≤ at
+  pub stands : slice_get bytes at ≡ Some 10
 
 -- the second step, where the first found something
 infixl 10 ◌>>=◌

@@ -1,5 +1,5 @@
--- Reports (ours): which bytes are the lines of rows, and which line is the first that is none.
-use Rattle.std.specs.Prelude.{◌≡◌, ◌≢◌, ℕ, ◌+◌, ◌<◌, List, ◌++◌, length, codes, Result, Ok, Err}
+-- Reports (ours): which bytes are the lines of rows, which line stands at a place, and which line is the first that is none.
+use Rattle.std.specs.Prelude.{◌≡◌, ◌≢◌, ℕ, ◌+◌, ◌-◌, ◌<◌, ◌≤◌, List, ◌++◌, length, drop, slice_get, codes, Option, Some, None, Result, Ok, Err}
 use Rattle.std.specs.Fmt.{decimal}
 use Rattle.std.specs.Global.{Vec}
 use Rattle.std.specs.List.{AllByRecursion}
@@ -18,6 +18,22 @@ pub record IsReport (bytes : List ℕ) (all : List Row) : Type 0 where
 -- no line of a row stands in front
 abbrev pub BeginsNoLine : List ℕ → Type 0
 BeginsNoLine bytes = (row : Row) (more : List ℕ) → IsRow row → bytes ≢ text_of row ++ more
+
+-- this place is behind the last line feed, or 0 where there is none
+pub record IsLinesEnd (bytes : List ℕ) (end : ℕ) : Type 0 where
+  pub last : 0 < end → slice_get bytes (end - 1) ≡ Some 10
+  pub none : (at : ℕ) → end ≤ at → slice_get bytes at ≢ Some 10
+
+-- the line of this row stands at a place, and `next` is the place behind it
+pub record IsLineAt (bytes : List ℕ) (from : ℕ) (row : Row) (next : ℕ) : Type 0 where
+  pub is : IsRow row
+  pub spelled : drop from bytes ≡ text_of row ++ drop next bytes
+  pub behind : next ≡ from + length (text_of row)
+
+-- what is answered of a place: the line that stands there and the place behind it, or that no line does
+abbrev pub AnswersAt : List ℕ → ℕ → Option (Row × ℕ) → Type 0
+AnswersAt bytes from (Some found) = IsLineAt bytes from found.0 found.1
+AnswersAt bytes from None = BeginsNoLine (drop from bytes)
 
 -- the line of this number, counted from 1, is the first that is of no row: the lines before it are, and bytes stand behind
 -- them that begin with no line

@@ -1,7 +1,8 @@
 //! Lawful output: the rules by which the MAPs and the lines of a run are judged, whoever made them.
 //!
 //! A rule says at a place what has to hold there. No rule knows of plans, or of how places are chosen. What the rules are
-//! stands in `specs/`, in the order of its `Lib.antt`; `us_check` judges by them. `report_rows` reads a report back.
+//! stands in `specs/`, in the order of its `Lib.antt`; `us_check` judges by them. `report_rows` reads a report back, and
+//! `line_at` one line of it.
 //!
 //! ```
 //! let rows = report_rows(alloc, b"U,0,0,0\n")?; // one row: all requests of the trace were asks
@@ -32,4 +33,4 @@ pub use laws::{
 };
 pub use place::Place;
 pub use report_faults::ReportFault;
-pub use report_reading::report_rows;
+pub use report_reading::{line_at, lines_end, report_rows};

@@ -3,5 +3,6 @@
 mod base;
 mod memory;
 mod numbers;
+mod plain;
 mod reports;
 mod words;

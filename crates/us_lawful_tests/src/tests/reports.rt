@@ -1,7 +1,7 @@
 use super::base::{Case, FIRST, compare, count_of, same};
 use std::alloc::Global;
 use std::fmt;
-use us_lawful::{ReportFault, report_rows};
+use us_lawful::{ReportFault, line_at, lines_end, report_rows};
 use us_round::{EntryWord, FinalActivity, FinalState, Grant, Row, TraceCounts};
 
 /// The report of the stored run.
@@ -43,8 +43,25 @@ fn the_stored_report(rt: HostRuntime) {
     }
 }
 
+/// A line begins at its letter alone, and the next one behind its line feed.
+#[test]
+fn every_place(rt: HostRuntime) {
+    let end = lines_end(&STORED);
+    same(&rt, &end, &51, "the end");
+    for place in 0..60 {
+        let found = line_at(&STORED, end, place).map(|(_row, next)| next);
+        let wanted = match place {
+            0 => Some(33),
+            33 => Some(43),
+            43 => Some(51),
+            _ => None,
+        };
+        same(&rt, &(place, found), &(place, wanted), "a place");
+    }
+}
+
 /// The line of the stored report that has this place, or that a cut there leaves without its end.
-fn line_at(place: usize) -> u64 {
+fn line_of(place: usize) -> u64 {
     if place < 33 {
         1
     } else if place < 43 {
@@ -64,7 +81,7 @@ fn every_prefix(rt: HostRuntime) {
             33 => Ok(1),
             43 => Ok(2),
             51 => Ok(3),
-            _ => Err(ReportFault::Line(line_at(end))),
+            _ => Err(ReportFault::Line(line_of(end))),
         };
         same(&rt, &(end, found), &(end, wanted), "a prefix");
     }
@@ -84,7 +101,7 @@ fn every_byte(rt: HostRuntime) {
     for place in 0..51 {
         let alloc = rt.alloc();
         let found = [with_byte(alloc, place, 0), with_byte(alloc, place, 0xff)];
-        let wanted = [Err(ReportFault::Line(line_at(place))); 2];
+        let wanted = [Err(ReportFault::Line(line_of(place))); 2];
         same(&rt, &(place, found), &(place, wanted), "a byte");
     }
 }

@@ -1,9 +1,14 @@
-use Rattle.std.proofs.lemmas.Bool.Decides.{Decides-eqb}
-use Rattle.std.proofs.lemmas.Slice.Eq.{strip_prefix_is}
-use Rattle.us_lawful.proofs.ReportReaderLemmas.{stripped}
+use Rattle.std.proofs.Common.{◌≢◌, get_or, sym, ◌∙◌}
+use Rattle.us_lawful.proofs.ReportPlaceLemmas.{feed_behind, byte_other, word_step}
 use Rattle.us_lawful.proofs.report_fields.after.Goals as goal
 
-pub returns : goal.returns
-returns c =
-    stripped c.args.word.now c.args.bytes.now c.strip_prefix.result
-    (strip_prefix_is Decides-eqb c.args.bytes.now c.args.word.now c.strip_prefix.result c.strip_prefix.ensures.cases)
+pub loop-byte-preserved : goal.loop-byte-preserved
+loop-byte-preserved c =
+    let other : get_or c.args.word.now c.loop-byte.byte-index 0 ≢ 10 =
+    byte_other c.args.word.now c.loop-byte.byte-index c.requires.other c.loop-byte-test.true in
+    record {
+      feed = feed_behind c.args.bytes.now c.loop-byte.at c.loop-byte.invariant.feed
+          (λ same. other (sym c.if-bytes-at.false ∙ same));
+      left = sym (word_step c.args.word.now c.args.bytes.now c.loop-byte.byte-index c.loop-byte.at c.loop-byte.invariant.feed
+          c.loop-byte-test.true c.if-bytes-at.false) ∙ c.loop-byte.invariant.left;
+    }
