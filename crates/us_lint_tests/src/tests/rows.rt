@@ -1,4 +1,4 @@
-//! What no clause says: the lines of records.
+//! The lines of records.
 
 use std::alloc::Global;
 use us_slots::NoMemory;
