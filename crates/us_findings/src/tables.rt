@@ -1,4 +1,4 @@
-use crate::documents::{LISTS, TOP, items_of, title_of};
+use crate::documents::{LISTS, TOP, items_of, place_in, title_of};
 use crate::drafts::{Problem, Why};
 use crate::keys::Keys;
 use crate::lists::Drafts;
@@ -30,9 +30,9 @@ fn add_list<'d>(
     list: TableName,
     items: &'d [Value],
 ) -> Result<(), AllocError> {
-    for (index, item) in (0..u32::MAX).zip(items) {
+    for (index, item) in items.iter().enumerate() {
         if let Some(table) = item.as_table() {
-            add_table(drafts, Place { table: list, index }, table)?;
+            add_table(drafts, place_in(list, index), table)?;
         }
     }
     Ok(())
