@@ -70,13 +70,17 @@ fn drafts_of<'d>(
     alloc: Global,
     document: &'d Table,
     fault: ConfigFault,
-) -> Result<Drafts<'d>, AllocError> {
+) -> Result<Drafts<'d>, NoMemory> {
     let mut drafts = Drafts::new(alloc, fault);
     if let Some(draft) = explained(document, fault) {
-        drafts.push(draft)?;
+        drafts.push(draft);
     }
-    add_shapes(&mut drafts, document)?;
-    Ok(drafts)
+    add_shapes(&mut drafts, document);
+    if drafts.lacks_memory {
+        Err(NoMemory)
+    } else {
+        Ok(drafts)
+    }
 }
 
 /// Takes the first of these findings that is of this fault.
