@@ -80,9 +80,15 @@ fn put_found(
     config: &Config,
 ) -> Result<(), NoMemory> {
     put_lines(lines, &config_warnings(alloc, text, config, case.rounds)?)?;
+    let seen = seen_in(alloc, case, config)?;
+    put_rows(lines, &seen.warnings(alloc, text)?)
+}
+
+/// What is seen in the rows of a case.
+fn seen_in<'a>(alloc: Global, case: &Case, config: &'a Config) -> Result<SeenRows<'a>, NoMemory> {
     let mut seen = SeenRows::new(alloc, config, case.rounds);
     let _ = lint_trace(alloc, case.trace.as_bytes(), &mut seen)?;
-    put_rows(lines, &seen.warnings(alloc, text)?)
+    Ok(seen)
 }
 
 /// Puts what looks wrong in rows, and how many rounds take all of them in.
