@@ -53,7 +53,7 @@ enum Absence {
     Allowed,
 }
 
-const REPLAY: Subcommand = Subcommand {
+static REPLAY: Subcommand = Subcommand {
     name: "replay",
     about: "Replays a trace, and writes the MAPs and a report",
     usage: Some(
@@ -80,7 +80,7 @@ const REPLAY: Subcommand = Subcommand {
     ],
 };
 
-const CHECK: Subcommand = Subcommand {
+static CHECK: Subcommand = Subcommand {
     name: "check",
     about: "Checks a maps file and a report that any scheduler made",
     usage: Some(
@@ -104,7 +104,7 @@ const CHECK: Subcommand = Subcommand {
     ],
 };
 
-const LINT: Subcommand = Subcommand {
+static LINT: Subcommand = Subcommand {
     name: "lint",
     about: "Finds what is wrong in configuration, trace and report, by line",
     usage: Some(
@@ -136,14 +136,14 @@ const LINT: Subcommand = Subcommand {
     ],
 };
 
-const DUMP: Subcommand = Subcommand {
+static DUMP: Subcommand = Subcommand {
     name: "dump",
     about: "Prints a maps file, one line for each element of a MAP",
     usage: None,
     options: &[MAPS],
 };
 
-const PIPE: Subcommand = Subcommand {
+static PIPE: Subcommand = Subcommand {
     name: "pipe",
     about: "Replays standard input (the default): configuration, `%%`, trace",
     usage: None,
@@ -194,17 +194,32 @@ const WORKERS: CommandOption = CommandOption {
 
 /// The command line, for clap.
 pub fn command<'a>(alloc: Global, helps: &'a Helps) -> Result<Command<'a>, AllocError> {
+    let mut command = program(alloc, helps.program);
+    for (subcommand, help) in &subcommands(helps) {
+        command = command.subcommand(subcommand_of(alloc, subcommand, help)?)?;
+    }
+    Ok(command)
+}
+
+/// The program, without its subcommands.
+fn program<'a>(alloc: Global, after_help: &'a str) -> Command<'a> {
     Command::new(alloc, "mapsim")
         .version(VERSION)
         .override_usage("mapsim [COMMAND]")
         .about("Schedules a trace of upstream requests into DOCSIS MAPs, or checks a schedule")
-        .after_long_help(helps.program)
+        .after_long_help(after_help)
         .subcommand_required(true)
-        .subcommand(subcommand_of(alloc, &REPLAY, helps.replay.as_str())?)?
-        .subcommand(subcommand_of(alloc, &CHECK, helps.check.as_str())?)?
-        .subcommand(subcommand_of(alloc, &LINT, helps.lint.as_str())?)?
-        .subcommand(subcommand_of(alloc, &DUMP, helps.dump.as_str())?)?
-        .subcommand(subcommand_of(alloc, &PIPE, helps.pipe.as_str())?)
+}
+
+/// The subcommands in the order in which help lists them, each with what its help says after the options.
+fn subcommands(helps: &Helps) -> [(&'static Subcommand, &str); 5] {
+    [
+        (&REPLAY, helps.replay.as_str()),
+        (&CHECK, helps.check.as_str()),
+        (&LINT, helps.lint.as_str()),
+        (&DUMP, helps.dump.as_str()),
+        (&PIPE, helps.pipe.as_str()),
+    ]
 }
 
 /// A subcommand with its options, and with what `--help` says after them.

@@ -1,4 +1,4 @@
-ghost use Rattle.std.specs.Prelude.{◌≡◌, IfOk};
+ghost use Rattle.std.specs.Prelude.{◌≡◌, ◌<◌, IfOk, IfSome, length};
 ghost use Rattle.us_findings.specs.Errors.{IsConfigLint};
 ghost use Rattle.us_findings.specs.declared.findings.What.TheVariants as found;
 
@@ -70,13 +70,17 @@ fn drafts_of<'d>(
     alloc: Global,
     document: &'d Table,
     fault: ConfigFault,
-) -> Result<Drafts<'d>, AllocError> {
+) -> Result<Drafts<'d>, NoMemory> {
     let mut drafts = Drafts::new(alloc, fault);
     if let Some(draft) = explained(document, fault) {
-        drafts.push(draft)?;
+        drafts.push(draft);
     }
-    add_shapes(&mut drafts, document)?;
-    Ok(drafts)
+    add_shapes(&mut drafts, document);
+    if drafts.lacks_memory {
+        Err(NoMemory)
+    } else {
+        Ok(drafts)
+    }
 }
 
 /// Takes the first of these findings that is of this fault.
@@ -85,7 +89,7 @@ fn take_first(
     findings: &mut Vec<Finding>,
     fault: ConfigFault,
 ) -> Result<Finding, AllocError> {
-    match findings.iter().position(|finding| finding.is_of(fault)) {
+    match place_of(findings, fault) {
         Some(place) => Ok(findings.remove(place)),
         // Nobody comes here: each fault of a document has a finding.
         None => Ok(Finding {
@@ -96,4 +100,16 @@ fn take_first(
             text: String::from_str(alloc, fault.sentence())?,
         }),
     }
+}
+
+/// The place of the first of these findings that is of this fault.
+fn place_of(findings: &[Finding], fault: ConfigFault) -> Option<usize>
+    ensures { IfSome result (λ place. place < length findings.now) }
+{
+    for (place, finding) in findings.iter().enumerate() {
+        if finding.is_of(fault) {
+            return Some(place);
+        }
+    }
+    None
 }

@@ -36,6 +36,20 @@ pub(crate) fn items_of(document: &Table, list: TableName) -> &[Value] {
     values_at(document, key_of(list))
 }
 
+/// The place of an item of a list.
+pub(crate) fn place_in(list: TableName, index: usize) -> Place {
+    Place {
+        table: list,
+        index: u32::try_from(index).unwrap_or(u32::MAX),
+    }
+}
+
+/// The items of a list that stand before a place of it.
+pub(crate) fn items_before(document: &Table, place: Place) -> &[Value] {
+    let items = items_of(document, place.table);
+    items.get(..place.index as usize).unwrap_or(items)
+}
+
 /// The table at a place.
 pub(crate) fn table_at(document: &Table, place: Place) -> Option<&Table> {
     match place.table {

@@ -86,12 +86,12 @@ fn behind(text: &[u8], count: usize) -> &[u8] {
 
 /// How many letters both have at their start.
 fn same_start(one: &[u8], other: &[u8]) -> usize {
-    for (place, (a, b)) in one.iter().zip(other).enumerate() {
-        if *a != *b {
+    for (place, letter) in one.iter().enumerate() {
+        if other.get(place) != Some(letter) {
             return place;
         }
     }
-    one.len().min(other.len())
+    one.len()
 }
 
 /// Whether the first two letters are swapped, and all others the same.

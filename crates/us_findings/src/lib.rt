@@ -66,5 +66,6 @@ mod config_errors;
 
 pub use config_errors::lint_config;
 pub use findings::{Finding, Findings, Source, What};
+pub use sentences::Sentence;
 pub use shown::Shown;
 pub use texts::too_long_config;

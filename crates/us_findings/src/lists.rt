@@ -1,6 +1,6 @@
 use crate::drafts::{Draft, Problem};
 use crate::titles::Title;
-use std::alloc::{AllocError, Global};
+use std::alloc::Global;
 use us_flows::ConfigFault;
 
 /// The most findings of a configuration that are told, and not counted alone.
@@ -12,6 +12,8 @@ pub(crate) struct Drafts<'a> {
     /// The fault that the program answers. A place is kept for the first finding of it.
     fault: ConfigFault,
     has_first: bool,
+    /// Whether memory was wanting for one of them. It is told at the end, so that each that adds one has but one way out.
+    pub(crate) lacks_memory: bool,
     pub(crate) kept: Vec<Draft<'a>>,
     /// How many there are beside those that are kept.
     pub(crate) more: usize,
@@ -23,13 +25,14 @@ impl<'a> Drafts<'a> {
         Drafts {
             fault,
             has_first: false,
+            lacks_memory: false,
             kept: Vec::new(alloc),
             more: 0,
         }
     }
 
     /// Adds what is wrong with a table. The fault is C2 of a missing key, and else C3.
-    pub(crate) fn add(&mut self, title: Title, problem: Problem<'a>) -> Result<(), AllocError> {
+    pub(crate) fn add(&mut self, title: Title, problem: Problem<'a>) {
         let fault = match problem {
             Problem::Missing(..) => ConfigFault::Missing(title.place),
             _ => ConfigFault::Range(title.place),
@@ -38,11 +41,11 @@ impl<'a> Drafts<'a> {
             fault,
             title,
             problem,
-        })
+        });
     }
 
     /// Adds a finding.
-    pub(crate) fn push(&mut self, draft: Draft<'a>) -> Result<(), AllocError> {
+    pub(crate) fn push(&mut self, draft: Draft<'a>) {
         let is_first = !self.has_first && draft.fault == self.fault;
         let free = if self.has_first {
             MAX_TOLD
@@ -51,10 +54,9 @@ impl<'a> Drafts<'a> {
         };
         if is_first || self.kept.len() < free {
             self.has_first = self.has_first || is_first;
-            self.kept.push(draft)?;
+            self.lacks_memory = self.kept.push(draft).is_err() || self.lacks_memory;
         } else {
             self.more = self.more.saturating_add(1);
         }
-        Ok(())
     }
 }

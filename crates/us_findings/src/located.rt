@@ -7,66 +7,57 @@ use std::alloc::{AllocError, Global};
 use us_config_lines::{KeyPath, Spot, line_and_column, spots_of};
 use us_slots::NoMemory;
 
-/// Findings of a configuration, by their lines. All are looked for in one walk over the text. One of them at most names a
-/// key of another table.
+/// Findings of a configuration, by their lines. All are looked for in one walk over the text. The first of them alone may
+/// name a key of another table.
 pub(crate) fn located(
     alloc: Global,
     text: &[u8],
     drafts: &[Draft<'_>],
 ) -> Result<Vec<Finding>, NoMemory> {
-    let spots = spots_in(alloc, text, drafts)?;
-    let placed = placed_at(alloc, drafts, &spots)?;
-    let other = spots.get(drafts.len()).copied();
-    Ok(findings_at(alloc, text, &placed, other)?)
-}
-
-/// Where these stand, and then the key of another table that one of them names.
-fn spots_in(alloc: Global, text: &[u8], drafts: &[Draft<'_>]) -> Result<Vec<Spot>, NoMemory> {
-    let document = str::from_utf8(text).unwrap_or("");
     let paths = paths_of(alloc, drafts)?;
-    spots_of(alloc, document, &paths)
+    let spots = spots_of(alloc, str::from_utf8(text).unwrap_or(""), &paths)?;
+    Ok(findings_at(alloc, text, drafts, &spots)?)
 }
 
 /// Where to look for these, and for the key of another table.
 fn paths_of<'a>(alloc: Global, drafts: &[Draft<'a>]) -> Result<Vec<KeyPath<'a>>, AllocError> {
     let mut paths = Vec::new(alloc);
-    let mut other = None;
     for draft in drafts {
         paths.push(draft.path())?;
-        other = draft.other().or(other);
     }
-    if let Some(path) = other {
-        paths.push(path)?;
+    if let Some(first) = drafts.first() {
+        if let Some(path) = first.other() {
+            paths.push(path)?;
+        }
     }
     Ok(paths)
 }
 
-/// These in the order of their places. Those at one place stay in their order.
-fn placed_at<'a>(
-    alloc: Global,
-    drafts: &[Draft<'a>],
-    spots: &[Spot],
-) -> Result<Vec<(Spot, Draft<'a>)>, AllocError> {
-    let mut placed = Vec::new(alloc);
-    for (draft, spot) in drafts.iter().zip(spots) {
-        placed.push((*spot, *draft))?;
-    }
-    placed.sort_by_key(|(spot, _)| spot.at)?;
-    Ok(placed)
-}
-
-/// Findings at these places, in their order.
+/// Findings at these places, in their order. Those at one place stay in their order.
 fn findings_at(
     alloc: Global,
     text: &[u8],
-    placed: &[(Spot, Draft<'_>)],
-    other: Option<Spot>,
+    drafts: &[Draft<'_>],
+    spots: &[Spot],
 ) -> Result<Vec<Finding>, AllocError> {
+    let other = spots.get(drafts.len()).copied();
     let mut findings = Vec::new(alloc);
-    for (spot, draft) in placed {
-        findings.push(finding_at(alloc, text, *spot, draft, other)?)?;
+    for (_, place) in &order_of(alloc, spots)? {
+        if let (Some(draft), Some(spot)) = (drafts.get(*place), spots.get(*place)) {
+            findings.push(finding_at(alloc, text, *spot, draft, other)?)?;
+        }
     }
     Ok(findings)
+}
+
+/// Where these spots are, with the place of each among them, in the order of the text.
+fn order_of(alloc: Global, spots: &[Spot]) -> Result<Vec<(usize, usize)>, AllocError> {
+    let mut order = Vec::new(alloc);
+    for (place, spot) in spots.iter().enumerate() {
+        order.push((spot.at, place))?;
+    }
+    order.sort_unstable();
+    Ok(order)
 }
 
 /// A finding at a place.

@@ -1,4 +1,6 @@
-use crate::documents::{items_of, number_at, number_of, values_at, values_of};
+use crate::documents::{
+    items_before, items_of, number_at, number_of, place_in, values_at, values_of,
+};
 use crate::drafts::Why;
 use crate::rules::Case;
 use crate::sentences::Sentence;
@@ -32,15 +34,16 @@ fn unknown_id(case: &Case<'_>) -> Option<u64> {
 
 /// The channel with an id.
 pub(crate) fn channel_with(document: &Table, id: u64) -> Option<(Place, &Table)> {
-    table_with(document, TableName::Channel, u32::MAX, id)
+    let list = TableName::Channel;
+    table_with(items_of(document, list), list, id)
 }
 
-/// The first table of a list, before an index, that has this id.
-fn table_with(document: &Table, list: TableName, before: u32, id: u64) -> Option<(Place, &Table)> {
-    for (index, item) in (0..before).zip(items_of(document, list)) {
+/// The first table of a list that has this id.
+fn table_with(items: &[Value], list: TableName, id: u64) -> Option<(Place, &Table)> {
+    for (index, item) in items.iter().enumerate() {
         if let Some(table) = item.as_table() {
             if number_at(table, "id") == id {
-                return Some((Place { table: list, index }, table));
+                return Some((place_in(list, index), table));
             }
         }
     }
@@ -49,11 +52,11 @@ fn table_with(document: &Table, list: TableName, before: u32, id: u64) -> Option
 
 /// An earlier table of the list has the id, or the flow has a channel twice.
 pub(crate) fn duplicate_id<'d>(case: &Case<'d>) -> Why<'d> {
-    let (place, id) = (case.place, case.number("id"));
-    match table_with(case.document, place.table, place.index, id) {
+    let (list, id) = (case.place.table, case.number("id"));
+    match table_with(items_before(case.document, case.place), list, id) {
         Some((earlier, _)) => Why {
             key: "id",
-            sentence: Sentence(has_id(place.table), [u64::from(earlier.index), id, 0, 0]),
+            sentence: Sentence(has_id(list), [u64::from(earlier.index), id, 0, 0]),
             other: Some(path_in(earlier, Some("id"))),
         },
         None => Why {
@@ -115,10 +118,10 @@ pub(crate) fn cluster_length<'d>(case: &Case<'d>) -> Why<'d> {
 
 /// The first cluster that has not so many SIDs, counted from 1, and how many it has.
 fn other_length(flow: &Table, wanted: u64) -> (u64, u64) {
-    for (place, cluster) in (1..u64::MAX).zip(values_at(flow, "clusters")) {
+    for (place, cluster) in values_at(flow, "clusters").iter().enumerate() {
         let count = values_of(cluster).len() as u64;
         if count != wanted {
-            return (place, count);
+            return (place.saturating_add(1) as u64, count);
         }
     }
     (0, 0)
@@ -126,19 +129,16 @@ fn other_length(flow: &Table, wanted: u64) -> (u64, u64) {
 
 /// Another cluster has a SID on the same channel.
 pub(crate) fn duplicate_sid<'d>(case: &Case<'d>) -> Why<'d> {
-    let flows = items_of(case.document, TableName::Flow);
-    for (index, item) in (0..case.place.index).zip(flows) {
-        if let Some(earlier) = item.as_table() {
-            if let Some((channel, sid)) = shared_sid(case.table, earlier, 1) {
-                let place = Place {
-                    table: TableName::Flow,
-                    index,
-                };
+    let earlier = items_before(case.document, case.place);
+    for (index, item) in earlier.iter().enumerate() {
+        if let Some(flow) = item.as_table() {
+            if let Some((channel, sid)) = shared_sid(case.table, flow, 1) {
+                let place = place_in(TableName::Flow, index);
                 return Why {
                     key: "clusters",
                     sentence: Sentence(
                         "flow # has SID # on channel # too",
-                        [u64::from(index), sid, channel, 0],
+                        [u64::from(place.index), sid, channel, 0],
                     ),
                     other: Some(path_in(place, Some("clusters"))),
                 };
@@ -161,47 +161,43 @@ fn twice<'d>(case: &Case<'d>) -> Why<'d> {
     }
 }
 
-/// The first SID of a flow that another has in so many clusters on the same channel, behind that channel's id.
+/// The first SID of a flow that another has so many times on the same channel, behind that channel's id.
 fn shared_sid(flow: &Table, other: &Table, many: usize) -> Option<(u64, u64)> {
-    let channels = values_at(flow, "channels");
-    for cluster in values_at(flow, "clusters") {
-        let shared = shared_in(channels, values_of(cluster), other, many);
-        if shared.is_some() {
-            return shared;
+    for place in 0..sids_of(flow) {
+        if let Some(sid) = sid_at(flow, place) {
+            if times(other, sid) >= many {
+                return Some(sid);
+            }
         }
     }
     None
 }
 
-/// The same of one cluster.
-fn shared_in(channels: &[Value], sids: &[Value], other: &Table, many: usize) -> Option<(u64, u64)> {
-    for (channel, sid) in channels.iter().zip(sids) {
-        let (channel, sid) = (number_of(channel), number_of(sid));
-        if times(other, channel, sid) >= many {
-            return Some((channel, sid));
-        }
-    }
-    None
-}
-
-/// In how many of its clusters a flow has a SID on a channel.
-fn times(flow: &Table, channel: u64, sid: u64) -> usize {
-    let channels = values_at(flow, "channels");
+/// How many times a flow has a SID on a channel.
+fn times(flow: &Table, sid: (u64, u64)) -> usize {
     let mut times = 0usize;
-    for cluster in values_at(flow, "clusters") {
-        if has_sid(channels, values_of(cluster), channel, sid) {
+    for place in 0..sids_of(flow) {
+        if sid_at(flow, place) == Some(sid) {
             times = times.saturating_add(1);
         }
     }
     times
 }
 
-/// Whether a cluster on these channels has a SID on one of them.
-fn has_sid(channels: &[Value], sids: &[Value], channel: u64, sid: u64) -> bool {
-    for (other, own) in channels.iter().zip(sids) {
-        if number_of(other) == channel && number_of(own) == sid {
-            return true;
-        }
-    }
-    false
+/// How many SIDs a flow has, with one for each channel in each cluster.
+fn sids_of(flow: &Table) -> usize {
+    let clusters = values_at(flow, "clusters").len();
+    clusters.saturating_mul(values_at(flow, "channels").len())
+}
+
+/// The SID at a place among them, cluster by cluster, behind the id of its channel. None where the cluster lacks it.
+fn sid_at(flow: &Table, place: usize) -> Option<(u64, u64)> {
+    let channels = values_at(flow, "channels");
+    let width = channels.len().max(1);
+    let cluster = values_at(flow, "clusters").get(place / width)?;
+    let (channel, sid) = (
+        channels.get(place % width)?,
+        values_of(cluster).get(place % width)?,
+    );
+    Some((number_of(channel), number_of(sid)))
 }

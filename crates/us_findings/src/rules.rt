@@ -41,10 +41,12 @@ impl<'d> Case<'d> {
             ConfigFault::ClusterLength(_) => Some(cluster_length(self)),
             ConfigFault::RoundNotMultiple(_) => Some(self.round_not_multiple()),
             ConfigFault::ReservesTooLong(_) => Some(self.reserves_too_long()),
-            ConfigFault::Jitter(_) => Some(self.jitter()),
+            ConfigFault::Jitter(_) => {
+                Some(self.beside("jitter_us", "# is not below interval_us, #", "interval_us"))
+            }
             ConfigFault::GrantLongerThanMap(_) => Some(long_grant(self)),
             ConfigFault::Headers(_) => Some(self.headers()),
-            ConfigFault::MinRate(_) => Some(self.min_rate()),
+            ConfigFault::MinRate(_) => Some(self.beside("min_rate", "# is above rate, #", "rate")),
             ConfigFault::Text
             | ConfigFault::Missing(_)
             | ConfigFault::Range(_)
@@ -85,16 +87,6 @@ impl<'d> Case<'d> {
         }
     }
 
-    /// The jitter isn't below the interval.
-    fn jitter(&self) -> Why<'d> {
-        let (jitter, interval) = (self.number("jitter_us"), self.number("interval_us"));
-        Why {
-            key: "jitter_us",
-            sentence: Sentence("# is not below interval_us, #", [jitter, interval, 0, 0]),
-            other: None,
-        }
-    }
-
     /// Segment headers are off, on several channels.
     fn headers(&self) -> Why<'d> {
         let channels = values_at(self.table, "channels").len();
@@ -108,12 +100,11 @@ impl<'d> Case<'d> {
         }
     }
 
-    /// The minimum rate is above the maximum rate.
-    fn min_rate(&self) -> Why<'d> {
-        let (least, most) = (self.number("min_rate"), self.number("rate"));
+    /// The number of a key has to do with that of another one, by these words.
+    fn beside(&self, key: &'static str, words: &'static str, other: &str) -> Why<'d> {
         Why {
-            key: "min_rate",
-            sentence: Sentence("# is above rate, #", [least, most, 0, 0]),
+            key,
+            sentence: Sentence(words, [self.number(key), self.number(other), 0, 0]),
             other: None,
         }
     }

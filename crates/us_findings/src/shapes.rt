@@ -3,7 +3,6 @@ use crate::drafts::Problem;
 use crate::keys::Keys;
 use crate::lists::Drafts;
 use crate::titles::Title;
-use std::alloc::AllocError;
 use toml::Table;
 use us_flows::{is_optional, keeps};
 
@@ -17,31 +16,29 @@ pub(crate) struct Shape<'d> {
 
 impl<'d> Shape<'d> {
     /// Adds what is wrong with the keys and the values of this table.
-    pub(crate) fn add_to(&self, drafts: &mut Drafts<'d>) -> Result<(), AllocError> {
-        self.add_missing(drafts)?;
+    pub(crate) fn add_to(&self, drafts: &mut Drafts<'d>) {
+        self.add_missing(drafts);
         for (key, value) in self.table {
             match self.keys.rule_of(key) {
                 Some(rule) => {
                     if !keeps(rule, value) {
-                        drafts.add(self.title, Problem::Value(key, rule, value))?;
+                        drafts.add(self.title, Problem::Value(key, rule, value));
                     }
                 }
-                None => drafts.add(self.title, Problem::Unknown(key, self.keys, self.table))?,
+                None => drafts.add(self.title, Problem::Unknown(key, self.keys, self.table)),
             }
         }
-        Ok(())
     }
 
     /// Adds the keys that the table has to have, and lacks.
-    fn add_missing(&self, drafts: &mut Drafts<'d>) -> Result<(), AllocError> {
+    fn add_missing(&self, drafts: &mut Drafts<'d>) {
         for place in 0..self.keys.places() {
             if let Some((key, rule)) = self.keys.at(place) {
                 if !is_optional(rule) && self.table.get(key).is_none() {
-                    drafts.add(self.title, Problem::Missing(key, rule))?;
+                    drafts.add(self.title, Problem::Missing(key, rule));
                 }
             }
         }
-        Ok(())
     }
 
     /// The number of a key that keeps its rule; none where it doesn't, or is missing.

@@ -1,11 +1,10 @@
-use crate::documents::{LISTS, TOP, items_of, title_of};
+use crate::documents::{LISTS, TOP, items_of, place_in, title_of};
 use crate::drafts::{Problem, Why};
 use crate::keys::Keys;
 use crate::lists::Drafts;
 use crate::sentences::Sentence;
 use crate::shapes::Shape;
 use crate::titles::Title;
-use std::alloc::AllocError;
 use toml::{Table, Value};
 use us_flows::{
     Key, MAX_CODEWORD, Place, Rule, TableName, channel_keys, keeps, kind_at, profile_keys,
@@ -13,39 +12,26 @@ use us_flows::{
 };
 
 /// Adds what is wrong with the shapes of all tables of a document. An item that is no table is told of with its list.
-pub(crate) fn add_shapes<'d>(
-    drafts: &mut Drafts<'d>,
-    document: &'d Table,
-) -> Result<(), AllocError> {
-    listed(document, TOP, top_keys()).add_to(drafts)?;
+pub(crate) fn add_shapes<'d>(drafts: &mut Drafts<'d>, document: &'d Table) {
+    listed(document, TOP, top_keys()).add_to(drafts);
     for list in LISTS {
-        add_list(drafts, list, items_of(document, list))?;
+        add_list(drafts, list, items_of(document, list));
     }
-    Ok(())
 }
 
 /// Those of the tables of a list.
-fn add_list<'d>(
-    drafts: &mut Drafts<'d>,
-    list: TableName,
-    items: &'d [Value],
-) -> Result<(), AllocError> {
-    for (index, item) in (0..u32::MAX).zip(items) {
+fn add_list<'d>(drafts: &mut Drafts<'d>, list: TableName, items: &'d [Value]) {
+    for (index, item) in items.iter().enumerate() {
         if let Some(table) = item.as_table() {
-            add_table(drafts, Place { table: list, index }, table)?;
+            add_table(drafts, place_in(list, index), table);
         }
     }
-    Ok(())
 }
 
 /// Those of a channel, a flow or a station.
-fn add_table<'d>(
-    drafts: &mut Drafts<'d>,
-    place: Place,
-    table: &'d Table,
-) -> Result<(), AllocError> {
+fn add_table<'d>(drafts: &mut Drafts<'d>, place: Place, table: &'d Table) {
     match place.table {
-        TableName::Top => Ok(()),
+        TableName::Top => {}
         TableName::Channel => add_channel(drafts, place, table),
         TableName::Flow => add_flow(drafts, place, table),
         TableName::Station => listed(table, place, station_keys()).add_to(drafts),
@@ -62,29 +48,26 @@ fn listed<'d>(table: &'d Table, place: Place, keys: &'static [Key]) -> Shape<'d>
 }
 
 /// Those of a flow. Where its type is wrong or missing, that is all: the type says which keys it may have.
-fn add_flow<'d>(drafts: &mut Drafts<'d>, place: Place, table: &'d Table) -> Result<(), AllocError> {
+fn add_flow<'d>(drafts: &mut Drafts<'d>, place: Place, table: &'d Table) {
     let title = title_of(table, place);
-    let Some(kind) = table.get("type") else {
-        return drafts.add(title, Problem::Missing("type", Rule::Type));
-    };
-    if !keeps(Rule::Type, kind) {
-        return drafts.add(title, Problem::Value("type", Rule::Type, kind));
+    match table.get("type") {
+        None => drafts.add(title, Problem::Missing("type", Rule::Type)),
+        Some(kind) if !keeps(Rule::Type, kind) => {
+            drafts.add(title, Problem::Value("type", Rule::Type, kind));
+        }
+        Some(_) => {
+            let keys = Keys::OfFlows(kind_at(table));
+            Shape { keys, table, title }.add_to(drafts);
+        }
     }
-    let keys = Keys::OfFlows(kind_at(table));
-    let shape = Shape { keys, table, title };
-    shape.add_to(drafts)
 }
 
 /// Those of a channel and of its profiles. A profile that is no table breaks the rule of its key, and that is all.
-fn add_channel<'d>(
-    drafts: &mut Drafts<'d>,
-    place: Place,
-    channel: &'d Table,
-) -> Result<(), AllocError> {
-    listed(channel, place, channel_keys()).add_to(drafts)?;
-    add_profile(drafts, place, channel, "long", profile_keys())?;
-    add_profile(drafts, place, channel, "short", short_keys())?;
-    add_profile(drafts, place, channel, "unsolicited", profile_keys())
+fn add_channel<'d>(drafts: &mut Drafts<'d>, place: Place, channel: &'d Table) {
+    listed(channel, place, channel_keys()).add_to(drafts);
+    add_profile(drafts, place, channel, "long", profile_keys());
+    add_profile(drafts, place, channel, "short", short_keys());
+    add_profile(drafts, place, channel, "unsolicited", profile_keys());
 }
 
 /// Those of one profile.
@@ -94,9 +77,9 @@ fn add_profile<'d>(
     channel: &'d Table,
     key: &'static str,
     keys: &'static [Key],
-) -> Result<(), AllocError> {
+) {
     let Some(Value::Table(table)) = channel.get(key) else {
-        return Ok(());
+        return;
     };
     let title = Title {
         profile: Some(key),
@@ -104,10 +87,9 @@ fn add_profile<'d>(
     };
     let keys = Keys::Listed(keys);
     let shape = Shape { keys, table, title };
-    shape.add_to(drafts)?;
-    match long_codeword(&shape) {
-        Some(why) => drafts.add(title, Problem::Several(why)),
-        None => Ok(()),
+    shape.add_to(drafts);
+    if let Some(why) = long_codeword(&shape) {
+        drafts.add(title, Problem::Several(why));
     }
 }
 

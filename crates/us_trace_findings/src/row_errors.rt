@@ -2,7 +2,7 @@ use crate::rows::Rows;
 use csv::ByteRecord;
 use std::alloc::{AllocError, Global};
 use std::fmt;
-use us_findings::Shown;
+use us_findings::{Sentence, Shown};
 use us_requests::{
     MAX_CHANNEL, MAX_DIGITS, MAX_KIND, MAX_RECORDS, MAX_SID, MAX_TICK, MAX_UNITS, TraceFault,
     number_in,
@@ -71,9 +71,11 @@ fn fields_error(alloc: Global, rows: &Rows<'_>, columns: usize) -> Result<String
 
 /// A field is no number in its range; or all are, and the record is a mark and has units.
 fn number_error(alloc: Global, fields: &ByteRecord) -> Result<String, AllocError> {
-    for (column, field) in COLUMNS.iter().zip(fields.iter()) {
-        if number_in(field, column.greatest).is_none() {
-            return column_error(alloc, column, field);
+    for (place, column) in COLUMNS.iter().enumerate() {
+        if let Some(field) = fields.get(place) {
+            if number_in(field, column.greatest).is_none() {
+                return column_error(alloc, column, field);
+            }
         }
     }
     mark_error(alloc, fields)
@@ -82,7 +84,7 @@ fn number_error(alloc: Global, fields: &ByteRecord) -> Result<String, AllocError
 /// A field is no number of its column.
 fn column_error(alloc: Global, column: &Column, field: &[u8]) -> Result<String, AllocError> {
     let Column { name, greatest } = *column;
-    let (form, found) = (Form::broken_by(field), Quoted(field));
+    let (form, found) = (form_wanted(field), Quoted(field));
     format!(in alloc;
         "{name}: a whole number from 0 to {greatest}{form} is wanted, {found} is there"
     )
@@ -97,38 +99,25 @@ fn mark_error(alloc: Global, fields: &ByteRecord) -> Result<String, AllocError> 
     )
 }
 
-/// What is wanted of a number's digits, where its field lacks it.
-#[derive(Clone, Copy)]
-enum Form {
-    /// No more than a number that is small enough.
-    Any,
-    /// Digits alone.
-    Digits,
-    /// Few enough of them.
-    FewDigits,
-}
-
-impl Form {
-    /// What a field lacks that is no number in its range.
-    fn broken_by(field: &[u8]) -> Form {
-        if field.iter().any(|byte| !byte.is_ascii_digit()) {
-            Form::Digits
-        } else if field.len() > MAX_DIGITS {
-            Form::FewDigits
-        } else {
-            Form::Any
-        }
+/// What is wanted of a number's digits, where a field lacks it that is no number in its range.
+fn form_wanted(field: &[u8]) -> Sentence {
+    if !are_digits(field) {
+        Sentence::plain(", of digits alone,")
+    } else if field.len() > MAX_DIGITS {
+        Sentence::of(", of at most # digits,", MAX_DIGITS as u64)
+    } else {
+        Sentence::plain("")
     }
 }
 
-impl fmt::Display for Form {
-    fn fmt<W: fmt::Write>(&self, f: &mut fmt::Formatter<W>) -> fmt::Result {
-        match *self {
-            Form::Any => Ok(()),
-            Form::Digits => f.write_str(", of digits alone,"),
-            Form::FewDigits => write!(f, ", of at most {MAX_DIGITS} digits,"),
+/// Whether all bytes are digits.
+fn are_digits(field: &[u8]) -> bool {
+    for byte in field {
+        if !byte.is_ascii_digit() {
+            return false;
         }
     }
+    true
 }
 
 /// What stands in the input, in quotes; or that nothing does.
@@ -137,10 +126,10 @@ struct Quoted<'a>(&'a [u8]);
 
 impl fmt::Display for Quoted<'_> {
     fn fmt<W: fmt::Write>(&self, f: &mut fmt::Formatter<W>) -> fmt::Result {
-        if self.0.is_empty() {
-            return f.write_str("nothing");
-        }
-        let shown = Shown(self.0);
-        write!(f, "\"{shown}\"")
+        let (shown, quote) = match self.0 {
+            [] => (Shown(b"nothing"), ""),
+            text => (Shown(text), "\""),
+        };
+        write!(f, "{quote}{shown}{quote}")
     }
 }

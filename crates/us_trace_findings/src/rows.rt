@@ -85,10 +85,12 @@ impl<'a> Rows<'a> {
     /// Its first line, as it stands in the text.
     pub(crate) fn first_line(&self) -> &'a [u8] {
         let rest = self.text.get(self.start.at..).unwrap_or(&[]);
-        match rest.iter().position(|byte| matches!(*byte, b'\n' | b'\r')) {
-            Some(end) => &rest[..end],
-            None => rest,
+        for (end, byte) in rest.iter().enumerate() {
+            if *byte == b'\n' || *byte == b'\r' {
+                return rest.get(..end).unwrap_or(rest);
+            }
         }
+        rest
     }
 }
 

@@ -2,8 +2,8 @@ use crate::broken::BrokenRule;
 use crate::credits::requested;
 use crate::fields::{Field, first_wrong};
 use crate::lines::{LineTaker, Lines, gather};
-use crate::runs::Run;
-use crate::said::{Place, Said, Wrong};
+use crate::runs::{PlacedChannel, Run};
+use crate::said::{Said, Wrong, place_of};
 use std::alloc::Global;
 use us_flows::{Channel, Flow};
 use us_output::{Grant, Row};
@@ -18,7 +18,7 @@ const HEADER_BYTES: u64 = 8;
 struct CreditLines<'a> {
     broken: BrokenRule,
     flow: Option<&'a Flow>,
-    channel: Option<Channel>,
+    channel: Option<PlacedChannel>,
     wrong: Option<Field>,
     lines: [Lines; 3],
 }
@@ -46,8 +46,8 @@ impl<'a> LineTaker for CreditLines<'a> {
 }
 
 /// What is wrong with a grant of a request, by itself.
-fn wrong_with(flow: Option<&Flow>, channel: Option<Channel>, grant: &Grant) -> Option<Field> {
-    let (Some(flow), Some(channel)) = (flow, channel) else {
+fn wrong_with(flow: Option<&Flow>, channel: Option<PlacedChannel>, grant: &Grant) -> Option<Field> {
+    let (Some(flow), Some(placed)) = (flow, channel) else {
         return Some(Field::exact("flows with this id", 1, 0));
     };
     if !flow.kind().makes_requests() {
@@ -66,18 +66,19 @@ fn wrong_with(flow: Option<&Flow>, channel: Option<Channel>, grant: &Grant) -> O
         Some(sid) if grant.sid != u64::from(sid) => {
             Some(Field::exact("SID", u64::from(sid), grant.sid))
         }
-        Some(_) => wrong_cost(flow, &channel, grant),
+        Some(_) => wrong_cost(flow, &placed.channel, grant),
     }
 }
 
 /// The SID of a flow's cluster on a channel.
 fn sid_on(flow: &Flow, channel: u64, cluster: u64) -> Option<u16> {
-    let place = flow
-        .channels()
-        .iter()
-        .position(|id| u64::from(*id) == channel)?;
     let sids = flow.clusters().get(usize::try_from(cluster).ok()?)?;
-    sids.get(place).copied()
+    for (place, id) in flow.channels().iter().enumerate() {
+        if u64::from(*id) == channel {
+            return sids.get(place).copied();
+        }
+    }
+    None
 }
 
 /// Which of the credit, the minislots and the IUC isn't that of a data grant.
@@ -103,15 +104,15 @@ pub(crate) fn credit_line_said(
     let mut found = CreditLines {
         broken,
         flow: run.flow(broken.place),
-        channel: run.channel(broken.channel).map(|placed| placed.channel),
+        channel: run.channel(broken.channel),
         wrong: None,
         lines: [Lines::none(); 3],
     };
     gather(alloc, run.report, &mut found)?;
     let [wrong, first, second] = found.lines;
     if let Some(field) = found.wrong {
-        return Ok(Said::of_lines(&wrong, Place::of(broken), Wrong::Number(field)));
+        return Ok(Said::of_lines(&wrong, place_of(broken), Wrong::Number(field)));
     }
     let double = if first.count() < 2 { second } else { first };
-    Ok(Said::of_lines(&double, Place::of(broken), Wrong::Count(1, double)))
+    Ok(Said::of_lines(&double, place_of(broken), Wrong::count(1, double)))
 }

@@ -5,9 +5,10 @@ use crate::findings::VerdictFile;
 use crate::levels::Level;
 use crate::lines::{LineTaker, Lines, gather};
 use crate::runs::Run;
-use crate::said::{Place, Said, Wrong};
+use crate::said::{Said, Wrong, place_of};
 use std::alloc::Global;
 use us_bucket::UNITS_PER_BYTE;
+use us_findings::Sentence;
 use us_flows::Flow;
 use us_output::{EntryWord, Grant, Row};
 use us_requests::Trace;
@@ -33,7 +34,7 @@ impl LineTaker for Credits {
         let Some(grant) = requested(row) else {
             return;
         };
-        if grant.id != self.id || self.cluster.is_some_and(|cluster| cluster != grant.i) {
+        if grant.id != self.id || self.cluster.unwrap_or(grant.i) != grant.i {
             return;
         }
         if grant.round == self.round {
@@ -116,13 +117,14 @@ pub(crate) fn rate_said(
     run: &Run<'_>,
     broken: BrokenRule,
 ) -> Result<Said, NoMemory> {
-    let place = Place::Flow(broken.round, broken.place);
+    let place = Sentence("round #, flow #", [broken.round, broken.place, 0, 0]);
     let Some(flow) = run.flow(broken.place) else {
         return Ok(no_flow(place));
     };
     let credits = credits_of(alloc, run, flow, None, broken.round)?;
     let most = credits.level.units_in(broken.round) / u128::from(UNITS_PER_BYTE);
-    let wrong = Wrong::OverBucket(credits.inside, credits.lines, saturated(most));
+    let words = "; the bucket has #";
+    let wrong = Wrong::over(credits.inside, credits.lines, words, saturated(most));
     Ok(Said::of_lines(&credits.lines, place, wrong))
 }
 
@@ -133,7 +135,7 @@ pub(crate) fn outstanding_said(
     broken: BrokenRule,
 ) -> Result<Said, NoMemory> {
     let Some(flow) = run.flow(broken.place) else {
-        return Ok(no_flow(Place::of(broken)));
+        return Ok(no_flow(place_of(broken)));
     };
     let rounds = broken.round.saturating_add(1);
     let word = first_word(run, broken.place);
@@ -142,16 +144,20 @@ pub(crate) fn outstanding_said(
         let asked = asked_within(run.trace, word.saturating_add(cluster), rounds);
         let most = asked.saturating_sub(credits.before);
         if most < credits.inside {
-            let place = Place::Cluster(broken.round, broken.place, cluster);
-            let wrong = Wrong::OverAsked(credits.inside, credits.lines, most);
+            let place = Sentence(
+                "round #, flow #, cluster #",
+                [broken.round, broken.place, cluster, 0],
+            );
+            let words = "; outstanding are #";
+            let wrong = Wrong::over(credits.inside, credits.lines, words, most);
             return Ok(Said::of_lines(&credits.lines, place, wrong));
         }
     }
-    Ok(no_flow(Place::of(broken)))
+    Ok(no_flow(place_of(broken)))
 }
 
 /// What is said where no flow has the id of a verdict. Nobody comes here.
-fn no_flow(place: Place) -> Said {
+fn no_flow(place: Sentence) -> Said {
     Said {
         file: VerdictFile::Report,
         place,

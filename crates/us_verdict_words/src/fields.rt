@@ -1,4 +1,5 @@
 use std::fmt;
+use us_findings::Sentence;
 
 /// A number that is wanted to lie in a range, and the one that is there.
 #[derive(Clone, Copy)]
@@ -40,10 +41,11 @@ pub(crate) fn first_wrong(fields: &[Field]) -> Option<Field> {
 impl fmt::Display for Field {
     fn fmt<W: fmt::Write>(&self, f: &mut fmt::Formatter<W>) -> fmt::Result {
         let (name, least, most, there) = (self.name, self.least, self.most, self.there);
-        if least == most {
-            write!(f, "{name}: {least} is wanted, {there} is there")
+        let sentence = if least == most {
+            Sentence("# is wanted, # is there", [least, there, 0, 0])
         } else {
-            write!(f, "{name}: {least} to {most} is wanted, {there} is there")
-        }
+            Sentence("# to # is wanted, # is there", [least, most, there, 0])
+        };
+        write!(f, "{name}: {sentence}")
     }
 }

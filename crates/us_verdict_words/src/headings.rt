@@ -1,10 +1,11 @@
-use crate::fields::{Field, first_wrong};
+use crate::fields::Field;
 use crate::findings::VerdictFile;
 use crate::records::{FileRecord, behind_records, byte_of, record_at};
 use crate::runs::{PlacedChannel, Run};
 use crate::said::{Said, Wrong};
 use std::alloc::Global;
 use us_codec::{Element, Map, MapFault, decode};
+use us_findings::Sentence;
 use us_slots::{Iuc, NoMemory};
 
 /// That a record doesn't say of itself what it must, is missing, or is one too many.
@@ -35,7 +36,10 @@ fn count_wrong(run: &Run<'_>, width: u64) -> Wrong {
     let (count, _) = behind_records(run.maps, u64::MAX);
     let rounds = run.rounds();
     if count.is_multiple_of(width) {
-        Wrong::Rounds(count / width.max(1), rounds)
+        Wrong::Rounds(Sentence(
+            "the file has # rounds, --rounds says #",
+            [count / width.max(1), rounds, 0, 0],
+        ))
     } else {
         Wrong::Number(Field::exact("records", rounds.saturating_mul(width), count))
     }
@@ -49,47 +53,68 @@ fn wrong_field(
     round: u64,
     channel: &PlacedChannel,
 ) -> Result<Field, NoMemory> {
+    let wanted = wanted_of(run, round, channel);
     let told = match decode(alloc, record.body) {
         Ok(map) => told_by(u64::from(record.round), &map),
         Err(MapFault::NoMemory) => return Err(NoMemory),
         // Nobody comes here: each body was read for the verdict.
-        Err(_) => wanted_of(run, round, channel),
+        Err(_) => wanted,
     };
-    let fields = fields_of(told, wanted_of(run, round, channel));
-    Ok(first_wrong(&fields).unwrap_or(fields[0]))
+    Ok(first_other(&wanted, &told))
 }
-/// What a MAP says of itself.
-#[derive(Clone, Copy)]
-struct Heading {
-    round: u64,
-    channel: u8,
-    ucd_count: u8,
-    start: u64,
-    ack: u64,
-    backoffs: [u8; 4],
-    len: u64,
+
+/// What a MAP says of itself: its numbers, as these names have them.
+type Heading = [u64; 10];
+
+static NAMES: [&str; 10] = [
+    "round",
+    "channel",
+    "UCD Count",
+    "Alloc Start Time",
+    "Ack Time",
+    "Ranging Backoff Start",
+    "Ranging Backoff End",
+    "Data Backoff Start",
+    "Data Backoff End",
+    "length in minislots",
+];
+
+/// The first number of a heading that isn't the one that is wanted.
+fn first_other(wanted: &Heading, told: &Heading) -> Field {
+    for (place, name) in NAMES.iter().enumerate() {
+        if wanted[place] != told[place] {
+            return Field::exact(name, wanted[place], told[place]);
+        }
+    }
+    Field::exact(NAMES[0], wanted[0], told[0])
 }
 
 /// What a MAP of this round says of itself.
 fn told_by(round: u64, map: &Map) -> Heading {
     let head = map.head();
-    Heading {
+    let [a, b, c, d] = head.backoffs;
+    [
         round,
-        channel: head.channel,
-        ucd_count: head.ucd_count,
-        start: u64::from(head.alloc_start),
-        ack: u64::from(head.ack),
-        backoffs: head.backoffs,
-        len: null_offset(map.elements()),
-    }
+        u64::from(head.channel),
+        u64::from(head.ucd_count),
+        u64::from(head.alloc_start),
+        u64::from(head.ack),
+        u64::from(a),
+        u64::from(b),
+        u64::from(c),
+        u64::from(d),
+        null_offset(map.elements()),
+    ]
 }
 
 /// Where the Null stands.
 fn null_offset(elements: &[Element]) -> u64 {
-    match elements.iter().find(|element| element.iuc() == Iuc::null()) {
-        Some(null) => u64::from(null.offset()),
-        None => 0,
+    for element in elements {
+        if element.iuc() == Iuc::null() {
+            return u64::from(element.offset());
+        }
     }
+    0
 }
 
 /// What the MAP of a channel's round must say of itself.
@@ -97,41 +122,18 @@ fn wanted_of(run: &Run<'_>, round: u64, placed: &PlacedChannel) -> Heading {
     let channel = placed.channel;
     let ticks = round.saturating_mul(u64::from(run.config.round_ticks()));
     let served = ticks.saturating_sub(u64::from(run.config.lead_ticks()));
-    let [ranging_start, ranging_end] = channel.ranging_backoff;
-    let [data_start, data_end] = channel.data_backoff;
-    Heading {
-        round,
-        channel: channel.id,
-        ucd_count: channel.ucd_count,
-        start: round.saturating_mul(placed.len),
-        ack: served / u64::from(channel.bursts.time().minislot_ticks()),
-        backoffs: [ranging_start, ranging_end, data_start, data_end],
-        len: placed.len,
-    }
-}
-
-/// Each number of a heading, with the one that is wanted.
-fn fields_of(told: Heading, wanted: Heading) -> [Field; 10] {
-    let [a, b, c, d] = wanted.backoffs;
-    let [e, f, g, h] = told.backoffs;
+    let [a, b] = channel.ranging_backoff;
+    let [c, d] = channel.data_backoff;
     [
-        Field::exact("round", wanted.round, told.round),
-        Field::exact(
-            "channel",
-            u64::from(wanted.channel),
-            u64::from(told.channel),
-        ),
-        Field::exact(
-            "UCD Count",
-            u64::from(wanted.ucd_count),
-            u64::from(told.ucd_count),
-        ),
-        Field::exact("Alloc Start Time", wanted.start, told.start),
-        Field::exact("Ack Time", wanted.ack, told.ack),
-        Field::exact("Ranging Backoff Start", u64::from(a), u64::from(e)),
-        Field::exact("Ranging Backoff End", u64::from(b), u64::from(f)),
-        Field::exact("Data Backoff Start", u64::from(c), u64::from(g)),
-        Field::exact("Data Backoff End", u64::from(d), u64::from(h)),
-        Field::exact("length in minislots", wanted.len, told.len),
+        round,
+        u64::from(channel.id),
+        u64::from(channel.ucd_count),
+        round.saturating_mul(placed.len),
+        served / u64::from(channel.bursts.time().minislot_ticks()),
+        u64::from(a),
+        u64::from(b),
+        u64::from(c),
+        u64::from(d),
+        placed.len,
     ]
 }

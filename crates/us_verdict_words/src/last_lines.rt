@@ -3,27 +3,55 @@ use crate::credits::{asked_within, credits_of, first_word};
 use crate::fields::{Field, first_wrong};
 use crate::lines::{LineTaker, Lines, gather};
 use crate::runs::Run;
-use crate::said::{Place, Said, Wrong};
+use crate::said::{Said, Wrong};
 use std::alloc::Global;
 use us_activity::Activities;
+use us_findings::Sentence;
 use us_flows::Flow;
-use us_output::{FinalState, Row};
+use us_output::{FinalActivity, FinalState, Row, TraceCounts};
 use us_slots::NoMemory;
+
+/// Where last lines stand.
+#[derive(Clone, Copy)]
+enum Last {
+    /// F lines of a cluster of a flow,
+    Final(u64, u64),
+    /// of all its clusters from this one on,
+    FinalFrom(u64, u64),
+    /// its A lines,
+    Activity(u64),
+    /// or the U lines.
+    Counts,
+}
+
+impl Last {
+    /// The same in words.
+    fn place(self) -> Sentence {
+        match self {
+            Last::Final(id, list) => Sentence("F line of flow #, cluster #", [id, list, 0, 0]),
+            Last::FinalFrom(id, list) => {
+                Sentence("F line of flow #, cluster # or higher", [id, list, 0, 0])
+            }
+            Last::Activity(id) => Sentence::of("A line of flow #", id),
+            Last::Counts => Sentence::plain("U line"),
+        }
+    }
+}
 
 /// The last lines of a place.
 #[derive(Clone, Copy)]
 struct LastLines {
-    place: Place,
+    place: Last,
     lines: Lines,
 }
 
 impl LineTaker for LastLines {
     fn take(&mut self, number: u64, row: &Row) {
         let is_one = match (self.place, row) {
-            (Place::Final(id, list), Row::Final(f)) => f.flow == id && f.cluster == list,
-            (Place::FinalFrom(id, list), Row::Final(f)) => f.flow == id && list <= f.cluster,
-            (Place::Activity(id), Row::Activity(a)) => a.flow == id,
-            (Place::Counts, Row::Counts(_)) => true,
+            (Last::Final(id, list), Row::Final(f)) => f.flow == id && f.cluster == list,
+            (Last::FinalFrom(id, list), Row::Final(f)) => f.flow == id && list <= f.cluster,
+            (Last::Activity(id), Row::Activity(a)) => a.flow == id,
+            (Last::Counts, Row::Counts(_)) => true,
             _ => false,
         };
         if is_one {
@@ -33,7 +61,7 @@ impl LineTaker for LastLines {
 }
 
 /// The last lines of a place.
-fn lines_of(alloc: Global, run: &Run<'_>, place: Place) -> Result<Lines, NoMemory> {
+fn lines_of(alloc: Global, run: &Run<'_>, place: Last) -> Result<Lines, NoMemory> {
     let mut found = LastLines {
         place,
         lines: Lines::none(),
@@ -45,46 +73,28 @@ fn lines_of(alloc: Global, run: &Run<'_>, place: Place) -> Result<Lines, NoMemor
 /// That a last line is wrong, is missing, or is there twice: of a flow with this id, and with 0 the U line.
 pub(crate) fn last_said(alloc: Global, run: &Run<'_>, id: u64) -> Result<Said, NoMemory> {
     let flow = run.flow(id);
-    let of_clusters = finals_said(alloc, run, id, flow)?;
-    if let Some(said) = of_clusters {
-        return Ok(said);
-    }
-    let of_activity = activity_said(alloc, run, id, flow)?;
-    if let Some(said) = of_activity {
-        return Ok(said);
-    }
-    counts_said(alloc, run)
-}
-
-/// What is said where there aren't so many lines as are wanted, or the one isn't right.
-fn told(place: Place, wanted: usize, lines: &Lines, wrong: Option<Field>) -> Option<Said> {
-    if lines.count() != wanted {
-        return Some(Said::of_lines(lines, place, Wrong::Count(wanted, *lines)));
-    }
-    let field = wrong?;
-    Some(Said::of_lines(lines, place, Wrong::Number(field)))
-}
-
-/// What is wrong with the F lines of an id.
-fn finals_said(
-    alloc: Global,
-    run: &Run<'_>,
-    id: u64,
-    flow: Option<&Flow>,
-) -> Result<Option<Said>, NoMemory> {
     let lists = clusters_of(flow);
-    let behind = Place::FinalFrom(id, lists);
-    let said = told(behind, 0, &lines_of(alloc, run, behind)?, None);
-    if said.is_some() {
-        return Ok(said);
-    }
-    for list in 0..lists {
-        let said = final_said(alloc, run, id, flow, list)?;
-        if said.is_some() {
+    for number in 0..lists.saturating_add(3) {
+        let said = said_at(alloc, run, place_at(id, lists, number), flow)?;
+        if let Some(said) = said {
             return Ok(said);
         }
     }
-    Ok(None)
+    // Nobody comes here: a last line is wrong, or the verdict is another.
+    let lines = lines_of(alloc, run, Last::Counts)?;
+    let wrong = Wrong::count(1, lines);
+    Ok(Said::of_lines(&lines, Last::Counts.place(), wrong))
+}
+
+/// The places of an id in their order: F lines of clusters that its flow hasn't, those of each of its clusters, A lines, and
+/// the U line.
+fn place_at(id: u64, lists: u64, number: u64) -> Last {
+    match number.checked_sub(1) {
+        None => Last::FinalFrom(id, lists),
+        Some(list) if list < lists => Last::Final(id, list),
+        Some(list) if list == lists => Last::Activity(id),
+        Some(_) => Last::Counts,
+    }
 }
 
 /// How many clusters a flow has that make requests.
@@ -95,21 +105,52 @@ fn clusters_of(flow: Option<&Flow>) -> u64 {
     }
 }
 
-/// What is wrong with the F lines of a cluster.
-fn final_said(
+/// What is said of a place where there aren't so many lines as are wanted, or the one isn't right.
+fn said_at(
     alloc: Global,
     run: &Run<'_>,
-    id: u64,
+    place: Last,
     flow: Option<&Flow>,
-    list: u64,
 ) -> Result<Option<Said>, NoMemory> {
-    let place = Place::Final(id, list);
     let lines = lines_of(alloc, run, place)?;
-    let wrong = match (lines.first(), flow) {
+    let wanted = wanted_at(place, flow);
+    let wrong = if lines.count() as u64 != wanted {
+        Some(Wrong::count(wanted, lines))
+    } else {
+        wrong_with(alloc, run, flow, lines.first())?
+    };
+    match wrong {
+        Some(wrong) => Ok(Some(Said::of_lines(&lines, place.place(), wrong))),
+        None => Ok(None),
+    }
+}
+
+/// How many lines a place has.
+fn wanted_at(place: Last, flow: Option<&Flow>) -> u64 {
+    match (place, flow) {
+        (Last::Final(..) | Last::Counts, _) => 1,
+        (Last::Activity(_), Some(flow)) if flow.kind().tells_activity() => 1,
+        _ => 0,
+    }
+}
+
+/// What is wrong with a last line, the first one of its place.
+fn wrong_with(
+    alloc: Global,
+    run: &Run<'_>,
+    flow: Option<&Flow>,
+    line: Option<Row>,
+) -> Result<Option<Wrong>, NoMemory> {
+    let field = match (line, flow) {
         (Some(Row::Final(state)), Some(flow)) => wrong_final(alloc, run, flow, &state)?,
+        (Some(Row::Activity(told)), Some(_)) => wrong_activity(alloc, run, &told)?,
+        (Some(Row::Counts(told)), _) => wrong_counts(run, &told),
         _ => None,
     };
-    Ok(told(place, 1, &lines, wrong))
+    match field {
+        Some(field) => Ok(Some(Wrong::Number(field))),
+        None => Ok(None),
+    }
 }
 
 /// What is wrong with an F line of a flow.
@@ -126,66 +167,45 @@ fn wrong_final(
     let left = asked.saturating_sub(credits.before);
     let level = credits_of(alloc, run, flow, None, rounds)?.level;
     let units = saturated(level.units_in(rounds.saturating_sub(1)));
-    let told = match (flow.rate(), state.units) {
+    Ok(first_wrong(&[
+        Field::exact("outstanding", left, state.outstanding),
+        units_field(flow.rate(), units, state.units),
+    ]))
+}
+
+/// The units of an F line of a flow with this rate; none are told where it is 0.
+fn units_field(rate: u32, units: u64, told: Option<u64>) -> Field {
+    match (rate, told) {
         (0, None) => Field::exact("units", 0, 0),
         (0, Some(_)) => Field::exact("numbers in the place of -, as the rate is 0", 0, 1),
         (_, None) => Field::exact("numbers in the place of -, as the flow has a rate", 1, 0),
         (_, Some(there)) => Field::exact("units", units, there),
-    };
-    Ok(first_wrong(&[Field::exact("outstanding", left, state.outstanding), told]))
-}
-
-/// What is wrong with the A lines of an id.
-fn activity_said(
-    alloc: Global,
-    run: &Run<'_>,
-    id: u64,
-    flow: Option<&Flow>,
-) -> Result<Option<Said>, NoMemory> {
-    let place = Place::Activity(id);
-    let lines = lines_of(alloc, run, place)?;
-    match flow {
-        Some(flow) if flow.kind().tells_activity() => {
-            let wrong = wrong_activity(alloc, run, id, &lines)?;
-            Ok(told(place, 1, &lines, wrong))
-        }
-        _ => Ok(told(place, 0, &lines, None)),
     }
 }
 
-/// What is wrong with the first one of a flow's A lines.
+/// What is wrong with an A line.
 fn wrong_activity(
     alloc: Global,
     run: &Run<'_>,
-    id: u64,
-    lines: &Lines,
+    told: &FinalActivity,
 ) -> Result<Option<Field>, NoMemory> {
-    let Some(Row::Activity(told)) = lines.first() else {
-        return Ok(None);
-    };
     let activities = Activities::of(alloc, run.config, run.trace)?;
-    let word = u16::try_from(first_word(run, id)).unwrap_or(u16::MAX);
+    let word = u16::try_from(first_word(run, told.flow)).unwrap_or(u16::MAX);
     let end = u128::from(run.rounds()).saturating_sub(1);
     let active = u64::from(activities.is_active(word, end));
     Ok(first_wrong(&[Field::exact("active", active, told.active)]))
 }
 
-/// What is wrong with the U lines.
-fn counts_said(alloc: Global, run: &Run<'_>) -> Result<Said, NoMemory> {
-    let lines = lines_of(alloc, run, Place::Counts)?;
+/// What is wrong with a U line.
+fn wrong_counts(run: &Run<'_>, told: &TraceCounts) -> Option<Field> {
     let counts = run.trace.counts();
-    let wrong = match lines.first() {
-        Some(Row::Counts(told)) => first_wrong(&[
-            Field::exact("unknown", u64::from(counts.unknown), told.unknown),
-            Field::exact(
-                "not_requestable",
-                u64::from(counts.not_requestable),
-                told.not_requestable,
-            ),
-            Field::exact("late", u64::from(counts.late), told.late),
-        ]),
-        _ => None,
-    };
-    let count = Said::of_lines(&lines, Place::Counts, Wrong::Count(1, lines));
-    Ok(told(Place::Counts, 1, &lines, wrong).unwrap_or(count))
+    first_wrong(&[
+        Field::exact("unknown", u64::from(counts.unknown), told.unknown),
+        Field::exact(
+            "not_requestable",
+            u64::from(counts.not_requestable),
+            told.not_requestable,
+        ),
+        Field::exact("late", u64::from(counts.late), told.late),
+    ])
 }

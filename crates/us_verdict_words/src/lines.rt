@@ -64,8 +64,10 @@ impl fmt::Display for Lines {
             return f.write_str("no line");
         }
         f.write_str("this line")?;
-        for number in self.numbers.iter().take(self.count).skip(1) {
-            write!(f, " and line {number}")?;
+        for (place, number) in self.numbers.iter().enumerate() {
+            if 0 < place && place < self.count {
+                write!(f, " and line {number}")?;
+            }
         }
         match self.count.saturating_sub(MAX_NAMED) {
             0 => Ok(()),
@@ -86,14 +88,30 @@ pub(crate) fn gather<G: LineTaker>(
     report: &[u8],
     gathered: &mut G,
 ) -> Result<(), NoMemory> {
-    let mut number = 0_u64;
-    for line in report.split_inclusive(|byte| *byte == b'\n') {
-        number = number.saturating_add(1);
+    let mut rest = report;
+    for number in 1..u64::MAX {
+        if rest.is_empty() {
+            break;
+        }
+        let (line, behind) = first_line(rest);
         if let Some(row) = row_of(alloc, line)? {
             gathered.take(number, &row);
         }
+        rest = behind;
     }
     Ok(())
+}
+
+/// The line with which bytes begin, with its line feed, and what stands behind it.
+fn first_line(bytes: &[u8]) -> (&[u8], &[u8]) {
+    for (place, byte) in bytes.iter().enumerate() {
+        if *byte == b'\n' {
+            return bytes
+                .split_at_checked(place.saturating_add(1))
+                .unwrap_or((bytes, &[]));
+        }
+    }
+    (bytes, &[])
 }
 
 /// The row of a line; `None` where it is of none.
@@ -107,12 +125,11 @@ fn row_of(alloc: Global, line: &[u8]) -> Result<Option<Row>, NoMemory> {
 
 /// The bytes of the line of this number, from 1, with its line feed.
 pub(crate) fn line_at(report: &[u8], number: u64) -> &[u8] {
-    let mut at = 0_u64;
-    for line in report.split_inclusive(|byte| *byte == b'\n') {
-        at = at.saturating_add(1);
-        if at == number {
-            return line;
-        }
+    let mut rest = report;
+    for _ in 1..number {
+        let (_, behind) = first_line(rest);
+        rest = behind;
     }
-    &[]
+    let (line, _) = first_line(rest);
+    line
 }

@@ -2,12 +2,13 @@ use crate::broken::BrokenRule;
 use crate::fields::Field;
 use crate::findings::VerdictFile;
 use crate::lines::{LineTaker, Lines, gather};
-use crate::records::record_at;
+use crate::records::{byte_at, record_at};
 use crate::runs::{PlacedChannel, Run};
-use crate::said::{Place, Said, Wrong};
+use crate::said::{Said, Wrong};
 use crate::spans::{Span, What};
 use std::alloc::Global;
 use us_codec::{Element, MapFault, decode};
+use us_findings::Sentence;
 use us_output::{Grant, Row};
 use us_slots::NoMemory;
 
@@ -141,8 +142,7 @@ fn lacked(
         lines: Lines::none(),
     };
     gather(alloc, run.report, &mut found)?;
-    let place = Place::Map(broken.round, broken.channel);
-    Ok(Said::of_lines(&found.lines, place, Wrong::Number(field)))
+    Ok(Said::of_lines(&found.lines, map_of(broken), Wrong::Number(field)))
 }
 
 /// That a minislot of a MAP isn't what it must be.
@@ -167,10 +167,10 @@ fn minislot_of(
     let reserve = reserve_at(&mut found, placed);
     let number = broken.round.saturating_mul(run.width());
     let (place, element) = element_at(alloc, run.maps, number.saturating_add(placed.place), at)?;
+    let which = Sentence("minislot # of #: granted by ", [at, len, 0, 0]);
     if found.lines.count() > 0 {
-        let wrong = Wrong::Minislot(at, len, found.lines, [found.granted, reserve, element]);
-        let place = Place::Map(broken.round, broken.channel);
-        return Ok(Said::of_lines(&found.lines, place, wrong));
+        let wrong = Wrong::Minislot(which, found.lines, [found.granted, reserve, element]);
+        return Ok(Said::of_lines(&found.lines, map_of(broken), wrong));
     }
     let wanted = match reserve.what {
         What::Nothing => found.gap(placed.channel.request_minislots),
@@ -179,8 +179,13 @@ fn minislot_of(
     Ok(Said {
         file: VerdictFile::Maps,
         place,
-        wrong: Wrong::Minislot(at, len, found.lines, [wanted, element, Span::none()]),
+        wrong: Wrong::Minislot(which, found.lines, [wanted, element, Span::none()]),
     })
+}
+
+/// The MAP of a verdict.
+fn map_of(broken: BrokenRule) -> Sentence {
+    Sentence("round #, channel #", [broken.round, broken.channel, 0, 0])
 }
 
 /// The reserve that has the minislot. Others bound the gap.
@@ -206,10 +211,15 @@ fn reserve_at(found: &mut MinislotLines, placed: &PlacedChannel) -> Span {
 }
 
 /// Where the record of this number stands, and the element of its MAP that has a minislot.
-fn element_at(alloc: Global, maps: &[u8], number: u64, at: u64) -> Result<(Place, Span), NoMemory> {
+fn element_at(
+    alloc: Global,
+    maps: &[u8],
+    number: u64,
+    at: u64,
+) -> Result<(Sentence, Span), NoMemory> {
     let Some(record) = record_at(maps, number) else {
         // Nobody comes here: there are all records, or an earlier rule is broken.
-        return Ok((Place::Byte(number, maps.len()), Span::none()));
+        return Ok((byte_at(number, maps.len()), Span::none()));
     };
     match decode(alloc, record.body) {
         Ok(map) => Ok((record.place, span_of(map.elements(), at))),

@@ -3,9 +3,10 @@ use crate::calendar_lines::{CalendarLines, occurrence_of};
 use crate::calendars::{Calendar, ChannelEntry, entries_with, saturated, window, word_of};
 use crate::lines::{LineTaker, Lines, gather};
 use crate::runs::Run;
-use crate::said::{Place, Said, Wrong};
+use crate::said::{Said, Wrong, place_of};
 use std::alloc::Global;
 use us_activity::Activities;
+use us_findings::Sentence;
 use us_output::{EntryWord, MissedOccurrence, Row};
 use us_slots::NoMemory;
 
@@ -39,7 +40,7 @@ fn said_of<'a>(
     };
     gather(alloc, calendar.run.report, &mut found)?;
     if let Some(field) = found.wrong {
-        return Ok(Said::of_lines(&found.lines, Place::of(broken), Wrong::Number(field)));
+        return Ok(Said::of_lines(&found.lines, place_of(broken), Wrong::Number(field)));
     }
     let unsettled = unsettled(alloc, calendar, broken)?;
     count_said(alloc, calendar, broken, unsettled.or(found.first))
@@ -79,12 +80,22 @@ fn count_said(
     let wrong = match named {
         Some(named) => {
             let (first, behind) = starts_of(calendar, &named);
-            Wrong::Occurrence(named.i, named.k, found.lines, first, behind)
+            Wrong::Lines(
+                Sentence(
+                    "interval #, k #: lines wanted: 1; there is ",
+                    [named.i, named.k, 0, 0],
+                ),
+                found.lines,
+                Sentence(
+                    "; it may start from minislot # on, before #, counted from round 0",
+                    [first, behind, 0, 0],
+                ),
+            )
         }
         // Nobody comes here: each place of a verdict has a line or an occurrence.
-        None => Wrong::Count(1, found.lines),
+        None => Wrong::count(1, found.lines),
     };
-    Ok(Said::of_lines(&found.lines, Place::of(broken), wrong))
+    Ok(Said::of_lines(&found.lines, place_of(broken), wrong))
 }
 
 /// The first minislot at which an occurrence may start, and the one behind the last.
@@ -156,16 +167,14 @@ fn unsettled_of(
     let first = first_interval(calendar, &of, broken.round);
     let behind = first_interval(calendar, &of, broken.round.saturating_add(1));
     let grants = u64::from(of.entry.grants);
+    let occurrences = behind.saturating_sub(first).saturating_mul(grants);
     let mut counted = Counted {
         word: word_of(of.entry.kind),
         id: broken.place,
         first,
         grants,
-        counts: Vec::new(alloc),
+        counts: vec![in alloc; 0; occurrences as usize]?,
     };
-    for _ in 0..behind.saturating_sub(first).saturating_mul(grants) {
-        counted.counts.push(0)?;
-    }
     gather(alloc, calendar.run.report, &mut counted)?;
     Ok(first_of(calendar, &of, broken, &counted))
 }

@@ -1,13 +1,14 @@
 use crate::findings::VerdictFile;
-use crate::said::{Place, Said, Wrong};
+use crate::said::{Said, Wrong};
 use std::alloc::Global;
 use us_codec::{MapFault, decode};
+use us_findings::Sentence;
 use us_slots::NoMemory;
 
 /// A record of a maps file: where it begins, and what it has.
 #[derive(Clone, Copy)]
 pub(crate) struct FileRecord<'a> {
-    pub(crate) place: Place,
+    pub(crate) place: Sentence,
     pub(crate) round: u32,
     pub(crate) body: &'a [u8],
 }
@@ -44,23 +45,40 @@ pub(crate) fn record_at(file: &[u8], number: u64) -> Option<FileRecord<'_>> {
     let at = file.len().saturating_sub(rest.len());
     let channel = body.first().copied().unwrap_or(0);
     Some(FileRecord {
-        place: Place::Record(number, at, round, channel),
+        place: Sentence(
+            "record #, at byte # (round #, channel #)",
+            [number, at as u64, u64::from(round), u64::from(channel)],
+        ),
         round,
         body,
     })
 }
 
 /// Where a record begins that isn't whole.
-pub(crate) fn byte_of(file: &[u8], number: u64) -> Place {
+pub(crate) fn byte_of(file: &[u8], number: u64) -> Sentence {
     let (_, rest) = behind_records(file, number);
-    Place::Byte(number, file.len().saturating_sub(rest.len()))
+    byte_at(number, file.len().saturating_sub(rest.len()))
+}
+
+/// This byte, at which the record of a number begins.
+pub(crate) fn byte_at(number: u64, at: usize) -> Sentence {
+    Sentence("record #, at byte #", [number, at as u64, 0, 0])
 }
 
 /// That a record is none: the file ends inside it, or its body isn't in the grammar.
 pub(crate) fn record_said(alloc: Global, file: &[u8], number: u64) -> Result<Said, NoMemory> {
     let (place, wrong) = match record_at(file, number) {
-        Some(record) => (record.place, Wrong::Body(fault_of(alloc, record.body)?)),
-        None => (byte_of(file, number), Wrong::End(file.len())),
+        Some(record) => (
+            record.place,
+            Wrong::Record(fault_of(alloc, record.body)?, Sentence::plain("")),
+        ),
+        None => (
+            byte_of(file, number),
+            Wrong::Record(
+                MapFault::RecordCut,
+                Sentence::of(", at byte #", file.len() as u64),
+            ),
+        ),
     };
     Ok(Said {
         file: VerdictFile::Maps,

@@ -51,9 +51,11 @@ impl<'a> Run<'a> {
 
     /// The flow with this id.
     pub(crate) fn flow(&self, id: u64) -> Option<&'a Flow> {
-        self.config
-            .flows()
-            .iter()
-            .find(|flow| u64::from(flow.id()) == id)
+        for flow in self.config.flows() {
+            if u64::from(flow.id()) == id {
+                return Some(flow);
+            }
+        }
+        None
     }
 }

@@ -1,4 +1,5 @@
 use std::fmt;
+use us_findings::Sentence;
 
 /// The SID that addresses all modems (the standard's).
 const BROADCAST: u64 = 0x3fff;
@@ -51,7 +52,6 @@ impl Span {
 /// Writes `; the MAP has start 6, slots 62, SID 301, IUC 10`.
 impl fmt::Display for Span {
     fn fmt<W: fmt::Write>(&self, f: &mut fmt::Formatter<W>) -> fmt::Result {
-        let (start, slots, sid, iuc) = (self.start, self.slots, self.sid, self.iuc);
         let what = match self.what {
             What::Nothing => return Ok(()),
             What::Line => "this line has",
@@ -60,9 +60,10 @@ impl fmt::Display for Span {
             What::Contention => "the contention reserve has",
             What::Element => "the MAP has",
         };
-        write!(
-            f,
-            "; {what} start {start}, slots {slots}, SID {sid}, IUC {iuc}"
-        )
+        let sentence = Sentence(
+            " start #, slots #, SID #, IUC #",
+            [self.start, self.slots, self.sid, self.iuc],
+        );
+        write!(f, "; {what}{sentence}")
     }
 }

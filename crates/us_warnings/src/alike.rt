@@ -1,7 +1,7 @@
-use std::fmt;
+use crate::parts::Part;
 
 /// Rows that are alike: how many there are, and the line of the first.
-#[derive(Clone, Copy, Debug, PartialEq, Eq)]
+#[derive(Clone, Copy)]
 pub(crate) struct Alike {
     pub(crate) rows: usize,
     pub(crate) line: usize,
@@ -27,14 +27,9 @@ impl Alike {
         }
         self.rows = self.rows.saturating_add(1);
     }
-}
 
-/// Writes how many they are.
-impl fmt::Display for Alike {
-    fn fmt<W: fmt::Write>(&self, f: &mut fmt::Formatter<W>) -> fmt::Result {
-        match self.rows {
-            1 => f.write_str("1 row"),
-            rows => write!(f, "{rows} rows, the first here"),
-        }
+    /// How many they are, in words.
+    pub(crate) fn counted(&self) -> Part {
+        Part::Counted(self.rows as u64, "row", "rows, the first here")
     }
 }

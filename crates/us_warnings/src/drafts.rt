@@ -1,6 +1,7 @@
-use crate::counted::Counted;
+use crate::parts::{Part, put};
 use std::alloc::{AllocError, Global};
 use us_config_lines::KeyPath;
+use us_findings::{Finding, Source, What};
 
 /// The most warnings of one kind that are told one by one.
 const MAX_TOLD: usize = 10;
@@ -14,13 +15,76 @@ pub(crate) enum Subject {
     Key(KeyPath<'static>),
 }
 
-/// A warning whose line in the configuration isn't looked up yet.
+/// Warnings, of which those of the configuration have no lines yet.
 #[derive(Drop)]
-pub(crate) struct Draft {
-    /// Where what it is about stands.
-    pub(crate) subject: Subject,
-    /// What looks wrong, and what to do about it.
-    pub(crate) text: String,
+pub(crate) struct Drafts {
+    pub(crate) alloc: Global,
+    pub(crate) findings: Vec<Finding>,
+    /// The tables and keys that those of the configuration are about, and which findings these are.
+    pub(crate) paths: Vec<KeyPath<'static>>,
+    pub(crate) places: Vec<usize>,
+}
+
+impl Drafts {
+    /// None yet.
+    pub(crate) fn new(alloc: Global) -> Drafts {
+        Drafts {
+            alloc,
+            findings: Vec::new(alloc),
+            paths: Vec::new(alloc),
+            places: Vec::new(alloc),
+        }
+    }
+
+    /// Adds a warning in words that have a part in the place of each `#`.
+    pub(crate) fn add(
+        &mut self,
+        subject: Subject,
+        words: &str,
+        parts: &[Part],
+    ) -> Result<(), AllocError> {
+        let (source, line) = match subject {
+            Subject::Row(line) => (Source::Trace, line),
+            Subject::Key(path) => {
+                self.note(path)?;
+                (Source::Config, 1)
+            }
+        };
+        let mut text = String::new(self.alloc);
+        put(&mut text, words, parts)?;
+        self.push(source, line, text)
+    }
+
+    /// Notes what the next finding is about.
+    fn note(&mut self, path: KeyPath<'static>) -> Result<(), AllocError> {
+        self.paths.push(path)?;
+        self.places.push(self.findings.len())?;
+        Ok(())
+    }
+
+    fn push(&mut self, source: Source, line: usize, text: String) -> Result<(), AllocError> {
+        self.findings.push(Finding {
+            source,
+            what: What::Warning,
+            line,
+            column: 1,
+            text,
+        })?;
+        Ok(())
+    }
+
+    /// Adds how many there are that weren't told by themselves: what one of them is called, and several.
+    pub(crate) fn add_others(
+        &mut self,
+        tally: &Tally,
+        one: &'static str,
+        many: &'static str,
+    ) -> Result<(), AllocError> {
+        match tally.first_other {
+            Some(subject) => self.add(subject, "#", &[Part::Counted(tally.others(), one, many)]),
+            None => Ok(()),
+        }
+    }
 }
 
 /// How many warnings of one kind there are, which come in the order of their lines. The first ones are told one by one,
@@ -52,20 +116,8 @@ impl Tally {
         false
     }
 
-    /// Tells how many there are that weren't told by themselves, and what one of them is called, and several.
-    pub(crate) fn push_others(
-        &self,
-        alloc: Global,
-        drafts: &mut Vec<Draft>,
-        one: &'static str,
-        many: &'static str,
-    ) -> Result<(), AllocError> {
-        if let Some(subject) = self.first_other {
-            let count = self.count.saturating_sub(MAX_TOLD) as u64;
-            let others = Counted::new(count, one, many);
-            let text = format!(in alloc; "{others}")?;
-            drafts.push(Draft { subject, text })?;
-        }
-        Ok(())
+    /// How many aren't told by themselves.
+    fn others(&self) -> u64 {
+        self.count.saturating_sub(MAX_TOLD) as u64
     }
 }

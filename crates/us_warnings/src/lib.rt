@@ -9,17 +9,17 @@
 //! What these words mean stands in `specs/`, in the order of its `Lib.antt`.
 #![tactic(auto)]
 
-// So many of something.
-mod counted;
+// What warnings call flows, stations and channels.
+mod names;
+
+// Words of warnings, and what stands among them.
+mod parts;
 
 // Warnings whose lines aren't looked up yet.
 mod drafts;
 
 // Lines of warnings.
 mod located;
-
-// What warnings call flows, stations and channels.
-mod names;
 
 // How long a run is.
 mod runs;

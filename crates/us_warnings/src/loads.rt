@@ -14,7 +14,7 @@ const PER_ASSIGNMENT: u64 = 1_000;
 const MAX_LINE_BYTES: u64 = 62;
 
 /// What the calendar of a channel asks for in a run.
-#[derive(Clone, Copy, Debug, PartialEq, Eq)]
+#[derive(Clone, Copy)]
 pub(crate) struct Load {
     /// How many assignments a round has on average, in thousandths.
     thousandths: u64,

@@ -1,7 +1,7 @@
-use crate::alike::Alike;
+use crate::alike::{Alike, SidRows};
 use crate::unknown_sids::UnknownSids;
 use indexmap::IndexMap;
-use std::alloc::Global;
+use std::alloc::{AllocError, Global};
 use us_flows::{Config, Flow, Found};
 use us_requests::{Kind, Request};
 use us_slots::NoMemory;
@@ -12,14 +12,14 @@ pub(crate) struct NamedSid {
     /// What it asks for.
     found: Found,
     /// Its rows of kinds that its flow doesn't take.
-    pub(crate) unused: Alike,
+    unused: Alike,
 }
 
 /// The SIDs that rows of a trace name, each on its channel.
 #[derive(Drop)]
 pub(crate) struct NamedSids {
     /// Those of flows, in the order of their first rows.
-    pub(crate) known: IndexMap<(u8, u16), NamedSid>,
+    known: IndexMap<(u8, u16), NamedSid>,
     /// Those that no flow has.
     pub(crate) unknown: UnknownSids,
 }
@@ -58,14 +58,49 @@ impl NamedSids {
 
     /// Whether a row names a SID of this flow.
     pub(crate) fn have(&self, flow: &Flow) -> bool {
-        flow.clusters()
-            .iter()
-            .any(|sids| self.have_one(flow.channels(), sids))
+        for sids in flow.clusters() {
+            if self.have_one(flow.channels(), sids) {
+                return true;
+            }
+        }
+        false
     }
 
     /// Whether a row names one of the SIDs of a cluster, each of which is on its channel.
     fn have_one(&self, channels: &[u8], sids: &[u16]) -> bool {
-        channels.iter().zip(sids).any(|(channel, sid)| self.known.contains_key(&(*channel, *sid)))
+        for (place, sid) in sids.iter().enumerate() {
+            if let Some(channel) = channels.get(place) {
+                if self.known.contains_key(&(*channel, *sid)) {
+                    return true;
+                }
+            }
+        }
+        false
+    }
+
+    /// The SIDs with rows that their flows don't take: the line of the first such row and the place of the SID, by line.
+    pub(crate) fn unused(&self, alloc: Global) -> Result<Vec<(usize, usize)>, AllocError> {
+        let mut unused = Vec::new(alloc);
+        for place in 0..self.known.len() {
+            if let Some(sid_rows) = self.unused_at(place) {
+                unused.push((sid_rows.rows.line, place))?;
+            }
+        }
+        unused.sort_unstable();
+        Ok(unused)
+    }
+
+    /// The rows of the SID at a place that its flow doesn't take, if there are any.
+    pub(crate) fn unused_at(&self, place: usize) -> Option<SidRows> {
+        let ((channel, sid), named) = self.known.get_index(place)?;
+        if named.unused.rows == 0 {
+            return None;
+        }
+        Some(SidRows {
+            channel: *channel,
+            sid: *sid,
+            rows: named.unused,
+        })
     }
 }
 

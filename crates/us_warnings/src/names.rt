@@ -1,20 +1,11 @@
-use std::fmt;
 use us_config_lines::KeyPath;
-use us_flows::{Config, Flow, Place, SchedulingType, TableName};
+use us_flows::{Config, Place, TableName};
 
 /// A table as a warning calls it: its place, and its id.
 #[derive(Clone, Copy)]
 pub(crate) struct TableId {
-    place: Place,
-    id: u16,
-}
-
-/// Writes `flow 2 (id 3)`.
-impl fmt::Display for TableId {
-    fn fmt<W: fmt::Write>(&self, f: &mut fmt::Formatter<W>) -> fmt::Result {
-        let (place, id) = (self.place, self.id);
-        write!(f, "{place} (id {id})")
-    }
+    pub(crate) place: Place,
+    pub(crate) id: u16,
 }
 
 impl TableId {
@@ -29,17 +20,22 @@ impl TableId {
 
     /// The flow with this id.
     pub(crate) fn of_flow(config: &Config, id: u16) -> TableId {
-        let index = config.flows().iter().position(|flow| flow.id() == id);
-        TableId::new(TableName::Flow, index.unwrap_or(0), id)
+        for (index, flow) in config.flows().iter().enumerate() {
+            if flow.id() == id {
+                return TableId::new(TableName::Flow, index, id);
+            }
+        }
+        TableId::new(TableName::Flow, 0, id)
     }
 
     /// The station with this id.
     pub(crate) fn of_station(config: &Config, id: u16) -> TableId {
-        let index = config
-            .stations()
-            .iter()
-            .position(|station| station.id == id);
-        TableId::new(TableName::Station, index.unwrap_or(0), id)
+        for (index, station) in config.stations().iter().enumerate() {
+            if station.id == id {
+                return TableId::new(TableName::Station, index, id);
+            }
+        }
+        TableId::new(TableName::Station, 0, id)
     }
 
     /// A key of this table, or the table itself.
@@ -49,16 +45,5 @@ impl TableId {
             profile: None,
             key,
         }
-    }
-}
-
-/// The number of a scheduling type in the configuration.
-pub(crate) fn type_of(kind: SchedulingType) -> u8 {
-    match kind {
-        SchedulingType::BestEffort => 2,
-        SchedulingType::NonRealTimePolling => 3,
-        SchedulingType::RealTimePolling => 4,
-        SchedulingType::ActivityDetection => 5,
-        SchedulingType::UnsolicitedGrant => 6,
     }
 }

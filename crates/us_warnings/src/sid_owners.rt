@@ -26,10 +26,20 @@ pub(crate) fn owner_of(config: &Config, sid: u16, channel: Option<u8>) -> Option
 /// The channel on which a flow has a SID: this one, or any where none is named.
 fn channel_of(flow: &Flow, sid: u16, channel: Option<u8>) -> Option<u8> {
     for sids in flow.clusters() {
-        for (its_channel, its_sid) in flow.channels().iter().zip(sids) {
-            if *its_sid == sid && channel.unwrap_or(*its_channel) == *its_channel {
-                return Some(*its_channel);
-            }
+        let found = channel_in(flow.channels(), sids, sid, channel);
+        if found.is_some() {
+            return found;
+        }
+    }
+    None
+}
+
+/// The same of one cluster, whose SIDs are each on its channel.
+fn channel_in(channels: &[u8], sids: &[u16], sid: u16, channel: Option<u8>) -> Option<u8> {
+    for (place, its_channel) in channels.iter().enumerate() {
+        let is_there = channel.unwrap_or(*its_channel) == *its_channel;
+        if is_there && sids.get(place) == Some(&sid) {
+            return Some(*its_channel);
         }
     }
     None

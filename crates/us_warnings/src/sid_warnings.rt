@@ -1,137 +1,146 @@
 use crate::alike::SidRows;
-use crate::drafts::{Draft, Subject, Tally};
+use crate::drafts::{Drafts, Subject, Tally};
 use crate::named_sids::NamedSids;
-use crate::names::{TableId, type_of};
-use crate::sid_owners::{SidOwner, owner_of};
+use crate::names::TableId;
+use crate::parts::Part;
+use crate::sid_owners::owner_of;
 use crate::unknown_sids::UnknownSids;
 use std::alloc::{AllocError, Global};
 use us_flows::{Config, SchedulingType, TableName};
 
 /// SIDs that no flow has.
 pub(crate) fn push_unknown(
-    alloc: Global,
-    drafts: &mut Vec<Draft>,
+    drafts: &mut Drafts,
     config: &Config,
     unknown: &UnknownSids,
 ) -> Result<(), AllocError> {
     for told in &unknown.told {
-        drafts.push(Draft {
-            subject: Subject::Row(told.rows.line),
-            text: unknown_text(alloc, config, told)?,
-        })?;
+        add_unknown(drafts, config, told)?;
     }
-    unknown.tally.push_others(
-        alloc,
-        drafts,
+    drafts.add_others(
+        &unknown.tally,
         "more SID that no flow has",
         "more SIDs that no flow has, the first here",
     )
 }
 
 /// That no flow has a SID on a channel.
-fn unknown_text(alloc: Global, config: &Config, unknown: &SidRows) -> Result<String, AllocError> {
-    let (channel, sid, rows) = (unknown.channel, unknown.sid, unknown.rows);
-    if config.channels().iter().all(|known| known.id != channel) {
-        return format!(in alloc;
-            "channel: no channel has id {channel}, which stands with SID {sid}: {rows}"
-        );
+fn add_unknown(drafts: &mut Drafts, config: &Config, unknown: &SidRows) -> Result<(), AllocError> {
+    let subject = Subject::Row(unknown.rows.line);
+    let (channel, sid) = (
+        Part::Number(u64::from(unknown.channel)),
+        Part::Number(u64::from(unknown.sid)),
+    );
+    let rows = unknown.rows.counted();
+    if !has_channel(config, unknown.channel) {
+        let words = "channel: no channel has id #, which stands with SID #: #";
+        return drafts.add(subject, words, &[channel, sid, rows]);
     }
-    match owner_of(config, sid, None) {
-        Some(owner) => {
-            let (flow, its_channel) = (owner.flow, owner.channel);
-            format!(in alloc;
-                "sid: no flow has SID {sid} on channel {channel}, {flow} has it on channel {its_channel}: {rows}"
-            )
+    let Some(owner) = owner_of(config, unknown.sid, None) else {
+        let words = "sid: no flow has SID # on channel #: #";
+        return drafts.add(subject, words, &[sid, channel, rows]);
+    };
+    let (flow, its_channel) = (
+        Part::Table(owner.flow),
+        Part::Number(u64::from(owner.channel)),
+    );
+    let words = "sid: no flow has SID # on channel #, # has it on channel #: #";
+    drafts.add(subject, words, &[sid, channel, flow, its_channel, rows])
+}
+
+/// Whether a channel has this id.
+fn has_channel(config: &Config, id: u8) -> bool {
+    for channel in config.channels() {
+        if channel.id == id {
+            return true;
         }
-        None => format!(in alloc; "sid: no flow has SID {sid} on channel {channel}: {rows}"),
     }
+    false
 }
 
 /// SIDs of flows that don't take rows of some kind.
 pub(crate) fn push_unused(
     alloc: Global,
-    drafts: &mut Vec<Draft>,
+    drafts: &mut Drafts,
     config: &Config,
     named: &NamedSids,
 ) -> Result<(), AllocError> {
-    let mut unused = Tally::new();
-    for sid_rows in &unused_rows(alloc, named)? {
-        let subject = Subject::Row(sid_rows.rows.line);
-        if !unused.add(subject) {
-            continue;
-        }
-        if let Some(owner) = owner_of(config, sid_rows.sid, Some(sid_rows.channel)) {
-            let text = unused_text(alloc, sid_rows, owner)?;
-            drafts.push(Draft { subject, text })?;
+    let mut tally = Tally::new();
+    for (line, place) in &named.unused(alloc)? {
+        if tally.add(Subject::Row(*line)) {
+            if let Some(rows) = named.unused_at(*place) {
+                add_unused(drafts, config, &rows)?;
+            }
         }
     }
-    unused.push_others(
-        alloc,
-        drafts,
+    drafts.add_others(
+        &tally,
         "more SID with rows of a kind that its flow doesn't take",
         "more SIDs with rows of kinds that their flows don't take, the first here",
     )
 }
 
-/// The rows of each SID that its flow doesn't take, by line.
-fn unused_rows(alloc: Global, named: &NamedSids) -> Result<Vec<SidRows>, AllocError> {
-    let mut unused = Vec::new(alloc);
-    for ((channel, sid), named) in named.known.iter() {
-        if named.unused.rows > 0 {
-            unused.push(SidRows {
-                channel: *channel,
-                sid: *sid,
-                rows: named.unused,
-            })?;
-        }
-    }
-    unused.sort_by_key(|sid_rows| sid_rows.rows.line)?;
-    Ok(unused)
-}
-
-/// That the flow with a SID on a channel doesn't take rows of this kind.
-fn unused_text(alloc: Global, sid_rows: &SidRows, owner: SidOwner) -> Result<String, AllocError> {
-    let (sid, rows) = (sid_rows.sid, sid_rows.rows);
-    let (flow, channel) = (owner.flow, owner.channel);
-    let (kind, taken) = (type_of(owner.kind), taken_by(owner.kind));
-    format!(in alloc;
-        "sid: SID {sid} on channel {channel} is of {flow}, which is of type {kind} and takes {taken}: {rows}"
+/// That the flow with a SID on a channel doesn't take these rows.
+fn add_unused(drafts: &mut Drafts, config: &Config, unused: &SidRows) -> Result<(), AllocError> {
+    let Some(owner) = owner_of(config, unused.sid, Some(unused.channel)) else {
+        return Ok(());
+    };
+    let (kind, taken) = taken_by(owner.kind);
+    drafts.add(
+        Subject::Row(unused.rows.line),
+        "sid: SID # on channel # is of #, which is of type # and takes #: #",
+        &[
+            Part::Number(u64::from(unused.sid)),
+            Part::Number(u64::from(owner.channel)),
+            Part::Table(owner.flow),
+            Part::Number(kind),
+            Part::Text(taken),
+            unused.rows.counted(),
+        ],
     )
 }
 
-/// Which rows a flow of a scheduling type takes.
-fn taken_by(kind: SchedulingType) -> &'static str {
+/// The number of a scheduling type in the configuration, and which rows a flow of it takes.
+fn taken_by(kind: SchedulingType) -> (u64, &'static str) {
+    let requests = "requests alone, which are rows of kind 0";
     match kind {
-        SchedulingType::BestEffort
-        | SchedulingType::NonRealTimePolling
-        | SchedulingType::RealTimePolling => "requests alone, which are rows of kind 0",
-        SchedulingType::ActivityDetection => "marks alone, which are rows of kind 1 or 2",
-        SchedulingType::UnsolicitedGrant => "no rows, since its grants come unasked",
+        SchedulingType::BestEffort => (2, requests),
+        SchedulingType::NonRealTimePolling => (3, requests),
+        SchedulingType::RealTimePolling => (4, requests),
+        SchedulingType::ActivityDetection => (5, "marks alone, which are rows of kind 1 or 2"),
+        SchedulingType::UnsolicitedGrant => (6, "no rows, since its grants come unasked"),
     }
 }
 
 /// Flows that make requests, and that no row names.
 pub(crate) fn push_silent_flows(
-    alloc: Global,
-    drafts: &mut Vec<Draft>,
+    drafts: &mut Drafts,
     config: &Config,
     named: &NamedSids,
 ) -> Result<(), AllocError> {
-    let mut silent = Tally::new();
+    let mut tally = Tally::new();
     for (index, flow) in config.flows().iter().enumerate() {
-        let table = TableId::new(TableName::Flow, index, flow.id());
-        let subject = Subject::Key(table.path(Some("id")));
-        if flow.kind().makes_requests() && !named.have(flow) && silent.add(subject) {
-            let text = format!(in alloc;
-                "{table}: no row of the trace names one of its SIDs, so it asks for nothing"
+        if flow.kind().makes_requests() && !named.have(flow) {
+            add_silent(
+                drafts,
+                &mut tally,
+                TableId::new(TableName::Flow, index, flow.id()),
             )?;
-            drafts.push(Draft { subject, text })?;
         }
     }
-    silent.push_others(
-        alloc,
-        drafts,
+    drafts.add_others(
+        &tally,
         "more flow that no row of the trace names",
         "more flows that no row of the trace names, the first here",
     )
+}
+
+/// That no row names a flow.
+fn add_silent(drafts: &mut Drafts, tally: &mut Tally, flow: TableId) -> Result<(), AllocError> {
+    let subject = Subject::Key(flow.path(Some("id")));
+    if !tally.add(subject) {
+        return Ok(());
+    }
+    let words = "#: no row of the trace names one of its SIDs, so it asks for nothing";
+    drafts.add(subject, words, &[Part::Table(flow)])
 }

@@ -1,8 +1,8 @@
-use crate::counted::Counted;
-use crate::drafts::{Draft, Subject, Tally};
+use crate::drafts::{Drafts, Subject, Tally};
 use crate::loads::{Load, MAX_ASSIGNMENTS};
 use crate::located::located;
 use crate::names::TableId;
+use crate::parts::Part;
 use crate::runs::Run;
 use crate::window_warnings::{add_hopeless, push_windows};
 use std::alloc::{AllocError, Global};
@@ -21,34 +21,29 @@ pub fn config_warnings(
     rounds: u32,
 ) -> Result<Vec<Finding>, NoMemory> {
     let run = Run::new(config, rounds);
-    let mut drafts = Vec::new(alloc);
-    push_lead(alloc, &mut drafts, config, &run)?;
+    let mut drafts = Drafts::new(alloc);
+    push_lead(&mut drafts, config, &run)?;
     push_calendars(alloc, text, &mut drafts, config, &run)?;
-    located(alloc, text, drafts)
+    located(drafts, text)
 }
 
 /// That no row of a trace is in time, since the run ends before the lead does.
-fn push_lead(
-    alloc: Global,
-    drafts: &mut Vec<Draft>,
-    config: &Config,
-    run: &Run,
-) -> Result<(), AllocError> {
-    let rounds = run.rounds;
+fn push_lead(drafts: &mut Drafts, config: &Config, run: &Run) -> Result<(), AllocError> {
     let first = config.lead_ticks().div_ceil(run.round_ticks);
-    if first < rounds || config.clusters() == 0 {
+    if first < run.rounds || config.clusters() == 0 {
         return Ok(());
     }
-    let (last, wanted) = (run.last_round(), first.saturating_add(1));
-    let text = format!(in alloc;
-        "lead_ticks: a row at tick 0 belongs to round {first}, and the run ends with round {last}, so all rows are \
-        late; a smaller lead or --rounds {wanted} is wanted"
-    )?;
-    drafts.push(Draft {
-        subject: top_key("lead_ticks"),
-        text,
-    })?;
-    Ok(())
+    let (first, last) = (u64::from(first), u64::from(run.last_round()));
+    drafts.add(
+        top_key("lead_ticks"),
+        "lead_ticks: a row at tick 0 belongs to round #, and the run ends with round #, so all rows are late; \
+        a smaller lead or --rounds # is wanted",
+        &[
+            Part::Number(first),
+            Part::Number(last),
+            Part::Number(first.saturating_add(1)),
+        ],
+    )
 }
 
 /// A key of the top level.
@@ -67,27 +62,20 @@ fn top_key(key: &'static str) -> Subject {
 fn push_calendars(
     alloc: Global,
     text: &[u8],
-    drafts: &mut Vec<Draft>,
+    drafts: &mut Drafts,
     config: &Config,
     run: &Run,
 ) -> Result<(), NoMemory> {
-    let mut loads = Tally::new();
+    let mut tally = Tally::new();
     let mut hopeless = Vec::new(alloc);
     for (index, channel) in config.channels().iter().enumerate() {
         let entries = entries_of(alloc, config, channel)?;
-        push_load(
-            alloc,
-            drafts,
-            &mut loads,
-            TableId::new(TableName::Channel, index, u16::from(channel.id)),
-            &Load::of(&entries, run),
-            run,
-        )?;
+        let table = TableId::new(TableName::Channel, index, u16::from(channel.id));
+        push_load(drafts, &mut tally, table, &Load::of(&entries, run), run)?;
         add_hopeless(&mut hopeless, config, channel, &entries, run)?;
     }
-    loads.push_others(
-        alloc,
-        drafts,
+    drafts.add_others(
+        &tally,
         "more channel whose calendar asks for too much",
         "more channels whose calendars ask for too much, the first here",
     )?;
@@ -96,8 +84,7 @@ fn push_calendars(
 
 /// That a calendar asks for more assignments than MAPs have.
 fn push_load(
-    alloc: Global,
-    drafts: &mut Vec<Draft>,
+    drafts: &mut Drafts,
     tally: &mut Tally,
     channel: TableId,
     load: &Load,
@@ -107,12 +94,17 @@ fn push_load(
     if !load.is_too_much() || !tally.add(subject) {
         return Ok(());
     }
-    let (asked, bytes, last) = (load.assignments(), load.bytes(), run.last_round());
-    let lines = Counted::new(load.lines, "line", "lines");
-    let text = format!(in alloc;
-        "{channel}: its calendar asks for up to {asked} assignments in a MAP on average, once all have begun and none is \
-        silent; {MAX_ASSIGNMENTS} have room; the report of rounds up to {last} has at most {lines} of it, {bytes} bytes"
-    )?;
-    drafts.push(Draft { subject, text })?;
-    Ok(())
+    drafts.add(
+        subject,
+        "#: its calendar asks for up to # assignments in a MAP on average, once all have begun and none is silent; \
+        # have room; the report of rounds up to # has at most # of it, # bytes",
+        &[
+            Part::Table(channel),
+            Part::Number(load.assignments()),
+            Part::Number(MAX_ASSIGNMENTS),
+            Part::Number(u64::from(run.last_round())),
+            Part::Counted(load.lines, "line", "lines"),
+            Part::Number(load.bytes()),
+        ],
+    )
 }

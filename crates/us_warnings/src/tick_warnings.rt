@@ -1,13 +1,13 @@
 use crate::backward_rows::{BackwardRows, FAR_LEADS};
-use crate::drafts::{Draft, Subject};
+use crate::drafts::{Drafts, Subject};
 use crate::late_rows::LateRows;
-use std::alloc::{AllocError, Global};
+use crate::parts::Part;
+use std::alloc::AllocError;
 use us_flows::Config;
 
 /// Rows that are late in a run of so many rounds.
 pub(crate) fn push_late(
-    alloc: Global,
-    drafts: &mut Vec<Draft>,
+    drafts: &mut Drafts,
     config: &Config,
     rounds: u32,
     late_rows: &LateRows,
@@ -16,31 +16,27 @@ pub(crate) fn push_late(
     if late.rows == 0 {
         return Ok(());
     }
-    let last = rounds.saturating_sub(1);
-    let text = match late_rows.rounds_that_fit(config) {
-        Some(wanted) => {
-            format!(in alloc;
-                "tick: too late for a run that ends with round {last}, --rounds {wanted} takes all rows in: {late}"
-            )?
-        }
-        None => {
-            let most = config.most_rounds();
-            format!(in alloc;
-                "tick: too late for a run that ends with round {last}, and no run has more than {most} rounds: {late}"
-            )?
-        }
+    let (words, number) = match late_rows.rounds_that_fit(config) {
+        Some(wanted) => (
+            "tick: too late for a run that ends with round #, --rounds # takes all rows in: #",
+            wanted,
+        ),
+        None => (
+            "tick: too late for a run that ends with round #, and no run has more than # rounds: #",
+            config.most_rounds(),
+        ),
     };
-    drafts.push(Draft {
-        subject: Subject::Row(late.line),
-        text,
-    })?;
-    Ok(())
+    let (last, number) = (u64::from(rounds.saturating_sub(1)), u64::from(number));
+    drafts.add(
+        Subject::Row(late.line),
+        words,
+        &[Part::Number(last), Part::Number(number), late.counted()],
+    )
 }
 
 /// Ticks that look like microseconds.
 pub(crate) fn push_microseconds(
-    alloc: Global,
-    drafts: &mut Vec<Draft>,
+    drafts: &mut Drafts,
     config: &Config,
     late_rows: &LateRows,
 ) -> Result<(), AllocError> {
@@ -48,35 +44,32 @@ pub(crate) fn push_microseconds(
     if !late_rows.look_like_microseconds(config) {
         return Ok(());
     }
-    let text = format!(in alloc;
+    drafts.add(
+        Subject::Row(late.line),
         "tick: if these ticks are microseconds, 4/25 of each is wanted, since a tick is 6.25 microseconds; \
-        no row would be late then: {late}"
-    )?;
-    drafts.push(Draft {
-        subject: Subject::Row(late.line),
-        text,
-    })?;
-    Ok(())
+        no row would be late then: #",
+        &[late.counted()],
+    )
 }
 
 /// Rows that go back far behind a row before them.
 pub(crate) fn push_backward(
-    alloc: Global,
-    drafts: &mut Vec<Draft>,
+    drafts: &mut Drafts,
     backward: &BackwardRows,
 ) -> Result<(), AllocError> {
     let Some((row, before)) = backward.first else {
         return Ok(());
     };
-    let (tick, back) = (row.tick, backward.back);
-    let (greater, line) = (before.tick, before.line);
-    let text = format!(in alloc;
-        "tick: {tick} goes back by more than {FAR_LEADS} leads from {greater} in line {line}; rows may stand in any \
-        order, but is this another trace put behind the first? {back}"
-    )?;
-    drafts.push(Draft {
-        subject: Subject::Row(row.line),
-        text,
-    })?;
-    Ok(())
+    drafts.add(
+        Subject::Row(row.line),
+        "tick: # goes back by more than # leads from # in line #; rows may stand in any order, but is this another \
+        trace put behind the first? #",
+        &[
+            Part::Number(u64::from(row.tick)),
+            Part::Number(u64::from(FAR_LEADS)),
+            Part::Number(u64::from(before.tick)),
+            Part::Number(before.line as u64),
+            backward.back.counted(),
+        ],
+    )
 }

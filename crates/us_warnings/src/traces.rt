@@ -1,10 +1,11 @@
 use crate::backward_rows::BackwardRows;
+use crate::drafts::Drafts;
 use crate::late_rows::LateRows;
 use crate::located::located;
 use crate::named_sids::NamedSids;
 use crate::sid_warnings::{push_silent_flows, push_unknown, push_unused};
 use crate::tick_warnings::{push_backward, push_late, push_microseconds};
-use std::alloc::Global;
+use std::alloc::{AllocError, Global};
 use us_findings::Finding;
 use us_flows::Config;
 use us_requests::Request;
@@ -45,18 +46,23 @@ impl<'a> SeenRows<'a> {
     /// What looks wrong in them. `config_text` is what the configuration was read from, since it is there that a flow stands
     /// which no row names. The error is want of memory.
     pub fn warnings(&self, alloc: Global, config_text: &[u8]) -> Result<TraceWarnings, NoMemory> {
-        let config = self.config;
-        let mut drafts = Vec::new(alloc);
-        push_unknown(alloc, &mut drafts, config, &self.named.unknown)?;
-        push_unused(alloc, &mut drafts, config, &self.named)?;
-        push_silent_flows(alloc, &mut drafts, config, &self.named)?;
-        push_late(alloc, &mut drafts, config, self.rounds, &self.late)?;
-        push_microseconds(alloc, &mut drafts, config, &self.late)?;
-        push_backward(alloc, &mut drafts, &self.backward)?;
+        let mut drafts = Drafts::new(alloc);
+        self.push_all(alloc, &mut drafts)?;
         Ok(TraceWarnings {
-            findings: located(alloc, config_text, drafts)?,
-            rounds_for_all: self.late.rounds_that_fit(config),
+            findings: located(drafts, config_text)?,
+            rounds_for_all: self.late.rounds_that_fit(self.config),
         })
+    }
+
+    /// Adds what looks wrong in them.
+    fn push_all(&self, alloc: Global, drafts: &mut Drafts) -> Result<(), AllocError> {
+        let config = self.config;
+        push_unknown(drafts, config, &self.named.unknown)?;
+        push_unused(alloc, drafts, config, &self.named)?;
+        push_silent_flows(drafts, config, &self.named)?;
+        push_late(drafts, config, self.rounds, &self.late)?;
+        push_microseconds(drafts, config, &self.late)?;
+        push_backward(drafts, &self.backward)
     }
 }
 

@@ -1,14 +1,14 @@
 ghost use Rattle.us_flows.specs.Lawful.{IsChannel};
 
-use crate::counted::Counted;
-use crate::drafts::{Draft, Subject, Tally};
+use crate::drafts::{Drafts, Subject, Tally};
 use crate::empty_maps::EmptyMaps;
 use crate::hopeless_windows::{ClosedWindows, HopelessWindows, Lack, MAX_WINDOWS, closed_windows};
 use crate::names::TableId;
+use crate::parts::Part;
 use crate::runs::Run;
 use std::alloc::{AllocError, Global};
 use us_calendar::{Entry, Kind};
-use us_config_lines::{KeyPath, spots_of};
+use us_config_lines::{KeyPath, Spot, spots_of};
 use us_flows::{Channel, Config};
 use us_slots::NoMemory;
 
@@ -62,70 +62,85 @@ fn table_of(config: &Config, entry: &Entry) -> TableId {
 pub(crate) fn push_windows(
     alloc: Global,
     config_text: &[u8],
-    drafts: &mut Vec<Draft>,
+    drafts: &mut Drafts,
     hopeless: &[HopelessEntry],
     run: &Run,
 ) -> Result<(), NoMemory> {
     if hopeless.is_empty() {
         return Ok(());
     }
-    let entries = in_order(alloc, config_text, hopeless)?;
-    push_lacking(alloc, drafts, &entries, Lack::Minislot, run)?.push_others(
-        alloc,
-        drafts,
-        "more entry with windows in which no minislot begins",
-        "more entries with windows in which no minislot begins, the first here",
-    )?;
-    push_lacking(alloc, drafts, &entries, Lack::Room, run)?.push_others(
-        alloc,
-        drafts,
-        "more entry with windows that have no room for a grant",
-        "more entries with windows that have no room for a grant, the first here",
-    )?;
+    let order = order_of(alloc, config_text, hopeless)?;
+    push_lacking(drafts, hopeless, &order, Lack::Minislot, run)?;
+    push_lacking(drafts, hopeless, &order, Lack::Room, run)?;
     Ok(())
 }
 
-/// Entries in the order in which their tables stand in the text.
-fn in_order(
+/// Where the tables of these entries stand in the text and the place of each entry among these, in the order of the text.
+fn order_of(
     alloc: Global,
     config_text: &[u8],
     hopeless: &[HopelessEntry],
-) -> Result<Vec<HopelessEntry>, NoMemory> {
+) -> Result<Vec<(usize, usize)>, NoMemory> {
+    let paths = paths_of(alloc, hopeless)?;
+    let spots = spots_of(alloc, str::from_utf8(config_text).unwrap_or(""), &paths)?;
+    Ok(sorted(alloc, &spots)?)
+}
+
+/// The keys of these entries that are to be mended.
+fn paths_of(
+    alloc: Global,
+    hopeless: &[HopelessEntry],
+) -> Result<Vec<KeyPath<'static>>, AllocError> {
     let mut paths = Vec::new(alloc);
     for entry in hopeless {
         paths.push(entry.path())?;
     }
-    let spots = spots_of(alloc, str::from_utf8(config_text).unwrap_or(""), &paths)?;
-    let mut placed = Vec::new(alloc);
-    for (entry, spot) in hopeless.iter().zip(&spots) {
-        placed.push((spot.at, *entry))?;
-    }
-    placed.sort_by_key(|(at, _)| *at)?;
-    let mut entries = Vec::new(alloc);
-    for (_, entry) in &placed {
-        entries.push(*entry)?;
-    }
-    Ok(entries)
+    Ok(paths)
 }
 
-/// Warns of windows that no schedule could grant for this reason, and answers how many entries have such.
+/// Where these spots are and the place of each among them, sorted.
+fn sorted(alloc: Global, spots: &[Spot]) -> Result<Vec<(usize, usize)>, AllocError> {
+    let mut order = Vec::new(alloc);
+    for (place, spot) in spots.iter().enumerate() {
+        order.push((spot.at, place))?;
+    }
+    order.sort_unstable();
+    Ok(order)
+}
+
+/// Warns of windows that no schedule could grant for this reason.
 fn push_lacking(
-    alloc: Global,
-    drafts: &mut Vec<Draft>,
-    entries: &[HopelessEntry],
+    drafts: &mut Drafts,
+    hopeless: &[HopelessEntry],
+    order: &[(usize, usize)],
     lack: Lack,
     run: &Run,
-) -> Result<Tally, AllocError> {
+) -> Result<(), AllocError> {
     let mut tally = Tally::new();
-    for entry in entries {
-        let windows = entry.windows.hopeless(lack);
-        let subject = Subject::Key(entry.path());
-        if windows.count > 0 && tally.add(subject) {
-            let text = entry.text(alloc, lack, windows, run)?;
-            drafts.push(Draft { subject, text })?;
+    for (_, place) in order {
+        if let Some(entry) = hopeless.get(*place) {
+            let windows = entry.windows.hopeless(lack);
+            if windows.count > 0 && tally.add(Subject::Key(entry.path())) {
+                entry.push(drafts, lack, windows, run)?;
+            }
         }
     }
-    Ok(tally)
+    let (one, many) = others_of(lack);
+    drafts.add_others(&tally, one, many)
+}
+
+/// What one more entry with such windows is called, and several.
+fn others_of(lack: Lack) -> (&'static str, &'static str) {
+    match lack {
+        Lack::Minislot => (
+            "more entry with windows in which no minislot begins",
+            "more entries with windows in which no minislot begins, the first here",
+        ),
+        Lack::Room => (
+            "more entry with windows that have no room for a grant",
+            "more entries with windows that have no room for a grant, the first here",
+        ),
+    }
 }
 
 impl HopelessEntry {
@@ -135,61 +150,58 @@ impl HopelessEntry {
     }
 
     /// That no schedule could grant some of its windows, for this reason.
-    fn text(
+    fn push(
         &self,
-        alloc: Global,
+        drafts: &mut Drafts,
         lack: Lack,
         windows: HopelessWindows,
         run: &Run,
-    ) -> Result<String, AllocError> {
-        let which = self.which(alloc, windows, run)?;
+    ) -> Result<(), AllocError> {
+        let (subject, table) = (Subject::Key(self.path()), Part::Table(self.table));
+        let [count, first, closed, last, interval, round] = self.which(windows, run);
         match lack {
-            Lack::Minislot => self.text_without_minislot(alloc, &which),
-            Lack::Room => self.text_without_room(alloc, &which),
+            Lack::Minislot => drafts.add(
+                subject,
+                "#, jitter_us: no minislot begins in # of ## closed by round #; the first of them, of interval #, counted \
+                from 0, closes in round #; another start_us or a greater jitter_us is wanted",
+                &[table, count, first, closed, last, interval, round],
+            ),
+            Lack::Room => drafts.add(
+                subject,
+                "#, jitter_us: whatever the schedule, there is no room for its grants of ## beside the reserves in # of ## \
+                closed by round #; the first of them, of interval #, counted from 0, closes in round #; another start_us, \
+                a greater jitter_us or smaller reserves are wanted",
+                &[
+                    table,
+                    Part::Counted(u64::from(self.slots), "minislot", "minislots"),
+                    when(self.may_be_silent, " while it is active"),
+                    count,
+                    first,
+                    closed,
+                    last,
+                    interval,
+                    round,
+                ],
+            ),
         }
     }
 
-    /// How many windows these are, and which is the first.
-    fn which(
-        &self,
-        alloc: Global,
-        windows: HopelessWindows,
-        run: &Run,
-    ) -> Result<String, AllocError> {
-        let (count, interval, last) = (windows.count, windows.first_interval, run.last_round());
-        let first = if self.windows.count == MAX_WINDOWS {
-            "the first "
-        } else {
-            ""
-        };
-        let closed = Counted::new(u64::from(self.windows.count), "window", "windows");
-        let round = windows.first_end / run.round_quarters();
-        format!(in alloc;
-            "{count} of {first}{closed} closed by round {last}; the first of them, of interval {interval}, counted from 0, \
-            closes in round {round}"
-        )
+    /// How many windows these are, of which and of how many, the last round, and of the first of them the interval and the
+    /// round in which it closes.
+    fn which(&self, windows: HopelessWindows, run: &Run) -> [Part; 6] {
+        let closed = self.windows.count;
+        [
+            Part::Number(u64::from(windows.count)),
+            when(closed == MAX_WINDOWS, "the first "),
+            Part::Counted(u64::from(closed), "window", "windows"),
+            Part::Number(u64::from(run.last_round())),
+            Part::Number(u64::from(windows.first_interval)),
+            Part::Number(u64::from(windows.first_end / run.round_quarters())),
+        ]
     }
+}
 
-    /// That no minislot begins in these windows.
-    fn text_without_minislot(&self, alloc: Global, which: &String) -> Result<String, AllocError> {
-        let table = self.table;
-        format!(in alloc;
-            "{table}, jitter_us: no minislot begins in {which}; another start_us or a greater jitter_us is wanted"
-        )
-    }
-
-    /// That these windows have no room for a grant.
-    fn text_without_room(&self, alloc: Global, which: &String) -> Result<String, AllocError> {
-        let table = self.table;
-        let minislots = Counted::new(u64::from(self.slots), "minislot", "minislots");
-        let active = if self.may_be_silent {
-            " while it is active"
-        } else {
-            ""
-        };
-        format!(in alloc;
-            "{table}, jitter_us: whatever the schedule, there is no room for its grants of {minislots}{active} beside the \
-            reserves in {which}; another start_us, a greater jitter_us or smaller reserves are wanted"
-        )
-    }
+/// These words, if they are wanted.
+fn when(is_wanted: bool, words: &'static str) -> Part {
+    Part::Text(if is_wanted { words } else { "" })
 }

@@ -1,4 +1,4 @@
-//! What no clause says: the lines of records.
+//! The lines of records.
 
 use std::alloc::Global;
 use us_slots::NoMemory;
@@ -56,8 +56,12 @@ static CASES: [Case; 10] = [
 
 /// Whether the records of a text, and no more, stand on its lines.
 fn is_right(alloc: Global, case: &Case) -> Result<bool, NoMemory> {
-    let mut rows = Rows::new(alloc, case.text);
-    for line in case.lines {
+    stand_on(&mut Rows::new(alloc, case.text), case.lines)
+}
+
+/// Whether the records that are left, and no more, stand on these lines.
+fn stand_on(rows: &mut Rows<'_>, lines: &[usize]) -> Result<bool, NoMemory> {
+    for line in lines {
         if !rows.read()? || rows.line() != *line {
             return Ok(false);
         }

@@ -1,7 +1,7 @@
-//! Findings of changed configurations, in words. More stand in the stored cases of the program.
+//! Findings of changed configurations, in words.
 
+use crate::tests::{put_line, put_lines, same};
 use std::alloc::{AllocError, Global};
-use std::process::Abort;
 use std::test::Fail;
 use us_findings::{Findings, Shown, lint_config};
 use us_samples::base;
@@ -78,28 +78,13 @@ static CASES: [(&str, &str, &str); 12] = [
     ),
 ];
 
-/// The one assertion of these tests, since each costs the proof of the function that it stands in.
-fn same(rt: &impl Abort, found: &str, wanted: &str) {
-    assert_eq!(rt; found, wanted);
-}
-
-/// The findings of a text, a line for each.
-fn findings_of(alloc: Global, text: &[u8]) -> Result<String, NoMemory> {
-    match lint_config(alloc, text)? {
-        Ok(_) => Ok(String::new(alloc)),
-        Err(findings) => Ok(lines_of(alloc, &findings)?),
-    }
-}
-
-/// A line for each of these, and how many more there are.
-fn lines_of(alloc: Global, findings: &Findings) -> Result<String, AllocError> {
-    let (first, more) = (&findings.first, findings.more);
-    let mut lines = format!(in alloc; "{first}\n")?;
-    for other in &findings.others {
-        write!(lines, "{other}\n")?;
-    }
-    if more > 0 {
-        write!(lines, "{more} more\n")?;
+/// The findings of the base configuration with another text in the place of one, a line for each.
+fn told(alloc: Global, old: &str, new: &str) -> Result<String, NoMemory> {
+    let mut lines = String::new(alloc);
+    let text = changed(alloc, old, new)?;
+    match lint_config(alloc, text.as_bytes())? {
+        Ok(_) => {}
+        Err(findings) => put_all(&mut lines, &findings)?,
     }
     Ok(lines)
 }
@@ -110,34 +95,49 @@ fn changed(alloc: Global, old: &str, new: &str) -> Result<String, AllocError> {
     format!(in alloc; "{before}{new}{after}")
 }
 
+/// Puts a line for each of these behind others, and how many more there are.
+fn put_all(lines: &mut String, findings: &Findings) -> Result<(), AllocError> {
+    put_line(lines, &findings.first)?;
+    put_lines(lines, &findings.others)?;
+    let more = findings.more;
+    if more == 0 {
+        return Ok(());
+    }
+    write!(lines, "{more} more\n")
+}
+
 #[test]
 fn changes(rt: HostRuntime) -> Result<(), Fail> {
-    for (old, new, wanted) in CASES {
-        let text = changed(rt.alloc(), old, new)?;
-        same(
-            &rt,
-            findings_of(rt.alloc(), text.as_bytes())?.as_str(),
-            wanted,
-        );
+    for (old, new, wanted) in &CASES {
+        let found = told(rt.alloc(), old, new)?;
+        same(&rt, found.as_str(), wanted);
     }
     Ok(())
+}
+
+/// Eighty keys that no table has, and the start of a profile behind them.
+fn many_keys(alloc: Global) -> Result<String, AllocError> {
+    let mut keys = String::new(alloc);
+    for number in 0..80 {
+        write!(keys, "x{number} = 0\n")?;
+    }
+    keys.push_str("long = { ")?;
+    Ok(keys)
+}
+
+/// The first of these lines, and how many there are.
+fn first_and_count(alloc: Global, lines: &str) -> Result<String, AllocError> {
+    let first = lines.split('\n').next().unwrap_or("");
+    let count = lines.split('\n').count();
+    format!(in alloc; "{first}, {count}")
 }
 
 /// A channel with many unknown keys, whose profile lacks a key: that is the first, and 49 others are told.
 #[test]
 fn many(rt: HostRuntime) -> Result<(), Fail> {
-    let alloc = rt.alloc();
-    let mut new = String::new(alloc);
-    for number in 0..80 {
-        write!(new, "x{number} = 0\n")?;
-    }
-    new.push_str("long = { ")?;
-    let text = changed(alloc, "long = { bits = 4, ", new.as_str())?;
-    let findings = findings_of(alloc, text.as_bytes())?;
-    let lines = findings.as_str();
-    let first = lines.split('\n').next().unwrap_or("");
-    let count = lines.split('\n').count();
-    let found = format!(in alloc; "{first}, {count}")?;
+    let keys = many_keys(rt.alloc())?;
+    let lines = told(rt.alloc(), "long = { bits = 4, ", keys.as_str())?;
+    let found = first_and_count(rt.alloc(), lines.as_str())?;
     same(
         &rt,
         found.as_str(),

@@ -1,10 +1,13 @@
-use std::alloc::Global;
-use us_findings::Finding;
+//! What looks wrong in tables and traces, in words.
+
+use crate::tests::{put_lines, same};
+use std::alloc::{AllocError, Global};
+use std::test::Fail;
 use us_flows::Config;
 use us_samples::base;
 use us_slots::NoMemory;
 use us_trace_findings::lint_trace;
-use us_warnings::{SeenRows, config_warnings};
+use us_warnings::{SeenRows, TraceWarnings, config_warnings};
 
 /// Tables behind the base configuration, a trace, a number of rounds, and what looks wrong.
 struct Case {
@@ -53,51 +56,53 @@ static CASES: [Case; 3] = [
 
 /// All that looks wrong in a case, a line each, and how many rounds take all rows in.
 fn found_in(alloc: Global, case: &Case) -> Result<String, NoMemory> {
-    let tables = case.tables;
-    let base = base();
-    let text = format!(in alloc; "{base}{tables}")?;
-    match Config::read(alloc, text.as_bytes()) {
-        Ok(config) => found_beside(alloc, text.as_bytes(), case, &config),
-        Err(_) => Ok(String::from_str(alloc, "a fault")?),
-    }
-}
-
-/// The same beside a configuration, which was read from a text.
-fn found_beside(
-    alloc: Global,
-    text: &[u8],
-    case: &Case,
-    config: &Config,
-) -> Result<String, NoMemory> {
-    let of_tables = config_warnings(alloc, text, config, case.rounds)?;
-    let mut seen = SeenRows::new(alloc, config, case.rounds);
-    let _ = lint_trace(alloc, case.trace.as_bytes(), &mut seen)?;
-    let of_rows = seen.warnings(alloc, text)?;
     let mut lines = String::new(alloc);
-    push_lines(alloc, &mut lines, &of_tables)?;
-    push_lines(alloc, &mut lines, &of_rows.findings)?;
-    let rounds = of_rows.rounds_for_all.unwrap_or(0);
-    let last = format!(in alloc; "{rounds}\n")?;
-    lines.push_str(last.as_str())?;
+    let text = with_tables(alloc, case.tables)?;
+    match Config::read(alloc, text.as_bytes()) {
+        Ok(config) => put_found(alloc, &mut lines, text.as_bytes(), case, &config)?,
+        Err(_) => lines.push_str("a fault")?,
+    }
     Ok(lines)
 }
 
-/// Puts a line for each finding behind a text.
-fn push_lines(alloc: Global, lines: &mut String, findings: &[Finding]) -> Result<(), NoMemory> {
-    for finding in findings {
-        let line = format!(in alloc; "{finding}\n")?;
-        lines.push_str(line.as_str())?;
-    }
-    Ok(())
+/// The base configuration with these tables behind it.
+fn with_tables(alloc: Global, tables: &str) -> Result<String, AllocError> {
+    let base = base();
+    format!(in alloc; "{base}{tables}")
+}
+
+/// Puts all that beside a configuration, which was read from a text.
+fn put_found(
+    alloc: Global,
+    lines: &mut String,
+    text: &[u8],
+    case: &Case,
+    config: &Config,
+) -> Result<(), NoMemory> {
+    put_lines(lines, &config_warnings(alloc, text, config, case.rounds)?)?;
+    let seen = seen_in(alloc, case, config)?;
+    put_rows(lines, &seen.warnings(alloc, text)?)
+}
+
+/// What is seen in the rows of a case.
+fn seen_in<'a>(alloc: Global, case: &Case, config: &'a Config) -> Result<SeenRows<'a>, NoMemory> {
+    let mut seen = SeenRows::new(alloc, config, case.rounds);
+    let _ = lint_trace(alloc, case.trace.as_bytes(), &mut seen)?;
+    Ok(seen)
+}
+
+/// Puts what looks wrong in rows, and how many rounds take all of them in.
+fn put_rows(lines: &mut String, found: &TraceWarnings) -> Result<(), NoMemory> {
+    put_lines(lines, &found.findings)?;
+    let rounds = found.rounds_for_all.unwrap_or(0);
+    Ok(write!(lines, "{rounds}\n")?)
 }
 
 #[test]
-fn findings(rt: HostRuntime) {
+fn warnings(rt: HostRuntime) -> Result<(), Fail> {
     for case in &CASES {
-        let found = found_in(rt.alloc(), case);
-        match found {
-            Ok(text) => assert_eq!(rt; text.as_str(), case.found),
-            Err(refused) => assert_eq!(rt; refused, NoMemory, "memory"),
-        }
+        let found = found_in(rt.alloc(), case)?;
+        same(&rt, found.as_str(), case.found);
     }
+    Ok(())
 }

@@ -28,16 +28,24 @@ fn drawn(draw: &mut Draw) -> Option<EmptyMaps> {
 
 /// Whether a grant of so many minislots has room from one of these on: each is tried.
 fn has_room(maps: &EmptyMaps, slots: u32, first: u32, last: u32) -> bool {
-    (first..=last).any(|minislot| {
-        let offset = minislot % maps.len;
-        let starts_with_reserve = (minislot / maps.len).is_multiple_of(maps.maintenance_every);
-        let behind = if starts_with_reserve {
-            maps.maintenance
-        } else {
-            0
-        };
-        offset >= behind && offset.saturating_add(slots).saturating_add(maps.contention) <= maps.len
-    })
+    for minislot in first..last.saturating_add(1) {
+        if has_room_from(maps, slots, minislot) {
+            return true;
+        }
+    }
+    false
+}
+
+/// Whether it has room from this one on.
+fn has_room_from(maps: &EmptyMaps, slots: u32, minislot: u32) -> bool {
+    let offset = minislot % maps.len;
+    let starts_with_reserve = (minislot / maps.len).is_multiple_of(maps.maintenance_every);
+    let behind = if starts_with_reserve {
+        maps.maintenance
+    } else {
+        0
+    };
+    offset >= behind && offset.saturating_add(slots).saturating_add(maps.contention) <= maps.len
 }
 
 /// How many of so many drawn windows are told wrong.
