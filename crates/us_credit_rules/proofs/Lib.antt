@@ -4,8 +4,8 @@ pub mod OrderLemmas
 pub mod CreditLemmas
 -- clusters in table order
 pub mod SeatLemmas
--- accounts of clusters
-pub mod AccountLemmas
+-- what they ask for and are credited
+pub mod LedgerLemmas
 -- places
 pub mod PlaceLemmas
 -- levels of buckets, and buckets through rounds

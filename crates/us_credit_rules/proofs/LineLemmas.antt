@@ -1,6 +1,6 @@
 -- Lines of requests: which is the only one of its cluster, channel and round, and which is right for the cluster that
 -- it names.
-use Rattle.std.proofs.Common.{◌≡◌, ℕ, ◌+◌, ◌*◌, ◌<◌, ◌≤◌, ◌==◌, Bool, true, false, cond, List, [], ◌∷◌, length, Option, Some, None, refl, sym, ap, ap₂, subst, ◌∙◌, inl, inr, arith, eq-eqb, IsPermutation}
+use Rattle.std.proofs.Common.{◌≡◌, ℕ, ◌+◌, ◌*◌, ◌<◌, ◌≤◌, ◌==◌, Bool, true, false, cond, List, [], ◌∷◌, length, Option, Some, None, refl, sym, ap, ap₂, ◌∙◌, inl, inr, arith, eq-eqb, IsPermutation}
 use Rattle.std.specs.Prelude.{◌&&◌, ◌||◌, not, nat_lt, if◌then◌else◌, find, count_by, slice_get}
 use Rattle.std.specs.List.{AllByRecursion, list_all, list_any}
 use Rattle.std.specs.Option.{option_to_list}
@@ -29,7 +29,7 @@ use Rattle.us_breaches.specs.Order.{goes_before}
 use Rattle.us_credit_rules.specs.Seats.{is_number, names, place_of}
 use Rattle.us_credit_rules.specs.CreditLines.{IsWrongLine, is_alone, is_right_for, is_right_line, key_for, key_of, key_told, keys_told, line_place}
 use Rattle.us_credit_rules.proofs.CreditLemmas.{sum_pointwise}
-use Rattle.us_credit_rules.proofs.SeatLemmas.{are_seats, find_number, number_below, number_found, one_named}
+use Rattle.us_credit_rules.proofs.SeatLemmas.{are_seats, find_number, found_passes, number_below, number_found, one_named}
 
 same_test : (a b : Bool) → (a ≡ true → b ≡ true) → (b ≡ true → a ≡ true) → a ≡ b
 same_test true b there back = sym (there refl)
@@ -180,18 +180,6 @@ module _ {X : Type 0} (p r : X → Bool) where
 abbrev asked_of : (Turn → Bool) → Option Turn → Bool
 asked_of r None = false
 asked_of r (Some turn) = r turn
-
--- the item that is found is one of all, and passes
-found_passes : {X : Type 0} (p : X → Bool) (P : X → Type 0) (xs : List X) (u : X) → find p xs ≡ Some u →
-    AllByRecursion P xs → P u × (p u ≡ true)
-found_passes p P [] u found all = absurd (cc found)
-found_passes p P (x ∷ xs) u found all = elim (cases_Bool (p x)) [
-  | inl is ↦
-      let here : Some x ≡ Some u = rw is at found in
-      let same : x ≡ u = cc here in
-      (subst P same all.0, ap p (sym same) ∙ is)
-  | inr out ↦ found_passes p P xs u (rw out at found) all.1
-]
 
 named_once : (t : Tables) (id list : ℕ) (r : Turn → Bool) → AreTables t → (found : Option Turn) →
     find (names id list) (table_order t) ≡ found →

@@ -1,25 +1,21 @@
 -- Moves in order: those of one owner stand together, and rise by round.
-use Rattle.std.proofs.Common.{◌≡◌, ltb, leb, ℕ, zero, suc, ◌+◌, ◌-◌, ◌*◌, ◌<◌, ◌≤◌, ◌==◌, Bool, true, false, List, [], ◌∷◌, ◌++◌, append_assoc, length, get_or, take, drop, Some, None, Option, refl, sym, ap, ◌∙◌, inl, inr, arith, IsPermutation}
-use Rattle.std.specs.Prelude.{filter, filter_map, find, flat_map, map, IfSome, option_and_then, ◌&&◌, nat_lt}
-use Rattle.std.specs.List.{All, AllByRecursion, cons_option, range_with_len}
+use Rattle.std.proofs.Common.{◌≡◌, ltb, leb, ℕ, zero, suc, ◌+◌, ◌-◌, ◌*◌, ◌<◌, ◌≤◌, ◌==◌, Bool, true, false, List, [], ◌∷◌, length, get_or, take, drop, Some, None, Option, refl, ap, ◌∙◌, inl, inr, arith, IsPermutation}
+use Rattle.std.specs.Prelude.{filter, filter_map, IfSome, ◌&&◌, nat_lt}
+use Rattle.std.specs.List.{All, AllByRecursion, cons_option}
 use Rattle.std.specs.List.Sorted.{IsNonDecreasingBy, IsPartitionPoint}
 use Rattle.std.proofs.lemmas.Bool.{cases_Bool, eqb-true, ltb-true, ltb-false, leb-true, leb-false, ne_eqb, eq-eqb, and_parts}
 use Rattle.std.proofs.lemmas.List.Elements.{All-from_recursion, recursion_from_All, filter_passes}
 use Rattle.std.proofs.lemmas.Nat.{mul-le}
-use Rattle.std.proofs.lemmas.List.{append-nil, length-drop, get_or-drop}
+use Rattle.std.proofs.lemmas.List.{length-drop, get_or-drop}
 use Rattle.std.proofs.lemmas.List.Kept.{IsNonDecreasingBy-filter}
 use Rattle.std.proofs.lemmas.List.Sorted.{All-permutation}
-use Rattle.us_output.proofs.PartLemmas.{all_append, all_filtered, all_weaker}
-use Rattle.us_flows.specs.Clusters.{Turn}
-use Rattle.us_requests.specs.declared.asks.Ask.{Ask}
-use Rattle.us_requests.specs.Traces.{TraceAsks, asks_in}
+use Rattle.us_output.proofs.PartLemmas.{all_filtered, all_weaker}
 use Rattle.us_output.specs.declared.rows.Grant.{Grant}
 use Rattle.us_output.specs.declared.rows.Row.{Row}
 use Rattle.us_output.specs.declared.rows.Row.TheVariants as rows
 use Rattle.us_lawful.specs.Runs.{is_requested}
 use Rattle.us_credit_rules.specs.declared.moves.Move.{Move}
-use Rattle.us_credit_rules.specs.Seats.{names}
-use Rattle.us_credit_rules.specs.Moves.{AreMoves, ask_move, asked_moves, cluster_move, credit_move, moves_told, flow_move, order_of, time_of}
+use Rattle.us_credit_rules.specs.Moves.{AreMoves, credit_move, flow_move, order_of, time_of}
 use Rattle.us_credit_rules.specs.Moves.{Rising}
 
 -- Items that pass and stand together.
@@ -198,62 +194,6 @@ all_told P f (x ∷ xs) each = all_joined P (f x) (filter_map f xs) (each x) (al
 pub flow_moves_inside : (rounds : ℕ) (lines : List Row) →
     AllByRecursion (λ m. m.round < rounds) (filter_map (flow_move rounds) lines)
 flow_moves_inside rounds lines = all_told (λ m. m.round < rounds) (flow_move rounds) lines (flow_inside rounds)
-
--- asks of rounds, and lines that name clusters
-range_inside : (P : Move → Type 0) (f : ℕ → List Move) (from n : ℕ) →
-    ((round : ℕ) → round < from + n → AllByRecursion P (f round)) → AllByRecursion P (flat_map f (range_with_len from n))
-range_inside P f from zero each = tt
-range_inside P f from (suc n) each =
-    all_append P (f from) (flat_map f (range_with_len (from + 1) n)) (each from (omega arith))
-    (range_inside P f (from + 1) n (λ round inside. each round (omega (arith, inside))))
-
-asks_inside : (rounds round : ℕ) (asks : List Ask) → round < rounds →
-    AllByRecursion (λ m. m.round < rounds) (map (ask_move round) asks)
-asks_inside rounds round [] inside = tt
-asks_inside rounds round (ask ∷ asks) inside = (inside, asks_inside rounds round asks inside)
-
-cluster_inside : (rounds : ℕ) (turns : List Turn) (line : Row) →
-    IfSome (cluster_move rounds turns line) (λ m. m.round < rounds)
-cluster_inside rounds turns (rows.Granted g) = of (find (names g.id g.i) turns)
-  where
-    of : (found : Option Turn) →
-        IfSome (option_and_then (λ turn. credit_move rounds turn.number g) found) (λ m. m.round < rounds)
-    of None = tt
-    of (Some turn) = credit_inside rounds turn.number g
-cluster_inside rounds turns (rows.Missed m) = tt
-cluster_inside rounds turns (rows.Final f) = tt
-cluster_inside rounds turns (rows.Activity a) = tt
-cluster_inside rounds turns (rows.Counts c) = tt
-
-pub cluster_moves_inside : (v : TraceAsks) (turns : List Turn) (lines : List Row) →
-    AllByRecursion (λ m. m.round < v.rounds) (moves_told v turns lines)
-cluster_moves_inside v turns lines =
-    all_append (λ m. m.round < v.rounds) (asked_moves v) (filter_map (cluster_move v.rounds turns) lines)
-    (range_inside (λ m. m.round < v.rounds) (λ round. map (ask_move round) (asks_in v round)) 0 v.rounds
-    (λ round inside. asks_inside v.rounds round (asks_in v round) (omega (arith, inside))))
-    (all_told (λ m. m.round < v.rounds) (cluster_move v.rounds turns) lines (cluster_inside v.rounds turns))
-
--- those of one round more
-range_more : (f : ℕ → List Move) (from n : ℕ) →
-    flat_map f (range_with_len from (suc n)) ≡ flat_map f (range_with_len from n) ++ f (from + n)
-range_more f from zero =
-    let same : from ≡ from + 0 = omega arith in
-    append-nil (f from) ∙ ap f same
-range_more f from (suc n) =
-    let next : from + 1 + n ≡ from + suc n = omega arith in
-    ap (λ rest. f from ++ rest) (range_more f (from + 1) n)
-    ∙ sym (append_assoc (f from) (flat_map f (range_with_len (from + 1) n)) (f (from + 1 + n)))
-    ∙ ap (λ round. (f from ++ flat_map f (range_with_len (from + 1) n)) ++ f round) next
-
-pub pushed_more : (f : ℕ → List Move) (before now : List Move) (n : ℕ) →
-    now ≡ before ++ flat_map f (range_with_len 0 n) → now ++ f n ≡ before ++ flat_map f (range_with_len 0 (n + 1))
-pushed_more f before now n is =
-    let same : 0 + n ≡ n = omega arith in
-    let count : suc n ≡ n + 1 = omega arith in
-    ap (λ these. these ++ f n) is ∙ append_assoc before (flat_map f (range_with_len 0 n)) (f n)
-    ∙ ap (λ rest. before ++ rest) (sym (range_more f 0 n
-    ∙ ap (λ round. flat_map f (range_with_len 0 n) ++ f round) same))
-    ∙ ap (λ m. before ++ flat_map f (range_with_len 0 m)) count
 
 -- moves that are sorted
 pub sorted_moves : (rounds : ℕ) (told moves : List Move) → AllByRecursion (λ m. m.round < rounds) told →

@@ -16,11 +16,12 @@ use Rattle.us_lawful.specs.Rates.{flow_credit, flow_rate_holds, rates_hold}
 use Rattle.us_breaches.specs.Breaches.{IsFirstFailure, IsFirstBreach, Any}
 use Rattle.us_breaches.proofs.BreachLemmas.{holds_first}
 use Rattle.us_credit_rules.specs.declared.moves.Move.{Move}
+use Rattle.us_credit_rules.specs.Ledgers.{IsFirstRound}
 use Rattle.us_credit_rules.specs.Moves.{AreMoves, flow_move}
 use Rattle.us_credit_rules.specs.Shorts.{flow_place, has, level_in, rate_place, short_round}
 use Rattle.us_credit_rules.proofs.MoveLemmas.{own_rounds_rise}
 use Rattle.us_credit_rules.proofs.CreditLemmas.{flow_credit_is}
-use Rattle.us_credit_rules.proofs.PlaceLemmas.{IsFirstRound, all_tested, flow_first, flow_test}
+use Rattle.us_credit_rules.proofs.PlaceLemmas.{all_tested, flow_first, flow_test}
 use Rattle.us_credit_rules.proofs.LevelLemmas.{full-is}
 use Rattle.us_credit_rules.proofs.WalkLemmas.{IsShort, credit_in, has_rounds, rounds_of, short_is}
 use Rattle.us_credit_rules.proofs.BoundLemmas.{ends_well, had_ends, lacked_ends}

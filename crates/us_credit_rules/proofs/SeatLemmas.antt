@@ -10,12 +10,12 @@ use Rattle.std.proofs.lemmas.List.{drop-map, drop_more, length-append, length-ta
 use Rattle.std.proofs.lemmas.List.Sums.{sum_by-cons}
 use Rattle.us_flows.specs.Tables.{Tables, FlowTable}
 use Rattle.us_flows.specs.Lawful.{AreTables, IsFlow}
-use Rattle.us_flows.specs.Clusters.{Cluster, Turn, IsTurnIn, clusters_from, makes_requests, requesting, table_order, turns_for, turns_from, words_in}
+use Rattle.us_flows.specs.Clusters.{Cluster, Turn, IsTurnIn, clusters_from, makes_requests, requesting, table_order, turns_for, turns_from, words_in, words_of}
 use Rattle.us_flows.proofs.TurnLaws.{one_number, one_turn, table_order-length, table_order-once, table_order-turns}
 use Rattle.us_lawful.proofs.CreditLineLaws.{counted_there, turn_listed}
 use Rattle.std.proofs.lemmas.Option.{slice_get_read}
 use Rattle.us_output.proofs.PartLemmas.{all_both, all_found, all_weaker}
-use Rattle.us_credit_rules.specs.Seats.{AreSeats, code_of, is_number, names, number_from, place_of}
+use Rattle.us_credit_rules.specs.Seats.{AreNamed, AreSeats, code_of, has_word, is_number, names, number_from, place_of}
 
 -- what a function gives from a place on
 pub drop_given : {X : Type 0} (f : X → List ℕ) (xs : List X) (i : ℕ) (x : X) → i < length xs → x ≡ get_or xs i x →
@@ -187,6 +187,18 @@ pub found_nowhere : (id list : ℕ) (turns : List Turn) → place_of id list tur
 found_nowhere id list turns none =
     find_number (names id list) 0 turns ∙ ap (option_and_then (λ k. slice_get turns (k - 0))) none
 
+-- the item that is found is one of all, and passes
+pub found_passes : {X : Type 0} (p : X → Bool) (P : X → Type 0) (xs : List X) (u : X) → find p xs ≡ Some u →
+    AllByRecursion P xs → P u × (p u ≡ true)
+found_passes p P [] u found all = absurd (cc found)
+found_passes p P (x ∷ xs) u found all = elim (cases_Bool (p x)) [
+  | inl is ↦
+      let here : Some x ≡ Some u = rw is at found in
+      let same : x ≡ u = cc here in
+      (subst P same all.0, ap p (sym same) ∙ is)
+  | inr out ↦ found_passes p P xs u (rw out at found) all.1
+]
+
 -- one is found where one passes
 pub any_number : {X : Type 0} (p : X → Bool) (n : ℕ) (xs : List X) → list_any p xs ≡ is_some (number_from p n xs)
 any_number p n [] = refl
@@ -356,13 +368,8 @@ named_place t turn place id list lawful listed = of (place_of id list (table_ord
               ∙ sym (ne_eqb k place apart)
         ]
 
--- the cluster that is found has this word
-abbrev pub has_word : ℕ → Option Turn → Bool
-has_word word None = false
-has_word word (Some turn) = turn.number == word
-
--- and a turn of the tables just where it has the word of what it names
-pub named_word : (t : Tables) (turn : Turn) (id list : ℕ) → AreTables t → IsTurnIn t turn →
+-- and so where it has the word of what the line names
+named_word : (t : Tables) (turn : Turn) (id list : ℕ) → AreTables t → IsTurnIn t turn →
     names id list turn ≡ has_word turn.number (find (names id list) (table_order t))
 named_word t turn id list lawful known = of (place_of id list (table_order t)) refl
   where
@@ -414,3 +421,13 @@ seat_listed t turns i turn all inside is =
 pub seat_small : (t : Tables) (turn : Turn) → AreTables t → IsTurnIn t turn → turn.cluster.flow.id < 65536
 seat_small t turn lawful known =
     omega (arith, (all_found (IsFlow t) t.flows turn.place turn.cluster.flow lawful.flows known.flow).id.1)
+
+-- so lines name the turns of tables by their words
+pub are_named : (t : Tables) → AreTables t → AreNamed (length (words_of t)) (table_order t)
+are_named t lawful = record {
+  inside = all_weaker (IsTurnIn t) (λ turn. turn.number < length (words_of t)) (λ turn is. is.number) (table_order t)
+      (table_order-turns t);
+  named = λ id list.
+      all_weaker (IsTurnIn t) (λ turn. names id list turn ≡ has_word turn.number (find (names id list) (table_order t)))
+      (λ turn is. named_word t turn id list lawful is) (table_order t) (table_order-turns t);
+}

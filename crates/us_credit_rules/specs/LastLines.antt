@@ -12,9 +12,10 @@ use Rattle.us_lawful.specs.Finals.{final_holds}
 use Rattle.us_breaches.specs.Breaches.{At}
 use Rattle.us_credit_rules.specs.declared.finals.Told.{Told}
 use Rattle.us_credit_rules.specs.declared.finals.Told.TheVariants.{Nothing, Once, Several}
+use Rattle.us_credit_rules.specs.declared.ledgers.Account.{Account}
 use Rattle.us_credit_rules.specs.declared.moves.Move.{Move}
 use Rattle.us_credit_rules.specs.Ends.{end_place}
-use Rattle.us_credit_rules.specs.Moves.{asked_of, credited_of}
+use Rattle.us_credit_rules.specs.Ledgers.{account_at, left_of}
 use Rattle.us_credit_rules.specs.Seats.{is_number, place_of}
 use Rattle.us_credit_rules.specs.Shorts.{level_behind}
 
@@ -49,18 +50,12 @@ abbrev pub is_told : ℕ → Option ℕ → Told → Bool
 is_told outstanding units (Once f) = (outstanding == f.outstanding) && option_eq nat_eq units f.units
 is_told outstanding units _ = false
 
--- what moves leave of the cluster with a word,
-abbrev pub cluster_left : List Move → ℕ → ℕ
-cluster_left clusters word =
-    let own : List Move = filter (λ m. m.owner == word) clusters in
-    asked_of own - credited_of own
-
--- and of the bucket of a flow
+-- what is left in the bucket of a flow
 abbrev pub flow_left : ℕ → ℕ → List Move → FlowTable → Option ℕ
 flow_left rounds ticks flows flow =
     units_in (level_behind ticks (rounds - 1) 0 (full flow.rate flow.burst) (filter (λ m. m.owner == flow.id) flows))
 
 -- what is told of a cluster is that
-abbrev pub is_right : ℕ → ℕ → List Move → List Move → Told → Turn → Bool
+abbrev pub is_right : ℕ → ℕ → List Move → List Account → Told → Turn → Bool
 is_right rounds ticks flows clusters told turn =
-    is_told (cluster_left clusters turn.number) (flow_left rounds ticks flows turn.cluster.flow) told
+    is_told (left_of (account_at clusters turn.number)) (flow_left rounds ticks flows turn.cluster.flow) told

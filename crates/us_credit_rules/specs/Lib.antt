@@ -5,8 +5,12 @@
 
 -- clusters that lines name
 pub mod Seats
--- bytes that are asked for or credited, by round
+-- what they ask for and are credited, told line by line
+pub mod Ledgers
+-- bytes that flows are credited, by round
 pub mod Moves
+-- and both together
+pub mod Accounts
 -- the credit that a bucket lacks,
 pub mod Shorts
 -- and that which was not asked for

@@ -2,9 +2,9 @@ ghost use Rattle.std.specs.Prelude.{◌≡◌, true, IfOk};
 ghost use Rattle.us_lawful.specs.Runs.{run_in};
 ghost use Rattle.us_lawful.specs.Credits.{credits_hold};
 ghost use Rattle.us_breaches.specs.Breaches.{IsFirstBreach};
-ghost use Rattle.us_credit_rules.specs.Moves.{AreMovesOf};
+ghost use Rattle.us_credit_rules.specs.Accounts.{AreAllAccounts};
 
-use crate::all_moves::Moves;
+use crate::accounts::Accounts;
 use crate::credit_lines::first_line;
 use crate::sums::first_sum;
 use std::alloc::Global;
@@ -22,13 +22,13 @@ pub fn credits_breach(
     config: &Config,
     trace: &Trace,
     judged: &Judged,
-    moves: &Moves,
+    accounts: &Accounts,
 ) -> Result<Option<Place>, NoMemory>
-    requires { AreMovesOf config.now trace.now judged.now.lines moves.now }
+    requires { AreAllAccounts config.now trace.now judged.now.lines accounts.now }
     ensures { IfOk result (IsFirstBreach config.now.channels
         (λ p. credits_hold (run_in config.now trace.now) judged.now p ≡ true)) }
 {
-    let line = first_line(alloc, config, moves.seats(), judged.lines())?;
-    let sum = first_sum(config, trace, judged, moves);
+    let line = first_line(alloc, config, accounts.seats(), judged.lines())?;
+    let sum = first_sum(config, trace, judged, accounts);
     Ok(earlier(config.channels(), line, sum))
 }

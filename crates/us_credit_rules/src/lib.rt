@@ -2,8 +2,8 @@
 //!
 //! ```
 //! let judged = Judged::new(maps, lines);
-//! let moves = Moves::new(alloc, &config, &trace, &judged)?; // what is asked for and credited
-//! let first = credits_breach(alloc, &config, &trace, &judged, &moves)?; // the first line or sum that isn't right
+//! let accounts = Accounts::new(alloc, &config, &trace, &judged)?; // what is asked for and credited
+//! let first = credits_breach(alloc, &config, &trace, &judged, &accounts)?; // the first line or sum that isn't right
 //! ```
 //!
 //! What they answer stands in `us_lawful`, and what they compute in `specs/`, in the order of its `Lib.antt`.
@@ -14,14 +14,20 @@
 // The clusters that lines name.
 mod seats;
 
-// What is asked for and credited, by round,
+// The lines of requests in the order of rounds,
+mod requests;
+
+// and what clusters ask for and are credited, line by line.
+mod ledgers;
+
+// What flows are credited, by round,
 mod moves;
 
-// put in order,
+// put in order.
 mod orders;
 
-// and made once for all rules.
-mod all_moves;
+// Both, made once for all rules.
+mod accounts;
 
 // The bucket of a flow through the rounds,
 mod buckets;
@@ -59,8 +65,8 @@ mod activities;
 // The U line.
 mod counts;
 
+pub use accounts::Accounts;
 pub use activities::activities_breach;
-pub use all_moves::Moves;
 pub use counts::counts_breach;
 pub use credits::credits_breach;
 pub use finals::finals_breach;

@@ -3,10 +3,11 @@ ghost use Rattle.us_flows.specs.Tables.{rounds_fit};
 ghost use Rattle.us_lawful.specs.Runs.{run_in};
 ghost use Rattle.us_lawful.specs.Rates.{rates_hold};
 ghost use Rattle.us_breaches.specs.Breaches.{IsFirstBreach};
-ghost use Rattle.us_credit_rules.specs.Moves.{AreMoves, AreMovesOf};
+ghost use Rattle.us_credit_rules.specs.Accounts.{AreAllAccounts};
+ghost use Rattle.us_credit_rules.specs.Moves.{AreMoves};
 ghost use Rattle.us_credit_rules.specs.Shorts as spec;
 
-use crate::all_moves::Moves;
+use crate::accounts::Accounts;
 use crate::buckets::{RunTime, short_round};
 use crate::moves::{Move, own};
 use us_breaches::earlier;
@@ -16,9 +17,14 @@ use us_requests::Trace;
 
 /// Where the credits of a flow first break its rate: over some span of rounds that ends there. The third number of a
 /// place is the flow's id, and its channel 0.
-pub fn rates_breach(config: &Config, trace: &Trace, judged: &Judged, moves: &Moves) -> Option<Place>
+pub fn rates_breach(
+    config: &Config,
+    trace: &Trace,
+    judged: &Judged,
+    accounts: &Accounts,
+) -> Option<Place>
     requires fits { rounds_fit config.now trace.now.rounds ≡ true }
-    requires moves { AreMovesOf config.now trace.now judged.now.lines moves.now }
+    requires accounts { AreAllAccounts config.now trace.now judged.now.lines accounts.now }
     ensures { IsFirstBreach config.now.channels
         (λ p. rates_hold (run_in config.now trace.now) judged.now p ≡ true) result }
 {
@@ -26,7 +32,7 @@ pub fn rates_breach(config: &Config, trace: &Trace, judged: &Judged, moves: &Mov
         rounds: trace.rounds(),
         round_ticks: config.round_ticks(),
     };
-    let credits = moves.of_flows();
+    let credits = accounts.of_flows();
     let mut first = None;
     for flow in config.flows() {
         first = earlier(config.channels(), first, flow_breach(time, credits, flow));

@@ -1,7 +1,9 @@
 ghost use Rattle.std.specs.Prelude.{◌≡◌, IfOk};
-ghost use Rattle.us_credit_rules.specs.Moves as spec;
+ghost use Rattle.us_credit_rules.specs.Accounts as spec;
 
-use crate::moves::{Move, cluster_moves, flow_moves};
+use crate::ledgers::{Account, accounts_of};
+use crate::moves::{Move, flow_moves};
+use crate::requests::requests_of;
 use crate::seats::Seats;
 use std::alloc::Global;
 use std::marker::Model;
@@ -10,28 +12,28 @@ use us_lawful::Judged;
 use us_requests::Trace;
 use us_slots::NoMemory;
 
-/// What credits are judged by: the clusters that make requests, the bytes that they ask for and are credited in each
-/// round, and those that their flows are credited.
-pub struct Moves<'a> {
+/// What credits are judged by: the clusters that make requests, what they ask for and are credited, and the bytes that
+/// flows are credited in each round.
+pub struct Accounts<'a> {
     seats: Seats<'a>,
     flows: Vec<Move>,
-    clusters: Vec<Move>,
+    clusters: Vec<Account>,
 }
 
-impl<'a> Model for Moves<'a> {
-    ghost Value = { spec.AllMoves };
+impl<'a> Model for Accounts<'a> {
+    ghost Value = { spec.AllAccounts };
 
-    ghost view = { λ m. record {
-      seats = m.seats;
-      flows = m.flows.items;
-      clusters = m.clusters.items;
+    ghost view = { λ a. record {
+      seats = a.seats;
+      flows = a.flows.items;
+      clusters = a.clusters.items;
     } };
 }
 
 /// Gives them up. It is written out so that it is one step wherever they end.
-impl<'a> Drop for Moves<'a> {
+impl<'a> Drop for Accounts<'a> {
     fn drop(self) {
-        let Moves {
+        let Accounts {
             seats: _,
             flows: _,
             clusters: _,
@@ -39,20 +41,21 @@ impl<'a> Drop for Moves<'a> {
     }
 }
 
-impl<'a> Moves<'a> {
+impl<'a> Accounts<'a> {
     /// Those of a configuration, a trace and the lines of a report.
     pub fn new(
         alloc: Global,
         config: &'a Config,
         trace: &Trace,
         judged: &Judged,
-    ) -> Result<Moves<'a>, NoMemory>
-        ensures { IfOk result (spec.AreMovesOf config.now trace.now judged.now.lines) }
+    ) -> Result<Accounts<'a>, NoMemory>
+        ensures { IfOk result (spec.AreAllAccounts config.now trace.now judged.now.lines) }
     {
         let seats = Seats::new(alloc, config)?;
         let flows = flow_moves(alloc, judged.lines(), trace.rounds())?;
-        let clusters = cluster_moves(alloc, &seats, trace, judged.lines())?;
-        Ok(Moves {
+        let requests = requests_of(alloc, judged.lines())?;
+        let clusters = accounts_of(alloc, config, trace, &seats, &requests)?;
+        Ok(Accounts {
             seats,
             flows,
             clusters,
@@ -73,8 +76,8 @@ impl<'a> Moves<'a> {
         &self.flows
     }
 
-    /// The moves of clusters, by their words.
-    pub(crate) fn of_clusters(&self) -> &[Move]
+    /// The accounts of clusters, by their words.
+    pub(crate) fn of_clusters(&self) -> &[Account]
         ensures { result.now ≡ self.now.clusters }
     {
         &self.clusters
