@@ -1,5 +1,5 @@
 -- The ledger: a round more, a line more, and what it comes to.
-use Rattle.std.proofs.Common.{◌≡◌, ℕ, zero, suc, ◌+◌, ◌-◌, ◌<◌, ◌≤◌, ◌==◌, min, Bool, true, false, List, [], ◌∷◌, ◌++◌, length, get_or, set, map, replicate, take, drop, cond, Option, Some, None, refl, sym, ap, ap₂, ◌∙◌, inl, inr, arith, eq-eqb, ne_eqb, IsPermutation, Bor, subst}
+use Rattle.std.proofs.Common.{◌≡◌, ◌⊎◌, ℕ, zero, suc, ◌+◌, ◌-◌, ◌<◌, ◌≤◌, ◌==◌, min, Bool, true, false, List, [], ◌∷◌, ◌++◌, length, get_or, set, map, replicate, take, drop, cond, Option, Some, None, refl, sym, ap, ap₂, ◌∙◌, inl, inr, arith, eq-eqb, ne_eqb, IsPermutation, Bor, subst}
 use Rattle.std.specs.Prelude.{◌&&◌, if◌then◌else◌, nat_lt, nat_le, filter, find, slice_index, sum_by}
 use Rattle.std.specs.List.{AllByRecursion, range_with_len}
 use Rattle.std.specs.List.Sorted.{IsNonDecreasingBy}
@@ -14,18 +14,19 @@ use Rattle.us_flows.specs.Clusters.{Cluster, Turn, table_order, words_of}
 use Rattle.us_flows.specs.Lawful.{AreTables}
 use Rattle.us_requests.specs.declared.asks.Ask.{Ask}
 use Rattle.us_requests.specs.Cuts.{asked, cut_of}
-use Rattle.us_requests.specs.Traces.{TraceAsks, IsTrace, asks_in, cuts_in}
+use Rattle.us_requests.specs.Traces.{TraceAsks, IsTrace, asks_in, asked_before, cuts_in}
 use Rattle.us_output.specs.declared.rows.Grant.{Grant}
 use Rattle.us_output.specs.declared.rows.Row.{Row}
 use Rattle.us_output.proofs.PartLemmas.{all_both, all_weaker}
-use Rattle.us_lawful.specs.Runs.{requested_in, run_in}
-use Rattle.us_lawful.specs.Credits.{asked_within, is_of, sum_holds}
+use Rattle.us_lawful.specs.Runs.{Run, requested_in, run_in}
+use Rattle.us_lawful.specs.Credits.{asked_within, credited_in, credited_within, is_of, sum_holds}
 use Rattle.us_lawful.proofs.ItemLemmas.{sum_most}
 use Rattle.us_lawful.proofs.SameLemmas.{same_filter, same_moved, sum_append, sum_filter, sum_map}
 use Rattle.us_lawful.proofs.SumLemmas.{sum_both}
 use Rattle.us_credit_rules.specs.declared.ledgers.Account.{Account}
+use Rattle.us_credit_rules.specs.Shorts.{IsFirstRound, short_then}
 use Rattle.us_credit_rules.specs.Seats.{AreNamed, has_word, names}
-use Rattle.us_credit_rules.specs.Ledgers.{AreAccountsOf, AreAsked, AreCredited, IsAccountOf, IsCredited, IsFirstRound, TakesLine, account_at, asked_in, brought, credit_in, credit_within, holds, nothing, short_then, with_asked, with_credit}
+use Rattle.us_credit_rules.specs.Ledgers.{AreAccountsOf, AreAsked, AreCredited, IsAccountOf, IsCredited, TakesLine, account_at, asked_in, brought, credit_in, credit_within, holds, nothing, with_asked, with_credit}
 use Rattle.us_credit_rules.proofs.CreditLemmas.{sum_pointwise}
 use Rattle.us_credit_rules.proofs.SeatLemmas.{are_named}
 
@@ -256,7 +257,7 @@ within_same grants c begun (suc more) none =
 -- First rounds.
 
 -- of tests that agree
-same_first : (rounds : ℕ) (p q : ℕ → Bool) (answer : Option ℕ) → ((round : ℕ) → round < rounds → p round ≡ q round) →
+pub same_first : (rounds : ℕ) (p q : ℕ → Bool) (answer : Option ℕ) → ((round : ℕ) → round < rounds → p round ≡ q round) →
     IsFirstRound rounds p answer → IsFirstRound rounds q answer
 same_first rounds p q None same first = λ round within. sym (same round within) ∙ first round within
 same_first rounds p q (Some at) same first = (

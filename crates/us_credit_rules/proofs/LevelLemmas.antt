@@ -5,7 +5,7 @@ use Rattle.std.proofs.lemmas.Bool.{cases_Bool, false≢true, leb-true, leb-false
 use Rattle.us_bucket.specs.Levels.{Level, IsLevel, full, units_per_byte, refilled, spent, bytes_in, Has}
 use Rattle.us_bucket.proofs.LevelLemmas.{refilled-rate, refilled-burst, spent-rate, spent-burst}
 use Rattle.us_bucket.proofs.RoundLemmas.{same_level}
-use Rattle.us_credit_rules.specs.Shorts.{has}
+use Rattle.us_credit_rules.specs.Buckets.{has}
 
 -- Refills.
 

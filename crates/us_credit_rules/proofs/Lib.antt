@@ -1,6 +1,7 @@
--- moves and their order, and what lines credit
-pub mod MoveLemmas
+-- items that stand together, and lists in order
+pub mod OwnLemmas
 pub mod OrderLemmas
+-- what lines credit
 pub mod CreditLemmas
 -- clusters in table order
 pub mod SeatLemmas
@@ -15,6 +16,8 @@ pub mod LeftLemmas
 -- rates
 pub mod BoundLemmas
 pub mod RateLemmas
+-- accounts of flows
+pub mod FlowLemmas
 -- F lines
 pub mod EndLemmas
 pub mod FinalLemmas

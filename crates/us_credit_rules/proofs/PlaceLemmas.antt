@@ -8,8 +8,7 @@ use Rattle.us_flows.specs.declared.channels.Channel.{Channel}
 use Rattle.us_lawful.specs.declared.place.Place.{Place}
 use Rattle.us_breaches.specs.Breaches.{IsFirstFailure, Any}
 use Rattle.us_breaches.proofs.BreachLemmas.{same_places}
-use Rattle.us_credit_rules.specs.Ledgers.{IsFirstRound}
-use Rattle.us_credit_rules.specs.Shorts.{flow_place}
+use Rattle.us_credit_rules.specs.Shorts.{IsFirstRound, flow_place}
 
 -- Tests of all items, where something else doesn't pass.
 

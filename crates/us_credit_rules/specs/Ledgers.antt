@@ -1,5 +1,5 @@
 -- The ledger of clusters: what words ask for and clusters are credited, told one line of a request after another.
-use Rattle.std.specs.Prelude.{◌≡◌, ℕ, ◌+◌, ◌-◌, ◌<◌, ◌≤◌, ◌==◌, nat_le, nat_lt, ◌&&◌, min, Bool, true, false, if◌then◌else◌, Option, Some, None, List, [], ◌∷◌, ◌++◌, length, filter, sum_by, slice_index_or}
+use Rattle.std.specs.Prelude.{◌≡◌, ℕ, ◌+◌, ◌-◌, ◌<◌, ◌≤◌, ◌==◌, nat_le, nat_lt, ◌&&◌, min, Bool, None, List, [], ◌∷◌, ◌++◌, length, filter, sum_by, slice_index_or}
 use Rattle.std.specs.List.{AllByRecursion, range_with_len}
 use Rattle.us_flows.specs.Clusters.{Cluster, Turn}
 use Rattle.us_requests.specs.Cuts.{asked}
@@ -9,12 +9,7 @@ use Rattle.us_output.specs.declared.rows.Row.{Row}
 use Rattle.us_lawful.specs.Runs.{Run}
 use Rattle.us_lawful.specs.Credits.{asked_within, credited_within, is_of, sum_holds}
 use Rattle.us_credit_rules.specs.declared.ledgers.Account.{Account}
-
--- the first of so many rounds in which a test fails
-abbrev pub IsFirstRound : ℕ → (ℕ → Bool) → Option ℕ → Type 0
-IsFirstRound rounds test None = (round : ℕ) → round < rounds → test round ≡ true
-IsFirstRound rounds test (Some first) =
-    (first < rounds) × (test first ≡ false) × ((round : ℕ) → round < first → test round ≡ true)
+use Rattle.us_credit_rules.specs.Shorts.{IsFirstRound, short_then}
 
 -- Accounts of words.
 
@@ -27,11 +22,6 @@ account_at accounts word = slice_index_or accounts word nothing
 -- with more bytes that are asked for
 abbrev pub with_asked : ℕ → Account → Account
 with_asked bytes a = record a { asked = a.asked + bytes }
-
--- the round of the first credit of more than is outstanding
-abbrev pub short_then : ℕ → Bool → Option ℕ → Option ℕ
-short_then round over (Some first) = Some first
-short_then round over None = if over then Some round else None
 
 -- with a credit more: a credit counts up to all that 64 bits tell, which is more than a trace asks for
 abbrev pub with_credit : ℕ → ℕ → Account → Account

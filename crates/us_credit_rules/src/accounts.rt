@@ -1,8 +1,9 @@
-ghost use Rattle.std.specs.Prelude.{◌≡◌, IfOk};
+ghost use Rattle.std.specs.Prelude.{◌≡◌, true, IfOk};
+ghost use Rattle.us_flows.specs.Tables.{rounds_fit};
 ghost use Rattle.us_credit_rules.specs.Accounts as spec;
 
+use crate::buckets::{FlowAccount, RunTime, flows_of};
 use crate::ledgers::{Account, accounts_of};
-use crate::moves::{Move, flow_moves};
 use crate::requests::requests_of;
 use crate::seats::Seats;
 use std::alloc::Global;
@@ -12,11 +13,11 @@ use us_lawful::Judged;
 use us_requests::Trace;
 use us_slots::NoMemory;
 
-/// What credits are judged by: the clusters that make requests, what they ask for and are credited, and the bytes that
-/// flows are credited in each round.
+/// What credits are judged by: the clusters that make requests, what they ask for and are credited, and what that leaves
+/// in the buckets of flows.
 pub struct Accounts<'a> {
     seats: Seats<'a>,
-    flows: Vec<Move>,
+    flows: Vec<FlowAccount>,
     clusters: Vec<Account>,
 }
 
@@ -49,11 +50,16 @@ impl<'a> Accounts<'a> {
         trace: &Trace,
         judged: &Judged,
     ) -> Result<Accounts<'a>, NoMemory>
+        requires { rounds_fit config.now trace.now.rounds ≡ true }
         ensures { IfOk result (spec.AreAllAccounts config.now trace.now judged.now.lines) }
     {
+        let time = RunTime {
+            rounds: trace.rounds(),
+            round_ticks: config.round_ticks(),
+        };
         let seats = Seats::new(alloc, config)?;
-        let flows = flow_moves(alloc, judged.lines(), trace.rounds())?;
         let requests = requests_of(alloc, judged.lines())?;
+        let flows = flows_of(alloc, time, &seats, &requests)?;
         let clusters = accounts_of(alloc, config, trace, &seats, &requests)?;
         Ok(Accounts {
             seats,
@@ -69,8 +75,8 @@ impl<'a> Accounts<'a> {
         &self.seats
     }
 
-    /// The moves of flows, by their ids.
-    pub(crate) fn of_flows(&self) -> &[Move]
+    /// The accounts of flows, by the places of their first clusters.
+    pub(crate) fn of_flows(&self) -> &[FlowAccount]
         ensures { result.now ≡ self.now.flows }
     {
         &self.flows

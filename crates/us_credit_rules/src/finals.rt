@@ -6,18 +6,16 @@ ghost use Rattle.us_lawful.specs.Runs.{run_in, finals_in};
 ghost use Rattle.us_lawful.specs.Finals.{finals_hold};
 ghost use Rattle.us_breaches.specs.Breaches.{IsFirstBreach, IsFirstFailure, Any};
 ghost use Rattle.us_credit_rules.specs.Accounts.{AreAllAccounts};
-ghost use Rattle.us_credit_rules.specs.Moves.{AreMoves};
 ghost use Rattle.us_credit_rules.specs.LastLines as spec;
 
 use crate::accounts::Accounts;
-use crate::buckets::{RunTime, units_left};
+use crate::buckets::{RunTime, account_in};
 use crate::ends::unless;
-use crate::ledgers::{Account, account_at};
-use crate::moves::{Move, own};
+use crate::ledgers::account_at;
 use crate::seats::{Seat, Seats};
 use std::alloc::{AllocError, Global};
 use us_breaches::earlier;
-use us_flows::{Channel, Config, Flow};
+use us_flows::{Channel, Config};
 use us_lawful::{Judged, Place};
 use us_requests::Trace;
 use us_round::{FinalState, Row};
@@ -153,35 +151,21 @@ fn first_wrong(
     let told = told_of(alloc, accounts.seats(), finals)?;
     let mut first = None;
     for (place, seat) in accounts.seats().all().iter().enumerate() {
-        let right = is_right(
-            seat,
-            time,
-            accounts.of_flows(),
-            accounts.of_clusters(),
-            told[place],
-        );
+        let right = is_right(seat, time, accounts, told[place]);
         let wrong = unless(right, time.rounds, u64::from(seat.flow().id()));
         first = earlier(config.channels(), first, wrong);
     }
     Ok(first)
 }
 
-/// Whether what is told of a cluster is what is outstanding of it and of the bucket of its flow, once.
-fn is_right(seat: &Seat, time: RunTime, flows: &[Move], clusters: &[Account], told: Told) -> bool
-    requires { AreMoves time.rounds flows.now }
-    ensures { result ≡ spec.is_right time.rounds time.round_ticks flows.now clusters.now told seat.now }
+/// Whether what is told of a cluster is what is outstanding of it and left in the bucket of its flow, once.
+fn is_right(seat: &Seat, time: RunTime, accounts: &Accounts, told: Told) -> bool
+    ensures { result ≡ spec.is_right time.rounds time.round_ticks accounts.now told seat.now }
 {
-    let left = account_at(clusters, seat.word()).left();
-    let units = flow_left(time, flows, seat.flow());
+    let place = accounts.seats().place(u64::from(seat.flow().id()), 0);
+    let units = account_in(accounts.of_flows(), place).left(time);
+    let left = account_at(accounts.of_clusters(), seat.word()).left();
     is_told(told, left, units)
-}
-
-/// The units in the bucket of a flow in the last round.
-fn flow_left(time: RunTime, flows: &[Move], flow: &Flow) -> Option<u64>
-    requires { AreMoves time.rounds flows.now }
-    ensures { result ≡ spec.flow_left time.rounds time.round_ticks flows.now flow.now }
-{
-    units_left(flow.rate(), flow.burst(), time, own(flows, flow.id()))
 }
 
 /// Whether what is told is this, once.

@@ -14,25 +14,19 @@
 // The clusters that lines name.
 mod seats;
 
-// The lines of requests in the order of rounds,
+// The lines of requests in the order of rounds.
 mod requests;
 
-// and what clusters ask for and are credited, line by line.
+// Line by line, what clusters ask for and are credited,
 mod ledgers;
 
-// What flows are credited, by round,
-mod moves;
-
-// put in order.
-mod orders;
+// and what is left in the buckets of flows.
+mod buckets;
 
 // Both, made once for all rules.
 mod accounts;
 
-// The bucket of a flow through the rounds,
-mod buckets;
-
-// and where its flow is credited more than it has.
+// Where a flow is credited more than its bucket has.
 mod rates;
 
 // What bursts cost, of whatever bytes,

@@ -1,19 +1,14 @@
-use Rattle.std.proofs.Common.{◌≡◌, ◌<◌, List, length, get_or, ap, ap₂, subst, sym, ◌∙◌, arith}
-use Rattle.std.proofs.lemmas.Bool.{and_parts, leb-true}
-use Rattle.std.specs.Prelude.{nat_le, ◌*◌}
-use Rattle.std.proofs.lemmas.List.Elements.{All-from_recursion}
+use Rattle.std.proofs.Common.{◌≡◌, ◌<◌, List, length, get_or, ap, ap₂, sym, ◌∙◌, arith}
 use Rattle.std.proofs.lemmas.List.FromFn.{get_or-map-range_with_len, length-map-range_with_len}
-use Rattle.us_flows.specs.Tables.{max_run_ticks}
-use Rattle.us_flows.specs.Clusters.{IsTurnIn, table_order}
+use Rattle.us_flows.specs.Clusters.{table_order}
 use Rattle.us_lawful.specs.Runs.{run_in, finals_in}
 use Rattle.us_lawful.specs.Finals.{final_holds}
 use Rattle.us_breaches.specs.Breaches.{IsFirstFailure}
 use Rattle.us_breaches.proofs.BreachLemmas.{all_done, at_test, one_more}
 use Rattle.us_credit_rules.specs.declared.finals.Told.{Told}
-use Rattle.us_credit_rules.specs.Ledgers.{AreAccountsOf, IsAccountOf, account_at}
 use Rattle.us_credit_rules.specs.Ends.{end_place}
 use Rattle.us_credit_rules.specs.LastLines.{IsWrong, told_at}
-use Rattle.us_credit_rules.proofs.SeatLemmas.{seat_known, seat_listed, seat_small}
+use Rattle.us_credit_rules.proofs.SeatLemmas.{seat_listed}
 use Rattle.us_credit_rules.proofs.FinalLemmas.{judged_right}
 use Rattle.us_credit_rules.proofs.finals.first_wrong.Goals as goal
 
@@ -41,20 +36,9 @@ loop-place-preserved c =
     let turns = c.all-seat-items.result.now in
     let i = c.loop-place.place in
     let turn = c.seat-item.result in
-    let flows = c.args.accounts.now.flows in
-    let clusters = c.args.accounts.now.clusters in
     let mine : Told = c.index.result.now in
     let lawful = c.round_ticks.ensures.lawful in
     let all : turns ≡ table_order t = c.all-seat-items.ensures ∙ c.seats-2.ensures ∙ c.requires.accounts.seats in
-    let known : IsTurnIn t turn = seat_known t turns i turn all c.loop-place-test.true c.seat-item.is in
-    let each : AreAccountsOf (run_in t v) lines turns clusters =
-    subst (λ these. AreAccountsOf (run_in t v) lines these clusters) (sym all) c.requires.accounts.clusters in
-    let account : IsAccountOf (run_in t v) lines turn (account_at clusters turn.number) =
-    subst (λ turn. IsAccountOf (run_in t v) lines turn (account_at clusters turn.number)) (sym c.seat-item.is)
-    (All-from_recursion (λ turn. IsAccountOf (run_in t v) lines turn (account_at clusters turn.number)) turns each i turn
-    c.loop-place-test.true) in
-    let some : 0 < v.rounds =
-    leb-true 1 v.rounds (and_parts (nat_le 1 v.rounds) (nat_le (v.rounds * t.round_ticks) max_run_ticks) c.requires.rounds).0 in
     let listed = seat_listed t turns i turn all c.loop-place-test.true c.seat-item.is in
     let inside : i < length seats =
     omega (
@@ -69,10 +53,8 @@ loop-place-preserved c =
     ∙ get_or-map-range_with_len (told_at seats finals) 0 (length seats) i i mine inside (omega arith)
     ∙ ap₂ (λ turns finals. told_at turns finals i) (c.seats.ensures ∙ c.requires.accounts.seats) c.requires.finals in
     let right : c.is_right-right.result ≡ final_holds (run_in t v) lines turn =
-    rw (c.of_flows.ensures, c.of_clusters.ensures, c.rounds.ensures.value, c.round_ticks.ensures.value)
-    at c.is_right-right.ensures
-    ∙ sym (judged_right t v lines flows clusters mine turn i lawful listed (seat_small t turn lawful known) some
-    c.requires.accounts.flows c.requires.accounts.flows_ordered account is_told) in
+    rw (c.rounds.ensures.value, c.round_ticks.ensures.value) at c.is_right-right.ensures
+    ∙ sym (judged_right t v lines c.args.accounts.now mine turn i lawful listed c.requires.accounts is_told) in
     let one : IsFirstFailure t.channels (IsWrong (run_in t v) lines turn) c.unless-wrong.result =
     rw (c.unless-wrong.ensures, right, c.rounds.ensures.value, c.from.ensures, c.id.ensures.value, c.flow.ensures)
     (at_test t.channels (end_place v.rounds turn.cluster.flow.id) (final_holds (run_in t v) lines turn)) in
