@@ -56,7 +56,7 @@ pub(crate) fn first_breach(
             place,
         }));
     }
-    if let Some(place) = credits_breach(alloc, config, trace, judged, &accounts)? {
+    if let Some(place) = credits_breach(config, trace, judged, &accounts) {
         return Ok(Some(Breach {
             rule: Rule::Credits,
             place,

@@ -1,5 +1,5 @@
 -- What the lines of a flow credit in a round, in whatever order lines are.
-use Rattle.std.proofs.Common.{◌≡◌, ℕ, ◌<◌, ◌==◌, Bool, true, false, List, [], ◌∷◌, cond, refl, sym, ap, ◌∙◌, inl, inr, arith, IsPermutation}
+use Rattle.std.proofs.Common.{◌≡◌, ℕ, ◌<◌, ◌==◌, Bool, true, false, List, [], ◌∷◌, cond, refl, sym, ◌∙◌, inl, inr, arith, IsPermutation}
 use Rattle.std.specs.Prelude.{◌&&◌, nat_lt, filter, sum_by}
 use Rattle.std.proofs.lemmas.Bool.{cases_eq, lt-ltb, ne_eqb}
 use Rattle.std.proofs.lemmas.List.Sums.{sum_by-cons}

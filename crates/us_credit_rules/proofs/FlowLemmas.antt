@@ -11,19 +11,19 @@ use Rattle.std.proofs.lemmas.List.Kept.{IsNonDecreasingBy-filter}
 use Rattle.us_flows.specs.Tables.{Tables, FlowTable}
 use Rattle.us_flows.specs.Clusters.{Turn, table_order}
 use Rattle.us_flows.specs.Lawful.{AreTables}
-use Rattle.us_bucket.specs.Levels.{Level, full, refilled, spent, units_in}
+use Rattle.us_bucket.specs.Levels.{Level, full, spent, units_in}
 use Rattle.us_bucket.proofs.LevelLemmas.{refilled-rate, refilled-burst, spent-rate, spent-burst}
 use Rattle.us_requests.specs.Traces.{TraceAsks}
 use Rattle.us_output.specs.declared.rows.Grant.{Grant}
 use Rattle.us_output.specs.declared.rows.Row.{Row}
 use Rattle.us_output.proofs.PartLemmas.{all_weaker}
 use Rattle.us_lawful.specs.Runs.{requested_in, run_in}
-use Rattle.us_lawful.specs.Rates.{flow_credit, flow_rate_holds}
-use Rattle.us_lawful.specs.Finals.{level_left, units_left}
+use Rattle.us_lawful.specs.Rates.{flow_credit}
+use Rattle.us_lawful.specs.Finals.{level_left}
 use Rattle.us_credit_rules.specs.declared.buckets.FlowAccount.{FlowAccount}
-use Rattle.us_credit_rules.specs.Seats.{is_number, names, place_of}
+use Rattle.us_credit_rules.specs.Seats.{is_number, place_of}
 use Rattle.us_credit_rules.specs.Shorts.{IsFirstRound, short_then}
-use Rattle.us_credit_rules.specs.Buckets.{IsFlowAccountOf, credited_all, credited_at, credited_by, full_account, has, level_in, no_flow, units_of, with_bytes}
+use Rattle.us_credit_rules.specs.Buckets.{IsFlowAccountOf, credited_all, credited_at, credited_by, full_account, has, level_in, no_flow, with_bytes}
 use Rattle.us_credit_rules.proofs.CreditLemmas.{flow_credit_is, own_lines}
 use Rattle.us_credit_rules.proofs.OrderLemmas.{rising_from}
 use Rattle.us_credit_rules.proofs.SeatLemmas.{named_place}

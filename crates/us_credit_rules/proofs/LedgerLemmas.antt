@@ -1,5 +1,5 @@
 -- The ledger: a round more, a line more, and what it comes to.
-use Rattle.std.proofs.Common.{◌≡◌, ◌⊎◌, ℕ, zero, suc, ◌+◌, ◌-◌, ◌<◌, ◌≤◌, ◌==◌, min, Bool, true, false, List, [], ◌∷◌, ◌++◌, length, get_or, set, map, replicate, take, drop, cond, Option, Some, None, refl, sym, ap, ap₂, ◌∙◌, inl, inr, arith, eq-eqb, ne_eqb, IsPermutation, Bor, subst}
+use Rattle.std.proofs.Common.{◌≡◌, ℕ, zero, suc, ◌+◌, ◌-◌, ◌<◌, ◌≤◌, ◌==◌, min, Bool, true, false, List, [], ◌∷◌, ◌++◌, length, get_or, set, map, replicate, take, drop, cond, Option, Some, None, refl, sym, ap, ap₂, ◌∙◌, inl, inr, arith, eq-eqb, ne_eqb, IsPermutation, Bor, subst}
 use Rattle.std.specs.Prelude.{◌&&◌, if◌then◌else◌, nat_lt, nat_le, filter, find, slice_index, sum_by}
 use Rattle.std.specs.List.{AllByRecursion, range_with_len}
 use Rattle.std.specs.List.Sorted.{IsNonDecreasingBy}
@@ -14,12 +14,12 @@ use Rattle.us_flows.specs.Clusters.{Cluster, Turn, table_order, words_of}
 use Rattle.us_flows.specs.Lawful.{AreTables}
 use Rattle.us_requests.specs.declared.asks.Ask.{Ask}
 use Rattle.us_requests.specs.Cuts.{asked, cut_of}
-use Rattle.us_requests.specs.Traces.{TraceAsks, IsTrace, asks_in, asked_before, cuts_in}
+use Rattle.us_requests.specs.Traces.{TraceAsks, IsTrace, asks_in, cuts_in}
 use Rattle.us_output.specs.declared.rows.Grant.{Grant}
 use Rattle.us_output.specs.declared.rows.Row.{Row}
 use Rattle.us_output.proofs.PartLemmas.{all_both, all_weaker}
-use Rattle.us_lawful.specs.Runs.{Run, requested_in, run_in}
-use Rattle.us_lawful.specs.Credits.{asked_within, credited_in, credited_within, is_of, sum_holds}
+use Rattle.us_lawful.specs.Runs.{requested_in, run_in}
+use Rattle.us_lawful.specs.Credits.{asked_within, is_of, sum_holds}
 use Rattle.us_lawful.proofs.ItemLemmas.{sum_most}
 use Rattle.us_lawful.proofs.SameLemmas.{same_filter, same_moved, sum_append, sum_filter, sum_map}
 use Rattle.us_lawful.proofs.SumLemmas.{sum_both}

@@ -6,7 +6,7 @@ use Rattle.us_bucket.specs.Levels.{Level, full, refilled, spent, bytes_in, units
 use Rattle.us_output.specs.declared.rows.Grant.{Grant}
 use Rattle.us_output.specs.declared.rows.Row.{Row}
 use Rattle.us_lawful.specs.declared.place.Place.{Place}
-use Rattle.us_lawful.specs.Runs.{Run, Judged}
+use Rattle.us_lawful.specs.Runs.{Run}
 use Rattle.us_lawful.specs.Rates.{flow_rate_holds}
 use Rattle.us_lawful.specs.Finals.{units_left}
 use Rattle.us_credit_rules.specs.declared.buckets.FlowAccount.{FlowAccount}

@@ -3,22 +3,24 @@ ghost use Rattle.us_flows.specs.Tables.{rounds_fit};
 ghost use Rattle.us_credit_rules.specs.Accounts as spec;
 
 use crate::buckets::{FlowAccount, RunTime, flows_of};
+use crate::credit_lines::first_line;
 use crate::ledgers::{Account, accounts_of};
 use crate::requests::requests_of;
 use crate::seats::Seats;
 use std::alloc::Global;
 use std::marker::Model;
 use us_flows::Config;
-use us_lawful::Judged;
+use us_lawful::{Judged, Place};
 use us_requests::Trace;
 use us_slots::NoMemory;
 
-/// What credits are judged by: the clusters that make requests, what they ask for and are credited, and what that leaves
-/// in the buckets of flows.
+/// What credits are judged by: the clusters that make requests, what they ask for and are credited, what that leaves in the
+/// buckets of flows, and where a line of a request isn't right by itself.
 pub struct Accounts<'a> {
     seats: Seats<'a>,
     flows: Vec<FlowAccount>,
     clusters: Vec<Account>,
+    wrong_line: Option<Place>,
 }
 
 impl<'a> Model for Accounts<'a> {
@@ -28,6 +30,7 @@ impl<'a> Model for Accounts<'a> {
       seats = a.seats;
       flows = a.flows.items;
       clusters = a.clusters.items;
+      wrong_line = a.wrong_line;
     } };
 }
 
@@ -38,6 +41,7 @@ impl<'a> Drop for Accounts<'a> {
             seats: _,
             flows: _,
             clusters: _,
+            wrong_line: _,
         } = self;
     }
 }
@@ -61,10 +65,12 @@ impl<'a> Accounts<'a> {
         let requests = requests_of(alloc, judged.lines())?;
         let flows = flows_of(alloc, time, &seats, &requests)?;
         let clusters = accounts_of(alloc, config, trace, &seats, &requests)?;
+        let wrong_line = first_line(alloc, config, &seats, &requests)?;
         Ok(Accounts {
             seats,
             flows,
             clusters,
+            wrong_line,
         })
     }
 
@@ -87,5 +93,12 @@ impl<'a> Accounts<'a> {
         ensures { result.now ≡ self.now.clusters }
     {
         &self.clusters
+    }
+
+    /// Where a line of a request first isn't right, or isn't the only one like it.
+    pub(crate) fn wrong_line(&self) -> Option<Place>
+        ensures { result ≡ self.now.wrong_line }
+    {
+        self.wrong_line
     }
 }

@@ -154,7 +154,7 @@ fn answer(
     let accounts = Accounts::new(alloc, config, trace, judged)?;
     match rule {
         Rule::Rates => Ok(rates_breach(config, trace, judged, &accounts)),
-        Rule::Credits => credits_breach(alloc, config, trace, judged, &accounts),
+        Rule::Credits => Ok(credits_breach(config, trace, judged, &accounts)),
         Rule::Finals => finals_breach(alloc, config, trace, judged, &accounts),
         Rule::Activities => activities_breach(alloc, config, trace, judged),
         Rule::Counts => Ok(counts_breach(config, trace, judged)),

@@ -1,7 +1,7 @@
 use Rattle.std.proofs.Common.{◌≡◌, ◌<◌, ℕ, length, map, ap, subst, ◌∙◌, arith}
 use Rattle.std.specs.List.{AllByRecursion}
 use Rattle.std.proofs.lemmas.List.{length-replicate, take_all}
-use Rattle.us_flows.specs.Clusters.{Turn, table_order, words_of}
+use Rattle.us_flows.specs.Clusters.{Turn, table_order}
 use Rattle.us_credit_rules.specs.Ledgers.{AreCredited, account_at, brought, nothing}
 use Rattle.us_credit_rules.proofs.SeatLemmas.{are_named}
 use Rattle.us_credit_rules.proofs.LedgerLemmas.{begun_all, begun_asked, line_credited, line_ordered, settled_all, start_asked, start_credited}

@@ -1,4 +1,4 @@
-use Rattle.std.proofs.Common.{refl, take, subst, ◌∙◌}
+use Rattle.std.proofs.Common.{refl, subst, ◌∙◌}
 use Rattle.std.proofs.lemmas.List.{take_all}
 use Rattle.us_requests.specs.declared.asks.Ask.{Ask}
 use Rattle.us_credit_rules.proofs.LedgerLemmas.{AskedMore, ask_fits, none_asked, one_asked}

@@ -1,4 +1,4 @@
-use Rattle.std.proofs.Common.{◌≡◌, ◌+◌, ◌<◌, ap, refl, subst, sym, ◌∙◌, arith}
+use Rattle.std.proofs.Common.{◌+◌, ◌<◌, ap, refl, subst, sym, ◌∙◌, arith}
 use Rattle.us_requests.specs.Cuts.{asked}
 use Rattle.us_credit_rules.specs.Ledgers.{account_at, with_asked}
 use Rattle.us_credit_rules.proofs.LedgerLemmas.{none_brought, round_brought, round_fits}

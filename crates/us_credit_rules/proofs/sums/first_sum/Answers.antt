@@ -1,5 +1,4 @@
 use Rattle.std.proofs.Common.{◌≡◌, false, subst, sym, ◌∙◌}
-use Rattle.std.specs.List.{AllByRecursion}
 use Rattle.std.proofs.lemmas.List.Elements.{All-from_recursion}
 use Rattle.us_lawful.specs.Runs.{run_in}
 use Rattle.us_breaches.specs.Breaches.{IsFirstFailure}

@@ -8,11 +8,18 @@ use Rattle.us_output.specs.declared.rows.Grant.{Grant}
 use Rattle.us_lawful.specs.Runs.{run_in}
 use Rattle.us_credit_rules.specs.Buckets.{IsFlowAccountOf, credited_all, no_flow}
 use Rattle.us_credit_rules.proofs.FlowLemmas.{flow_is}
+use Rattle.us_credit_rules.proofs.LineLemmas.{lines_first}
 use Rattle.us_credit_rules.proofs.OrderLemmas.{order_map}
 use Rattle.us_credit_rules.proofs.accounts.Accounts.new.Goals as goal
 
 pub accounts_of-requires-clause-rising : goal.accounts_of-requires-clause-rising
 accounts_of-requires-clause-rising c = rw c.deref-2.ensures.value c.in_ok-requests.ensures.1
+
+pub first_line-requires-clause-seats : goal.first_line-requires-clause-seats
+first_line-requires-clause-seats c = c.in_ok-seats.ensures
+
+pub first_line-requires-clause-rising : goal.first_line-requires-clause-rising
+first_line-requires-clause-rising c = rw c.deref-3.ensures.value c.in_ok-requests.ensures.1
 
 pub returns : goal.returns
 returns c =
@@ -35,4 +42,6 @@ returns c =
           subst (λ these. IsFlowAccountOf (run_in t v) lines turn.cluster.flow (get_or these place no_flow)) (sym is)
           (flow_is t v lines grants place turn c.round_ticks.ensures.lawful listed first some requests.0 ordered);
       clusters = c.in_ok-clusters.ensures lines (rw c.deref-2.ensures.value requests.0);
+      wrong_line = lines_first t v lines grants c.in_ok-wrong_line.wrong_line c.round_ticks.ensures.lawful requests.0
+          (rw c.deref-3.ensures.value at c.in_ok-wrong_line.ensures);
     }
