@@ -523,13 +523,13 @@ line_judged t lines i first last after d told right wrong rises inside lawful lo
     (wrong_is ∙ ap₂ (λ a b. unless (not a && b) (line_place g)) told_is right_is) are.2) in (
       g.round,
       (λ k e later within.
-      omega (
-        arith,
-        ap (λ (g : Bor Grant). g.now.round) (get_or_default lines i d e inside),
-        rises i k e (omega (arith, later)) within,
-      )),
+          omega (
+            arith,
+            ap (λ (g : Bor Grant). g.now.round) (get_or_default lines i d e inside),
+            rises i k e (omega (arith, later)) within,
+          )),
       subst (λ these. AreJudged t.channels (table_order t) these g.round (earlier t.channels first wrong) after) (sym all)
-      done,
+          done,
     )
 
 -- Behind all lines, in whatever order they are.

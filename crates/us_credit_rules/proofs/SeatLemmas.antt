@@ -430,8 +430,13 @@ first_listed place number zero (f ∷ flows) flow at asks some =
     let same : f ≡ flow = cc at in
     let all : requesting f ≡ clusters_from f 0 f.clusters =
     ap (λ b. if b then clusters_from f 0 f.clusters else []) (ap (λ (g : FlowTable). makes_requests g.kind) same ∙ asks) in
-    let its = head f.clusters (omega (arith, some, ap (λ (g : FlowTable). length g.clusters) same)) in
-    (0, its.0, ap (λ own. slice_get (turns_for place number own ++ rest) 0) all ∙ its.1, its.2 ∙ same, its.3)
+    let its = head f.clusters (omega (arith, some, ap (λ (g : FlowTable). length g.clusters) same)) in (
+      0,
+      its.0,
+      subst (λ own. slice_get (turns_for place number own ++ rest) 0 ≡ Some its.0) (sym all) its.1,
+      its.2 ∙ same,
+      its.3,
+    )
   where
     rest : List Turn
     rest = turns_from (place + 1) (number + length (words_in f)) flows
