@@ -1,5 +1,5 @@
--- Read in this order: the clusters that lines name; what they ask for and are credited, and which credit was not asked for
--- or is lacking in a bucket; which line of a request isn't right; and which F lines and A lines aren't.
+-- Read in this order: the clusters that lines name; what they ask for and are credited, and what is left in buckets; which
+-- line of a request isn't right; which credit was not asked for; and which F lines and A lines aren't right.
 -- In a definition `≡` is equals, `×` and, `→` implies, `∷` one item before a list, `++` one list behind another, and ℕ
 -- has the whole numbers from 0; `-` stops at 0.
 
@@ -11,12 +11,12 @@ pub mod Shorts
 pub mod Ledgers
 -- and what is left in the buckets of flows
 pub mod Buckets
--- both together
+-- lines of requests that aren't right
+pub mod CreditLines
+-- all this together
 pub mod Accounts
 -- credits that were not asked for
 pub mod Sums
--- lines of requests that aren't right
-pub mod CreditLines
 -- places behind the last round
 pub mod Ends
 -- F lines that aren't right

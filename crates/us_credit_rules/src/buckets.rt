@@ -23,9 +23,9 @@ pub(crate) struct RunTime {
 pub(crate) struct FlowAccount {
     /// Its bucket,
     bucket: Bucket,
-    /// which is this one where nothing is left,
+    /// the same without all that it has,
     empty: Bucket,
-    /// and stands as of a round.
+    /// and the round as of which it stands.
     as_of: u32,
     /// The round of the first credit whose bytes the bucket lacked.
     short: Option<u32>,

@@ -3,7 +3,7 @@
 //! ```
 //! let judged = Judged::new(maps, lines);
 //! let accounts = Accounts::new(alloc, &config, &trace, &judged)?; // what is asked for and credited
-//! let first = credits_breach(alloc, &config, &trace, &judged, &accounts)?; // the first line or sum that isn't right
+//! let first = credits_breach(&config, &trace, &judged, &accounts); // the first line or sum that isn't right
 //! ```
 //!
 //! What they answer stands in `us_lawful`, and what they compute in `specs/`, in the order of its `Lib.antt`.
@@ -23,22 +23,22 @@ mod ledgers;
 // and what is left in the buckets of flows.
 mod buckets;
 
-// Both, made once for all rules.
-mod accounts;
-
-// Where a flow is credited more than its bucket has.
-mod rates;
-
 // What bursts cost, of whatever bytes,
 mod costs;
 
-// lines of requests, each by itself,
+// and which line of a request isn't right.
 mod credit_lines;
 
-// how much they credit,
+// All this, made once for all rules.
+mod accounts;
+
+// Where a flow is credited more than its bucket has,
+mod rates;
+
+// a cluster more than is outstanding,
 mod sums;
 
-// and the rule of both.
+// and lines and sums of requests together.
 mod credits;
 
 // Places behind the last round.
