@@ -7,7 +7,7 @@ use crate::rules::{Breach, Rule};
 use std::alloc::Global;
 use us_calendar_rules::calendar_lines_breach;
 use us_credit_rules::{
-    Moves, activities_breach, counts_breach, credits_breach, finals_breach, rates_breach,
+    Accounts, activities_breach, counts_breach, credits_breach, finals_breach, rates_breach,
 };
 use us_flows::Config;
 use us_lawful::Judged;
@@ -49,20 +49,20 @@ pub(crate) fn first_breach(
             place,
         }));
     }
-    let moves = Moves::new(alloc, config, trace, judged)?;
-    if let Some(place) = rates_breach(config, trace, judged, &moves) {
+    let accounts = Accounts::new(alloc, config, trace, judged)?;
+    if let Some(place) = rates_breach(config, trace, judged, &accounts) {
         return Ok(Some(Breach {
             rule: Rule::Rates,
             place,
         }));
     }
-    if let Some(place) = credits_breach(alloc, config, trace, judged, &moves)? {
+    if let Some(place) = credits_breach(config, trace, judged, &accounts) {
         return Ok(Some(Breach {
             rule: Rule::Credits,
             place,
         }));
     }
-    if let Some(place) = finals_breach(alloc, config, trace, judged, &moves)? {
+    if let Some(place) = finals_breach(alloc, config, trace, judged, &accounts)? {
         return Ok(Some(Breach {
             rule: Rule::Credits,
             place,

@@ -13,7 +13,7 @@ use Rattle.us_bucket.proofs.AllowanceLemmas.{had}
 use Rattle.us_lawful.specs.Rates.{span_holds}
 use Rattle.us_lawful.proofs.TestLemmas.{all_pass, each_passes}
 use Rattle.us_lawful.proofs.BucketLemmas.{events_of, later_events, has_keeps}
-use Rattle.us_credit_rules.specs.Shorts.{has}
+use Rattle.us_credit_rules.specs.Buckets.{has}
 use Rattle.us_credit_rules.proofs.LevelLemmas.{has-is, has-from}
 use Rattle.us_credit_rules.proofs.WalkLemmas.{has_rounds, range_all, rounds_of, rounds_same}
 

@@ -1,43 +1,37 @@
 -- What F lines tell of each cluster, and that they are judged by it.
-use Rattle.std.proofs.Common.{◌≡◌, ℕ, suc, ◌+◌, ◌-◌, ◌<◌, ◌≤◌, ◌==◌, Bool, true, false, List, [], ◌∷◌, ◌++◌, length, get_or, take, set, replicate, cond, Option, Some, None, refl, sym, ap, ap₂, ◌∙◌, inl, inr, arith, eq-eqb, ne_eqb, IsPermutation}
-use Rattle.std.specs.Prelude.{◌&&◌, ◌||◌, nat_eq, filter, filter_map, slice_get, sum_by}
-use Rattle.std.specs.List.{AllByRecursion, list_any}
+use Rattle.std.proofs.Common.{◌≡◌, ℕ, suc, ◌+◌, ◌-◌, ◌<◌, ◌==◌, Bool, true, false, List, [], ◌∷◌, ◌++◌, length, get_or, take, set, replicate, cond, Option, Some, None, refl, sym, ap, ap₂, subst, ◌∙◌, inl, inr, arith, eq-eqb, ne_eqb}
+use Rattle.std.specs.Prelude.{◌&&◌, ◌||◌, nat_eq, filter, slice_get}
+use Rattle.std.specs.List.{list_any}
 use Rattle.std.specs.Option.{is_some, option_eq}
-use Rattle.std.proofs.lemmas.Bool.{cases_Bool, cases_eq, lt-ltb}
+use Rattle.std.proofs.lemmas.Bool.{cases_Bool, cases_eq}
 use Rattle.std.proofs.lemmas.List.{append-nil, get_or-set_same, get_or-set_other, get_or-replicate}
 use Rattle.std.proofs.lemmas.List.Elements.{filter_agree, filter_more}
-use Rattle.std.proofs.lemmas.List.Sums.{length-filter, sum_by-cons}
+use Rattle.std.proofs.lemmas.List.Sums.{length-filter}
 use Rattle.us_flows.specs.declared.channels.Channel.{Channel}
 use Rattle.us_flows.specs.Tables.{Tables, FlowTable}
 use Rattle.us_flows.specs.Clusters.{Turn, IsTurnIn, table_order}
 use Rattle.us_flows.specs.Lawful.{AreTables}
-use Rattle.us_bucket.specs.Levels.{full, units_in}
+use Rattle.us_flows.proofs.TurnLaws.{table_order-turns}
 use Rattle.us_requests.specs.Traces.{TraceAsks}
 use Rattle.us_output.specs.declared.rows.FinalState.{FinalState}
 use Rattle.us_output.specs.declared.rows.Row.{Row}
-use Rattle.us_output.proofs.PartLemmas.{all_filtered, all_weaker}
+use Rattle.us_output.proofs.PartLemmas.{all_found}
 use Rattle.us_lawful.specs.declared.place.Place.{Place}
 use Rattle.us_lawful.specs.Runs.{Run, Judged, finals_in, run_in}
-use Rattle.us_lawful.specs.Rates.{flow_credit}
-use Rattle.us_lawful.specs.Finals.{final_holds, final_of, finals_hold, is_final_of, is_same_final, level_left, units_left}
+use Rattle.us_lawful.specs.Finals.{final_holds, final_of, finals_hold, is_final_of, is_same_final}
 use Rattle.us_breaches.specs.Order.{earlier}
 use Rattle.us_breaches.specs.Breaches.{Any, IsFirstBreach, IsFirstFailure}
 use Rattle.us_breaches.proofs.BreachLemmas.{same_places}
 use Rattle.us_breaches.proofs.AnyLemmas.{any_each}
 use Rattle.us_credit_rules.specs.declared.finals.Told.{Told}
 use Rattle.us_credit_rules.specs.declared.finals.Told.TheVariants.{Nothing}
-use Rattle.us_credit_rules.specs.declared.moves.Move.{Move}
 use Rattle.us_credit_rules.specs.Seats.{is_number, names, place_of}
-use Rattle.us_credit_rules.specs.Moves.{AreMoves, asked_of, credited_of, flow_move, moves_told}
-use Rattle.us_credit_rules.specs.LastLines.{IsStrange, IsWrong, cluster_left, flow_left, is_right, is_told, tells, told_at, told_by, told_more}
-use Rattle.us_credit_rules.proofs.MoveLemmas.{own_rounds_rise}
-use Rattle.us_credit_rules.proofs.CreditLemmas.{flow_credit_is}
-use Rattle.us_credit_rules.proofs.SeatLemmas.{any_number, named_place}
+use Rattle.us_credit_rules.specs.Accounts.{AllAccounts, AreAllAccounts}
+use Rattle.us_credit_rules.specs.Buckets.{IsFlowAccountOf, account_in, no_flow, units_of}
+use Rattle.us_credit_rules.specs.Ledgers.{IsAccountOf, account_at, left_of}
+use Rattle.us_credit_rules.specs.LastLines.{IsStrange, IsWrong, is_right, is_told, tells, told_at, told_by, told_more}
+use Rattle.us_credit_rules.proofs.SeatLemmas.{any_number, first_cluster, named_place}
 use Rattle.us_credit_rules.proofs.EndLemmas.{EndFails, ends_first}
-use Rattle.us_credit_rules.proofs.AccountLemmas.{asked_by, asked_is, credited_by, credited_is, within}
-use Rattle.us_credit_rules.proofs.LevelLemmas.{full-is}
-use Rattle.us_credit_rules.proofs.WalkLemmas.{credit_in, rounds_of, rounds_same}
-use Rattle.us_credit_rules.proofs.LeftLemmas.{left_is}
 
 -- What is told.
 
@@ -174,69 +168,29 @@ final_right t v lines turn place lawful listed =
     ∙ one_told right.outstanding right.units own
     ∙ ap (λ fs. is_told right.outstanding right.units (told_by fs)) named
 
--- What is left.
-
--- of moves that are all in the first rounds
-asked_all : (rounds : ℕ) (moves : List Move) → AllByRecursion (λ m. m.round < rounds) moves →
-    asked_of moves ≡ sum_by (within rounds asked_by) moves
-asked_all rounds [] inside = refl
-asked_all rounds (m ∷ moves) inside =
-    let here : within rounds asked_by m ≡ cond m.credited 0 m.bytes =
-    ap (λ b. cond b (cond m.credited 0 m.bytes) 0) (lt-ltb m.round rounds inside.0) in
-    omega (arith, sum_by-cons (within rounds asked_by) m moves, here, asked_all rounds moves inside.1)
-
-credited_all : (rounds : ℕ) (moves : List Move) → AllByRecursion (λ m. m.round < rounds) moves →
-    credited_of moves ≡ sum_by (within rounds credited_by) moves
-credited_all rounds [] inside = refl
-credited_all rounds (m ∷ moves) inside =
-    let here : within rounds credited_by m ≡ cond m.credited m.bytes 0 =
-    ap (λ b. cond b (cond m.credited m.bytes 0) 0) (lt-ltb m.round rounds inside.0) in
-    omega (arith, sum_by-cons (within rounds credited_by) m moves, here, credited_all rounds moves inside.1)
-
--- of a cluster,
-left_over : (t : Tables) (v : TraceAsks) (lines : List Row) (moves : List Move) (turn : Turn) → AreTables t →
-    IsTurnIn t turn → IsPermutation (moves_told v (table_order t) lines) moves → AreMoves v.rounds moves →
-    (final_of (run_in t v) lines turn).outstanding ≡ cluster_left moves turn.number
-left_over t v lines moves turn lawful known moved are =
-    let own : List Move = filter (λ m. m.owner == turn.number) moves in
-    let inside : AllByRecursion (λ m. m.round < v.rounds) own =
-    all_filtered (λ m. m.round < v.rounds) (λ m. m.owner == turn.number) moves are.inside in
-    sym (ap₂ (λ a b. a - b)
-    (asked_all v.rounds own inside
-    ∙ asked_is t v (table_order t) lines moves v.rounds turn.number known.number (omega arith) moved)
-    (credited_all v.rounds own inside
-    ∙ credited_is t v lines moves v.rounds turn lawful known (omega arith) moved))
-
--- and of the bucket of a flow
-units_over : (t : Tables) (v : TraceAsks) (lines : List Row) (moves : List Move) (flow : FlowTable) → flow.id < 65536 →
-    0 < v.rounds → IsPermutation (filter_map (flow_move v.rounds) lines) moves → AreMoves v.rounds moves →
-    units_left (run_in t v) lines flow ≡ flow_left v.rounds t.round_ticks moves flow
-units_over t v lines moves flow small some moved are =
-    let own : List Move = filter (λ m. m.owner == flow.id) moves in
-    let count : v.rounds ≡ suc (v.rounds - 1 - 0) = omega (arith, some) in
-    ap (λ credits. units_in (level_left t.round_ticks credits (full flow.rate flow.burst)))
-    (rounds_same (flow_credit lines flow.id) (credit_in own) 0 v.rounds
-    (λ round late inside. flow_credit_is v.rounds flow.id round lines moves small (omega (arith, inside)) moved)
-    ∙ ap (rounds_of (credit_in own) 0) count)
-    ∙ ap units_in (left_is t.round_ticks (v.rounds - 1) 0 (full flow.rate flow.burst) own (full-is flow.rate flow.burst)
-    (omega arith) (own_rounds_rise flow.id moves are.ordered)
-    (all_weaker (λ m. m.round < v.rounds) (λ m. m.round ≤ v.rounds - 1) (λ m inside. omega (arith, inside)) own
-    (all_filtered (λ m. m.round < v.rounds) (λ m. m.owner == flow.id) moves are.inside)))
-
 -- so that a cluster has its own F line where it is told so
-pub judged_right : (t : Tables) (v : TraceAsks) (lines : List Row) (flows clusters : List Move) (told : Told)
-    (turn : Turn) (place : ℕ) → AreTables t → slice_get (table_order t) place ≡ Some turn → IsTurnIn t turn →
-    turn.cluster.flow.id < 65536 → 0 < v.rounds →
-    IsPermutation (filter_map (flow_move v.rounds) lines) flows → AreMoves v.rounds flows →
-    IsPermutation (moves_told v (table_order t) lines) clusters → AreMoves v.rounds clusters →
+pub judged_right : (t : Tables) (v : TraceAsks) (lines : List Row) (all : AllAccounts) (told : Told) (turn : Turn)
+    (place : ℕ) → AreTables t → slice_get (table_order t) place ≡ Some turn → AreAllAccounts t v lines all →
     told ≡ told_at (table_order t) (finals_in lines) place →
-    final_holds (run_in t v) lines turn ≡ is_right v.rounds t.round_ticks flows clusters told turn
-judged_right t v lines flows clusters told turn place lawful listed known small some moved_flows are_flows moved are is =
+    final_holds (run_in t v) lines turn ≡ is_right v.rounds t.round_ticks all told turn
+judged_right t v lines all told turn place lawful listed are is =
+    let run : Run = run_in t v in
+    let flow : FlowTable = turn.cluster.flow in
+    let last : ℕ = v.rounds - 1 in
+    let known : IsTurnIn t turn = all_found (IsTurnIn t) (table_order t) place turn (table_order-turns t) listed in
+    let account : IsAccountOf run lines turn (account_at all.clusters turn.number) =
+    all_found (λ turn. IsAccountOf run lines turn (account_at all.clusters turn.number)) (table_order t) place turn
+    are.clusters listed in
+    let own = first_cluster t turn.place flow lawful known.flow known.requests in
+    let bucket : IsFlowAccountOf run lines flow (get_or all.flows own.place no_flow) =
+    subst (λ f. IsFlowAccountOf run lines f (get_or all.flows own.place no_flow)) own.of
+    (are.flows own.place own.turn own.listed own.first) in
     final_right t v lines turn place lawful listed
-    ∙ ap₂ (λ left units. is_told left units (told_at (table_order t) (finals_in lines) place))
-    (left_over t v lines clusters turn lawful known moved are)
-    (units_over t v lines flows turn.cluster.flow small some moved_flows are_flows)
-    ∙ ap (is_told (cluster_left clusters turn.number) (flow_left v.rounds t.round_ticks flows turn.cluster.flow)) (sym is)
+    ∙ ap₂ (λ left units. is_told left units (told_at (table_order t) (finals_in lines) place)) (sym account.left)
+    (sym (ap (λ found. units_of t.round_ticks last (account_in all.flows found))
+    (ap (place_of flow.id 0) are.seats ∙ own.found) ∙ bucket.left))
+    ∙ ap (is_told (left_of (account_at all.clusters turn.number))
+    (units_of t.round_ticks last (account_in all.flows (place_of flow.id 0 all.seats)))) (sym is)
 
 -- Places.
 

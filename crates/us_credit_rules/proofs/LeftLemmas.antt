@@ -4,11 +4,16 @@ use Rattle.std.specs.List.{AllByRecursion}
 use Rattle.us_bucket.specs.Levels.{Level, IsLevel, refilled, spent}
 use Rattle.us_bucket.proofs.RoundLemmas.{refilled-nothing, refills-are-one}
 use Rattle.us_lawful.specs.Finals.{level_left}
-use Rattle.us_credit_rules.specs.declared.moves.Move.{Move}
-use Rattle.us_credit_rules.specs.Moves.{Rising}
-use Rattle.us_credit_rules.specs.Shorts.{level_behind, level_in}
+use Rattle.us_output.specs.declared.rows.Grant.{Grant}
+use Rattle.us_credit_rules.specs.Buckets.{level_in}
 use Rattle.us_credit_rules.proofs.LevelLemmas.{refilled-is, spent-nothing, spent-spent, spent-is}
-use Rattle.us_credit_rules.proofs.WalkLemmas.{credit_in, first_credit, later_credit, nothing_before, rounds_of, rounds_same}
+use Rattle.us_credit_rules.proofs.WalkLemmas.{Rising, credit_in, first_credit, later_credit, nothing_before, rounds_of, rounds_same}
+
+-- what such a bucket has in the last round, where each credit takes its bytes from it, or all that it has
+abbrev pub level_behind : ℕ → ℕ → ℕ → Level → List Grant → Level
+level_behind ticks last at l [] = level_in ticks at l last
+level_behind ticks last at l (m ∷ lines) =
+    level_behind ticks last m.round (spent m.credit (level_in ticks at l m.round)) lines
 
 -- rounds without credits, before others
 left-later : (ticks : ℕ) (credit : ℕ → ℕ) (from wait n : ℕ) (l : Level) → IsLevel l →
@@ -65,21 +70,21 @@ left-none ticks credit from n l is none =
     ∙ spent-nothing (refilled (n * ticks) l)
 
 -- both ways lead to one level
-pub left_is : (ticks last from : ℕ) (l : Level) (moves : List Move) → IsLevel l → from ≤ last →
-    Rising (λ m. m.round) from moves → AllByRecursion (λ m. m.round ≤ last) moves →
-    level_left ticks (rounds_of (credit_in moves) from (suc (last - from))) l ≡ level_behind ticks last from l moves
+pub left_is : (ticks last from : ℕ) (l : Level) (lines : List Grant) → IsLevel l → from ≤ last →
+    Rising (λ m. m.round) from lines → AllByRecursion (λ m. m.round ≤ last) lines →
+    level_left ticks (rounds_of (credit_in lines) from (suc (last - from))) l ≡ level_behind ticks last from l lines
 left_is ticks last from l [] is inside rising before =
     left-none ticks (credit_in []) from (last - from) l is (λ i late. refl)
-left_is ticks last from l (m ∷ moves) is inside rising before =
+left_is ticks last from l (m ∷ lines) is inside rising before =
     let wait : ℕ = m.round - from in
     let now : Level = level_in ticks from l m.round in
     let count : suc (last - from) ≡ wait + suc (last - m.round) = omega (arith, inside, rising.0, before.0) in
     let start : from + wait ≡ m.round = omega (arith, rising.0) in
-    ap (λ k. level_left ticks (rounds_of (credit_in (m ∷ moves)) from k) l) count
-    ∙ left-later ticks (credit_in (m ∷ moves)) from wait (last - m.round) l is
-    (λ i late early. nothing_before m.round i (m ∷ moves) (omega arith, rising.1) (omega (arith, early, rising.0)))
-    ∙ ap (λ at. level_left ticks (rounds_of (credit_in (m ∷ moves)) at (suc (last - m.round))) now) start
-    ∙ left-part ticks m.bytes (credit_in (m ∷ moves)) (credit_in moves) m.round (last - m.round) now (first_credit m moves)
-    (later_credit m moves)
-    ∙ left_is ticks last m.round (spent m.bytes now) moves (spent-is m.bytes now (refilled-is (wait * ticks) l)) before.0
+    ap (λ k. level_left ticks (rounds_of (credit_in (m ∷ lines)) from k) l) count
+    ∙ left-later ticks (credit_in (m ∷ lines)) from wait (last - m.round) l is
+    (λ i late early. nothing_before m.round i (m ∷ lines) (omega arith, rising.1) (omega (arith, early, rising.0)))
+    ∙ ap (λ at. level_left ticks (rounds_of (credit_in (m ∷ lines)) at (suc (last - m.round))) now) start
+    ∙ left-part ticks m.credit (credit_in (m ∷ lines)) (credit_in lines) m.round (last - m.round) now (first_credit m lines)
+    (later_credit m lines)
+    ∙ left_is ticks last m.round (spent m.credit now) lines (spent-is m.credit now (refilled-is (wait * ticks) l)) before.0
     rising.1 before.1

@@ -3,9 +3,8 @@ use Rattle.std.proofs.Common.{◌≡◌, ℕ, ◌+◌, ◌-◌, ◌*◌, ◌/◌
 use Rattle.std.specs.Prelude.{◌&&◌, nat_le}
 use Rattle.std.proofs.lemmas.Bool.{cases_Bool, false≢true, leb-true, leb-false, le-leb, lt-leb}
 use Rattle.us_bucket.specs.Levels.{Level, IsLevel, full, units_per_byte, refilled, spent, bytes_in, Has}
-use Rattle.us_bucket.proofs.LevelLemmas.{refilled-rate, refilled-burst, spent-rate, spent-burst}
 use Rattle.us_bucket.proofs.RoundLemmas.{same_level}
-use Rattle.us_credit_rules.specs.Shorts.{has}
+use Rattle.us_credit_rules.specs.Buckets.{has}
 
 -- Refills.
 
@@ -106,6 +105,3 @@ emptied l bytes short = elim (cases_Bool (l.rate == 0)) [
       rw some (same_level l (l.burst * units_per_byte - l.burst * units_per_byte) (l.units - bytes * units_per_byte)
       (omega (arith, more)))
 ]
-
--- what refills and spends don't change
-pub ruleset kept_facts = (refilled-rate, refilled-burst, spent-rate, spent-burst)

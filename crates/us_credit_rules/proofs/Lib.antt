@@ -1,11 +1,12 @@
--- moves and their order, and what lines credit
-pub mod MoveLemmas
+-- items that stand together, and lists in order
+pub mod OwnLemmas
 pub mod OrderLemmas
+-- what lines credit
 pub mod CreditLemmas
 -- clusters in table order
 pub mod SeatLemmas
--- accounts of clusters
-pub mod AccountLemmas
+-- what they ask for and are credited
+pub mod LedgerLemmas
 -- places
 pub mod PlaceLemmas
 -- levels of buckets, and buckets through rounds
@@ -15,6 +16,8 @@ pub mod LeftLemmas
 -- rates
 pub mod BoundLemmas
 pub mod RateLemmas
+-- accounts of flows
+pub mod FlowLemmas
 -- F lines
 pub mod EndLemmas
 pub mod FinalLemmas

@@ -1,11 +1,13 @@
 -- Lines of requests: which is the only one of its cluster, channel and round, and which is right for the cluster that
 -- it names.
-use Rattle.std.proofs.Common.{◌≡◌, ℕ, ◌+◌, ◌*◌, ◌<◌, ◌≤◌, ◌==◌, Bool, true, false, cond, List, [], ◌∷◌, length, Option, Some, None, refl, sym, ap, ap₂, subst, ◌∙◌, inl, inr, arith, eq-eqb, IsPermutation}
-use Rattle.std.specs.Prelude.{◌&&◌, ◌||◌, not, nat_lt, if◌then◌else◌, find, count_by, slice_get}
+use Rattle.std.proofs.Common.{◌≡◌, ℕ, zero, suc, ◌+◌, ◌-◌, ◌*◌, ◌<◌, ◌≤◌, ◌==◌, Bool, true, false, cond, List, [], ◌∷◌, ◌++◌, length, get_or, replicate, set, map, take, Option, Some, None, Bor, refl, sym, ap, ap₂, subst, ◌∙◌, ◌⊎◌, inl, inr, arith, eq-eqb, ne_eqb, IsPermutation}
+use Rattle.std.specs.Prelude.{◌&&◌, ◌||◌, not, nat_eq, nat_lt, if◌then◌else◌, find, count_by, option_and_then, slice_get}
 use Rattle.std.specs.List.{AllByRecursion, list_all, list_any}
-use Rattle.std.specs.Option.{option_to_list}
-use Rattle.std.proofs.lemmas.Bool.{cases_Bool, cases_lt, and_from, and_left, and_parts, eqb-true, false≢true, false_from_ne_true, le-ltb, lt-ltb, or_cases, or_left}
-use Rattle.std.proofs.lemmas.List.Sorted.{sum_by-IsPermutation}
+use Rattle.std.specs.List.Sorted.{IsNonDecreasingBy}
+use Rattle.std.specs.Option.{option_eq}
+use Rattle.std.proofs.lemmas.Bool.{and_cases, and_from, and_left, and_parts, and_right, cases_Bool, cases_eq, cases_lt, eqb-false, eqb-true, false≢true, false_from_ne_true, le-ltb, lt-ltb, not-false, or_cases, or_left, or_right}
+use Rattle.std.proofs.lemmas.List.{get_or_default, get_or-set_same, get_or-set_other, length-set, map-append, take_more}
+use Rattle.std.proofs.lemmas.List.Sums.{sum_by-cons}
 use Rattle.us_flows.specs.declared.channels.Channel.{Channel}
 use Rattle.us_flows.specs.Tables.{Tables, channel_with}
 use Rattle.us_flows.specs.Lawful.{AreTables, IsChannel}
@@ -14,45 +16,47 @@ use Rattle.us_flows.proofs.TurnLaws.{table_order-turns}
 use Rattle.us_requests.specs.Traces.{TraceAsks}
 use Rattle.us_output.specs.declared.rows.Grant.{Grant}
 use Rattle.us_output.specs.declared.rows.Row.{Row}
-use Rattle.us_output.specs.declared.rows.Row.TheVariants as rows
 use Rattle.us_output.proofs.PartLemmas.{all_weaker}
 use Rattle.us_lawful.specs.declared.place.Place.{Place}
-use Rattle.us_lawful.specs.Runs.{Judged, as_grant, is_requested, grants_in, requested_in, run_in}
+use Rattle.us_lawful.specs.Runs.{requested_in, run_in}
 use Rattle.us_lawful.specs.Credits.{has_cost, is_like, is_right_credit, is_credit_at, credit_lines_hold}
-use Rattle.us_lawful.proofs.CreditLineLaws.{of_requested, requested_sum}
-use Rattle.us_lawful.proofs.SameLemmas.{worth, sum_filter_map}
-use Rattle.us_breaches.specs.Breaches.{IsFirstFailure, Any}
-use Rattle.us_breaches.proofs.BreachLemmas.{at_there, same_places}
-use Rattle.us_breaches.proofs.AnyLemmas.{any_each, any_filter, any_filter_map, any_of_all}
-use Rattle.us_breaches.proofs.OrderLemmas.{before-self}
-use Rattle.us_breaches.specs.Order.{goes_before}
+use Rattle.us_lawful.proofs.ItemLemmas.{any_placed, some_counted}
+use Rattle.us_lawful.proofs.SameLemmas.{same_all, same_count, same_moved, sum_append}
+use Rattle.us_lawful.proofs.TestLemmas.{any_same}
+use Rattle.us_breaches.specs.Breaches.{At, Either, IsFirstFailure}
+use Rattle.us_breaches.specs.Order.{earlier}
+use Rattle.us_breaches.proofs.BreachLemmas.{any_append, append_any, at_test, at_there, joined, same_places}
+use Rattle.us_breaches.proofs.AnyLemmas.{any_at, any_each, any_of_all, any_where}
+use Rattle.us_credit_rules.specs.Ends.{unless}
 use Rattle.us_credit_rules.specs.Seats.{is_number, names, place_of}
-use Rattle.us_credit_rules.specs.CreditLines.{IsWrongLine, is_alone, is_right_for, is_right_line, key_for, key_of, key_told, keys_told, line_place}
-use Rattle.us_credit_rules.proofs.CreditLemmas.{sum_pointwise}
-use Rattle.us_credit_rules.proofs.SeatLemmas.{are_seats, find_number, number_below, number_found, one_named}
+use Rattle.us_credit_rules.specs.CreditLines.{AreJudged, AreNoted, AreWrong, IsWrong, is_right_for, is_right_line, is_told, key_for, key_of, line_place, noted}
+use Rattle.us_credit_rules.proofs.SeatLemmas.{find_number, found_passes, number_below, number_found, one_named}
 
 same_test : (a b : Bool) → (a ≡ true → b ≡ true) → (b ≡ true → a ≡ true) → a ≡ b
 same_test true b there back = sym (there refl)
 same_test false b there back = sym (false_from_ne_true b (λ is. false≢true (back is)))
 
+or_false : (b : Bool) → (b || false) ≡ b
+or_false true = refl
+or_false false = refl
+
 -- Keys.
 
 -- what a key is made of
-record IsKey (found : Option ℕ) (round channel key : ℕ) : Type 0 where
+record IsKey (found : Option ℕ) (channel key : ℕ) : Type 0 where
   number : ℕ
   found_is : found ≡ Some number
   small : channel < 256
-  made : round * 16777216 + number * 256 + channel ≡ key
+  made : number * 256 + channel ≡ key
 
-key_parts : (found : Option ℕ) (round channel key : ℕ) → is_number key (key_for found round channel) ≡ true →
-    IsKey found round channel key
-key_parts None round channel key is = absurd (false≢true is)
-key_parts (Some number) round channel key is = elim (cases_lt channel 256) [
+key_parts : (found : Option ℕ) (channel key : ℕ) → is_number key (key_for found channel) ≡ true → IsKey found channel key
+key_parts None channel key is = absurd (false≢true is)
+key_parts (Some number) channel key is = elim (cases_lt channel 256) [
   | inl small ↦ record {
     number = number;
     found_is = refl;
     small = small;
-    made = eqb-true (round * 16777216 + number * 256 + channel) key (rw (lt-ltb channel 256 small) at is);
+    made = eqb-true (number * 256 + channel) key (rw (lt-ltb channel 256 small) at is);
   }
   | inr large ↦ absurd (false≢true (rw (le-ltb channel 256 large) at is))
 ]
@@ -74,75 +78,39 @@ one_name turns id list other_id other_list k found found_other =
           ∙ sym (eqb-true list a.1.cluster.list first.1),
     )
 
--- lines are of the same cluster, channel and round just where they have the same key
-like_key : (turns : List Turn) (g o : Grant) (key : ℕ) → length turns ≤ 65536 → key_of turns g ≡ Some key →
-    is_like g o ≡ is_number key (key_of turns o)
-like_key turns g o key few is =
-    same_test (is_like g o) (is_number key (key_of turns o)) there back
+-- lines are of the same cluster, channel and round just where they have the same key and round
+like_key : (turns : List Turn) (g o : Grant) (key : ℕ) → key_of turns g ≡ Some key →
+    is_like g o ≡ (is_number key (key_of turns o) && (o.round == g.round))
+like_key turns g o key is =
+    same_test (is_like g o) (is_number key (key_of turns o) && (o.round == g.round)) there back
   where
     own : is_number key (key_of turns g) ≡ true
     own = ap (is_number key) is ∙ eq-eqb key key refl
 
-    there : is_like g o ≡ true → is_number key (key_of turns o) ≡ true
+    there : is_like g o ≡ true → (is_number key (key_of turns o) && (o.round == g.round)) ≡ true
     there like =
         let a = and_parts (o.round == g.round) ((o.channel == g.channel) && ((o.id == g.id) && (o.i == g.i))) like in
         let b = and_parts (o.channel == g.channel) ((o.id == g.id) && (o.i == g.i)) a.1 in
         let c = and_parts (o.id == g.id) (o.i == g.i) b.1 in
-        ap₂ (λ found round. is_number key (key_for found round o.channel))
+        and_from (is_number key (key_of turns o)) (o.round == g.round)
+        (ap (λ found. is_number key (key_for found o.channel))
         (ap₂ (λ id list. place_of id list turns) (eqb-true o.id g.id c.0) (eqb-true o.i g.i c.1))
-        (eqb-true o.round g.round a.0)
-        ∙ ap (λ channel. is_number key (key_for (place_of g.id g.i turns) g.round channel))
-        (eqb-true o.channel g.channel b.0)
-        ∙ own
+        ∙ ap (λ channel. is_number key (key_for (place_of g.id g.i turns) channel)) (eqb-true o.channel g.channel b.0)
+        ∙ own)
+        a.0
 
-    back : is_number key (key_of turns o) ≡ true → is_like g o ≡ true
+    back : (is_number key (key_of turns o) && (o.round == g.round)) ≡ true → is_like g o ≡ true
     back same =
-        let a = key_parts (place_of g.id g.i turns) g.round g.channel key own in
-        let b = key_parts (place_of o.id o.i turns) o.round o.channel key same in
-        let few_a : a.number < length turns = number_below g.id g.i a.number turns a.found_is in
-        let few_b : b.number < length turns = number_below o.id o.i b.number turns b.found_is in
-        let channel : o.channel ≡ g.channel = omega (arith, few, few_a, few_b, a.small, b.small, a.made, b.made) in
-        let number : b.number ≡ a.number = omega (arith, few, few_a, few_b, a.small, b.small, a.made, b.made) in
-        let round : o.round ≡ g.round = omega (arith, few, few_a, few_b, a.small, b.small, a.made, b.made) in
+        let both = and_parts (is_number key (key_of turns o)) (o.round == g.round) same in
+        let a = key_parts (place_of g.id g.i turns) g.channel key own in
+        let b = key_parts (place_of o.id o.i turns) o.channel key both.0 in
+        let channel : o.channel ≡ g.channel = omega (arith, a.small, b.small, a.made, b.made) in
+        let number : b.number ≡ a.number = omega (arith, a.small, b.small, a.made, b.made) in
         let name = one_name turns g.id g.i o.id o.i a.number a.found_is (b.found_is ∙ ap (λ n. Some n) number) in
         and_from (o.round == g.round) ((o.channel == g.channel) && ((o.id == g.id) && (o.i == g.i)))
-        (eq-eqb o.round g.round round)
+        both.1
         (and_from (o.channel == g.channel) ((o.id == g.id) && (o.i == g.i)) (eq-eqb o.channel g.channel channel)
         (and_from (o.id == g.id) (o.i == g.i) (eq-eqb o.id g.id name.0) (eq-eqb o.i g.i name.1)))
-
--- so as many lines are like one as have its key
-like_count : (turns : List Turn) (lines : List Row) (g : Grant) (key : ℕ) → length turns ≤ 65536 →
-    key_of turns g ≡ Some key →
-    count_by (is_like g) (requested_in lines) ≡ count_by (λ k. k == key) (keys_told turns lines)
-like_count turns lines g key few is =
-    requested_sum (λ o. cond (is_like g o) 1 0) lines
-    ∙ sum_pointwise (of_requested (λ o. cond (is_like g o) 1 0)) (λ line. worth counted (key_told turns line)) one lines
-    ∙ sym (sum_filter_map counted (key_told turns) lines)
-  where
-    counted : ℕ → ℕ
-    counted k = cond (k == key) 1 0
-
-    told : (key_there : Option ℕ) → cond {A = ℕ} (is_number key key_there) 1 0 ≡ worth counted key_there
-    told None = refl
-    told (Some k) = refl
-
-    asked : (o : Grant) (b : Bool) →
-        cond {A = ℕ} b (cond (is_like g o) 1 0) 0 ≡ worth counted (if b then key_of turns o else None)
-    asked o true = ap (λ b. cond {A = ℕ} b 1 0) (like_key turns g o key few is) ∙ told (key_of turns o)
-    asked o false = refl
-
-    one : (line : Row) → of_requested (λ o. cond (is_like g o) 1 0) line ≡ worth counted (key_told turns line)
-    one (rows.Granted o) = asked o (is_requested o.entry)
-    one (rows.Missed m) = refl
-    one (rows.Final f) = refl
-    one (rows.Activity a) = refl
-    one (rows.Counts c) = refl
-
--- in whatever order keys are
-alone_moved : (told keys : List ℕ) (key : Option ℕ) → IsPermutation told keys → is_alone keys key ≡ is_alone told key
-alone_moved told keys None moved = refl
-alone_moved told keys (Some key) moved =
-    ap (λ n. n == 1) (sum_by-IsPermutation (λ k. cond (k == key) 1 0) told keys moved)
 
 -- Clusters.
 
@@ -181,18 +149,6 @@ abbrev asked_of : (Turn → Bool) → Option Turn → Bool
 asked_of r None = false
 asked_of r (Some turn) = r turn
 
--- the item that is found is one of all, and passes
-found_passes : {X : Type 0} (p : X → Bool) (P : X → Type 0) (xs : List X) (u : X) → find p xs ≡ Some u →
-    AllByRecursion P xs → P u × (p u ≡ true)
-found_passes p P [] u found all = absurd (cc found)
-found_passes p P (x ∷ xs) u found all = elim (cases_Bool (p x)) [
-  | inl is ↦
-      let here : Some x ≡ Some u = rw is at found in
-      let same : x ≡ u = cc here in
-      (subst P same all.0, ap p (sym same) ∙ is)
-  | inr out ↦ found_passes p P xs u (rw out at found) all.1
-]
-
 named_once : (t : Tables) (id list : ℕ) (r : Turn → Bool) → AreTables t → (found : Option Turn) →
     find (names id list) (table_order t) ≡ found →
     list_any (λ turn. names id list turn && r turn) (table_order t) ≡ asked_of r found
@@ -202,15 +158,6 @@ named_once t id list r lawful (Some u) is =
     one_asked (names id list) r u (table_order t) is
     (all_weaker (IsTurnIn t) (λ turn. names id list turn ≡ true → turn ≡ u)
     (λ turn of named. one_named t turn u id list lawful of known.0 named known.1) (table_order t) (table_order-turns t))
-
--- a number is found where an item is
-found_number : (id list : ℕ) (turns : List Turn) (u : Turn) → find (names id list) turns ≡ Some u →
-    (k : ℕ) × (place_of id list turns ≡ Some k)
-found_number id list turns u found = of (place_of id list turns) refl
-  where
-    of : (number : Option ℕ) → place_of id list turns ≡ number → (k : ℕ) × (place_of id list turns ≡ Some k)
-    of None is = absurd (cc (found, find_number (names id list) 0 turns, is))
-    of (Some k) is = (k, is)
 
 -- no channel has an id of more than a byte
 no_channel : (t : Tables) (id : ℕ) → AreTables t → 256 ≤ id → channel_with t.channels id ≡ None
@@ -224,162 +171,416 @@ no_channel t id lawful large =
         false_from_ne_true (c.id == id) (λ same. omega (arith, eqb-true c.id id same, small.0, large)) in
         rw out (none_there cs small.1)
 
--- A line.
+-- a line without a key isn't right
+no_key : (t : Tables) (g : Grant) → AreTables t → key_of (table_order t) g ≡ None →
+    is_right_line t.channels (table_order t) g ≡ false
+no_key t g lawful none = of (place_of g.id g.i (table_order t)) refl
+  where
+    found_by : find (names g.id g.i) (table_order t)
+        ≡ option_and_then (λ k. slice_get (table_order t) (k - 0)) (place_of g.id g.i (table_order t))
+    found_by = find_number (names g.id g.i) 0 (table_order t)
 
--- its last test, behind that of its cost
-alone_right : (t : Tables) (lines : List Row) (g : Grant) (u : Turn) → AreTables t →
-    find (names g.id g.i) (table_order t) ≡ Some u →
-    (has_cost u.cluster g (channel_with t.channels g.channel) && (count_by (is_like g) (requested_in lines) == 1))
-    ≡ (has_cost u.cluster g (channel_with t.channels g.channel)
-    && is_alone (keys_told (table_order t) lines) (key_of (table_order t) g))
-alone_right t lines g u lawful found =
-    let number = found_number g.id g.i (table_order t) u found in
-    elim (cases_lt g.channel 256) [
+    large_out : 256 ≤ g.channel → (found : Option Turn) → is_right_for t.channels g found ≡ false
+    large_out large None = refl
+    large_out large (Some u) =
+        let costs : Bool = has_cost u.cluster g (channel_with t.channels g.channel) in
+        and_right (g.k == 0) (has_sid g.channel g.sid u.cluster && (nat_lt 0 g.credit && costs))
+        (and_right (has_sid g.channel g.sid u.cluster) (nat_lt 0 g.credit && costs)
+        (and_right (nat_lt 0 g.credit) costs (ap (has_cost u.cluster g) (no_channel t g.channel lawful large))))
+
+    of : (found : Option ℕ) → place_of g.id g.i (table_order t) ≡ found →
+        is_right_line t.channels (table_order t) g ≡ false
+    of None is =
+        ap (is_right_for t.channels g) (found_by ∙ ap (option_and_then (λ k. slice_get (table_order t) (k - 0))) is)
+    of (Some k) is = elim (cases_lt g.channel 256) [
       | inl small ↦
-          let key : ℕ = g.round * 16777216 + number.0 * 256 + g.channel in
-          let is : key_of (table_order t) g ≡ Some key =
-          ap (λ n. key_for n g.round g.channel) number.1
-          ∙ ap (λ b. if b then Some key else None) (lt-ltb g.channel 256 small) in
-          ap (λ b. has_cost u.cluster g (channel_with t.channels g.channel) && b)
-          (ap (λ n. n == 1) (like_count (table_order t) lines g key (are_seats t lawful).few is)
-          ∙ ap (is_alone (keys_told (table_order t) lines)) (sym is))
-      | inr large ↦
-          let out : has_cost u.cluster g (channel_with t.channels g.channel) ≡ false =
-          ap (has_cost u.cluster g) (no_channel t g.channel lawful large) in
-          and_left (has_cost u.cluster g (channel_with t.channels g.channel))
-          (count_by (is_like g) (requested_in lines) == 1) out
-          ∙ sym (and_left (has_cost u.cluster g (channel_with t.channels g.channel))
-          (is_alone (keys_told (table_order t) lines) (key_of (table_order t) g)) out)
+          absurd (cc (sym none ∙ ap (λ found. key_for found g.channel) is
+          ∙ ap (λ b. if b then Some (k * 256 + g.channel) else None) (lt-ltb g.channel 256 small)))
+      | inr large ↦ large_out large (find (names g.id g.i) (table_order t))
     ]
 
-right_line : (t : Tables) (v : TraceAsks) (lines : List Row) (g : Grant) → AreTables t →
-    is_right_credit (run_in t v) lines g
-    ≡ is_right_line t.channels (table_order t) (keys_told (table_order t) lines) g
-right_line t v lines g lawful = of (find (names g.id g.i) (table_order t)) refl
-  where
-    turns : List Turn
-    turns = table_order t
+-- Lines like another one.
 
+-- one more
+count_push : {X : Type 0} (p : X → Bool) (xs : List X) (x : X) →
+    count_by p (xs ++ x ∷ []) ≡ count_by p xs + cond (p x) 1 0
+count_push p xs x =
+    omega (
+      arith,
+      sum_append (λ y. cond {A = ℕ} (p y) 1 0) xs (x ∷ []),
+      sum_by-cons (λ y. cond {A = ℕ} (p y) 1 0) x [],
+    )
+
+any_push : {X : Type 0} (p : X → Bool) (xs : List X) (x : X) → list_any p (xs ++ x ∷ []) ≡ (list_any p xs || p x)
+any_push p [] x = or_false (p x)
+any_push p (y ∷ xs) x = ap (λ b. p y || b) (any_push p xs x) ∙ grouped (p y) (list_any p xs) (p x)
+  where
+    grouped : (a b c : Bool) → (a || (b || c)) ≡ (a || b || c)
+    grouped true b c = refl
+    grouped false b c = refl
+
+-- those that pass are counted,
+counted_at : {X : Type 0} (p : X → Bool) (xs : List X) (i : ℕ) (d : X) → i < length xs → p (get_or xs i d) ≡ true →
+    1 ≤ count_by p xs
+counted_at p [] i d inside is = absurd (omega (arith, inside))
+counted_at p (x ∷ xs) zero d inside is =
+    omega (arith, sum_by-cons (λ y. cond {A = ℕ} (p y) 1 0) x xs, ap (λ b. cond {A = ℕ} b 1 0) is)
+counted_at p (x ∷ xs) (suc i) d inside is =
+    omega (arith, sum_by-cons (λ y. cond {A = ℕ} (p y) 1 0) x xs, counted_at p xs i d (omega (arith, inside)) is)
+
+some_pass : {X : Type 0} (p : X → Bool) (xs : List X) → list_any p xs ≡ true → 1 ≤ count_by p xs
+some_pass p [] any = absurd (false≢true any)
+some_pass p (x ∷ xs) any = elim (or_cases (p x) (list_any p xs) any) [
+  | inl here ↦ counted_at p (x ∷ xs) 0 x (omega arith) here
+  | inr there ↦ omega (arith, sum_by-cons (λ y. cond {A = ℕ} (p y) 1 0) x xs, some_pass p xs there)
+]
+
+-- and what is counted passes
+any_counted : {X : Type 0} (p : X → Bool) (xs : List X) → 1 ≤ count_by p xs → list_any p xs ≡ true
+any_counted p xs some =
+    let place = some_counted p xs some in
+    any_placed p xs place.0 place.1 place.2 place.3
+
+like_self : (g : Grant) → is_like g g ≡ true
+like_self g =
+    rw (eq-eqb g.round g.round refl, eq-eqb g.channel g.channel refl, eq-eqb g.id g.id refl, eq-eqb g.i g.i refl) refl
+
+-- lines that are alike have one place, and are like each other
+like_parts : (g o : Grant) → is_like g o ≡ true → (line_place g ≡ line_place o) × (is_like o g ≡ true)
+like_parts g o like =
+    let a = and_parts (o.round == g.round) ((o.channel == g.channel) && ((o.id == g.id) && (o.i == g.i))) like in
+    let b = and_parts (o.channel == g.channel) ((o.id == g.id) && (o.i == g.i)) a.1 in
+    let c = and_parts (o.id == g.id) (o.i == g.i) b.1 in
+    let round : g.round ≡ o.round = sym (eqb-true o.round g.round a.0) in
+    let channel : g.channel ≡ o.channel = sym (eqb-true o.channel g.channel b.0) in
+    let id : g.id ≡ o.id = sym (eqb-true o.id g.id c.0) in
+    let list : g.i ≡ o.i = sym (eqb-true o.i g.i c.1) in (
+      (λ i. record { round = round i; channel = channel i; third = id i }),
+      rw (eq-eqb g.round o.round round, eq-eqb g.channel o.channel channel, eq-eqb g.id o.id id, eq-eqb g.i o.i list) refl,
+    )
+
+-- One line more.
+
+module _ (channels : List Channel) (turns : List Turn) (lines : List Grant) (g : Grant) where
+  abbrev Again : Place → Type 0
+  Again = At (line_place g) (not (list_any (is_like g) lines) && is_right_line channels turns g)
+
+  -- of a line that was told
+  still_wrong : (o : Grant) (p : Place) → 1 ≤ count_by (is_like o) lines → IsWrong channels turns lines o p →
+      IsWrong channels turns (lines ++ g ∷ []) o p
+  still_wrong o p some wrong = (
+    wrong.0,
+    elim (and_cases (is_right_line channels turns o) (count_by (is_like o) lines == 1) wrong.1) [
+      | inl out ↦ and_left (is_right_line channels turns o) (count_by (is_like o) (lines ++ g ∷ []) == 1) out
+      | inr many ↦
+          and_right (is_right_line channels turns o) (count_by (is_like o) (lines ++ g ∷ []) == 1)
+          (ne_eqb (count_by (is_like o) (lines ++ g ∷ [])) 1 (λ one.
+          omega (arith, some, one, eqb-false (count_by (is_like o) lines) 1 many, count_push (is_like o) lines g)))
+    ],
+  )
+
+  wrong_before : (o : Grant) (p : Place) → 1 ≤ count_by (is_like o) lines → (i : ℕ) → i < length lines →
+      o ≡ get_or lines i g → IsWrong channels turns (lines ++ g ∷ []) o p → IsWrong channels turns lines o p ⊎ Again p
+  wrong_before o p some i inside is wrong = elim (cases_Bool (is_like o g)) [
+    | inl like ↦
+        let both = like_parts o g like in
+        let told : list_any (is_like g) lines ≡ true =
+        any_counted (is_like g) lines (counted_at (is_like g) lines i g inside (ap (is_like g) (sym is) ∙ both.1)) in
+        inr (
+          wrong.0 ∙ both.0,
+          and_left (not (list_any (is_like g) lines)) (is_right_line channels turns g) (ap not told),
+        )
+    | inr unlike ↦
+        let same : count_by (is_like o) (lines ++ g ∷ []) ≡ count_by (is_like o) lines =
+        omega (arith, count_push (is_like o) lines g, ap (λ b. cond {A = ℕ} b 1 0) unlike) in
+        inl (wrong.0, ap (λ n. is_right_line channels turns o && (n == 1)) (sym same) ∙ wrong.1)
+  ]
+
+  -- of this one
+  again_wrong : (p : Place) → Again p → IsWrong channels turns (lines ++ g ∷ []) g p
+  again_wrong p again = (
+    again.0,
+    elim (and_cases (not (list_any (is_like g) lines)) (is_right_line channels turns g) again.1) [
+      | inl told ↦
+          and_right (is_right_line channels turns g) (count_by (is_like g) (lines ++ g ∷ []) == 1)
+          (ne_eqb (count_by (is_like g) (lines ++ g ∷ [])) 1 (λ one.
+          omega (
+            arith,
+            one,
+            some_pass (is_like g) lines (not-false (list_any (is_like g) lines) told),
+            count_push (is_like g) lines g,
+            ap (λ b. cond {A = ℕ} b 1 0) (like_self g),
+          )))
+      | inr out ↦ and_left (is_right_line channels turns g) (count_by (is_like g) (lines ++ g ∷ []) == 1) out
+    ],
+  )
+
+  wrong_again : (p : Place) → IsWrong channels turns (lines ++ g ∷ []) g p → Again p
+  wrong_again p wrong = (
+    wrong.0,
+    elim (and_cases (is_right_line channels turns g) (count_by (is_like g) (lines ++ g ∷ []) == 1) wrong.1) [
+      | inl out ↦ and_right (not (list_any (is_like g) lines)) (is_right_line channels turns g) out
+      | inr many ↦
+          and_left (not (list_any (is_like g) lines)) (is_right_line channels turns g)
+          (ap not (any_counted (is_like g) lines (omega (
+            arith,
+            eqb-false (count_by (is_like g) (lines ++ g ∷ [])) 1 many,
+            count_push (is_like g) lines g,
+            ap (λ b. cond {A = ℕ} b 1 0) (like_self g),
+          ))))
+    ],
+  )
+
+  more_there : (p : Place) → Either (AreWrong channels turns lines) Again p → AreWrong channels turns (lines ++ g ∷ []) p
+  more_there p (inl before) =
+      let at = any_where (IsWrong channels turns lines) lines g p before in
+      let o : Grant = get_or lines at.0 g in
+      append_any (IsWrong channels turns (lines ++ g ∷ [])) lines (g ∷ []) p
+      (inl (any_at (IsWrong channels turns (lines ++ g ∷ [])) lines at.0 g p at.1
+      (still_wrong o p (counted_at (is_like o) lines at.0 g at.1 (like_self o)) at.2)))
+  more_there p (inr again) =
+      append_any (IsWrong channels turns (lines ++ g ∷ [])) lines (g ∷ []) p (inr (inl (again_wrong p again)))
+
+  more_back : (p : Place) → AreWrong channels turns (lines ++ g ∷ []) p → Either (AreWrong channels turns lines) Again p
+  more_back p wrong = elim (any_append (IsWrong channels turns (lines ++ g ∷ [])) lines (g ∷ []) p wrong) [
+    | inl before ↦
+        let at = any_where (IsWrong channels turns (lines ++ g ∷ [])) lines g p before in
+        let o : Grant = get_or lines at.0 g in
+        elim (wrong_before o p (counted_at (is_like o) lines at.0 g at.1 (like_self o)) at.0 at.1 refl at.2) [
+          | inl there ↦ inl (any_at (IsWrong channels turns lines) lines at.0 g p at.1 there)
+          | inr again ↦ inr again
+        ]
+    | inr last ↦ elim last [ inl here ↦ inr (wrong_again p here) | inr none ↦ absurd none ]
+  ]
+
+-- rounds that are noted
+module _ (turns : List Turn) (lines : List Grant) (round : ℕ) (last : List (Option ℕ)) (are : AreNoted turns lines round last)
+    (g : Grant) (later : round ≤ g.round) where
+  noted_later : (found : Option ℕ) (key r : ℕ) → g.round < r → is_told (noted last found g.round) (Some key) r ≡ false
+  noted_later None key r late = are.none_later key r (omega (arith, late, later))
+  noted_later (Some k) key r late = elim (cases_lt k (length last)) [
+    | inl inside ↦ elim (cases_eq k key) [
+      | inl same ↦
+          ap (λ o. option_eq nat_eq o (Some r))
+          (ap (λ n. get_or (set last k (Some g.round)) n None) (sym same)
+          ∙ get_or-set_same last k (Some g.round) None inside)
+          ∙ ne_eqb g.round r (λ equal. omega (arith, equal, late))
+      | inr other ↦
+          ap (λ o. option_eq nat_eq o (Some r))
+          (get_or-set_other last k key (Some g.round) None (λ same. other (sym same)))
+          ∙ are.none_later key r (omega (arith, late, later))
+    ]
+    | inr past ↦
+        ap (λ these. is_told these (Some key) r) (set_past last k (Some g.round) past)
+        ∙ are.none_later key r (omega (arith, late, later))
+  ]
+    where
+      set_past : (xs : List (Option ℕ)) (i : ℕ) (x : Option ℕ) → length xs ≤ i → set xs i x ≡ xs
+      set_past [] i x past = refl
+      set_past (y ∷ xs) zero x past = absurd (omega (arith, past))
+      set_past (y ∷ xs) (suc i) x past = ap (λ rest. y ∷ rest) (set_past xs i x (omega (arith, past)))
+
+  noted_told : (found : Option ℕ) (key r : ℕ) → key < length last → g.round ≤ r →
+      is_told (noted last found g.round) (Some key) r
+      ≡ (list_any (λ o. is_number key (key_of turns o) && (o.round == r)) lines || (is_number key found && (g.round == r)))
+  noted_told None key r inside late =
+      are.told key r inside (omega (arith, late, later)) ∙ sym (or_false (list_any
+      (λ o. is_number key (key_of turns o) && (o.round == r)) lines))
+  noted_told (Some k) key r inside late = elim (cases_eq k key) [
+    | inl same ↦
+        ap (λ o. option_eq nat_eq o (Some r))
+        (ap (λ n. get_or (set last k (Some g.round)) n None) (sym same)
+        ∙ get_or-set_same last k (Some g.round) None (omega (arith, same, inside)))
+        ∙ its (eq-eqb k key same) (cases_eq g.round r)
+    | inr other ↦
+        ap (λ o. option_eq nat_eq o (Some r))
+        (get_or-set_other last k key (Some g.round) None (λ same. other (sym same)))
+        ∙ are.told key r inside (omega (arith, late, later))
+        ∙ sym (ap (λ b. told || (b && (g.round == r))) (ne_eqb k key other) ∙ or_false told)
+  ]
+    where
+      told : Bool
+      told = list_any (λ o. is_number key (key_of turns o) && (o.round == r)) lines
+
+      its : (k == key) ≡ true → (g.round ≡ r) ⊎ (g.round ≡ r → ⊥) →
+          (g.round == r) ≡ (told || ((k == key) && (g.round == r)))
+      its own (inl here) =
+          eq-eqb g.round r here
+          ∙ sym (or_right told ((k == key) && (g.round == r))
+          (and_from (k == key) (g.round == r) own (eq-eqb g.round r here)))
+      its own (inr apart) =
+          let none : told ≡ false =
+          sym (are.told key r inside (omega (arith, late, later)))
+          ∙ are.none_later key r (omega (arith, late, later, apart)) in
+          ne_eqb g.round r apart
+          ∙ sym (ap₂ (λ a b. a || b) none (and_right (k == key) (g.round == r) (ne_eqb g.round r apart)))
+
+  same_long : (found : Option ℕ) → length (noted last found g.round) ≡ length last
+  same_long None = refl
+  same_long (Some k) = length-set last k (Some g.round)
+
+  noted_more : AreNoted turns (lines ++ g ∷ []) g.round (noted last (key_of turns g) g.round)
+  noted_more = record {
+    none_later = noted_later (key_of turns g);
+    told = λ key r inside late.
+        noted_told (key_of turns g) key r (omega (arith, inside, same_long (key_of turns g))) late
+        ∙ sym (any_push (λ o. is_number key (key_of turns o) && (o.round == r)) lines g);
+  }
+
+  -- so they say whether a line like this one was told
+  told_like : (key : ℕ) → key_of turns g ≡ Some key → key < length last →
+      is_told last (key_of turns g) g.round ≡ list_any (is_like g) lines
+  told_like key is inside =
+      ap (λ found. is_told last found g.round) is ∙ are.told key g.round inside later
+      ∙ sym (any_same (is_like g) (λ o. is_number key (key_of turns o) && (o.round == g.round))
+      (λ o. like_key turns g o key is) lines)
+
+-- Lines told one after another.
+
+-- the key of a line is one of these
+pub key_inside : (turns : List Turn) (g : Grant) (key : ℕ) (last : List (Option ℕ)) → key_of turns g ≡ Some key →
+    length turns * 256 ≤ length last → key < length last
+key_inside turns g key last is long =
+    let parts = key_parts (place_of g.id g.i turns) g.channel key (ap (is_number key) is ∙ eq-eqb key key refl) in
+    omega (arith, parts.small, parts.made, number_below g.id g.i parts.number turns parts.found_is, long)
+
+-- before all lines
+none_there : (count key : ℕ) → ◌≡◌ {A = Option ℕ} (get_or (replicate count None) key None) None
+none_there zero key = refl
+none_there (suc count) zero = refl
+none_there (suc count) (suc key) = none_there count key
+
+pub start_judged : (channels : List Channel) (turns : List Turn) (count : ℕ) →
+    AreJudged channels turns [] 0 None (replicate count None)
+start_judged channels turns count = record {
+  wrong = λ p fails. fails;
+  rounds = record {
+    none_later = λ key r late. ap (λ o. option_eq nat_eq o (Some r)) (none_there count key);
+    told = λ key r inside late. ap (λ o. option_eq nat_eq o (Some r)) (none_there count key);
+  };
+}
+
+-- one line more
+judged_more : (t : Tables) (lines : List Grant) (round : ℕ) (first : Option Place) (last : List (Option ℕ)) (g : Grant)
+    (wrong : Option Place) → AreTables t → length (table_order t) * 256 ≤ length last → round ≤ g.round →
+    wrong ≡ unless (not (is_told last (key_of (table_order t) g) g.round) && is_right_line t.channels (table_order t) g)
+    (line_place g) →
+    AreJudged t.channels (table_order t) lines round first last →
+    AreJudged t.channels (table_order t) (lines ++ g ∷ []) g.round (earlier t.channels first wrong)
+    (noted last (key_of (table_order t) g) g.round)
+judged_more t lines round first last g wrong lawful long later is are =
+    let turns : List Turn = table_order t in
+    let right : Bool = is_right_line t.channels turns g in
+    let told : Bool = list_any (is_like g) lines in
+    let test : (not (is_told last (key_of turns g) g.round) && right) ≡ (not told && right) = of (key_of turns g) refl in
+    let one : IsFirstFailure t.channels (Again t.channels turns lines g) wrong =
+    subst (IsFirstFailure t.channels (Again t.channels turns lines g))
+    (sym (is ∙ ap (λ b. unless b (line_place g)) test)) (at_test t.channels (line_place g) (not told && right)) in
+    record {
+      wrong = same_places t.channels (Either (AreWrong t.channels turns lines) (Again t.channels turns lines g))
+          (AreWrong t.channels turns (lines ++ g ∷ [])) (earlier t.channels first wrong) (more_there t.channels turns lines g)
+          (more_back t.channels turns lines g)
+          (joined t.channels (AreWrong t.channels turns lines) (Again t.channels turns lines g) first wrong are.wrong one);
+      rounds = noted_more turns lines round last are.rounds g later;
+    }
+  where
+    of : (found : Option ℕ) → key_of (table_order t) g ≡ found →
+        (not (is_told last (key_of (table_order t) g) g.round) && is_right_line t.channels (table_order t) g)
+        ≡ (not (list_any (is_like g) lines) && is_right_line t.channels (table_order t) g)
+    of None none =
+        let out : is_right_line t.channels (table_order t) g ≡ false = no_key t g lawful none in
+        and_right (not (is_told last (key_of (table_order t) g) g.round)) (is_right_line t.channels (table_order t) g) out
+        ∙ sym (and_right (not (list_any (is_like g) lines)) (is_right_line t.channels (table_order t) g) out)
+    of (Some key) some =
+        ap (λ b. not b && is_right_line t.channels (table_order t) g)
+        (told_like (table_order t) lines round last are.rounds g later key some
+        (key_inside (table_order t) g key last some long))
+
+-- what is kept of the first lines, where no later one is of an earlier round
+abbrev pub JudgedTo : Tables → List (Bor Grant) → ℕ → Option Place → List (Option ℕ) → Type 0
+JudgedTo t lines i first last =
+    (round : ℕ)
+    × ((k : ℕ) (d : Bor Grant) → i ≤ k → k < length lines → round ≤ (get_or lines k d).now.round)
+    × AreJudged t.channels (table_order t) (map (λ g. g.now) (take i lines)) round first last
+
+pub line_judged : (t : Tables) (lines : List (Bor Grant)) (i : ℕ) (first : Option Place) (last after : List (Option ℕ))
+    (d : Bor Grant) (told right : Bool) (wrong : Option Place) → IsNonDecreasingBy (λ (g : Bor Grant). g.now.round) lines →
+    i < length lines → AreTables t → length (table_order t) * 256 ≤ length last →
+    told ≡ is_told last (key_of (table_order t) (get_or lines i d).now) (get_or lines i d).now.round →
+    right ≡ is_right_line t.channels (table_order t) (get_or lines i d).now →
+    wrong ≡ unless (not told && right) (line_place (get_or lines i d).now) →
+    after ≡ noted last (key_of (table_order t) (get_or lines i d).now) (get_or lines i d).now.round →
+    JudgedTo t lines i first last → JudgedTo t lines (i + 1) (earlier t.channels first wrong) after
+line_judged t lines i first last after d told right wrong rises inside lawful long told_is right_is wrong_is after_is are =
+    let g : Grant = (get_or lines i d).now in
+    let before : List Grant = map (λ g. g.now) (take i lines) in
+    let all : map (λ (g : Bor Grant). g.now) (take (i + 1) lines) ≡ before ++ g ∷ [] =
+    ap (map (λ (g : Bor Grant). g.now)) (take_more lines i d inside)
+    ∙ map-append (λ (g : Bor Grant). g.now) (take i lines) (get_or lines i d ∷ []) in
+    let done : AreJudged t.channels (table_order t) (before ++ g ∷ []) g.round (earlier t.channels first wrong) after =
+    subst (AreJudged t.channels (table_order t) (before ++ g ∷ []) g.round (earlier t.channels first wrong)) (sym after_is)
+    (judged_more t before are.0 first last g wrong lawful long (are.1 i d (omega arith) inside)
+    (wrong_is ∙ ap₂ (λ a b. unless (not a && b) (line_place g)) told_is right_is) are.2) in (
+      g.round,
+      (λ k e later within.
+          omega (
+            arith,
+            ap (λ (g : Bor Grant). g.now.round) (get_or_default lines i d e inside),
+            rises i k e (omega (arith, later)) within,
+          )),
+      subst (λ these. AreJudged t.channels (table_order t) these g.round (earlier t.channels first wrong) after) (sym all)
+          done,
+    )
+
+-- Behind all lines, in whatever order they are.
+
+right_credit : (t : Tables) (v : TraceAsks) (lines : List Row) (grants : List Grant) (g : Grant) → AreTables t →
+    IsPermutation (requested_in lines) grants →
+    is_right_credit (run_in t v) lines g
+    ≡ (is_right_line t.channels (table_order t) g && (count_by (is_like g) grants == 1))
+right_credit t v lines grants g lawful moved = of (find (names g.id g.i) (table_order t)) refl
+  where
     rest : Turn → Bool
     rest turn =
         (g.k == 0) && (has_sid g.channel g.sid turn.cluster && (nat_lt 0 g.credit
         && (has_cost turn.cluster g (channel_with t.channels g.channel)
         && (count_by (is_like g) (requested_in lines) == 1))))
 
+    grouped : (a b c d e : Bool) → (a && (b && (c && (d && e)))) ≡ ((a && (b && (c && d))) && e)
+    grouped true true true d e = refl
+    grouped true true false d e = refl
+    grouped true false c d e = refl
+    grouped false b c d e = refl
+
     of : (found : Option Turn) → find (names g.id g.i) (table_order t) ≡ found →
         list_any (λ turn. names g.id g.i turn && rest turn) (table_order t)
-        ≡ is_right_for t.channels (table_order t) (keys_told (table_order t) lines) g found
+        ≡ (is_right_for t.channels g found && (count_by (is_like g) grants == 1))
     of None is = named_once t g.id g.i rest lawful None is
     of (Some u) is =
         named_once t g.id g.i rest lawful (Some u) is
-        ∙ ap (λ b. (g.k == 0) && (has_sid g.channel g.sid u.cluster && (nat_lt 0 g.credit && b)))
-        (alone_right t lines g u lawful is)
-
--- Places.
-
--- what fails at one place alone, or nowhere
-told_first : (channels : List Channel) (answer : Option Place) → IsFirstFailure channels (λ p. answer ≡ Some p) answer
-told_first channels None = λ p is. absurd (cc is)
-told_first channels (Some at) = (
-  refl,
-  λ p is.
-      let same : at ≡ p = cc is in
-      ap (λ q. goes_before channels q at) (sym same) ∙ before-self channels at,
-)
-
--- and of keys in another order
-place_moved : (channels : List Channel) (turns : List Turn) (told keys : List ℕ) (line : Row) → IsPermutation told keys →
-    line_place channels turns keys line ≡ line_place channels turns told line
-place_moved channels turns told keys (rows.Granted g) moved =
-    ap (λ b. if is_requested g.entry && not b then Some (record { round = g.round; channel = g.channel; third = g.id })
-    else None) (of (find (names g.id g.i) turns))
-  where
-    of : (found : Option Turn) → is_right_for channels turns keys g found ≡ is_right_for channels turns told g found
-    of None = refl
-    of (Some u) =
-        ap (λ b. (g.k == 0) && (has_sid g.channel g.sid u.cluster && (nat_lt 0 g.credit
-        && (has_cost u.cluster g (channel_with channels g.channel) && b))))
-        (alone_moved told keys (key_of turns g) moved)
-place_moved channels turns told keys (rows.Missed m) moved = refl
-place_moved channels turns told keys (rows.Final f) moved = refl
-place_moved channels turns told keys (rows.Activity a) moved = refl
-place_moved channels turns told keys (rows.Counts c) moved = refl
-
-pub wrong_first : (channels : List Channel) (turns : List Turn) (lines : List Row) (keys : List ℕ) (line : Row)
-    (answer : Option Place) → IsPermutation (keys_told turns lines) keys → answer ≡ line_place channels turns keys line →
-    IsFirstFailure channels (IsWrongLine channels turns lines line) answer
-wrong_first channels turns lines keys line answer moved is =
-    rw (is ∙ place_moved channels turns (keys_told turns lines) keys line moved)
-    (told_first channels (line_place channels turns (keys_told turns lines) line))
-
-module _ (t : Tables) (v : TraceAsks) (lines : List Row) (lawful : AreTables t) where
-  -- a line of a request that isn't right fails where it says,
-  abbrev fails_at : Grant → Place → Type 0
-  fails_at g p = (not (is_credit_at p g) || is_right_credit (run_in t v) lines g) ≡ false
-
-  abbrev requested_fails : Grant → Place → Type 0
-  requested_fails g p = (is_requested g.entry ≡ true) × fails_at g p
-
-  abbrev place_told : Row → Option Place
-  place_told line = line_place t.channels (table_order t) (keys_told (table_order t) lines) line
-
-  line_there : (line : Row) (p : Place) → Any requested_fails (option_to_list (as_grant line)) p → place_told line ≡ Some p
-  line_there (rows.Granted g) p (inl fails) =
-      let at : Place = record { round = g.round; channel = g.channel; third = g.id } in
-      let there = (at_there at p (is_right_credit (run_in t v) lines g)).0 fails.1 in
-      let wrong : is_right_line t.channels (table_order t) (keys_told (table_order t) lines) g ≡ false =
-      sym (right_line t v lines g lawful) ∙ there.1 in
-      ap₂ (λ a b. if a && not b then Some at else None) fails.0 wrong ∙ ap (λ q. Some q) (sym there.0)
-  line_there (rows.Granted g) p (inr none) = absurd none
-  line_there (rows.Missed m) p none = absurd none
-  line_there (rows.Final f) p none = absurd none
-  line_there (rows.Activity a) p none = absurd none
-  line_there (rows.Counts c) p none = absurd none
-
-  line_back : (line : Row) (p : Place) → place_told line ≡ Some p → Any requested_fails (option_to_list (as_grant line)) p
-  line_back (rows.Granted g) p is =
-      inl (of (is_requested g.entry) (is_right_line t.channels (table_order t) (keys_told (table_order t) lines) g) refl refl is)
-    where
-      at : Place
-      at = record { round = g.round; channel = g.channel; third = g.id }
-
-      of : (a b : Bool) → is_requested g.entry ≡ a →
-          is_right_line t.channels (table_order t) (keys_told (table_order t) lines) g ≡ b →
-          (if a && not b then Some at else None) ≡ Some p → requested_fails g p
-      of true true asked right is = absurd (cc is)
-      of true false asked wrong is =
-          let same : at ≡ p = cc is in
-          (asked, (at_there at p (is_right_credit (run_in t v) lines g)).1 (sym same, right_line t v lines g lawful ∙ wrong))
-      of false b asked right is = absurd (cc is)
-  line_back (rows.Missed m) p is = absurd (cc is)
-  line_back (rows.Final f) p is = absurd (cc is)
-  line_back (rows.Activity a) p is = absurd (cc is)
-  line_back (rows.Counts c) p is = absurd (cc is)
-
-  wrong_fails : (p : Place) → Any (IsWrongLine t.channels (table_order t) lines) lines p →
-      list_all (λ g. not (is_credit_at p g) || is_right_credit (run_in t v) lines g) (requested_in lines) ≡ false
-  wrong_fails p fails =
-      (any_of_all (λ g q. not (is_credit_at q g) || is_right_credit (run_in t v) lines g) (requested_in lines) p).1
-      ((any_filter fails_at (λ g. is_requested g.entry) (grants_in lines) p).1
-      ((any_filter_map requested_fails as_grant lines p).1
-      (any_each (IsWrongLine t.channels (table_order t) lines) (λ line. Any requested_fails (option_to_list (as_grant line)))
-      lines p (λ line fails. line_back line p fails) fails)))
-
-  fails_wrong : (p : Place) →
-      list_all (λ g. not (is_credit_at p g) || is_right_credit (run_in t v) lines g) (requested_in lines) ≡ false →
-      Any (IsWrongLine t.channels (table_order t) lines) lines p
-  fails_wrong p fails =
-      any_each (λ line. Any requested_fails (option_to_list (as_grant line))) (IsWrongLine t.channels (table_order t) lines)
-      lines p (λ line fails. line_there line p fails)
-      ((any_filter_map requested_fails as_grant lines p).0
-      ((any_filter fails_at (λ g. is_requested g.entry) (grants_in lines) p).0
-      ((any_of_all (λ g q. not (is_credit_at q g) || is_right_credit (run_in t v) lines g) (requested_in lines) p).0 fails)))
+        ∙ grouped (g.k == 0) (has_sid g.channel g.sid u.cluster) (nat_lt 0 g.credit)
+        (has_cost u.cluster g (channel_with t.channels g.channel)) (count_by (is_like g) (requested_in lines) == 1)
+        ∙ ap (λ n. is_right_for t.channels g (Some u) && (n == 1))
+        (same_count (is_like g) (requested_in lines) grants (same_moved (requested_in lines) grants moved))
 
 -- the first wrong line is the first that fails
-pub lines_first : (t : Tables) (v : TraceAsks) (judged : Judged) (answer : Option Place) → AreTables t →
-    IsFirstFailure t.channels (Any (IsWrongLine t.channels (table_order t) judged.lines) judged.lines) answer →
-    IsFirstFailure t.channels (λ p. credit_lines_hold (run_in t v) judged p ≡ false) answer
-lines_first t v judged answer lawful first =
-    same_places t.channels (Any (IsWrongLine t.channels (table_order t) judged.lines) judged.lines)
-    (λ p. credit_lines_hold (run_in t v) judged p ≡ false) answer (wrong_fails t v judged.lines lawful)
-    (fails_wrong t v judged.lines lawful) first
+pub lines_first : (t : Tables) (v : TraceAsks) (lines : List Row) (grants : List Grant) (answer : Option Place) →
+    AreTables t → IsPermutation (requested_in lines) grants →
+    IsFirstFailure t.channels (AreWrong t.channels (table_order t) grants) answer →
+    IsFirstFailure t.channels (λ p. credit_lines_hold (run_in t v) (record { maps = []; lines = lines }) p ≡ false) answer
+lines_first t v lines grants answer lawful moved first =
+    let right : Grant → Bool = is_right_credit (run_in t v) lines in
+    let test : Grant → Place → Bool = λ g p. not (is_credit_at p g) || right g in
+    let same : (g : Grant) → right g ≡ (is_right_line t.channels (table_order t) g && (count_by (is_like g) grants == 1)) =
+    (λ g. right_credit t v lines grants g lawful moved) in
+    let all : (p : Place) → list_all (λ g. test g p) (requested_in lines) ≡ list_all (λ g. test g p) grants =
+    (λ p. same_all (λ g. test g p) (requested_in lines) grants (same_moved (requested_in lines) grants moved)) in
+    same_places t.channels (AreWrong t.channels (table_order t) grants)
+    (λ p. list_all (λ g. test g p) (requested_in lines) ≡ false) answer
+    (λ p wrong. all p ∙ (any_of_all test grants p).1
+    (any_each (IsWrong t.channels (table_order t) grants) (λ g q. test g q ≡ false) grants p
+    (λ g fails. (at_there (line_place g) p (right g)).1 (fails.0, same g ∙ fails.1)) wrong))
+    (λ p fails. any_each (λ g q. test g q ≡ false) (IsWrong t.channels (table_order t) grants) grants p
+    (λ g out. let there = (at_there (line_place g) p (right g)).0 out in (there.0, sym (same g) ∙ there.1))
+    ((any_of_all test grants p).0 (sym (all p) ∙ fails)))
+    first

@@ -1,38 +1,20 @@
 -- How many rounds there are up to the last mark of a word, as a walk over the asks counts them, and what they say of a flow.
 use Rattle.std.proofs.Common.{◌≡◌, ℕ, zero, suc, ◌+◌, ◌<◌, ◌≤◌, ◌==◌, ◌⊎◌, Bool, true, false, cond, List, [], ◌∷◌, ◌++◌, length, map, get_or, take, set, replicate, refl, sym, ap, ap₂, ◌∙◌, inl, inr, arith, eq-eqb, ne_eqb}
-use Rattle.std.specs.Prelude.{if◌then◌else◌, nat_lt, nat_le, filter, sum_by, fold}
+use Rattle.std.specs.Prelude.{if◌then◌else◌, nat_lt, nat_le, fold}
 use Rattle.std.specs.List.{range_with_len}
 use Rattle.std.proofs.lemmas.Bool.{cases_Bool, cases_eq, le-leb, lt-leb, lt-ltb}
 use Rattle.std.proofs.lemmas.List.{get_or-set_same, get_or-set_other, length-set}
-use Rattle.std.proofs.lemmas.List.Elements.{filter_more}
 use Rattle.std.proofs.lemmas.List.FromFn.{get_or-map-range_with_len}
-use Rattle.std.proofs.lemmas.List.Sums.{sum_by-cons}
 use Rattle.us_flows.specs.Tables.{Tables}
 use Rattle.us_flows.specs.Clusters.{words_of}
 use Rattle.us_requests.specs.declared.asks.Ask.{Ask}
 use Rattle.us_requests.specs.Cuts.{asked, cut_of}
 use Rattle.us_requests.specs.Traces.{TraceAsks, asks_in, cuts_in}
 use Rattle.us_calendar.specs.Activity.{hears, is_marked}
-use Rattle.us_lawful.proofs.SameLemmas.{sum_append}
 use Rattle.us_credit_rules.specs.Activities.{marks, up_to_mark}
-use Rattle.us_credit_rules.proofs.AccountLemmas.{cut_at}
+use Rattle.us_credit_rules.proofs.LedgerLemmas.{asked_more, cut_at}
 
 -- The walk.
-
--- one ask more
-asked_more : (asks : List Ask) (i word : ℕ) (d : Ask) → i < length asks →
-    asked (take (i + 1) asks) word
-    ≡ asked (take i asks) word + cond ((get_or asks i d).cluster == word) (get_or asks i d).bytes 0
-asked_more asks i word d inside =
-    let ask : Ask = get_or asks i d in
-    let own : List Ask → List Ask = filter (λ ask. ask.cluster == word) in
-    ap (sum_by (λ (ask : Ask). ask.bytes)) (filter_more (λ (ask : Ask). ask.cluster == word) asks i d inside)
-    ∙ sum_append (λ (ask : Ask). ask.bytes) (own (take i asks)) (cond (ask.cluster == word) (ask ∷ []) [])
-    ∙ ap (λ n. asked (take i asks) word + n) (one (ask.cluster == word) ask)
-  where
-    one : (b : Bool) (ask : Ask) → sum_by (λ (ask : Ask). ask.bytes) (cond b (ask ∷ []) []) ≡ cond b ask.bytes 0
-    one true ask = omega (arith, sum_by-cons (λ (ask : Ask). ask.bytes) ask [])
-    one false ask = refl
 
 -- what is kept behind some asks of a round
 abbrev pub AreMarked : ℕ → List ℕ → List Ask → List ℕ → Type 0

@@ -8,7 +8,7 @@ use Rattle.us_flows.specs.declared.channels.Channel.{Channel}
 use Rattle.us_lawful.specs.declared.place.Place.{Place}
 use Rattle.us_breaches.specs.Breaches.{IsFirstFailure, Any}
 use Rattle.us_breaches.proofs.BreachLemmas.{same_places}
-use Rattle.us_credit_rules.specs.Shorts.{flow_place}
+use Rattle.us_credit_rules.specs.Shorts.{IsFirstRound, flow_place}
 
 -- Tests of all items, where something else doesn't pass.
 
@@ -45,12 +45,6 @@ module _ {X : Type 0} (other : Place → Bool) (each : X → Place → Bool) whe
       (λ p. (other p || list_all (λ x. each x p) xs) ≡ false) answer (any_fails xs) (fails_any xs) first
 
 -- A test of one flow.
-
--- the first round of so many in which a test fails
-abbrev pub IsFirstRound : ℕ → (ℕ → Bool) → Option ℕ → Type 0
-IsFirstRound rounds test None = (round : ℕ) → round < rounds → test round ≡ true
-IsFirstRound rounds test (Some first) =
-    (first < rounds) × (test first ≡ false) × ((round : ℕ) → round < first → test round ≡ true)
 
 -- at a place of another flow, or of none of these rounds, or of a channel, nothing is asked
 abbrev pub flow_test : ℕ → ℕ → (ℕ → Bool) → Place → Bool

@@ -4,18 +4,17 @@ use Rattle.std.proofs.Common.{◌≡◌, ℕ, zero, suc, ◌+◌, ◌-◌, ◌*�
 use Rattle.std.specs.Prelude.{if◌then◌else◌, count_by, find, flat_map, option_and_then, slice_get}
 use Rattle.std.specs.List.{AllByRecursion, list_any}
 use Rattle.std.specs.Option.{option_or, is_some}
-use Rattle.std.proofs.lemmas.Bool.{cases_Bool, cases_eq, and_left, and_right, eqb-true, false≢true, true≢false, false_from_ne_true, and_parts}
-use Rattle.std.proofs.lemmas.List.Elements.{All-from_recursion}
+use Rattle.std.proofs.lemmas.Bool.{cases_Bool, cases_eq, and_from, and_left, and_right, eqb-true, false≢true, true≢false, false_from_ne_true, and_parts}
 use Rattle.std.proofs.lemmas.List.{drop-map, drop_more, length-append, length-take-le, take_more}
 use Rattle.std.proofs.lemmas.List.Sums.{sum_by-cons}
 use Rattle.us_flows.specs.Tables.{Tables, FlowTable}
 use Rattle.us_flows.specs.Lawful.{AreTables, IsFlow}
-use Rattle.us_flows.specs.Clusters.{Cluster, Turn, IsTurnIn, clusters_from, makes_requests, requesting, table_order, turns_for, turns_from, words_in}
+use Rattle.us_flows.specs.Clusters.{Cluster, Turn, IsTurnIn, clusters_from, makes_requests, requesting, table_order, turns_for, turns_from, words_in, words_of}
 use Rattle.us_flows.proofs.TurnLaws.{one_number, one_turn, table_order-length, table_order-once, table_order-turns}
 use Rattle.us_lawful.proofs.CreditLineLaws.{counted_there, turn_listed}
 use Rattle.std.proofs.lemmas.Option.{slice_get_read}
 use Rattle.us_output.proofs.PartLemmas.{all_both, all_found, all_weaker}
-use Rattle.us_credit_rules.specs.Seats.{AreSeats, code_of, is_number, names, number_from, place_of}
+use Rattle.us_credit_rules.specs.Seats.{AreNamed, AreSeats, code_of, has_word, is_number, names, number_from, place_of}
 
 -- what a function gives from a place on
 pub drop_given : {X : Type 0} (f : X → List ℕ) (xs : List X) (i : ℕ) (x : X) → i < length xs → x ≡ get_or xs i x →
@@ -187,6 +186,18 @@ pub found_nowhere : (id list : ℕ) (turns : List Turn) → place_of id list tur
 found_nowhere id list turns none =
     find_number (names id list) 0 turns ∙ ap (option_and_then (λ k. slice_get turns (k - 0))) none
 
+-- the item that is found is one of all, and passes
+pub found_passes : {X : Type 0} (p : X → Bool) (P : X → Type 0) (xs : List X) (u : X) → find p xs ≡ Some u →
+    AllByRecursion P xs → P u × (p u ≡ true)
+found_passes p P [] u found all = absurd (cc found)
+found_passes p P (x ∷ xs) u found all = elim (cases_Bool (p x)) [
+  | inl is ↦
+      let here : Some x ≡ Some u = rw is at found in
+      let same : x ≡ u = cc here in
+      (subst P same all.0, ap p (sym same) ∙ is)
+  | inr out ↦ found_passes p P xs u (rw out at found) all.1
+]
+
 -- one is found where one passes
 pub any_number : {X : Type 0} (p : X → Bool) (n : ℕ) (xs : List X) → list_any p xs ≡ is_some (number_from p n xs)
 any_number p n [] = refl
@@ -356,13 +367,8 @@ named_place t turn place id list lawful listed = of (place_of id list (table_ord
               ∙ sym (ne_eqb k place apart)
         ]
 
--- the cluster that is found has this word
-abbrev pub has_word : ℕ → Option Turn → Bool
-has_word word None = false
-has_word word (Some turn) = turn.number == word
-
--- and a turn of the tables just where it has the word of what it names
-pub named_word : (t : Tables) (turn : Turn) (id list : ℕ) → AreTables t → IsTurnIn t turn →
+-- and so where it has the word of what the line names
+named_word : (t : Tables) (turn : Turn) (id list : ℕ) → AreTables t → IsTurnIn t turn →
     names id list turn ≡ has_word turn.number (find (names id list) (table_order t))
 named_word t turn id list lawful known = of (place_of id list (table_order t)) refl
   where
@@ -396,21 +402,95 @@ named_word t turn id list lawful known = of (place_of id list (table_order t)) r
               ∙ sym (ap (has_word turn.number) found ∙ ne_eqb other.number turn.number apart)
         ]
 
--- an item of all turns is one of the tables,
-pub seat_known : (t : Tables) (turns : List Turn) (i : ℕ) (turn : Turn) → turns ≡ table_order t → i < length turns →
-    turn ≡ get_or turns i turn → IsTurnIn t turn
-seat_known t turns i turn all inside is =
-    subst (IsTurnIn t) (sym is)
-    (All-from_recursion (IsTurnIn t) turns (subst (AllByRecursion (IsTurnIn t)) (sym all) (table_order-turns t)) i turn
-    inside)
-
--- which stands there,
+-- an item of all turns stands there
 pub seat_listed : (t : Tables) (turns : List Turn) (i : ℕ) (turn : Turn) → turns ≡ table_order t → i < length turns →
     turn ≡ get_or turns i turn → slice_get (table_order t) i ≡ Some turn
 seat_listed t turns i turn all inside is =
     ap (λ these. slice_get these i) (sym all) ∙ slice_get_read turns (length turns) i turn refl inside is
 
--- and is of a flow with an id of 16 bits
-pub seat_small : (t : Tables) (turn : Turn) → AreTables t → IsTurnIn t turn → turn.cluster.flow.id < 65536
-seat_small t turn lawful known =
-    omega (arith, (all_found (IsFlow t) t.flows turn.place turn.cluster.flow lawful.flows known.flow).id.1)
+-- so lines name the turns of tables by their words
+pub are_named : (t : Tables) → AreTables t → AreNamed (length (words_of t)) (table_order t)
+are_named t lawful = record {
+  inside = all_weaker (IsTurnIn t) (λ turn. turn.number < length (words_of t)) (λ turn is. is.number) (table_order t)
+      (table_order-turns t);
+  named = λ id list.
+      all_weaker (IsTurnIn t) (λ turn. names id list turn ≡ has_word turn.number (find (names id list) (table_order t)))
+      (λ turn is. named_word t turn id list lawful is) (table_order t) (table_order-turns t);
+}
+
+-- Flows that make requests.
+
+-- each has a first cluster, which stands in table order
+first_listed : (place number i : ℕ) (flows : List FlowTable) (flow : FlowTable) → slice_get flows i ≡ Some flow →
+    makes_requests flow.kind ≡ true → 1 ≤ length flow.clusters →
+    (k : ℕ) × (turn : Turn) × (slice_get (turns_from place number flows) k ≡ Some turn) × (turn.cluster.flow ≡ flow)
+    × (turn.cluster.list ≡ 0)
+first_listed place number i [] flow at asks some = absurd (cc at)
+first_listed place number zero (f ∷ flows) flow at asks some =
+    let same : f ≡ flow = cc at in
+    let all : requesting f ≡ clusters_from f 0 f.clusters =
+    ap (λ b. if b then clusters_from f 0 f.clusters else []) (ap (λ (g : FlowTable). makes_requests g.kind) same ∙ asks) in
+    let its = head f.clusters (omega (arith, some, ap (λ (g : FlowTable). length g.clusters) same)) in (
+      0,
+      its.0,
+      subst (λ own. slice_get (turns_for place number own ++ rest) 0 ≡ Some its.0) (sym all) its.1,
+      its.2 ∙ same,
+      its.3,
+    )
+  where
+    rest : List Turn
+    rest = turns_from (place + 1) (number + length (words_in f)) flows
+
+    head : (lists : List (List ℕ)) → 1 ≤ length lists →
+        (turn : Turn) × (slice_get (turns_for place number (clusters_from f 0 lists) ++ rest) 0 ≡ Some turn)
+        × (turn.cluster.flow ≡ f) × (turn.cluster.list ≡ 0)
+    head [] some = absurd (omega (arith, some))
+    head (sids ∷ lists) some =
+        (record { number = number; place = place; cluster = record { flow = f; list = 0; sids = sids } }, refl, refl, refl)
+first_listed place number (suc i) (f ∷ flows) flow at asks some =
+    let own : List Turn = turns_for place number (requesting f) in
+    let more = first_listed (place + 1) (number + length (words_in f)) i flows flow at asks some in (
+      length own + more.0,
+      more.1,
+      behind own (turns_from (place + 1) (number + length (words_in f)) flows) more.0 ∙ more.2,
+      more.3,
+      more.4,
+    )
+  where
+    behind : (xs ys : List Turn) (k : ℕ) → slice_get (xs ++ ys) (length xs + k) ≡ slice_get ys k
+    behind [] ys k =
+        let same : 0 + k ≡ k = omega arith in
+        ap (slice_get ys) same
+    behind (x ∷ xs) ys k =
+        let same : suc (length xs) + k ≡ suc (length xs + k) = omega arith in
+        ap (slice_get (x ∷ xs ++ ys)) same ∙ behind xs ys k
+
+-- and is found by the flow's id
+pub record IsFirstCluster (t : Tables) (flow : FlowTable) : Type 0 where
+  pub place : ℕ
+  pub turn : Turn
+  pub listed : slice_get (table_order t) place ≡ Some turn
+  pub of : turn.cluster.flow ≡ flow
+  pub first : turn.cluster.list ≡ 0
+  pub found : place_of flow.id 0 (table_order t) ≡ Some place
+
+is_this : (place : ℕ) (found : Option ℕ) → is_number place found ≡ true → found ≡ Some place
+is_this place None is = absurd (false≢true is)
+is_this place (Some k) is = ap (λ n. Some n) (eqb-true k place is)
+
+pub first_cluster : (t : Tables) (i : ℕ) (flow : FlowTable) → AreTables t → slice_get t.flows i ≡ Some flow →
+    makes_requests flow.kind ≡ true → IsFirstCluster t flow
+first_cluster t i flow lawful at asks =
+    let its = first_listed 0 0 i t.flows flow at asks (all_found (IsFlow t) t.flows i flow lawful.flows at).some_clusters.0 in
+    record {
+      place = its.0;
+      turn = its.1;
+      listed = its.2;
+      of = its.3;
+      first = its.4;
+      found = is_this its.0 (place_of flow.id 0 (table_order t))
+          (sym (named_place t its.1 its.0 flow.id 0 lawful its.2)
+          ∙ and_from (flow.id == its.1.cluster.flow.id) (0 == its.1.cluster.list)
+          (eq-eqb flow.id its.1.cluster.flow.id (ap (λ (f : FlowTable). f.id) (sym its.3)))
+          (eq-eqb 0 its.1.cluster.list (sym its.4)));
+    }

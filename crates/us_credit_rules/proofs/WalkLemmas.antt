@@ -1,15 +1,27 @@
 -- A bucket through all rounds, and through those alone in which something is credited.
 use Rattle.std.proofs.Common.{◌≡◌, ℕ, zero, suc, ◌+◌, ◌-◌, ◌*◌, ◌<◌, ◌≤◌, ◌==◌, Bool, true, false, List, [], ◌∷◌, map, cond, Option, Some, None, refl, sym, ap, ap₂, ◌∙◌, inl, inr, arith, eq-eqb, ne_eqb}
-use Rattle.std.specs.Prelude.{◌&&◌}
+use Rattle.std.specs.Prelude.{◌&&◌, if◌then◌else◌}
 use Rattle.std.specs.List.{AllByRecursion, range_with_len}
 use Rattle.std.proofs.lemmas.Bool.{cases_Bool, cases_lt, and_left}
 use Rattle.us_bucket.specs.Levels.{Level, IsLevel, refilled, spent}
 use Rattle.us_bucket.proofs.RoundLemmas.{refilled-nothing, refills-are-one}
 use Rattle.us_lawful.proofs.ItemLemmas.{map_same}
-use Rattle.us_credit_rules.specs.declared.moves.Move.{Move}
-use Rattle.us_credit_rules.specs.Moves.{Rising}
-use Rattle.us_credit_rules.specs.Shorts.{has, level_in, short_round}
+use Rattle.us_output.specs.declared.rows.Grant.{Grant}
+use Rattle.us_credit_rules.specs.Buckets.{has, level_in}
 use Rattle.us_credit_rules.proofs.LevelLemmas.{refilled-is, spent-nothing, spent-spent, spent-is, has-both, has-nothing}
+
+-- numbers of items don't fall, from this one on
+abbrev pub Rising : {X : Type 0} → (X → ℕ) → ℕ → List X → Type 0
+Rising number from [] = Unit {0}
+Rising number from (x ∷ xs) = (from ≤ number x) × Rising number (number x) xs
+
+-- the round of the first credit whose bytes a bucket lacks, in which `l` was left in round `at`
+abbrev pub short_round : ℕ → ℕ → Level → List Grant → Option ℕ
+short_round ticks at l [] = None
+short_round ticks at l (m ∷ lines) =
+    if has (level_in ticks at l m.round) m.credit
+    then short_round ticks m.round (spent m.credit (level_in ticks at l m.round)) lines
+    else Some m.round
 
 -- what holds of each number of a range holds of all
 pub range_all : (P : ℕ → Type 0) (from n : ℕ) → ((i : ℕ) → from ≤ i → i < from + n → P i) →
@@ -64,94 +76,94 @@ has-part ticks bytes f g from n l first same there =
     rounds_same f g (from + 1) n (λ i late inside. same i (omega (arith, late))) in
     rw (first, has-both bytes (g from) l, there, rest, ← spent-spent bytes (g from) l) refl
 
--- Credits of moves.
+-- Credits of lines.
 
--- what moves credit in a round
-abbrev pub credit_in : List Move → ℕ → ℕ
+-- what lines credit in a round
+abbrev pub credit_in : List Grant → ℕ → ℕ
 credit_in [] round = 0
-credit_in (m ∷ moves) round = cond (m.round == round) m.bytes 0 + credit_in moves round
+credit_in (m ∷ lines) round = cond (m.round == round) m.credit 0 + credit_in lines round
 
 -- nothing before the first
-pub nothing_before : (from round : ℕ) (moves : List Move) → Rising (λ m. m.round) from moves → round < from →
-    credit_in moves round ≡ 0
+pub nothing_before : (from round : ℕ) (lines : List Grant) → Rising (λ m. m.round) from lines → round < from →
+    credit_in lines round ≡ 0
 nothing_before from round [] rising early = refl
-nothing_before from round (m ∷ moves) rising early =
+nothing_before from round (m ∷ lines) rising early =
     rw (ne_eqb m.round round (λ same. omega (arith, same, rising.0, early)))
-    (omega (arith, nothing_before m.round round moves rising.1 (omega (arith, rising.0, early))))
+    (omega (arith, nothing_before m.round round lines rising.1 (omega (arith, rising.0, early))))
 
 -- of the first and the others
-pub first_credit : (m : Move) (moves : List Move) → credit_in (m ∷ moves) m.round ≡ m.bytes + credit_in moves m.round
-first_credit m moves = rw (eq-eqb m.round m.round refl) refl
+pub first_credit : (m : Grant) (lines : List Grant) → credit_in (m ∷ lines) m.round ≡ m.credit + credit_in lines m.round
+first_credit m lines = rw (eq-eqb m.round m.round refl) refl
 
-pub later_credit : (m : Move) (moves : List Move) (i : ℕ) → m.round < i → credit_in (m ∷ moves) i ≡ credit_in moves i
-later_credit m moves i late = rw (ne_eqb m.round i (λ same. omega (arith, same, late))) (omega arith)
+pub later_credit : (m : Grant) (lines : List Grant) (i : ℕ) → m.round < i → credit_in (m ∷ lines) i ≡ credit_in lines i
+later_credit m lines i late = rw (ne_eqb m.round i (λ same. omega (arith, same, late))) (omega arith)
 
 -- What is answered of them: the bucket has those of all rounds; or it has those of all rounds before the answer, and
 -- not those up to it.
-abbrev pub IsShort : ℕ → ℕ → Level → List Move → Option ℕ → Type 0
-IsShort ticks from l moves None = (n : ℕ) → has_rounds ticks (rounds_of (credit_in moves) from n) l ≡ true
-IsShort ticks from l moves (Some round) =
+abbrev pub IsShort : ℕ → ℕ → Level → List Grant → Option ℕ → Type 0
+IsShort ticks from l lines None = (n : ℕ) → has_rounds ticks (rounds_of (credit_in lines) from n) l ≡ true
+IsShort ticks from l lines (Some round) =
     (from ≤ round)
-    × ((n : ℕ) → from + n ≤ round → has_rounds ticks (rounds_of (credit_in moves) from n) l ≡ true)
-    × (has_rounds ticks (rounds_of (credit_in moves) from (round + 1 - from)) l ≡ false)
+    × ((n : ℕ) → from + n ≤ round → has_rounds ticks (rounds_of (credit_in lines) from n) l ≡ true)
+    × (has_rounds ticks (rounds_of (credit_in lines) from (round + 1 - from)) l ≡ false)
 
 -- rounds before the first credit
-has-none : (ticks : ℕ) (moves : List Move) (from n : ℕ) (l : Level) → IsLevel l →
-    ((i : ℕ) → from ≤ i → i < from + n → credit_in moves i ≡ 0) →
-    has_rounds ticks (rounds_of (credit_in moves) from n) l ≡ true
-has-none ticks moves from n l is none =
+has-none : (ticks : ℕ) (lines : List Grant) (from n : ℕ) (l : Level) → IsLevel l →
+    ((i : ℕ) → from ≤ i → i < from + n → credit_in lines i ≡ 0) →
+    has_rounds ticks (rounds_of (credit_in lines) from n) l ≡ true
+has-none ticks lines from n l is none =
     let count : n + 0 ≡ n = omega arith in
-    ap (λ k. has_rounds ticks (rounds_of (credit_in moves) from k) l) (sym count)
-    ∙ has-later ticks (credit_in moves) from n 0 l is none
+    ap (λ k. has_rounds ticks (rounds_of (credit_in lines) from k) l) (sym count)
+    ∙ has-later ticks (credit_in lines) from n 0 l is none
 
 -- the first credit
-module _ (ticks from : ℕ) (l : Level) (m : Move) (moves : List Move) (is : IsLevel l)
-    (rising : Rising (λ m. m.round) from (m ∷ moves)) where
+module _ (ticks from : ℕ) (l : Level) (m : Grant) (lines : List Grant) (is : IsLevel l)
+    (rising : Rising (λ m. m.round) from (m ∷ lines)) where
   abbrev grown : Level
   grown = level_in ticks from l m.round
 
   -- nothing before it
-  none_yet : (i : ℕ) → i < m.round → credit_in (m ∷ moves) i ≡ 0
+  none_yet : (i : ℕ) → i < m.round → credit_in (m ∷ lines) i ≡ 0
   none_yet i early =
-      nothing_before m.round i (m ∷ moves) (omega arith, rising.1) early
+      nothing_before m.round i (m ∷ lines) (omega arith, rising.1) early
 
-  before_it : (n : ℕ) → from + n ≤ m.round → has_rounds ticks (rounds_of (credit_in (m ∷ moves)) from n) l ≡ true
+  before_it : (n : ℕ) → from + n ≤ m.round → has_rounds ticks (rounds_of (credit_in (m ∷ lines)) from n) l ≡ true
   before_it n early =
-      has-none ticks (m ∷ moves) from n l is (λ i late inside. none_yet i (omega (arith, inside, early)))
+      has-none ticks (m ∷ lines) from n l is (λ i late inside. none_yet i (omega (arith, inside, early)))
 
   -- where it is there, the rest is left
-  behind_it : (n : ℕ) → has grown m.bytes ≡ true →
-      has_rounds ticks (rounds_of (credit_in (m ∷ moves)) from (m.round - from + suc n)) l
-      ≡ has_rounds ticks (rounds_of (credit_in moves) m.round (suc n)) (spent m.bytes grown)
+  behind_it : (n : ℕ) → has grown m.credit ≡ true →
+      has_rounds ticks (rounds_of (credit_in (m ∷ lines)) from (m.round - from + suc n)) l
+      ≡ has_rounds ticks (rounds_of (credit_in lines) m.round (suc n)) (spent m.credit grown)
   behind_it n there =
       let start : from + (m.round - from) ≡ m.round = omega (arith, rising.0) in
-      has-later ticks (credit_in (m ∷ moves)) from (m.round - from) (suc n) l is
+      has-later ticks (credit_in (m ∷ lines)) from (m.round - from) (suc n) l is
       (λ i late inside. none_yet i (omega (arith, inside, rising.0)))
-      ∙ ap (λ at. has_rounds ticks (rounds_of (credit_in (m ∷ moves)) at (suc n)) grown) start
-      ∙ has-part ticks m.bytes (credit_in (m ∷ moves)) (credit_in moves) m.round n grown (first_credit m moves)
-      (later_credit m moves) there
+      ∙ ap (λ at. has_rounds ticks (rounds_of (credit_in (m ∷ lines)) at (suc n)) grown) start
+      ∙ has-part ticks m.credit (credit_in (m ∷ lines)) (credit_in lines) m.round n grown (first_credit m lines)
+      (later_credit m lines) there
 
   -- where it isn't there, its round lacks it
-  lacks_it : has grown m.bytes ≡ false →
-      has_rounds ticks (rounds_of (credit_in (m ∷ moves)) from (m.round + 1 - from)) l ≡ false
+  lacks_it : has grown m.credit ≡ false →
+      has_rounds ticks (rounds_of (credit_in (m ∷ lines)) from (m.round + 1 - from)) l ≡ false
   lacks_it short =
       let start : from + (m.round - from) ≡ m.round = omega (arith, rising.0) in
       let count : m.round + 1 - from ≡ m.round - from + 1 = omega (arith, rising.0) in
-      ap (λ n. has_rounds ticks (rounds_of (credit_in (m ∷ moves)) from n) l) count
-      ∙ has-later ticks (credit_in (m ∷ moves)) from (m.round - from) 1 l is
+      ap (λ n. has_rounds ticks (rounds_of (credit_in (m ∷ lines)) from n) l) count
+      ∙ has-later ticks (credit_in (m ∷ lines)) from (m.round - from) 1 l is
       (λ i late inside. none_yet i (omega (arith, inside, rising.0)))
-      ∙ ap (λ at. has_rounds ticks (rounds_of (credit_in (m ∷ moves)) at 1) grown) start
-      ∙ and_left (has grown (credit_in (m ∷ moves) m.round)) true
-      (ap (has grown) (first_credit m moves) ∙ has-both m.bytes (credit_in moves m.round) grown
-      ∙ and_left (has grown m.bytes) (has (spent m.bytes grown) (credit_in moves m.round)) short)
+      ∙ ap (λ at. has_rounds ticks (rounds_of (credit_in (m ∷ lines)) at 1) grown) start
+      ∙ and_left (has grown (credit_in (m ∷ lines) m.round)) true
+      (ap (has grown) (first_credit m lines) ∙ has-both m.credit (credit_in lines m.round) grown
+      ∙ and_left (has grown m.credit) (has (spent m.credit grown) (credit_in lines m.round)) short)
 
   -- so what is answered of the rest is answered of all
-  step : (answer : Option ℕ) → has grown m.bytes ≡ true → IsShort ticks m.round (spent m.bytes grown) moves answer →
-      IsShort ticks from l (m ∷ moves) answer
+  step : (answer : Option ℕ) → has grown m.credit ≡ true → IsShort ticks m.round (spent m.credit grown) lines answer →
+      IsShort ticks from l (m ∷ lines) answer
   step None there rest = λ n. elim (cases_lt (m.round - from) n) [
     | inl late ↦
         let count : n ≡ m.round - from + suc (n - (m.round - from) - 1) = omega (arith, late) in
-        ap (λ k. has_rounds ticks (rounds_of (credit_in (m ∷ moves)) from k) l) count
+        ap (λ k. has_rounds ticks (rounds_of (credit_in (m ∷ lines)) from k) l) count
         ∙ behind_it (n - (m.round - from) - 1) there ∙ rest (suc (n - (m.round - from) - 1))
     | inr early ↦ before_it n (omega (arith, early, rising.0))
   ]
@@ -160,31 +172,31 @@ module _ (ticks from : ℕ) (l : Level) (m : Move) (moves : List Move) (is : IsL
     (λ n inside. elim (cases_lt (m.round - from) n) [
       | inl late ↦
           let count : n ≡ m.round - from + suc (n - (m.round - from) - 1) = omega (arith, late) in
-          ap (λ k. has_rounds ticks (rounds_of (credit_in (m ∷ moves)) from k) l) count
+          ap (λ k. has_rounds ticks (rounds_of (credit_in (m ∷ lines)) from k) l) count
           ∙ behind_it (n - (m.round - from) - 1) there
           ∙ rest.1 (suc (n - (m.round - from) - 1)) (omega (arith, inside, late, rising.0))
       | inr early ↦ before_it n (omega (arith, early, rising.0))
     ]),
     (let count : round + 1 - from ≡ m.round - from + suc (round - m.round) = omega (arith, rest.0, rising.0) in
         let left : round + 1 - m.round ≡ suc (round - m.round) = omega (arith, rest.0) in
-        ap (λ k. has_rounds ticks (rounds_of (credit_in (m ∷ moves)) from k) l) count
+        ap (λ k. has_rounds ticks (rounds_of (credit_in (m ∷ lines)) from k) l) count
         ∙ behind_it (round - m.round) there
-        ∙ ap (λ k. has_rounds ticks (rounds_of (credit_in moves) m.round k) (spent m.bytes grown)) (sym left) ∙ rest.2),
+        ∙ ap (λ k. has_rounds ticks (rounds_of (credit_in lines) m.round k) (spent m.credit grown)) (sym left) ∙ rest.2),
   )
 
-pub short_is : (ticks from : ℕ) (l : Level) (moves : List Move) → IsLevel l → Rising (λ m. m.round) from moves →
-    IsShort ticks from l moves (short_round ticks from l moves)
+pub short_is : (ticks from : ℕ) (l : Level) (lines : List Grant) → IsLevel l → Rising (λ m. m.round) from lines →
+    IsShort ticks from l lines (short_round ticks from l lines)
 short_is ticks from l [] is rising = λ n. has-none ticks [] from n l is (λ i late inside. refl)
-short_is ticks from l (m ∷ moves) is rising =
+short_is ticks from l (m ∷ lines) is rising =
     let now : Level = level_in ticks from l m.round in
-    elim (cases_Bool (has now m.bytes)) [
+    elim (cases_Bool (has now m.credit)) [
       | inl there ↦ rw there
-          (step ticks from l m moves is rising (short_round ticks m.round (spent m.bytes now) moves) there
-          (short_is ticks m.round (spent m.bytes now) moves
-          (spent-is m.bytes now (refilled-is ((m.round - from) * ticks) l)) rising.1))
+          (step ticks from l m lines is rising (short_round ticks m.round (spent m.credit now) lines) there
+          (short_is ticks m.round (spent m.credit now) lines
+          (spent-is m.credit now (refilled-is ((m.round - from) * ticks) l)) rising.1))
       | inr short ↦ rw short (
         rising.0,
-        before_it ticks from l m moves is rising,
-        lacks_it ticks from l m moves is rising short,
+        before_it ticks from l m lines is rising,
+        lacks_it ticks from l m lines is rising short,
       )
     ]

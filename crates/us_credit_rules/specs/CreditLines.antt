@@ -1,59 +1,66 @@
 -- Which line of a request isn't right.
-use Rattle.std.specs.Prelude.{◌≡◌, ℕ, ◌+◌, ◌*◌, ◌==◌, nat_lt, ◌&&◌, not, Bool, false, if◌then◌else◌, List, filter_map, find, count_by, Option, Some, None}
+use Rattle.std.specs.Prelude.{◌≡◌, ℕ, ◌+◌, ◌*◌, ◌<◌, ◌≤◌, ◌==◌, nat_eq, nat_lt, ◌&&◌, Bool, false, if◌then◌else◌, List, length, find, count_by, slice_index_or, slice_set, Option, Some, None}
+use Rattle.std.specs.List.{list_any}
+use Rattle.std.specs.Option.{option_eq}
 use Rattle.us_flows.specs.declared.channels.Channel.{Channel}
 use Rattle.us_flows.specs.Tables.{channel_with}
 use Rattle.us_flows.specs.Clusters.{Turn, has_sid}
 use Rattle.us_output.specs.declared.rows.Grant.{Grant}
-use Rattle.us_output.specs.declared.rows.Row.{Row}
-use Rattle.us_output.specs.declared.rows.Row.TheVariants as rows
 use Rattle.us_lawful.specs.declared.place.Place.{Place}
-use Rattle.us_lawful.specs.Runs.{is_requested}
-use Rattle.us_lawful.specs.Credits.{has_cost}
-use Rattle.us_credit_rules.specs.Seats.{names, place_of}
+use Rattle.us_lawful.specs.Credits.{has_cost, is_like}
+use Rattle.us_breaches.specs.Breaches.{Any, At, IsFirstFailure}
+use Rattle.us_credit_rules.specs.Seats.{is_number, names, place_of}
 
--- a round, the place of a cluster and a channel as one number; none where no cluster is named, or where the channel is
--- none of 8 bits
-abbrev pub key_for : Option ℕ → ℕ → ℕ → Option ℕ
-key_for None round channel = None
-key_for (Some place) round channel =
-    if nat_lt channel 256 then Some (round * 16777216 + place * 256 + channel) else None
+-- the place of a cluster and a channel as one number; none where no cluster is named, or where the channel is none of 8 bits
+abbrev pub key_for : Option ℕ → ℕ → Option ℕ
+key_for None channel = None
+key_for (Some place) channel = if nat_lt channel 256 then Some (place * 256 + channel) else None
 
--- those of a line: lines with the same round, cluster and channel have the same
+-- those of a line: lines with the same cluster and channel have the same
 abbrev pub key_of : List Turn → Grant → Option ℕ
-key_of turns g = key_for (place_of g.id g.i turns) g.round g.channel
+key_of turns g = key_for (place_of g.id g.i turns) g.channel
 
--- of a request's,
-abbrev pub key_told : List Turn → Row → Option ℕ
-key_told turns (rows.Granted g) = if is_requested g.entry then key_of turns g else None
-key_told turns _ = None
-
--- and of all of these
-abbrev pub keys_told : List Turn → List Row → List ℕ
-keys_told turns lines = filter_map (key_told turns) lines
-
--- one line alone has this
-abbrev pub is_alone : List ℕ → Option ℕ → Bool
-is_alone keys None = false
-is_alone keys (Some key) = count_by (λ k. k == key) keys == 1
-
--- a line is right for the cluster that it names
-abbrev pub is_right_for : List Channel → List Turn → List ℕ → Grant → Option Turn → Bool
-is_right_for channels turns keys g None = false
-is_right_for channels turns keys g (Some turn) =
+-- a line is right for the cluster that it names, whatever other lines there are
+abbrev pub is_right_for : List Channel → Grant → Option Turn → Bool
+is_right_for channels g None = false
+is_right_for channels g (Some turn) =
     (g.k == 0) && (has_sid g.channel g.sid turn.cluster && (nat_lt 0 g.credit
-    && (has_cost turn.cluster g (channel_with channels g.channel) && is_alone keys (key_of turns g))))
+    && has_cost turn.cluster g (channel_with channels g.channel)))
 
-abbrev pub is_right_line : List Channel → List Turn → List ℕ → Grant → Bool
-is_right_line channels turns keys g = is_right_for channels turns keys g (find (names g.id g.i) turns)
+abbrev pub is_right_line : List Channel → List Turn → Grant → Bool
+is_right_line channels turns g = is_right_for channels g (find (names g.id g.i) turns)
 
--- the place of a line of a request that isn't right
-abbrev pub line_place : List Channel → List Turn → List ℕ → Row → Option Place
-line_place channels turns keys (rows.Granted g) =
-    if is_requested g.entry && not (is_right_line channels turns keys g)
-    then Some (record { round = g.round; channel = g.channel; third = g.id })
-    else None
-line_place channels turns keys _ = None
+-- a line that isn't right, or isn't the only one like it, fails at its place
+abbrev pub line_place : Grant → Place
+line_place g = record { round = g.round; channel = g.channel; third = g.id }
 
--- such a line fails there
-abbrev pub IsWrongLine : List Channel → List Turn → List Row → Row → Place → Type 0
-IsWrongLine channels turns lines line p = line_place channels turns (keys_told turns lines) line ≡ Some p
+abbrev pub IsWrong : List Channel → List Turn → List Grant → Grant → Place → Type 0
+IsWrong channels turns lines g =
+    At (line_place g) (is_right_line channels turns g && (count_by (is_like g) lines == 1))
+
+abbrev pub AreWrong : List Channel → List Turn → List Grant → Place → Type 0
+AreWrong channels turns lines = Any (IsWrong channels turns lines) lines
+
+-- Lines told one after another.
+
+-- of each key, the last round in which a line was told
+abbrev pub noted : List (Option ℕ) → Option ℕ → ℕ → List (Option ℕ)
+noted last None round = last
+noted last (Some key) round = slice_set last key (Some round)
+
+-- whether that is this round
+abbrev pub is_told : List (Option ℕ) → Option ℕ → ℕ → Bool
+is_told last None round = false
+is_told last (Some key) round = option_eq nat_eq (slice_index_or last key None) (Some round)
+
+-- so of some lines, of which none is of a later round
+pub record AreNoted (turns : List Turn) (lines : List Grant) (round : ℕ) (last : List (Option ℕ)) : Type 0 where
+  pub none_later : (key r : ℕ) → round < r → is_told last (Some key) r ≡ false
+  pub told : (key r : ℕ) → key < length last → round ≤ r →
+      is_told last (Some key) r ≡ list_any (λ g. is_number key (key_of turns g) && (g.round == r)) lines
+
+-- what is kept of some lines: the first place at which one fails, and these rounds
+pub record AreJudged (channels : List Channel) (turns : List Turn) (lines : List Grant) (round : ℕ) (first : Option Place)
+    (last : List (Option ℕ)) : Type 0 where
+  pub wrong : IsFirstFailure channels (AreWrong channels turns lines) first
+  pub rounds : AreNoted turns lines round last

@@ -1,9 +1,7 @@
 -- F lines, as they are judged: each names a cluster, and each cluster has one.
 use Rattle.std.specs.Prelude.{ℕ, ◌-◌, ◌==◌, ◌&&◌, nat_eq, Bool, false, List, [], ◌∷◌, filter, Option}
 use Rattle.std.specs.Option.{is_some, option_eq}
-use Rattle.us_flows.specs.Tables.{FlowTable}
 use Rattle.us_flows.specs.Clusters.{Turn}
-use Rattle.us_bucket.specs.Levels.{full, units_in}
 use Rattle.us_output.specs.declared.rows.FinalState.{FinalState}
 use Rattle.us_output.specs.declared.rows.Row.{Row}
 use Rattle.us_lawful.specs.declared.place.Place.{Place}
@@ -12,11 +10,11 @@ use Rattle.us_lawful.specs.Finals.{final_holds}
 use Rattle.us_breaches.specs.Breaches.{At}
 use Rattle.us_credit_rules.specs.declared.finals.Told.{Told}
 use Rattle.us_credit_rules.specs.declared.finals.Told.TheVariants.{Nothing, Once, Several}
-use Rattle.us_credit_rules.specs.declared.moves.Move.{Move}
+use Rattle.us_credit_rules.specs.Accounts.{AllAccounts}
+use Rattle.us_credit_rules.specs.Buckets.{account_in, units_of}
 use Rattle.us_credit_rules.specs.Ends.{end_place}
-use Rattle.us_credit_rules.specs.Moves.{asked_of, credited_of}
+use Rattle.us_credit_rules.specs.Ledgers.{account_at, left_of}
 use Rattle.us_credit_rules.specs.Seats.{is_number, place_of}
-use Rattle.us_credit_rules.specs.Shorts.{level_behind}
 
 -- an F line fails that names no cluster
 abbrev pub IsStrange : ℕ → List Turn → FinalState → Place → Type 0
@@ -49,18 +47,8 @@ abbrev pub is_told : ℕ → Option ℕ → Told → Bool
 is_told outstanding units (Once f) = (outstanding == f.outstanding) && option_eq nat_eq units f.units
 is_told outstanding units _ = false
 
--- what moves leave of the cluster with a word,
-abbrev pub cluster_left : List Move → ℕ → ℕ
-cluster_left clusters word =
-    let own : List Move = filter (λ m. m.owner == word) clusters in
-    asked_of own - credited_of own
-
--- and of the bucket of a flow
-abbrev pub flow_left : ℕ → ℕ → List Move → FlowTable → Option ℕ
-flow_left rounds ticks flows flow =
-    units_in (level_behind ticks (rounds - 1) 0 (full flow.rate flow.burst) (filter (λ m. m.owner == flow.id) flows))
-
--- what is told of a cluster is that
-abbrev pub is_right : ℕ → ℕ → List Move → List Move → Told → Turn → Bool
-is_right rounds ticks flows clusters told turn =
-    is_told (cluster_left clusters turn.number) (flow_left rounds ticks flows turn.cluster.flow) told
+-- what is told of a cluster is what is outstanding of it and left in the bucket of its flow
+abbrev pub is_right : ℕ → ℕ → AllAccounts → Told → Turn → Bool
+is_right rounds ticks all told turn =
+    is_told (left_of (account_at all.clusters turn.number))
+    (units_of ticks (rounds - 1) (account_in all.flows (place_of turn.cluster.flow.id 0 all.seats))) told

@@ -1,6 +1,6 @@
 -- Clusters that make requests, by the ids of their flows and their places among the flow's clusters. What lines tell of them
 -- goes by their places in table order, and what a trace asks for by their words.
-use Rattle.std.specs.Prelude.{◌≡◌, ℕ, ◌+◌, ◌*◌, ◌<◌, ◌≤◌, ◌==◌, ◌&&◌, Bool, false, if◌then◌else◌, List, [], ◌∷◌, length, slice_index_or, Option, Some, None}
+use Rattle.std.specs.Prelude.{◌≡◌, ℕ, ◌+◌, ◌*◌, ◌<◌, ◌≤◌, ◌==◌, ◌&&◌, Bool, false, if◌then◌else◌, List, [], ◌∷◌, length, slice_index_or, Option, Some, None, find}
 use Rattle.std.specs.List.{AllByRecursion}
 use Rattle.us_flows.specs.Clusters.{Turn}
 
@@ -40,3 +40,14 @@ ArePlaces turns places =
 pub record IsIndex (turns : List Turn) (places : List (Option ℕ)) : Type 0 where
   pub seats : AreSeats turns
   pub found : ArePlaces turns places
+
+-- the cluster that is found has this word
+abbrev pub has_word : ℕ → Option Turn → Bool
+has_word word None = false
+has_word word (Some turn) = turn.number == word
+
+-- each has its word among so many, and a line names it just where it has the word of what the line names
+pub record AreNamed (words : ℕ) (turns : List Turn) : Type 0 where
+  pub inside : AllByRecursion (λ turn. turn.number < words) turns
+  pub named : (id list : ℕ) →
+      AllByRecursion (λ turn. names id list turn ≡ has_word turn.number (find (names id list) turns)) turns

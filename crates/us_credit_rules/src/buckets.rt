@@ -1,11 +1,11 @@
-ghost use Rattle.std.specs.Prelude.{◌≡◌, ◌≤◌, ◌<◌, ◌-◌, ◌*◌};
-ghost use Rattle.std.specs.List.{AllByRecursion};
-ghost use Rattle.us_bucket.specs.Levels.{full, spent, units_in};
-ghost use Rattle.us_credit_rules.specs.Moves.{Rising};
-ghost use Rattle.us_credit_rules.specs.Shorts as spec;
+ghost use Rattle.std.specs.Prelude.{◌≡◌, ◌≤◌, ◌<◌, ◌-◌, ◌*◌, length, map, slice_index_or, slice_set, if◌then◌else◌, IfOk};
+ghost use Rattle.us_bucket.specs.Levels.{spent};
+ghost use Rattle.us_credit_rules.specs.Buckets as spec;
 
-use crate::moves::Move;
-use us_bucket::{Bucket, MAX_REFILL_TICKS};
+use crate::seats::Seats;
+use std::alloc::{AllocError, Global};
+use us_bucket::Bucket;
+use us_round::Grant;
 
 /// How long a run is.
 #[derive(Clone, Copy)]
@@ -18,68 +18,150 @@ pub(crate) struct RunTime {
     ghost fits: { rounds * round_ticks ≤ 67108864 },
 }
 
-/// The round of the first credit whose bytes a bucket lacks, which is full in round 0.
-pub(crate) fn short_round(rate: u32, burst: u32, ticks: u32, moves: &[Move]) -> Option<u32>
-    requires rising { Rising (λ m. m.round) 0 moves.now }
-    requires fits { AllByRecursion (λ m. m.round * ticks ≤ MAX_REFILL_TICKS) moves.now }
-    ensures { result ≡ spec.short_round ticks 0 (full rate burst) moves.now }
-{
-    let mut bucket = Bucket::full(rate, burst);
-    let mut at = 0;
-    for credit in moves {
-        refill(&mut bucket, at, credit.round, ticks);
-        if !has(&bucket, credit.bytes) {
-            return Some(credit.round);
+/// What is kept of a flow.
+#[derive(Clone, Copy)]
+pub(crate) struct FlowAccount {
+    /// Its bucket,
+    bucket: Bucket,
+    /// the same without all that it has,
+    empty: Bucket,
+    /// and the round as of which it stands.
+    as_of: u32,
+    /// The round of the first credit whose bytes the bucket lacked.
+    short: Option<u32>,
+}
+
+impl FlowAccount {
+    /// That of a flow with this rate and burst before all rounds.
+    pub(crate) fn full(rate: u32, burst: u32) -> FlowAccount
+        ensures { result ≡ spec.full_account rate burst }
+    {
+        let bucket = Bucket::full(rate, burst);
+        let mut empty = bucket;
+        empty.spend(u64::from(burst));
+        FlowAccount {
+            bucket,
+            empty,
+            as_of: 0,
+            short: None,
         }
-        bucket.spend(credit.bytes);
-        at = credit.round;
     }
-    None
+
+    /// With a credit more, which takes its bytes from the bucket, or all that it has.
+    fn credited(&self, time: RunTime, round: u32, bytes: u64) -> FlowAccount
+        requires { round < time.rounds }
+        ensures { result ≡ spec.with_bytes time.round_ticks round bytes self.now }
+    {
+        let now = self.level_in(time, round);
+        let short = match self.short {
+            None if !has(&now, bytes) => Some(round),
+            short => short,
+        };
+        FlowAccount {
+            bucket: less(now, self.empty, bytes),
+            empty: self.empty,
+            as_of: round,
+            short,
+        }
+    }
+
+    /// The round of the first credit whose bytes the bucket lacked.
+    pub(crate) fn short(&self) -> Option<u32>
+        ensures { result ≡ self.now.short }
+    {
+        self.short
+    }
+
+    /// The units that are left in the bucket in the last round; `None` at a rate of 0.
+    pub(crate) fn left(&self, time: RunTime) -> Option<u64>
+        ensures { result ≡ spec.units_of time.round_ticks (time.rounds - 1) self.now }
+    {
+        self.level_in(time, time.rounds - 1).units()
+    }
+
+    /// The bucket in a later round.
+    fn level_in(&self, time: RunTime, round: u32) -> Bucket
+        requires { round < time.rounds }
+        ensures { result ≡ spec.level_in time.round_ticks self.now.as_of self.now.bucket round }
+    {
+        let mut bucket = self.bucket;
+        bucket.refill(round.saturating_sub(self.as_of) * time.round_ticks);
+        bucket
+    }
 }
 
-/// The units in a bucket in the last round, which is full in round 0; `None` at a rate of 0. A credit takes its bytes,
-/// or all that there is.
-#[tactic(auto, using(crate::proofs::LevelLemmas::kept_facts))]
-pub(crate) fn units_left(rate: u32, burst: u32, time: RunTime, moves: &[Move]) -> Option<u64>
-    requires rising { Rising (λ m. m.round) 0 moves.now }
-    requires inside { AllByRecursion (λ m. m.round < time.rounds) moves.now }
-    ensures { result ≡
-        units_in (spec.level_behind time.round_ticks (time.rounds - 1) 0 (full rate burst) moves.now) }
+/// The accounts of flows behind the lines of requests, which are in the order of rounds, each at the place of its flow's
+/// first cluster in table order.
+pub(crate) fn flows_of(
+    alloc: Global,
+    time: RunTime,
+    seats: &Seats,
+    requests: &[&Grant],
+) -> Result<Vec<FlowAccount>, AllocError>
+    ensures { IfOk result (λ flows. flows.items ≡
+        spec.credited_all time.rounds time.round_ticks seats.now (map (λ g. g.now) requests.now)) }
 {
-    let mut bucket = Bucket::full(rate, burst);
-    let mut at = 0;
-    for credit in moves {
-        refill(&mut bucket, at, credit.round, time.round_ticks);
-        bucket = less(bucket, credit.bytes, rate, burst);
-        at = credit.round;
+    let mut flows = full_flows(alloc, seats)?;
+    for grant in requests {
+        take(&mut flows, time, seats, grant);
     }
-    refill(&mut bucket, at, time.rounds - 1, time.round_ticks);
-    bucket.units()
+    Ok(flows)
 }
 
-/// A bucket of this rate and burst without so many bytes, or without all that it has.
-fn less(bucket: Bucket, bytes: u64, rate: u32, burst: u32) -> Bucket
-    requires rate { bucket.rate ≡ rate }
-    requires burst { bucket.burst ≡ burst }
-    ensures { result ≡ spent bytes bucket }
+/// The account at a place that was looked up; that of no flow where there is none.
+pub(crate) fn account_in(flows: &[FlowAccount], place: Option<u16>) -> FlowAccount
+    ensures { result ≡ spec.account_in flows.now place }
 {
+    match place {
+        Some(place) if usize::from(place) < flows.len() => flows[usize::from(place)],
+        _ => FlowAccount::full(0, 0),
+    }
+}
+
+/// Those of all clusters before all rounds.
+fn full_flows(alloc: Global, seats: &Seats) -> Result<Vec<FlowAccount>, AllocError>
+    ensures { IfOk result (λ flows. flows.items ≡ map (λ turn. spec.full_account turn.cluster.flow.rate turn.cluster.flow.burst) seats.now) }
+{
+    let mut flows = Vec::new(alloc);
+    for seat in seats.all() {
+        flows.push(FlowAccount::full(seat.flow().rate(), seat.flow().burst()))?;
+    }
+    Ok(flows)
+}
+
+/// A line more.
+fn take(flows: &mut [FlowAccount], time: RunTime, seats: &Seats, grant: &Grant)
+    requires { length flows.old ≡ length seats.now }
+    ensures { flows.new ≡ spec.credited_by time.rounds time.round_ticks seats.now flows.old grant.now }
+{
+    if grant.round >= u64::from(time.rounds) {
+        return;
+    }
+    if let Some(place) = seats.place(grant.id, 0) {
+        credit(flows, time, usize::from(place), grant);
+    }
+}
+
+/// A line credits the flow at a place.
+fn credit(flows: &mut [FlowAccount], time: RunTime, place: usize, grant: &Grant)
+    requires inside { place < length flows.old }
+    requires early { grant.now.round < time.rounds }
+    ensures { flows.new ≡ slice_set flows.old place
+        (spec.with_bytes time.round_ticks grant.now.round grant.now.credit (slice_index_or flows.old place spec.no_flow)) }
+{
+    flows[place] = flows[place].credited(time, grant.round as u32, grant.credit);
+}
+
+/// A bucket without so many bytes, or empty where it has fewer.
+fn less(bucket: Bucket, empty: Bucket, bytes: u64) -> Bucket
+    ensures { result ≡ (if spec.has bucket bytes then spent bytes bucket else empty) }
+{
+    if !has(&bucket, bytes) {
+        return empty;
+    }
     let mut left = bucket;
-    if has(&bucket, bytes) {
-        left.spend(bytes);
-    } else {
-        left = Bucket::full(rate, burst);
-        left.spend(u64::from(burst));
-    }
+    left.spend(bytes);
     left
-}
-
-/// A later round starts.
-fn refill(bucket: &mut Bucket, at: u32, round: u32, ticks: u32)
-    requires later { at ≤ round }
-    requires fits { round * ticks ≤ MAX_REFILL_TICKS }
-    ensures { bucket.new ≡ spec.level_in ticks at bucket.old round }
-{
-    bucket.refill((round - at) * ticks);
 }
 
 /// Whether a bucket has so many bytes.

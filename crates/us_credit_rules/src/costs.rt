@@ -4,7 +4,7 @@
 ghost use Rattle.std.specs.Prelude.{◌≡◌, ◌≤◌};
 ghost use Rattle.us_slots.specs.Bursts as spec;
 
-use us_slots::{BurstSet, ChannelTime, Iuc, Profile};
+use us_slots::{BurstSet, ChannelTime, Iuc, MAX_BURST_BYTES, Profile};
 
 /// The most bytes of a burst: those of a line, with a header.
 const MAX_BYTES: u128 = 36_893_488_147_419_103_232;
@@ -14,6 +14,18 @@ const MIN_SHORTENED: u128 = 16;
 
 /// The minislots and the IUC of a data grant of so many bytes.
 pub(crate) fn grant_cost(set: &BurstSet, bytes: u128) -> (u128, Iuc)
+    requires { bytes ≤ MAX_BYTES }
+    ensures { result ≡ spec.grant_cost set.now bytes }
+{
+    if bytes > u128::from(MAX_BURST_BYTES) {
+        return large_cost(set, bytes);
+    }
+    let (slots, iuc) = us_slots::grant_cost(set, bytes as u32);
+    (u128::from(slots), iuc)
+}
+
+/// The same, of bytes that no MAP carries too.
+fn large_cost(set: &BurstSet, bytes: u128) -> (u128, Iuc)
     requires { bytes ≤ MAX_BYTES }
     ensures { result ≡ spec.grant_cost set.now bytes }
 {

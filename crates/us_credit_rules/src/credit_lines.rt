@@ -1,10 +1,12 @@
-ghost use Rattle.std.specs.Prelude.{◌≡◌, ◌==◌, count_by, IfOk};
+ghost use Rattle.std.specs.Prelude.{◌≡◌, ◌*◌, ◌≤◌, ◌&&◌, ◌<◌, Some, not, length, map, slice_set, IfOk};
 ghost use Rattle.std.specs.Option.{option_copied};
-ghost use Rattle.std.specs.List.Sorted.{IsPermutation, IsNonDecreasing};
+ghost use Rattle.std.specs.List.Sorted.{IsNonDecreasingBy};
 ghost use Rattle.us_flows.specs.Tables as tables;
 ghost use Rattle.us_flows.specs.Clusters as clusters;
+ghost use Rattle.us_flows.specs.Clusters.{table_order};
 ghost use Rattle.us_lawful.specs.Credits as credits;
-ghost use Rattle.us_breaches.specs.Breaches.{IsFirstFailure, Any};
+ghost use Rattle.us_breaches.specs.Breaches.{IsFirstFailure};
+ghost use Rattle.us_credit_rules.specs.Ends as ends;
 ghost use Rattle.us_credit_rules.specs.CreditLines as spec;
 
 use crate::costs::grant_cost;
@@ -13,93 +15,76 @@ use std::alloc::{AllocError, Global};
 use us_breaches::earlier;
 use us_flows::{Channel, Config};
 use us_lawful::Place;
-use us_round::{EntryWord, Grant, Row};
+use us_round::Grant;
 
-/// How many keys a round has: one for each place of 16 bits, and channel id of 8.
-const KEYS_PER_ROUND: u128 = 16_777_216;
-
-/// How many a cluster has in a round: one for each channel.
-const KEYS_PER_CLUSTER: u128 = 256;
+/// How many keys a cluster has: one for each channel id of 8 bits.
+const KEYS: usize = 256;
 
 /// The bytes of a segment header (the standard's).
 const HEADER_BYTES: u8 = 8;
 
 /// Where a line of a request first isn't right: it names no cluster, has another third number than 0, a SID that isn't
 /// the cluster's on the channel, no credit or another cost than its credit's, or isn't the only one of its cluster,
-/// channel and round. The third number of a place is the id that the line tells.
+/// channel and round. The third number of a place is the id that the line tells. The lines are in the order of rounds.
 pub(crate) fn first_line(
     alloc: Global,
     config: &Config,
     seats: &Seats,
-    lines: &[Row],
+    requests: &[&Grant],
 ) -> Result<Option<Place>, AllocError>
+    requires seats { seats.now ≡ table_order config.now }
+    requires rising { IsNonDecreasingBy (λ g. g.now.round) requests.now }
     ensures { IfOk result (IsFirstFailure config.now.channels
-        (Any (spec.IsWrongLine config.now.channels seats.now lines.now) lines.now)) }
+        (spec.AreWrong config.now.channels (table_order config.now) (map (λ g. g.now) requests.now))) }
 {
     let channels = config.channels();
-    let keys = keys_of(alloc, seats, lines)?;
+    let mut last = vec![in alloc; None; seats.all().len() * KEYS]?;
     let mut first = None;
-    for line in lines {
-        first = earlier(channels, first, line_breach(channels, seats, &keys, line));
+    for grant in requests {
+        let told = told_again(seats, &mut last, grant);
+        let right = is_right(channels, seats, grant);
+        first = earlier(channels, first, wrong_place(told, right, grant));
     }
     Ok(first)
 }
 
-/// The keys of the lines of requests, in order.
-fn keys_of(alloc: Global, seats: &Seats, lines: &[Row]) -> Result<Vec<u128>, AllocError>
-    ensures { IfOk result (λ keys. IsPermutation (spec.keys_told seats.now lines.now) keys.items
-        × IsNonDecreasing keys.items) }
+/// Whether a line of the cluster and the channel of this one was told in its round. Now one was.
+fn told_again(seats: &Seats, last: &mut [Option<u64>], grant: &Grant) -> bool
+    requires { length seats.now * 256 ≤ length last.old }
+    ensures told { result ≡ spec.is_told last.old (spec.key_of seats.now grant.now) grant.now.round }
+    ensures noted { last.new ≡ spec.noted last.old (spec.key_of seats.now grant.now) grant.now.round }
 {
-    let mut keys = keys_told(alloc, seats, lines)?;
-    keys.sort_unstable();
-    Ok(keys)
-}
-
-/// The same in the order of the lines.
-fn keys_told(alloc: Global, seats: &Seats, lines: &[Row]) -> Result<Vec<u128>, AllocError>
-    ensures { IfOk result (λ keys. keys.items ≡ spec.keys_told seats.now lines.now) }
-{
-    let mut keys = Vec::new(alloc);
-    for line in lines {
-        if let Some(key) = key_told(seats, line) {
-            keys.push(key)?;
-        }
-    }
-    Ok(keys)
-}
-
-/// The key of a line of a request, where it names a cluster.
-fn key_told(seats: &Seats, line: &Row) -> Option<u128>
-    ensures { result ≡ spec.key_told seats.now line.now }
-{
-    match line {
-        Row::Granted(grant) if grant.entry == EntryWord::Requested => key_of(seats, grant),
-        _ => None,
+    match key_of(seats, grant) {
+        Some(key) => note(last, key, grant.round),
+        None => false,
     }
 }
 
-/// Round, cluster and channel of a line as one number.
-fn key_of(seats: &Seats, grant: &Grant) -> Option<u128>
+/// Whether this is the last round of a key. Now it is.
+fn note(last: &mut [Option<u64>], key: usize, round: u64) -> bool
+    requires { key < length last.old }
+    ensures told { result ≡ spec.is_told last.old (Some key) round }
+    ensures noted { last.new ≡ slice_set last.old key (Some round) }
+{
+    let told = last[key] == Some(round);
+    last[key] = Some(round);
+    told
+}
+
+/// Cluster and channel of a line as one number.
+fn key_of(seats: &Seats, grant: &Grant) -> Option<usize>
     ensures { result ≡ spec.key_of seats.now grant.now }
 {
     let place = seats.place(grant.id, grant.i)?;
     let channel = u8::try_from(grant.channel).ok()?;
-    Some(
-        u128::from(grant.round) * KEYS_PER_ROUND
-            + u128::from(place) * KEYS_PER_CLUSTER
-            + u128::from(channel),
-    )
+    Some(usize::from(place) * KEYS + usize::from(channel))
 }
 
-/// The place of a line of a request that isn't right.
-fn line_breach(channels: &[Channel], seats: &Seats, keys: &[u128], line: &Row) -> Option<Place>
-    requires { IsNonDecreasing keys.now }
-    ensures { result ≡ spec.line_place channels.now seats.now keys.now line.now }
+/// The place of a line that isn't right, or like one that was told.
+fn wrong_place(told: bool, right: bool, grant: &Grant) -> Option<Place>
+    ensures { result ≡ ends.unless (not told && right) (spec.line_place grant.now) }
 {
-    let Row::Granted(grant) = line else {
-        return None;
-    };
-    if grant.entry != EntryWord::Requested || is_right(channels, seats, keys, grant) {
+    if right && !told {
         return None;
     }
     Some(Place {
@@ -109,10 +94,9 @@ fn line_breach(channels: &[Channel], seats: &Seats, keys: &[u128], line: &Row) -
     })
 }
 
-/// Whether a line is right for the cluster that it names.
-fn is_right(channels: &[Channel], seats: &Seats, keys: &[u128], grant: &Grant) -> bool
-    requires { IsNonDecreasing keys.now }
-    ensures { result ≡ spec.is_right_line channels.now seats.now keys.now grant.now }
+/// Whether a line is right for the cluster that it names, whatever other lines there are.
+fn is_right(channels: &[Channel], seats: &Seats, grant: &Grant) -> bool
+    ensures { result ≡ spec.is_right_line channels.now seats.now grant.now }
 {
     let Some(seat) = seats.find(grant.id, grant.i) else {
         return false;
@@ -121,7 +105,6 @@ fn is_right(channels: &[Channel], seats: &Seats, keys: &[u128], grant: &Grant) -
         && has_sid(seat, grant.channel, grant.sid)
         && grant.credit > 0
         && has_cost(channels, seat, grant)
-        && is_alone(keys, key_of(seats, grant))
 }
 
 /// Whether a cluster has this SID on this channel.
@@ -159,24 +142,4 @@ fn channel_with(channels: &[Channel], id: u64) -> Option<&Channel>
     ensures { option_copied result ≡ tables.channel_with channels.now id }
 {
     channels.iter().find(|channel| u64::from(channel.id) == id)
-}
-
-/// Whether just one line has this key.
-fn is_alone(keys: &[u128], key: Option<u128>) -> bool
-    requires { IsNonDecreasing keys.now }
-    ensures { result ≡ spec.is_alone keys.now key }
-{
-    match key {
-        Some(key) => count_of(keys, key) == 1,
-        None => false,
-    }
-}
-
-/// How many lines have this key.
-fn count_of(keys: &[u128], key: u128) -> usize
-    requires { IsNonDecreasing keys.now }
-    ensures { result ≡ count_by (λ k. k == key) keys.now }
-{
-    let from = keys.partition_point(|k| *k < key);
-    keys[from..].partition_point(|k| *k <= key)
 }

@@ -5,17 +5,17 @@ ghost use Rattle.us_flows.specs.Clusters.{table_order};
 ghost use Rattle.us_lawful.specs.Runs.{run_in, finals_in};
 ghost use Rattle.us_lawful.specs.Finals.{finals_hold};
 ghost use Rattle.us_breaches.specs.Breaches.{IsFirstBreach, IsFirstFailure, Any};
-ghost use Rattle.us_credit_rules.specs.Moves.{AreMoves, AreMovesOf};
+ghost use Rattle.us_credit_rules.specs.Accounts.{AreAllAccounts};
 ghost use Rattle.us_credit_rules.specs.LastLines as spec;
 
-use crate::all_moves::Moves;
-use crate::buckets::{RunTime, units_left};
+use crate::accounts::Accounts;
+use crate::buckets::{RunTime, account_in};
 use crate::ends::unless;
-use crate::moves::{Move, outstanding, own};
+use crate::ledgers::account_at;
 use crate::seats::{Seat, Seats};
 use std::alloc::{AllocError, Global};
 use us_breaches::earlier;
-use us_flows::{Channel, Config, Flow};
+use us_flows::{Channel, Config};
 use us_lawful::{Judged, Place};
 use us_requests::Trace;
 use us_round::{FinalState, Row};
@@ -52,16 +52,16 @@ pub fn finals_breach(
     config: &Config,
     trace: &Trace,
     judged: &Judged,
-    moves: &Moves,
+    accounts: &Accounts,
 ) -> Result<Option<Place>, NoMemory>
     requires fits { rounds_fit config.now trace.now.rounds ≡ true }
-    requires moves { AreMovesOf config.now trace.now judged.now.lines moves.now }
+    requires accounts { AreAllAccounts config.now trace.now judged.now.lines accounts.now }
     ensures { IfOk result (IsFirstBreach config.now.channels
         (λ p. finals_hold (run_in config.now trace.now) judged.now p ≡ true)) }
 {
     let finals = finals_of(alloc, judged.lines())?;
-    let strange = first_strange(config.channels(), moves.seats(), trace.rounds(), &finals);
-    let wrong = first_wrong(alloc, config, trace, judged.lines(), moves, &finals)?;
+    let strange = first_strange(config.channels(), accounts.seats(), trace.rounds(), &finals);
+    let wrong = first_wrong(alloc, config, trace, judged.lines(), accounts, &finals)?;
     Ok(earlier(config.channels(), strange, wrong))
 }
 
@@ -135,11 +135,11 @@ fn first_wrong(
     config: &Config,
     trace: &Trace,
     lines: &[Row],
-    moves: &Moves,
+    accounts: &Accounts,
     finals: &[FinalState],
 ) -> Result<Option<Place>, NoMemory>
     requires rounds { rounds_fit config.now trace.now.rounds ≡ true }
-    requires moves { AreMovesOf config.now trace.now lines.now moves.now }
+    requires accounts { AreAllAccounts config.now trace.now lines.now accounts.now }
     requires finals { finals.now ≡ finals_in lines.now }
     ensures { IfOk result (IsFirstFailure config.now.channels
         (Any (spec.IsWrong (run_in config.now trace.now) lines.now) (table_order config.now))) }
@@ -148,55 +148,32 @@ fn first_wrong(
         rounds: trace.rounds(),
         round_ticks: config.round_ticks(),
     };
-    let told = told_of(alloc, moves.seats(), finals)?;
+    let told = told_of(alloc, accounts.seats(), finals)?;
     let mut first = None;
-    for (place, seat) in moves.seats().all().iter().enumerate() {
-        let right = is_right(
-            seat,
-            time,
-            moves.of_flows(),
-            moves.of_clusters(),
-            told[place],
-        );
+    for (place, seat) in accounts.seats().all().iter().enumerate() {
+        let right = is_right(seat, time, accounts, told[place]);
         let wrong = unless(right, time.rounds, u64::from(seat.flow().id()));
         first = earlier(config.channels(), first, wrong);
     }
     Ok(first)
 }
 
-/// Whether what is told of a cluster is what the moves leave of it and of the bucket of its flow, once.
-fn is_right(seat: &Seat, time: RunTime, flows: &[Move], clusters: &[Move], told: Told) -> bool
-    requires flows { AreMoves time.rounds flows.now }
-    requires clusters { AreMoves time.rounds clusters.now }
-    ensures { result ≡ spec.is_right time.rounds time.round_ticks flows.now clusters.now told seat.now }
+/// Whether what is told of a cluster is what is outstanding of it and left in the bucket of its flow, once.
+fn is_right(seat: &Seat, time: RunTime, accounts: &Accounts, told: Told) -> bool
+    ensures { result ≡ spec.is_right time.rounds time.round_ticks accounts.now told seat.now }
 {
-    let left = cluster_left(time, clusters, seat.word());
-    let units = flow_left(time, flows, seat.flow());
+    let place = accounts.seats().place(u64::from(seat.flow().id()), 0);
+    let units = account_in(accounts.of_flows(), place).left(time);
+    let left = account_at(accounts.of_clusters(), seat.word()).left();
     is_told(told, left, units)
 }
 
-/// The bytes that are outstanding of the cluster with a word behind all rounds.
-fn cluster_left(time: RunTime, clusters: &[Move], word: u16) -> u128
-    requires { AreMoves time.rounds clusters.now }
-    ensures { result ≡ spec.cluster_left clusters.now word }
-{
-    outstanding(own(clusters, word))
-}
-
-/// The units in the bucket of a flow in the last round.
-fn flow_left(time: RunTime, flows: &[Move], flow: &Flow) -> Option<u64>
-    requires { AreMoves time.rounds flows.now }
-    ensures { result ≡ spec.flow_left time.rounds time.round_ticks flows.now flow.now }
-{
-    units_left(flow.rate(), flow.burst(), time, own(flows, flow.id()))
-}
-
 /// Whether what is told is this, once.
-fn is_told(told: Told, left: u128, units: Option<u64>) -> bool
+fn is_told(told: Told, left: u64, units: Option<u64>) -> bool
     ensures { result ≡ spec.is_told left units told }
 {
     match told {
-        Told::Once(state) => left == u128::from(state.outstanding) && units == state.units,
+        Told::Once(state) => left == state.outstanding && units == state.units,
         Told::Nothing | Told::Several => false,
     }
 }

@@ -2,8 +2,8 @@
 //!
 //! ```
 //! let judged = Judged::new(maps, lines);
-//! let moves = Moves::new(alloc, &config, &trace, &judged)?; // what is asked for and credited
-//! let first = credits_breach(alloc, &config, &trace, &judged, &moves)?; // the first line or sum that isn't right
+//! let accounts = Accounts::new(alloc, &config, &trace, &judged)?; // what is asked for and credited
+//! let first = credits_breach(&config, &trace, &judged, &accounts); // the first line or sum that isn't right
 //! ```
 //!
 //! What they answer stands in `us_lawful`, and what they compute in `specs/`, in the order of its `Lib.antt`.
@@ -14,31 +14,31 @@
 // The clusters that lines name.
 mod seats;
 
-// What is asked for and credited, by round,
-mod moves;
+// The lines of requests in the order of rounds.
+mod requests;
 
-// put in order,
-mod orders;
+// Line by line, what clusters ask for and are credited,
+mod ledgers;
 
-// and made once for all rules.
-mod all_moves;
-
-// The bucket of a flow through the rounds,
+// and what is left in the buckets of flows.
 mod buckets;
-
-// and where its flow is credited more than it has.
-mod rates;
 
 // What bursts cost, of whatever bytes,
 mod costs;
 
-// lines of requests, each by itself,
+// and which line of a request isn't right.
 mod credit_lines;
 
-// how much they credit,
+// All this, made once for all rules.
+mod accounts;
+
+// Where a flow is credited more than its bucket has,
+mod rates;
+
+// a cluster more than is outstanding,
 mod sums;
 
-// and the rule of both.
+// and lines and sums of requests together.
 mod credits;
 
 // Places behind the last round.
@@ -59,8 +59,8 @@ mod activities;
 // The U line.
 mod counts;
 
+pub use accounts::Accounts;
 pub use activities::activities_breach;
-pub use all_moves::Moves;
 pub use counts::counts_breach;
 pub use credits::credits_breach;
 pub use finals::finals_breach;

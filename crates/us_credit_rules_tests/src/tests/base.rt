@@ -1,7 +1,7 @@
 use std::alloc::Global;
 use std::process::Abort;
 use us_credit_rules::{
-    Moves, activities_breach, counts_breach, credits_breach, finals_breach, rates_breach,
+    Accounts, activities_breach, counts_breach, credits_breach, finals_breach, rates_breach,
 };
 use us_flows::Config;
 use us_lawful::{Judged, Place, report_rows};
@@ -151,11 +151,11 @@ fn answer(
     if !config.rounds_fit(trace.rounds()) {
         return Err(NoMemory);
     }
-    let moves = Moves::new(alloc, config, trace, judged)?;
+    let accounts = Accounts::new(alloc, config, trace, judged)?;
     match rule {
-        Rule::Rates => Ok(rates_breach(config, trace, judged, &moves)),
-        Rule::Credits => credits_breach(alloc, config, trace, judged, &moves),
-        Rule::Finals => finals_breach(alloc, config, trace, judged, &moves),
+        Rule::Rates => Ok(rates_breach(config, trace, judged, &accounts)),
+        Rule::Credits => Ok(credits_breach(config, trace, judged, &accounts)),
+        Rule::Finals => finals_breach(alloc, config, trace, judged, &accounts),
         Rule::Activities => activities_breach(alloc, config, trace, judged),
         Rule::Counts => Ok(counts_breach(config, trace, judged)),
     }

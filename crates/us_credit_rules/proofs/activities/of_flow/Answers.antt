@@ -3,7 +3,7 @@ use Rattle.std.specs.Prelude.{nat_lt, nat_le}
 use Rattle.std.proofs.lemmas.List.{take_rest}
 use Rattle.std.proofs.lemmas.List.Sorted.{IsNonDecreasingBy-drop, IsPartitionPoint-from_clause, IsPartitionedBy-ltb, IsPartitionedBy-leb}
 use Rattle.us_output.specs.declared.rows.FinalActivity.{FinalActivity}
-use Rattle.us_credit_rules.proofs.MoveLemmas.{own_part}
+use Rattle.us_credit_rules.proofs.OwnLemmas.{own_part}
 use Rattle.us_credit_rules.proofs.activities.of_flow.Goals as goal
 
 pub returns : goal.returns

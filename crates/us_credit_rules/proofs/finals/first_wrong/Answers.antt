@@ -1,9 +1,6 @@
 use Rattle.std.proofs.Common.{◌≡◌, ◌<◌, List, length, get_or, ap, ap₂, sym, ◌∙◌, arith}
-use Rattle.std.proofs.lemmas.Bool.{and_parts, leb-true}
-use Rattle.std.specs.Prelude.{nat_le, ◌*◌}
 use Rattle.std.proofs.lemmas.List.FromFn.{get_or-map-range_with_len, length-map-range_with_len}
-use Rattle.us_flows.specs.Tables.{max_run_ticks}
-use Rattle.us_flows.specs.Clusters.{IsTurnIn, table_order}
+use Rattle.us_flows.specs.Clusters.{table_order}
 use Rattle.us_lawful.specs.Runs.{run_in, finals_in}
 use Rattle.us_lawful.specs.Finals.{final_holds}
 use Rattle.us_breaches.specs.Breaches.{IsFirstFailure}
@@ -11,7 +8,7 @@ use Rattle.us_breaches.proofs.BreachLemmas.{all_done, at_test, one_more}
 use Rattle.us_credit_rules.specs.declared.finals.Told.{Told}
 use Rattle.us_credit_rules.specs.Ends.{end_place}
 use Rattle.us_credit_rules.specs.LastLines.{IsWrong, told_at}
-use Rattle.us_credit_rules.proofs.SeatLemmas.{seat_known, seat_listed, seat_small}
+use Rattle.us_credit_rules.proofs.SeatLemmas.{seat_listed}
 use Rattle.us_credit_rules.proofs.FinalLemmas.{judged_right}
 use Rattle.us_credit_rules.proofs.finals.first_wrong.Goals as goal
 
@@ -39,14 +36,9 @@ loop-place-preserved c =
     let turns = c.all-seat-items.result.now in
     let i = c.loop-place.place in
     let turn = c.seat-item.result in
-    let flows = c.args.moves.now.flows in
-    let clusters = c.args.moves.now.clusters in
     let mine : Told = c.index.result.now in
     let lawful = c.round_ticks.ensures.lawful in
-    let all : turns ≡ table_order t = c.all-seat-items.ensures ∙ c.seats-2.ensures ∙ c.requires.moves.seats in
-    let known : IsTurnIn t turn = seat_known t turns i turn all c.loop-place-test.true c.seat-item.is in
-    let some : 0 < v.rounds =
-    leb-true 1 v.rounds (and_parts (nat_le 1 v.rounds) (nat_le (v.rounds * t.round_ticks) max_run_ticks) c.requires.rounds).0 in
+    let all : turns ≡ table_order t = c.all-seat-items.ensures ∙ c.seats-2.ensures ∙ c.requires.accounts.seats in
     let listed = seat_listed t turns i turn all c.loop-place-test.true c.seat-item.is in
     let inside : i < length seats =
     omega (
@@ -59,13 +51,10 @@ loop-place-preserved c =
     let is_told : mine ≡ told_at (table_order t) (finals_in lines) i =
     c.index.ensures ∙ ap (λ (these : List Told). get_or these i mine) c.in_ok-told.ensures
     ∙ get_or-map-range_with_len (told_at seats finals) 0 (length seats) i i mine inside (omega arith)
-    ∙ ap₂ (λ turns finals. told_at turns finals i) (c.seats.ensures ∙ c.requires.moves.seats) c.requires.finals in
+    ∙ ap₂ (λ turns finals. told_at turns finals i) (c.seats.ensures ∙ c.requires.accounts.seats) c.requires.finals in
     let right : c.is_right-right.result ≡ final_holds (run_in t v) lines turn =
-    rw (c.of_flows.ensures, c.of_clusters.ensures, c.rounds.ensures.value, c.round_ticks.ensures.value)
-    at c.is_right-right.ensures
-    ∙ sym (judged_right t v lines flows clusters mine turn i lawful listed known
-    (seat_small t turn lawful known) some c.requires.moves.flows c.requires.moves.flows_ordered c.requires.moves.clusters
-    c.requires.moves.clusters_ordered is_told) in
+    rw (c.rounds.ensures.value, c.round_ticks.ensures.value) at c.is_right-right.ensures
+    ∙ sym (judged_right t v lines c.args.accounts.now mine turn i lawful listed c.requires.accounts is_told) in
     let one : IsFirstFailure t.channels (IsWrong (run_in t v) lines turn) c.unless-wrong.result =
     rw (c.unless-wrong.ensures, right, c.rounds.ensures.value, c.from.ensures, c.id.ensures.value, c.flow.ensures)
     (at_test t.channels (end_place v.rounds turn.cluster.flow.id) (final_holds (run_in t v) lines turn)) in
@@ -76,6 +65,6 @@ loop-place-preserved c =
 pub returns : goal.returns
 returns c =
     let t = c.args.config.now in
-    rw (c.all-seat-items.ensures ∙ c.seats-2.ensures ∙ c.requires.moves.seats) at
+    rw (c.all-seat-items.ensures ∙ c.seats-2.ensures ∙ c.requires.accounts.seats) at
     (all_done t.channels (IsWrong (run_in t c.args.trace.now) c.args.lines.now) c.all-seat-items.result.now
     c.loop-place.place c.loop-place.first c.loop-place-test.false c.loop-place.invariant)

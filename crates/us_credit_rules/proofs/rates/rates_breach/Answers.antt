@@ -1,12 +1,11 @@
-use Rattle.std.proofs.Common.{◌≡◌, ◌<◌, arith, length, false, ap}
+use Rattle.std.proofs.Common.{◌≡◌, Some, false, length, refl, ap, sym, ◌∙◌}
+use Rattle.std.specs.Prelude.{slice_get}
+use Rattle.std.proofs.lemmas.Option.{slice_get_read}
 use Rattle.us_lawful.specs.Runs.{run_in}
 use Rattle.us_breaches.specs.Breaches.{IsFirstFailure}
 use Rattle.us_breaches.proofs.BreachLemmas.{all_done, one_more}
-use Rattle.us_credit_rules.proofs.RateLemmas.{flow_small, rate_first, rate_test, rates_first}
+use Rattle.us_credit_rules.proofs.RateLemmas.{rate_first, rate_test, rates_first}
 use Rattle.us_credit_rules.proofs.rates.rates_breach.Goals as goal
-
-pub flow_breach-requires : goal.flow_breach-requires
-flow_breach-requires c = rw (c.of_flows-credits.ensures, c.rounds.ensures.value) c.requires.moves.flows_ordered
 
 pub loop-flow-preserved : goal.loop-flow-preserved
 loop-flow-preserved c =
@@ -16,15 +15,15 @@ loop-flow-preserved c =
     let flow = c.flow-item.result in
     let flows = c.flows-flow-items.result.now in
     let i = c.loop-flow.flow-index in
-    let moves = c.args.moves.now.flows in
-    let small : flow.id < 65536 = rw c.flow-item.is (rw c.flows-flow-items.ensures.value
-    (flow_small t i flow c.flows-flow-items.ensures.lawful (omega (arith, ap length c.flows-flow-items.ensures.value)))) in
+    let at : slice_get t.flows i ≡ Some flow =
+    ap (λ these. slice_get these i) (sym c.flows-flow-items.ensures.value)
+    ∙ slice_get_read flows (length flows) i flow refl c.loop-flow-test.true c.flow-item.is in
     let one : IsFirstFailure t.channels (λ p. rate_test (run_in t v) judged flow p ≡ false) c.flow_breach.result =
-    rw (c.flow_breach.ensures, c.of_flows-credits.ensures, c.round_ticks.ensures.value)
-    (rate_first t.channels t v judged moves flow small c.requires.moves.flows c.requires.moves.flows_ordered) in
+    rw c.flow_breach.ensures
+    (rate_first t.channels t v judged c.args.accounts.now i flow c.flows-flow-items.ensures.lawful at c.requires) in
     rw (c.earlier-first.ensures, c.channels.ensures.value)
     (one_more t.channels (λ flow p. rate_test (run_in t v) judged flow p ≡ false) flows i flow flow c.loop-flow.first
-    c.flow_breach.result (omega arith) c.flow-item.is c.loop-flow.invariant one)
+    c.flow_breach.result c.loop-flow-test.true c.flow-item.is c.loop-flow.invariant one)
 
 pub returns : goal.returns
 returns c =

@@ -1,0 +1,94 @@
+-- The buckets of flows, told one line of a request after another.
+use Rattle.std.specs.Prelude.{◌≡◌, ℕ, ◌-◌, ◌*◌, ◌<◌, ◌==◌, nat_le, nat_lt, not, Bool, true, if◌then◌else◌, Option, Some, None, List, [], map, fold, slice_get, slice_index_or, slice_set}
+use Rattle.us_flows.specs.Tables.{FlowTable}
+use Rattle.us_flows.specs.Clusters.{Turn}
+use Rattle.us_bucket.specs.Levels.{Level, full, refilled, spent, bytes_in, units_in}
+use Rattle.us_output.specs.declared.rows.Grant.{Grant}
+use Rattle.us_output.specs.declared.rows.Row.{Row}
+use Rattle.us_lawful.specs.declared.place.Place.{Place}
+use Rattle.us_lawful.specs.Runs.{Run}
+use Rattle.us_lawful.specs.Rates.{flow_rate_holds}
+use Rattle.us_lawful.specs.Finals.{units_left}
+use Rattle.us_credit_rules.specs.declared.buckets.FlowAccount.{FlowAccount}
+use Rattle.us_credit_rules.specs.Seats.{place_of}
+use Rattle.us_credit_rules.specs.Shorts.{IsFirstRound, flow_place, short_then}
+
+-- the bucket has so many bytes
+abbrev pub is_within : ℕ → Option ℕ → Bool
+is_within bytes None = true
+is_within bytes (Some most) = nat_le bytes most
+
+abbrev pub has : Level → ℕ → Bool
+has l bytes = is_within bytes (bytes_in l)
+
+-- a bucket in which `l` was left in round `at`, when a later round starts
+abbrev pub level_in : ℕ → ℕ → Level → ℕ → Level
+level_in ticks at l round = refilled ((round - at) * ticks) l
+
+-- Accounts of flows.
+
+-- that of a flow with a rate and a burst before all rounds
+abbrev pub full_account : ℕ → ℕ → FlowAccount
+full_account rate burst = record {
+  bucket = full rate burst;
+  empty = spent burst (full rate burst);
+  as_of = 0;
+  short = None;
+}
+
+-- with a credit more, which takes its bytes from the bucket, or all that it has
+abbrev pub with_bytes : ℕ → ℕ → ℕ → FlowAccount → FlowAccount
+with_bytes ticks round bytes a =
+    let now : Level = level_in ticks a.as_of a.bucket round in
+    record {
+      bucket = if has now bytes then spent bytes now else a.empty;
+      empty = a.empty;
+      as_of = round;
+      short = short_then round (not (has now bytes)) a.short;
+    }
+
+-- the units in the bucket in a later round
+abbrev pub units_of : ℕ → ℕ → FlowAccount → Option ℕ
+units_of ticks round a = units_in (level_in ticks a.as_of a.bucket round)
+
+-- All of them, each at the place of its flow's first cluster in table order.
+
+abbrev pub no_flow : FlowAccount
+no_flow = full_account 0 0
+
+-- the account at a place that was looked up
+abbrev pub account_in : List FlowAccount → Option ℕ → FlowAccount
+account_in flows None = no_flow
+account_in flows (Some place) = slice_index_or flows place no_flow
+
+-- a line of a round of the run credits the flow whose id it tells
+abbrev pub credited_at : ℕ → Grant → Option ℕ → List FlowAccount → List FlowAccount
+credited_at ticks g None flows = flows
+credited_at ticks g (Some place) flows =
+    slice_set flows place (with_bytes ticks g.round g.credit (slice_index_or flows place no_flow))
+
+abbrev pub credited_by : ℕ → ℕ → List Turn → List FlowAccount → Grant → List FlowAccount
+credited_by rounds ticks turns flows g =
+    if nat_lt g.round rounds then credited_at ticks g (place_of g.id 0 turns) flows else flows
+
+-- behind all lines
+abbrev pub credited_all : ℕ → ℕ → List Turn → List Grant → List FlowAccount
+credited_all rounds ticks turns grants =
+    fold (credited_by rounds ticks turns) (map (λ turn. full_account turn.cluster.flow.rate turn.cluster.flow.burst) turns) grants
+
+-- What they say: the first round that ends a span of too many bytes, where there is a limit, and what is left in the bucket.
+pub record IsFlowAccountOf (run : Run) (lines : List Row) (flow : FlowTable) (a : FlowAccount) : Type 0 where
+  pub short : 0 < flow.rate →
+      IsFirstRound run.rounds (λ round. flow_rate_holds run (record { maps = []; lines = lines }) round flow) a.short
+  pub left : units_of run.tables.round_ticks (run.rounds - 1) a ≡ units_left run lines flow
+
+-- of each flow with such a cluster
+abbrev pub AreFlowAccountsOf : Run → List Row → List Turn → List FlowAccount → Type 0
+AreFlowAccountsOf run lines turns flows =
+    (place : ℕ) (turn : Turn) → slice_get turns place ≡ Some turn → turn.cluster.list ≡ 0 →
+    IsFlowAccountOf run lines turn.cluster.flow (slice_index_or flows place no_flow)
+
+-- where the bucket of a flow first lacks the bytes of a credit
+abbrev pub rate_place : List Turn → List FlowAccount → FlowTable → Option Place
+rate_place turns flows flow =
+    if flow.rate == 0 then None else flow_place flow.id (account_in flows (place_of flow.id 0 turns)).short
