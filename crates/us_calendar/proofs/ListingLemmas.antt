@@ -6,11 +6,15 @@ use Rattle.us_flows.specs.Tables.{FlowTable}
 use Rattle.us_flows.specs.Clusters.{words_in}
 use Rattle.us_calendar.specs.Entries.{Entry, WordedFlow, with_words}
 
-pub listed_at : {X : Type 0} (P : X → Type 0) (xs : List X) (i : ℕ) (x d : X) → AllByRecursion P xs → i < length xs →
+pub listed_as : {X : Type 0} (P : X → Type 0) (xs : List X) (i : ℕ) (x d : X) → AllByRecursion P xs → i < length xs →
     x ≡ get_or xs i d → P x
-listed_at P [] i x d all inside is = absurd (omega (arith, inside))
-listed_at P (y ∷ xs) zero x d all inside is = subst P (sym is) all.0
-listed_at P (y ∷ xs) (suc i) x d all inside is = listed_at P xs i x d all.1 (omega (arith, inside)) is
+listed_as P [] i x d all inside is = absurd (omega (arith, inside))
+listed_as P (y ∷ xs) zero x d all inside is = subst P (sym is) all.0
+listed_as P (y ∷ xs) (suc i) x d all inside is = listed_as P xs i x d all.1 (omega (arith, inside)) is
+
+pub listed_at : {X : Type 0} (P : X → Type 0) (xs : List X) (i : ℕ) (x : X) → AllByRecursion P xs → i < length xs →
+    x ≡ get_or xs i x → P x
+listed_at P xs i x all inside is = listed_as P xs i x x all inside is
 
 put : (es : List Entry) (o : Option Entry) (rest : List Entry) → (es ++ option_to_list o) ++ rest ≡ es ++ cons_option o rest
 put es None rest = append_assoc es [] rest

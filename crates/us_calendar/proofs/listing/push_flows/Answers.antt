@@ -9,7 +9,7 @@ pub overflow_cast-word : goal.overflow_cast-word
 overflow_cast-word c =
     let l = c.loop-flow in
     let flow = c.flow-item.result in
-    let lawful = listed_at (IsFlow c.requires.flows.0) c.args.flows.now l.flow-index flow flow c.requires.flows.1
+    let lawful = listed_at (IsFlow c.requires.flows.0) c.args.flows.now l.flow-index flow c.requires.flows.1
     c.loop-flow-test.true c.flow-item.is in
     let few = few_words flow lawful.some_clusters.1 in
     omega (arith, few, c.words.ensures.value)
@@ -18,7 +18,7 @@ pub overflow_add-word : goal.overflow_add-word
 overflow_add-word c =
     let l = c.loop-flow in
     let flow = c.flow-item.result in
-    let lawful = listed_at (IsFlow c.requires.flows.0) c.args.flows.now l.flow-index flow flow c.requires.flows.1
+    let lawful = listed_at (IsFlow c.requires.flows.0) c.args.flows.now l.flow-index flow c.requires.flows.1
     c.loop-flow-test.true c.flow-item.is in
     let few = few_words flow lawful.some_clusters.1 in
     let inside = c.loop-flow-test.true in
@@ -28,7 +28,7 @@ pub loop-flow-preserved : goal.loop-flow-preserved
 loop-flow-preserved c =
     let l = c.loop-flow in
     let flow = c.flow-item.result in
-    let lawful = listed_at (IsFlow c.requires.flows.0) c.args.flows.now l.flow-index flow flow c.requires.flows.1
+    let lawful = listed_at (IsFlow c.requires.flows.0) c.args.flows.now l.flow-index flow c.requires.flows.1
     c.loop-flow-test.true c.flow-item.is in
     let few = few_words flow lawful.some_clusters.1 in
     record {
@@ -43,6 +43,6 @@ flow_entry-requires-clause-flow c =
     let l = c.loop-flow in
     let flow = c.flow-item.result in (
       c.requires.flows.0,
-      listed_at (IsFlow c.requires.flows.0) c.args.flows.now l.flow-index flow flow c.requires.flows.1
+      listed_at (IsFlow c.requires.flows.0) c.args.flows.now l.flow-index flow c.requires.flows.1
           c.loop-flow-test.true c.flow-item.is,
     )

@@ -1,13 +1,13 @@
 use Rattle.std.proofs.Common.{refl}
 use Rattle.us_flows.specs.Lawful.{IsStation}
 use Rattle.us_calendar.specs.Entries.{entry_of_station}
-use Rattle.us_calendar.proofs.ListingLemmas.{listed_at, station_step}
+use Rattle.us_calendar.proofs.ListingLemmas.{listed_as, station_step}
 use Rattle.us_calendar.proofs.listing.push_stations.Goals as goal
 
 pub station_entry-requires-clause-station : goal.station_entry-requires-clause-station
 station_entry-requires-clause-station c = (
   c.requires.stations.0,
-  listed_at (IsStation c.requires.stations.0) c.args.stations.now c.loop-station.station-index _ _ c.requires.stations.1
+  listed_as (IsStation c.requires.stations.0) c.args.stations.now c.loop-station.station-index _ _ c.requires.stations.1
       c.loop-station-test.true refl,
 )
 
