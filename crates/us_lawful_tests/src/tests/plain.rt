@@ -62,11 +62,11 @@ fn is_line(line: &[u8]) -> bool {
 
 /// How many lines a text has, or which of them is the first that is none.
 fn plain_count(text: &[u8]) -> Result<usize, ReportFault> {
-    let mut read = 0;
+    let mut read: u64 = 0;
     for line in text.split_inclusive(|byte| *byte == b'\n') {
         match line.strip_suffix(b"\n".as_slice()) {
-            Some(told) if is_line(told) => read += 1,
-            _ => return Err(ReportFault::Line(read + 1)),
+            Some(told) if is_line(told) => read = read.wrapping_add(1),
+            _ => return Err(ReportFault::Line(read.wrapping_add(1))),
         }
     }
     Ok(read as usize)
