@@ -187,8 +187,7 @@ fn put_four(out: &mut [u8], at: usize, first: u64, second: u64, third: u64, four
     put_two(out, at, third, fourth)
 }
 
-/// Puts a comma and a number in decimal. Most numbers of a line have up to three digits, and are put without a
-/// call.
+/// Puts a comma and a number in decimal. Most numbers of a line have up to three digits, and are put without a call.
 #[inline(always)]
 fn put_number(out: &mut [u8], at: usize, number: u64) -> usize
     requires { at + FIELD_BYTES ≤ length out.old }
