@@ -5,6 +5,7 @@
 
   --damages N      damaged files of each schedule (6)
   --rounds N       the most rounds of a schedule (6)
+  --reordered      the lines of each report, of the lawful one too, shuffled, turned round, or with one of them moved
   --program FILE   the program (crates/mapsim/out/mapsim)
 
 The schedules are those that `mapsim replay` makes of the seeds of bench/compare_schedulers.py. One with a report of
@@ -93,6 +94,9 @@ def compare(seed, given, counts, folder):
         if number > 0:
             chance = random.Random(f"{seed} {number}")
             maps, report, names = damage_schedules.damaged(chance, files.config, files.rounds, *lawful)
+        if given.reordered:
+            report, name = damage_schedules.reordered(random.Random(f"order {seed} {number}"), report)
+            names = [*names, name]
         line, wanted, found = files.judge(maps, report)
         counts["pairs"] += 1
         counts[word_of(line)] += 1
@@ -111,6 +115,7 @@ def main():
     words.add_argument("last", type=int, nargs="?", default=300, metavar="LAST")
     words.add_argument("--damages", type=int, default=6, metavar="N")
     words.add_argument("--rounds", type=int, default=6, metavar="N")
+    words.add_argument("--reordered", action="store_true")
     words.add_argument("--program", type=pathlib.Path, default=PROGRAM, metavar="FILE")
     given = words.parse_args()
     given.program = given.program.resolve()

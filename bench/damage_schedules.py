@@ -504,6 +504,27 @@ def damaged(chance, config_text, rounds, maps, report):
             return others
 
 
+def shuffled(chance, lines):
+    chance.shuffle(lines)
+
+
+def turned_round(_chance, lines):
+    lines.reverse()
+
+
+def one_moved(chance, lines):
+    lines.insert(chance.randrange(len(lines)), lines.pop(chance.randrange(len(lines))))
+
+
+def reordered(chance, report):
+    """A report with the same lines in another order, most likely, and the name of the change."""
+    lines = report.splitlines(keepends=True)
+    change = chance.choice([shuffled, turned_round, one_moved])
+    if lines:
+        change(chance, lines)
+    return b"".join(lines), change.__name__
+
+
 def main():
     words = argparse.ArgumentParser(description=__doc__, formatter_class=argparse.RawDescriptionHelpFormatter)
     for name in ("config", "maps", "report"):

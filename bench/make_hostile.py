@@ -27,6 +27,10 @@ print. All are written where none is named.
   rounds_that_lack          lines of rounds that the run lacks, from the greatest down
   channels_that_lack        lines of channels that the table lacks, from the greatest down
   lines_turned_round        the report from its end to its beginning: it holds
+  maps_turned_round         the lines of each MAP from the last to the first: it holds
+  first_line_at_the_end     the first line behind all others: it holds
+  falling_occurrences       a call whose grants of an interval are told from the last to the first, over two rounds: it
+                            holds
   one_long_number           one line, of one long number
   line_feeds                line feeds alone
   no_last_line_feed         a line feed less
@@ -380,6 +384,32 @@ def lines_turned_round(size):
     return lawful.but("holds", lines=lawful.lines[::-1]), lawful
 
 
+def in_turn(items, count):
+    """So many items after another from the last to the first."""
+    return [item for at in range(0, len(items), count) for item in reversed(items[at : at + count])]
+
+
+def maps_turned_round(size):
+    lawful = of_size(size, calls)
+    return lawful.but("holds", lines=[*in_turn(lawful.lines[:-1], GRANTS), NO_USELESS_ROW]), lawful
+
+
+def first_line_at_the_end(size):
+    lawful = of_size(size, calls)
+    return lawful.but("holds", lines=lawful.lines[1:] + lawful.lines[:1]), lawful
+
+
+def falling_occurrences(size):
+    lawful = of_size(size, calls)
+    rounds, half = 2 * lawful.rounds, GRANTS // 2
+    places = [(number, start) for number in range(rounds) for start in range(half)]
+    occurrences = in_turn([(i, k) for i in range(lawful.rounds) for k in range(GRANTS)], GRANTS)
+    lines = [granted(number, 1, *named, start) for (number, start), named in zip(places, occurrences)]
+    config = config_of([call(1, interval=4_000, jitter=3_999)])
+    maps = maps_of(config, rounds, lambda _round: [(start, 1, 1, UNSOLICITED) for start in range(half)])
+    return Case(config, rounds, maps, [*lines, NO_USELESS_ROW]), lawful
+
+
 def one_long_number(size):
     lawful = of_size(size, calls)
     return lawful.but("fault CK1 1", text=b"U," + b"9" * len(lawful.report())), lawful
@@ -442,8 +472,8 @@ def no_records(_size):
 KINDS = [lines_over_each_other, empty_intervals, every_map_broken, no_line, lines_of_no_entry, one_line_many_times,
          open_told_often, lines_of_missed_polls, calls_of_the_last_flow, span_of_all_rounds, huge_credits,
          huge_rated_credits, claims_of_one_cluster, claims_of_the_last_flow, many_final_lines, rounds_that_lack,
-         channels_that_lack, lines_turned_round, one_long_number, line_feeds, no_last_line_feed, null_records,
-         empty_records, turned_channels, no_records]
+         channels_that_lack, lines_turned_round, maps_turned_round, first_line_at_the_end, falling_occurrences,
+         one_long_number, line_feeds, no_last_line_feed, null_records, empty_records, turned_channels, no_records]
 BY_NAME = {kind.__name__: kind for kind in KINDS}
 
 

@@ -7,8 +7,9 @@
                                              lawful ones beside them
   bench/measure_checks.py instructions [LOAD..]
                                              instructions of a check of what a replay of each load wrote, by valgrind's
-                                             callgrind
+                                             callgrind, and its memory
 
+  --shuffled        of `instructions`: the lines of each report in another order
   --part N          of `loads` and `instructions`: N times fewer rounds and requests (1, and 20 of `instructions`)
   --bytes N         of `hostile`: bytes of each maps file with its report (1,000,000)
   --runs N          runs of each measurement, of which the least and the most time is told (5)
@@ -22,6 +23,7 @@ Status 0: all ran, and answered as wanted; 2: one didn't, or the words are wrong
 import argparse
 import os
 import pathlib
+import random
 import re
 import subprocess
 import sys
@@ -83,15 +85,26 @@ def measure_hostile(words, given, folder):
         measure.row(name, cases[0].answer, *cells)
 
 
+def shuffle(path):
+    """Writes a report anew, with its lines in an order that is the same each time."""
+    lines = path.read_bytes().splitlines(keepends=True)
+    random.Random(1).shuffle(lines)
+    path.write_bytes(b"".join(lines))
+
+
 def measure_instructions(words, given, folder):
-    measure.head("Load", "Rounds", "Bytes of output", "Millions of instructions of the check")
+    measure.head("Load", "Rounds", "Bytes of output", "Millions of instructions of the check", "Its most memory, MB")
     given.loads = given.names
     for name in make_loads.chosen(words, given):
         replays = measure.Replays(given.program, folder, name, given.part)
         replays.run()
+        if given.shuffled:
+            shuffle(replays.outputs[1])
         files = [folder / f"{name}.toml", folder / f"{name}.csv", *replays.outputs]
         told = check(measure.CALLGRIND, given.program, files, replays.rounds, "holds")
-        measure.row(name, f"{replays.rounds:,}", f"{replays.output_bytes():,}", f"{measure.collected(told) / 1e6:.1f}")
+        _seconds, memory = cells_of([timed_check(given.program, files, replays.rounds, "holds")])
+        counted = f"{measure.collected(told) / 1e6:.1f}"
+        measure.row(name, f"{replays.rounds:,}", f"{replays.output_bytes():,}", counted, memory)
 
 
 TABLES = {"loads": measure_loads, "hostile": measure_hostile, "instructions": measure_instructions}
@@ -102,6 +115,7 @@ def main():
     words.add_argument("table", choices=TABLES)
     words.add_argument("names", nargs="*", metavar="NAME", help="of loads or kinds; by default six loads, or all kinds")
     words.add_argument("--part", type=int, metavar="N")
+    words.add_argument("--shuffled", action="store_true")
     words.add_argument("--bytes", type=int, default=1_000_000, metavar="N")
     words.add_argument("--runs", type=int, default=5, metavar="N")
     words.add_argument("--program", default=measure.TOP / "crates/mapsim/out/mapsim", metavar="FILE")
