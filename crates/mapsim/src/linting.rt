@@ -1,22 +1,20 @@
 ghost use Rattle.std.specs.Prelude.{◌≡◌, false, true, IfOk, OnOk};
 ghost use Rattle.us_flows.specs.Tables.{rounds_fit};
-ghost use Rattle.mapsim.specs.declared.statuses.Status.TheVariants as status;
 
 use crate::faults::{Fault, Stream};
 use crate::files::read_at_most;
 use crate::listings::Listing;
 use crate::printing::print;
 use crate::statuses::Status;
-use crate::trace_linting::{AcceptedTrace, TraceText, lint_trace_file};
-use crate::verdict_linting::lint_output;
-use std::alloc::{AllocError, Global};
+use crate::trace_linting::{Tables, list_trace};
+use std::alloc::Global;
 use std::rt::Files;
 use us_command_line::FileLint;
-use us_findings::{Finding, Findings, Source, lint_config, too_long_config};
+use us_findings::{lint_config, too_long_config};
 use us_flows::{Config, MAX_CONFIG_BYTES};
 use us_replay::RunFault;
 use us_slots::Sink;
-use us_warnings::{TraceWarnings, config_warnings};
+use us_warnings::Warnings;
 
 /// Prints what is wrong, or looks wrong, in files. The status is that of what was found.
 pub fn lint_files<R: Files, O: Sink>(
@@ -28,63 +26,51 @@ pub fn lint_files<R: Files, O: Sink>(
     requires { O.failed output.old ≡ false }
     ensures ready { OnOk result (O.failed output.new ≡ false) }
 {
-    let listing = listing_of(rt, alloc, order)?;
+    let mut listing = Listing::new(alloc, order);
+    list_files(rt, alloc, &mut listing)?;
     print(output, listing.text())?;
     Ok(listing.status())
 }
 
-/// What is found in files. Where the configuration has an error, no other file is read.
-fn listing_of<'a, R: Files>(
-    rt: &R,
-    alloc: Global,
-    order: &FileLint<'a>,
-) -> Result<Listing<'a>, Fault> {
-    let read = read_at_most(rt, alloc, order.config, Stream::Config, MAX_CONFIG_BYTES)?;
-    let Some(text) = read else {
-        return refused(alloc, order, &[], &too_long_config(alloc)?);
-    };
-    match lint_config(alloc, &text)? {
-        Ok(config) => lint_run(rt, alloc, order, &text, &config),
-        Err(findings) => refused(alloc, order, &[], &findings),
+/// Lists what is found in files. Where the configuration has an error, no other file is read.
+fn list_files<R: Files>(rt: &R, alloc: Global, listing: &mut Listing<'_>) -> Result<(), Fault> {
+    let path = listing.order.config;
+    match read_at_most(rt, alloc, path, Stream::Config, MAX_CONFIG_BYTES)? {
+        Some(text) => list_config(rt, alloc, &text, listing),
+        None => listing.refuse(too_long_config(alloc)),
     }
 }
 
-/// What is found where a file has errors: the one that the program answers, then what looks wrong in the files before it,
-/// then its other errors.
-fn refused<'a>(
-    alloc: Global,
-    order: &FileLint<'a>,
-    warnings: &[Finding],
-    findings: &Findings,
-) -> Result<Listing<'a>, Fault>
-    ensures { IfOk result (λ listing. listing.status ≡ status.Refused) }
-{
-    let mut listing = Listing::new(alloc, order);
-    listing.add_first(findings)?;
-    listing.add_warnings(warnings)?;
-    listing.add_others(findings)?;
-    Ok(listing)
-}
-
-/// What is found beside a configuration that is accepted, whose text this is.
-fn lint_run<'a, R: Files>(
+/// The same, where the configuration has this text.
+fn list_config<R: Files>(
     rt: &R,
     alloc: Global,
-    order: &FileLint<'a>,
+    text: &[u8],
+    listing: &mut Listing<'_>,
+) -> Result<(), Fault> {
+    match lint_config(alloc, text)? {
+        Ok(config) => list_run(rt, alloc, text, &config, listing),
+        Err(errors) => Ok(listing.add_errors(&[], &errors)?),
+    }
+}
+
+/// Lists what is found beside a configuration that is accepted, whose text this is.
+fn list_run<R: Files>(
+    rt: &R,
+    alloc: Global,
     text: &[u8],
     config: &Config,
-) -> Result<Listing<'a>, Fault> {
-    let rounds = rounds_of(config, order.rounds)?;
-    let warnings = config_warnings(alloc, text, config, rounds)?;
-    let Some(path) = order.trace else {
-        let mut listing = Listing::new(alloc, order);
-        listing.add_warnings(&warnings)?;
-        return Ok(listing);
+    listing: &mut Listing<'_>,
+) -> Result<(), Fault> {
+    let rounds = rounds_of(config, listing.order.rounds)?;
+    let tables = Tables {
+        text,
+        config,
+        rounds,
     };
-    match lint_trace_file(rt, alloc, path, text, config, rounds)? {
-        Ok(trace) => accepted(rt, alloc, order, config, warnings, trace),
-        Err(findings) => refused(alloc, order, &warnings, &findings),
-    }
+    let mut warnings = Warnings::new(alloc);
+    warnings.add_tables(text, config, rounds)?;
+    list_trace(rt, alloc, &tables, &mut warnings, listing)
 }
 
 /// The rounds of the run: those of the words, or the most that fit. RU1 is answered where those of the words don't.
@@ -96,84 +82,4 @@ fn rounds_of(config: &Config, given: Option<u32>) -> Result<u32, Fault>
         Some(rounds) if config.rounds_fit(rounds) => Ok(rounds),
         Some(_) => Err(Fault::Run(RunFault::Rounds)),
     }
-}
-
-/// What is found where the trace is accepted too.
-fn accepted<'a, R: Files>(
-    rt: &R,
-    alloc: Global,
-    order: &FileLint<'a>,
-    config: &Config,
-    warnings: Vec<Finding>,
-    accepted: AcceptedTrace,
-) -> Result<Listing<'a>, Fault>
-    requires { rounds_fit config.now accepted.text.rounds ≡ true }
-{
-    let TraceWarnings {
-        findings,
-        rounds_for_all,
-    } = accepted.warnings;
-    let warnings = by_place(warnings, findings)?;
-    let note = match order.rounds {
-        Some(_) => None,
-        None => rounds_for_all,
-    };
-    listing_beside(rt, alloc, order, config, &accepted.text, &warnings, note)
-}
-
-/// The same, with these warnings and this note: first what is wrong in what a run wrote.
-fn listing_beside<'a, R: Files>(
-    rt: &R,
-    alloc: Global,
-    order: &FileLint<'a>,
-    config: &Config,
-    trace: &TraceText,
-    warnings: &[Finding],
-    note: Option<u32>,
-) -> Result<Listing<'a>, Fault>
-    requires { rounds_fit config.now trace.now.rounds ≡ true }
-{
-    let mut listing = Listing::new(alloc, order);
-    add_verdict(rt, alloc, order, config, trace, &mut listing)?;
-    listing.add_warnings(warnings)?;
-    if let Some(rounds) = note {
-        listing.add_note(rounds)?;
-    }
-    Ok(listing)
-}
-
-/// Adds what is wrong in the maps file and the report of an order, if it has them.
-fn add_verdict<R: Files>(
-    rt: &R,
-    alloc: Global,
-    order: &FileLint<'_>,
-    config: &Config,
-    trace: &TraceText,
-    listing: &mut Listing<'_>,
-) -> Result<(), Fault>
-    requires { rounds_fit config.now trace.now.rounds ≡ true }
-{
-    let (Some(maps), Some(report)) = (order.maps, order.report) else {
-        return Ok(());
-    };
-    let trace = trace.trace(alloc, config)?;
-    match lint_output(rt, alloc, config, &trace, maps, report)? {
-        Some(finding) => Ok(listing.add_broken(maps, report, &finding)?),
-        None => Ok(()),
-    }
-}
-
-/// Findings together, by file and line.
-fn by_place(mut findings: Vec<Finding>, others: Vec<Finding>) -> Result<Vec<Finding>, AllocError> {
-    for finding in others {
-        findings.push(finding)?;
-    }
-    findings.sort_by_key(|finding| {
-        (
-            finding.source == Source::Trace,
-            finding.line,
-            finding.column,
-        )
-    })?;
-    Ok(findings)
 }

@@ -2,16 +2,20 @@ ghost use Rattle.std.specs.Prelude.{◌≡◌, length, OnOk};
 ghost use Rattle.mapsim.specs.Statuses as statuses;
 ghost use Rattle.mapsim.specs.declared.statuses.Status.TheVariants as status;
 
+use crate::faults::Fault;
 use crate::statuses::Status;
 use std::alloc::{AllocError, Global};
 use us_command_line::FileLint;
 use us_findings::{Finding, Findings, Source};
+use us_slots::NoMemory;
 use us_verdict_words::{VerdictFile, VerdictFinding};
+use us_warnings::Warnings;
 
 /// The lines that a lint prints, and how the program ends that prints them.
 #[derive(Drop)]
 pub struct Listing<'a> {
-    order: FileLint<'a>,
+    /// The order that asks for it.
+    pub order: FileLint<'a>,
     text: String,
     status: Status,
 }
@@ -40,25 +44,59 @@ impl<'a> Listing<'a> {
         self.status
     }
 
-    /// Of the errors in a file the one that the program answers.
-    pub fn add_first(&mut self, findings: &Findings) -> Result<(), AllocError>
+    /// The errors of a file: the one that the program answers, then what looks wrong in the files before it, then the other
+    /// errors and how many more there are.
+    pub fn add_errors(&mut self, warnings: &[Finding], errors: &Findings) -> Result<(), AllocError>
         ensures { OnOk result (self.new.status ≡ status.Refused) }
     {
         self.status = Status::Refused;
-        write_finding(&mut self.text, &self.order, &findings.first)
-    }
-
-    /// The others, and how many more there are.
-    pub fn add_others(&mut self, findings: &Findings) -> Result<(), AllocError>
-        ensures { OnOk result (self.new.status ≡ status.Refused) }
-    {
-        self.status = Status::Refused;
-        write_all(&mut self.text, &self.order, &findings.others)?;
-        let path = path_of(&self.order, findings.first.source);
-        match findings.more {
+        write_finding(&mut self.text, &self.order, &errors.first)?;
+        write_all(&mut self.text, &self.order, warnings)?;
+        write_all(&mut self.text, &self.order, &errors.others)?;
+        let path = path_of(&self.order, errors.first.source);
+        match errors.more {
             0 => Ok(()),
             1 => writeln!(self.text, "{path}: 1 more error"),
             more => writeln!(self.text, "{path}: {more} more errors"),
+        }
+    }
+
+    /// The errors of the configuration, if memory for them wasn't wanting.
+    pub fn refuse(&mut self, errors: Result<Findings, NoMemory>) -> Result<(), Fault>
+        ensures { OnOk result (self.new.status ≡ status.Refused) }
+    {
+        let errors = errors?;
+        Ok(self.add_errors(&[], &errors)?)
+    }
+
+    /// Those of the trace, beside what looks wrong in a configuration with this text.
+    pub fn refuse_beside(
+        &mut self,
+        warnings: &mut Warnings,
+        config_text: &[u8],
+        errors: Result<Findings, NoMemory>,
+    ) -> Result<(), Fault>
+        ensures { OnOk result (self.new.status ≡ status.Refused) }
+    {
+        let errors = errors?;
+        Ok(self.add_errors(warnings.located(config_text)?, &errors)?)
+    }
+
+    /// What looks wrong, beside a configuration with this text.
+    pub fn warn(&mut self, warnings: &mut Warnings, config_text: &[u8]) -> Result<(), Fault> {
+        Ok(self.add_warnings(warnings.located(config_text)?)?)
+    }
+
+    /// What is wrong in a maps file and a report at these paths, if anything is.
+    pub fn add_verdict(
+        &mut self,
+        maps: &str,
+        report: &str,
+        found: Option<VerdictFinding>,
+    ) -> Result<(), Fault> {
+        match found {
+            Some(finding) => Ok(self.add_broken(maps, report, &finding)?),
+            None => Ok(()),
         }
     }
 

@@ -3,63 +3,88 @@ ghost use Rattle.us_flows.specs.Tables.{rounds_fit};
 
 use crate::faults::{Fault, Stream};
 use crate::files::read_at_most;
+use crate::listings::Listing;
+use crate::verdict_linting::list_verdict;
 use std::alloc::Global;
 use std::rt::Files;
-use us_findings::Findings;
+use us_findings::{lint_trace, too_long_trace};
 use us_flows::Config;
 use us_requests::{MAX_TRACE_BYTES, Trace};
 use us_slots::FromRead;
-use us_trace_findings::{lint_trace, too_long_trace};
-use us_warnings::{SeenRows, TraceWarnings};
+use us_warnings::{SeenRows, Warnings};
 
-/// The text of a trace, for a run of so many rounds.
-#[derive(Drop)]
-pub struct TraceText {
-    text: Vec<u8>,
-    rounds: u32,
+/// A configuration that is accepted, and the rounds of a run.
+#[derive(Clone, Copy)]
+pub struct Tables<'a> {
+    /// What the configuration was read from.
+    pub text: &'a [u8],
+    /// The configuration.
+    pub config: &'a Config,
+    /// How many rounds the run has.
+    pub rounds: u32,
 }
 
-/// A trace without an error.
-#[derive(Drop)]
-pub struct AcceptedTrace {
-    /// Its text.
-    pub text: TraceText,
-    /// What looks wrong in it.
-    pub warnings: TraceWarnings,
-}
-
-impl TraceText {
-    /// The trace that it tells.
-    pub fn trace(&self, alloc: Global, config: &Config) -> Result<Trace, Fault>
-        requires { rounds_fit config.now self.now.rounds ≡ true }
-        ensures { IfOk result (λ trace. trace.rounds ≡ self.now.rounds) }
-    {
-        let mut source = FromRead::new(self.text.as_slice());
-        Ok(Trace::read(alloc, &mut source, config, self.rounds)?)
-    }
-}
-
-/// The trace in the file at a path, for a run of so many rounds, or its errors. `config_text` is the text of the
-/// configuration.
-pub fn lint_trace_file<R: Files>(
+/// Lists what is found in the trace of an order, if it has one, and in what a run of it wrote, beside what looks wrong
+/// already. Where the trace has errors, no other file is read.
+pub fn list_trace<R: Files>(
     rt: &R,
     alloc: Global,
-    path: &str,
-    config_text: &[u8],
-    config: &Config,
-    rounds: u32,
-) -> Result<Result<AcceptedTrace, Findings>, Fault>
-    ensures { IfOk result (λ answer. IfOk answer (λ found. found.text.rounds ≡ rounds)) }
+    tables: &Tables<'_>,
+    warnings: &mut Warnings,
+    listing: &mut Listing<'_>,
+) -> Result<(), Fault>
+    requires { rounds_fit tables.now.config.now tables.now.rounds ≡ true }
 {
-    let Some(text) = read_at_most(rt, alloc, path, Stream::Trace, MAX_TRACE_BYTES)? else {
-        return Ok(Err(too_long_trace(alloc)?));
+    let Some(path) = listing.order.trace else {
+        return listing.warn(warnings, tables.text);
     };
-    let mut seen = SeenRows::new(alloc, config, rounds);
-    if let Some(findings) = lint_trace(alloc, &text, &mut seen)? {
-        return Ok(Err(findings));
+    match read_at_most(rt, alloc, path, Stream::Trace, MAX_TRACE_BYTES)? {
+        Some(text) => list_rows(rt, alloc, tables, &text, warnings, listing),
+        None => listing.refuse_beside(warnings, tables.text, too_long_trace(alloc)),
     }
-    Ok(Ok(AcceptedTrace {
-        warnings: seen.warnings(alloc, config_text)?,
-        text: TraceText { text, rounds },
-    }))
+}
+
+/// The same, where the trace has this text.
+fn list_rows<R: Files>(
+    rt: &R,
+    alloc: Global,
+    tables: &Tables<'_>,
+    text: &[u8],
+    warnings: &mut Warnings,
+    listing: &mut Listing<'_>,
+) -> Result<(), Fault>
+    requires { rounds_fit tables.now.config.now tables.now.rounds ≡ true }
+{
+    let mut seen = SeenRows::new(alloc, tables.config, tables.rounds);
+    match lint_trace(alloc, text, &mut seen)? {
+        Some(errors) => listing.refuse_beside(warnings, tables.text, Ok(errors)),
+        None => {
+            list_verdict(rt, alloc, tables, text, listing)?;
+            list_seen(tables, &seen, warnings, listing)
+        }
+    }
+}
+
+/// Lists what looks wrong where the rows of the trace have no error.
+fn list_seen(
+    tables: &Tables<'_>,
+    seen: &SeenRows<'_>,
+    warnings: &mut Warnings,
+    listing: &mut Listing<'_>,
+) -> Result<(), Fault> {
+    seen.warn(warnings);
+    listing.warn(warnings, tables.text)?;
+    match (listing.order.rounds, seen.rounds_for_all()) {
+        (None, Some(rounds)) => Ok(listing.add_note(rounds)?),
+        _ => Ok(()),
+    }
+}
+
+/// The trace that a text tells.
+pub fn trace_of(alloc: Global, tables: &Tables<'_>, text: &[u8]) -> Result<Trace, Fault>
+    requires { rounds_fit tables.now.config.now tables.now.rounds ≡ true }
+    ensures { IfOk result (λ trace. trace.rounds ≡ tables.now.rounds) }
+{
+    let mut source = FromRead::new(text);
+    Ok(Trace::read(alloc, &mut source, tables.config, tables.rounds)?)
 }

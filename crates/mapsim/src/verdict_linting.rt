@@ -6,16 +6,35 @@ ghost use Rattle.us_verdict_words.specs.Codes as words_spec;
 
 use crate::faults::{Fault, Stream};
 use crate::files::read_bytes;
+use crate::listings::Listing;
+use crate::trace_linting::{Tables, trace_of};
 use std::alloc::Global;
-use std::fmt;
 use std::rt::Files;
 use us_check::{CheckFault, Rule, Verdict, check};
 use us_flows::Config;
 use us_requests::Trace;
-use us_verdict_words::{BrokenRule, VerdictFile, VerdictFinding, report_finding, verdict_finding};
+use us_verdict_words::{BrokenRule, VerdictFinding, report_finding, verdict_finding};
+
+/// Lists what is wrong in the maps file and the report of an order, if it has them, beside a trace whose text this is.
+pub fn list_verdict<R: Files>(
+    rt: &R,
+    alloc: Global,
+    tables: &Tables<'_>,
+    text: &[u8],
+    listing: &mut Listing<'_>,
+) -> Result<(), Fault>
+    requires { rounds_fit tables.now.config.now tables.now.rounds ≡ true }
+{
+    let (Some(maps), Some(report)) = (listing.order.maps, listing.order.report) else {
+        return Ok(());
+    };
+    let trace = trace_of(alloc, tables, text)?;
+    let found = lint_output(rt, alloc, tables.config, &trace, maps, report)?;
+    listing.add_verdict(maps, report, found)
+}
 
 /// What is wrong in a maps file and a report, in the files at these paths; none where they hold.
-pub fn lint_output<R: Files>(
+fn lint_output<R: Files>(
     rt: &R,
     alloc: Global,
     config: &Config,
@@ -27,16 +46,26 @@ pub fn lint_output<R: Files>(
 {
     let maps = read_bytes(rt, alloc, maps, Stream::Maps)?;
     let report = read_bytes(rt, alloc, report, Stream::Report)?;
-    let broken = match check(alloc, config, trace, &maps, &report) {
+    finding_of(alloc, config, trace, &maps, &report)
+}
+
+/// The same, of these bytes.
+fn finding_of(
+    alloc: Global,
+    config: &Config,
+    trace: &Trace,
+    maps: &[u8],
+    report: &[u8],
+) -> Result<Option<VerdictFinding>, Fault>
+    requires { rounds_fit config.now trace.now.rounds ≡ true }
+{
+    let broken = match check(alloc, config, trace, maps, report) {
         Ok(verdict) => broken_rule(verdict),
-        Err(CheckFault::Report(line)) => return Ok(Some(report_finding(alloc, &report, line)?)),
+        Err(CheckFault::Report(line)) => return Ok(Some(report_finding(alloc, report, line)?)),
         Err(CheckFault::NoMemory) => return Err(Fault::NoMemory),
     };
     match broken {
-        Some(broken) => {
-            let finding = verdict_finding(alloc, config, trace, &maps, &report, broken)?;
-            Ok(Some(finding))
-        }
+        Some(broken) => Ok(Some(verdict_finding(alloc, config, trace, maps, report, broken)?)),
         None => Ok(None),
     }
 }

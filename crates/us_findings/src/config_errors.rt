@@ -1,5 +1,5 @@
 ghost use Rattle.std.specs.Prelude.{◌≡◌, ◌<◌, IfOk, IfSome, length};
-ghost use Rattle.us_findings.specs.Errors.{IsConfigLint};
+ghost use Rattle.us_findings.specs.ConfigErrors.{IsConfigLint};
 ghost use Rattle.us_findings.specs.declared.findings.What.TheVariants as found;
 
 use crate::findings::{Finding, Findings, Source, What};
@@ -37,12 +37,7 @@ fn errors_of(alloc: Global, text: &[u8], fault: ConfigFault) -> Result<Findings,
     }
     match toml::table_from_slice(alloc, text) {
         Ok(document) => errors_in(alloc, text, &document, fault),
-        Err(error) => {
-            if error.is_memory() {
-                return Err(NoMemory);
-            }
-            Ok(alone(alloc, no_document(alloc, text, &error)?, fault))
-        }
+        Err(error) => no_document(alloc, text, &error, fault),
     }
 }
 
@@ -56,12 +51,24 @@ fn errors_in(
     ensures { IfOk result (λ findings. findings.first.what ≡ found.Config fault) }
 {
     let drafts = drafts_of(alloc, document, fault)?;
-    let mut findings = located(alloc, text, &drafts.kept)?;
+    let findings = located(alloc, text, &drafts)?;
+    Ok(with_first(alloc, findings, fault, drafts.more)?)
+}
+
+/// These errors and so many more, the first of this fault before the others.
+fn with_first(
+    alloc: Global,
+    mut findings: Vec<Finding>,
+    fault: ConfigFault,
+    more: usize,
+) -> Result<Findings, AllocError>
+    ensures { IfOk result (λ findings. findings.first.what ≡ found.Config fault) }
+{
     let first = take_first(alloc, &mut findings, fault)?;
     Ok(Findings {
         first: first.of_config(fault),
         others: findings,
-        more: drafts.more,
+        more,
     })
 }
 
@@ -72,10 +79,15 @@ fn drafts_of<'d>(
     fault: ConfigFault,
 ) -> Result<Drafts<'d>, NoMemory> {
     let mut drafts = Drafts::new(alloc, fault);
-    if let Some(draft) = explained(document, fault) {
-        drafts.push(draft);
+    let mut other = None;
+    if let Some(first) = explained(document, fault) {
+        other = first.other;
+        drafts.push(first);
     }
     add_shapes(&mut drafts, document);
+    if let Some(path) = other {
+        drafts.look_for(path);
+    }
     if drafts.lacks_memory {
         Err(NoMemory)
     } else {

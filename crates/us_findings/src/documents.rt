@@ -1,4 +1,4 @@
-use crate::titles::Title;
+use crate::titles::{Title, words_of};
 use toml::{Table, Value};
 use us_flows::{Place, TableName};
 
@@ -9,7 +9,7 @@ pub(crate) const TOP: Place = Place {
 };
 
 /// The kinds of tables that stand in lists.
-pub(crate) const LISTS: [TableName; 3] = [TableName::Channel, TableName::Flow, TableName::Station];
+pub(crate) static LISTS: [TableName; 3] = [TableName::Channel, TableName::Flow, TableName::Station];
 
 /// The key of the top level that has the tables of a kind.
 pub(crate) fn key_of(list: TableName) -> &'static str {
@@ -21,11 +21,11 @@ pub(crate) fn key_of(list: TableName) -> &'static str {
     }
 }
 
-/// The kind of tables that a key of the top level has.
-pub(crate) fn list_of(key: &str) -> Option<TableName> {
-    for list in LISTS {
-        if key_of(list) == key {
-            return Some(list);
+/// The kind of tables that a key of the top level has, behind its place among the lists.
+pub(crate) fn list_at(key: &str) -> Option<(usize, TableName)> {
+    for (place, list) in LISTS.iter().enumerate() {
+        if key_of(*list) == key {
+            return Some((place, *list));
         }
     }
     None
@@ -69,7 +69,7 @@ pub(crate) fn title_of(table: &Table, place: Place) -> Title {
     };
     Title {
         place,
-        id,
+        words: words_of(place, id),
         profile: None,
     }
 }

@@ -1,13 +1,13 @@
-use crate::documents::list_of;
+use crate::documents::list_at;
 use crate::hints::{Hint, hint_of};
 use crate::keys::Keys;
 use crate::sentences::Sentence;
 use crate::shown::ShownKey;
-use crate::titles::{Title, path_in};
+use crate::spots::KeyPath;
+use crate::titles::Title;
 use crate::values::wanted;
 use std::fmt;
 use toml::{Table, Value};
-use us_config_lines::KeyPath;
 use us_flows::{ConfigFault, Place, Rule};
 
 /// A finding of a configuration whose line isn't known yet, and which isn't written yet.
@@ -15,21 +15,19 @@ use us_flows::{ConfigFault, Place, Rule};
 pub(crate) struct Draft<'a> {
     pub(crate) fault: ConfigFault,
     /// The table that it is about.
-    pub(crate) title: Title,
-    pub(crate) problem: Problem<'a>,
-}
-
-/// What is wrong with a table.
-#[derive(Clone, Copy)]
-pub(crate) enum Problem<'a> {
-    /// It lacks a key of this rule.
-    Missing(&'static str, Rule),
-    /// The value of a key breaks its rule.
-    Value(&'a str, Rule, &'a Value),
-    /// It is this table, which can have these keys alone, and has another.
-    Unknown(&'a str, Keys, &'a Table),
-    /// It breaks a rule of several keys, or of several tables.
-    Several(Why<'a>),
+    title: Title,
+    /// Where it stands.
+    pub(crate) path: KeyPath<'a>,
+    /// The key that it is about, between words.
+    key: &'a str,
+    around: [&'static str; 2],
+    /// What is wanted of the key, or wrong with it.
+    sentence: Sentence,
+    hint: Hint,
+    /// The value that breaks a rule, if it is one.
+    pub(crate) value: Option<(Rule, &'a Value)>,
+    /// A key of another table that it names.
+    pub(crate) other: Option<KeyPath<'a>>,
 }
 
 /// Why a table breaks a rule of several keys or tables.
@@ -43,74 +41,90 @@ pub(crate) struct Why<'a> {
     pub(crate) other: Option<KeyPath<'a>>,
 }
 
+/// What stands behind what is wanted.
+const WANTED: Hint = Hint {
+    words: " is wanted",
+    key: "",
+};
+
 impl<'a> Draft<'a> {
-    /// Where it stands. Of too many tables it is the first that is too many.
-    pub(crate) fn path(&self) -> KeyPath<'a> {
-        match self.problem {
-            Problem::Missing(..) => self.title.path(),
-            Problem::Value(key, rule, value) => match too_many(key, rule, value) {
-                Some(first) => path_in(first, None),
-                None => self.title.path_of(key),
-            },
-            Problem::Unknown(key, ..) => self.title.path_of(key),
-            Problem::Several(why) => self.title.path_of(why.key),
+    /// What is wrong with a key of a table: this.
+    fn of_key(title: Title, key: &'a str, sentence: Sentence, hint: Hint) -> Draft<'a> {
+        Draft {
+            fault: ConfigFault::Range(title.place),
+            title,
+            path: title.path_of(key),
+            key,
+            around: [", ", ": "],
+            sentence,
+            hint,
+            value: None,
+            other: None,
         }
     }
 
-    /// The key of another table that it names.
-    pub(crate) fn other(&self) -> Option<KeyPath<'a>> {
-        match self.problem {
-            Problem::Several(why) => why.other,
-            _ => None,
+    /// A table lacks a key of this rule.
+    pub(crate) fn missing(title: Title, key: &'a str, rule: Rule) -> Draft<'a> {
+        Draft {
+            fault: ConfigFault::Missing(title.place),
+            path: title.path(),
+            around: [": the key ", " is missing, "],
+            ..Draft::of_key(title, key, wanted(rule), WANTED)
+        }
+    }
+
+    /// The value of a key breaks its rule. Of too many tables it stands at the first that is too many.
+    pub(crate) fn wrong(title: Title, key: &'a str, rule: Rule, value: &'a Value) -> Draft<'a> {
+        let mut draft = Draft {
+            value: Some((rule, value)),
+            ..Draft::of_key(title, key, wanted(rule), WANTED)
+        };
+        if let Some(first) = too_many(key, rule, value) {
+            draft.path = KeyPath::of(first, None);
+        }
+        draft
+    }
+
+    /// The table can have these keys alone, and has another.
+    pub(crate) fn unknown(title: Title, key: &'a str, keys: Keys, table: &Table) -> Draft<'a> {
+        Draft::of_key(title, key, keys.none_of(), hint_of(keys, table, key))
+    }
+
+    /// A table breaks a rule of several keys, or of several tables.
+    pub(crate) fn several(title: Title, fault: ConfigFault, why: Why<'a>) -> Draft<'a> {
+        let none = Hint { words: "", key: "" };
+        Draft {
+            fault,
+            other: why.other,
+            ..Draft::of_key(title, why.key, why.sentence, none)
         }
     }
 }
 
 /// The first table of a list that is too many, where there are too many.
 fn too_many(key: &str, rule: Rule, value: &Value) -> Option<Place> {
-    let Rule::Tables(_, many) = rule else {
+    let (Rule::Tables(_, many), Value::Array(items)) = (rule, value) else {
         return None;
     };
-    if value.as_array()?.len() <= many as usize {
+    if items.len() <= many as usize {
         return None;
     }
-    Some(Place {
-        table: list_of(key)?,
-        index: many,
-    })
+    let (_, table) = list_at(key)?;
+    Some(Place { table, index: many })
 }
 
-/// Writes what is wrong, behind the title of the table.
-impl fmt::Display for Problem<'_> {
+/// Writes the title of the table, and what is wrong with it.
+impl fmt::Display for Draft<'_> {
     fn fmt<W: fmt::Write>(&self, f: &mut fmt::Formatter<W>) -> fmt::Result {
-        let (before, key, between) = match *self {
-            Problem::Missing(key, _) => (": the key ", key, " is missing, "),
-            Problem::Value(key, ..) | Problem::Unknown(key, ..) => (", ", key, ": "),
-            Problem::Several(why) => (", ", why.key, ": "),
+        let (title, comma, profile) = match self.title.profile {
+            Some(profile) => (self.title.words, ", ", profile),
+            None => (self.title.words, "", ""),
         };
-        let (key, sentence, hint) = (ShownKey(key), self.sentence(), self.hint());
-        let (words, meant) = (hint.words, hint.key);
-        write!(f, "{before}{key}{between}{sentence}{words}{meant}")
-    }
-}
-
-impl Problem<'_> {
-    /// What is wanted of the key, or wrong with it.
-    fn sentence(&self) -> Sentence {
-        match *self {
-            Problem::Missing(_, rule) | Problem::Value(_, rule, _) => wanted(rule),
-            Problem::Unknown(_, keys, _) => keys.none_of(),
-            Problem::Several(why) => why.sentence,
-        }
-    }
-
-    /// What stands behind that.
-    fn hint(&self) -> Hint {
-        let words = match *self {
-            Problem::Missing(..) | Problem::Value(..) => " is wanted",
-            Problem::Unknown(key, keys, table) => return hint_of(keys, table, key),
-            Problem::Several(_) => "",
-        };
-        Hint { words, key: "" }
+        let (key, [before, behind]) = (ShownKey(self.key), self.around);
+        let (sentence, words, meant) = (self.sentence, self.hint.words, self.hint.key);
+        write!(
+            f,
+            "{title}{comma}{profile}{before}{key}{behind}{sentence}{words}{meant}"
+        )
     }
 }

@@ -1,3 +1,4 @@
+use std::alloc::AllocError;
 use std::fmt;
 use us_flows::ConfigFault;
 use us_requests::TraceFault;
@@ -73,6 +74,11 @@ impl Finding {
         }
     }
 
+    /// What findings are sorted by.
+    fn place(&self) -> (bool, usize, usize) {
+        (self.source == Source::Trace, self.line, self.column)
+    }
+
     /// The same, as this fault of the configuration.
     pub(crate) fn of_config(self, fault: ConfigFault) -> Finding
         ensures { result.what ≡ Config fault }
@@ -82,4 +88,9 @@ impl Finding {
             ..self
         }
     }
+}
+
+/// Puts findings in the order of files and lines, those of the configuration first.
+pub fn by_place(findings: &mut Vec<Finding>) -> Result<(), AllocError> {
+    findings.sort_by_key(|finding| finding.place())
 }

@@ -3,7 +3,7 @@ use crate::drafts::Why;
 use crate::names::channel_with;
 use crate::rules::{Case, map_len};
 use crate::sentences::Sentence;
-use crate::titles::path_in;
+use crate::spots::KeyPath;
 use toml::Table;
 use us_flows::{Place, SchedulingType, TableName, kind_at};
 
@@ -72,6 +72,6 @@ fn long_key<'d>(
     Why {
         key,
         sentence: Sentence(words, [id, host.len, slots, 0]),
-        other: Some(path_in(host.place, Some(long))),
+        other: Some(KeyPath::of(host.place, Some(long))),
     }
 }

@@ -1,13 +1,22 @@
-//! What is wrong, or looks wrong, in a configuration or a trace: findings with their lines, and the errors of a configuration.
+//! What is wrong in a configuration or a trace: findings with their lines, and where keys and rows stand in their texts.
 //!
 //! ```
 //! match lint_config(alloc, text)? {
 //!     Ok(config) => {}    // no error
 //!     Err(findings) => {} // the fault that `Config::read` answers, and all others of the shapes of tables
 //! }
+//! match lint_trace(alloc, text, &mut seer)? {
+//!     None => {}           // no error, and `seer` was shown all requests
+//!     Some(findings) => {} // the fault that `Trace::read` answers, then those of other rows
+//! }
+//! let spots = spots_of(alloc, text, &wanted)?; // where each of these keys stands, in bytes
 //! ```
 //!
+//! The reader of TOML answers values, and no places. So a walk over the text finds them, with that library's own readers
+//! of keys and strings. Of a key that the walk doesn't meet, the place is that of its table.
+//!
 //! What these words mean stands in `specs/`, in the order of its `Lib.antt`.
+// An attribute of a function's own says what its proof needs beside: `using` names lemmas.
 #![tactic(auto)]
 
 // A finding, and how it is written.
@@ -18,6 +27,21 @@ mod shown;
 
 // Words with numbers among them.
 mod sentences;
+
+// Lines and columns.
+mod lines;
+
+// What is looked for in a configuration, and where it stands.
+mod spots;
+
+// Keys and values, read from the front of a text.
+mod tokens;
+
+// Tables in which something is looked for.
+mod scopes;
+
+// The walk over headers and keys.
+mod walks;
 
 // What a finding calls a table.
 mod titles;
@@ -64,8 +88,26 @@ mod texts;
 // The errors of a configuration.
 mod config_errors;
 
+// The records of a trace, with their lines.
+mod rows;
+
+// What is wrong with one record, in words.
+mod row_errors;
+
+// Who is shown the requests.
+mod seeing;
+
+// The errors of a trace.
+mod trace_errors;
+
 pub use config_errors::lint_config;
-pub use findings::{Finding, Findings, Source, What};
+pub use findings::{Finding, Findings, Source, What, by_place};
+pub use lines::line_and_column;
+pub use rows::Rows;
+pub use seeing::SeesRequests;
 pub use sentences::Sentence;
 pub use shown::Shown;
+pub use spots::{KeyPath, Spot};
 pub use texts::too_long_config;
+pub use trace_errors::{lint_trace, too_long_trace};
+pub use walks::spots_of;

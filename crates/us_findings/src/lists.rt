@@ -1,5 +1,5 @@
-use crate::drafts::{Draft, Problem};
-use crate::titles::Title;
+use crate::drafts::Draft;
+use crate::spots::KeyPath;
 use std::alloc::Global;
 use us_flows::ConfigFault;
 
@@ -15,6 +15,8 @@ pub(crate) struct Drafts<'a> {
     /// Whether memory was wanting for one of them. It is told at the end, so that each that adds one has but one way out.
     pub(crate) lacks_memory: bool,
     pub(crate) kept: Vec<Draft<'a>>,
+    /// Where these stand, in their order, and behind these a key of another table that the first one names.
+    pub(crate) paths: Vec<KeyPath<'a>>,
     /// How many there are beside those that are kept.
     pub(crate) more: usize,
 }
@@ -27,21 +29,9 @@ impl<'a> Drafts<'a> {
             has_first: false,
             lacks_memory: false,
             kept: Vec::new(alloc),
+            paths: Vec::new(alloc),
             more: 0,
         }
-    }
-
-    /// Adds what is wrong with a table. The fault is C2 of a missing key, and else C3.
-    pub(crate) fn add(&mut self, title: Title, problem: Problem<'a>) {
-        let fault = match problem {
-            Problem::Missing(..) => ConfigFault::Missing(title.place),
-            _ => ConfigFault::Range(title.place),
-        };
-        self.push(Draft {
-            fault,
-            title,
-            problem,
-        });
     }
 
     /// Adds a finding.
@@ -54,9 +44,15 @@ impl<'a> Drafts<'a> {
         };
         if is_first || self.kept.len() < free {
             self.has_first = self.has_first || is_first;
+            self.look_for(draft.path);
             self.lacks_memory = self.kept.push(draft).is_err() || self.lacks_memory;
         } else {
             self.more = self.more.saturating_add(1);
         }
+    }
+
+    /// Where one of them stands is to be looked for, or a key of another table.
+    pub(crate) fn look_for(&mut self, path: KeyPath<'a>) {
+        self.lacks_memory = self.paths.push(path).is_err() || self.lacks_memory;
     }
 }

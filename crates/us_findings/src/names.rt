@@ -4,7 +4,7 @@ use crate::documents::{
 use crate::drafts::Why;
 use crate::rules::Case;
 use crate::sentences::Sentence;
-use crate::titles::path_in;
+use crate::spots::KeyPath;
 use toml::{Table, Value};
 use us_flows::{Place, TableName};
 
@@ -57,7 +57,7 @@ pub(crate) fn duplicate_id<'d>(case: &Case<'d>) -> Why<'d> {
         Some((earlier, _)) => Why {
             key: "id",
             sentence: Sentence(has_id(list), [u64::from(earlier.index), id, 0, 0]),
-            other: Some(path_in(earlier, Some("id"))),
+            other: Some(KeyPath::of(earlier, Some("id"))),
         },
         None => Why {
             key: "channels",
@@ -140,7 +140,7 @@ pub(crate) fn duplicate_sid<'d>(case: &Case<'d>) -> Why<'d> {
                         "flow # has SID # on channel # too",
                         [u64::from(place.index), sid, channel, 0],
                     ),
-                    other: Some(path_in(place, Some("clusters"))),
+                    other: Some(KeyPath::of(place, Some("clusters"))),
                 };
             }
         }
@@ -192,12 +192,14 @@ fn sids_of(flow: &Table) -> usize {
 
 /// The SID at a place among them, cluster by cluster, behind the id of its channel. None where the cluster lacks it.
 fn sid_at(flow: &Table, place: usize) -> Option<(u64, u64)> {
-    let channels = values_at(flow, "channels");
+    let (channels, clusters) = (values_at(flow, "channels"), values_at(flow, "clusters"));
     let width = channels.len().max(1);
-    let cluster = values_at(flow, "clusters").get(place / width)?;
-    let (channel, sid) = (
-        channels.get(place % width)?,
-        values_of(cluster).get(place % width)?,
-    );
-    Some((number_of(channel), number_of(sid)))
+    let sids = match clusters.get(place / width) {
+        Some(cluster) => values_of(cluster),
+        None => &[],
+    };
+    match (channels.get(place % width), sids.get(place % width)) {
+        (Some(channel), Some(sid)) => Some((number_of(channel), number_of(sid))),
+        _ => None,
+    }
 }

@@ -1,9 +1,9 @@
 use crate::documents::{TOP, number_at, table_at, title_of, values_at};
-use crate::drafts::{Draft, Problem, Why};
+use crate::drafts::{Draft, Why};
 use crate::grants::long_grant;
 use crate::names::{cluster_length, duplicate_id, duplicate_sid, unknown_channel};
 use crate::sentences::Sentence;
-use crate::titles::path_in;
+use crate::spots::KeyPath;
 use toml::Table;
 use us_flows::{ConfigFault, Place};
 
@@ -24,11 +24,8 @@ pub(crate) fn explained<'d>(document: &'d Table, fault: ConfigFault) -> Option<D
         table,
         place,
     };
-    Some(Draft {
-        fault,
-        title: title_of(table, place),
-        problem: Problem::Several(case.why(fault)?),
-    })
+    let why = case.why(fault)?;
+    Some(Draft::several(title_of(table, place), fault, why))
 }
 
 impl<'d> Case<'d> {
@@ -68,7 +65,7 @@ impl<'d> Case<'d> {
                 "a minislot has # ticks, which is no divisor of round_ticks, #",
                 [minislot, round, 0, 0],
             ),
-            other: Some(path_in(TOP, Some("round_ticks"))),
+            other: Some(KeyPath::of(TOP, Some("round_ticks"))),
         }
     }
 

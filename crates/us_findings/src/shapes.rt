@@ -1,5 +1,5 @@
 use crate::documents::number_of;
-use crate::drafts::Problem;
+use crate::drafts::Draft;
 use crate::keys::Keys;
 use crate::lists::Drafts;
 use crate::titles::Title;
@@ -22,10 +22,10 @@ impl<'d> Shape<'d> {
             match self.keys.rule_of(key) {
                 Some(rule) => {
                     if !keeps(rule, value) {
-                        drafts.add(self.title, Problem::Value(key, rule, value));
+                        drafts.push(Draft::wrong(self.title, key, rule, value));
                     }
                 }
-                None => drafts.add(self.title, Problem::Unknown(key, self.keys, self.table)),
+                None => drafts.push(Draft::unknown(self.title, key, self.keys, self.table)),
             }
         }
     }
@@ -35,7 +35,7 @@ impl<'d> Shape<'d> {
         for place in 0..self.keys.places() {
             if let Some((key, rule)) = self.keys.at(place) {
                 if !is_optional(rule) && self.table.get(key).is_none() {
-                    drafts.add(self.title, Problem::Missing(key, rule));
+                    drafts.push(Draft::missing(self.title, key, rule));
                 }
             }
         }
@@ -43,11 +43,9 @@ impl<'d> Shape<'d> {
 
     /// The number of a key that keeps its rule; none where it doesn't, or is missing.
     pub(crate) fn number(&self, key: &str) -> Option<u64> {
-        let (rule, value) = (self.keys.rule_of(key)?, self.table.get(key)?);
-        if keeps(rule, value) {
-            Some(number_of(value))
-        } else {
-            None
+        match (self.keys.rule_of(key), self.table.get(key)) {
+            (Some(rule), Some(value)) if keeps(rule, value) => Some(number_of(value)),
+            _ => None,
         }
     }
 }

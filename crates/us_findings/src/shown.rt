@@ -52,16 +52,24 @@ fn write_first<'a, W: fmt::Write>(
     f: &mut fmt::Formatter<W>,
     text: &'a [u8],
 ) -> Result<&'a [u8], fmt::Error> {
-    if let Some(character) = first_character(text) {
-        write_character(f, character)?;
-        return Ok(text.get(character.len_utf8()..).unwrap_or(&[]));
-    }
-    match text.split_first() {
-        Some((byte, rest)) => {
-            write!(f, "\\x{byte:02x}")?;
-            Ok(rest)
+    let length = match first_character(text) {
+        Some(character) => {
+            write_character(f, character)?;
+            character.len_utf8()
         }
-        None => Ok(text),
+        None => {
+            write_byte(f, text)?;
+            1
+        }
+    };
+    Ok(text.get(length..).unwrap_or(&[]))
+}
+
+/// Writes the first byte of a text, if it has one.
+fn write_byte<W: fmt::Write>(f: &mut fmt::Formatter<W>, text: &[u8]) -> fmt::Result {
+    match text.first() {
+        Some(byte) => write!(f, "\\x{byte:02x}"),
+        None => Ok(()),
     }
 }
 

@@ -1,5 +1,5 @@
 use crate::documents::{LISTS, TOP, items_of, place_in, title_of};
-use crate::drafts::{Problem, Why};
+use crate::drafts::{Draft, Why};
 use crate::keys::Keys;
 use crate::lists::Drafts;
 use crate::sentences::Sentence;
@@ -7,15 +7,15 @@ use crate::shapes::Shape;
 use crate::titles::Title;
 use toml::{Table, Value};
 use us_flows::{
-    Key, MAX_CODEWORD, Place, Rule, TableName, channel_keys, keeps, kind_at, profile_keys,
-    short_keys, station_keys, top_keys,
+    ConfigFault, Key, MAX_CODEWORD, Place, Rule, TableName, channel_keys, keeps, kind_at,
+    profile_keys, short_keys, station_keys, top_keys,
 };
 
 /// Adds what is wrong with the shapes of all tables of a document. An item that is no table is told of with its list.
 pub(crate) fn add_shapes<'d>(drafts: &mut Drafts<'d>, document: &'d Table) {
     listed(document, TOP, top_keys()).add_to(drafts);
-    for list in LISTS {
-        add_list(drafts, list, items_of(document, list));
+    for list in &LISTS {
+        add_list(drafts, *list, items_of(document, *list));
     }
 }
 
@@ -51,9 +51,9 @@ fn listed<'d>(table: &'d Table, place: Place, keys: &'static [Key]) -> Shape<'d>
 fn add_flow<'d>(drafts: &mut Drafts<'d>, place: Place, table: &'d Table) {
     let title = title_of(table, place);
     match table.get("type") {
-        None => drafts.add(title, Problem::Missing("type", Rule::Type)),
+        None => drafts.push(Draft::missing(title, "type", Rule::Type)),
         Some(kind) if !keeps(Rule::Type, kind) => {
-            drafts.add(title, Problem::Value("type", Rule::Type, kind));
+            drafts.push(Draft::wrong(title, "type", Rule::Type, kind));
         }
         Some(_) => {
             let keys = Keys::OfFlows(kind_at(table));
@@ -89,7 +89,7 @@ fn add_profile<'d>(
     let shape = Shape { keys, table, title };
     shape.add_to(drafts);
     if let Some(why) = long_codeword(&shape) {
-        drafts.add(title, Problem::Several(why));
+        drafts.push(Draft::several(title, ConfigFault::Range(place), why));
     }
 }
 

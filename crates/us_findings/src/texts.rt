@@ -3,10 +3,10 @@ ghost use Rattle.us_flows.specs.declared.faults.ConfigFault.TheVariants.{Text};
 ghost use Rattle.us_findings.specs.declared.findings.What.TheVariants as found;
 
 use crate::findings::{Finding, Findings, Source, What};
+use crate::lines::line_and_column;
 use crate::shown::Shown;
 use std::alloc::{AllocError, Global};
 use toml::de::Error;
-use us_config_lines::line_and_column;
 use us_flows::{ConfigFault, MAX_CONFIG_BYTES};
 use us_slots::NoMemory;
 
@@ -35,24 +35,31 @@ pub(crate) fn alone(alloc: Global, finding: Finding, fault: ConfigFault) -> Find
     }
 }
 
-/// That a text is no document of TOML, as its reader says it.
+/// That a text is no document of TOML, as its reader says it, under this fault.
 pub(crate) fn no_document(
     alloc: Global,
     text: &[u8],
     error: &Error,
-) -> Result<Finding, AllocError> {
+    fault: ConfigFault,
+) -> Result<Findings, NoMemory>
+    ensures { IfOk result (λ findings. findings.first.what ≡ found.Config fault) }
+{
+    if error.is_memory() {
+        return Err(NoMemory);
+    }
     let at = match error.span() {
         Some(span) => span.start.min(text.len()),
         None => 0,
     };
     let (line, column) = line_and_column(text, at);
-    Ok(Finding {
+    let finding = Finding {
         source: Source::Config,
-        what: What::Config(ConfigFault::Text),
+        what: What::Config(fault),
         line,
         column,
         text: why_none(alloc, text, at, error)?,
-    })
+    };
+    Ok(alone(alloc, finding, fault))
 }
 
 /// Why it is none: for a byte that is no UTF-8, or as the reader says it.

@@ -1,6 +1,5 @@
 use crate::sentences::Sentence;
-use std::fmt;
-use us_config_lines::KeyPath;
+use crate::spots::KeyPath;
 use us_flows::{Place, TableName};
 
 /// A table, as a finding calls it: `flow 2 (id 3)`, counted from 0 as in fault lines, or `channel 0 (id 1), long`.
@@ -8,38 +7,16 @@ use us_flows::{Place, TableName};
 pub(crate) struct Title {
     /// The channel, the flow or the station that it is, or that it is a profile of.
     pub(crate) place: Place,
-    /// The id that stands there.
-    pub(crate) id: Option<u64>,
+    /// What that is called.
+    pub(crate) words: Sentence,
     /// The key of the profile that it is.
     pub(crate) profile: Option<&'static str>,
-}
-
-impl fmt::Display for Title {
-    fn fmt<W: fmt::Write>(&self, f: &mut fmt::Formatter<W>) -> fmt::Result {
-        if self.place.table == TableName::Top {
-            return f.write_str("the top level");
-        }
-        let place = self.place;
-        let id = match self.id {
-            Some(id) => Sentence::of(" (id #)", id),
-            None => Sentence::plain(""),
-        };
-        let (comma, profile) = match self.profile {
-            Some(key) => (", ", key),
-            None => ("", ""),
-        };
-        write!(f, "{place}{id}{comma}{profile}")
-    }
 }
 
 impl Title {
     /// Where the table stands: a profile by its key.
     pub(crate) fn path<'a>(self) -> KeyPath<'a> {
-        KeyPath {
-            place: self.place,
-            profile: None,
-            key: self.profile,
-        }
+        KeyPath::of(self.place, self.profile)
     }
 
     /// Where a key of it stands.
@@ -52,11 +29,16 @@ impl Title {
     }
 }
 
-/// Where a key stands of a table that is no profile.
-pub(crate) fn path_in<'a>(place: Place, key: Option<&'a str>) -> KeyPath<'a> {
-    KeyPath {
-        place,
-        profile: None,
-        key,
-    }
+/// What a table is called that has this id, or none.
+pub(crate) fn words_of(place: Place, id: Option<u64>) -> Sentence {
+    let words = match (place.table, id.is_some()) {
+        (TableName::Top, _) => "the top level",
+        (TableName::Channel, false) => "channel #",
+        (TableName::Channel, true) => "channel # (id #)",
+        (TableName::Flow, false) => "flow #",
+        (TableName::Flow, true) => "flow # (id #)",
+        (TableName::Station, false) => "station #",
+        (TableName::Station, true) => "station # (id #)",
+    };
+    Sentence(words, [u64::from(place.index), id.unwrap_or(0), 0, 0])
 }

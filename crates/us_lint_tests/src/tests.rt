@@ -1,11 +1,10 @@
 //! What no clause says: the lines of keys and rows, the texts of findings and their places, and that those of windows are
 //! told by the MAPs alone. More stand in the stored cases of the program.
 
-mod configurations;
+mod findings;
 mod keys;
 mod rooms;
 mod rows;
-mod warnings;
 
 use std::alloc::AllocError;
 use std::process::Abort;

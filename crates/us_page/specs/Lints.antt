@@ -7,7 +7,7 @@ use Rattle.us_flows.specs.declared.faults.ConfigFault.TheVariants as config
 use Rattle.us_requests.specs.declared.faults.TraceFault.{TraceFault}
 use Rattle.us_requests.specs.Readings.{max_bytes}
 use Rattle.us_requests.specs.Texts.{trace_fault}
-use Rattle.us_trace_findings.specs.Errors.{IsAnswered}
+use Rattle.us_findings.specs.TraceErrors.{IsAnswered}
 use Rattle.us_page.specs.declared.calls.Status.{Status}
 use Rattle.us_page.specs.declared.calls.Status.TheVariants as status
 use Rattle.us_page.specs.Calls.{code_of}

@@ -5,10 +5,9 @@ use crate::calls::{Status, hold};
 use crate::hands::Hand;
 use crate::runs::Run;
 use std::alloc::{AllocError, Global};
-use us_findings::{Findings, lint_config};
+use us_findings::{Findings, SeesRequests, lint_config, lint_trace};
 use us_requests::Request;
 use us_slots::NoMemory;
-use us_trace_findings::{SeesRequests, lint_trace};
 
 /// The errors of two texts: the status that says of which they are, and their lines.
 #[derive(Drop)]

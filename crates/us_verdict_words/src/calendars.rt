@@ -2,7 +2,6 @@ ghost use Rattle.std.specs.Prelude.{◌≤◌};
 
 use crate::runs::Run;
 use std::alloc::Global;
-use us_activity::Activities;
 use us_calendar::{Entry, Kind, entries_of};
 use us_flows::Channel;
 use us_output::EntryWord;
@@ -61,30 +60,18 @@ pub(crate) fn entries_with(alloc: Global, run: &Run<'_>, id: u64) -> Result<Entr
     };
     for channel in run.config.channels() {
         let entries = entries_of(alloc, run.config, channel)?;
-        found.take(
-            channel,
-            u64::from(run.config.map_len(channel)),
-            &entries,
-            id,
-        );
+        let len = u64::from(run.config.map_len(channel));
+        found.take(channel, len, &entries, id);
     }
     Ok(found)
 }
 
-/// What tells which occurrences there are.
-#[derive(Clone, Copy)]
-pub(crate) struct Calendar<'a> {
-    pub(crate) run: Run<'a>,
-    pub(crate) activities: &'a Activities,
-    pub(crate) entries: Entries,
-}
-
-impl<'a> Calendar<'a> {
+impl<'a> Run<'a> {
     /// The quarter microseconds of a round.
     pub(crate) fn round_quarters(&self) -> u128
         ensures { 1 ≤ result }
     {
-        u128::from(QUARTERS_PER_TICK) * u128::from(self.run.config.round_ticks())
+        u128::from(QUARTERS_PER_TICK) * u128::from(self.config.round_ticks())
     }
 
     /// Whether the flow of an entry is active as an interval begins.
@@ -114,15 +101,15 @@ pub(crate) fn ideal(entry: &Entry, interval: u64) -> u128 {
 }
 
 /// The first and the last minislot from round 0 on at which a grant of an interval may start.
-pub(crate) fn window(of: &ChannelEntry, interval: u64) -> (u64, u64) {
+pub(crate) fn window(of: &ChannelEntry, interval: u64) -> [u64; 2] {
     let ticks = of.channel.bursts.time().minislot_ticks();
     let minislot = u128::from(QUARTERS_PER_TICK) * u128::from(ticks);
     let first = ideal(&of.entry, interval);
     let last = first.saturating_add(u128::from(of.entry.jitter));
-    (
+    [
         saturated(first.div_ceil(minislot)),
         saturated(last / minislot),
-    )
+    ]
 }
 
 /// The number, or the greatest one that there is.

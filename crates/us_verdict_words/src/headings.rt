@@ -1,8 +1,6 @@
-use crate::fields::Field;
-use crate::findings::VerdictFile;
 use crate::records::{FileRecord, behind_records, byte_of, record_at};
 use crate::runs::{PlacedChannel, Run};
-use crate::said::{Said, Wrong};
+use crate::said::{Said, exact};
 use std::alloc::Global;
 use us_codec::{Element, Map, MapFault, decode};
 use us_findings::Sentence;
@@ -12,81 +10,66 @@ use us_slots::{Iuc, NoMemory};
 pub(crate) fn heading_said(alloc: Global, run: &Run<'_>, number: u64) -> Result<Said, NoMemory> {
     let width = run.width().max(1);
     let round = number / width;
-    if let (Some(record), Some(channel)) = (
-        record_at(run.maps, number),
-        run.channel_at(number % width),
-    ) {
+    let placed = run.channel_at(number % width);
+    if let (Some(record), Some(placed)) = (record_at(run.maps, number), placed) {
         if round < run.rounds() {
-            return Ok(Said {
-                file: VerdictFile::Maps,
-                place: record.place,
-                wrong: Wrong::Number(wrong_field(alloc, run, &record, round, &channel)?),
-            });
+            let wrong = wrong_number(alloc, &record, &wanted_of(run, round, &placed))?;
+            return Ok(Said::of_record(record.place, wrong));
         }
     }
-    Ok(Said {
-        file: VerdictFile::Maps,
-        place: byte_of(run.maps, number),
-        wrong: count_wrong(run, width),
-    })
+    Ok(Said::of_record(byte_of(run.maps, number), count_wrong(run, width)))
 }
 
 /// How many records there are, and how many there must be.
-fn count_wrong(run: &Run<'_>, width: u64) -> Wrong {
+fn count_wrong(run: &Run<'_>, width: u64) -> Sentence {
     let (count, _) = behind_records(run.maps, u64::MAX);
     let rounds = run.rounds();
     if count.is_multiple_of(width) {
-        Wrong::Rounds(Sentence(
-            "the file has # rounds, --rounds says #",
-            [count / width.max(1), rounds, 0, 0],
-        ))
-    } else {
-        Wrong::Number(Field::exact("records", rounds.saturating_mul(width), count))
+        let words = "the file has # rounds, --rounds says #";
+        return Sentence(words, [count / width.max(1), rounds, 0, 0]);
     }
+    let wanted = rounds.saturating_mul(width);
+    Sentence("records: # is wanted, # is there", [wanted, count, 0, 0])
 }
 
-/// What of a record isn't what it must be.
-fn wrong_field(
-    alloc: Global,
-    run: &Run<'_>,
-    record: &FileRecord<'_>,
-    round: u64,
-    channel: &PlacedChannel,
-) -> Result<Field, NoMemory> {
-    let wanted = wanted_of(run, round, channel);
-    let told = match decode(alloc, record.body) {
-        Ok(map) => told_by(u64::from(record.round), &map),
-        Err(MapFault::NoMemory) => return Err(NoMemory),
-        // Nobody comes here: each body was read for the verdict.
-        Err(_) => wanted,
-    };
-    Ok(first_other(&wanted, &told))
-}
-
-/// What a MAP says of itself: its numbers, as these names have them.
+/// What a MAP says of itself: its numbers, as these words tell them.
 type Heading = [u64; 10];
 
-static NAMES: [&str; 10] = [
-    "round",
-    "channel",
-    "UCD Count",
-    "Alloc Start Time",
-    "Ack Time",
-    "Ranging Backoff Start",
-    "Ranging Backoff End",
-    "Data Backoff Start",
-    "Data Backoff End",
-    "length in minislots",
+static WORDS: [&str; 10] = [
+    "round: # is wanted, # is there",
+    "channel: # is wanted, # is there",
+    "UCD Count: # is wanted, # is there",
+    "Alloc Start Time: # is wanted, # is there",
+    "Ack Time: # is wanted, # is there",
+    "Ranging Backoff Start: # is wanted, # is there",
+    "Ranging Backoff End: # is wanted, # is there",
+    "Data Backoff Start: # is wanted, # is there",
+    "Data Backoff End: # is wanted, # is there",
+    "length in minislots: # is wanted, # is there",
 ];
 
+/// Which number of a record isn't the one that is wanted.
+fn wrong_number(
+    alloc: Global,
+    record: &FileRecord<'_>,
+    wanted: &Heading,
+) -> Result<Sentence, NoMemory> {
+    match decode(alloc, record.body) {
+        Ok(map) => Ok(first_other(wanted, &told_by(u64::from(record.round), &map))),
+        Err(MapFault::NoMemory) => Err(NoMemory),
+        // Nobody comes here: each body was read for the verdict.
+        Err(_) => Ok(first_other(wanted, wanted)),
+    }
+}
+
 /// The first number of a heading that isn't the one that is wanted.
-fn first_other(wanted: &Heading, told: &Heading) -> Field {
-    for (place, name) in NAMES.iter().enumerate() {
-        if wanted[place] != told[place] {
-            return Field::exact(name, wanted[place], told[place]);
+fn first_other(wanted: &Heading, told: &Heading) -> Sentence {
+    for (place, words) in WORDS.iter().enumerate() {
+        if let Some(wrong) = exact(words, wanted[place], told[place]) {
+            return wrong;
         }
     }
-    Field::exact(NAMES[0], wanted[0], told[0])
+    Sentence(WORDS[0], [wanted[0], told[0], 0, 0])
 }
 
 /// What a MAP of this round says of itself.

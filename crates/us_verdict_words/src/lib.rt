@@ -19,9 +19,7 @@ mod findings;
 mod lines;
 
 // What is found: the place, and what is wanted there.
-mod fields;
 mod said;
-mod spans;
 
 // What is judged, and by what.
 mod runs;
@@ -33,8 +31,7 @@ mod records;
 // Minislots of a MAP.
 mod minislots;
 
-// Entries of calendars, their lines, and their occurrences.
-mod calendar_lines;
+// Entries of calendars, and their occurrences.
 mod calendars;
 mod occurrences;
 

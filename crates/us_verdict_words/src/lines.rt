@@ -1,50 +1,60 @@
 use crate::findings::VerdictFile;
+use crate::said::NOTHING;
 use std::alloc::Global;
-use std::fmt;
+use us_findings::Sentence;
 use us_lawful::{ReportFault, report_rows};
-use us_output::Row;
+use us_output::{MissedOccurrence, Row};
 use us_slots::NoMemory;
 
 /// How many lines are named by their numbers.
 const MAX_NAMED: usize = 5;
 
-/// Lines that have to do with one another: the first one, and the numbers of the next ones.
+/// Lines of a report that have to do with one another, by their numbers from 1.
 #[derive(Clone, Copy)]
 pub(crate) struct Lines {
-    first: Option<Row>,
     numbers: [u64; MAX_NAMED],
-    count: usize,
+    pub(crate) count: usize,
 }
 
 impl Lines {
     /// No lines.
     pub(crate) fn none() -> Lines {
         Lines {
-            first: None,
             numbers: [0; MAX_NAMED],
             count: 0,
         }
     }
 
-    /// One more.
-    pub(crate) fn add(&mut self, number: u64, row: &Row) {
-        if self.count == 0 {
-            self.first = Some(*row);
-        }
-        if let Some(place) = self.numbers.get_mut(self.count) {
-            *place = number;
+    /// One more, at this place among all rows.
+    pub(crate) fn add(&mut self, place: usize) {
+        if let Some(number) = self.numbers.get_mut(self.count) {
+            *number = (place as u64).saturating_add(1);
         }
         self.count = self.count.saturating_add(1);
     }
 
-    /// How many there are.
-    pub(crate) fn count(&self) -> usize {
-        self.count
+    /// The row of the first one.
+    pub(crate) fn first(&self, rows: &[Row]) -> Option<Row> {
+        let place = self.numbers[0].checked_sub(1)?;
+        rows.get(place as usize).copied()
     }
 
-    /// The first one.
-    pub(crate) fn first(&self) -> Option<Row> {
-        self.first
+    /// What a finding at the first one calls them: `this line and line 12`, and how many more there are than are named.
+    pub(crate) fn words(&self) -> [Sentence; 2] {
+        let [_, a, b, c, d] = self.numbers;
+        let words = match self.count {
+            0 => "no line",
+            1 => "this line",
+            2 => "this line and line #",
+            3 => "this line and line # and line #",
+            4 => "this line and line # and line # and line #",
+            _ => "this line and line # and line # and line # and line #",
+        };
+        let more = match self.count.saturating_sub(MAX_NAMED) {
+            0 => NOTHING,
+            more => Sentence::of(" and # more", more as u64),
+        };
+        [Sentence(words, [a, b, c, d]), more]
     }
 
     /// Where a finding of them is: at the first one, if there is one.
@@ -57,69 +67,89 @@ impl Lines {
     }
 }
 
-/// Writes them as `this line and line 12`, as a finding at the first one names them.
-impl fmt::Display for Lines {
-    fn fmt<W: fmt::Write>(&self, f: &mut fmt::Formatter<W>) -> fmt::Result {
-        if self.count == 0 {
-            return f.write_str("no line");
-        }
-        f.write_str("this line")?;
-        for (place, number) in self.numbers.iter().enumerate() {
-            if 0 < place && place < self.count {
-                write!(f, " and line {number}")?;
+/// The lines that a report has of something.
+#[derive(Clone, Copy)]
+pub(crate) enum Which {
+    /// Those of a round and a channel.
+    Map(u64, u64),
+    /// Those that name this occurrence.
+    Occurrence(MissedOccurrence),
+    /// F lines of a cluster of a flow,
+    Final(u64, u64),
+    /// of all its clusters from this one on,
+    FinalFrom(u64, u64),
+    /// its A lines,
+    Activity(u64),
+    /// or the U lines.
+    Counts,
+}
+
+impl Which {
+    /// Whether a row is one of them.
+    fn has(self, row: &Row) -> bool {
+        match (self, row) {
+            (Which::Final(id, list), Row::Final(state)) => {
+                state.flow == id && state.cluster == list
             }
+            (Which::FinalFrom(id, list), Row::Final(state)) => {
+                state.flow == id && list <= state.cluster
+            }
+            (Which::Activity(id), Row::Activity(told)) => told.flow == id,
+            (Which::Counts, Row::Counts(_)) => true,
+            (Which::Map(..) | Which::Occurrence(_), _) => match named(row) {
+                Some(line) => self.has_occurrence(&line),
+                None => false,
+            },
+            _ => false,
         }
-        match self.count.saturating_sub(MAX_NAMED) {
-            0 => Ok(()),
-            more => write!(f, " and {more} more"),
+    }
+
+    /// Whether a grant or a missed occurrence is one of them.
+    fn has_occurrence(self, line: &MissedOccurrence) -> bool {
+        match self {
+            Which::Map(round, channel) => line.round == round && line.channel == channel,
+            Which::Occurrence(of) => {
+                line.entry == of.entry && line.id == of.id && line.i == of.i && line.k == of.k
+            }
+            _ => false,
         }
     }
 }
 
-/// What is gathered from the lines of a report.
-pub(crate) trait LineTaker {
-    /// Takes a line and its number, from 1.
-    fn take(&mut self, number: u64, row: &Row);
-}
-
-/// Gives all lines of a report to what gathers them.
-pub(crate) fn gather<G: LineTaker>(
-    alloc: Global,
-    report: &[u8],
-    gathered: &mut G,
-) -> Result<(), NoMemory> {
-    let mut rest = report;
-    for number in 1..u64::MAX {
-        if rest.is_empty() {
-            break;
-        }
-        let (line, behind) = first_line(rest);
-        if let Some(row) = row_of(alloc, line)? {
-            gathered.take(number, &row);
-        }
-        rest = behind;
+/// What a line of a grant or of a missed occurrence names; `None` for other lines.
+pub(crate) fn named(row: &Row) -> Option<MissedOccurrence> {
+    match row {
+        Row::Granted(grant) => Some(MissedOccurrence {
+            round: grant.round,
+            channel: grant.channel,
+            entry: grant.entry,
+            id: grant.id,
+            i: grant.i,
+            k: grant.k,
+        }),
+        Row::Missed(missed) => Some(*missed),
+        _ => None,
     }
-    Ok(())
 }
 
-/// The line with which bytes begin, with its line feed, and what stands behind it.
-fn first_line(bytes: &[u8]) -> (&[u8], &[u8]) {
-    for (place, byte) in bytes.iter().enumerate() {
-        if *byte == b'\n' {
-            return bytes
-                .split_at_checked(place.saturating_add(1))
-                .unwrap_or((bytes, &[]));
+/// The lines that there are of something.
+pub(crate) fn lines_of(rows: &[Row], which: Which) -> Lines {
+    let mut lines = Lines::none();
+    for (place, row) in rows.iter().enumerate() {
+        if which.has(row) {
+            lines.add(place);
         }
     }
-    (bytes, &[])
+    lines
 }
 
-/// The row of a line; `None` where it is of none.
-fn row_of(alloc: Global, line: &[u8]) -> Result<Option<Row>, NoMemory> {
-    match report_rows(alloc, line) {
-        Ok(rows) => Ok(rows.first().copied()),
-        Err(ReportFault::Line(_)) => Ok(None),
+/// The rows of a report that was read before.
+pub(crate) fn rows_of(alloc: Global, report: &[u8]) -> Result<Vec<Row>, NoMemory> {
+    match report_rows(alloc, report) {
+        Ok(rows) => Ok(rows),
         Err(ReportFault::NoMemory) => Err(NoMemory),
+        // Nobody comes here: a report with such a line has no verdict.
+        Err(ReportFault::Line(_)) => Ok(Vec::new(alloc)),
     }
 }
 
@@ -132,4 +162,16 @@ pub(crate) fn line_at(report: &[u8], number: u64) -> &[u8] {
     }
     let (line, _) = first_line(rest);
     line
+}
+
+/// The line with which bytes begin, with its line feed, and what stands behind it.
+fn first_line(bytes: &[u8]) -> (&[u8], &[u8]) {
+    for (place, byte) in bytes.iter().enumerate() {
+        if *byte == b'\n' {
+            return bytes
+                .split_at_checked(place.saturating_add(1))
+                .unwrap_or((bytes, &[]));
+        }
+    }
+    (bytes, &[])
 }

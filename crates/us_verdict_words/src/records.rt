@@ -1,5 +1,4 @@
-use crate::findings::VerdictFile;
-use crate::said::{Said, Wrong};
+use crate::said::NOTHING;
 use std::alloc::Global;
 use us_codec::{MapFault, decode};
 use us_findings::Sentence;
@@ -57,34 +56,21 @@ pub(crate) fn record_at(file: &[u8], number: u64) -> Option<FileRecord<'_>> {
 /// Where a record begins that isn't whole.
 pub(crate) fn byte_of(file: &[u8], number: u64) -> Sentence {
     let (_, rest) = behind_records(file, number);
-    byte_at(number, file.len().saturating_sub(rest.len()))
-}
-
-/// This byte, at which the record of a number begins.
-pub(crate) fn byte_at(number: u64, at: usize) -> Sentence {
+    let at = file.len().saturating_sub(rest.len());
     Sentence("record #, at byte #", [number, at as u64, 0, 0])
 }
 
-/// That a record is none: the file ends inside it, or its body isn't in the grammar.
-pub(crate) fn record_said(alloc: Global, file: &[u8], number: u64) -> Result<Said, NoMemory> {
-    let (place, wrong) = match record_at(file, number) {
-        Some(record) => (
-            record.place,
-            Wrong::Record(fault_of(alloc, record.body)?, Sentence::plain("")),
-        ),
+/// Where a record is none, and why: the file ends inside it, or its body isn't in the grammar.
+pub(crate) fn record_text(alloc: Global, file: &[u8], number: u64) -> Result<String, NoMemory> {
+    let (place, fault, more) = match record_at(file, number) {
+        Some(record) => (record.place, fault_of(alloc, record.body)?, NOTHING),
         None => (
             byte_of(file, number),
-            Wrong::Record(
-                MapFault::RecordCut,
-                Sentence::of(", at byte #", file.len() as u64),
-            ),
+            MapFault::RecordCut,
+            Sentence::of(", at byte #", file.len() as u64),
         ),
     };
-    Ok(Said {
-        file: VerdictFile::Maps,
-        place,
-        wrong,
-    })
+    Ok(format!(in alloc; "{place}: {fault}{more}")?)
 }
 
 /// The fault of a body that has one.

@@ -1,4 +1,6 @@
+use us_activity::Activities;
 use us_flows::{Channel, Config, Flow};
+use us_output::Row;
 use us_requests::Trace;
 
 /// What is judged, and by what.
@@ -6,8 +8,10 @@ use us_requests::Trace;
 pub(crate) struct Run<'a> {
     pub(crate) config: &'a Config,
     pub(crate) trace: &'a Trace,
+    pub(crate) activities: &'a Activities,
     pub(crate) maps: &'a [u8],
-    pub(crate) report: &'a [u8],
+    /// The lines of the report, in their order.
+    pub(crate) rows: &'a [Row],
 }
 
 /// A channel, its place in the table, and the minislots of its MAPs.
@@ -45,7 +49,7 @@ impl<'a> Run<'a> {
 
     /// The channel at this place of the table.
     pub(crate) fn channel_at(&self, place: u64) -> Option<PlacedChannel> {
-        let channel = self.config.channels().get(usize::try_from(place).ok()?)?;
+        let channel = self.config.channels().get(place as usize)?;
         self.channel(u64::from(channel.id))
     }
 

@@ -1,28 +1,56 @@
 use crate::broken::BrokenRule;
-use crate::fields::Field;
 use crate::findings::VerdictFile;
 use crate::lines::Lines;
-use crate::spans::Span;
-use std::fmt;
-use us_codec::MapFault;
 use us_findings::Sentence;
 
-/// What is said of a broken rule: the file, the place, and what is wrong there.
+/// What is said of a broken rule: the file, the place, and what is wrong there, in sentences that follow one another.
 #[derive(Clone, Copy)]
 pub(crate) struct Said {
     pub(crate) file: VerdictFile,
     pub(crate) place: Sentence,
-    pub(crate) wrong: Wrong,
+    pub(crate) wrong: [Sentence; 6],
 }
 
+/// Nothing is said.
+pub(crate) const NOTHING: Sentence = Sentence("", [0; 4]);
+
 impl Said {
-    /// What is said of lines, at the first of them.
-    pub(crate) fn of_lines(lines: &Lines, place: Sentence, wrong: Wrong) -> Said {
+    /// What is said of a record.
+    pub(crate) fn of_record(place: Sentence, wrong: Sentence) -> Said {
+        Said {
+            file: VerdictFile::Maps,
+            place,
+            wrong: [wrong, NOTHING, NOTHING, NOTHING, NOTHING, NOTHING],
+        }
+    }
+
+    /// What is said at the first of these lines.
+    pub(crate) fn at(lines: &Lines, place: Sentence, wrong: Sentence) -> Said {
+        Said {
+            file: lines.file(),
+            ..Said::of_record(place, wrong)
+        }
+    }
+
+    /// What is said of lines before and behind them, at the first of them.
+    pub(crate) fn of_lines(
+        lines: &Lines,
+        place: Sentence,
+        before: Sentence,
+        behind: Sentence,
+    ) -> Said {
+        let [named, more] = lines.words();
         Said {
             file: lines.file(),
             place,
-            wrong,
+            wrong: [before, named, more, behind, NOTHING, NOTHING],
         }
+    }
+
+    /// There are these lines, in place of so many.
+    pub(crate) fn count(wanted: u64, lines: &Lines, place: Sentence) -> Said {
+        let before = Sentence::of("lines wanted: #; there is ", wanted);
+        Said::of_lines(lines, place, before, NOTHING)
     }
 }
 
@@ -34,51 +62,31 @@ pub(crate) fn place_of(broken: BrokenRule) -> Sentence {
     )
 }
 
-/// What is wrong.
-#[derive(Clone, Copy)]
-pub(crate) enum Wrong {
-    /// A record has a fault, and more is said of it.
-    Record(MapFault, Sentence),
-    /// The file has so many rounds, and the run has others.
-    Rounds(Sentence),
-    /// A number.
-    Number(Field),
-    /// Lines, between what is said of them.
-    Lines(Sentence, Lines, Sentence),
-    /// A minislot: which it is, the lines that grant it, and what else has it.
-    Minislot(Sentence, Lines, [Span; 3]),
+/// That a number isn't the one that is wanted, in words with both.
+pub(crate) fn exact(words: &'static str, wanted: u64, there: u64) -> Option<Sentence> {
+    if wanted == there {
+        return None;
+    }
+    Some(Sentence(words, [wanted, there, 0, 0]))
 }
 
-impl Wrong {
-    /// There are these lines, in place of so many.
-    pub(crate) fn count(wanted: u64, lines: Lines) -> Wrong {
-        Wrong::Lines(
-            Sentence::of("lines wanted: #; there is ", wanted),
-            lines,
-            Sentence::plain(""),
-        )
+/// That a number isn't in the range that is wanted, in words with both ends and the number.
+pub(crate) fn within(words: [&'static str; 2], ends: [u64; 2], there: u64) -> Option<Sentence> {
+    if ends[0] <= there && there <= ends[1] {
+        return None;
     }
-
-    /// So many bytes are credited by lines, and there is but so much, behind these words.
-    pub(crate) fn over(bytes: u64, lines: Lines, words: &'static str, most: u64) -> Wrong {
-        Wrong::Lines(
-            Sentence::of("# bytes are credited by ", bytes),
-            lines,
-            Sentence::of(words, most),
-        )
-    }
+    Some(between(words, ends, there))
 }
 
-impl fmt::Display for Wrong {
-    fn fmt<W: fmt::Write>(&self, f: &mut fmt::Formatter<W>) -> fmt::Result {
-        match self {
-            Wrong::Record(fault, more) => write!(f, "{fault}{more}"),
-            Wrong::Rounds(sentence) => write!(f, "{sentence}"),
-            Wrong::Number(field) => write!(f, "{field}"),
-            Wrong::Lines(before, lines, behind) => write!(f, "{before}{lines}{behind}"),
-            Wrong::Minislot(which, lines, [first, second, third]) => {
-                write!(f, "{which}{lines}{first}{second}{third}")
-            }
-        }
+/// The same, whatever the number is. The first words are for a range of one number.
+pub(crate) fn between(
+    [one, several]: [&'static str; 2],
+    [least, most]: [u64; 2],
+    there: u64,
+) -> Sentence {
+    if least == most {
+        Sentence(one, [least, there, 0, 0])
+    } else {
+        Sentence(several, [least, most, there, 0])
     }
 }

@@ -7,13 +7,14 @@ use crate::credits::{outstanding_said, rate_said};
 use crate::findings::{VerdictFile, VerdictFinding};
 use crate::headings::heading_said;
 use crate::last_lines::last_said;
-use crate::lines::line_at;
+use crate::lines::{line_at, rows_of};
 use crate::minislots::minislot_said;
 use crate::occurrences::occurrence_said;
-use crate::records::record_said;
+use crate::records::record_text;
 use crate::runs::Run;
 use crate::said::Said;
-use std::alloc::Global;
+use std::alloc::{AllocError, Global};
+use us_activity::Activities;
 use us_findings::Shown;
 use us_flows::Config;
 use us_requests::Trace;
@@ -30,31 +31,62 @@ pub fn verdict_finding(
 ) -> Result<VerdictFinding, NoMemory>
     ensures { IfOk result (λ finding. finding.code.now ≡ code_of broken.rule) }
 {
+    let rows = rows_of(alloc, report)?;
+    let activities = Activities::of(alloc, config, trace)?;
     let run = Run {
         config,
         trace,
+        activities: &activities,
         maps,
-        report,
+        rows: &rows,
     };
-    let said = said_of(alloc, &run, broken)?;
+    finding_of(alloc, &run, broken)
+}
+
+/// The same, of a run.
+fn finding_of(alloc: Global, run: &Run<'_>, broken: BrokenRule) -> Result<VerdictFinding, NoMemory>
+    ensures { IfOk result (λ finding. finding.code.now ≡ code_of broken.rule) }
+{
+    let (file, text) = match broken.rule {
+        Rule::Records => (
+            VerdictFile::Maps,
+            record_text(alloc, run.maps, broken.place)?,
+        ),
+        _ => text_of(alloc, &said_of(alloc, run, broken)?)?,
+    };
     Ok(VerdictFinding {
-        file: said.file,
+        file,
         code: broken.rule.code(),
-        text: format!(in alloc; "{}: {}", said.place, said.wrong)?,
+        text,
     })
 }
 
-/// What is said of a rule.
+/// The file that something is said of, and the text.
+fn text_of(alloc: Global, said: &Said) -> Result<(VerdictFile, String), AllocError> {
+    let (place, [a, b, c, d, e, f]) = (said.place, said.wrong);
+    let text = format!(in alloc; "{place}: {a}{b}{c}{d}{e}{f}")?;
+    Ok((said.file, text))
+}
+
+/// What is said of a rule but that of records.
 fn said_of(alloc: Global, run: &Run<'_>, broken: BrokenRule) -> Result<Said, NoMemory> {
     match broken.rule {
-        Rule::Records => record_said(alloc, run.maps, broken.place),
         Rule::Headings => heading_said(alloc, run, broken.place),
         Rule::Minislots => minislot_said(alloc, run, broken),
         Rule::Occurrences => occurrence_said(alloc, run, broken),
-        Rule::Rates => rate_said(alloc, run, broken),
-        Rule::Credits if broken.channel != 0 => credit_line_said(alloc, run, broken),
-        Rule::Credits if broken.round < run.rounds() => outstanding_said(alloc, run, broken),
-        Rule::Credits => last_said(alloc, run, broken.place),
+        Rule::Rates => Ok(rate_said(run, broken)),
+        Rule::Credits | Rule::Records => Ok(credits_said(run, broken)),
+    }
+}
+
+/// What is said of credits: of lines of requests, of their sums, or of last lines.
+fn credits_said(run: &Run<'_>, broken: BrokenRule) -> Said {
+    if broken.channel != 0 {
+        credit_line_said(run, broken)
+    } else if broken.round < run.rounds() {
+        outstanding_said(run, broken)
+    } else {
+        last_said(run, broken.place)
     }
 }
 

@@ -1,9 +1,11 @@
 //! What looks wrong in a configuration and a trace that are accepted: each finding with its line.
 //!
 //! ```
-//! let findings = config_warnings(alloc, config_text, &config, rounds)?;
+//! let mut warnings = Warnings::new(alloc);
+//! warnings.add_tables(config_text, &config, rounds)?;
 //! let mut seen = SeenRows::new(alloc, &config, rounds); // `lint_trace` shows it the requests of a trace
-//! let TraceWarnings { findings, rounds_for_all } = seen.warnings(alloc, config_text)?;
+//! seen.warn(&mut warnings);
+//! let findings = warnings.located(config_text)?;
 //! ```
 //!
 //! What these words mean stands in `specs/`, in the order of its `Lib.antt`.
@@ -16,7 +18,7 @@ mod names;
 mod parts;
 
 // Warnings whose lines aren't looked up yet.
-mod drafts;
+mod warnings;
 
 // Lines of warnings.
 mod located;
@@ -42,10 +44,7 @@ mod tables;
 // Rows that are alike.
 mod alike;
 
-// The SIDs that rows name and no flow has,
-mod unknown_sids;
-
-// and all that rows name.
+// The SIDs that rows name.
 mod named_sids;
 
 // Whose a SID is.
@@ -67,5 +66,5 @@ mod tick_warnings;
 mod traces;
 
 pub use empty_maps::EmptyMaps;
-pub use tables::config_warnings;
-pub use traces::{SeenRows, TraceWarnings};
+pub use traces::SeenRows;
+pub use warnings::Warnings;

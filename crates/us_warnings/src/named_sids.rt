@@ -1,34 +1,36 @@
 use crate::alike::{Alike, SidRows};
-use crate::unknown_sids::UnknownSids;
-use indexmap::IndexMap;
+use crate::warnings::{Subject, Tally};
 use std::alloc::{AllocError, Global};
 use us_flows::{Config, Flow, Found};
 use us_requests::{Kind, Request};
-use us_slots::NoMemory;
 
-/// A SID of a flow, on a channel, that rows name.
-#[derive(Clone, Copy)]
-pub(crate) struct NamedSid {
-    /// What it asks for.
-    found: Found,
-    /// Its rows of kinds that its flow doesn't take.
-    unused: Alike,
-}
+/// Channels, and SIDs of each.
+const CHANNELS: usize = 256;
+
+const SIDS: usize = 16_384;
+
+/// How a SID is named: by rows that its flow takes, or by others too.
+const TAKEN: u8 = 1;
+
+const REFUSED: u8 = 2;
 
 /// The SIDs that rows of a trace name, each on its channel.
 #[derive(Drop)]
 pub(crate) struct NamedSids {
-    /// Those of flows, in the order of their first rows.
-    known: IndexMap<(u8, u16), NamedSid>,
-    /// Those that no flow has.
-    pub(crate) unknown: UnknownSids,
+    /// How each SID of each channel is named, 0 where it isn't; empty before the first row.
+    named: Vec<u8>,
+    /// Those that no flow has,
+    pub(crate) unknown: Refused,
+    /// and those with rows of kinds that their flow doesn't take.
+    pub(crate) unused: Refused,
 }
 
 impl NamedSids {
     pub(crate) fn new(alloc: Global) -> NamedSids {
         NamedSids {
-            known: IndexMap::new(alloc),
-            unknown: UnknownSids::new(alloc),
+            named: Vec::new(alloc),
+            unknown: Refused::new(alloc),
+            unused: Refused::new(alloc),
         }
     }
 
@@ -38,22 +40,32 @@ impl NamedSids {
         config: &Config,
         request: &Request,
         line: usize,
-    ) -> Result<bool, NoMemory> {
+    ) -> Result<bool, AllocError> {
         let (channel, sid) = (request.channel, request.sid);
-        if let Some(named) = self.known.get_mut(&(channel, sid)) {
-            return Ok(named.add(request.kind, line));
+        let found = config.lookup(channel, sid);
+        let asks = asks_for(found, request.kind);
+        let is_new = self.note(place_of(channel, sid), asks)?;
+        if asks {
+            return Ok(true);
         }
-        let Some(found) = config.lookup(channel, sid) else {
-            self.unknown.add(channel, sid, line)?;
+        match found {
+            Some(_) => self.unused.add(channel, sid, line, is_new)?,
+            None => self.unknown.add(channel, sid, line, is_new)?,
+        }
+        Ok(false)
+    }
+
+    /// Notes how the SID at a place is named once more. Answers whether no row before was one that isn't taken.
+    fn note(&mut self, place: usize, asks: bool) -> Result<bool, AllocError> {
+        if self.named.is_empty() {
+            self.named.resize(CHANNELS * SIDS, 0)?;
+        }
+        let Some(named) = self.named.get_mut(place) else {
             return Ok(false);
         };
-        let mut named = NamedSid {
-            found,
-            unused: Alike::new(),
-        };
-        let asks = named.add(request.kind, line);
-        self.known.insert((channel, sid), named)?;
-        Ok(asks)
+        let is_new = *named < REFUSED;
+        *named = (*named).max(if asks { TAKEN } else { REFUSED });
+        Ok(is_new)
     }
 
     /// Whether a row names a SID of this flow.
@@ -68,53 +80,64 @@ impl NamedSids {
 
     /// Whether a row names one of the SIDs of a cluster, each of which is on its channel.
     fn have_one(&self, channels: &[u8], sids: &[u16]) -> bool {
-        for (place, sid) in sids.iter().enumerate() {
-            if let Some(channel) = channels.get(place) {
-                if self.known.contains_key(&(*channel, *sid)) {
+        for (place, channel) in channels.iter().enumerate() {
+            if let Some(sid) = sids.get(place) {
+                if self
+                    .named
+                    .get(place_of(*channel, *sid))
+                    .copied()
+                    .unwrap_or(0)
+                    > 0
+                {
                     return true;
                 }
             }
         }
         false
     }
+}
 
-    /// The SIDs with rows that their flows don't take: the line of the first such row and the place of the SID, by line.
-    pub(crate) fn unused(&self, alloc: Global) -> Result<Vec<(usize, usize)>, AllocError> {
-        let mut unused = Vec::new(alloc);
-        for place in 0..self.known.len() {
-            if let Some(sid_rows) = self.unused_at(place) {
-                unused.push((sid_rows.rows.line, place))?;
-            }
-        }
-        unused.sort_unstable();
-        Ok(unused)
-    }
+/// Where a SID of a channel stands among all.
+fn place_of(channel: u8, sid: u16) -> usize {
+    usize::from(channel) * SIDS + usize::from(sid)
+}
 
-    /// The rows of the SID at a place that its flow doesn't take, if there are any.
-    pub(crate) fn unused_at(&self, place: usize) -> Option<SidRows> {
-        let ((channel, sid), named) = self.known.get_index(place)?;
-        if named.unused.rows == 0 {
-            return None;
-        }
-        Some(SidRows {
-            channel: *channel,
-            sid: *sid,
-            rows: named.unused,
-        })
+/// Whether a row of this kind asks for something of what a SID stands for.
+fn asks_for(found: Option<Found>, kind: Kind) -> bool {
+    match (found, kind) {
+        (Some(Found::Cluster(_)), Kind::Request) => true,
+        (Some(Found::Activity(_)), Kind::Silent | Kind::Active) => true,
+        _ => false,
     }
 }
 
-impl NamedSid {
-    /// One more row of this kind. Answers whether it asks for something.
-    fn add(&mut self, kind: Kind, line: usize) -> bool {
-        let asks = match (self.found, kind) {
-            (Found::Cluster(_), Kind::Request) => true,
-            (Found::Activity(_), Kind::Silent | Kind::Active) => true,
-            _ => false,
-        };
-        if !asks {
-            self.unused.add(line);
+/// SIDs with rows that aren't taken. Those that aren't told one by one are counted, since a trace may have a million.
+#[derive(Drop)]
+pub(crate) struct Refused {
+    pub(crate) tally: Tally,
+    /// Those that are told one by one, in the order of their first such rows.
+    pub(crate) told: Vec<SidRows>,
+}
+
+impl Refused {
+    fn new(alloc: Global) -> Refused {
+        Refused {
+            tally: Tally::new(),
+            told: Vec::new(alloc),
         }
-        asks
+    }
+
+    /// One more row, on this line, of a SID that is new here or not.
+    fn add(&mut self, channel: u8, sid: u16, line: usize, is_new: bool) -> Result<(), AllocError> {
+        if is_new && self.tally.add(Subject::Row(line)) {
+            let rows = Alike::new();
+            self.told.push(SidRows { channel, sid, rows })?;
+        }
+        for told in self.told.iter_mut() {
+            if told.channel == channel && told.sid == sid {
+                told.rows.add(line);
+            }
+        }
+        Ok(())
     }
 }

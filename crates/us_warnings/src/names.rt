@@ -1,4 +1,4 @@
-use us_config_lines::KeyPath;
+use us_findings::KeyPath;
 use us_flows::{Config, Place, TableName};
 
 /// A table as a warning calls it: its place, and its id.

@@ -1,5 +1,5 @@
 use crate::names::TableId;
-use std::alloc::AllocError;
+use std::alloc::{AllocError, Global};
 use std::fmt;
 
 /// What stands among the words of a warning.
@@ -26,13 +26,15 @@ impl fmt::Display for Part {
     }
 }
 
-/// Puts words behind others, with a part in the place of each `#`.
-pub(crate) fn put(text: &mut String, words: &str, parts: &[Part]) -> Result<(), AllocError> {
+/// Words with a part in the place of each `#`.
+pub(crate) fn text_of(alloc: Global, words: &str, parts: &[Part]) -> Result<String, AllocError> {
+    let mut text = String::new(alloc);
     let mut rest = words;
     for part in parts {
         let (before, behind) = rest.split_once('#').unwrap_or((rest, ""));
         write!(text, "{before}{part}")?;
         rest = behind;
     }
-    text.push_str(rest)
+    text.push_str(rest)?;
+    Ok(text)
 }

@@ -1,31 +1,25 @@
 use crate::alike::SidRows;
-use crate::drafts::{Drafts, Subject, Tally};
-use crate::named_sids::NamedSids;
+use crate::named_sids::{NamedSids, Refused};
 use crate::names::TableId;
 use crate::parts::Part;
 use crate::sid_owners::owner_of;
-use crate::unknown_sids::UnknownSids;
-use std::alloc::{AllocError, Global};
+use crate::warnings::{Subject, Tally, Warnings};
 use us_flows::{Config, SchedulingType, TableName};
 
 /// SIDs that no flow has.
-pub(crate) fn push_unknown(
-    drafts: &mut Drafts,
-    config: &Config,
-    unknown: &UnknownSids,
-) -> Result<(), AllocError> {
+pub(crate) fn push_unknown(warnings: &mut Warnings, config: &Config, unknown: &Refused) {
     for told in &unknown.told {
-        add_unknown(drafts, config, told)?;
+        add_unknown(warnings, config, told);
     }
-    drafts.add_others(
+    warnings.add_others(
         &unknown.tally,
         "more SID that no flow has",
         "more SIDs that no flow has, the first here",
-    )
+    );
 }
 
 /// That no flow has a SID on a channel.
-fn add_unknown(drafts: &mut Drafts, config: &Config, unknown: &SidRows) -> Result<(), AllocError> {
+fn add_unknown(warnings: &mut Warnings, config: &Config, unknown: &SidRows) {
     let subject = Subject::Row(unknown.rows.line);
     let (channel, sid) = (
         Part::Number(u64::from(unknown.channel)),
@@ -34,18 +28,20 @@ fn add_unknown(drafts: &mut Drafts, config: &Config, unknown: &SidRows) -> Resul
     let rows = unknown.rows.counted();
     if !has_channel(config, unknown.channel) {
         let words = "channel: no channel has id #, which stands with SID #: #";
-        return drafts.add(subject, words, &[channel, sid, rows]);
+        warnings.add(subject, words, &[channel, sid, rows]);
+        return;
     }
     let Some(owner) = owner_of(config, unknown.sid, None) else {
         let words = "sid: no flow has SID # on channel #: #";
-        return drafts.add(subject, words, &[sid, channel, rows]);
+        warnings.add(subject, words, &[sid, channel, rows]);
+        return;
     };
     let (flow, its_channel) = (
         Part::Table(owner.flow),
         Part::Number(u64::from(owner.channel)),
     );
     let words = "sid: no flow has SID # on channel #, # has it on channel #: #";
-    drafts.add(subject, words, &[sid, channel, flow, its_channel, rows])
+    warnings.add(subject, words, &[sid, channel, flow, its_channel, rows]);
 }
 
 /// Whether a channel has this id.
@@ -59,34 +55,24 @@ fn has_channel(config: &Config, id: u8) -> bool {
 }
 
 /// SIDs of flows that don't take rows of some kind.
-pub(crate) fn push_unused(
-    alloc: Global,
-    drafts: &mut Drafts,
-    config: &Config,
-    named: &NamedSids,
-) -> Result<(), AllocError> {
-    let mut tally = Tally::new();
-    for (line, place) in &named.unused(alloc)? {
-        if tally.add(Subject::Row(*line)) {
-            if let Some(rows) = named.unused_at(*place) {
-                add_unused(drafts, config, &rows)?;
-            }
-        }
+pub(crate) fn push_unused(warnings: &mut Warnings, config: &Config, unused: &Refused) {
+    for told in &unused.told {
+        add_unused(warnings, config, told);
     }
-    drafts.add_others(
-        &tally,
+    warnings.add_others(
+        &unused.tally,
         "more SID with rows of a kind that its flow doesn't take",
         "more SIDs with rows of kinds that their flows don't take, the first here",
-    )
+    );
 }
 
 /// That the flow with a SID on a channel doesn't take these rows.
-fn add_unused(drafts: &mut Drafts, config: &Config, unused: &SidRows) -> Result<(), AllocError> {
+fn add_unused(warnings: &mut Warnings, config: &Config, unused: &SidRows) {
     let Some(owner) = owner_of(config, unused.sid, Some(unused.channel)) else {
-        return Ok(());
+        return;
     };
     let (kind, taken) = taken_by(owner.kind);
-    drafts.add(
+    warnings.add(
         Subject::Row(unused.rows.line),
         "sid: SID # on channel # is of #, which is of type # and takes #: #",
         &[
@@ -97,7 +83,7 @@ fn add_unused(drafts: &mut Drafts, config: &Config, unused: &SidRows) -> Result<
             Part::Text(taken),
             unused.rows.counted(),
         ],
-    )
+    );
 }
 
 /// The number of a scheduling type in the configuration, and which rows a flow of it takes.
@@ -113,34 +99,30 @@ fn taken_by(kind: SchedulingType) -> (u64, &'static str) {
 }
 
 /// Flows that make requests, and that no row names.
-pub(crate) fn push_silent_flows(
-    drafts: &mut Drafts,
-    config: &Config,
-    named: &NamedSids,
-) -> Result<(), AllocError> {
+pub(crate) fn push_silent_flows(warnings: &mut Warnings, config: &Config, named: &NamedSids) {
     let mut tally = Tally::new();
     for (index, flow) in config.flows().iter().enumerate() {
         if flow.kind().makes_requests() && !named.have(flow) {
             add_silent(
-                drafts,
+                warnings,
                 &mut tally,
                 TableId::new(TableName::Flow, index, flow.id()),
-            )?;
+            );
         }
     }
-    drafts.add_others(
+    warnings.add_others(
         &tally,
         "more flow that no row of the trace names",
         "more flows that no row of the trace names, the first here",
-    )
+    );
 }
 
 /// That no row names a flow.
-fn add_silent(drafts: &mut Drafts, tally: &mut Tally, flow: TableId) -> Result<(), AllocError> {
+fn add_silent(warnings: &mut Warnings, tally: &mut Tally, flow: TableId) {
     let subject = Subject::Key(flow.path(Some("id")));
     if !tally.add(subject) {
-        return Ok(());
+        return;
     }
     let words = "#: no row of the trace names one of its SIDs, so it asks for nothing";
-    drafts.add(subject, words, &[Part::Table(flow)])
+    warnings.add(subject, words, &[Part::Table(flow)]);
 }

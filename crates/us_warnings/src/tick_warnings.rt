@@ -1,20 +1,19 @@
 use crate::backward_rows::{BackwardRows, FAR_LEADS};
-use crate::drafts::{Drafts, Subject};
 use crate::late_rows::LateRows;
 use crate::parts::Part;
-use std::alloc::AllocError;
+use crate::warnings::{Subject, Warnings};
 use us_flows::Config;
 
 /// Rows that are late in a run of so many rounds.
 pub(crate) fn push_late(
-    drafts: &mut Drafts,
+    warnings: &mut Warnings,
     config: &Config,
     rounds: u32,
     late_rows: &LateRows,
-) -> Result<(), AllocError> {
+) {
     let late = late_rows.late;
     if late.rows == 0 {
-        return Ok(());
+        return;
     }
     let (words, number) = match late_rows.rounds_that_fit(config) {
         Some(wanted) => (
@@ -27,40 +26,33 @@ pub(crate) fn push_late(
         ),
     };
     let (last, number) = (u64::from(rounds.saturating_sub(1)), u64::from(number));
-    drafts.add(
+    warnings.add(
         Subject::Row(late.line),
         words,
         &[Part::Number(last), Part::Number(number), late.counted()],
-    )
+    );
 }
 
 /// Ticks that look like microseconds.
-pub(crate) fn push_microseconds(
-    drafts: &mut Drafts,
-    config: &Config,
-    late_rows: &LateRows,
-) -> Result<(), AllocError> {
+pub(crate) fn push_microseconds(warnings: &mut Warnings, config: &Config, late_rows: &LateRows) {
     let late = late_rows.late;
     if !late_rows.look_like_microseconds(config) {
-        return Ok(());
+        return;
     }
-    drafts.add(
+    warnings.add(
         Subject::Row(late.line),
         "tick: if these ticks are microseconds, 4/25 of each is wanted, since a tick is 6.25 microseconds; \
         no row would be late then: #",
         &[late.counted()],
-    )
+    );
 }
 
 /// Rows that go back far behind a row before them.
-pub(crate) fn push_backward(
-    drafts: &mut Drafts,
-    backward: &BackwardRows,
-) -> Result<(), AllocError> {
+pub(crate) fn push_backward(warnings: &mut Warnings, backward: &BackwardRows) {
     let Some((row, before)) = backward.first else {
-        return Ok(());
+        return;
     };
-    drafts.add(
+    warnings.add(
         Subject::Row(row.line),
         "tick: # goes back by more than # leads from # in line #; rows may stand in any order, but is this another \
         trace put behind the first? #",
@@ -71,5 +63,5 @@ pub(crate) fn push_backward(
             Part::Number(before.line as u64),
             backward.back.counted(),
         ],
-    )
+    );
 }

@@ -1,25 +1,17 @@
+ghost use Rattle.std.specs.Prelude.{◌≡◌, true, IfSome};
+ghost use Rattle.us_flows.specs.Tables.{rounds_fit};
+
 use crate::backward_rows::BackwardRows;
-use crate::drafts::Drafts;
 use crate::late_rows::LateRows;
-use crate::located::located;
 use crate::named_sids::NamedSids;
 use crate::sid_warnings::{push_silent_flows, push_unknown, push_unused};
 use crate::tick_warnings::{push_backward, push_late, push_microseconds};
-use std::alloc::{AllocError, Global};
-use us_findings::Finding;
+use crate::warnings::Warnings;
+use std::alloc::Global;
+use us_findings::SeesRequests;
 use us_flows::Config;
 use us_requests::Request;
 use us_slots::NoMemory;
-use us_trace_findings::SeesRequests;
-
-/// What looks wrong in a trace and beside it in its configuration.
-#[derive(Drop)]
-pub struct TraceWarnings {
-    /// What looks wrong: first in the configuration, then in the trace, each by line.
-    pub findings: Vec<Finding>,
-    /// How many rounds take in all rows that ask for something. None where no row does, or no run has so many.
-    pub rounds_for_all: Option<u32>,
-}
 
 /// What was seen in the rows of a trace, beside its configuration and for a run of so many rounds.
 #[derive(Drop)]
@@ -43,26 +35,22 @@ impl<'a> SeenRows<'a> {
         }
     }
 
-    /// What looks wrong in them. `config_text` is what the configuration was read from, since it is there that a flow stands
-    /// which no row names. The error is want of memory.
-    pub fn warnings(&self, alloc: Global, config_text: &[u8]) -> Result<TraceWarnings, NoMemory> {
-        let mut drafts = Drafts::new(alloc);
-        self.push_all(alloc, &mut drafts)?;
-        Ok(TraceWarnings {
-            findings: located(drafts, config_text)?,
-            rounds_for_all: self.late.rounds_that_fit(self.config),
-        })
+    /// Adds what looks wrong in them, and in the configuration beside them.
+    pub fn warn(&self, warnings: &mut Warnings) {
+        let config = self.config;
+        push_unknown(warnings, config, &self.named.unknown);
+        push_unused(warnings, config, &self.named.unused);
+        push_silent_flows(warnings, config, &self.named);
+        push_late(warnings, config, self.rounds, &self.late);
+        push_microseconds(warnings, config, &self.late);
+        push_backward(warnings, &self.backward);
     }
 
-    /// Adds what looks wrong in them.
-    fn push_all(&self, alloc: Global, drafts: &mut Drafts) -> Result<(), AllocError> {
-        let config = self.config;
-        push_unknown(drafts, config, &self.named.unknown)?;
-        push_unused(alloc, drafts, config, &self.named)?;
-        push_silent_flows(drafts, config, &self.named)?;
-        push_late(drafts, config, self.rounds, &self.late)?;
-        push_microseconds(drafts, config, &self.late)?;
-        push_backward(drafts, &self.backward)
+    /// How many rounds take in all rows that ask for something. None where no row does, or no run has so many.
+    pub fn rounds_for_all(&self) -> Option<u32>
+        ensures { IfSome result (λ rounds. rounds_fit self.now.config.now rounds ≡ true) }
+    {
+        self.late.rounds_that_fit(self.config)
     }
 }
 

@@ -1,14 +1,14 @@
 ghost use Rattle.us_flows.specs.Lawful.{IsChannel};
 
-use crate::drafts::{Drafts, Subject, Tally};
 use crate::empty_maps::EmptyMaps;
 use crate::hopeless_windows::{ClosedWindows, HopelessWindows, Lack, MAX_WINDOWS, closed_windows};
 use crate::names::TableId;
 use crate::parts::Part;
 use crate::runs::Run;
+use crate::warnings::{Subject, Tally, Warnings};
 use std::alloc::{AllocError, Global};
 use us_calendar::{Entry, Kind};
-use us_config_lines::{KeyPath, Spot, spots_of};
+use us_findings::{KeyPath, Spot, spots_of};
 use us_flows::{Channel, Config};
 use us_slots::NoMemory;
 
@@ -60,18 +60,17 @@ fn table_of(config: &Config, entry: &Entry) -> TableId {
 
 /// Warns of entries that have windows which no schedule could grant. `config_text` is what the tables were read from.
 pub(crate) fn push_windows(
-    alloc: Global,
     config_text: &[u8],
-    drafts: &mut Drafts,
+    warnings: &mut Warnings,
     hopeless: &[HopelessEntry],
     run: &Run,
 ) -> Result<(), NoMemory> {
     if hopeless.is_empty() {
         return Ok(());
     }
-    let order = order_of(alloc, config_text, hopeless)?;
-    push_lacking(drafts, hopeless, &order, Lack::Minislot, run)?;
-    push_lacking(drafts, hopeless, &order, Lack::Room, run)?;
+    let order = order_of(warnings.alloc, config_text, hopeless)?;
+    push_lacking(warnings, hopeless, &order, Lack::Minislot, run);
+    push_lacking(warnings, hopeless, &order, Lack::Room, run);
     Ok(())
 }
 
@@ -81,21 +80,12 @@ fn order_of(
     config_text: &[u8],
     hopeless: &[HopelessEntry],
 ) -> Result<Vec<(usize, usize)>, NoMemory> {
-    let paths = paths_of(alloc, hopeless)?;
-    let spots = spots_of(alloc, str::from_utf8(config_text).unwrap_or(""), &paths)?;
-    Ok(sorted(alloc, &spots)?)
-}
-
-/// The keys of these entries that are to be mended.
-fn paths_of(
-    alloc: Global,
-    hopeless: &[HopelessEntry],
-) -> Result<Vec<KeyPath<'static>>, AllocError> {
     let mut paths = Vec::new(alloc);
     for entry in hopeless {
         paths.push(entry.path())?;
     }
-    Ok(paths)
+    let spots = spots_of(alloc, str::from_utf8(config_text).unwrap_or(""), &paths)?;
+    Ok(sorted(alloc, &spots)?)
 }
 
 /// Where these spots are and the place of each among them, sorted.
@@ -110,36 +100,41 @@ fn sorted(alloc: Global, spots: &[Spot]) -> Result<Vec<(usize, usize)>, AllocErr
 
 /// Warns of windows that no schedule could grant for this reason.
 fn push_lacking(
-    drafts: &mut Drafts,
+    warnings: &mut Warnings,
     hopeless: &[HopelessEntry],
     order: &[(usize, usize)],
     lack: Lack,
     run: &Run,
-) -> Result<(), AllocError> {
+) {
     let mut tally = Tally::new();
     for (_, place) in order {
         if let Some(entry) = hopeless.get(*place) {
             let windows = entry.windows.hopeless(lack);
             if windows.count > 0 && tally.add(Subject::Key(entry.path())) {
-                entry.push(drafts, lack, windows, run)?;
+                entry.push(warnings, lack, windows, run);
             }
         }
     }
-    let (one, many) = others_of(lack);
-    drafts.add_others(&tally, one, many)
+    let [_, one, many] = words_of(lack);
+    warnings.add_others(&tally, one, many);
 }
 
-/// What one more entry with such windows is called, and several.
-fn others_of(lack: Lack) -> (&'static str, &'static str) {
+/// What is said of an entry with such windows, and what one more such entry is called, and several.
+fn words_of(lack: Lack) -> [&'static str; 3] {
     match lack {
-        Lack::Minislot => (
+        Lack::Minislot => [
+            "#, jitter_us:## no minislot begins in # of ## closed by round #; the first of them, of interval #, counted \
+            from 0, closes in round #; another start_us or a greater jitter_us is wanted",
             "more entry with windows in which no minislot begins",
             "more entries with windows in which no minislot begins, the first here",
-        ),
-        Lack::Room => (
+        ],
+        Lack::Room => [
+            "#, jitter_us: whatever the schedule, there is no room for its grants of ## beside the reserves in # of ## \
+            closed by round #; the first of them, of interval #, counted from 0, closes in round #; another start_us, \
+            a greater jitter_us or smaller reserves are wanted",
             "more entry with windows that have no room for a grant",
             "more entries with windows that have no room for a grant, the first here",
-        ),
+        ],
     }
 }
 
@@ -150,54 +145,36 @@ impl HopelessEntry {
     }
 
     /// That no schedule could grant some of its windows, for this reason.
-    fn push(
-        &self,
-        drafts: &mut Drafts,
-        lack: Lack,
-        windows: HopelessWindows,
-        run: &Run,
-    ) -> Result<(), AllocError> {
-        let (subject, table) = (Subject::Key(self.path()), Part::Table(self.table));
-        let [count, first, closed, last, interval, round] = self.which(windows, run);
-        match lack {
-            Lack::Minislot => drafts.add(
-                subject,
-                "#, jitter_us: no minislot begins in # of ## closed by round #; the first of them, of interval #, counted \
-                from 0, closes in round #; another start_us or a greater jitter_us is wanted",
-                &[table, count, first, closed, last, interval, round],
-            ),
-            Lack::Room => drafts.add(
-                subject,
-                "#, jitter_us: whatever the schedule, there is no room for its grants of ## beside the reserves in # of ## \
-                closed by round #; the first of them, of interval #, counted from 0, closes in round #; another start_us, \
-                a greater jitter_us or smaller reserves are wanted",
-                &[
-                    table,
-                    Part::Counted(u64::from(self.slots), "minislot", "minislots"),
-                    when(self.may_be_silent, " while it is active"),
-                    count,
-                    first,
-                    closed,
-                    last,
-                    interval,
-                    round,
-                ],
-            ),
-        }
+    fn push(&self, warnings: &mut Warnings, lack: Lack, windows: HopelessWindows, run: &Run) {
+        let closed = self.windows.count;
+        let round = windows.first_end / run.round_quarters();
+        let [grants, activity] = self.grants(lack);
+        warnings.add(
+            Subject::Key(self.path()),
+            words_of(lack)[0],
+            &[
+                Part::Table(self.table),
+                grants,
+                activity,
+                Part::Number(u64::from(windows.count)),
+                when(closed == MAX_WINDOWS, "the first "),
+                Part::Counted(u64::from(closed), "window", "windows"),
+                Part::Number(u64::from(run.last_round())),
+                Part::Number(u64::from(windows.first_interval)),
+                Part::Number(u64::from(round)),
+            ],
+        );
     }
 
-    /// How many windows these are, of which and of how many, the last round, and of the first of them the interval and the
-    /// round in which it closes.
-    fn which(&self, windows: HopelessWindows, run: &Run) -> [Part; 6] {
-        let closed = self.windows.count;
-        [
-            Part::Number(u64::from(windows.count)),
-            when(closed == MAX_WINDOWS, "the first "),
-            Part::Counted(u64::from(closed), "window", "windows"),
-            Part::Number(u64::from(run.last_round())),
-            Part::Number(u64::from(windows.first_interval)),
-            Part::Number(u64::from(windows.first_end / run.round_quarters())),
-        ]
+    /// How long its grants are and when it has them, where that has to do with what lacks.
+    fn grants(&self, lack: Lack) -> [Part; 2] {
+        match lack {
+            Lack::Minislot => [Part::Text(""), Part::Text("")],
+            Lack::Room => [
+                Part::Counted(u64::from(self.slots), "minislot", "minislots"),
+                when(self.may_be_silent, " while it is active"),
+            ],
+        }
     }
 }
 

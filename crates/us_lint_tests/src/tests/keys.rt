@@ -1,7 +1,7 @@
 //! Where the walk finds things, in worked texts.
 
 use std::alloc::Global;
-use us_config_lines::{KeyPath, Spot, line_and_column, spots_of};
+use us_findings::{KeyPath, Spot, line_and_column, spots_of};
 use us_flows::{Place, TableName};
 use us_slots::NoMemory;
 

@@ -1,8 +1,8 @@
 //! The lines of records.
 
 use std::alloc::Global;
+use us_findings::Rows;
 use us_slots::NoMemory;
-use us_trace_findings::Rows;
 
 /// A text, and the lines of its records.
 struct Case {

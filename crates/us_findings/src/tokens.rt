@@ -1,0 +1,71 @@
+ghost use Rattle.std.specs.Prelude.{◌<◌};
+
+use std::alloc::Global;
+use toml_parser::text::{first, skip, skip_blank};
+use toml_parser::{ErrorKind, Key, ParseError, dotted_key, quoted, starts_string};
+
+/// That a text goes on in another way than the walk over it can follow.
+pub(crate) fn lost(text: &str) -> ParseError {
+    ParseError::at(ErrorKind::Content, text)
+}
+
+/// A key at the front of a text, and what stands behind the ASCII character that follows it.
+pub(crate) fn key_before(alloc: Global, text: &str, follows: u8) -> Result<(Key, &str), ParseError>
+    requires some { 0 < follows }
+    requires ascii { follows < 128 }
+{
+    let (key, rest) = dotted_key(alloc, text)?;
+    if first(rest) == follows {
+        Ok((key, skip(rest, 1)))
+    } else {
+        Err(lost(rest))
+    }
+}
+
+/// What stands behind the value at the front of a text. Brackets are counted, so lists and tables in braces are passed
+/// over with all that they have.
+pub(crate) fn behind_value(alloc: Global, text: &str) -> Result<&str, ParseError> {
+    let mut open = 0_usize;
+    let mut rest = text;
+    for _ in 0..text.len() {
+        match first(rest) {
+            b'[' | b'{' => open = open.saturating_add(1),
+            b']' | b'}' => open = open.saturating_sub(1),
+            _ => {}
+        }
+        rest = behind_token(alloc, rest)?;
+        if open == 0 {
+            return Ok(rest);
+        }
+        rest = skip_blank(rest, true);
+    }
+    Err(lost(rest))
+}
+
+/// What stands behind a string, a sign, or other words.
+fn behind_token(alloc: Global, text: &str) -> Result<&str, ParseError> {
+    if starts_string(text) {
+        return Ok(quoted(alloc, text)?.1);
+    }
+    match first(text) {
+        b'[' | b']' | b'{' | b'}' | b',' | b'=' => Ok(skip(text, 1)),
+        _ => Ok(behind_words(text)),
+    }
+}
+
+/// What stands behind bare keys, numbers and other words, up to a sign, a comment or the end of the line. Blanks at their
+/// end are none of them.
+fn behind_words(text: &str) -> &str {
+    let mut len = 0;
+    for (place, byte) in text.as_bytes().iter().enumerate() {
+        match *byte {
+            b' ' | b'\t' => {}
+            b'[' | b']' | b'{' | b'}' | b',' | b'=' | b'#' | b'\r' | b'\n' => break,
+            _ => len = place.saturating_add(1),
+        }
+    }
+    match text.split_at_checked(len) {
+        Some((_, rest)) => rest,
+        None => text,
+    }
+}

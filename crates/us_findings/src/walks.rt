@@ -1,0 +1,258 @@
+ghost use Rattle.std.specs.Prelude.{◌≡◌, length, IfOk, slice_index};
+ghost use Rattle.std.specs.List.{All};
+ghost use Rattle.us_findings.specs.Places.{IsWithin};
+
+use crate::documents::list_at;
+use crate::scopes::Scope;
+use crate::spots::{Found, KeyPath, Spot};
+use crate::tokens::{behind_value, key_before};
+use std::alloc::{AllocError, Global};
+use toml_parser::text::{byte_at, first, skip, skip_blank, skip_ws};
+use toml_parser::{Key, ParseError};
+use us_flows::{Place, TableName};
+use us_slots::NoMemory;
+
+/// Where each of these tables and keys stands in the text of a document, in the same order. Of a text that is no document,
+/// the places are those up to where it goes wrong.
+pub fn spots_of(alloc: Global, text: &str, wanted: &[KeyPath<'_>]) -> Result<Vec<Spot>, NoMemory>
+    ensures count { IfOk result (λ spots. length spots.items ≡ length wanted.now) }
+    ensures within { IfOk result (λ spots. All (IsWithin (length text.now)) spots.items) }
+{
+    let found = found_in(alloc, text, wanted)?;
+    Ok(spots_in(alloc, &found, wanted.len(), text.len())?)
+}
+
+/// So many spots of what was found in a text of so many bytes.
+fn spots_in(
+    alloc: Global,
+    found: &[Found<'_>],
+    count: usize,
+    len: usize,
+) -> Result<Vec<Spot>, AllocError>
+    ensures count { IfOk result (λ spots. length spots.items ≡ count) }
+    ensures within { IfOk result (λ spots. All (IsWithin len) spots.items) }
+{
+    let mut spots = Vec::new(alloc);
+    for place in 0..count {
+        let spot = match found.get(place) {
+            Some(found) => found.spot,
+            None => Spot::of(0),
+        };
+        spots.push(spot.within(len))?;
+    }
+    Ok(spots)
+}
+
+/// What a walk over the text finds of these.
+fn found_in<'w>(
+    alloc: Global,
+    text: &str,
+    wanted: &[KeyPath<'w>],
+) -> Result<Vec<Found<'w>>, NoMemory> {
+    let mut found = Vec::new(alloc);
+    for path in wanted {
+        found.push(Found::nothing(*path))?;
+    }
+    let mut walk = Walk {
+        alloc,
+        text,
+        found,
+        counts: [0; 3],
+        section: Some(Scope::TOP),
+        open: Vec::new(alloc),
+    };
+    match walk.document() {
+        Err(ParseError::OutOfMemory) => Err(NoMemory),
+        Ok(()) | Err(ParseError::At(..)) => Ok(walk.found),
+    }
+}
+
+/// A walk over the text of a document.
+#[derive(Drop)]
+struct Walk<'t, 'w> {
+    alloc: Global,
+    text: &'t str,
+    /// What is looked for, as far as it was met.
+    found: Vec<Found<'w>>,
+    /// How many tables of each list were met.
+    counts: [u32; 3],
+    /// The table below the last header, if something is looked for in it.
+    section: Option<Scope>,
+    /// The brackets that are open, of those that are looked into.
+    open: Vec<Open>,
+}
+
+/// A table in braces, or a list of tables.
+#[derive(Clone, Copy)]
+struct Open {
+    /// The table, or the next one of the list.
+    scope: Scope,
+    is_list: bool,
+}
+
+impl<'t> Walk<'t, '_> {
+    /// From the start of the text to its end.
+    fn document(&mut self) -> Result<(), ParseError> {
+        let mut rest = without_mark(self.text);
+        for _ in 0..self.text.len() {
+            rest = skip_blank(rest, true);
+            if rest.is_empty() {
+                break;
+            }
+            rest = match self.open.last().copied() {
+                None => self.line(rest)?,
+                Some(open) => self.member(open, rest)?,
+            };
+        }
+        Ok(())
+    }
+
+    /// A header, or a key below the last one: what stands behind.
+    fn line(&mut self, start: &'t str) -> Result<&'t str, ParseError> {
+        if first(start) == b'[' {
+            self.header(start)
+        } else {
+            self.pair(self.section, start)
+        }
+    }
+
+    /// A header: what stands behind.
+    fn header(&mut self, start: &'t str) -> Result<&'t str, ParseError>
+        requires { slice_index start.now 0 ≡ 91 }
+    {
+        let is_item = byte_at(start, 1) == b'[';
+        let inside = if is_item {
+            skip(start, 2)
+        } else {
+            skip(start, 1)
+        };
+        let (key, rest) = key_before(self.alloc, skip_ws(inside), b']')?;
+        let spot = Spot::of(self.offset(start));
+        let is_next = is_item && key.path.is_empty();
+        self.section = self.meet_key(Scope::TOP, &key, spot, is_next);
+        if first(rest) == b']' {
+            Ok(skip(rest, 1))
+        } else {
+            Ok(rest)
+        }
+    }
+
+    /// A key with its value, in a table where something is looked for or not: what stands behind, or inside.
+    fn pair(&mut self, scope: Option<Scope>, start: &'t str) -> Result<&'t str, ParseError> {
+        let (key, value) = key_before(self.alloc, start, b'=')?;
+        let value = skip_ws(value);
+        let rest = behind_value(self.alloc, value)?;
+        let Some(scope) = scope else {
+            return Ok(rest);
+        };
+        let spot = Spot {
+            at: self.offset(start),
+            from: self.offset(value),
+            to: self.offset(rest),
+        };
+        let inside = self.meet_key(scope, &key, spot, false);
+        self.enter(inside, value, rest)
+    }
+
+    /// Into a table in braces or a list of tables that is looked into, and else behind the value.
+    fn enter(
+        &mut self,
+        inside: Option<Scope>,
+        value: &'t str,
+        rest: &'t str,
+    ) -> Result<&'t str, ParseError> {
+        let Some(scope) = inside else {
+            return Ok(rest);
+        };
+        let is_list = match first(value) {
+            b'{' => false,
+            b'[' if scope.profile.is_none() => true,
+            _ => return Ok(rest),
+        };
+        self.open.push(Open { scope, is_list })?;
+        Ok(skip(value, 1))
+    }
+
+    /// What stands in a table in braces or in a list, or its end.
+    fn member(&mut self, open: Open, start: &'t str) -> Result<&'t str, ParseError> {
+        match first(start) {
+            b'}' | b']' => {
+                let _ = self.open.pop();
+                Ok(skip(start, 1))
+            }
+            b',' => Ok(skip(start, 1)),
+            _ if open.is_list => self.item(open.scope, start),
+            _ => self.pair(Some(open.scope), start),
+        }
+    }
+
+    /// An item of a list, which may be a table.
+    fn item(&mut self, scope: Scope, start: &'t str) -> Result<&'t str, ParseError> {
+        self.meet(KeyPath::of(scope.place, None), Spot::of(self.offset(start)));
+        if let Some(list) = self.open.last_mut() {
+            list.scope.place.index = scope.place.index.saturating_add(1);
+        }
+        if first(start) != b'{' {
+            return behind_value(self.alloc, start);
+        }
+        self.open.push(Open {
+            scope,
+            is_list: false,
+        })?;
+        Ok(skip(start, 1))
+    }
+
+    /// A key of a table: the table that it names, which may be the next one of a list.
+    fn meet_key(&mut self, scope: Scope, key: &Key, spot: Spot, is_next: bool) -> Option<Scope> {
+        let mut scope = scope;
+        for part in &key.path {
+            self.meet(scope.path(part.as_str()), Spot::of(spot.at));
+            scope = self.inside(scope, part.as_str(), None)?;
+        }
+        self.meet(scope.path(key.last.as_str()), spot);
+        let next = if is_next { Some(spot.at) } else { None };
+        self.inside(scope, key.last.as_str(), next)
+    }
+
+    /// The table that a key of another one names: of a list the last table, or the next one, which stands here.
+    fn inside(&mut self, scope: Scope, name: &str, next: Option<usize>) -> Option<Scope> {
+        if scope.place.table != TableName::Top {
+            return scope.profile_named(name);
+        }
+        let place = self.item_of(name, next.is_some())?;
+        if let Some(at) = next {
+            self.meet(KeyPath::of(place, None), Spot::of(at));
+        }
+        Some(Scope::of(place))
+    }
+
+    /// The last table of the list with this name, or the next one.
+    fn item_of(&mut self, name: &str, is_next: bool) -> Option<Place> {
+        let (list, table) = list_at(name)?;
+        let count = self.counts.get_mut(list)?;
+        if is_next {
+            *count = count.saturating_add(1);
+        }
+        Some(Place {
+            table,
+            index: count.saturating_sub(1),
+        })
+    }
+
+    /// Notes where a table or a key stands.
+    fn meet(&mut self, met: KeyPath<'_>, spot: Spot) {
+        for found in self.found.iter_mut() {
+            found.meet(met, spot);
+        }
+    }
+
+    /// The place at which this rest of the text begins.
+    fn offset(&self, rest: &str) -> usize {
+        self.text.len().saturating_sub(rest.len())
+    }
+}
+
+/// A text without the mark of the order of bytes at its start.
+fn without_mark(text: &str) -> &str {
+    text.strip_prefix('\u{feff}').unwrap_or(text)
+}

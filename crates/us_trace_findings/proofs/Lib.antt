@@ -1,4 +1,0 @@
--- the first of the errors that are found
-pub mod FoundLemmas
--- what reading a text answers, as what a lint of it answers
-pub mod LintLemmas
